@@ -1,0 +1,5 @@
+pub mod Entries
+pub mod Files
+mod LineLemmas
+mod SameFiles
+mod Search

@@ -1,0 +1,7 @@
+pub mod Answers
+pub mod Bytes
+pub mod Made
+pub mod NameFields
+pub mod Places
+pub mod TreeFields
+pub mod Trees

@@ -1,0 +1,26 @@
+//! Names, paths, lines, and trees of files: the values that patches are about.
+#![tactic(auto)]
+
+mod faults;
+mod lines;
+mod names;
+mod paths;
+mod trees;
+
+pub use faults::{Apply, BaseFault};
+pub use lines::{Line, copy_lines};
+pub use names::Name;
+pub use paths::Path;
+pub use trees::Tree;
+
+/// The most bytes that a name has.
+pub const MAX_NAME_LENGTH: usize = 40;
+
+/// The most bytes that a path has.
+pub const MAX_PATH_LENGTH: usize = 200;
+
+/// The most bytes that a line has.
+pub const MAX_LINE_LENGTH: usize = 4_096;
+
+#[cfg(test)]
+mod tests;

@@ -1,0 +1,98 @@
+ghost use Rattle.std.specs.Prelude.{◌≡◌, ◌==◌, IfOk, IsTrue, not};
+ghost use Rattle.std.specs.List.{list_all};
+ghost use Rattle.std.specs.Cmp.Rules.{comparing};
+ghost use Rattle.std.specs.Cmp.Lexicographic.{pointwise};
+ghost use Rattle.std.proofs.Common.{rules};
+ghost use Rattle.camp_base.specs.Bytes.{is_line};
+ghost use Rattle.camp_base.specs.Made.{Makes};
+ghost use Rattle.camp_base.specs.declared.faults.BaseFault.TheVariants as fault;
+
+use crate::{BaseFault, MAX_LINE_LENGTH};
+use std::alloc::{AllocError, Global};
+use std::marker::Model;
+
+/// A line of a file, without its end: 0 to 4,096 bytes, none of them LF.
+#[derive(Debug, Drop)]
+pub struct Line {
+    bytes: Vec<u8>,
+}
+
+impl Model for Line {
+    ghost use Rattle.std.specs.Prelude.{List, ℕ, IsTrue};
+    ghost use Rattle.camp_base.specs.Bytes.{is_line};
+
+    ghost Value = { List ℕ };
+
+    ghost view = { λ line. line.bytes.items };
+
+    ghost invariant = { λ line. IsTrue (is_line line.bytes.items) };
+}
+
+impl Line {
+    /// The line of these bytes. Bytes that are no line are refused before memory is asked for.
+    pub fn new(alloc: Global, bytes: &[u8]) -> Result<Line, BaseFault>
+        ensures { Makes (is_line bytes.now) fault.BadLine bytes.now result }
+    {
+        if !is_line(bytes) {
+            return Err(BaseFault::BadLine);
+        }
+        let bytes = Vec::from_slice(alloc, bytes)?;
+        Ok(Line { bytes })
+    }
+
+    /// The bytes of the line.
+    pub fn bytes(&self) -> &[u8]
+        ensures value { result.now ≡ self.now }
+        ensures form { IsTrue (is_line self.now) }
+    {
+        &self.bytes
+    }
+
+    /// A line of the same bytes.
+    pub fn try_clone(&self) -> Result<Line, AllocError>
+        ensures { IfOk result (λ copy. copy ≡ self.now) }
+    {
+        let bytes = Vec::from_slice(*self.bytes.allocator(), &self.bytes)?;
+        Ok(Line { bytes })
+    }
+}
+
+/// A copy of each line, in order.
+pub fn copy_lines(alloc: Global, lines: &[Line]) -> Result<Vec<Line>, AllocError>
+    ensures { IfOk result (λ copies. copies.items ≡ lines.now) }
+{
+    let mut copies = Vec::with_capacity(alloc, lines.len())?;
+    for line in lines {
+        copies.push(line.try_clone()?)?;
+    }
+    Ok(copies)
+}
+
+fn is_line(bytes: &[u8]) -> bool
+    ensures { result ≡ is_line bytes.now }
+{
+    if bytes.len() > MAX_LINE_LENGTH {
+        return false;
+    }
+    is_without_end(bytes)
+}
+
+fn is_without_end(bytes: &[u8]) -> bool
+    ensures { result ≡ list_all (λ byte. not (byte == 10)) bytes.now }
+{
+    bytes.iter().all(|byte| *byte != b'\n')
+}
+
+impl PartialEq for Line {
+    ghost eq = { pointwise ◌==◌ };
+
+    ghost laws = { Prim.search (comparing, rules) };
+
+    fn eq(&self, other: &Line) -> bool {
+        self.bytes() == other.bytes()
+    }
+}
+
+impl Eq for Line {
+    ghost laws = { Prim.search (comparing, rules) };
+}

@@ -1,0 +1,142 @@
+ghost use Rattle.std.specs.Prelude.{◌≡◌, ◌==◌, IfOk, IsTrue, Some};
+ghost use Rattle.std.specs.List.{list_all};
+ghost use Rattle.std.specs.Ordering.{nat_cmp, as_partial_cmp};
+ghost use Rattle.std.specs.Cmp.{partial_order_from_own_ties};
+ghost use Rattle.std.specs.Cmp.Rules.{comparing};
+ghost use Rattle.std.specs.Cmp.Lexicographic.{slice_cmp, pointwise};
+ghost use Rattle.std.proofs.Common.{rules};
+ghost use Rattle.camp_base.specs.Bytes.{is_graphic, is_path, is_path_part, path_parts};
+ghost use Rattle.camp_base.specs.Made.{Makes};
+ghost use Rattle.camp_base.specs.declared.faults.BaseFault.TheVariants as fault;
+
+use crate::{BaseFault, MAX_PATH_LENGTH};
+use std::alloc::{AllocError, Global};
+use std::cmp::Ordering;
+use std::marker::Model;
+use std::{fmt, str};
+
+/// The path of a file: 1 to 200 bytes from 0x21 to 0x7e. The parts between `/` are not empty, not
+/// `.` and not `..`. Paths are plain keys, ordered by their bytes: `d` and `d/e` may both be files.
+#[derive(Debug, Drop)]
+pub struct Path {
+    bytes: Vec<u8>,
+}
+
+impl Model for Path {
+    ghost use Rattle.std.specs.Prelude.{List, ℕ, IsTrue};
+    ghost use Rattle.camp_base.specs.Bytes.{is_path};
+
+    ghost Value = { List ℕ };
+
+    ghost view = { λ path. path.bytes.items };
+
+    ghost invariant = { λ path. IsTrue (is_path path.bytes.items) };
+}
+
+impl Path {
+    /// The path that the bytes spell. Bytes that are no path are refused before memory is asked for.
+    pub fn new(alloc: Global, bytes: &[u8]) -> Result<Path, BaseFault>
+        ensures { Makes (is_path bytes.now) fault.BadPath bytes.now result }
+    {
+        if !is_path(bytes) {
+            return Err(BaseFault::BadPath);
+        }
+        let bytes = Vec::from_slice(alloc, bytes)?;
+        Ok(Path { bytes })
+    }
+
+    /// The bytes of the path.
+    pub fn bytes(&self) -> &[u8]
+        ensures value { result.now ≡ self.now }
+        ensures form { IsTrue (is_path self.now) }
+    {
+        &self.bytes
+    }
+
+    /// A path of the same bytes.
+    pub fn try_clone(&self) -> Result<Path, AllocError>
+        ensures { IfOk result (λ copy. copy ≡ self.now) }
+    {
+        let bytes = Vec::from_slice(*self.bytes.allocator(), &self.bytes)?;
+        Ok(Path { bytes })
+    }
+}
+
+fn is_path(bytes: &[u8]) -> bool
+    ensures { result ≡ is_path bytes.now }
+{
+    if bytes.len() > MAX_PATH_LENGTH {
+        return false;
+    }
+    is_graphic(bytes) && has_path_parts(bytes)
+}
+
+fn is_graphic(bytes: &[u8]) -> bool
+    ensures { result ≡ list_all is_graphic bytes.now }
+{
+    bytes.iter().all(|byte| matches!(byte, 0x21..=0x7e))
+}
+
+fn has_path_parts(bytes: &[u8]) -> bool
+    ensures { result ≡ list_all is_path_part (path_parts bytes.now) }
+{
+    bytes
+        .split(|byte| *byte == b'/')
+        .all(|part| is_path_part(part))
+}
+
+fn is_path_part(part: &[u8]) -> bool
+    ensures { result ≡ is_path_part part.now }
+{
+    !part.is_empty() && part != b".".as_slice() && part != b"..".as_slice()
+}
+
+impl PartialEq for Path {
+    ghost eq = { pointwise ◌==◌ };
+
+    ghost laws = { Prim.search (comparing, rules) };
+
+    fn eq(&self, other: &Path) -> bool {
+        self.bytes() == other.bytes()
+    }
+}
+
+impl Eq for Path {
+    ghost laws = { Prim.search (comparing, rules) };
+}
+
+impl PartialOrd for Path {
+    ghost partial_cmp = { as_partial_cmp (slice_cmp nat_cmp) };
+
+    ghost laws = { partial_order_from_own_ties (Prim.search (comparing, rules))
+        (Prim.search (comparing, rules)) };
+
+    fn partial_cmp(&self, other: &Path) -> Option<Ordering> {
+        Some(self.cmp(other))
+    }
+}
+
+impl Ord for Path {
+    ghost cmp = { slice_cmp nat_cmp };
+
+    ghost total = { Prim.search (comparing, rules) };
+
+    ghost matches_partial_cmp = { Prim.search (comparing, rules) };
+
+    ghost matches_eq = { Prim.search (comparing, rules) };
+
+    fn cmp(&self, other: &Path) -> Ordering {
+        self.bytes().cmp(&other.bytes())
+    }
+}
+
+impl fmt::Display for Path {
+    ghost output = { λ path. Some path };
+
+    fn fmt<W: fmt::Write>(&self, f: &mut fmt::Formatter<W>) -> fmt::Result {
+        match str::from_utf8(self.bytes()) {
+            Ok(text) => f.write_str(text),
+            Err(_) => Err(fmt::Error),
+        }
+    }
+}

@@ -1,0 +1,11 @@
+pub mod Applied
+pub mod FilesAtPaths
+pub mod HunksOfOneFile
+pub mod Inverses
+pub mod LabelOrder
+pub mod Maps
+pub mod Moving
+pub mod Splices
+pub mod SwapEffect
+pub mod SwapLaws
+pub mod SwapUnique

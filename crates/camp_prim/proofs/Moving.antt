@@ -1,0 +1,106 @@
+-- Where hunks that change places come to stand.
+use Rattle.std.proofs.Common.{◌≡◌, ℕ, ◌+◌, ◌<◌, ◌⊎◌, ◌↔◌, Bool, true, false, IsTrue, Option, Result, Ok, Err, IfErr, length, refl, sym, ap, subst, inl, inr}
+use Rattle.camp_base.specs.Trees.{Lines}
+use Rattle.camp_prim.specs.Effect.{InRange}
+use Rattle.camp_prim.specs.Hunks.{Edit, IsInRange}
+use Rattle.camp_prim.specs.Labels.{SameAbsolute}
+use Rattle.camp_prim.specs.Moves.{moved, ComesTo, ChangePlaces, FindsMoves}
+use Rattle.camp_prim.specs.Swaps.{at_line, MayPass, Swap}
+use Rattle.camp_prim.specs.declared.primitives.Primitive.{Primitive}
+use Rattle.camp_prim.specs.declared.primitives.Primitive.TheVariants.{Hunk}
+use Rattle.camp_prim.specs.declared.named.Named.{Named}
+use Rattle.camp_prim.specs.declared.swaps.Moves.{Moves}
+use Rattle.camp_prim.proofs.SwapUnique.{same_hunk}
+
+-- the sides of the upper hunk as other names for them have it
+pub comes_along : (upper upper' : ℕ) (takes takes' leaves leaves' : Lines) (lower : Edit) (line : ℕ) → upper ≡ upper' → takes ≡ takes' → leaves ≡ leaves' → ComesTo upper (length takes) (length leaves) lower line → ComesTo upper' (length takes') (length leaves') lower line
+comes_along upper upper' takes takes' leaves leaves' lower line e f g c =
+    subst (λ x. ComesTo upper' (length takes') (length x) lower line) g (subst (λ x. ComesTo upper' (length x) (length leaves) lower line) f (subst (λ x. ComesTo x (length takes) (length leaves) lower line) e c))
+
+pub comes_below : (h k : Edit) (line : ℕ) → h.path ≡ k.path → IsInRange h → IsInRange k → ComesTo h.line (length h.old) (length h.new) k line → ChangePlaces (Hunk h) (Hunk k) (Hunk (at_line line k)) (Hunk h)
+comes_below h k line path r s c = record {
+  change = inr (inl (record {
+    h = h;
+    k = k;
+    gap = c.gap;
+    is_p = refl;
+    is_q = refl;
+    path = path;
+    stands = c.stands;
+    passes = c.passes;
+    second = ap (λ l. Hunk (at_line l k)) c.comes;
+    first = refl;
+  }));
+  ranges = (r, s, c.fits, r);
+}
+
+passes_turned : (gap : ℕ) (h k : Edit) → MayPass gap h k → (0 < gap) ⊎ ((0 < length k.new) × (0 < length k.old) × (0 < length h.old) × (0 < length h.new))
+passes_turned gap h k (inl apart) = inl apart
+passes_turned gap h k (inr full) = inr (full.3, full.2, full.0, full.1)
+
+passes_back : (gap : ℕ) (h k : Edit) → (0 < gap) ⊎ ((0 < length k.new) × (0 < length k.old) × (0 < length h.old) × (0 < length h.new)) → MayPass gap h k
+passes_back gap h k (inl apart) = inl apart
+passes_back gap h k (inr full) = inr (full.2, full.3, full.1, full.0)
+
+pub comes_above : (h k : Edit) (line : ℕ) → h.path ≡ k.path → IsInRange h → IsInRange k → ComesTo k.line (length k.new) (length k.old) h line → ChangePlaces (Hunk h) (Hunk k) (Hunk k) (Hunk (at_line line h))
+comes_above h k line path r s c = record {
+  change = inr (inr (record {
+    h = h;
+    k = k;
+    gap = c.gap;
+    is_p = refl;
+    is_q = refl;
+    path = path;
+    stands = c.stands;
+    passes = passes_back c.gap h k c.passes;
+    second = refl;
+    first = ap (λ l. Hunk (at_line l h)) c.comes;
+  }));
+  ranges = (r, s, s, c.fits);
+}
+
+pub no_place : (h k : Edit) → h.path ≡ k.path → ((line : ℕ) → ¬ (ComesTo h.line (length h.old) (length h.new) k line)) → ((line : ℕ) → ¬ (ComesTo k.line (length k.new) (length k.old) h line)) → (q' p' : Primitive) → ¬ (ChangePlaces (Hunk h) (Hunk k) q' p')
+no_place h k path below above q' p' c =
+    elim c.change [
+      | inl s ↦ s.paths path
+      | inr some ↦ elim some [
+        | inl s ↦
+            let hs : s.h ≡ h = same_hunk s.h h (sym s.is_p) in
+            let ks : s.k ≡ k = same_hunk s.k k (sym s.is_q) in
+            let there : ComesTo s.h.line (length s.h.old) (length s.h.new) s.k (s.h.line + length s.h.old + s.gap) =
+            record { gap = s.gap; stands = s.stands; passes = s.passes; comes = refl; fits = subst InRange s.second c.ranges.2 } in
+            let at_k = subst (λ x. ComesTo s.h.line (length s.h.old) (length s.h.new) x (s.h.line + length s.h.old + s.gap)) ks there in
+            below (h.line + length h.old + s.gap) (subst (λ x. ComesTo x.line (length x.old) (length x.new) k (x.line + length x.old + s.gap)) hs at_k)
+        | inr s ↦
+            let hs : s.h ≡ h = same_hunk s.h h (sym s.is_p) in
+            let ks : s.k ≡ k = same_hunk s.k k (sym s.is_q) in
+            let there : ComesTo s.k.line (length s.k.new) (length s.k.old) s.h (s.k.line + length s.k.new + s.gap) =
+            record { gap = s.gap; stands = s.stands; passes = passes_turned s.gap s.h s.k s.passes; comes = refl; fits = subst InRange s.first c.ranges.3 } in
+            let at_h = subst (λ x. ComesTo s.k.line (length s.k.new) (length s.k.old) x (s.k.line + length s.k.new + s.gap)) hs there in
+            above (k.line + length k.new + s.gap) (subst (λ x. ComesTo x.line (length x.new) (length x.old) h (x.line + length x.new + s.gap)) ks at_h)
+      ]
+    ]
+
+pub finds_along : (p q : Primitive) (h k : Edit) (found : Option Moves) → p ≡ Hunk h → q ≡ Hunk k → FindsMoves (Hunk h) (Hunk k) found → FindsMoves p q found
+finds_along p q h k found e f finds = subst (λ x. FindsMoves p x found) (sym f) (subst (λ x. FindsMoves x (Hunk k) found) (sym e) finds)
+
+pub swap_from : (p q q' p' : Named) (moves : Moves) → ¬ (SameAbsolute p q) → ChangePlaces p.prim q.prim (moved moves.second q.prim) (moved moves.first p.prim) → q' ≡ record q { prim = moved moves.second q.prim } → p' ≡ record p { prim = moved moves.first p.prim } → Swap p q q' p'
+swap_from p q q' p' moves apart c e f =
+    subst (λ x. Swap p q q' x) (sym f) (subst (λ x. Swap p q x (record p { prim = moved moves.first p.prim })) (sym e) (record {
+      apart = apart;
+      change = c.change;
+      ranges = c.ranges;
+      second = refl;
+      first = refl;
+    }))
+
+-- where primitives change places, there is a swap whatever the answer is
+pub swap_wanted : {T E : Type 0} (result : Result T E) (p q : Named) (moves : Moves) → ¬ (SameAbsolute p q) → ChangePlaces p.prim q.prim (moved moves.second q.prim) (moved moves.first p.prim) → IfErr result (λ error. (q' : Named) × ((p' : Named) × Swap p q q' p'))
+swap_wanted (Ok done) p q moves apart c = tt
+swap_wanted (Err error) p q moves apart c =
+    (record q { prim = moved moves.second q.prim }, (record p { prim = moved moves.first p.prim }, swap_from p q _ _ moves apart c refl refl))
+
+-- what a test that says no tells
+pub told_not : {P : Type 0} (b : Bool) → b ≡ false → IsTrue b ↔ P → ¬ P
+told_not true is_false told = λ holds. cc
+told_not false is_false told = λ holds. let e : false ≡ true = told.1 holds in cc

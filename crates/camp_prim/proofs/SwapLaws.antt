@@ -1,0 +1,191 @@
+-- The laws of swapping two primitives.
+use Rattle.std.proofs.Common.{◌≡◌, ℕ, ◌+◌, ◌≤◌, ◌^◌, not, length, refl, sym, ap, ◌∙◌, inl, inr, arith}
+use Rattle.camp_prim.specs.Hunks.{Edit, IsInRange}
+use Rattle.camp_prim.specs.Effect.{flipped, inverted, inverse_of, InRange}
+use Rattle.camp_prim.specs.Labels.{Label, label_of, SameAbsolute}
+use Rattle.camp_prim.specs.Laws.{OwnInverse, Inverse, Square, SameEffect, SwapLaws}
+use Rattle.camp_prim.specs.Swaps.{path_of, at_line, MayPass, Swap}
+use Rattle.camp_prim.specs.declared.primitives.Primitive.{Primitive}
+use Rattle.camp_prim.specs.declared.primitives.Primitive.TheVariants.{Add, Remove, Hunk}
+use Rattle.camp_prim.specs.declared.named.Named.{Named}
+use Rattle.camp_prim.proofs.SwapEffect.{Swaps, swaps_lead}
+
+passes_back : (gap : ℕ) (h k : Edit) → MayPass gap h k → MayPass gap k h
+passes_back gap h k (inl apart) = inl apart
+passes_back gap h k (inr full) = inr (full.2, full.3, full.0, full.1)
+
+passes_flipped : (gap : ℕ) (h k : Edit) → MayPass gap h k → MayPass gap (flipped h) k
+passes_flipped gap h k (inl apart) = inl apart
+passes_flipped gap h k (inr full) = inr (full.1, full.0, full.2, full.3)
+
+passes_both_flipped : (gap : ℕ) (h k : Edit) → MayPass gap h k → MayPass gap (flipped k) (flipped h)
+passes_both_flipped gap h k (inl apart) = inl apart
+passes_both_flipped gap h k (inr full) = inr (full.3, full.2, full.1, full.0)
+
+path_of-inverted : (p : Primitive) → path_of (inverted p) ≡ path_of p
+path_of-inverted (Add path) = refl
+path_of-inverted (Remove path) = refl
+path_of-inverted (Hunk hunk) = refl
+
+in_range-flipped : (hunk : Edit) → IsInRange hunk → IsInRange (flipped hunk)
+in_range-flipped hunk r =
+    let counted : 1 ≤ hunk.line = r.counted in
+    let changes : 1 ≤ length hunk.old + length hunk.new = r.changes in
+    let within : hunk.line + length hunk.old + length hunk.new ≤ 2 ^ 30 = r.within in
+    record { counted = counted; changes = omega arith; within = omega arith }
+
+in_range-inverted : (p : Primitive) → InRange p → InRange (inverted p)
+in_range-inverted (Add path) r = r
+in_range-inverted (Remove path) r = r
+in_range-inverted (Hunk hunk) r = in_range-flipped hunk r
+
+-- a hunk is itself at its line
+at_own_line : (q : Primitive) (k : Edit) (line : ℕ) → q ≡ Hunk k → k.line ≡ line → q ≡ Hunk (at_line line k)
+at_own_line q k line is_q stands = is_q ∙ ap (λ l. Hunk (at_line l k)) stands
+
+other_sign : Label → Label
+other_sign l = record { name = l.name; place = l.place; inverse = not l.inverse }
+
+label-inverse : (p q : Named) → label_of p ≡ label_of q → label_of (inverse_of p) ≡ label_of (inverse_of q)
+unfolding other_sign
+label-inverse p q e = ap other_sign e
+
+absolute : (p q p' q' : Named) → label_of p ≡ label_of p' → label_of q ≡ label_of q' → SameAbsolute p q → SameAbsolute p' q'
+absolute p q p' q' e f same = record {
+  name = sym (ap (λ l. l.name) e) ∙ same.name ∙ ap (λ l. l.name) f;
+  place = sym (ap (λ l. l.place) e) ∙ same.place ∙ ap (λ l. l.place) f;
+}
+
+absolute_back : (p q : Named) → SameAbsolute p q → SameAbsolute q p
+absolute_back p q same = record { name = sym same.name; place = sym same.place }
+
+swaps_back : (p q q' p' : Primitive) → Swaps p q q' p' → Swaps q' p' p q
+swaps_back p q q' p' (inl s) = inl (record {
+  paths = λ e. s.paths (ap path_of (sym s.first) ∙ sym e ∙ ap path_of s.second);
+  second = sym s.first;
+  first = sym s.second;
+})
+swaps_back p q q' p' (inr (inl s)) = inr (inr (record {
+  h = at_line (s.h.line + length s.h.old + s.gap) s.k;
+  k = s.h;
+  gap = s.gap;
+  is_p = s.second;
+  is_q = s.first ∙ s.is_p;
+  path = sym s.path;
+  stands = refl;
+  passes = passes_back s.gap s.h s.k s.passes;
+  second = sym s.first;
+  first = at_own_line q s.k (s.h.line + length s.h.new + s.gap) s.is_q s.stands;
+}))
+swaps_back p q q' p' (inr (inr s)) = inr (inl (record {
+  h = s.k;
+  k = at_line (s.k.line + length s.k.new + s.gap) s.h;
+  gap = s.gap;
+  is_p = s.second ∙ s.is_q;
+  is_q = s.first;
+  path = sym s.path;
+  stands = refl;
+  passes = passes_back s.gap s.h s.k s.passes;
+  second = at_own_line p s.h (s.k.line + length s.k.old + s.gap) s.is_p s.stands;
+  first = sym s.second;
+}))
+
+pub own_inverse : (p q q' p' : Named) → Swap p q q' p' → OwnInverse p q q' p'
+own_inverse p q q' p' s = record {
+  apart = λ same. s.apart (absolute_back q p (absolute q' p' q p s.second s.first same));
+  change = swaps_back p.prim q.prim q'.prim p'.prim s.change;
+  ranges = (s.ranges.2, s.ranges.3, s.ranges.0, s.ranges.1);
+  second = sym s.first;
+  first = sym s.second;
+}
+
+swaps_inverse : (p q q' p' : Primitive) → Swaps p q q' p' → Swaps (inverted q) (inverted p) (inverted p') (inverted q')
+swaps_inverse p q q' p' (inl s) = inl (record {
+  paths = λ e. s.paths (sym (path_of-inverted p) ∙ sym e ∙ path_of-inverted q);
+  second = ap inverted s.first;
+  first = ap inverted s.second;
+})
+swaps_inverse p q q' p' (inr (inl s)) = inr (inr (record {
+  h = flipped s.k;
+  k = flipped s.h;
+  gap = s.gap;
+  is_p = ap inverted s.is_q;
+  is_q = ap inverted s.is_p;
+  path = sym s.path;
+  stands = s.stands;
+  passes = passes_both_flipped s.gap s.h s.k s.passes;
+  second = ap inverted s.first;
+  first = ap inverted s.second;
+}))
+swaps_inverse p q q' p' (inr (inr s)) = inr (inl (record {
+  h = flipped s.k;
+  k = flipped s.h;
+  gap = s.gap;
+  is_p = ap inverted s.is_q;
+  is_q = ap inverted s.is_p;
+  path = sym s.path;
+  stands = s.stands;
+  passes = passes_both_flipped s.gap s.h s.k s.passes;
+  second = ap inverted s.first;
+  first = ap inverted s.second;
+}))
+
+pub inverse : (p q q' p' : Named) → Swap p q q' p' → Inverse p q q' p'
+inverse p q q' p' s = record {
+  apart = λ same. s.apart (record { name = sym same.name; place = sym same.place });
+  change = swaps_inverse p.prim q.prim q'.prim p'.prim s.change;
+  ranges = (in_range-inverted q.prim s.ranges.1, in_range-inverted p.prim s.ranges.0, in_range-inverted p'.prim s.ranges.3, in_range-inverted q'.prim s.ranges.2);
+  second = label-inverse p' p s.first;
+  first = label-inverse q' q s.second;
+}
+
+swaps_square : (p q q' p' : Primitive) → Swaps p q q' p' → Swaps (inverted p) q' q (inverted p')
+swaps_square p q q' p' (inl s) = inl (record {
+  paths = λ e. s.paths (sym (path_of-inverted p) ∙ e ∙ ap path_of s.second);
+  second = sym s.second;
+  first = ap inverted s.first;
+})
+swaps_square p q q' p' (inr (inl s)) = inr (inl (record {
+  h = flipped s.h;
+  k = at_line (s.h.line + length s.h.old + s.gap) s.k;
+  gap = s.gap;
+  is_p = ap inverted s.is_p;
+  is_q = s.second;
+  path = s.path;
+  stands = refl;
+  passes = passes_flipped s.gap s.h s.k s.passes;
+  second = at_own_line q s.k (s.h.line + length s.h.new + s.gap) s.is_q s.stands;
+  first = ap inverted s.first;
+}))
+swaps_square p q q' p' (inr (inr s)) = inr (inr (record {
+  h = flipped s.h;
+  k = s.k;
+  gap = s.gap;
+  is_p = ap inverted s.is_p;
+  is_q = s.second ∙ s.is_q;
+  path = s.path;
+  stands = s.stands;
+  passes = passes_flipped s.gap s.h s.k s.passes;
+  second = sym s.second;
+  first = ap inverted s.first;
+}))
+
+pub square : (p q q' p' : Named) → Swap p q q' p' → Square p q q' p'
+square p q q' p' s = record {
+  apart = λ same. s.apart (record { name = same.name ∙ ap (λ l. l.name) s.second; place = same.place ∙ ap (λ l. l.place) s.second });
+  change = swaps_square p.prim q.prim q'.prim p'.prim s.change;
+  ranges = (in_range-inverted p.prim s.ranges.0, s.ranges.2, s.ranges.1, in_range-inverted p'.prim s.ranges.3);
+  second = sym s.second;
+  first = label-inverse p' p s.first;
+}
+
+pub effect : (p q q' p' : Named) → Swap p q q' p' → SameEffect p q q' p'
+effect p q q' p' s old new = (swaps_lead p.prim q.prim q'.prim p'.prim old new s.change, swaps_lead q'.prim p'.prim p.prim q.prim old new (swaps_back p.prim q.prim q'.prim p'.prim s.change))
+
+pub swap_laws : (p q q' p' : Named) → Swap p q q' p' → SwapLaws p q q' p'
+swap_laws p q q' p' s = record {
+  own_inverse = own_inverse p q q' p' s;
+  inverse = inverse p q q' p' s;
+  square = square p q q' p' s;
+  effect = effect p q q' p' s;
+}

@@ -1,0 +1,5 @@
+use Rattle.camp_prim.proofs.Applied.{applied_is}
+use Rattle.camp_prim.proofs.effect.applied_is_applies.Goals as goal
+
+pub returns : goal.returns
+returns c = applied_is

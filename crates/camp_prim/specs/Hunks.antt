@@ -1,0 +1,16 @@
+-- Hunks as plain data.
+use Rattle.std.specs.Prelude.{ℕ, ◌+◌, ◌^◌, ◌≤◌, List, length}
+use Rattle.camp_base.specs.Trees.{Lines}
+
+-- at a line of the file of a path, counted from 1, new lines in place of old ones
+pub record Edit : Type 0 where
+  pub path : List ℕ
+  pub line : ℕ
+  pub old : Lines
+  pub new : Lines
+
+-- a hunk that may stand in a patch: its line is counted from 1, one of its sides has lines, and its line and the numbers of its old and new lines add up to 2^30 at most
+pub record IsInRange (hunk : Edit) : Type 0 where
+  pub counted : 1 ≤ hunk.line
+  pub changes : 1 ≤ length hunk.old + length hunk.new
+  pub within : hunk.line + length hunk.old + length hunk.new ≤ 2 ^ 30

@@ -1,0 +1,9 @@
+pub mod Applied
+pub mod Effect
+pub mod Exchange
+pub mod HunkFields
+pub mod Hunks
+pub mod Labels
+pub mod Laws
+pub mod Moves
+pub mod Swaps

@@ -1,0 +1,12 @@
+ghost use Rattle.camp_prim.specs.Applied.{AppliedIsApplies, InverseLeadsBack};
+
+/// The tree that a primitive leads to is a function of the tree that it is applied to.
+pub fn applied_is_applies()
+    ensures { AppliedIsApplies }
+{}
+
+/// What a primitive does to a tree, its inverse undoes, and what the inverse undoes the primitive
+/// did.
+pub fn inverse_leads_back()
+    ensures { InverseLeadsBack }
+{}

@@ -1,0 +1,41 @@
+ghost use Rattle.std.specs.Prelude.{◌≡◌, ℕ, Some};
+ghost use Rattle.camp_prim.specs.Effect.{InRange};
+ghost use Rattle.camp_prim.specs.Exchange.{Exchanged};
+ghost use Rattle.camp_prim.specs.Moves.{moved};
+
+use crate::labels::is_absolute_label_same;
+use crate::swaps::moves_of;
+use crate::{Named, Primitive};
+use std::mem;
+
+/// Lets two neighbours change places: `first` then holds what `second` is before it, and `second`
+/// what `first` is behind that. Answers false where they can't, and leaves both as they were. It
+/// takes no memory.
+pub fn exchange(first: &mut Named, second: &mut Named) -> bool
+    ensures { Exchanged first.old second.old result first.new second.new }
+{
+    if is_absolute_label_same(first, second) {
+        return false;
+    }
+    match moves_of(&first.prim, &second.prim) {
+        None => false,
+        Some(moves) => {
+            mem::swap(first, second);
+            move_to(&mut first.prim, moves.second);
+            move_to(&mut second.prim, moves.first);
+            true
+        }
+    }
+}
+
+/// Moves a primitive to a line, where one is given.
+pub(crate) fn move_to(p: &mut Primitive, line: Option<u32>)
+    requires { InRange (moved line p.old) }
+    ensures { p.new ≡ moved line p.old }
+{
+    if let Some(line) = line {
+        if let Primitive::Hunk(hunk) = p {
+            hunk.move_to(line);
+        }
+    }
+}

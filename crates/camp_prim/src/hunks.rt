@@ -1,0 +1,161 @@
+ghost use Rattle.std.specs.Prelude.{◌≡◌, ◌+◌, ◌^◌, ◌≤◌, ◌↔◌, IfOk, IsTrue, MatchOption};
+ghost use Rattle.camp_prim.specs.Effect.{flipped};
+ghost use Rattle.camp_prim.specs.Hunks.{Edit, IsInRange};
+ghost use Rattle.camp_prim.specs.Swaps.{at_line};
+
+use camp_base::{Line, Path, copy_lines};
+use std::alloc::AllocError;
+use std::marker::Model;
+
+/// The greatest sum of a hunk's line and the numbers of its old and of its new lines.
+const MAX_REACH: usize = 1 << 30;
+
+/// New lines in place of old ones, at a line of a file. Lines are counted from 1; one side is not
+/// empty; and the line and the numbers of old and of new lines add up to 2^30 at most.
+#[derive(Debug, Drop)]
+pub struct Hunk {
+    path: Path,
+    line: u32,
+    old: Vec<Line>,
+    new: Vec<Line>,
+}
+
+impl Model for Hunk {
+    ghost use Rattle.camp_prim.specs.Hunks.{Edit, IsInRange};
+
+    ghost Value = { Edit };
+
+    ghost use Rattle.camp_prim.specs.HunkFields.{edit_of, IsHunk};
+
+    ghost view = { edit_of };
+
+    ghost invariant = { IsHunk };
+}
+
+impl Hunk {
+    pub(crate) fn from_parts(path: Path, line: u32, old: Vec<Line>, new: Vec<Line>) -> Option<Hunk>
+        ensures { let edit : Edit = record { path = path; line = line; old = old.items; new = new.items } in
+            MatchOption result (¬ (IsInRange edit)) (λ hunk. IsInRange edit × (hunk ≡ edit)) }
+    {
+        if !is_in_range(line, old.len(), new.len()) {
+            return None;
+        }
+        Some(Hunk {
+            path,
+            line,
+            old,
+            new,
+        })
+    }
+
+    /// The path of the file.
+    pub fn path(&self) -> &Path
+        ensures value { result.now ≡ self.now.path }
+        ensures in_range { IsInRange self.now }
+    {
+        &self.path
+    }
+
+    /// The line at which the old lines begin, and then the new ones.
+    pub fn line(&self) -> u32
+        ensures value { result ≡ self.now.line }
+        ensures in_range { IsInRange self.now }
+    {
+        self.line
+    }
+
+    /// The lines that it takes away.
+    pub fn old(&self) -> &[Line]
+        ensures { result.now ≡ self.now.old }
+    {
+        &self.old
+    }
+
+    /// The lines that it puts in their place.
+    pub fn new(&self) -> &[Line]
+        ensures { result.now ≡ self.now.new }
+    {
+        &self.new
+    }
+
+    /// The hunk with its sides changed over, which takes it back.
+    pub(crate) fn flip(self) -> Hunk
+        ensures { result ≡ flipped self }
+    {
+        let Hunk {
+            path,
+            line,
+            old,
+            new,
+        } = self;
+        Hunk {
+            path,
+            line,
+            old: new,
+            new: old,
+        }
+    }
+
+    /// Whether the hunk is in range at another line.
+    pub(crate) fn can_stand_at(&self, line: u32) -> bool
+        ensures { IsTrue result ↔ IsInRange (at_line line self.now) }
+    {
+        is_in_range(line, self.old.len(), self.new.len())
+    }
+
+    /// Moves the hunk to another line.
+    pub(crate) fn move_to(&mut self, line: u32)
+        requires { IsInRange (at_line line self.now) }
+        ensures { self.exit.now ≡ at_line line self.entry.now }
+    {
+        self.line = line;
+    }
+
+    pub fn try_clone(&self) -> Result<Hunk, AllocError>
+        ensures { IfOk result (λ copy. copy ≡ self.now) }
+    {
+        let path = self.path.try_clone()?;
+        let old = copy_lines(*self.old.allocator(), &self.old)?;
+        let new = copy_lines(*self.new.allocator(), &self.new)?;
+        Ok(Hunk {
+            path,
+            line: self.line,
+            old,
+            new,
+        })
+    }
+
+    /// Whether all parts of the two are equal.
+    pub fn is_same(&self, other: &Hunk) -> bool
+        ensures { IsTrue result ↔ (self.now ≡ other.now) }
+    {
+        if self.path != other.path {
+            return false;
+        }
+        if self.line != other.line {
+            return false;
+        }
+        if !are_same(&self.old, &other.old) {
+            return false;
+        }
+        are_same(&self.new, &other.new)
+    }
+}
+
+fn are_same(lines: &[Line], others: &[Line]) -> bool
+    ensures { IsTrue result ↔ (lines.now ≡ others.now) }
+{
+    lines == others
+}
+
+fn is_in_range(line: u32, old: usize, new: usize) -> bool
+    ensures { IsTrue result ↔ ((1 ≤ line) × (1 ≤ old + new) × (line + old + new ≤ 2 ^ 30)) }
+{
+    if line == 0 || (old == 0 && new == 0) {
+        return false;
+    }
+    if old > MAX_REACH || new > MAX_REACH {
+        return false;
+    }
+    line as usize + old + new <= MAX_REACH
+}

@@ -1,0 +1,24 @@
+//! Primitive patches: adding a file, removing one, and a hunk of lines; applied to trees, inverted,
+//! and labelled with a name, a place and a sign.
+#![tactic(auto)]
+
+mod effect;
+mod exchanges;
+mod hunks;
+mod labels;
+mod named;
+mod primitives;
+mod swaps;
+
+pub use effect::{applied_is_applies, inverse_leads_back};
+pub use exchanges::exchange;
+pub use hunks::Hunk;
+pub use labels::{compare_labels, labels_are_ordered};
+pub use named::Named;
+pub use primitives::Primitive;
+pub use swaps::{commute, swap_has_laws, swap_is_unique};
+
+#[cfg(test)]
+mod swap_tests;
+#[cfg(test)]
+mod tests;

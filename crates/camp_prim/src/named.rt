@@ -1,0 +1,73 @@
+ghost use Rattle.std.specs.Prelude.{◌≡◌, ◌↔◌, IfOk, IsTrue};
+ghost use Rattle.camp_base.specs.Answers.{Answers};
+ghost use Rattle.camp_prim.specs.Effect.{Applies, inverse_of};
+
+use crate::Primitive;
+use camp_base::{Apply, Name, Tree};
+use std::alloc::AllocError;
+
+/// A primitive with its label: the name of its patch, its place in it, and its sign. The absolute
+/// label is the name and the place; places of a recorded patch count from 1 to 64.
+#[derive(Debug, Drop)]
+pub struct Named {
+    pub name: Name,
+    pub place: u8,
+    /// Whether this is the inverse of the primitive that was recorded.
+    pub inverse: bool,
+    pub prim: Primitive,
+}
+
+impl Named {
+    /// The inverse primitive under the same absolute label, with the other sign.
+    pub fn invert(self) -> Named
+        ensures { result ≡ inverse_of self }
+    {
+        let Named {
+            name,
+            place,
+            inverse,
+            prim,
+        } = self;
+        Named {
+            name,
+            place,
+            inverse: !inverse,
+            prim: prim.invert(),
+        }
+    }
+
+    pub fn try_clone(&self) -> Result<Named, AllocError>
+        ensures { IfOk result (λ copy. copy ≡ self.now) }
+    {
+        let prim = self.prim.try_clone()?;
+        Ok(Named {
+            name: self.name,
+            place: self.place,
+            inverse: self.inverse,
+            prim,
+        })
+    }
+
+    /// Whether both labels and both primitives are equal.
+    pub fn is_same(&self, other: &Named) -> bool
+        ensures { IsTrue result ↔ (self.now ≡ other.now) }
+    {
+        if self.name != other.name {
+            return false;
+        }
+        if self.place != other.place {
+            return false;
+        }
+        if self.inverse != other.inverse {
+            return false;
+        }
+        self.prim.is_same(&other.prim)
+    }
+
+    /// Makes the primitive's change to a tree. After an error the tree is as it was.
+    pub fn apply(&self, tree: &mut Tree) -> Result<(), Apply>
+        ensures { Answers (Applies self.now.prim) tree.old result tree.new }
+    {
+        self.prim.apply(tree)
+    }
+}

@@ -1,0 +1,91 @@
+ghost use Rattle.std.specs.Prelude.{◌≡◌, ◌↔◌, IfOk, IsTrue, MatchOption};
+ghost use Rattle.camp_base.specs.Answers.{Answers};
+ghost use Rattle.camp_prim.specs.Effect.{Applies, InRange, inverted};
+ghost use Rattle.camp_prim.specs.Swaps.{path_of};
+ghost use Rattle.camp_prim.specs.Hunks.{Edit, IsInRange};
+
+use crate::Hunk;
+use camp_base::{Apply, Line, Path, Tree};
+use std::alloc::AllocError;
+
+/// The smallest changes to a tree.
+#[derive(Debug, Drop)]
+pub enum Primitive {
+    /// Puts an empty file at a path that has none.
+    Add(Path),
+    /// Takes an empty file away.
+    Remove(Path),
+    /// Replaces lines of a file.
+    Hunk(Hunk),
+}
+
+impl Primitive {
+    /// The hunk of these parts. None where the line is 0, where both sides are empty, or where the
+    /// line and the numbers of old and of new lines add up to more than 2^30.
+    pub fn hunk(path: Path, line: u32, old: Vec<Line>, new: Vec<Line>) -> Option<Primitive>
+        ensures { let edit : Edit = record { path = path; line = line; old = old.items; new = new.items } in
+            MatchOption result (¬ (IsInRange edit)) (λ made. IsInRange edit × (made ≡ Primitive.Hunk edit)) }
+    {
+        let hunk = Hunk::from_parts(path, line, old, new)?;
+        Some(Primitive::Hunk(hunk))
+    }
+
+    /// The path of the file that it changes.
+    pub fn path(&self) -> &Path
+        ensures value { result.now ≡ path_of self.now }
+        ensures in_range { InRange self.now }
+    {
+        match self {
+            Primitive::Add(path) => path,
+            Primitive::Remove(path) => path,
+            Primitive::Hunk(hunk) => hunk.path(),
+        }
+    }
+
+    /// What takes it back: adding a file and removing it are inverse, and a hunk's sides change
+    /// over.
+    pub fn invert(self) -> Primitive
+        ensures { result ≡ inverted self }
+    {
+        match self {
+            Primitive::Add(path) => Primitive::Remove(path),
+            Primitive::Remove(path) => Primitive::Add(path),
+            Primitive::Hunk(hunk) => Primitive::Hunk(hunk.flip()),
+        }
+    }
+
+    pub fn try_clone(&self) -> Result<Primitive, AllocError>
+        ensures { IfOk result (λ copy. copy ≡ self.now) }
+    {
+        match self {
+            Primitive::Add(path) => Ok(Primitive::Add(path.try_clone()?)),
+            Primitive::Remove(path) => Ok(Primitive::Remove(path.try_clone()?)),
+            Primitive::Hunk(hunk) => Ok(Primitive::Hunk(hunk.try_clone()?)),
+        }
+    }
+
+    /// Whether the two are the same change.
+    pub fn is_same(&self, other: &Primitive) -> bool
+        ensures { IsTrue result ↔ (self.now ≡ other.now) }
+    {
+        match (self, other) {
+            (Primitive::Add(path), Primitive::Add(other)) => path == other,
+            (Primitive::Remove(path), Primitive::Remove(other)) => path == other,
+            (Primitive::Hunk(hunk), Primitive::Hunk(other)) => hunk.is_same(other),
+            _ => false,
+        }
+    }
+
+    /// Makes the change to a tree. After an error the tree is as it was.
+    pub fn apply(&self, tree: &mut Tree) -> Result<(), Apply>
+        ensures { Answers (Applies self.now) tree.old result tree.new }
+    {
+        match self {
+            Primitive::Add(path) => tree.add_file(path),
+            Primitive::Remove(path) => tree.remove_file(path),
+            Primitive::Hunk(hunk) => {
+                tree.splice(hunk.path(), hunk.line(), hunk.old(), hunk.new())
+            }
+        }
+    }
+}

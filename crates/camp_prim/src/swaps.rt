@@ -1,0 +1,133 @@
+ghost use Rattle.std.specs.Prelude.{◌≡◌, ℕ, ◌+◌, ◌^◌, ◌≤◌, ◌<◌, ◌⊎◌, ◌↔◌, IfOk, IfErr, IfSome, IsTrue, MatchOption, length};
+ghost use Rattle.camp_prim.specs.Effect.{InRange};
+ghost use Rattle.camp_prim.specs.Hunks.{IsInRange};
+ghost use Rattle.camp_prim.specs.Laws.{SwapIsUnique, SwapLaws};
+ghost use Rattle.camp_prim.specs.Moves.{moved, ComesTo, FindsMoves};
+ghost use Rattle.camp_prim.specs.Swaps.{Swap};
+
+use crate::exchanges::move_to;
+use crate::labels::is_absolute_label_same;
+use crate::{Hunk, Named, Primitive};
+use std::alloc::AllocError;
+
+/// What `p` and then `q` become in the other order: `Some((q', p'))`, where `q'` and then `p'` do
+/// what `p` and then `q` do, and None where they can't change places. None is answered whatever
+/// memory does.
+pub fn commute(p: &Named, q: &Named) -> Result<Option<(Named, Named)>, AllocError>
+    ensures exact { IfOk result (λ found. MatchOption found
+        ((q' p' : Named) → ¬ (Swap p.now q.now q' p'))
+        (λ pair. Swap p.now q.now pair.0 pair.1)) }
+    ensures laws { IfOk result (λ found. IfSome found (λ pair. SwapLaws p.now q.now pair.0 pair.1)) }
+    ensures wanted { IfErr result (λ error. (q' : Named) × ((p' : Named) × Swap p.now q.now q' p')) }
+{
+    if is_absolute_label_same(p, q) {
+        return Ok(None);
+    }
+    match moves_of(&p.prim, &q.prim) {
+        None => Ok(None),
+        Some(moves) => {
+            let second = moved_copy(q, moves.second)?;
+            let first = moved_copy(p, moves.first)?;
+            Ok(Some((second, first)))
+        }
+    }
+}
+
+/// What two primitives become is determined.
+pub fn swap_is_unique()
+    ensures { SwapIsUnique }
+{}
+
+/// The laws of swapping two primitives: own inverse, inverse, square and effect.
+pub fn swap_has_laws()
+    ensures { (p q q' p' : Named) → Swap p q q' p' → SwapLaws p q q' p' }
+{}
+
+/// The lines to which two primitives move as they change places, where they move.
+#[derive(Drop)]
+pub(crate) struct Moves {
+    pub(crate) second: Option<u32>,
+    pub(crate) first: Option<u32>,
+}
+
+pub(crate) fn moves_of(p: &Primitive, q: &Primitive) -> Option<Moves>
+    ensures { FindsMoves p.now q.now result }
+{
+    if p.path() != q.path() {
+        return Some(Moves {
+            second: None,
+            first: None,
+        });
+    }
+    let Primitive::Hunk(h) = p else {
+        return None;
+    };
+    let Primitive::Hunk(k) = q else {
+        return None;
+    };
+    hunk_moves(h, k)
+}
+
+fn hunk_moves(h: &Hunk, k: &Hunk) -> Option<Moves>
+    requires path { h.now.path ≡ k.now.path }
+    requires first { IsInRange h.now }
+    requires second { IsInRange k.now }
+    ensures { FindsMoves (Primitive.Hunk h.now) (Primitive.Hunk k.now) result }
+{
+    if let Some(line) = line_below(h.line(), h.old().len(), h.new().len(), k) {
+        return Some(Moves {
+            second: Some(line),
+            first: None,
+        });
+    }
+    if let Some(line) = line_below(k.line(), k.new().len(), k.old().len(), h) {
+        return Some(Moves {
+            second: None,
+            first: Some(line),
+        });
+    }
+    None
+}
+
+/// The line to which the lower hunk comes where it stands behind what a hunk at line `upper` leaves,
+/// and is to stand as far behind what that takes. None where it can't pass it, or leaves the range.
+fn line_below(upper: u32, takes: usize, leaves: usize, lower: &Hunk) -> Option<u32>
+    requires { upper + takes + leaves ≤ 2 ^ 30 }
+    ensures { MatchOption result
+        ((line : ℕ) → ¬ (ComesTo upper takes leaves lower.now line))
+        (λ line. ComesTo upper takes leaves lower.now line) }
+{
+    let gap = gap_between(upper as usize + leaves, lower.line() as usize)?;
+    if gap == 0 && !are_full(takes, leaves, lower) {
+        return None;
+    }
+    let line = upper + (takes + gap) as u32;
+    lower.can_stand_at(line).then_some(line)
+}
+
+/// The number of lines from where the upper lines end to a line. None where it stands among them.
+fn gap_between(end: usize, line: usize) -> Option<usize>
+    ensures { MatchOption result (line < end) (λ gap. line ≡ end + gap) }
+{
+    line.checked_sub(end)
+}
+
+/// Whether no side of two hunks is empty.
+fn are_full(takes: usize, leaves: usize, lower: &Hunk) -> bool
+    ensures { IsTrue result
+        ↔ ((0 < takes) × (0 < leaves) × (0 < length lower.now.old) × (0 < length lower.now.new)) }
+{
+    if takes == 0 || leaves == 0 {
+        return false;
+    }
+    !lower.old().is_empty() && !lower.new().is_empty()
+}
+
+fn moved_copy(p: &Named, line: Option<u32>) -> Result<Named, AllocError>
+    requires { InRange (moved line p.now.prim) }
+    ensures { IfOk result (λ copy. copy ≡ record p.now { prim = moved line p.now.prim }) }
+{
+    let mut copy = p.try_clone()?;
+    move_to(&mut copy.prim, line);
+    Ok(copy)
+}
