@@ -1,0 +1,20 @@
+//! `camp`: reads a script of calls from standard input, runs it, and writes its answers to standard
+//! output. The exit status is 0 where the script was run, 1 where it has a fault, and 3 where
+//! memory ran out or input or output failed; a line on standard error says why.
+#![tactic(auto)]
+
+use camp_run::{RunFault, run_book};
+use std::process::ExitCode;
+
+fn main(rt: HostRuntime) -> ExitCode {
+    match run_book(rt.alloc(), &mut rt.stdin(), &mut rt.stdout()) {
+        Ok(()) => ExitCode::SUCCESS,
+        Err(fault) => {
+            let _ = eprintln!(rt; "camp: {fault}");
+            match fault {
+                RunFault::Script(_) => ExitCode::from(1),
+                RunFault::Memory | RunFault::Read | RunFault::Write => ExitCode::from(3),
+            }
+        }
+    }
+}

@@ -1,0 +1,4 @@
+pub mod Accepted
+pub mod LawLemmas
+pub mod Names
+pub mod TreeLemmas

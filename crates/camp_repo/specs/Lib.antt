@@ -1,0 +1,7 @@
+pub mod BranchFields
+pub mod Calls
+pub mod Laws
+pub mod StateFields
+pub mod States
+pub mod Steps
+pub mod Trees

@@ -1,0 +1,8 @@
+use Rattle.std.proofs.Common.{◌≡◌, ◌++◌, take}
+use Rattle.std.specs.List.{flat_map}
+use Rattle.std.specs.FinMap.{entries}
+use Rattle.camp_script.specs.Texts.{file_text}
+use Rattle.camp_script.proofs.texts.extend_by_tree.Given as goal
+
+abbrev pub invariant-loop-index : goal.invariant-loop-index
+invariant-loop-index l = l.text.items ≡ l.initial.text.items ++ flat_map file_text (take l.index (entries l.tree))

@@ -1,0 +1,9 @@
+pub mod Canonical
+pub mod Commands
+pub mod Gives
+pub mod Lines
+pub mod Reading
+pub mod ReadingFields
+pub mod Sections
+pub mod Texts
+pub mod Writing

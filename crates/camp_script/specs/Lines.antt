@@ -1,0 +1,30 @@
+-- The lines of a script, and the words of a line.
+use Rattle.std.specs.Prelude.{ℕ, Bool, true, ◌==◌, ◌||◌, ◌-◌, nat_lt, if◌then◌else◌, List, [], ◌∷◌, length, take, filter, slice_index}
+use Rattle.std.specs.List.{slice_split}
+
+-- pieces without the last one, where that is empty
+abbrev pub without_empty_last : List (List ℕ) → List (List ℕ)
+without_empty_last [] = []
+without_empty_last ([] ∷ []) = []
+without_empty_last (piece ∷ pieces) = piece ∷ without_empty_last pieces
+
+-- the lines of a script: what stands between its LF; behind the last LF a line stands only where bytes do
+abbrev pub lines_of : List ℕ → List (List ℕ)
+lines_of bytes = without_empty_last (slice_split (λ byte. byte == 10) bytes)
+
+-- whether a byte is a space or a tab
+abbrev pub is_blank : ℕ → Bool
+is_blank byte = byte == 32 || byte == 9
+
+-- the words of a line: what stands between runs of spaces and tabs
+abbrev pub words_of : List ℕ → List (List ℕ)
+words_of line = filter (λ word. nat_lt 0 (length word)) (slice_split is_blank line)
+
+-- whether a line of these words says nothing: it has none, or the first begins with `#`
+abbrev pub is_skipped : List (List ℕ) → Bool
+is_skipped [] = true
+is_skipped (word ∷ words) = slice_index word 0 == 35
+
+-- bytes without the LF at their end, where they have one
+abbrev pub without_end : List ℕ → List ℕ
+without_end bytes = if slice_index bytes (length bytes - 1) == 10 then take (length bytes - 1) bytes else bytes

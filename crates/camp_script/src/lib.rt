@@ -1,0 +1,26 @@
+//! Scripts of calls, read from bytes; and the texts of answers.
+#![tactic(auto)]
+
+mod canonical;
+mod commands;
+mod faults;
+mod lines;
+mod readings;
+mod scripts;
+mod texts;
+
+pub use canonical::canonical_text_reads_back;
+pub use faults::{FaultKind, ScriptError, ScriptFault};
+pub use scripts::{Script, read_script};
+pub use texts::{TextError, append_reply, write_reply, write_text};
+
+/// The most sections of a script: the opening, and one for each client.
+pub const MAX_SECTIONS: usize = 64;
+
+/// The most writing commands of one section of a script.
+pub const MAX_WRITES: usize = 65_536;
+
+#[cfg(test)]
+mod tests;
+#[cfg(test)]
+mod text_tests;

@@ -1,0 +1,89 @@
+ghost use Rattle.std.specs.Prelude.{◌≡◌, ◌≤◌, length, not};
+ghost use Rattle.std.specs.List.{position_or_len};
+ghost use Rattle.camp_script.specs.Lines.{is_blank, without_end};
+
+use std::marker::Model;
+
+/// The words of a line, from the first to the last: what stands between runs of spaces and tabs.
+#[derive(Drop)]
+pub(crate) struct Words<'a> {
+    rest: &'a [u8],
+}
+
+impl<'a> Model for Words<'a> {
+    ghost use Rattle.std.specs.Prelude.{List, ℕ};
+    ghost use Rattle.camp_script.specs.Lines.{words_of};
+
+    ghost Value = { List (List ℕ) };
+
+    ghost view = { λ words. words_of words.rest.now };
+}
+
+impl<'a> Words<'a> {
+    ghost use Rattle.camp_script.specs.Lines.{words_of};
+
+    pub(crate) fn new(line: &'a [u8]) -> Words<'a>
+        ensures { result ≡ words_of line.now }
+    {
+        Words { rest: line }
+    }
+}
+
+impl<'a> Iterator for Words<'a> {
+    ghost use Rattle.std.specs.Iterator.{YieldsFirstRef, item_count};
+
+    type Item = &'a [u8];
+
+    ghost next_gives = { YieldsFirstRef (λ words. words) };
+
+    ghost remaining = { item_count (λ words. words) };
+
+    fn next(&mut self) -> Option<&'a [u8]> {
+        let line = self.rest;
+        let line = &line[blanks_len(line)..];
+        let (word, rest) = line.split_at(word_len(line));
+        self.rest = rest;
+        if word.is_empty() {
+            return None;
+        }
+        Some(word)
+    }
+}
+
+// How many bytes stand before the first that is not blank.
+fn blanks_len(bytes: &[u8]) -> usize
+    ensures place { result ≡ position_or_len (λ byte. not (is_blank byte)) bytes.now }
+    ensures within { result ≤ length bytes.now }
+{
+    bytes
+        .iter()
+        .position(|byte| !is_blank(*byte))
+        .unwrap_or(bytes.len())
+}
+
+// How many bytes stand before the first blank.
+fn word_len(bytes: &[u8]) -> usize
+    ensures place { result ≡ position_or_len is_blank bytes.now }
+    ensures within { result ≤ length bytes.now }
+{
+    bytes
+        .iter()
+        .position(|byte| is_blank(*byte))
+        .unwrap_or(bytes.len())
+}
+
+fn is_blank(byte: u8) -> bool
+    ensures { result ≡ is_blank byte }
+{
+    matches!(byte, b' ' | b'\t')
+}
+
+/// A line without the LF at its end, where it has one.
+pub(crate) fn without_end(line: &[u8]) -> &[u8]
+    ensures { result.now ≡ without_end line.now }
+{
+    match line {
+        [bytes @ .., b'\n'] => bytes,
+        _ => line,
+    }
+}

@@ -1,0 +1,244 @@
+ghost use Rattle.std.specs.Prelude.{◌≡◌, if◌then◌else◌, true, Some};
+ghost use Rattle.camp_base.specs.Bytes.{is_line};
+ghost use Rattle.camp_script.specs.declared.faults.FaultKind.TheVariants as kind;
+ghost use Rattle.camp_repo.specs.Calls.{is_writing};
+ghost use Rattle.camp_script.specs.Commands.{IsPlaced};
+ghost use Rattle.camp_script.specs.Gives.{Gives, fault_of};
+ghost use Rattle.camp_script.specs.Lines.{words_of};
+ghost use Rattle.camp_script.specs.Reading.{start, is_full, fault_at, with_call, after_command, after_words, with_open, after_end, after_body, after_edit_line, after_line, finished};
+
+use crate::MAX_WRITES;
+use crate::commands::{Command, CommandError, EditHead, command_of};
+use crate::faults::{FaultKind, ScriptError, ScriptFault};
+use crate::lines::Words;
+use crate::scripts::Script;
+use camp_base::{BaseFault, Line};
+use camp_prim::Primitive;
+use camp_repo::Call;
+use std::alloc::Global;
+use std::marker::Model;
+
+/// How far a script is read: the calls so far, and the edit whose body is being read, if any.
+#[derive(Drop)]
+pub(crate) struct Reading {
+    calls: Vec<Call>,
+    writes: usize,
+    body: Option<Body>,
+}
+
+/// The body of an edit, as far as it is read, and the line of its head.
+#[derive(Drop)]
+struct Body {
+    head: EditHead,
+    opened: u64,
+    old: Vec<Line>,
+    new: Vec<Line>,
+}
+
+impl Model for Reading {
+    ghost use Rattle.camp_script.specs.Reading.{Progress};
+
+    ghost Value = { Progress };
+
+    ghost use Rattle.camp_script.specs.ReadingFields.{progress_of, IsKept};
+
+    ghost view = { progress_of };
+
+    ghost invariant = { IsKept };
+}
+
+impl Reading {
+    ghost use Rattle.camp_script.specs.ReadingFields.{open_of, HasRoom, IsAwaited};
+
+    /// Before the first line.
+    pub(crate) fn new(alloc: Global) -> Reading
+        ensures { result ≡ start }
+    {
+        Reading {
+            calls: Vec::new(alloc),
+            writes: 0,
+            body: None,
+        }
+    }
+
+    /// Reads the line of a number, counted from 1.
+    pub(crate) fn read_line(mut self, number: u64, line: &[u8]) -> Result<Reading, ScriptError>
+        ensures { Gives fault_of result (after_line number self.open_edit self line.now) }
+    {
+        match self.body.take() {
+            None => self.read_words(number, line),
+            Some(body) => self.read_edit_line(number, line, body),
+        }
+    }
+
+    /// Ends the reading behind the last line.
+    pub(crate) fn finish(self) -> Result<Script, ScriptError>
+        ensures { Gives fault_of result (finished self self.open_edit) }
+    {
+        let Reading {
+            calls,
+            writes: _,
+            body,
+        } = self;
+        if let Some(body) = body {
+            return Err(at_line(body.opened, FaultKind::EditNotEnded));
+        }
+        Script::of_calls(calls)
+    }
+
+    // A line outside an edit.
+    fn read_words(self, number: u64, line: &[u8]) -> Result<Reading, ScriptError>
+        ensures { Gives fault_of result (after_words number self (words_of line.now)) }
+    {
+        let mut words = Words::new(line);
+        match words.next() {
+            None | Some([b'#', ..]) => Ok(self),
+            Some(word) => {
+                let alloc = *self.calls.allocator();
+                match command_of(alloc, word, words) {
+                    Ok(command) => self.follow(number, command),
+                    Err(CommandError::Fault(kind)) => Err(at_line(number, kind)),
+                    Err(CommandError::Memory) => Err(ScriptError::Memory),
+                }
+            }
+        }
+    }
+
+    // A command at a line.
+    fn follow(self, number: u64, command: Command) -> Result<Reading, ScriptError>
+        requires { IsPlaced command }
+        ensures { Gives fault_of result (after_command number self (Ok command)) }
+    {
+        match command {
+            Command::Whole(call) => {
+                if call.is_writing() && self.is_full() {
+                    return Err(at_line(number, FaultKind::TooManyCommands));
+                }
+                self.with_call(call)
+            }
+            Command::Edit(head) => {
+                if self.is_full() {
+                    return Err(at_line(number, FaultKind::TooManyCommands));
+                }
+                let alloc = *self.calls.allocator();
+                Ok(self.with_open(Body {
+                    head,
+                    opened: number,
+                    old: Vec::new(alloc),
+                    new: Vec::new(alloc),
+                }))
+            }
+        }
+    }
+
+    fn is_full(&self) -> bool
+        ensures { result ≡ is_full self.now.calls }
+    {
+        self.writes >= MAX_WRITES
+    }
+
+    fn with_call(mut self, call: Call) -> Result<Reading, ScriptError>
+        requires { is_writing call ≡ true → HasRoom self.calls }
+        ensures { Gives fault_of result (Ok (with_call self call)) }
+    {
+        let writing = call.is_writing();
+        self.calls.push(call)?;
+        if writing {
+            self.writes += 1;
+        }
+        self.body = None;
+        Ok(self)
+    }
+
+    fn with_open(mut self, body: Body) -> Reading
+        requires { IsAwaited self.calls (Some body) }
+        ensures { result ≡ with_open self (open_of body) }
+    {
+        self.body = Some(body);
+        self
+    }
+
+    // A line of the body of an edit.
+    fn read_edit_line(self, number: u64, line: &[u8], body: Body) -> Result<Reading, ScriptError>
+        requires { IsAwaited self.calls (Some body) }
+        ensures { Gives fault_of result (after_edit_line number self line.now (open_of body)) }
+    {
+        if line == b"end".as_slice() {
+            return self.end_edit(number, body);
+        }
+        self.read_side_line(number, line, body)
+    }
+
+    // The line `end`.
+    fn end_edit(self, number: u64, body: Body) -> Result<Reading, ScriptError>
+        requires { IsAwaited self.calls (Some body) }
+        ensures { Gives fault_of result (after_end number self (open_of body)) }
+    {
+        let Body {
+            head,
+            opened: _,
+            old,
+            new,
+        } = body;
+        if old.is_empty() && new.is_empty() {
+            return Err(at_line(number, FaultKind::BadEdit));
+        }
+        let EditHead {
+            branch,
+            name,
+            path,
+            line,
+        } = head;
+        match Primitive::hunk(path, line, old, new) {
+            None => Err(at_line(number, FaultKind::BadNumber)),
+            Some(change) => self.with_call(Call::Record {
+                branch,
+                name,
+                change,
+            }),
+        }
+    }
+
+    // A line of a side: old lines, and then new ones.
+    fn read_side_line(
+        self,
+        number: u64,
+        line: &[u8],
+        mut body: Body,
+    ) -> Result<Reading, ScriptError>
+        requires { IsAwaited self.calls (Some body) }
+        ensures { Gives fault_of result (after_body number self (open_of body) line.now) }
+    {
+        let alloc = *self.calls.allocator();
+        match line {
+            [b'-', bytes @ ..] if body.new.is_empty() => {
+                let line = line_at(alloc, number, bytes)?;
+                body.old.push(line)?;
+                Ok(self.with_open(body))
+            }
+            [b'+', bytes @ ..] => {
+                let line = line_at(alloc, number, bytes)?;
+                body.new.push(line)?;
+                Ok(self.with_open(body))
+            }
+            _ => Err(at_line(number, FaultKind::BadEdit)),
+        }
+    }
+}
+
+// The bytes behind the sign of a line of a side.
+fn line_at(alloc: Global, number: u64, bytes: &[u8]) -> Result<Line, ScriptError>
+    ensures { Gives fault_of result (if is_line bytes.now then Ok bytes.now else fault_at number kind.BadLine) }
+{
+    match Line::new(alloc, bytes) {
+        Ok(line) => Ok(line),
+        Err(BaseFault::Memory) => Err(ScriptError::Memory),
+        Err(_) => Err(at_line(number, FaultKind::BadLine)),
+    }
+}
+
+fn at_line(line: u64, kind: FaultKind) -> ScriptError
+    ensures { result ≡ ScriptError.Fault (record { line = line; kind = kind }) }
+{
+    ScriptError::Fault(ScriptFault { line, kind })
+}

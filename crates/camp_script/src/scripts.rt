@@ -1,0 +1,74 @@
+ghost use Rattle.std.specs.Prelude.{◌≡◌, ◌≤◌, ◌∷◌, [], map, count_by};
+ghost use Rattle.camp_repo.specs.Calls.{is_writing};
+ghost use Rattle.camp_script.specs.Gives.{Gives, fault_of};
+ghost use Rattle.camp_script.specs.Reading.{script_of};
+ghost use Rattle.camp_script.specs.Sections.{AreWithinLimits};
+ghost use Rattle.camp_script.specs.declared.TheConstants.{MAX_WRITES};
+
+use crate::faults::ScriptError;
+use crate::lines::without_end;
+use crate::readings::Reading;
+use bstr::ByteSlice;
+use camp_repo::Call;
+use std::alloc::Global;
+use std::marker::Model;
+
+/// A script: the calls of the opening, and then those of each client.
+#[derive(Drop)]
+pub struct Script {
+    sections: Vec<Vec<Call>>,
+}
+
+impl Model for Script {
+    ghost use Rattle.std.specs.Prelude.{List, map};
+    ghost use Rattle.camp_repo.specs.declared.calls.Call.{Call};
+
+    ghost Value = { List (List Call) };
+
+    ghost use Rattle.camp_script.specs.Sections.{AreWithinLimits};
+
+    ghost view = { λ script. map (λ section. section.items) script.sections.items };
+
+    ghost invariant = { λ script. AreWithinLimits (map (λ section. section.items) script.sections.items) };
+}
+
+impl Script {
+    /// The calls of each section, in order.
+    pub fn sections(&self) -> &[Vec<Call>]
+        ensures value { map (λ section. section.items) result.now ≡ self.now }
+        ensures limits { AreWithinLimits self.now }
+    {
+        &self.sections
+    }
+
+    /// The calls of each section, in order, given away.
+    pub fn into_sections(self) -> Vec<Vec<Call>>
+        ensures { map (λ section. section.items) result.items ≡ self }
+    {
+        let Script { sections } = self;
+        sections
+    }
+
+    pub(crate) fn of_calls(calls: Vec<Call>) -> Result<Script, ScriptError>
+        requires { count_by is_writing calls.items ≤ MAX_WRITES }
+        ensures { Gives fault_of result (Ok (calls.items ∷ [])) }
+    {
+        let mut sections = Vec::new(*calls.allocator());
+        sections.push(calls)?;
+        Ok(Script { sections })
+    }
+}
+
+/// The script that bytes are, or the first fault of its lines. Only a want of memory may come in
+/// the place of either.
+pub fn read_script(alloc: Global, bytes: &[u8]) -> Result<Script, ScriptError>
+    ensures { Gives fault_of result (script_of bytes.now) }
+{
+    let mut reading = Reading::new(alloc);
+    let mut number = 0;
+    for line in bytes.lines_with_terminator() {
+        number += 1;
+        reading = reading.read_line(number, without_end(line))?;
+    }
+    reading.finish()
+}
