@@ -7,7 +7,7 @@ use std::str;
 use std::test::Fail;
 
 #[test]
-fn scripts_are_read_or_their_first_fault_is_told(rt: HostRuntime) -> Result<(), Fail> {
+fn scripts_are_read(rt: HostRuntime) -> Result<(), Fail> {
     for (script, told) in [
         (b"".as_slice(), ""),
         (b"tree main\n", "tree main\n"),
@@ -30,7 +30,17 @@ fn scripts_are_read_or_their_first_fault_is_told(rt: HostRuntime) -> Result<(), 
         ),
         (b"# note\n\ttree\tmain", "tree main\n"),
         (b"\n \t\n#\n # tree\ntree main\n\n", "tree main\n"),
-        (b"pull main main\n", "line 1: unknown command"),
+    ] {
+        let text = told_of(rt.alloc(), script)?;
+        assert_eq!(rt; text.as_str(), told, "{script:?}");
+    }
+    Ok(())
+}
+
+#[test]
+fn the_first_fault_of_a_script_is_told(rt: HostRuntime) -> Result<(), Fail> {
+    for (script, told) in [
+        (b"pull main main\n".as_slice(), "line 1: unknown command"),
         (b"Tree main\n", "line 1: unknown command"),
         (b"# note\n\nend\n", "line 3: unknown command"),
         (b"record main a move f\n", "line 1: unknown command"),
