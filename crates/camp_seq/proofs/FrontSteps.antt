@@ -1,0 +1,36 @@
+-- The first element with a label, and what comes of it at the front.
+use Rattle.std.proofs.Common.{◌≡◌, ◌≢◌, List, [], ◌∷◌, ◌++◌, refl, ap, inl, inr, suc, arith}
+use Rattle.camp_prim.specs.Labels.{Label, label_of}
+use Rattle.camp_prim.specs.declared.named.Named.{Named}
+use Rattle.camp_seq.specs.InPlace.{Lacks, Precedes}
+use Rattle.camp_seq.specs.Passing.{Fronts}
+
+lacks_first : (label : Label) (p : Named) (s : List Named) → Lacks label (p ∷ s) → label_of p ≢ label
+lacks_first label p s lacks = lacks 0 p (omega arith)
+
+lacks_rest : (label : Label) (p : Named) (s : List Named) → Lacks label (p ∷ s) → Lacks label s
+lacks_rest label p s lacks = λ k d within. lacks (suc k) d (omega arith)
+
+-- a label that no element has is at no front
+pub none_fronts : (label : Label) (s : List Named) (y : Named) (t : List Named) → Lacks label s → ¬ (Fronts label s y t)
+none_fronts label [] y t lacks w = w
+none_fronts label (p ∷ s) y t lacks (inl w) = lacks_first label p s lacks w.0
+none_fronts label (p ∷ s) y t lacks (inr w) =
+    let found = w.1 in
+    none_fronts label s found.0 found.2 (lacks_rest label p s lacks) found.3
+
+-- the first element with a label, swapped to before those before it
+pub fronts_from : (label : Label) (before : List Named) (first : Named) (after : List Named) (y : Named) (moved : List Named) → Lacks label before → label_of first ≡ label → Precedes before first y moved → Fronts label (before ++ first ∷ after) y (moved ++ after)
+fronts_from label [] first after y moved lacks is m = inl (is, m.0, ap (λ x. x ++ after) m.1)
+fronts_from label (p ∷ before) first after y moved lacks is m =
+    inr (lacks_first label p before lacks, (m.0, m.1, m.2 ++ after, fronts_from label before first after m.0 m.2 (lacks_rest label p before lacks) is m.3, m.4, ap (λ x. x ++ after) m.5))
+
+-- and back: what is at the front was swapped there
+pub precedes_from : (label : Label) (before : List Named) (first : Named) (after : List Named) (y : Named) (t : List Named) → Lacks label before → label_of first ≡ label → Fronts label (before ++ first ∷ after) y t → (moved : List Named) × Precedes before first y moved
+precedes_from label [] first after y t lacks is (inl w) = ([], (w.1, refl))
+precedes_from label [] first after y t lacks is (inr w) = absurd (w.0 is)
+precedes_from label (p ∷ before) first after y t lacks is (inl w) = absurd (lacks_first label p before lacks w.0)
+precedes_from label (p ∷ before) first after y t lacks is (inr w) =
+    let found = w.1 in
+    let rest = precedes_from label before first after found.0 found.2 (lacks_rest label p before lacks) is found.3 in
+    (found.1 ∷ rest.0, (found.0, found.1, rest.0, rest.1, found.4, refl))

@@ -1,0 +1,106 @@
+-- Elements with given labels, gathered from the last to the first.
+use Rattle.std.proofs.Common.{◌≡◌, ℕ, ◌+◌, ◌<◌, ◌≤◌, Bool, List, [], ◌∷◌, ◌++◌, length, map, take, drop, get_or, refl, sym, ap, ◌∙◌, subst, inl, inr, arith}
+use Rattle.std.specs.Prelude.{Any, Contains}
+use Rattle.std.proofs.lemmas.List.{append_assoc, length-append, length-drop, length-map, length-take-le, get_or-map, get_or_default, drop_more, take-take, take_at, drop_at}
+use borrow.Rule.Slice.PartMut.{put_mid}
+use Rattle.camp_prim.specs.Labels.{Label, label_of}
+use Rattle.camp_prim.specs.declared.named.Named.{Named}
+use Rattle.camp_seq.specs.InPlace.{PartsFrom}
+use Rattle.camp_seq.specs.Keys.{keyed}
+use Rattle.camp_seq.specs.Passing.{Passes, Parts}
+use Rattle.camp_seq.proofs.ListResults.{one_parting}
+use Rattle.camp_seq.proofs.ListSteps.{at_last, whole}
+
+-- a label is among the given ones
+pub contains_from_any : (keys : List (List ℕ × ℕ × Bool)) (label : Label) → Any (λ key. label ≡ keyed key) keys → Contains (map keyed keys) label
+contains_from_any keys label (k, x, within, is, same) =
+    (k, rw length-map within, get_or-map keyed keys k x label within ∙ ap keyed is ∙ sym same)
+
+pub any_from_contains : (keys : List (List ℕ × ℕ × Bool)) (label : Label) → Contains (map keyed keys) label → Any (λ key. label ≡ keyed key) keys
+any_from_contains [] label (k, within, is) = absurd (omega arith)
+any_from_contains (x ∷ keys) label (k, within, is) =
+    let there : k < length (x ∷ keys) = rw length-map at within in
+    (k, get_or (x ∷ keys) k x, there, get_or_default (x ∷ keys) k (get_or (x ∷ keys) k x) x there, sym is ∙ get_or-map keyed (x ∷ keys) k x label there)
+
+pub parts_bound : (labels : List Label) (s now : List Named) (at count : ℕ) → PartsFrom labels s at count now → at ≤ length now → at + count ≤ length now
+parts_bound labels s now at count w within =
+    let is : length (drop at now) ≡ length (w.named ++ w.others) = ap (λ x. length x) w.is in
+    let counted : length w.named ≡ count = w.counted in
+    omega (arith, length-drop at now, length-append w.named w.others)
+
+shorter : (s0 s : List Named) (i : ℕ) → take (i + 1) s ≡ take (i + 1) s0 → take i s ≡ take i s0
+shorter s0 s i waiting =
+    sym (take-take i (i + 1) s (omega arith)) ∙ ap (λ t. take i t) waiting ∙ take-take i (i + 1) s0 (omega arith)
+
+-- an element with one of the labels stays where it is
+pub parts_named : (labels : List Label) (s0 s : List Named) (i count : ℕ) (d : Named) → i < length s → length s ≡ length s0 → PartsFrom labels s0 (i + 1) count s → Contains labels (label_of (get_or s i d)) → PartsFrom labels s0 i (count + 1) s
+parts_named labels s0 s i count d within same w named =
+    let p : Named = get_or s i d in
+    let next : drop i s0 ≡ p ∷ drop (i + 1) s0 = at_last s0 s i d (omega arith) w.waiting in
+    let counted : length w.named ≡ count = w.counted in
+    record {
+      named = p ∷ w.named;
+      others = w.others;
+      parts = subst (λ x. Parts labels x (p ∷ w.named) w.others) (sym next) (inl (named, (w.named, w.parts, refl)));
+      is = drop_more s i d within ∙ ap (λ x. p ∷ x) w.is;
+      counted = omega arith;
+      waiting = shorter s0 s i w.waiting;
+    }
+
+pub length-passes : (p : Named) (s s' : List Named) (p' : Named) → Passes p s s' p' → length s' ≡ length s
+length-passes p [] s' p' m = ap (λ x. length x) m.0
+length-passes p (q ∷ s) s' p' m =
+    let rest : length m.2 ≡ length s = length-passes m.1 s m.2 p' m.4 in
+    ap (λ x. length x) m.5 ∙ (omega arith)
+
+-- the element at i, and behind it those with the labels
+window : (labels : List Label) (s0 s : List Named) (i count k : ℕ) (d : Named) → i < length s → PartsFrom labels s0 (i + 1) count s → k ≡ count + 1 → (w : PartsFrom labels s0 (i + 1) count s) → (take k (drop i s) ≡ get_or s i d ∷ w.named) × (drop k (drop i s) ≡ w.others)
+window labels s0 s i count k d within v k_is w =
+    let p : Named = get_or s i d in
+    let from : drop i s ≡ (p ∷ w.named) ++ w.others = drop_more s i d within ∙ ap (λ x. p ∷ x) w.is in
+    let counted : length w.named ≡ count = w.counted in
+    let long : length (p ∷ w.named) ≡ k = omega arith in
+    (ap (take k) from ∙ take_at (p ∷ w.named) w.others k long, ap (drop k) from ∙ drop_at (p ∷ w.named) w.others k long)
+
+-- another element is swapped past them
+pub parts_other : (labels : List Label) (s0 s part new : List Named) (i count k : ℕ) (d : Named) → i < length s → length s ≡ length s0 → k ≡ count + 1 → PartsFrom labels s0 (i + 1) count s → ¬ (Contains labels (label_of (get_or s i d))) → part ≡ take k (drop i s) → (p : Named) × (rest : List Named) × (rest' : List Named) × (p' : Named) × (part ≡ p ∷ rest) × Passes p rest rest' p' × (new ≡ rest' ++ p' ∷ []) → PartsFrom labels s0 i count (put_mid i k s new)
+parts_other labels s0 s part new i count k d within same k_is w other part_is (p, rest, rest', p', is, passes, new_is) =
+    let q : Named = get_or s i d in
+    let cut = window labels s0 s i count k d within w k_is w in
+    let both : p ∷ rest ≡ q ∷ w.named = sym is ∙ part_is ∙ cut.0 in
+    let p_is : p ≡ q = cc in
+    let rest_is : rest ≡ w.named = cc in
+    let next : drop i s0 ≡ q ∷ drop (i + 1) s0 = at_last s0 s i d (omega arith) w.waiting in
+    let passed : Passes q w.named rest' p' = subst (λ x. Passes x w.named rest' p') p_is (subst (λ x. Passes p x rest' p') rest_is passes) in
+    let long : length (take i s) ≡ i = length-take-le i s (omega arith) in
+    let written : put_mid i k s new ≡ take i s ++ (rest' ++ p' ∷ w.others) =
+    ap (λ x. take i s ++ (new ++ x)) cut.1 ∙ ap (λ x. take i s ++ (x ++ w.others)) new_is ∙ ap (λ x. take i s ++ x) (append_assoc rest' (p' ∷ []) w.others) in
+    record {
+      named = rest';
+      others = p' ∷ w.others;
+      parts = subst (λ x. Parts labels x rest' (p' ∷ w.others)) (sym next) (inr (other, (w.named, w.others, p', w.parts, passed, refl)));
+      is = ap (drop i) written ∙ drop_at (take i s) (rest' ++ p' ∷ w.others) i long;
+      counted = length-passes q w.named rest' p' passed ∙ w.counted;
+      waiting = ap (take i) written ∙ take_at (take i s) (rest' ++ p' ∷ w.others) i long ∙ shorter s0 s i w.waiting;
+    }
+
+stop : (labels : List Label) (before : List Named) (q : Named) (s g u f t : List Named) → Parts labels s g u → ¬ (Contains labels (label_of q)) → ((x : List Named) (y : Named) → ¬ (Passes q g x y)) → ¬ (Parts labels (before ++ q ∷ s) f t)
+stop labels [] q s g u f t m other never (inl v) = other v.0
+stop labels [] q s g u f t m other never (inr v) =
+    let a = v.1 in
+    let rest = one_parting labels s a.0 a.1 g u a.3 m in
+    never f a.2 (subst (λ x. Passes q x f a.2) rest.0 a.4)
+stop labels (x ∷ before) q s g u f t m other never (inl v) = let a = v.1 in stop labels before q s g u a.0 t m other never a.1
+stop labels (x ∷ before) q s g u f t m other never (inr v) =
+    let a = v.1 in stop labels before q s g u a.0 a.1 m other never a.3
+
+-- where another element can't pass them, there is no parting
+pub parts_stop : (labels : List Label) (s0 s part : List Named) (i count k : ℕ) (d : Named) → i < length s → length s ≡ length s0 → k ≡ count + 1 → PartsFrom labels s0 (i + 1) count s → ¬ (Contains labels (label_of (get_or s i d))) → part ≡ take k (drop i s) → (p : Named) × (rest : List Named) × (part ≡ p ∷ rest) × ((rest' : List Named) (p' : Named) → ¬ (Passes p rest rest' p')) → (f t : List Named) → ¬ (Parts labels s0 f t)
+parts_stop labels s0 s part i count k d within same k_is w other part_is (p, rest, is, never) f t m =
+    let q : Named = get_or s i d in
+    let cut = window labels s0 s i count k d within w k_is w in
+    let both : p ∷ rest ≡ q ∷ w.named = sym is ∙ part_is ∙ cut.0 in
+    let p_is : p ≡ q = cc in
+    let rest_is : rest ≡ w.named = cc in
+    let next : drop i s0 ≡ q ∷ drop (i + 1) s0 = at_last s0 s i d (omega arith) w.waiting in
+    stop labels (take i s0) q (drop (i + 1) s0) w.named w.others f t w.parts other (λ x y v. never x y (subst (λ z. Passes z rest x y) (sym p_is) (subst (λ z. Passes q z x y) (sym rest_is) v))) (subst (λ x. Parts labels x f t) (whole s0 i (q ∷ drop (i + 1) s0) next) m)

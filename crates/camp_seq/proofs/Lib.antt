@@ -1,0 +1,14 @@
+pub mod FrontSteps
+pub mod GatherSteps
+pub mod LabelSteps
+pub mod ListEquivalence
+pub mod ListResults
+pub mod ListRuns
+pub mod ListSteps
+pub mod MergeGrid
+pub mod MergeSteps
+pub mod NormalOrders
+pub mod OrderSteps
+pub mod PassingSteps
+pub mod RunSteps
+pub mod SwapDecided

@@ -1,0 +1,122 @@
+-- Each relation of lists has at most one result.
+use Rattle.std.proofs.Common.{◌≡◌, ◌≢◌, inl, inr, List, [], ◌∷◌, Ordering, refl, sym, ap, ◌∙◌, subst}
+use Rattle.std.specs.Ordering.{ordering_reverse}
+use Rattle.std.specs.declared.cmp.Ordering.TheVariants.{Less, Equal, Greater}
+use Rattle.camp_prim.specs.Effect.{inverse_of}
+use Rattle.camp_prim.specs.Labels.{Label, label_of, label_cmp}
+use Rattle.camp_prim.specs.Swaps.{Swap}
+use Rattle.camp_prim.specs.declared.named.Named.{Named}
+use Rattle.camp_prim.proofs.LabelOrder.{label_total, label_ties}
+use Rattle.camp_prim.proofs.SwapUnique.{swap_unique}
+use Rattle.camp_seq.proofs.ListRuns.{inverse_of-inverse_of}
+use Rattle.camp_seq.specs.Laws.{AreDetermined}
+use Rattle.camp_seq.specs.Merging.{Merges, MergesOne, CleanMerge}
+use Rattle.camp_seq.specs.NormalOrder.{Norm, Splits}
+use Rattle.camp_seq.specs.Passing.{Passes, PassesAll, Fronts, Parts}
+
+pub one_pass : (p : Named) (s s' t : List Named) (p' q : Named) → Passes p s s' p' → Passes p s t q → (s' ≡ t) × (p' ≡ q)
+one_pass p [] s' t p' q v w = (v.0 ∙ sym w.0, v.1 ∙ sym w.1)
+one_pass p (x ∷ s) s' t p' q v w =
+    let pair = swap_unique p x v.0 v.1 w.0 w.1 v.3 w.3 in
+    let rest = one_pass w.1 s v.2 w.2 p' q (subst (λ y. Passes y s v.2 p') pair.1 v.4) w.4 in
+    (v.5 ∙ ap (λ y. y ∷ v.2) pair.0 ∙ ap (λ y. w.0 ∷ y) rest.0 ∙ sym w.5, rest.1)
+
+pub one_pass_of_all : (r s s' t r' q : List Named) → PassesAll r s s' r' → PassesAll r s t q → (s' ≡ t) × (r' ≡ q)
+one_pass_of_all [] s s' t r' q v w = (v.0 ∙ sym w.0, v.1 ∙ sym w.1)
+one_pass_of_all (p ∷ r) s s' t r' q v w =
+    let rest = one_pass_of_all r s v.0 w.0 v.2 w.2 v.3 w.3 in
+    let pass = one_pass p w.0 s' t v.1 w.1 (subst (λ y. Passes p y s' v.1) rest.0 v.4) w.4 in
+    (pass.0, v.5 ∙ ap (λ y. y ∷ v.2) pass.1 ∙ ap (λ y. w.1 ∷ y) rest.1 ∙ sym w.5)
+
+pub one_front : (label : Label) (s t u : List Named) (y z : Named) → Fronts label s y t → Fronts label s z u → (y ≡ z) × (t ≡ u)
+one_front label [] t u y z v w = absurd v
+one_front label (p ∷ s) t u y z (inl v) (inl w) = (v.1 ∙ sym w.1, v.2 ∙ sym w.2)
+one_front label (p ∷ s) t u y z (inl v) (inr w) = absurd (w.0 v.0)
+one_front label (p ∷ s) t u y z (inr v) (inl w) = absurd (v.0 w.0)
+one_front label (p ∷ s) t u y z (inr v) (inr w) =
+    let a = v.1 in
+    let b = w.1 in
+    let rest = one_front label s a.2 b.2 a.0 b.0 a.3 b.3 in
+    let pair = swap_unique p b.0 y a.1 z b.1 (subst (λ x. Swap p x y a.1) rest.0 a.4) b.4 in
+    (pair.0, a.5 ∙ ap (λ x. x ∷ a.2) pair.1 ∙ ap (λ x. b.1 ∷ x) rest.1 ∙ sym b.5)
+
+pub one_parting : (labels : List Label) (s f t g u : List Named) → Parts labels s f t → Parts labels s g u → (f ≡ g) × (t ≡ u)
+one_parting labels [] f t g u v w = (v.0 ∙ sym w.0, v.1 ∙ sym w.1)
+one_parting labels (p ∷ s) f t g u (inl v) (inl w) =
+    let a = v.1 in
+    let b = w.1 in
+    let rest = one_parting labels s a.0 t b.0 u a.1 b.1 in
+    (a.2 ∙ ap (λ x. p ∷ x) rest.0 ∙ sym b.2, rest.1)
+one_parting labels (p ∷ s) f t g u (inl v) (inr w) = absurd (w.0 v.0)
+one_parting labels (p ∷ s) f t g u (inr v) (inl w) = absurd (v.0 w.0)
+one_parting labels (p ∷ s) f t g u (inr v) (inr w) =
+    let a = v.1 in
+    let b = w.1 in
+    let rest = one_parting labels s a.0 a.1 b.0 b.1 a.3 b.3 in
+    let pass = one_pass p b.0 f g a.2 b.2 (subst (λ x. Passes p x f a.2) rest.0 a.4) b.4 in
+    (pass.0, a.5 ∙ ap (λ x. x ∷ a.1) pass.1 ∙ ap (λ x. b.2 ∷ x) rest.1 ∙ sym b.5)
+
+-- the first element of a list with this label has it at the front too
+pub label-front : (label : Label) (s : List Named) (y : Named) (t : List Named) → Fronts label s y t → label_of y ≡ label
+label-front label [] y t w = absurd w
+label-front label (p ∷ s) y t (inl w) = ap label_of w.1 ∙ w.0
+label-front label (p ∷ s) y t (inr w) =
+    let a = w.1 in
+    let swap : Swap p a.0 y a.1 = a.4 in
+    swap.second ∙ label-front label s a.0 a.2 a.3
+
+neither_less : (r : Ordering) → r ≢ Less → ordering_reverse r ≢ Less → r ≡ Equal
+neither_less Less v w = absurd (v refl)
+neither_less Equal v w = refl
+neither_less Greater v w = absurd (w refl)
+
+-- two labels neither of which is less are one
+same_label : (a b : Label) → label_cmp a b ≢ Less → label_cmp b a ≢ Less → a ≡ b
+same_label a b v w =
+    label_ties a b (neither_less (label_cmp a b) v (λ e. w (label_total.antisymm b a ∙ e)))
+
+pub one_order : (s t u : List Named) → Norm s t → Norm s u → t ≡ u
+one_order s [] [] v w = refl
+one_order s [] (z ∷ u) v w = absurd (subst (λ x. Fronts (label_of z) x z w.0) v w.1)
+one_order s (y ∷ t) [] v w = absurd (subst (λ x. Fronts (label_of y) x y v.0) w v.1)
+one_order s (y ∷ t) (z ∷ u) v w =
+    let labels = same_label (label_of y) (label_of z) (w.2 (label_of y) y v.0 v.1) (v.2 (label_of z) z w.0 w.1) in
+    let front = one_front (label_of z) s v.0 w.0 y z (subst (λ l. Fronts l s y v.0) labels v.1) w.1 in
+    ap (λ x. x ∷ t) front.0 ∙ ap (λ x. z ∷ x) (one_order w.0 t u (subst (λ x. Norm x t) front.1 v.3) w.3)
+
+pub one_split : (labels : List Label) (s f t g u : List Named) → Splits labels s f t → Splits labels s g u → (f ≡ g) × (t ≡ u)
+one_split labels s f t g u v w =
+    let parts = one_parting labels s v.named v.others w.named w.others v.parts w.parts in
+    (one_order w.named f g (subst (λ x. Norm x f) parts.0 v.first) w.first, one_order w.others t u (subst (λ x. Norm x t) parts.1 v.rest) w.rest)
+
+pub same_inverse : (p q : Named) → inverse_of p ≡ inverse_of q → p ≡ q
+same_inverse p q e = sym (inverse_of-inverse_of p) ∙ ap inverse_of e ∙ inverse_of-inverse_of q
+
+one_merge : (a b b' a' c d : Named) → Merges a b b' a' → Merges a b c d → (b' ≡ c) × (a' ≡ d)
+one_merge a b b' a' c d v w =
+    let pair = swap_unique (inverse_of a) b b' (inverse_of a') c (inverse_of d) v w in
+    (pair.0, same_inverse a' d pair.1)
+
+pub one_merge_of_one : (a : Named) (b b' c : List Named) (a' d : Named) → MergesOne a b b' a' → MergesOne a b c d → (b' ≡ c) × (a' ≡ d)
+one_merge_of_one a [] b' c a' d v w = (v.0 ∙ sym w.0, v.1 ∙ sym w.1)
+one_merge_of_one a (b ∷ bs) b' c a' d v w =
+    let pair = one_merge a b v.0 v.1 w.0 w.1 v.3 w.3 in
+    let rest = one_merge_of_one w.1 bs v.2 w.2 a' d (subst (λ y. MergesOne y bs v.2 a') pair.1 v.4) w.4 in
+    (v.5 ∙ ap (λ y. y ∷ v.2) pair.0 ∙ ap (λ y. w.0 ∷ y) rest.0 ∙ sym w.5, rest.1)
+
+pub one_clean_merge : (a b b' a' c d : List Named) → CleanMerge a b b' a' → CleanMerge a b c d → (b' ≡ c) × (a' ≡ d)
+one_clean_merge [] b b' a' c d v w = (v.0 ∙ sym w.0, v.1 ∙ sym w.1)
+one_clean_merge (p ∷ a) b b' a' c d v w =
+    let row = one_merge_of_one p b v.0 w.0 v.1 w.1 v.3 w.3 in
+    let rest = one_clean_merge a w.0 b' v.2 c w.2 (subst (λ y. CleanMerge a y b' v.2) row.0 v.4) w.4 in
+    (rest.0, v.5 ∙ ap (λ y. y ∷ v.2) row.1 ∙ ap (λ y. w.1 ∷ y) rest.1 ∙ sym w.5)
+
+pub are_determined : AreDetermined
+are_determined = record {
+  passes = one_pass;
+  passes_all = one_pass_of_all;
+  fronts = one_front;
+  splits = one_split;
+  norm = one_order;
+  merges = one_clean_merge;
+}

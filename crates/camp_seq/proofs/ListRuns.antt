@@ -1,0 +1,85 @@
+-- What lists of primitives do to trees: joined lists, lists after a swap, inverses.
+use Rattle.std.proofs.Common.{◌≡◌, Bool, true, false, not, List, [], ◌∷◌, ◌++◌, map, reverse, refl, sym, ap, ◌∙◌, subst}
+use Rattle.std.proofs.lemmas.List.{reverse-append, map-append}
+use Rattle.camp_base.specs.Trees.{Files}
+use Rattle.camp_prim.specs.Effect.{inverse_of}
+use Rattle.camp_prim.specs.Swaps.{Swap}
+use Rattle.camp_prim.specs.declared.named.Named.{Named}
+use Rattle.camp_prim.proofs.Inverses.{leads_back, inverted-inverted}
+use Rattle.camp_prim.proofs.SwapLaws.{effect, own_inverse}
+use Rattle.camp_seq.specs.Equivalence.{Exchanges, same, exchanged, backwards, through}
+use Rattle.camp_seq.specs.Laws.{EquivalentRun, InverseLeadsBack}
+use Rattle.camp_seq.specs.Running.{Runs, inverse_all}
+
+pub joined_runs : (s t : List Named) (old between new : Files) → Runs s old between → Runs t between new → Runs (s ++ t) old new
+joined_runs [] t old between new r q = subst (λ x. Runs t x new) r q
+joined_runs (p ∷ s) t old between new r q = (r.0, r.1, joined_runs s t r.0 between new r.2 q)
+
+-- a run of two lists has a tree between them
+pub cut_run : (s t : List Named) (old new : Files) → Runs (s ++ t) old new → (between : Files) × Runs s old between × Runs t between new
+cut_run [] t old new r = (old, refl, r)
+cut_run (p ∷ s) t old new r =
+    let cut = cut_run s t r.0 new r.2 in
+    (cut.0, (r.0, r.1, cut.1), cut.2)
+
+swapped_runs : (p q q' p' : Named) (after : List Named) (old new : Files) → Swap p q q' p' → Runs (p ∷ q ∷ after) old new → Runs (q' ∷ p' ∷ after) old new
+swapped_runs p q q' p' after old new s r =
+    let leads = (effect p q q' p' s old r.2.0).0 (record { between = r.0; first = r.1; second = r.2.1 }) in
+    (leads.between, leads.first, (r.2.0, leads.second, r.2.2))
+
+exchanged_runs : (s t : List Named) (old new : Files) → Exchanges s t → Runs s old new → Runs t old new
+exchanged_runs s t old new e r =
+    let cut = cut_run e.before (e.p ∷ e.q ∷ e.after) old new (subst (λ x. Runs x old new) e.was r) in
+    subst (λ x. Runs x old new) (sym e.becomes) (joined_runs e.before (e.q' ∷ e.p' ∷ e.after) old cut.0 new cut.1 (swapped_runs e.p e.q e.q' e.p' e.after cut.0 new e.swap cut.2))
+
+pub exchanges_back : (s t : List Named) → Exchanges s t → Exchanges t s
+exchanges_back s t e = record {
+  before = e.before;
+  p = e.q';
+  q = e.p';
+  q' = e.p;
+  p' = e.q;
+  after = e.after;
+  was = e.becomes;
+  swap = own_inverse e.p e.q e.q' e.p' e.swap;
+  becomes = e.was;
+}
+
+pub equivalent_run : EquivalentRun
+equivalent_run s t same old new = (λ r. r, λ r. r)
+equivalent_run s t (exchanged e) old new = (exchanged_runs s t old new e, exchanged_runs t s old new (exchanges_back s t e))
+equivalent_run s t (backwards e) old new =
+    let alike = equivalent_run t s e old new in
+    (alike.1, alike.0)
+equivalent_run s t (through {t = u} e f) old new =
+    let first = equivalent_run s u e old new in
+    let second = equivalent_run u t f old new in
+    (λ r. second.0 (first.0 r), λ r. first.1 (second.1 r))
+
+pub inverse_all-cons : (p : Named) (s : List Named) → inverse_all (p ∷ s) ≡ inverse_all s ++ inverse_of p ∷ []
+inverse_all-cons p s = reverse-append (inverse_of p ∷ []) (map inverse_of s)
+
+pub inverse_all-append : (s t : List Named) → inverse_all (s ++ t) ≡ inverse_all t ++ inverse_all s
+inverse_all-append s t = ap reverse (map-append inverse_of s t) ∙ reverse-append (map inverse_of s) (map inverse_of t)
+
+not-not : (b : Bool) → not (not b) ≡ b
+not-not true = refl
+not-not false = refl
+
+pub inverse_of-inverse_of : (p : Named) → inverse_of (inverse_of p) ≡ p
+inverse_of-inverse_of p =
+    λ i. record { name = p.name; place = p.place; inverse = not-not p.inverse i; prim = inverted-inverted p.prim i }
+
+pub inverse_all-inverse_all : (s : List Named) → inverse_all (inverse_all s) ≡ s
+inverse_all-inverse_all [] = refl
+inverse_all-inverse_all (p ∷ s) =
+    ap inverse_all (inverse_all-cons p s) ∙ inverse_all-append (inverse_all s) (inverse_of p ∷ []) ∙ ap (λ x. x ∷ inverse_all (inverse_all s)) (inverse_of-inverse_of p) ∙ ap (λ x. p ∷ x) (inverse_all-inverse_all s)
+
+pub runs_back : (s : List Named) (old new : Files) → Runs s old new → Runs (inverse_all s) new old
+runs_back [] old new r = sym r
+runs_back (p ∷ s) old new r =
+    subst (λ x. Runs x new old) (sym (inverse_all-cons p s)) (joined_runs (inverse_all s) (inverse_of p ∷ []) new r.0 old (runs_back s r.0 new r.2) (old, leads_back p.prim old r.0 r.1, refl))
+
+pub inverse_all_leads_back : InverseLeadsBack
+inverse_all_leads_back s old new =
+    (runs_back s old new, λ r. subst (λ x. Runs x old new) (inverse_all-inverse_all s) (runs_back (inverse_all s) new old r))

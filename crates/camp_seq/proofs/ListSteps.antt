@@ -1,0 +1,64 @@
+-- A loop that goes over a list in place, from its first element to its last, or back.
+use Rattle.std.proofs.Common.{◌≡◌, ℕ, ◌+◌, ◌-◌, ◌<◌, List, [], ◌∷◌, ◌++◌, length, take, drop, get_or, set, sym, ap, subst, ◌∙◌, arith}
+use Rattle.std.proofs.lemmas.List.{append-nil, append_assoc, length_push, take_at, drop_at, length-drop, set-get_or, drop_all, drop_more, take_more, take-append-drop, drop-set-lt, take-set, take-take, get_or-take}
+use borrow.Rule.Slice.PartMut.{put_mid}
+
+-- the element at i and what is behind it, in a list that is unchanged from i on
+pub at_next : {X : Type 0} (s0 s : List X) (i : ℕ) (d : X) → i < length s → length s ≡ length s0 → drop i s ≡ drop i s0 → drop i s0 ≡ get_or s i d ∷ drop (i + 1) s0
+at_next s0 s i d within same waiting =
+    let within' : i < length s0 = omega arith in
+    let a : drop i s ≡ get_or s i d ∷ drop (i + 1) s = drop_more s i d within in
+    let b : drop i s0 ≡ get_or s0 i d ∷ drop (i + 1) s0 = drop_more s0 i d within' in
+    let e : get_or s0 i d ≡ get_or s i d = cc in
+    b ∙ ap (λ y. y ∷ drop (i + 1) s0) e
+
+-- and the list is still unchanged behind it
+pub drop_next : {X : Type 0} (s0 s : List X) (i : ℕ) (d y : X) → i < length s → length s ≡ length s0 → drop i s ≡ drop i s0 → drop (i + 1) (set s i y) ≡ drop (i + 1) s0
+drop_next s0 s i d y within same waiting =
+    let within' : i < length s0 = omega arith in
+    let a : drop i s ≡ get_or s i d ∷ drop (i + 1) s = drop_more s i d within in
+    let b : drop i s0 ≡ get_or s0 i d ∷ drop (i + 1) s0 = drop_more s0 i d within' in
+    let e : drop (i + 1) s ≡ drop (i + 1) s0 = cc in
+    drop-set-lt (i + 1) s i y (omega arith) ∙ e
+
+-- what stands before the element at i, with it
+pub take_next : {X : Type 0} (s0 : List X) (i : ℕ) (x : X) → i < length s0 → drop i s0 ≡ x ∷ drop (i + 1) s0 → take (i + 1) s0 ≡ take i s0 ++ x ∷ []
+take_next s0 i x within is =
+    let b : drop i s0 ≡ get_or s0 i x ∷ drop (i + 1) s0 = drop_more s0 i x within in
+    let e : get_or s0 i x ≡ x = cc in
+    take_more s0 i x within ∙ ap (λ y. take i s0 ++ y ∷ []) e
+
+-- the whole list, by what stands before i and from i on
+pub whole : {X : Type 0} (s : List X) (i : ℕ) (t : List X) → drop i s ≡ t → s ≡ take i s ++ t
+whole s i t is = sym (take-append-drop i s) ∙ ap (λ y. take i s ++ y) is
+
+-- backwards: the element at i, in a list that is unchanged before i + 1
+pub at_last : {X : Type 0} (s0 s : List X) (i : ℕ) (d : X) → i < length s0 → take (i + 1) s ≡ take (i + 1) s0 → drop i s0 ≡ get_or s i d ∷ drop (i + 1) s0
+at_last s0 s i d within waiting =
+    let c : get_or (take (i + 1) s) i d ≡ get_or s i d = get_or-take (i + 1) s i d (omega arith) in
+    let e : get_or (take (i + 1) s0) i d ≡ get_or s0 i d = get_or-take (i + 1) s0 i d (omega arith) in
+    drop_more s0 i d within ∙ ap (λ y. y ∷ drop (i + 1) s0) (sym e ∙ ap (λ y. get_or y i d) (sym waiting) ∙ c)
+
+-- and the list is unchanged before it
+pub take_last : {X : Type 0} (s0 s : List X) (i : ℕ) (y : X) → take (i + 1) s ≡ take (i + 1) s0 → take i (set s i y) ≡ take i s0
+take_last s0 s i y waiting =
+    take-set s i y ∙ sym (take-take i (i + 1) s (omega arith)) ∙ ap (λ t. take i t) waiting ∙ take-take i (i + 1) s0 (omega arith)
+
+-- a part behind i that is as it was, in a list that was written at i with what stood there
+pub put_back : {X : Type 0} (s0 s : List X) (i : ℕ) (d y : X) (part : List X) → take (i + 1) s ≡ take (i + 1) s0 → y ≡ get_or s i d → part ≡ drop (i + 1) s0 → put_mid (i + 1) (length (set s i y) - (i + 1)) (set s i y) part ≡ s0
+put_back s0 s i d y part waiting is behind =
+    let same : set s i y ≡ s = ap (set s i) is ∙ set-get_or s i d in
+    let none : drop (length s - (i + 1)) (drop (i + 1) s) ≡ [] = drop_all (length s - (i + 1)) (drop (i + 1) s) (rw length-drop (omega arith)) in
+    subst (λ x. put_mid (i + 1) (length x - (i + 1)) x part ≡ s0) (sym same) (ap (λ x. take (i + 1) s ++ (part ++ x)) none ∙ ap (λ x. take (i + 1) s ++ x) (append-nil part ∙ behind) ∙ ap (λ x. x ++ drop (i + 1) s0) waiting ∙ take-append-drop (i + 1) s0)
+
+-- the front of a list that ends with y, turned so that y comes first
+pub turned_right : {X : Type 0} (xs s : List X) (y : X) (after new : List X) (n : ℕ) → xs ≡ s ++ y ∷ after → length s ≡ n → new ≡ drop (length (take (n + 1) xs) - 1) (take (n + 1) xs) ++ take (length (take (n + 1) xs) - 1) (take (n + 1) xs) → new ++ drop (n + 1) xs ≡ y ∷ (s ++ after)
+turned_right xs s y after new n whole is turned =
+    let joined : xs ≡ (s ++ y ∷ []) ++ after = whole ∙ sym (append_assoc s (y ∷ []) after) in
+    let long : length (s ++ y ∷ []) ≡ n + 1 = length_push s y ∙ ap (λ k. k + 1) is in
+    let part : take (n + 1) xs ≡ s ++ y ∷ [] = ap (take (n + 1)) joined ∙ take_at (s ++ y ∷ []) after (n + 1) long in
+    let rest : drop (n + 1) xs ≡ after = ap (drop (n + 1)) joined ∙ drop_at (s ++ y ∷ []) after (n + 1) long in
+    let less : length (take (n + 1) xs) - 1 ≡ n = ap (λ p. length p - 1) part ∙ (omega arith) in
+    let first : drop (length (take (n + 1) xs) - 1) (take (n + 1) xs) ≡ y ∷ [] = ap (λ k. drop k (take (n + 1) xs)) less ∙ ap (drop n) part ∙ drop_at s (y ∷ []) n is in
+    let others : take (length (take (n + 1) xs) - 1) (take (n + 1) xs) ≡ s = ap (λ k. take k (take (n + 1) xs)) less ∙ ap (take n) part ∙ take_at s (y ∷ []) n is in
+    ap (λ x. new ++ x) rest ∙ ap (λ x. x ++ after) (turned ∙ ap (λ x. x ++ take (length (take (n + 1) xs) - 1) (take (n + 1) xs)) first ∙ ap (λ x. y ∷ x) others)

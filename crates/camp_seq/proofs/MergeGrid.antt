@@ -1,0 +1,109 @@
+-- The grid of a clean merge: it closes a square of trees, is symmetric, and is passing the inverse.
+use Rattle.std.proofs.Common.{◌≡◌, List, [], ◌∷◌, ◌++◌, refl, sym, ap, ◌∙◌, subst}
+use Rattle.camp_base.specs.Trees.{Files}
+use Rattle.camp_prim.specs.Effect.{Applies, inverse_of}
+use Rattle.camp_prim.specs.Swaps.{Swap}
+use Rattle.camp_prim.specs.declared.named.Named.{Named}
+use Rattle.camp_prim.proofs.Inverses.{inverse_leads_back}
+use Rattle.camp_prim.proofs.SwapLaws.{own_inverse, square, effect}
+use Rattle.camp_seq.proofs.ListRuns.{inverse_of-inverse_of, inverse_all-cons, inverse_all-append, inverse_all-inverse_all}
+use Rattle.camp_seq.specs.Laws.{MergeCloses, MergeIsSymmetric, MergeIsPassing}
+use Rattle.camp_seq.specs.Merging.{Merges, MergesOne, CleanMerge}
+use Rattle.camp_seq.specs.Passing.{Passes, PassesAll}
+use Rattle.camp_seq.specs.Running.{Runs, inverse_all}
+
+-- a cell closes a square of trees
+pub cell_closes : (a b b' a' : Named) → Merges a b b' a' → (old left right : Files) → Applies a.prim old left → Applies b.prim old right → (new : Files) × Applies b'.prim left new × Applies a'.prim right new
+cell_closes a b b' a' m old left right x y =
+    let back : Applies (inverse_of a).prim left old = (inverse_leads_back a.prim old left).0 x in
+    let leads = (effect (inverse_of a) b b' (inverse_of a') m left right).0 (record { between = old; first = back; second = y }) in
+    (leads.between, leads.first, (inverse_leads_back a'.prim right leads.between).1 leads.second)
+
+pub row_closes : (a : Named) (bs b' : List Named) (a' : Named) → MergesOne a bs b' a' → (old left right : Files) → Applies a.prim old left → Runs bs old right → (new : Files) × Runs b' left new × Applies a'.prim right new
+row_closes a [] b' a' m old left right x y =
+    (left, subst (λ s. Runs s left left) (sym m.0) refl, subst (λ t. Applies a'.prim t left) (sym y) (subst (λ p. Applies p.prim old left) (sym m.1) x))
+row_closes a (b ∷ bs) b' a' m old left right x y =
+    let cell = cell_closes a b m.0 m.1 m.3 old left y.0 x y.1 in
+    let rest = row_closes m.1 bs m.2 a' m.4 y.0 cell.0 right cell.2 y.2 in
+    (rest.0, subst (λ s. Runs s left rest.0) (sym m.5) (cell.0, cell.1, rest.1), rest.2)
+
+pub merge_closes : MergeCloses
+merge_closes [] b b' a' m old left right x y =
+    (right, subst (λ s. Runs s left right) (sym m.0) (subst (λ t. Runs b t right) (sym x) y), subst (λ s. Runs s right right) (sym m.1) refl)
+merge_closes (p ∷ a) b b' a' m old left right x y =
+    let row = row_closes p b m.0 m.1 m.3 old x.0 right x.1 y in
+    let rest = merge_closes a m.0 b' m.2 m.4 x.0 left row.0 x.2 row.1 in
+    (rest.0, rest.1, subst (λ s. Runs s right rest.0) (sym m.5) (row.0, row.2, rest.2))
+
+-- a cell is symmetric
+pub cell_is_symmetric : (a b b' a' : Named) → Merges a b b' a' → Merges b a a' b'
+cell_is_symmetric a b b' a' m =
+    let turned : Swap (inverse_of (inverse_of a)) b' b (inverse_of (inverse_of a')) = square (inverse_of a) b b' (inverse_of a') m in
+    let plain : Swap a b' b a' =
+    subst (λ x. Swap a b' b x) (inverse_of-inverse_of a') (subst (λ x. Swap x b' b (inverse_of (inverse_of a'))) (inverse_of-inverse_of a) turned) in
+    square b a' a b' (own_inverse a b' b a' plain)
+
+-- a list against none
+pub beside_none : (b : List Named) → CleanMerge b [] [] b
+beside_none [] = (refl, refl)
+beside_none (p ∷ b) = ([], p, b, (refl, refl), beside_none b, refl)
+
+-- a first column put before a grid
+pub with_column : (p : Named) (b beside : List Named) (p' : Named) (a t b' : List Named) → MergesOne p b beside p' → CleanMerge beside a t b' → CleanMerge b (p ∷ a) (p' ∷ t) b'
+with_column p [] beside p' a t b' m g =
+    let rest : CleanMerge [] a t b' = subst (λ s. CleanMerge s a t b') m.0 g in
+    (ap (λ x. x ∷ t) m.1 ∙ ap (λ x. p ∷ x) rest.0, rest.1)
+with_column p (q ∷ bs) beside p' a t b' m g =
+    let rest : CleanMerge (m.0 ∷ m.2) a t b' = subst (λ s. CleanMerge s a t b') m.5 g in
+    (m.1 ∷ rest.0, rest.1, rest.2, (m.1, m.0, rest.0, cell_is_symmetric p q m.0 m.1 m.3, rest.3, refl), with_column m.1 bs m.2 p' rest.0 t rest.2 m.4 rest.4, rest.5)
+
+pub merge_is_symmetric : MergeIsSymmetric
+merge_is_symmetric [] b b' a' m =
+    subst (λ s. CleanMerge b [] s b') (sym m.1) (subst (λ s. CleanMerge b [] [] s) (sym m.0) (beside_none b))
+merge_is_symmetric (p ∷ a) b b' a' m =
+    subst (λ s. CleanMerge b (p ∷ a) s b') (sym m.5) (with_column p b m.0 m.1 a m.2 b' m.3 (merge_is_symmetric a m.0 b' m.2 m.4))
+
+pub row_passes : (a : Named) (bs b' : List Named) (a' : Named) → MergesOne a bs b' a' → Passes (inverse_of a) bs b' (inverse_of a')
+row_passes a [] b' a' m = (m.0, ap inverse_of m.1)
+row_passes a (b ∷ bs) b' a' m = (m.0, inverse_of m.1, m.2, m.3, row_passes m.1 bs m.2 a' m.4, m.5)
+
+pub passes_row : (x : Named) (bs b' : List Named) (x' : Named) → Passes x bs b' x' → MergesOne (inverse_of x) bs b' (inverse_of x')
+passes_row x [] b' x' m = (m.0, ap inverse_of m.1)
+passes_row x (b ∷ bs) b' x' m =
+    let cell : Swap (inverse_of (inverse_of x)) b m.0 (inverse_of (inverse_of m.1)) =
+    subst (λ y. Swap y b m.0 (inverse_of (inverse_of m.1))) (sym (inverse_of-inverse_of x)) (subst (λ y. Swap x b m.0 y) (sym (inverse_of-inverse_of m.1)) m.3) in
+    (m.0, inverse_of m.1, m.2, cell, passes_row m.1 bs m.2 x' m.4, m.5)
+
+-- a last element that passes first
+pub passes_all_push : (r : List Named) (x : Named) (s t : List Named) (x' : Named) (s' q : List Named) → Passes x s t x' → PassesAll r t s' q → PassesAll (r ++ x ∷ []) s s' (q ++ x' ∷ [])
+passes_all_push [] x s t x' s' q v w =
+    (s, x', [], (refl, refl), subst (λ y. Passes x s y x') (sym w.0) v, ap (λ y. y ++ x' ∷ []) w.1)
+passes_all_push (p ∷ r) x s t x' s' q v w =
+    (w.0, w.1, w.2 ++ x' ∷ [], passes_all_push r x s t x' w.0 w.2 v w.3, w.4, ap (λ y. y ++ x' ∷ []) w.5)
+
+-- the last element passes first
+pub last_passes : (r : List Named) (x : Named) (s s' r' : List Named) → PassesAll (r ++ x ∷ []) s s' r' → (t : List Named) × (x' : Named) × (q : List Named) × Passes x s t x' × PassesAll r t s' q × (r' ≡ q ++ x' ∷ [])
+last_passes [] x s s' r' w =
+    (s', w.1, [], subst (λ y. Passes x y s' w.1) w.3.0 w.4, (refl, refl), w.5 ∙ ap (λ y. w.1 ∷ y) w.3.1)
+last_passes (p ∷ r) x s s' r' w =
+    let rest = last_passes r x s w.0 w.2 w.3 in
+    (rest.0, rest.1, w.1 ∷ rest.2, rest.3, (w.0, w.1, rest.2, rest.4, w.4, refl), w.5 ∙ ap (λ y. w.1 ∷ y) rest.5)
+
+pub merge_passes : (a b b' a' : List Named) → CleanMerge a b b' a' → PassesAll (inverse_all a) b b' (inverse_all a')
+merge_passes [] b b' a' m = (m.0, ap inverse_all m.1)
+merge_passes (p ∷ a) b b' a' m =
+    let all = passes_all_push (inverse_all a) (inverse_of p) b m.0 (inverse_of m.1) b' (inverse_all m.2) (row_passes p b m.0 m.1 m.3) (merge_passes a m.0 b' m.2 m.4) in
+    subst (λ r. PassesAll r b b' (inverse_all a')) (sym (inverse_all-cons p a)) (subst (λ r. PassesAll (inverse_all a ++ inverse_of p ∷ []) b b' r) (sym (inverse_all-cons m.1 m.2) ∙ ap inverse_all (sym m.5)) all)
+
+-- with the passed list any
+passing_merges : (a b b' r' : List Named) → PassesAll (inverse_all a) b b' r' → CleanMerge a b b' (inverse_all r')
+passing_merges [] b b' r' w = (w.0, ap inverse_all w.1)
+passing_merges (p ∷ a) b b' r' w =
+    let last = last_passes (inverse_all a) (inverse_of p) b b' r' (subst (λ r. PassesAll r b b' r') (inverse_all-cons p a) w) in
+    let row : MergesOne p b last.0 (inverse_of last.1) =
+    subst (λ x. MergesOne x b last.0 (inverse_of last.1)) (inverse_of-inverse_of p) (passes_row (inverse_of p) b last.0 last.1 last.3) in
+    (last.0, inverse_of last.1, inverse_all last.2, row, passing_merges a last.0 b' last.2 last.4, ap inverse_all last.5 ∙ inverse_all-append last.2 (last.1 ∷ []))
+
+pub merge_is_passing : MergeIsPassing
+merge_is_passing a b b' a' =
+    (merge_passes a b b' a', λ w. subst (λ x. CleanMerge a b b' x) (inverse_all-inverse_all a') (passing_merges a b b' (inverse_all a') w))

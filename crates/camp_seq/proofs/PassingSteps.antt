@@ -1,0 +1,50 @@
+-- Steps of passing, from one neighbour to the next, and passing that stops.
+use Rattle.std.proofs.Common.{◌≡◌, Bool, true, false, List, [], ◌∷◌, ◌++◌, refl, sym, ap, ◌∙◌, subst}
+use Rattle.camp_prim.specs.Swaps.{Swap}
+use Rattle.camp_prim.specs.declared.named.Named.{Named}
+use Rattle.camp_prim.proofs.SwapUnique.{swap_unique}
+use Rattle.camp_prim.proofs.SwapLaws.{own_inverse}
+use Rattle.camp_seq.specs.InPlace.{PassesIf, Precedes}
+use Rattle.camp_seq.specs.Passing.{Passes, PassesAll}
+use Rattle.camp_seq.proofs.ListResults.{one_pass, one_pass_of_all}
+
+pub passes_push : (p : Named) (s s' : List Named) (r q q' r' : Named) → Passes p s s' r → Swap r q q' r' → Passes p (s ++ q ∷ []) (s' ++ q' ∷ []) r'
+passes_push p [] s' r q q' r' m w =
+    (q', r', [], subst (λ x. Swap x q q' r') m.1 w, (refl, refl), ap (λ x. x ++ q' ∷ []) m.0)
+passes_push p (x ∷ s) s' r q q' r' m w =
+    (m.0, m.1, m.2 ++ q' ∷ [], m.3, passes_push m.1 s m.2 r q q' r' m.4 w, ap (λ y. y ++ q' ∷ []) m.5)
+
+pub passes_stop : (p : Named) (s s' rest t : List Named) (r q z : Named) → Passes p s s' r → ((x y : Named) → ¬ (Swap r q x y)) → ¬ (Passes p (s ++ q ∷ rest) t z)
+passes_stop p [] s' rest t r q z m never v = never v.0 v.1 (subst (λ x. Swap x q v.0 v.1) (sym m.1) v.3)
+passes_stop p (x ∷ s) s' rest t r q z m never v =
+    let pair = swap_unique p x m.0 m.1 v.0 v.1 m.3 v.3 in
+    passes_stop v.1 s m.2 rest v.2 r q z (subst (λ y. Passes y s m.2 r) pair.1 m.4) never v.4
+
+pub all_stop : (before : List Named) (p : Named) (r s s' r' t z : List Named) → PassesAll r s s' r' → ((x : List Named) (y : Named) → ¬ (Passes p s' x y)) → ¬ (PassesAll (before ++ p ∷ r) s t z)
+all_stop [] p r s s' r' t z m never v =
+    let rest = one_pass_of_all r s s' v.0 r' v.2 m v.3 in
+    never t v.1 (subst (λ y. Passes p y t v.1) (sym rest.0) v.4)
+all_stop (x ∷ before) p r s s' r' t z m never v = all_stop before p r s s' r' v.0 v.2 m never v.3
+
+pub one_precedes : (s : List Named) (p a b : Named) (t u : List Named) → Precedes s p a t → Precedes s p b u → (a ≡ b) × (t ≡ u)
+one_precedes [] p a b t u v w = (v.0 ∙ sym w.0, v.1 ∙ sym w.1)
+one_precedes (q ∷ s) p a b t u v w =
+    let rest = one_precedes s p v.0 w.0 v.2 w.2 v.3 w.3 in
+    let pair = swap_unique q w.0 a v.1 b w.1 (subst (λ x. Swap q x a v.1) rest.0 v.4) w.4 in
+    (pair.0, v.5 ∙ ap (λ x. x ∷ v.2) pair.1 ∙ ap (λ x. w.1 ∷ x) rest.1 ∙ sym w.5)
+
+pub precedes_stop : (before : List Named) (q : Named) (s : List Named) (p r z : Named) (t u : List Named) → Precedes s p r t → ((x y : Named) → ¬ (Swap q r x y)) → ¬ (Precedes (before ++ q ∷ s) p z u)
+precedes_stop [] q s p r z t u m never v =
+    let rest = one_precedes s p r v.0 t v.2 m v.3 in
+    never z v.1 (subst (λ x. Swap q x z v.1) (sym rest.0) v.4)
+precedes_stop (x ∷ before) q s p r z t u m never v = precedes_stop before q s p r v.0 t v.2 m never v.3
+
+-- what came before a list passes it back
+pub precedes_back : (s : List Named) (p p' : Named) (s' : List Named) → Precedes s p p' s' → Passes p' s' s p
+precedes_back [] p p' s' m = subst (λ t. Passes p' t [] p) (sym m.1) (refl, sym m.0)
+precedes_back (q ∷ s) p p' s' m =
+    subst (λ t. Passes p' t (q ∷ s) p) (sym m.5) (q, m.0, s, own_inverse q m.0 p' m.1 m.4, precedes_back s p m.0 m.2 m.3, refl)
+
+pub passed_back : (s : List Named) (p p' : Named) (s' : List Named) (done : Bool) (t : List Named) (r : Named) → Precedes s p p' s' → PassesIf p' s' done t r → (t ≡ s) × (r ≡ p)
+passed_back s p p' s' true t r m w = one_pass p' s' t s r p w (precedes_back s p p' s' m)
+passed_back s p p' s' false t r m w = absurd (w s p (precedes_back s p p' s' m))

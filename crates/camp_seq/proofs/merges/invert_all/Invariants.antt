@@ -1,0 +1,6 @@
+use Rattle.std.proofs.Common.{◌≡◌, map, take}
+use Rattle.camp_prim.specs.Effect.{inverse_of}
+use Rattle.camp_seq.proofs.merges.invert_all.Given as goal
+
+abbrev pub invariant-loop-p : goal.invariant-loop-p
+invariant-loop-p l = l.items.items ≡ map inverse_of (take l.p-index l.p-items)

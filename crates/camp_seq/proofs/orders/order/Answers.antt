@@ -1,0 +1,18 @@
+use Rattle.std.proofs.Common.{List, [], take, ◌∙◌, subst, arith}
+use Rattle.std.proofs.lemmas.List.{append-nil, drop_all, take_all, take_rest}
+use Rattle.camp_prim.specs.declared.named.Named.{Named}
+use Rattle.camp_seq.specs.NormalOrder.{Norm}
+use Rattle.camp_seq.proofs.OrderSteps.{order_more, rest_written}
+use Rattle.camp_seq.proofs.orders.order.Goals as goal
+
+pub loop-at-preserved : goal.loop-at-preserved
+loop-at-preserved c =
+    let s : List Named = c.loop-at.items in
+    let at = c.loop-at.at in
+    order_more c.args.items.now s _ c.settle.new.items _ at (omega arith) (take_rest s at) c.settle.ensures (rest_written s c.settle.new.items at) c.loop-at.invariant
+
+pub returns : goal.returns
+returns c =
+    let s : List Named = c.loop-at.items in
+    let at = c.loop-at.at in
+    subst (λ x. Norm c.args.items.now x) (append-nil (take at s) ∙ take_all at s (omega arith)) (c.loop-at.invariant [] (drop_all at s (omega arith)))

@@ -1,0 +1,25 @@
+use Rattle.std.proofs.Common.{List, subst, arith}
+use Rattle.std.proofs.lemmas.List.{take_more_set}
+use Rattle.camp_prim.specs.declared.named.Named.{Named}
+use Rattle.camp_seq.specs.Passing.{Passes}
+use Rattle.camp_seq.proofs.ListSteps.{at_next, drop_next, take_next, whole}
+use Rattle.camp_seq.proofs.PassingSteps.{passes_push, passes_stop}
+use Rattle.camp_seq.proofs.passes.pass.Goals as goal
+
+pub returns-then-not-pass_one : goal.returns-then-not-pass_one
+returns-then-not-pass_one c =
+    let s0 : List Named = c.args.s.now in
+    let next = at_next s0 c.loop-q.s c.loop-q.q-index c.q-item.result (omega arith) (omega arith) c.loop-q.invariant.waiting in
+    λ t z m. passes_stop _ _ _ _ _ _ _ _ c.loop-q.invariant.passed c.if-not-pass_one.ensures.0 (subst (λ x. Passes c.args.p.now x t z) (whole s0 c.loop-q.q-index _ next) m)
+
+pub loop-q-preserved : goal.loop-q-preserved
+loop-q-preserved c =
+    let s0 : List Named = c.args.s.now in
+    let s : List Named = c.loop-q.s in
+    let i = c.loop-q.q-index in
+    let next = at_next s0 s i c.q-item.result (omega arith) (omega arith) c.loop-q.invariant.waiting in
+    let more = passes_push _ _ _ _ _ _ _ c.loop-q.invariant.passed c.if-not-pass_one.ensures in
+    record {
+      passed = rw (take_next s0 i _ (omega arith) next, take_more_set s i c.pass_one.new.q (omega arith)) more;
+      waiting = drop_next s0 s i c.q-item.result c.pass_one.new.q (omega arith) (omega arith) c.loop-q.invariant.waiting;
+    }

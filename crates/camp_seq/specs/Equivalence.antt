@@ -1,0 +1,24 @@
+-- When two lists of primitives are the same but for swaps of neighbours.
+use Rattle.std.specs.Prelude.{◌≡◌, List, ◌∷◌, ◌++◌}
+use Rattle.camp_prim.specs.Swaps.{Swap}
+use Rattle.camp_prim.specs.declared.named.Named.{Named}
+
+-- .. [p] [q] .. <-> .. [q'] [p'] ..
+pub record Exchanges (s t : List Named) : Type 0 where
+  pub before : List Named
+  pub p : Named
+  pub q : Named
+  pub q' : Named
+  pub p' : Named
+  pub after : List Named
+  pub was : s ≡ before ++ p ∷ q ∷ after
+  pub swap : Swap p q q' p'
+  pub becomes : t ≡ before ++ q' ∷ p' ∷ after
+
+-- the least equivalence under one swap of neighbours
+infix 4 ◌~◌
+pub data ◌~◌ : List Named → List Named → Type 0 where
+  same : {s : List Named} → s ~ s
+  exchanged : {s t : List Named} → Exchanges s t → s ~ t
+  backwards : {s t : List Named} → s ~ t → t ~ s
+  through : {s t u : List Named} → s ~ t → t ~ u → s ~ u

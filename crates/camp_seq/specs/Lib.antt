@@ -1,0 +1,9 @@
+pub mod Equivalence
+pub mod Laws
+pub mod Merging
+pub mod NormalOrder
+pub mod Passing
+pub mod Running
+pub mod InPlace
+pub mod Keys
+pub mod LeastLabels

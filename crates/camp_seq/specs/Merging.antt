@@ -1,0 +1,19 @@
+-- The clean merge of two lists that begin in one state.
+use Rattle.std.specs.Prelude.{◌≡◌, List, [], ◌∷◌}
+use Rattle.camp_prim.specs.Swaps.{Swap}
+use Rattle.camp_prim.specs.Effect.{inverse_of}
+use Rattle.camp_prim.specs.declared.named.Named.{Named}
+
+-- two primitives of one state: b' after a, and a' after b; [a^] [b] <-> [b'] [a'^]
+abbrev pub Merges : Named → Named → Named → Named → Type 0
+Merges a b b' a' = Swap (inverse_of a) b b' (inverse_of a')
+
+-- one primitive against a list: each pair as its neighbours left it
+abbrev pub MergesOne : Named → List Named → List Named → Named → Type 0
+MergesOne a [] b' a' = (b' ≡ []) × (a' ≡ a)
+MergesOne a (b ∷ bs) b' a' = (first : Named) × (beside : Named) × (t : List Named) × Merges a b first beside × MergesOne beside bs t a' × (b' ≡ first ∷ t)
+
+-- two lists: every cell of the grid merges cleanly, each pair as its neighbours left it
+abbrev pub CleanMerge : List Named → List Named → List Named → List Named → Type 0
+CleanMerge [] b b' a' = (b' ≡ b) × (a' ≡ [])
+CleanMerge (p ∷ a) b b' a' = (beside : List Named) × (p' : Named) × (t : List Named) × MergesOne p b beside p' × CleanMerge a beside b' t × (a' ≡ p' ∷ t)

@@ -1,0 +1,23 @@
+-- The normal order of a list, and a list split by labels.
+use Rattle.std.specs.Prelude.{◌≡◌, ◌≢◌, List, [], ◌∷◌}
+use Rattle.std.specs.declared.cmp.Ordering.TheVariants.{Less}
+use Rattle.camp_prim.specs.Labels.{Label, label_of, label_cmp}
+use Rattle.camp_prim.specs.declared.named.Named.{Named}
+use Rattle.camp_seq.specs.Passing.{Fronts, Parts}
+
+-- no label that comes to the front of the list is less than this one
+abbrev pub IsLeast : Label → List Named → Type 0
+IsLeast label s = (other : Label) (y : Named) (t : List Named) → Fronts other s y t → label_cmp other label ≢ Less
+
+-- t is s in normal order: it begins with the least label that comes to the front, and goes on with the rest in normal order
+abbrev pub Norm : List Named → List Named → Type 0
+Norm s [] = s ≡ []
+Norm s (y ∷ t) = (rest : List Named) × Fronts (label_of y) s y rest × IsLeast (label_of y) s × Norm rest t
+
+-- the elements with these labels and the others, both in normal order
+pub record Splits (labels : List Label) (s f t : List Named) : Type 0 where
+  pub named : List Named
+  pub others : List Named
+  pub parts : Parts labels s named others
+  pub first : Norm named f
+  pub rest : Norm others t

@@ -1,0 +1,38 @@
+ghost use Rattle.std.specs.Prelude.{◌≡◌, List, IfOk, MatchOption};
+ghost use Rattle.camp_prim.specs.declared.named.Named.{Named};
+ghost use Rattle.camp_seq.specs.Merging.{CleanMerge};
+ghost use Rattle.camp_seq.specs.Running.{inverse_all};
+
+use crate::Seq;
+use crate::passes::change_places;
+use std::alloc::AllocError;
+
+/// The inverse of a list: the inverses of its primitives, in reverse order.
+pub fn invert_all(s: &Seq) -> Result<Seq, AllocError>
+    ensures { IfOk result (λ inverse. inverse ≡ inverse_all s.now) }
+{
+    let mut items = Vec::with_capacity(*s.items.allocator(), s.items.len())?;
+    for p in &s.items {
+        let copy = p.try_clone()?;
+        items.push(copy.invert())?;
+    }
+    items.reverse();
+    Ok(Seq { items })
+}
+
+/// `Some((b', a'))` where `a` and `b`, which begin in one state, merge cleanly: `a` and then `b'`
+/// end where `b` and then `a'` do. Each primitive of `a` is taken back past all of `b`. None where
+/// one can't pass.
+pub fn clean_merge(a: &Seq, b: &Seq) -> Result<Option<(Seq, Seq)>, AllocError>
+    ensures { IfOk result (λ found. MatchOption found
+        ((b' a' : List Named) → ¬ (CleanMerge a.now b.now b' a'))
+        (λ pair. CleanMerge a.now b.now pair.0 pair.1)) }
+{
+    let mut back = invert_all(a)?;
+    let mut after = b.try_clone()?;
+    if !change_places(&mut back, &mut after) {
+        return Ok(None);
+    }
+    let beside = invert_all(&back)?;
+    Ok(Some((after, beside)))
+}

@@ -1,0 +1,102 @@
+ghost use Rattle.std.specs.Prelude.{◌≡◌, ◌<◌, ◌↔◌, length, IfOk, IsTrue};
+ghost use Rattle.std.specs.Ordering.{is_lt};
+ghost use Rattle.std.specs.declared.cmp.Ordering.TheVariants.{Less};
+ghost use Rattle.camp_prim.specs.Labels.{label_cmp, label_of};
+ghost use Rattle.camp_seq.specs.Keys.{keyed};
+ghost use Rattle.camp_seq.specs.LeastLabels.{is_above, LeastAbove, Settles, StartsAbove};
+ghost use Rattle.camp_seq.specs.NormalOrder.{Norm};
+
+use crate::fronts::bring;
+use crate::{Label, Seq};
+use camp_prim::Named;
+use std::alloc::AllocError;
+
+/// The list in normal order: it begins with the least label that can come to the front, and goes on
+/// with the rest in normal order.
+pub fn norm(s: &Seq) -> Result<Seq, AllocError>
+    ensures { IfOk result (λ ordered. Norm s.now ordered) }
+{
+    let mut ordered = s.try_clone()?;
+    order(&mut ordered.items);
+    Ok(ordered)
+}
+
+/// Puts a list in normal order. It takes no memory.
+///
+/// For each place the labels are tried in ascending order until one comes to the front. Where the
+/// first one does each time, n elements take at most n * (n - 1) / 2 exchanges. A label that stops
+/// on its way costs up to twice the exchanges that it made, since they are taken back, and each try
+/// compares all labels that are left. Where nearly all stop, and late, that adds up to n^3 / 3
+/// exchanges: what stopped has to be asked anew for the next place, since near the greatest line of
+/// a hunk it may pass there, and what passed may stop.
+pub(crate) fn order(items: &mut [Named])
+    ensures { Norm items.old items.new }
+{
+    for at in 0..items.len() {
+        settle(&mut items[at..]);
+    }
+}
+
+/// Swaps the element with the least label that can come to the front of the list to its front.
+fn settle(items: &mut [Named])
+    requires { 0 < length items.old }
+    ensures { Settles items.old items.new }
+{
+    let mut tried = None;
+    loop {
+        let label = least_above(items, &tried);
+        if bring(items, &label) {
+            return;
+        }
+        tried = Some(label);
+    }
+}
+
+/// The least label of the list above one that was tried.
+fn least_above(items: &[Named], tried: &Option<Label>) -> Label
+    requires { StartsAbove tried.now items.now }
+    ensures { LeastAbove tried.now items.now (keyed result) }
+{
+    let mut least = label_of(&items[0]);
+    for p in items {
+        let label = label_of(p);
+        if comes_before(tried, &label, &least) {
+            least = label;
+        }
+    }
+    least
+}
+
+/// Whether a label is above the one that was tried, and below the least so far.
+fn comes_before(tried: &Option<Label>, label: &Label, least: &Label) -> bool
+    ensures { IsTrue result
+        ↔ (IsTrue (is_above tried.now (keyed label.now)) × (label_cmp (keyed label.now) (keyed least.now) ≡ Less)) }
+{
+    if !is_above(tried, label) {
+        return false;
+    }
+    is_less(label, least)
+}
+
+fn is_above(tried: &Option<Label>, label: &Label) -> bool
+    ensures { result ≡ is_above tried.now (keyed label.now) }
+{
+    match tried {
+        None => true,
+        Some(tried) => is_less(tried, label),
+    }
+}
+
+fn is_less(a: &Label, b: &Label) -> bool
+    ensures { result ≡ is_lt (label_cmp (keyed a.now) (keyed b.now)) }
+{
+    let by_sign = a.2.cmp(&b.2);
+    let by_place = a.1.cmp(&b.1);
+    a.0.cmp(&b.0).then(by_place.then(by_sign)).is_lt()
+}
+
+fn label_of(p: &Named) -> Label
+    ensures { keyed result ≡ label_of p.now }
+{
+    (p.name, p.place, p.inverse)
+}

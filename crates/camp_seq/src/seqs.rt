@@ -1,0 +1,70 @@
+ghost use Rattle.std.specs.Prelude.{◌≡◌, ◌↔◌, [], ◌∷◌, ◌++◌, if◌then◌else◌, is_ok, IfErr, IfOk, IsTrue};
+
+use camp_prim::Named;
+use std::alloc::{AllocError, AllocFailed, Global};
+use std::marker::Model;
+
+/// A list of labelled primitives, each in the state that those before it leave.
+#[derive(Debug, Drop)]
+pub struct Seq {
+    pub(crate) items: Vec<Named>,
+}
+
+impl Model for Seq {
+    ghost use Rattle.std.specs.Prelude.{List};
+    ghost use Rattle.camp_prim.specs.declared.named.Named.{Named};
+
+    ghost Value = { List Named };
+
+    ghost view = { λ seq. seq.items.items };
+}
+
+impl Seq {
+    /// The list without a primitive. It takes no memory.
+    pub fn empty(alloc: Global) -> Seq
+        ensures { result ≡ [] }
+    {
+        Seq {
+            items: Vec::new(alloc),
+        }
+    }
+
+    /// Puts a primitive behind the others. An error gives it back, and the list is as it was.
+    pub fn push(&mut self, p: Named) -> Result<(), AllocFailed<Named>>
+        ensures pushed { self.new ≡ (if is_ok result then self.old ++ p ∷ [] else self.old) }
+        ensures given_back { IfErr result (λ error. error.value ≡ p) }
+    {
+        self.items.push(p)
+    }
+
+    pub fn items(&self) -> &[Named]
+        ensures { result.now ≡ self.now }
+    {
+        &self.items
+    }
+
+    pub fn try_clone(&self) -> Result<Seq, AllocError>
+        ensures { IfOk result (λ copy. copy ≡ self.now) }
+    {
+        let mut items = Vec::with_capacity(*self.items.allocator(), self.items.len())?;
+        for p in &self.items {
+            items.push(p.try_clone()?)?;
+        }
+        Ok(Seq { items })
+    }
+
+    /// Whether the two have the same primitives in the same order. It takes no memory.
+    pub fn is_same(&self, other: &Seq) -> bool
+        ensures { IsTrue result ↔ (self.now ≡ other.now) }
+    {
+        if self.items.len() != other.items.len() {
+            return false;
+        }
+        for (at, p) in self.items.iter().enumerate() {
+            if !p.is_same(&other.items[at]) {
+                return false;
+            }
+        }
+        true
+    }
+}

@@ -1,0 +1,68 @@
+ghost use Rattle.std.specs.Prelude.{◌≡◌, ◌<◌, ◌↔◌, List, length, map, Any, IfOk, IsTrue, MatchOption};
+ghost use Rattle.camp_prim.specs.Labels.{label_of};
+ghost use Rattle.camp_prim.specs.declared.named.Named.{Named};
+ghost use Rattle.camp_seq.specs.InPlace.{PartsIf, TurnsIf};
+ghost use Rattle.camp_seq.specs.Keys.{keyed};
+ghost use Rattle.camp_seq.specs.NormalOrder.{Splits};
+
+use crate::fronts::has_label;
+use crate::orders::order;
+use crate::passes::pass;
+use crate::{Label, Seq};
+use camp_prim::Named;
+use std::alloc::AllocError;
+
+/// `Some((f, t))` where `s` is the same as `f` and then `t`: `f` has the primitives with these
+/// labels, swapped to before the others, and `t` the others, both in normal order. None where one
+/// can't come there.
+pub fn split(s: &Seq, labels: &[Label]) -> Result<Option<(Seq, Seq)>, AllocError>
+    ensures { IfOk result (λ found. MatchOption found
+        ((f t : List Named) → ¬ (Splits (map keyed labels.now) s.now f t))
+        (λ pair. Splits (map keyed labels.now) s.now pair.0 pair.1)) }
+{
+    let mut named = s.try_clone()?;
+    let Some(count) = gather(&mut named.items, labels) else {
+        return Ok(None);
+    };
+    let mut others = Seq {
+        items: named.items.split_off(count)?,
+    };
+    order(&mut named.items);
+    order(&mut others.items);
+    Ok(Some((named, others)))
+}
+
+/// Swaps the elements with these labels to the front, in their order, and answers how many they
+/// are. None where an element before one of them stops it; the list is then left as it is.
+fn gather(items: &mut [Named], labels: &[Label]) -> Option<usize>
+    ensures { PartsIf (map keyed labels.now) items.old result items.new }
+{
+    let mut count = 0;
+    for at in (0..items.len()).rev() {
+        if is_named(&items[at], labels) {
+            count += 1;
+        } else if !pass_first(&mut items[at..at + 1 + count]) {
+            return None;
+        }
+    }
+    Some(count)
+}
+
+/// Swaps the first element past the others. Where it can't pass, they are left as they are then.
+fn pass_first(items: &mut [Named]) -> bool
+    requires { 0 < length items.old }
+    ensures { TurnsIf items.old result items.new }
+{
+    let (first, rest) = items.split_at_mut(1);
+    if !pass(&mut first[0], rest) {
+        return false;
+    }
+    items.rotate_left(1);
+    true
+}
+
+fn is_named(p: &Named, labels: &[Label]) -> bool
+    ensures { IsTrue result ↔ Any (λ label. label_of p.now ≡ keyed label) labels.now }
+{
+    labels.iter().any(|label| has_label(p, label))
+}
