@@ -9,3 +9,5 @@ pub mod Splices
 pub mod SwapEffect
 pub mod SwapLaws
 pub mod SwapUnique
+pub mod ThreeHunks
+pub mod ThreeSwaps

@@ -29,7 +29,7 @@ abbrev pub answers_from : Contents → List Call → List ℕ
 answers_from state [] = []
 answers_from state (call ∷ calls) = reply_text (reply_of (step state call)) ++ answers_from (state_after state (step state call)) calls
 
--- the texts of the answers to sections, one after the other
+-- the texts of the answers to sections, one after the other; for now a script has one
 abbrev pub sections_from : Contents → List (List Call) → List ℕ
 sections_from state [] = []
 sections_from state (section ∷ sections) = answers_from state section ++ sections_from (state_after_all state section) sections

@@ -19,7 +19,7 @@ pub fn run_book<R: Read, W: Write>(
     reader: &mut R,
     writer: &mut W,
 ) -> Result<(), RunFault>
-    ensures { Runs (R.remaining reader.old) (W.contents writer.old) result (W.contents writer.new) }
+    ensures { Runs (R.remaining reader.old) (R.remaining reader.new) (W.contents writer.old) result (W.contents writer.new) }
 {
     let text = answers(alloc, reader)?;
     match write_text(writer, &text) {
@@ -30,8 +30,8 @@ pub fn run_book<R: Read, W: Write>(
 
 // The answers to the script that a reader gives.
 fn answers<R: Read>(alloc: Global, reader: &mut R) -> Result<Vec<u8>, RunFault>
-    ensures ok { IfOk result (λ text. IsOutput (R.remaining reader.old) text.items) }
-    ensures err { IfErr result (HasNoOutput (R.remaining reader.old)) }
+    ensures ok { IfOk result (λ text. IsOutput (R.remaining reader.old) (R.remaining reader.new) text.items) }
+    ensures err { IfErr result (HasNoOutput (R.remaining reader.old) (R.remaining reader.new)) }
 {
     let bytes = read_all(alloc, reader)?;
     match read_script(alloc, &bytes) {
@@ -42,7 +42,7 @@ fn answers<R: Read>(alloc: Global, reader: &mut R) -> Result<Vec<u8>, RunFault>
 }
 
 fn read_all<R: Read>(alloc: Global, reader: &mut R) -> Result<Vec<u8>, RunFault>
-    ensures bytes { IfOk result (λ bytes. ReadsAll (R.remaining reader.old) bytes.items) }
+    ensures bytes { IfOk result (λ bytes. ReadsAll (R.remaining reader.old) (R.remaining reader.new) bytes.items) }
     ensures fault { IfErr result (λ error. (error ≡ fault.Memory) ⊎ (error ≡ fault.Read)) }
 {
     let mut bytes = Vec::new(alloc);

@@ -38,7 +38,7 @@ abbrev pub untried : Option (List ℕ × ℕ × Bool) → List Named → ℕ
 untried tried [] = 0
 untried tried (p ∷ s) = if is_above tried (label_of p) then suc (untried tried s) else untried tried s
 
--- s ~ y t: y is what the least label that comes to the front of s is there, and t is what it leaves
+-- t is s with the least label that comes to the front at its front
 pub record Settles (s t : List Named) : Type 0 where
   pub first : Named
   pub rest : List Named

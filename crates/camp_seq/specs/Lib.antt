@@ -3,6 +3,7 @@ pub mod Laws
 pub mod Merging
 pub mod NormalOrder
 pub mod Passing
+pub mod Room
 pub mod Running
 pub mod InPlace
 pub mod Keys

@@ -4,6 +4,7 @@
 mod fronts;
 mod laws;
 mod merges;
+mod normal_forms;
 mod orders;
 mod passes;
 mod runs;
@@ -17,6 +18,7 @@ pub use laws::{
     lists_of_results_are_equivalent, results_of_lists_are_determined,
 };
 pub use merges::{clean_merge, invert_all};
+pub use normal_forms::{normal_order_is_a_normal_form, six_orders_of_three_agree};
 pub use orders::norm;
 pub use passes::{past, past_all};
 pub use runs::apply_all;

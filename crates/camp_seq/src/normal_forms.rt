@@ -1,0 +1,12 @@
+ghost use Rattle.camp_seq.specs.Room.{LawOfThree, NormalForm};
+
+/// Where the first two of three primitives swap, and the third swaps past both, the six orders of
+/// the three exist and agree, given room.
+pub fn six_orders_of_three_agree()
+    ensures { LawOfThree }
+{}
+
+/// A list with room and every list equivalent to it have one normal order.
+pub fn normal_order_is_a_normal_form()
+    ensures { NormalForm }
+{}
