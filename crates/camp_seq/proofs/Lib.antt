@@ -1,6 +1,7 @@
 pub mod ExchangedFronts
 pub mod FrontSteps
 pub mod GatherSteps
+pub mod InsertionSteps
 pub mod LabelSteps
 pub mod LawOfThree
 pub mod ListEquivalence
@@ -9,10 +10,15 @@ pub mod ListRuns
 pub mod ListSteps
 pub mod MergeGrid
 pub mod MergeSteps
+pub mod MirrorOfThree
 pub mod NormalForms
 pub mod NormalOrders
 pub mod OrderSteps
 pub mod PassingSteps
+pub mod PlacingSteps
 pub mod RoomSteps
 pub mod RunSteps
+pub mod ShapeMoves
+pub mod ShapeRooms
+pub mod Shapes
 pub mod SwapDecided

@@ -1,10 +1,12 @@
 pub mod Equivalence
+pub mod InPlace
+pub mod Insertions
+pub mod Keys
 pub mod Laws
+pub mod LeastLabels
 pub mod Merging
 pub mod NormalOrder
 pub mod Passing
 pub mod Room
 pub mod Running
-pub mod InPlace
-pub mod Keys
-pub mod LeastLabels
+pub mod Shapes

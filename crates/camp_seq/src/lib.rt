@@ -2,11 +2,13 @@
 #![tactic(auto)]
 
 mod fronts;
+mod insertions;
 mod laws;
 mod merges;
 mod normal_forms;
 mod orders;
 mod passes;
+mod rooms;
 mod runs;
 mod seqs;
 mod splits;

@@ -1,19 +1,34 @@
-ghost use Rattle.std.specs.Prelude.{◌≡◌, ◌<◌, ◌↔◌, length, IfOk, IsTrue};
+ghost use Rattle.std.specs.Prelude.{List, ◌≡◌, ◌<◌, ◌↔◌, length, IfOk, IsTrue};
 ghost use Rattle.std.specs.Ordering.{is_lt};
 ghost use Rattle.std.specs.declared.cmp.Ordering.TheVariants.{Less};
+ghost use Rattle.camp_prim.specs.declared.named.Named.{Named};
 ghost use Rattle.camp_prim.specs.Labels.{label_cmp, label_of};
 ghost use Rattle.camp_seq.specs.Keys.{keyed};
 ghost use Rattle.camp_seq.specs.LeastLabels.{is_above, LeastAbove, Settles, StartsAbove};
+ghost use Rattle.camp_seq.specs.Equivalence.{◌~◌};
 ghost use Rattle.camp_seq.specs.NormalOrder.{Norm};
+ghost use Rattle.camp_seq.specs.Room.{HasRoom};
 
 use crate::fronts::bring;
+use crate::insertions::order_by_insertion;
+use crate::rooms::surely_has_room;
 use crate::{Label, Seq};
 use camp_prim::Named;
 use std::alloc::AllocError;
 
 /// The list in normal order: it begins with the least label that can come to the front, and goes on
-/// with the rest in normal order.
+/// with the rest in normal order. Where the list has room, it is the normal order of all lists that
+/// are equivalent to it.
 pub fn norm(s: &Seq) -> Result<Seq, AllocError>
+    ensures order { IfOk result (λ ordered. Norm s.now ordered) }
+    ensures normal_form { IfOk result (λ ordered.
+        HasRoom s.now → (t : List Named) → s.now ~ t → Norm t ordered) }
+{
+    let ordered = ordered_copy(s)?;
+    Ok(ordered)
+}
+
+fn ordered_copy(s: &Seq) -> Result<Seq, AllocError>
     ensures { IfOk result (λ ordered. Norm s.now ordered) }
 {
     let mut ordered = s.try_clone()?;
@@ -23,13 +38,25 @@ pub fn norm(s: &Seq) -> Result<Seq, AllocError>
 
 /// Puts a list in normal order. It takes no memory.
 ///
-/// For each place the labels are tried in ascending order until one comes to the front. Where the
-/// first one does each time, n elements take at most n * (n - 1) / 2 exchanges. A label that stops
-/// on its way costs up to twice the exchanges that it made, since they are taken back, and each try
-/// compares all labels that are left. Where nearly all stop, and late, that adds up to n^3 / 3
-/// exchanges: what stopped has to be asked anew for the next place, since near the greatest line of
-/// a hunk it may pass there, and what passed may stop.
+/// A list whose hunks stay in range in any order is ordered by insertion: n elements take at most
+/// n * n exchanges. Another, with hunks near the limit of 2^30, is ordered by selection.
 pub(crate) fn order(items: &mut [Named])
+    ensures { Norm items.old items.new }
+{
+    if surely_has_room(items) {
+        order_by_insertion(items);
+    } else {
+        order_by_selection(items);
+    }
+}
+
+/// For each place the labels are tried in ascending order until one comes to the front. Where the
+/// first one does each time, n elements take at most n * (n - 1) / 2 exchanges. Each label that is
+/// tried and stops takes no more than twice the exchanges up to where it stops. At worst nearly all
+/// stop, late, at each place, and that adds up to n^3 / 3: whether a label can come to the front of
+/// the rest has to be asked anew for each place, since near the limit of a hunk's line what stopped
+/// before may pass later, and the other way round.
+fn order_by_selection(items: &mut [Named])
     ensures { Norm items.old items.new }
 {
     for at in 0..items.len() {
@@ -87,7 +114,7 @@ fn is_above(tried: &Option<Label>, label: &Label) -> bool
     }
 }
 
-fn is_less(a: &Label, b: &Label) -> bool
+pub(crate) fn is_less(a: &Label, b: &Label) -> bool
     ensures { result ≡ is_lt (label_cmp (keyed a.now) (keyed b.now)) }
 {
     let by_sign = a.2.cmp(&b.2);
@@ -95,7 +122,7 @@ fn is_less(a: &Label, b: &Label) -> bool
     a.0.cmp(&b.0).then(by_place.then(by_sign)).is_lt()
 }
 
-fn label_of(p: &Named) -> Label
+pub(crate) fn label_of(p: &Named) -> Label
     ensures { keyed result ≡ label_of p.now }
 {
     (p.name, p.place, p.inverse)

@@ -3,7 +3,7 @@ use Rattle.std.proofs.lemmas.List.{append-nil, drop_all, take_all, take_rest}
 use Rattle.camp_prim.specs.declared.named.Named.{Named}
 use Rattle.camp_seq.specs.NormalOrder.{Norm}
 use Rattle.camp_seq.proofs.OrderSteps.{order_more, rest_written}
-use Rattle.camp_seq.proofs.orders.order.Goals as goal
+use Rattle.camp_seq.proofs.orders.order_by_selection.Goals as goal
 
 pub loop-at-preserved : goal.loop-at-preserved
 loop-at-preserved c =

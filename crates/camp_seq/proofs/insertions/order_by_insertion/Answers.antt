@@ -1,0 +1,24 @@
+use Rattle.std.proofs.Common.{◌≡◌, ◌+◌, List, length, subst, ◌∙◌, arith}
+use Rattle.std.proofs.lemmas.List.{length-take-le, take_all}
+use Rattle.camp_prim.specs.declared.named.Named.{Named}
+use Rattle.camp_seq.specs.Equivalence.{same}
+use Rattle.camp_seq.specs.Insertions.{InOrder}
+use Rattle.camp_seq.proofs.InsertionSteps.{norm_of_equivalent}
+use Rattle.camp_seq.proofs.PlacingSteps.{placed_more}
+use Rattle.camp_seq.proofs.insertions.order_by_insertion.Goals as goal
+
+pub loop-last-init : goal.loop-last-init
+loop-last-init c = record { same = same; ordered = tt }
+
+pub loop-last-preserved : goal.loop-last-preserved
+loop-last-preserved c =
+    let s : List Named = c.loop-last.items in
+    let n = c.loop-last.last in
+    let long : length c.place_last.new.items ≡ n + 1 = c.place_last.auto.items ∙ length-take-le (n + 1) s (omega arith) in
+    let next = placed_more c.args.items.now s c.place_last.new.items n c.requires c.loop-last.invariant.same c.loop-last.invariant.ordered (omega arith) long c.place_last.ensures in
+    record { same = next.0; ordered = next.1 }
+
+pub returns : goal.returns
+returns c =
+    let s : List Named = c.loop-last.items in
+    norm_of_equivalent c.args.items.now s c.requires c.loop-last.invariant.same (subst InOrder (take_all c.loop-last.last s (omega arith)) c.loop-last.invariant.ordered)

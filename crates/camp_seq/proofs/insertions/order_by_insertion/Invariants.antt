@@ -1,0 +1,10 @@
+use Rattle.std.proofs.Common.{take}
+use Rattle.camp_seq.specs.Equivalence.{◌~◌}
+use Rattle.camp_seq.specs.Insertions.{InOrder}
+use Rattle.camp_seq.proofs.insertions.order_by_insertion.Given as goal
+
+abbrev pub invariant-loop-last : goal.invariant-loop-last
+invariant-loop-last l = record {
+  same : l.initial.items ~ l.items;
+  ordered : InOrder (take l.last l.items);
+}

@@ -1,0 +1,5 @@
+use Rattle.camp_seq.specs.Insertions.{Goes}
+use Rattle.camp_seq.proofs.insertions.take_back.Given as goal
+
+abbrev pub invariant-loop-at : goal.invariant-loop-at
+invariant-loop-at l = Goes l.initial.items l.at l.items

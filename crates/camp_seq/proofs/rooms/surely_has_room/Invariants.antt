@@ -1,0 +1,14 @@
+use Rattle.std.proofs.Common.{◌≡◌, ◌+◌, ◌≤◌, ◌^◌, max, drop}
+use Rattle.std.specs.List.{All}
+use Rattle.camp_prim.specs.Effect.{InRange}
+use Rattle.camp_seq.specs.Shapes.{greatest_line, all_sides}
+use Rattle.camp_seq.proofs.rooms.surely_has_room.Given as goal
+
+abbrev pub invariant-loop-p : goal.invariant-loop-p
+invariant-loop-p l = record {
+  line : max l.greatest (greatest_line (drop l.p-index l.items)) ≡ greatest_line l.items;
+  sides : l.sides + all_sides (drop l.p-index l.items) ≡ all_sides l.items;
+  ranges : All (λ p. InRange p.prim) (drop l.p-index l.items) → All (λ p. InRange p.prim) l.items;
+  line_small : l.greatest ≤ 2 ^ 30;
+  small : l.sides ≤ 2 ^ 30;
+}

@@ -1,0 +1,49 @@
+ghost use Rattle.std.specs.Prelude.{◌≡◌, ◌^◌, ◌≤◌, ◌↔◌, IsTrue};
+ghost use Rattle.camp_prim.specs.Effect.{InRange};
+ghost use Rattle.camp_seq.specs.Room.{HasRoom};
+ghost use Rattle.camp_seq.specs.Shapes.{line_of, sides_of, reach_of};
+
+use camp_prim::{Named, Primitive};
+
+/// The greatest sum of a hunk's line and the numbers of its old and of its new lines.
+const MAX_REACH: usize = 1 << 30;
+
+/// Whether the greatest line of a list's hunks and the numbers of all their lines together are in
+/// the range of one hunk. Where they are, no swaps of neighbours bring a hunk out of range; where
+/// they are not, that may still be so. It takes one look at each element.
+pub(crate) fn surely_has_room(items: &[Named]) -> bool
+    ensures exact { IsTrue result ↔ (reach_of items.now ≤ 2 ^ 30) }
+    ensures room { IsTrue result → HasRoom items.now }
+{
+    let mut greatest = 0;
+    let mut sides = 0;
+    for p in items {
+        greatest = line_of(&p.prim).max(greatest);
+        sides += sides_of(&p.prim);
+        if sides > MAX_REACH {
+            return false;
+        }
+    }
+    greatest + sides <= MAX_REACH
+}
+
+/// The line of a hunk, and 0 for an add or a remove.
+fn line_of(p: &Primitive) -> usize
+    ensures value { result ≡ line_of p.now }
+    ensures in_range { InRange p.now }
+{
+    match p {
+        Primitive::Hunk(hunk) => hunk.line() as usize,
+        Primitive::Add(_) | Primitive::Remove(_) => 0,
+    }
+}
+
+/// The number of a hunk's old and new lines, and 0 for an add or a remove.
+fn sides_of(p: &Primitive) -> usize
+    ensures { result ≡ sides_of p.now }
+{
+    match p {
+        Primitive::Hunk(hunk) => hunk.old().len() + hunk.new().len(),
+        Primitive::Add(_) | Primitive::Remove(_) => 0,
+    }
+}
