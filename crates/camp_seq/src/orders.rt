@@ -39,7 +39,7 @@ fn ordered_copy(s: &Seq) -> Result<Seq, AllocError>
 /// Puts a list in normal order. It takes no memory.
 ///
 /// A list whose hunks stay in range in any order is ordered by insertion: n elements take at most
-/// n * n exchanges. Another, with hunks near the limit of 2^30, is ordered by selection.
+/// n * (n - 1) exchanges. Another, with hunks near the limit of 2^30, is ordered by selection.
 pub(crate) fn order(items: &mut [Named])
     ensures { Norm items.old items.new }
 {

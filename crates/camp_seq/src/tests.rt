@@ -20,6 +20,10 @@ fn normal_order_begins_with_the_least_label_that_comes_to_the_front(
             [("a", 4, "e", "g"), ("b", 1, "", "x")].as_slice(),
         ),
         (
+            [("b", 1, "", "x"), ("a", 1_073_741_822, "e", "g")].as_slice(),
+            [("a", 1_073_741_821, "e", "g"), ("b", 1, "", "x")].as_slice(),
+        ),
+        (
             [("b", 1, "", "x"), ("a", 2, "", "y")].as_slice(),
             [("b", 1, "", "x"), ("a", 2, "", "y")].as_slice(),
         ),
