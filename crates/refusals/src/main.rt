@@ -5,6 +5,7 @@
 #![tactic(auto)]
 
 mod fixtures;
+mod lists;
 mod patches;
 mod records;
 mod runs;
@@ -47,6 +48,7 @@ fn allocate(alloc: Global) -> Result<(), AllocError> {
 fn make_all_calls(alloc: Global) -> Result<(), Stop> {
     trees::make_calls(alloc)?;
     patches::make_calls(alloc)?;
+    lists::make_calls(alloc)?;
     records::make_calls(alloc)?;
     texts::make_calls(alloc)?;
     runs::make_calls(alloc)?;
