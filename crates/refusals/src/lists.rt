@@ -17,7 +17,8 @@ pub(crate) fn make_calls(alloc: Global) -> Result<(), Stop> {
     invert_list(&list)?;
     apply_list(alloc, &list)?;
     pass_lists(alloc)?;
-    merge_lists(alloc)
+    merge_lists(alloc)?;
+    ask_in_vain(alloc)
 }
 
 /// A new line at the head of the file `f`.
@@ -141,6 +142,22 @@ fn merge_lists(alloc: Global) -> Result<(), Stop> {
         }
         None => Err(Stop::Wrong("clean_merge")),
     }
+}
+
+// Two new lines that touch: neither list can be brought past the other.
+fn ask_in_vain(alloc: Global) -> Result<(), Stop> {
+    let behind = fixtures::patch(alloc, b"a", 2, &[], &[b"y"])?;
+    let list = list_of(alloc, upper(alloc)?, behind)?;
+    let name = Name::new(b"a")?;
+    expect(split(&list, &[(name, 1, false)])?.is_none(), "split")?;
+    let beside = fixtures::patch(alloc, b"a", 1, &[], &[b"y"])?;
+    merge_in_vain(alloc, beside)
+}
+
+fn merge_in_vain(alloc: Global, beside: Named) -> Result<(), Stop> {
+    let one = list_with(alloc, upper(alloc)?)?;
+    let other = list_with(alloc, beside)?;
+    expect(clean_merge(&one, &other)?.is_none(), "clean_merge")
 }
 
 fn is_at(patches: &[Named], place: usize, patch: &Named) -> bool {

@@ -76,14 +76,36 @@ fn apply_in_vain(tree: &mut Tree, removal: Primitive, edit: &Named) -> Result<()
     expect(tree.is_same(&before), "Named::apply")
 }
 
-// A new line at the head of a file, and a change further down.
 fn swap_patches(alloc: Global) -> Result<(), Stop> {
-    let upper = fixtures::patch(alloc, b"a", 1, &[], &[b"x"])?;
-    let lower = fixtures::patch(alloc, b"b", 5, &[b"e"], &[b"g"])?;
-    let moved = fixtures::patch(alloc, b"b", 4, &[b"e"], &[b"g"])?;
-    swap(&upper, &lower, &moved)?;
-    let touching = fixtures::patch(alloc, b"b", 2, &[], &[b"y"])?;
-    let answer = commute(&upper, &touching);
+    swap_at(alloc, (1, &[], &[b"x"]), (5, &[b"e"], &[b"g"]), 4)?;
+    swap_at(alloc, (1, &[], &[b"x", b"y"]), (5, &[b"e"], &[b"g"]), 3)?;
+    let last = 1_073_741_823;
+    swap_at(alloc, (1, &[], &[b"x"]), (last, &[b"e"], &[]), last - 1)?;
+    swap_at(
+        alloc,
+        (1, &[b"one"], &[b"uno"]),
+        (2, &[b"two"], &[b"dos"]),
+        2,
+    )?;
+    swap_in_vain(alloc, (1, &[], &[b"x"]), (2, &[], &[b"y"]))?;
+    swap_in_vain(alloc, (1, &[b"x"], &[]), (last, &[b"e"], &[]))
+}
+
+/// A line, and the old and the new lines of a hunk.
+type Sides<'a> = (u32, &'a [&'a [u8]], &'a [&'a [u8]]);
+
+// The lower hunk comes to a line, and the upper one stays.
+fn swap_at(alloc: Global, upper: Sides<'_>, lower: Sides<'_>, line: u32) -> Result<(), Stop> {
+    let moved = fixtures::patch(alloc, b"b", line, lower.1, lower.2)?;
+    let upper = fixtures::patch(alloc, b"a", upper.0, upper.1, upper.2)?;
+    let lower = fixtures::patch(alloc, b"b", lower.0, lower.1, lower.2)?;
+    swap(&upper, &lower, &moved)
+}
+
+fn swap_in_vain(alloc: Global, upper: Sides<'_>, lower: Sides<'_>) -> Result<(), Stop> {
+    let upper = fixtures::patch(alloc, b"a", upper.0, upper.1, upper.2)?;
+    let lower = fixtures::patch(alloc, b"b", lower.0, lower.1, lower.2)?;
+    let answer = commute(&upper, &lower);
     expect(matches!(&answer, Ok(None)), "commute")
 }
 
