@@ -1,0 +1,5 @@
+pub mod Adding
+pub mod Conflicts
+pub mod Contexts
+pub mod CtxFields
+pub mod Keys
