@@ -1,5 +1,6 @@
 pub mod Arranging
 pub mod Catches
 pub mod Commuting
+pub mod Laws
 pub mod Merging
 pub mod MergingLists

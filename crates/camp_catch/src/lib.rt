@@ -2,5 +2,10 @@
 #![tactic(auto)]
 
 mod catches;
+mod laws;
 
 pub use catches::Catch;
+pub use laws::{
+    commute_is_unique, commute_keeps_effects, merge_is_symmetric, merge_is_unique,
+    merge_keeps_effects,
+};

@@ -1,0 +1,93 @@
+-- Catches that fit one after the other, and what keeps the members of sets valid.
+use Rattle.std.proofs.Common.{◌≡◌, Bool, true, false, cond, Option, None, Some, List, [], ◌∷◌, ◌++◌, refl, sym, subst, ap}
+use Rattle.std.specs.FinMap.{get, contains_key, remove, insert, empty, get-empty, get-insert, get-remove}
+use Rattle.std.specs.Ordering.{eq_by_cmp}
+use Rattle.camp_base.specs.Trees.{Files}
+use Rattle.camp_prim.specs.Effect.{Applies, inverse_of}
+use Rattle.camp_prim.specs.declared.named.Named.{Named}
+use Rattle.camp_prim.proofs.Applied.{applies_once}
+use Rattle.camp_prim.proofs.Inverses.{leads_back}
+use Rattle.camp_seq.specs.Equivalence.{◌~◌}
+use Rattle.camp_seq.specs.Running.{Runs, inverse_all}
+use Rattle.camp_seq.proofs.ListRuns.{joined_runs, cut_run, equivalent_run}
+use Rattle.camp_ctx.specs.Contexts.{InContext, Contexts, AreValid, Valid, only, with_member, context_key}
+use Rattle.camp_ctx.specs.Keys.{Key, key_cmp}
+use Rattle.camp_ctx.proofs.KeyOrder.{key_total}
+use Rattle.camp_catch.specs.Catches.{Fits, effect_of, IsSeenFrom}
+use Rattle.camp_catch.specs.declared.catches.Catch.{Catch}
+use Rattle.camp_catch.specs.declared.catches.Catch.TheVariants.{Plain, Conflictor}
+
+-- two catches that fit, one after the other
+abbrev pub FitBoth : Catch → Catch → Files → Files → Type 0
+FitBoth j k old new = (between : Files) × Fits j old between × Fits k between new
+
+pub fit_both_as : (j k j' k' : Catch) (old new : Files) → j' ≡ j → k' ≡ k → FitBoth j k old new → FitBoth j' k' old new
+fit_both_as j k j' k' old new e f both =
+    subst (λ x. FitBoth j' x old new) (sym f) (subst (λ x. FitBoth x k old new) (sym e) both)
+
+pub plain_fits : (a : Named) (old new : Files) → Runs (a ∷ []) old new → Fits (Plain a) old new
+plain_fits a old new run = record { effect = run; seen = tt }
+
+pub conflictor_fits : (r : List Named) (xs : Contexts) (i : InContext) (old new : Files) → Runs r old new → AreValid new xs → Valid new i → Fits (Conflictor r xs i) old new
+conflictor_fits r xs i old new run members identity = record { effect = run; seen = (members, identity) }
+
+-- equivalent lists lead from the same trees
+pub along : (s t : List Named) → s ~ t → (old new : Files) → Runs s old new → Runs t old new
+along s t e old new run = (equivalent_run s t e old new).0 run
+
+-- two lists change places and lead to the same tree
+pub places_change : (r s s' r' : List Named) → (r ++ s) ~ (s' ++ r') → (old between new : Files) → Runs r old between → Runs s between new → (other : Files) × Runs s' old other × Runs r' other new
+places_change r s s' r' e old between new first second =
+    cut_run s' r' old new (along (r ++ s) (s' ++ r') e old new (joined_runs r s old between new first second))
+
+-- a list of one is its element
+pub one_runs : (a : Named) (old new : Files) → Applies a.prim old new → Runs (a ∷ []) old new
+one_runs a old new applies = (new, applies, refl)
+
+pub one_applies : (a : Named) (old new : Files) → Runs (a ∷ []) old new → Applies a.prim old new
+one_applies a old new run = subst (Applies a.prim old) (sym run.2) run.1
+
+pub one_back : (a : Named) (old new : Files) → Runs (a ∷ []) old new → Applies (inverse_of a).prim new old
+one_back a old new run = leads_back a.prim old new (one_applies a old new run)
+
+-- a list leads to one tree at most
+pub run_once : (s : List Named) (old new other : Files) → Runs s old new → Runs s old other → new ≡ other
+run_once [] old new other v w = subst (λ t. new ≡ t) (sym w) v
+run_once (p ∷ s) old new other v w =
+    run_once s w.0 new other (subst (λ t. Runs s t new) (applies_once p.prim old v.0 w.0 v.1 w.1) v.2) w.2
+
+never : (x : InContext) → None ≡ Some x → ⊥
+never x e = cc
+
+pub same_some : (x y : InContext) → Some x ≡ Some y → x ≡ y
+same_some x y e = cc
+
+inserted_at : (tree : Files) (l : InContext) (x : Option InContext) (same : Bool) → Valid tree l → ((v : InContext) → x ≡ Some v → Valid tree v) → (w : InContext) → cond same (Some l) x ≡ Some w → Valid tree w
+inserted_at tree l x true valid others w e = subst (Valid tree) (same_some l w e) valid
+inserted_at tree l x false valid others w e = others w e
+
+-- a set with one member more
+pub inserted_valid : (tree : Files) (xs : Contexts) (key : Key) (l : InContext) → AreValid tree xs → Valid tree l → AreValid tree (insert xs key l)
+inserted_valid tree xs key l members valid q w is =
+    inserted_at tree l (get xs q) (eq_by_cmp key_cmp q key) valid (members q) w (subst (λ o. o ≡ Some w) (get-insert key_total xs key l q) is)
+
+-- the set of one
+pub only_valid : (tree : Files) (l : InContext) → Valid tree l → AreValid tree (only l)
+only_valid tree l valid = inserted_valid tree empty (context_key l) l (λ q w e. absurd (never w (subst (λ o. o ≡ Some w) (get-empty key_cmp q) e))) valid
+
+joined_valid : (tree : Files) (xs : Contexts) (l : InContext) (there : Bool) → AreValid tree xs → Valid tree l → AreValid tree (cond there xs (insert xs (context_key l) l))
+joined_valid tree xs l true members valid = members
+joined_valid tree xs l false members valid = inserted_valid tree xs (context_key l) l members valid
+
+-- a set that a member joins
+pub with_member_valid : (tree : Files) (xs : Contexts) (l : InContext) → AreValid tree xs → Valid tree l → AreValid tree (with_member xs l)
+with_member_valid tree xs l members valid = joined_valid tree xs l (contains_key xs (context_key l)) members valid
+
+removed_at : (tree : Files) (x : Option InContext) (same : Bool) → ((v : InContext) → x ≡ Some v → Valid tree v) → (w : InContext) → cond same None x ≡ Some w → Valid tree w
+removed_at tree x true others w e = absurd (never w e)
+removed_at tree x false others w e = others w e
+
+-- a set without a member
+pub without_valid : (tree : Files) (xs : Contexts) (key : Key) → AreValid tree xs → AreValid tree (remove xs key)
+without_valid tree xs key members q w is =
+    removed_at tree (get xs q) (eq_by_cmp key_cmp q key) (members q) w (subst (λ o. o ≡ Some w) (get-remove key_total xs key q) is)

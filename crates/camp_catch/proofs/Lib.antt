@@ -1,0 +1,5 @@
+pub mod CommuteEffects
+pub mod CommuteResults
+pub mod Fitting
+pub mod MergeEffects
+pub mod MergeResults

@@ -1,0 +1,28 @@
+ghost use Rattle.camp_catch.specs.Laws.{CommuteIsUnique, CommuteKeepsEffects, MergeIsSymmetric, MergeIsUnique, MergeKeepsEffects};
+
+/// Where two catches fit a tree one after the other, so do those that they become, and both orders
+/// end in one tree.
+pub fn commute_keeps_effects()
+    ensures { CommuteKeepsEffects }
+{}
+
+/// Where two catches fit one tree, each of those that they become fits after the other, and both
+/// orders end in one tree.
+pub fn merge_keeps_effects()
+    ensures { MergeKeepsEffects }
+{}
+
+/// What two catches become by merging does not depend on which comes first.
+pub fn merge_is_symmetric()
+    ensures { MergeIsSymmetric }
+{}
+
+/// The cases of commuting exclude one another, and what two catches become is determined.
+pub fn commute_is_unique()
+    ensures { CommuteIsUnique }
+{}
+
+/// The cases of merging exclude one another, and what two catches become is determined.
+pub fn merge_is_unique()
+    ensures { MergeIsUnique }
+{}
