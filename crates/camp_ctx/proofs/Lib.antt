@@ -1,4 +1,5 @@
 pub mod AddResults
+pub mod AddSteps
 pub mod AddValid
 pub mod CommonLabels
 pub mod ConflictLaws
