@@ -3,7 +3,7 @@ use camp_prim::Named;
 use camp_seq::Seq;
 
 /// A patch of a branch: plain, or in conflict with others.
-#[derive(Debug, Drop)]
+#[derive(Drop)]
 pub enum Catch {
     Plain(Named),
     /// A patch in conflict. It has the effect; what it conflicts with, and itself, are seen from the

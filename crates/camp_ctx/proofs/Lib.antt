@@ -1,1 +1,8 @@
+pub mod AddResults
+pub mod AddSteps
+pub mod AddValid
+pub mod CommonLabels
+pub mod ConflictLaws
 pub mod KeyOrder
+pub mod NamedDecided
+pub mod SetChanges

@@ -3,3 +3,4 @@ pub mod Conflicts
 pub mod Contexts
 pub mod CtxFields
 pub mod Keys
+pub mod Laws

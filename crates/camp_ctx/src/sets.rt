@@ -6,7 +6,7 @@ use std::alloc::Global;
 use std::marker::Model;
 
 /// A set of contexted patches with different absolute labels.
-#[derive(Debug, Drop)]
+#[derive(Drop)]
 pub struct CtxSet {
     members: Vec<Contexted>,
 }
