@@ -113,6 +113,7 @@ pub record PlainLeavesTheSet (a : Named)
     (s : List Named) (ys : Contexts) (l : InContext) (k' j' : Catch) : Type 0 where
   pub z : InContext
   pub member : get ys (patch_key a) ≡ Some z
+  pub named : context_key z ≡ patch_key a
   pub several : 2 ≤ len ys
   pub rest : List Named
   pub front : Fronts (label_of (inverse_of a)) s (inverse_of a) rest

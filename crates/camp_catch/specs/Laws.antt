@@ -1,9 +1,12 @@
 -- The laws of catches and of lists of them.
-use Rattle.std.specs.Prelude.{◌≡◌, List}
+use Rattle.std.specs.Prelude.{◌≡◌, ◌⊎◌, ℕ, List, [], ◌∷◌, ◌++◌, map, Contains}
 use Rattle.camp_base.specs.Trees.{Files}
-use Rattle.camp_catch.specs.Catches.{Fits}
+use Rattle.camp_prim.specs.declared.labels.Key.{Key}
+use Rattle.camp_catch.specs.Arranging.{Arrange, Align}
+use Rattle.camp_catch.specs.Catches.{Fits, FitsAll, catch_key}
 use Rattle.camp_catch.specs.Commuting.{CommuteCatch}
 use Rattle.camp_catch.specs.Merging.{MergeCatch}
+use Rattle.camp_catch.specs.MergingLists.{MergeLists}
 use Rattle.camp_catch.specs.declared.catches.Catch.{Catch}
 
 -- commuting keeps effects: where j and then k fit, so do k' and then j', and both orders end in one tree
@@ -29,3 +32,48 @@ CommuteIsUnique =
 
 abbrev pub MergeIsUnique : Type 0
 MergeIsUnique = (j k k' j' l i : Catch) → MergeCatch j k k' j' → MergeCatch j k l i → (k' ≡ l) × (j' ≡ i)
+
+-- what is arranged, aligned or merged keeps fitting, and ends in the same tree
+pub record ListsKeepEffects : Type 0 where
+  pub arranged :
+      (names : List (List ℕ)) (list first rest : List Catch) → Arrange names list first rest → (old new : Files) →
+      FitsAll list old new → (between : Files) × FitsAll first old between × FitsAll rest between new
+  pub aligned :
+      (order : List Key) (list aligned : List Catch) → Align order list aligned → (old new : Files) →
+      FitsAll list old new → FitsAll aligned old new
+  pub merged :
+      (p q p' q' : List Catch) → MergeLists p q p' q' → (old left right : Files) → FitsAll q old left →
+      FitsAll p old right → (new : Files) × FitsAll p' left new × FitsAll q' right new
+
+-- the labels of a list
+abbrev pub keys_of : List Catch → List Key
+keys_of list = map catch_key list
+
+-- the keys that belong to these patches, and the others, both in their order
+abbrev pub KeysPart : List (List ℕ) → List Key → List Key → List Key → Type 0
+KeysPart names [] first rest = (first ≡ []) × (rest ≡ [])
+KeysPart names (key ∷ keys) first rest =
+    (Contains names key.name × ((t : List Key) × KeysPart names keys t rest × (first ≡ key ∷ t)))
+    ⊎ ((¬ (Contains names key.name)) × ((t : List Key) × KeysPart names keys first t × (rest ≡ key ∷ t)))
+
+-- the keys in this order first: each in turn is taken out of the others, which keep their order
+abbrev pub KeysAlign : List Key → List Key → List Key → Type 0
+KeysAlign [] keys aligned = aligned ≡ keys
+KeysAlign (key ∷ order) keys aligned =
+    (before : List Key) × (after : List Key) × (t : List Key)
+    × (keys ≡ before ++ key ∷ after) × KeysAlign order (before ++ after) t × (aligned ≡ key ∷ t)
+
+-- commuting and merging keep labels; arranging and aligning bring them into their order; what is merged has its own
+pub record KeepLabels : Type 0 where
+  pub commuted :
+      (j k k' j' : Catch) → CommuteCatch j k k' j' → (catch_key k' ≡ catch_key k) × (catch_key j' ≡ catch_key j)
+  pub merged :
+      (j k k' j' : Catch) → MergeCatch j k k' j' → (catch_key k' ≡ catch_key k) × (catch_key j' ≡ catch_key j)
+  pub arranged :
+      (names : List (List ℕ)) (list first rest : List Catch) → Arrange names list first rest →
+      KeysPart names (keys_of list) (keys_of first) (keys_of rest)
+  pub aligned :
+      (order : List Key) (list aligned : List Catch) → Align order list aligned →
+      KeysAlign order (keys_of list) (keys_of aligned)
+  pub merged_lists :
+      (p q p' q' : List Catch) → MergeLists p q p' q' → (keys_of p' ≡ keys_of p) × (keys_of q' ≡ keys_of q)

@@ -1,4 +1,4 @@
-ghost use Rattle.camp_catch.specs.Laws.{CommuteIsUnique, CommuteKeepsEffects, MergeIsSymmetric, MergeIsUnique, MergeKeepsEffects};
+ghost use Rattle.camp_catch.specs.Laws.{CommuteIsUnique, CommuteKeepsEffects, KeepLabels, ListsKeepEffects, MergeIsSymmetric, MergeIsUnique, MergeKeepsEffects};
 
 /// Where two catches fit a tree one after the other, so do those that they become, and both orders
 /// end in one tree.
@@ -25,4 +25,14 @@ pub fn commute_is_unique()
 /// The cases of merging exclude one another, and what two catches become is determined.
 pub fn merge_is_unique()
     ensures { MergeIsUnique }
+{}
+
+/// What is arranged, aligned or merged keeps fitting, and ends in the same tree.
+pub fn lists_keep_effects()
+    ensures { ListsKeepEffects }
+{}
+
+/// Commuting and merging keep labels, and so do arranging, aligning and merging lists.
+pub fn labels_are_kept()
+    ensures { KeepLabels }
 {}

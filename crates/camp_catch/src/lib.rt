@@ -6,6 +6,6 @@ mod laws;
 
 pub use catches::Catch;
 pub use laws::{
-    commute_is_unique, commute_keeps_effects, merge_is_symmetric, merge_is_unique,
-    merge_keeps_effects,
+    commute_is_unique, commute_keeps_effects, labels_are_kept, lists_keep_effects,
+    merge_is_symmetric, merge_is_unique, merge_keeps_effects,
 };

@@ -1,0 +1,155 @@
+-- Commuting and merging keep labels, and so do arranging, aligning and merging lists.
+use Rattle.std.proofs.Common.{◌≡◌, ◌⊎◌, inl, inr, List, [], ◌∷◌, ◌++◌, map, refl, sym, ap, ◌∙◌, subst, ℕ, Contains}
+use Rattle.std.proofs.lemmas.List.{map-append, append_assoc}
+use Rattle.camp_prim.specs.Effect.{inverse_of}
+use Rattle.camp_prim.specs.Labels.{label_of, key_of}
+use Rattle.camp_prim.specs.declared.labels.Key.{Key}
+use Rattle.camp_prim.specs.declared.named.Named.{Named}
+use Rattle.camp_seq.specs.Merging.{MergesOne}
+use Rattle.camp_seq.specs.Passing.{Passes, PassesAll}
+use Rattle.camp_ctx.specs.Adding.{Adds, AddsAll, PassesBy, PassesByAll, FromLast, cancel, commute, keep}
+use Rattle.camp_ctx.specs.Contexts.{InContext, Contexts, patch_key, context_key, bare}
+use Rattle.camp_catch.specs.Arranging.{ComesBefore, ArrangesBehind, ComesFirst, Align}
+use Rattle.camp_catch.specs.Catches.{catch_key}
+use Rattle.camp_catch.specs.Commuting.{CommuteCatch}
+use Rattle.camp_catch.specs.Laws.{KeepLabels, KeysPart, KeysAlign, keys_of}
+use Rattle.camp_catch.specs.Merging.{MergeCatch, PlainBesideConflictor, PlainJoinsConflictor}
+use Rattle.camp_catch.specs.MergingLists.{MergesWithAll, MergeLists}
+use Rattle.camp_catch.specs.declared.catches.Catch.{Catch}
+use Rattle.camp_catch.specs.declared.catches.Catch.TheVariants.{Plain, Conflictor}
+
+passed_key : (p : Named) (s s' : List Named) (p' : Named) → Passes p s s' p' → patch_key p' ≡ patch_key p
+passed_key p [] s' p' w = ap patch_key w.1
+passed_key p (q ∷ s) s' p' w = passed_key w.1 s w.2 p' w.4 ∙ ap key_of w.3.first
+
+passed_by_key : (p q q' p' : Named) (s' : List Named) → Passes p (q ∷ []) (q' ∷ s') p' → patch_key q' ≡ patch_key q
+passed_by_key p q q' p' s' w = ap patch_key (same_head q' w.0 s' w.2 w.5) ∙ ap key_of w.3.second
+
+same_head : (x y : Named) (s t : List Named) → (x ∷ s) ≡ (y ∷ t) → x ≡ y
+same_head x y s t e = cc
+
+passed_by_all_key : (r : List Named) (b b' : Named) (left : List Named) → PassesAll r (b ∷ []) (b' ∷ []) left → patch_key b' ≡ patch_key b
+passed_by_all_key r b b' left w = ?
+
+merged_key : (a : Named) (s s' : List Named) (a' : Named) → MergesOne a s s' a' → patch_key a' ≡ patch_key a
+merged_key a [] s' a' w = ap patch_key w.1
+merged_key a (b ∷ s) s' a' w = merged_key w.1 s w.2 a' w.4 ∙ ap key_of w.3.first
+
+pub added_key : (a : Named) (x y : InContext) → Adds a x y → context_key y ≡ context_key x
+added_key a x y (cancel w) = ap patch_key w.patch
+added_key a x y (commute never w) = ap key_of w.past_patch.second
+added_key a x y (keep never none w) = ap patch_key w.patch
+
+passed_context_key : (a : Named) (x y : InContext) → PassesBy a x y → context_key y ≡ context_key x
+passed_context_key a x y w = ap key_of w.past_patch.second
+
+key_from_last : (Change : Named → InContext → InContext → Type 0) → ((a : Named) (x y : InContext) → Change a x y → context_key y ≡ context_key x) → (r : List Named) (x y : InContext) → FromLast Change r x y → context_key y ≡ context_key x
+key_from_last Change keeps [] x y w = ap context_key w
+key_from_last Change keeps (a ∷ r) x y w = keeps a w.0 y w.2 ∙ key_from_last Change keeps r x w.0 w.1
+
+pub added_all_key : (r : List Named) (x y : InContext) → AddsAll r x y → context_key y ≡ context_key x
+added_all_key = key_from_last Adds added_key
+
+passed_all_key : (r : List Named) (x y : InContext) → PassesByAll r x y → context_key y ≡ context_key x
+passed_all_key = key_from_last PassesBy passed_context_key
+
+-- both labels are kept
+abbrev pub KeepKeys : Catch → Catch → Catch → Catch → Type 0
+KeepKeys j k k' j' = (catch_key k' ≡ catch_key k) × (catch_key j' ≡ catch_key j)
+
+pub commuted_keys : (j k k' j' : Catch) → CommuteCatch j k k' j' → KeepKeys j k k' j'
+commuted_keys (Plain a) (Plain b) k' j' w =
+    (ap catch_key w.second ∙ ap key_of w.swap.second, ap catch_key w.first ∙ ap key_of w.swap.first)
+commuted_keys (Plain a) (Conflictor s ys l) k' j' (inl w) =
+    (ap catch_key w.second ∙ passed_context_key w.a' l w.l' w.identity, ap catch_key w.first ∙ passed_key a s w.passed w.a' w.passes)
+commuted_keys (Plain a) (Conflictor s ys l) k' j' (inr (inl w)) =
+    (ap catch_key w.second ∙ ap context_key (sym w.is), ap catch_key w.first)
+commuted_keys (Plain a) (Conflictor s ys l) k' j' (inr (inr w)) =
+    (ap catch_key w.second, ap catch_key w.first ∙ w.named)
+commuted_keys (Conflictor r xs i) (Plain b) k' j' w =
+    (ap catch_key w.second ∙ passed_by_all_key r b w.b' w.left w.passes, ap catch_key w.first ∙ passed_context_key (inverse_of b) i w.i' w.identity)
+commuted_keys (Conflictor r xs i) (Conflictor s ys l) k' j' (inl w) =
+    (ap catch_key w.second ∙ passed_all_key w.rr' l w.l' w.identity, ap catch_key w.first ∙ added_all_key _ i w.i' w.own_identity)
+commuted_keys (Conflictor r xs i) (Conflictor s ys l) k' j' (inr (inl w)) =
+    (ap catch_key w.second ∙ added_all_key r l (bare w.a) w.becomes, ap catch_key w.first)
+commuted_keys (Conflictor r xs i) (Conflictor s ys l) k' j' (inr (inr w)) =
+    (ap catch_key w.second ∙ added_all_key w.rr' l w.l' w.identity, ap catch_key w.first ∙ added_all_key _ i w.i' w.own_identity)
+
+beside_or_joined : (a : Named) (s : List Named) (ys : Contexts) (l : InContext) (k' j' : Catch) → PlainBesideConflictor a s ys l k' j' ⊎ PlainJoinsConflictor a s ys l k' j' → KeepKeys (Plain a) (Conflictor s ys l) k' j'
+beside_or_joined a s ys l k' j' (inl w) =
+    (ap catch_key w.after ∙ added_key _ l w.l' w.identity, ap catch_key w.beside ∙ merged_key a s w.merged w.a' w.merge)
+beside_or_joined a s ys l k' j' (inr w) =
+    (ap catch_key w.after, ap catch_key w.beside ∙ added_all_key _ (bare a) w.z w.becomes)
+
+pub merged_keys : (j k k' j' : Catch) → MergeCatch j k k' j' → KeepKeys j k k' j'
+merged_keys (Plain a) (Plain b) k' j' (inl w) =
+    (ap catch_key w.after ∙ ap key_of w.merge.second, ap catch_key w.beside ∙ ap key_of w.merge.first)
+merged_keys (Plain a) (Plain b) k' j' (inr w) = (ap catch_key w.after, ap catch_key w.beside)
+merged_keys (Plain a) (Conflictor s ys l) k' j' w = beside_or_joined a s ys l k' j' w
+merged_keys (Conflictor r xs i) (Plain b) k' j' w =
+    let both = beside_or_joined b r xs i j' k' w in
+    (both.1, both.0)
+merged_keys (Conflictor r xs i) (Conflictor s ys l) k' j' w =
+    (ap catch_key w.after ∙ added_all_key _ l w.l' w.identity, ap catch_key w.beside ∙ added_all_key _ i w.i' w.own_identity)
+
+before_keys : (list : List Catch) (k k' : Catch) (list' : List Catch) → ComesBefore list k k' list' → (catch_key k' ≡ catch_key k) × (keys_of list' ≡ keys_of list)
+before_keys [] k k' list' w = (ap catch_key w.0, ap keys_of w.1)
+before_keys (j ∷ list) k k' list' w =
+    let rest = before_keys list k w.0 w.2 w.3 in
+    let pair = commuted_keys j w.0 k' w.1 w.4 in
+    (pair.0 ∙ rest.0, ap keys_of w.5 ∙ (λ t. pair.1 t ∷ rest.1 t))
+
+part_cons_first : (names : List (List ℕ)) (key : Key) (keys t first rest : List Key) → Contains names key.name → KeysPart names keys t rest → first ≡ key ∷ t → KeysPart names (key ∷ keys) first rest
+part_cons_first names key keys t first rest among w e = inl (among, (t, w, e))
+
+-- the others of a list stand behind those of another
+parts_behind : (names : List (List ℕ)) (rest list first others : List Catch) → ArrangesBehind names rest list first others → (t : List Key) × KeysPart names (keys_of list) (keys_of first) t × (keys_of others ≡ keys_of rest ++ t)
+parts_behind names rest [] first others w =
+    ([], (ap keys_of w.0, refl), ap keys_of w.1 ∙ sym (append-nil (keys_of rest)))
+parts_behind names rest (k ∷ list) first others (inl w) =
+    let come = w.1 in
+    let keys = before_keys rest k come.0 come.1 come.3 in
+    let more = parts_behind names come.1 list come.2 others come.4 in
+    (more.0, inl (w.0, (keys_of come.2, more.1, ap keys_of come.5 ∙ ap (λ x. x ∷ keys_of come.2) keys.0)), more.2 ∙ ap (λ x. x ++ more.0) keys.1)
+parts_behind names rest (k ∷ list) first others (inr w) =
+    let more = parts_behind names (rest ++ k ∷ []) list first others w.1 in
+    (catch_key k ∷ more.0, inr (w.0, (more.0, more.1, refl)), more.2 ∙ ap (λ x. x ++ more.0) (map-append catch_key rest (k ∷ [])) ∙ append_assoc (keys_of rest) (catch_key k ∷ []) more.0)
+
+arranged_keys : (names : List (List ℕ)) (list first rest : List Catch) → ArrangesBehind names [] list first rest → KeysPart names (keys_of list) (keys_of first) (keys_of rest)
+arranged_keys names list first rest w =
+    let parts = parts_behind names [] list first rest w in
+    subst (KeysPart names (keys_of list) (keys_of first)) (sym parts.2) parts.1
+
+first_keys : (key : Key) (list : List Catch) (k' : Catch) (others : List Catch) → ComesFirst key list k' others → (before : List Key) × (after : List Key) × (catch_key k' ≡ key) × (keys_of list ≡ before ++ key ∷ after) × (keys_of others ≡ before ++ after)
+first_keys key [] k' others w = absurd w
+first_keys key (j ∷ list) k' others (inl w) =
+    ([], keys_of list, ap catch_key w.1 ∙ w.0, ap (λ x. x ∷ keys_of list) w.0, ap keys_of w.2)
+first_keys key (j ∷ list) k' others (inr w) =
+    let come = w.1 in
+    let rest = first_keys key list come.0 come.2 come.3 in
+    let pair = commuted_keys j come.0 k' come.1 come.4 in
+    (catch_key j ∷ rest.0, rest.1, pair.0 ∙ rest.2, ap (λ x. catch_key j ∷ x) rest.3, ap keys_of come.5 ∙ (λ t. pair.1 t ∷ rest.4 t))
+
+aligned_keys : (order : List Key) (list aligned : List Catch) → Align order list aligned → KeysAlign order (keys_of list) (keys_of aligned)
+aligned_keys [] list aligned w = ap keys_of w
+aligned_keys (key ∷ order) list aligned w =
+    let first = first_keys key list w.0 w.1 w.3 in
+    let rest = aligned_keys order w.1 w.2 w.4 in
+    (first.0, first.1, keys_of w.2, first.3, subst (λ x. KeysAlign order x (keys_of w.2)) first.4 rest, ap keys_of w.5 ∙ ap (λ x. x ∷ keys_of w.2) first.2)
+
+with_all_keys : (q : List Catch) (k k' : Catch) (q' : List Catch) → MergesWithAll q k k' q' → (catch_key k' ≡ catch_key k) × (keys_of q' ≡ keys_of q)
+with_all_keys [] k k' q' w = (ap catch_key w.0, ap keys_of w.1)
+with_all_keys (j ∷ q) k k' q' w =
+    let pair = merged_keys j k w.0 w.1 w.3 in
+    let rest = with_all_keys q w.0 k' w.2 w.4 in
+    (rest.0 ∙ pair.0, ap keys_of w.5 ∙ (λ t. pair.1 t ∷ rest.1 t))
+
+lists_keys : (p q p' q' : List Catch) → MergeLists p q p' q' → (keys_of p' ≡ keys_of p) × (keys_of q' ≡ keys_of q)
+lists_keys [] q p' q' w = (ap keys_of w.0, ap keys_of w.1)
+lists_keys (k ∷ p) q p' q' w =
+    let row = with_all_keys q k w.0 w.1 w.3 in
+    let rest = lists_keys p w.1 w.2 q' w.4 in
+    (ap keys_of w.5 ∙ (λ t. row.0 t ∷ rest.0 t), rest.1 ∙ row.1)
+
+pub keep_labels : KeepLabels
+keep_labels = record { commuted = commuted_keys; merged = merged_keys; arranged = arranged_keys; aligned = aligned_keys; merged_lists = lists_keys }
