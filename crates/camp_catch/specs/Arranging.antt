@@ -1,6 +1,6 @@
 -- Lists of catches brought into another order by commuting neighbours.
 use Rattle.std.specs.Prelude.{◌≡◌, ◌≢◌, ◌⊎◌, ℕ, List, [], ◌∷◌, ◌++◌, Contains}
-use Rattle.camp_ctx.specs.Keys.{Key}
+use Rattle.camp_prim.specs.declared.labels.Key.{Key}
 use Rattle.camp_catch.specs.Catches.{catch_key}
 use Rattle.camp_catch.specs.Commuting.{CommuteCatch}
 use Rattle.camp_catch.specs.declared.catches.Catch.{Catch}

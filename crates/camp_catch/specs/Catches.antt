@@ -4,7 +4,7 @@ use Rattle.camp_base.specs.Trees.{Files}
 use Rattle.camp_prim.specs.declared.named.Named.{Named}
 use Rattle.camp_seq.specs.Running.{Runs}
 use Rattle.camp_ctx.specs.Contexts.{Valid, AreValid, patch_key, context_key}
-use Rattle.camp_ctx.specs.Keys.{Key}
+use Rattle.camp_prim.specs.declared.labels.Key.{Key}
 use Rattle.camp_catch.specs.declared.catches.Catch.{Catch}
 use Rattle.camp_catch.specs.declared.catches.Catch.TheVariants.{Plain, Conflictor}
 

@@ -4,7 +4,8 @@ use Rattle.std.specs.Prelude.{◌≡◌, ◌≢◌, ◌⊎◌, ◌≤◌, ◌&&�
 use Rattle.std.specs.List.{All}
 use Rattle.std.specs.FinMap.{get, contains_key, remove, len}
 use Rattle.camp_prim.specs.Effect.{inverse_of}
-use Rattle.camp_prim.specs.Labels.{Label, label_of}
+use Rattle.camp_prim.specs.Labels.{label_of}
+use Rattle.camp_prim.specs.declared.labels.Label.{Label}
 use Rattle.camp_prim.specs.Swaps.{Swap}
 use Rattle.camp_prim.specs.declared.named.Named.{Named}
 use Rattle.camp_seq.specs.NormalOrder.{Norm, Splits}

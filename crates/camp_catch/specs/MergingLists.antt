@@ -1,6 +1,6 @@
 -- The merge of two lists of catches that begin in one state.
 use Rattle.std.specs.Prelude.{◌≡◌, ◌⊎◌, List, [], ◌∷◌}
-use Rattle.camp_ctx.specs.Keys.{Key}
+use Rattle.camp_prim.specs.declared.labels.Key.{Key}
 use Rattle.camp_catch.specs.Catches.{catch_key}
 use Rattle.camp_catch.specs.Merging.{MergeCatch}
 use Rattle.camp_catch.specs.declared.catches.Catch.{Catch}

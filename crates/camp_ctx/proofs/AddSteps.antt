@@ -1,25 +1,29 @@
 -- What a body of adding and passing by knows at its answers.
-use Rattle.std.proofs.Common.{◌≡◌, ℕ, ◌+◌, ◌<◌, List, [], ◌∷◌, ◌++◌, length, take, drop, get_or, refl, sym, ap, ◌∙◌, subst}
+use Rattle.std.proofs.Common.{◌≡◌, ℕ, ◌+◌, ◌<◌, List, [], ◌∷◌, ◌++◌, length, take, drop, get_or, sym, ap, ◌∙◌, subst}
 use Rattle.std.proofs.lemmas.List.{drop_more}
 use Rattle.camp_prim.specs.Effect.{inverse_of}
 use Rattle.camp_prim.specs.Labels.{label_of}
 use Rattle.camp_prim.specs.Swaps.{Swap}
+use Rattle.camp_prim.specs.declared.labels.Label.{Label}
 use Rattle.camp_prim.specs.declared.named.Named.{Named}
 use Rattle.camp_seq.specs.NormalOrder.{Norm}
 use Rattle.camp_seq.specs.Passing.{Passes, Fronts}
 use Rattle.camp_seq.proofs.ListResults.{one_front, one_pass}
 use Rattle.camp_seq.proofs.ListSteps.{whole}
 use Rattle.camp_seq.proofs.ListRuns.{inverse_of-inverse_of}
-use Rattle.camp_ctx.specs.Adding.{Cancels, PassesBy, GivesNone, Adds, FromLast, AddsAll, PassesByAll}
+use Rattle.camp_ctx.specs.Adding.{Cancels, PassesBy, GivesNone, FromLast}
 use Rattle.camp_ctx.specs.Contexts.{InContext}
 use Rattle.camp_ctx.proofs.AddResults.{one_from_last}
 use Rattle.camp_ctx.specs.Laws.{GivesOne}
 
 -- what came to the front of a context, and its inverse
-module _ (a : Named) (x : InContext) (s : List Named) (first back : Named) (rest : List Named) (is : s ≡ x.context) (front : Fronts (label_of (inverse_of a)) s first rest) (inverted : back ≡ inverse_of first) where
+module _ (a : Named) (x : InContext) (label : Label) (s : List Named) (first back : Named) (rest : List Named) (labelled : label ≡ label_of (inverse_of a)) (is : s ≡ x.context) (comes : Fronts label s first rest) (inverted : back ≡ inverse_of first) where
+  front : Fronts (label_of (inverse_of a)) x.context first rest
+  front = subst (λ t. Fronts (label_of (inverse_of a)) t first rest) is (subst (λ l. Fronts l s first rest) labelled comes)
+
   pub not_cancelled : ¬ (back ≡ a) → GivesNone (Cancels a) x
   not_cancelled other y w =
-      let firsts = one_front _ s rest w.rest first (inverse_of a) front (subst (λ t. Fronts (label_of (inverse_of a)) t (inverse_of a) w.rest) (sym is) w.front) in
+      let firsts = one_front _ x.context rest w.rest first (inverse_of a) front w.front in
       other (inverted ∙ ap inverse_of firsts.0 ∙ inverse_of-inverse_of a)
 
   pub cancels_from : (y : InContext) (context : List Named) (patch : Named) → back ≡ a → Norm rest context → patch ≡ x.patch → y ≡ record { context = context; patch = patch } → Cancels a x y
@@ -27,7 +31,7 @@ module _ (a : Named) (x : InContext) (s : List Named) (first back : Named) (rest
       let it : first ≡ inverse_of a = sym (inverse_of-inverse_of first) ∙ ap inverse_of (sym inverted ∙ same) in
       subst (Cancels a x) (sym made) (record {
         rest = rest;
-        front = subst (λ z. Fronts (label_of (inverse_of a)) x.context z rest) it (subst (λ t. Fronts (label_of (inverse_of a)) t first rest) is front);
+        front = subst (λ z. Fronts (label_of (inverse_of a)) x.context z rest) it front;
         context = order;
         patch = kept;
       })

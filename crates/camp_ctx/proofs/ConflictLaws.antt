@@ -1,6 +1,7 @@
 -- Merging behind a common front has at most one result, and does not depend on the order of the two; so neither does conflict.
 use Rattle.std.proofs.Common.{◌≡◌, List, [], ◌∷◌, subst, inl, inr, Contains}
-use Rattle.camp_prim.specs.Labels.{Label, label_of}
+use Rattle.camp_prim.specs.Labels.{label_of}
+use Rattle.camp_prim.specs.declared.labels.Label.{Label}
 use Rattle.camp_prim.specs.declared.named.Named.{Named}
 use Rattle.camp_seq.specs.Merging.{CleanMerge}
 use Rattle.camp_seq.specs.NormalOrder.{Splits}

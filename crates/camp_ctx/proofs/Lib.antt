@@ -3,6 +3,5 @@ pub mod AddSteps
 pub mod AddValid
 pub mod CommonLabels
 pub mod ConflictLaws
-pub mod KeyOrder
 pub mod NamedDecided
 pub mod SetChanges

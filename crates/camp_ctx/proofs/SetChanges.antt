@@ -8,10 +8,11 @@ use Rattle.std.proofs.lemmas.Option.{same_Some}
 use Rattle.camp_base.specs.Trees.{Files}
 use Rattle.camp_ctx.specs.Adding.{AddsAll}
 use Rattle.camp_ctx.specs.Contexts.{InContext, Contexts, ChangesAt, EachMember}
-use Rattle.camp_ctx.specs.Keys.{Key, key_cmp}
+use Rattle.camp_prim.specs.Labels.{key_cmp}
+use Rattle.camp_prim.specs.declared.labels.Key.{Key}
 use Rattle.camp_ctx.specs.Laws.{GivesOne, AlwaysGives, KeepsValid, KeepsMembersValid}
 use Rattle.camp_ctx.proofs.AddResults.{one_add_of_all}
-use Rattle.camp_ctx.proofs.KeyOrder.{key_total, key_ties}
+use Rattle.camp_prim.proofs.LabelOrder.{key_total, key_ties}
 
 -- at each label a change of one result has one result
 one_change_at : (Change : InContext → InContext → Type 0) → GivesOne Change → (was now other : Option InContext) → ChangesAt Change was now → ChangesAt Change was other → now ≡ other

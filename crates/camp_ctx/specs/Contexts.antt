@@ -2,10 +2,10 @@
 use Rattle.std.specs.Prelude.{◌≡◌, List, [], ◌∷◌, ◌++◌, Option, None, Some, if◌then◌else◌}
 use Rattle.std.specs.FinMap.{FinMap, empty, get, contains_key, insert}
 use Rattle.camp_base.specs.Trees.{Files}
-use Rattle.camp_prim.specs.Labels.{label_of}
+use Rattle.camp_prim.specs.Labels.{label_of, key_of, key_cmp}
 use Rattle.camp_prim.specs.declared.named.Named.{Named}
 use Rattle.camp_seq.specs.Running.{Runs}
-use Rattle.camp_ctx.specs.Keys.{Key, key_of, key_cmp}
+use Rattle.camp_prim.specs.declared.labels.Key.{Key}
 
 -- c:p, a patch p with a list c that leads to it from the state where it is seen
 pub record InContext : Type 0 where

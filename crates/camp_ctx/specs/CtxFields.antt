@@ -3,7 +3,8 @@ use Rattle.std.specs.Prelude.{map}
 use Rattle.std.proofs.Common.{T}
 use Rattle.std.specs.FinMap.{from_sorted, is_sorted}
 use Rattle.camp_ctx.specs.Contexts.{InContext, Contexts, context_key}
-use Rattle.camp_ctx.specs.Keys.{Key, key_cmp}
+use Rattle.camp_prim.specs.Labels.{key_cmp}
+use Rattle.camp_prim.specs.declared.labels.Key.{Key}
 use Rattle.camp_ctx.specs.declared.sets.CtxSet.TheInside.{Inside}
 
 -- a member as an entry of the map

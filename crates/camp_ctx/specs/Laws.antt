@@ -34,7 +34,7 @@ pub record AddingGives : Type 0 where
   pub adds_to_members : (a : Named) → AlwaysGives (EachMember (Adds a))
   pub adds_all_to_members : (r : List Named) → AlwaysGives (EachMember (AddsAll r))
 
--- where a step leads from one tree to another, a change makes of what is valid in the second something valid in the first
+-- where a step leads from one tree to another, what is valid in the second becomes by a change valid in the first
 abbrev pub KeepsValid : (InContext → InContext → Type 0) → (Files → Files → Type 0) → Type 0
 KeepsValid Change Step = (x y : InContext) → Change x y → (old new : Files) → Step old new → Valid new x → Valid old y
 

@@ -2,5 +2,4 @@ pub mod Adding
 pub mod Conflicts
 pub mod Contexts
 pub mod CtxFields
-pub mod Keys
 pub mod Laws

@@ -83,7 +83,7 @@ fn cancelled(a: &Named, x: &Contexted) -> Result<Option<Contexted>, AllocError>
         (GivesNone (Cancels a.now) x.now)
         (λ y. Cancels a.now x.now y)) }
 {
-    let found = front(x.context(), &a.name, a.place, !a.inverse)?;
+    let found = front(x.context(), &a.label().opposite())?;
     let Some((first, rest)) = found else {
         return Ok(None);
     };

@@ -1,7 +1,8 @@
 ghost use Rattle.std.specs.Prelude.{◌≡◌, ◌↔◌, IfOk, IsTrue};
+ghost use Rattle.camp_ctx.specs.Contexts.{context_key};
 
 use camp_base::Name;
-use camp_prim::Named;
+use camp_prim::{Key, Named};
 use camp_seq::Seq;
 use camp_share::{Share, Shared};
 use std::alloc::{AllocError, Global};
@@ -62,6 +63,13 @@ impl Contexted {
         ensures { result ≡ self.now.patch.place }
     {
         self.patch().place
+    }
+
+    /// The absolute label of the patch.
+    pub fn key(&self) -> Key
+        ensures { result ≡ context_key self.now }
+    {
+        self.patch().label().key()
     }
 
     pub fn try_clone(&self) -> Result<Contexted, AllocError>

@@ -14,7 +14,7 @@ pub struct CtxSet {
 impl Model for CtxSet {
     ghost use Rattle.std.specs.FinMap as map;
     ghost use Rattle.camp_ctx.specs.Contexts.{Contexts};
-    ghost use Rattle.camp_ctx.specs.Keys.{coded_key};
+    ghost use Rattle.camp_prim.specs.Labels.{coded_key};
     ghost use Rattle.camp_ctx.specs.declared.contexted.Contexted.{the_code};
 
     ghost Value = { Contexts };

@@ -1,8 +1,8 @@
 use Rattle.std.proofs.Common.{ap, map}
 use Rattle.camp_ctx.specs.CtxFields.{entry_of}
-use Rattle.camp_ctx.specs.Keys.{key_cmp}
+use Rattle.camp_prim.specs.Labels.{key_cmp}
 use Rattle.camp_base.proofs.Entries.{map_of_none}
-use Rattle.camp_ctx.proofs.KeyOrder.{key_total}
+use Rattle.camp_prim.proofs.LabelOrder.{key_total}
 use Rattle.camp_ctx.proofs.sets.CtxSet.empty.Goals as goal
 
 pub returns : goal.returns
