@@ -4,7 +4,8 @@ use Rattle.std.specs.Cmp.{Equal-is, tied_itself}
 use Rattle.std.specs.FinMap.{get, remove, insert, empty, len, get-empty, get-insert, len-empty, len-insert}
 use Rattle.std.specs.Ordering.{eq_by_cmp}
 use Rattle.camp_prim.specs.Effect.{inverse_of}
-use Rattle.camp_prim.specs.Labels.{label_of}
+use Rattle.camp_prim.specs.Labels.{label_of, key_cmp}
+use Rattle.camp_prim.specs.declared.labels.Key.{Key}
 use Rattle.camp_prim.specs.declared.named.Named.{Named}
 use Rattle.camp_prim.proofs.SwapUnique.{swap_unique}
 use Rattle.camp_seq.specs.NormalOrder.{Norm}
@@ -13,9 +14,8 @@ use Rattle.camp_seq.specs.Running.{inverse_all}
 use Rattle.camp_seq.proofs.ListResults.{one_pass, one_pass_of_all, one_front, one_order, one_split}
 use Rattle.camp_ctx.specs.Adding.{Adds, AddsAll, PassesBy, PassesByAll}
 use Rattle.camp_ctx.specs.Contexts.{InContext, Contexts, EachMember, bare, only, with_member, patch_key, context_key}
-use Rattle.camp_ctx.specs.Keys.{Key, key_cmp}
 use Rattle.camp_ctx.proofs.AddResults.{one_add, one_add_of_all, one_passing_by, one_passing_of_all}
-use Rattle.camp_ctx.proofs.KeyOrder.{key_total}
+use Rattle.camp_prim.proofs.LabelOrder.{key_total}
 use Rattle.camp_ctx.proofs.SetChanges.{one_change_of_members}
 use Rattle.camp_catch.specs.Commuting.{BothPlain, PlainPastConflictor, ConflictorPastPlain, EffectsPass, labels_undone, TwoConflictorsApart, ConflictDissolves, PlainLeavesTheSet, OnlyConflictGoes, OneOfSeveralConflicts}
 use Rattle.camp_catch.specs.Laws.{CommuteIsUnique}

@@ -4,6 +4,8 @@ use Rattle.std.specs.FinMap.{get, contains_key, remove, insert, empty, get-empty
 use Rattle.std.specs.Ordering.{eq_by_cmp}
 use Rattle.camp_base.specs.Trees.{Files}
 use Rattle.camp_prim.specs.Effect.{Applies, inverse_of}
+use Rattle.camp_prim.specs.Labels.{key_cmp}
+use Rattle.camp_prim.specs.declared.labels.Key.{Key}
 use Rattle.camp_prim.specs.declared.named.Named.{Named}
 use Rattle.camp_prim.proofs.Applied.{applies_once}
 use Rattle.camp_prim.proofs.Inverses.{leads_back}
@@ -11,8 +13,7 @@ use Rattle.camp_seq.specs.Equivalence.{◌~◌}
 use Rattle.camp_seq.specs.Running.{Runs, inverse_all}
 use Rattle.camp_seq.proofs.ListRuns.{joined_runs, cut_run, equivalent_run}
 use Rattle.camp_ctx.specs.Contexts.{InContext, Contexts, AreValid, Valid, only, with_member, context_key}
-use Rattle.camp_ctx.specs.Keys.{Key, key_cmp}
-use Rattle.camp_ctx.proofs.KeyOrder.{key_total}
+use Rattle.camp_prim.proofs.LabelOrder.{key_total}
 use Rattle.camp_catch.specs.Catches.{Fits, effect_of, IsSeenFrom}
 use Rattle.camp_catch.specs.declared.catches.Catch.{Catch}
 use Rattle.camp_catch.specs.declared.catches.Catch.TheVariants.{Plain, Conflictor}

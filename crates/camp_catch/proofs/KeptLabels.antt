@@ -1,9 +1,10 @@
 -- Commuting and merging keep labels, and so do arranging, aligning and merging lists.
-use Rattle.std.proofs.Common.{◌≡◌, ◌⊎◌, inl, inr, List, [], ◌∷◌, ◌++◌, map, refl, sym, ap, ◌∙◌, subst, ℕ, Contains}
+use Rattle.std.proofs.Common.{◌≡◌, ◌⊎◌, inl, inr, append-nil, List, [], ◌∷◌, ◌++◌, map, refl, sym, ap, ◌∙◌, subst, ℕ, Contains}
 use Rattle.std.proofs.lemmas.List.{map-append, append_assoc}
 use Rattle.camp_prim.specs.Effect.{inverse_of}
 use Rattle.camp_prim.specs.Labels.{label_of, key_of}
 use Rattle.camp_prim.specs.declared.labels.Key.{Key}
+use Rattle.camp_prim.specs.declared.labels.Label.{Label}
 use Rattle.camp_prim.specs.declared.named.Named.{Named}
 use Rattle.camp_seq.specs.Merging.{MergesOne}
 use Rattle.camp_seq.specs.Passing.{Passes, PassesAll}
@@ -22,14 +23,22 @@ passed_key : (p : Named) (s s' : List Named) (p' : Named) → Passes p s s' p' �
 passed_key p [] s' p' w = ap patch_key w.1
 passed_key p (q ∷ s) s' p' w = passed_key w.1 s w.2 p' w.4 ∙ ap key_of w.3.first
 
-passed_by_key : (p q q' p' : Named) (s' : List Named) → Passes p (q ∷ []) (q' ∷ s') p' → patch_key q' ≡ patch_key q
-passed_by_key p q q' p' s' w = ap patch_key (same_head q' w.0 s' w.2 w.5) ∙ ap key_of w.3.second
+passed_labels : (p : Named) (s s' : List Named) (p' : Named) → Passes p s s' p' → map label_of s' ≡ map label_of s
+passed_labels p [] s' p' w = ap (map label_of) w.0
+passed_labels p (q ∷ s) s' p' w =
+    let rest = passed_labels w.1 s w.2 p' w.4 in
+    ap (map label_of) w.5 ∙ (λ t. w.3.second t ∷ rest t)
 
-same_head : (x y : Named) (s t : List Named) → (x ∷ s) ≡ (y ∷ t) → x ≡ y
-same_head x y s t e = cc
+all_passed_labels : (r s s' r' : List Named) → PassesAll r s s' r' → map label_of s' ≡ map label_of s
+all_passed_labels [] s s' r' w = ap (map label_of) w.0
+all_passed_labels (p ∷ r) s s' r' w = passed_labels p w.0 s' w.1 w.4 ∙ all_passed_labels r s w.0 w.2 w.3
+
+same_label : (x y : Label) → (x ∷ []) ≡ (y ∷ []) → x ≡ y
+same_label x y e = cc
 
 passed_by_all_key : (r : List Named) (b b' : Named) (left : List Named) → PassesAll r (b ∷ []) (b' ∷ []) left → patch_key b' ≡ patch_key b
-passed_by_all_key r b b' left w = ?
+passed_by_all_key r b b' left w =
+    ap key_of (same_label _ _ (all_passed_labels r (b ∷ []) (b' ∷ []) left w))
 
 merged_key : (a : Named) (s s' : List Named) (a' : Named) → MergesOne a s s' a' → patch_key a' ≡ patch_key a
 merged_key a [] s' a' w = ap patch_key w.1
@@ -98,9 +107,6 @@ before_keys (j ∷ list) k k' list' w =
     let rest = before_keys list k w.0 w.2 w.3 in
     let pair = commuted_keys j w.0 k' w.1 w.4 in
     (pair.0 ∙ rest.0, ap keys_of w.5 ∙ (λ t. pair.1 t ∷ rest.1 t))
-
-part_cons_first : (names : List (List ℕ)) (key : Key) (keys t first rest : List Key) → Contains names key.name → KeysPart names keys t rest → first ≡ key ∷ t → KeysPart names (key ∷ keys) first rest
-part_cons_first names key keys t first rest among w e = inl (among, (t, w, e))
 
 -- the others of a list stand behind those of another
 parts_behind : (names : List (List ℕ)) (rest list first others : List Catch) → ArrangesBehind names rest list first others → (t : List Key) × KeysPart names (keys_of list) (keys_of first) t × (keys_of others ≡ keys_of rest ++ t)
