@@ -96,3 +96,9 @@ impl Contexted {
         self.alloc
     }
 }
+
+impl Share for Contexted {
+    fn share(&self) -> Result<Contexted, AllocError> {
+        self.try_clone()
+    }
+}

@@ -4,6 +4,7 @@
 mod adding;
 mod contexted;
 mod joins;
+mod keys;
 mod laws;
 mod sets;
 
