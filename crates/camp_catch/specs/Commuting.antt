@@ -160,12 +160,20 @@ pub record OneOfSeveralConflicts (r : List Named) (xs : Contexts) (i : InContext
   pub second : k' ≡ Conflictor effect zs' l'
   pub first : j' ≡ Conflictor rr' (with_member xs' l) i'
 
+-- a plain catch before a conflictor
+abbrev pub CommutePlainConflictor : Named → List Named → Contexts → InContext → Catch → Catch → Type 0
+CommutePlainConflictor a s ys l k' j' =
+    PlainPastConflictor a s ys l k' j' ⊎ (ConflictDissolves a s ys l k' j' ⊎ PlainLeavesTheSet a s ys l k' j')
+
+-- a conflictor before a conflictor
+abbrev pub CommuteConflictors : List Named → Contexts → InContext → List Named → Contexts → InContext → Catch → Catch → Type 0
+CommuteConflictors r xs i s ys l k' j' =
+    TwoConflictorsApart r xs i s ys l k' j'
+    ⊎ (OnlyConflictGoes r xs i s ys l k' j' ⊎ OneOfSeveralConflicts r xs i s ys l k' j')
+
 -- j k <-> k' j': one of the cases of their kinds holds
 abbrev pub CommuteCatch : Catch → Catch → Catch → Catch → Type 0
 CommuteCatch (Plain a) (Plain b) k' j' = BothPlain a b k' j'
-CommuteCatch (Plain a) (Conflictor s ys l) k' j' =
-    PlainPastConflictor a s ys l k' j' ⊎ (ConflictDissolves a s ys l k' j' ⊎ PlainLeavesTheSet a s ys l k' j')
+CommuteCatch (Plain a) (Conflictor s ys l) k' j' = CommutePlainConflictor a s ys l k' j'
 CommuteCatch (Conflictor r xs i) (Plain b) k' j' = ConflictorPastPlain r xs i b k' j'
-CommuteCatch (Conflictor r xs i) (Conflictor s ys l) k' j' =
-    TwoConflictorsApart r xs i s ys l k' j'
-    ⊎ (OnlyConflictGoes r xs i s ys l k' j' ⊎ OneOfSeveralConflicts r xs i s ys l k' j')
+CommuteCatch (Conflictor r xs i) (Conflictor s ys l) k' j' = CommuteConflictors r xs i s ys l k' j'
