@@ -11,7 +11,6 @@ use Rattle.camp_repo.specs.declared.calls.Call.{Call}
 use Rattle.camp_repo.specs.declared.calls.Call.TheVariants as call
 use Rattle.camp_script.specs.Texts.{line_text, signed_line}
 use Rattle.camp_script.specs.Reading.{script_of}
-use Rattle.camp_script.specs.declared.TheConstants.{MAX_WRITES}
 
 -- the words of a change
 abbrev pub change_words : Primitive → List (List ℕ)
@@ -45,6 +44,6 @@ abbrev pub IsCall : Call → Type 0
 IsCall (call.Record branch name change) = IsTrue (is_name branch) × IsTrue (is_name name) × IsChange change
 IsCall (call.Tree branch) = IsTrue (is_name branch)
 
--- the canonical text of calls, of no more writing ones than a section may have, reads back as just these calls
+-- the canonical text of calls, 65,536 writing ones at most, reads back as just these calls
 abbrev pub ReadsBack : Type 0
-ReadsBack = (calls : List Call) → AllByRecursion IsCall calls → count_by is_writing calls ≤ MAX_WRITES → script_of (section_text calls) ≡ Ok (calls ∷ [])
+ReadsBack = (calls : List Call) → AllByRecursion IsCall calls → count_by is_writing calls ≤ 65_536 → script_of (section_text calls) ≡ Ok (calls ∷ [])

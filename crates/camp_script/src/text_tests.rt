@@ -1,4 +1,4 @@
-use crate::{TextError, append_reply, write_reply, write_text};
+use crate::{ScriptFault, append_reply, write_reply, write_text};
 use camp_base::{Line, Name, Path, Tree};
 use camp_repo::{Refusal, Reply};
 use std::alloc::Global;
@@ -158,7 +158,7 @@ fn a_text_is_written_whole_or_its_front_is(rt: HostRuntime) -> Result<(), Fail> 
         if taken == text {
             assert_eq!(rt; written, Ok(()));
         } else {
-            assert_eq!(rt; written, Err(TextError::Write));
+            assert_eq!(rt; written, Err(ScriptFault::Write));
         }
     }
     Ok(())
