@@ -9,7 +9,7 @@ mod readings;
 mod scripts;
 mod texts;
 
-pub use canonical::canonical_text_reads_back;
+pub use canonical::{calls_can_be_written, canonical_text_reads_back};
 pub use faults::{FaultKind, LineFault, ScriptFault};
 pub use scripts::{Script, read_script};
 pub use texts::{append_reply, write_reply, write_text};
