@@ -13,5 +13,6 @@ mod words;
 pub use faults::NotationError;
 pub use lists::list_text;
 pub use patches::{label_text, named_text};
-pub use readings::{read_list, read_named, read_tree};
+pub use readings::{read_label, read_lines, read_list, read_named, read_tree, read_word};
 pub use trees::tree_text;
+pub use words::{lines_text, word_text};

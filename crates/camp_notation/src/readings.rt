@@ -2,12 +2,13 @@ ghost use Rattle.std.specs.Prelude.{◌≡◌, IfOk};
 ghost use Rattle.camp_notation.specs.Lists.{list_text};
 ghost use Rattle.camp_notation.specs.Patches.{named_text};
 ghost use Rattle.camp_notation.specs.Trees.{tree_text};
+ghost use Rattle.camp_notation.specs.Words.{lines_text, word_text};
 
 use crate::cursors::Cursor;
-use crate::{NotationError, list_text, named_text, tree_text};
+use crate::{NotationError, lines_text, list_text, named_text, tree_text, word_text};
 use camp_base::{Line, Name, Path, Tree};
 use camp_prim::{Named, Primitive};
-use camp_seq::Seq;
+use camp_seq::{Label, Seq};
 use std::alloc::Global;
 
 /// The labelled primitive of a text. A label alone stands for the primitive of that label among
@@ -50,23 +51,38 @@ pub fn read_tree(alloc: Global, text: &[u8]) -> Result<Tree, NotationError>
     Ok(tree)
 }
 
-/// A label, as it stands in a text.
-#[derive(Clone, Copy)]
-struct Label {
-    name: Name,
-    place: u8,
-    inverse: bool,
+/// The bytes of a word.
+pub fn read_word(alloc: Global, text: &[u8]) -> Result<Vec<u8>, NotationError>
+    ensures { IfOk result (λ bytes. text.now ≡ word_text bytes.items) }
+{
+    let mut cursor = Cursor::new(text);
+    let bytes = cursor.word(alloc)?;
+    cursor.expect_end()?;
+    if word_text(alloc, &bytes)?.as_bytes() != text {
+        return Err(NotationError::WrittenOtherwise);
+    }
+    Ok(bytes)
 }
 
-impl Label {
-    fn of(self, prim: Primitive) -> Named {
-        Named {
-            name: self.name,
-            place: self.place,
-            inverse: self.inverse,
-            prim,
-        }
+/// The lines between brackets.
+pub fn read_lines(alloc: Global, text: &[u8]) -> Result<Vec<Line>, NotationError>
+    ensures { IfOk result (λ lines. text.now ≡ lines_text lines.items) }
+{
+    let mut cursor = Cursor::new(text);
+    let lines = read_row_of_lines(alloc, &mut cursor)?;
+    cursor.expect_end()?;
+    if lines_text(alloc, &lines)?.as_bytes() != text {
+        return Err(NotationError::WrittenOtherwise);
     }
+    Ok(lines)
+}
+
+/// The label of a text: `NAME.PLACE^`, where the place may be left out if it is 1.
+pub fn read_label(text: &[u8]) -> Result<Label, NotationError> {
+    let mut cursor = Cursor::new(text);
+    let label = read_label_there(&mut cursor)?;
+    cursor.expect_end()?;
+    Ok(label)
 }
 
 fn read_files(alloc: Global, cursor: &mut Cursor) -> Result<Tree, NotationError> {
@@ -88,7 +104,7 @@ fn read_files(alloc: Global, cursor: &mut Cursor) -> Result<Tree, NotationError>
 fn read_file(alloc: Global, cursor: &mut Cursor, tree: &mut Tree) -> Result<(), NotationError> {
     let path = Path::new(alloc, &cursor.word(alloc)?)?;
     cursor.expect(b": ", ':')?;
-    let lines = read_lines(alloc, cursor)?;
+    let lines = read_row_of_lines(alloc, cursor)?;
     tree.add_file(&path)?;
     Ok(tree.splice(&path, 1, &[], &lines)?)
 }
@@ -110,32 +126,37 @@ fn read_items(alloc: Global, known: &[Named], cursor: &mut Cursor) -> Result<Seq
 }
 
 fn read_item(alloc: Global, known: &[Named], cursor: &mut Cursor) -> Result<Named, NotationError> {
-    let label = read_label(cursor)?;
+    let label = read_label_there(cursor)?;
     if cursor.take(b" ") {
-        Ok(label.of(read_change(alloc, cursor)?))
+        Ok(labelled(label, read_change(alloc, cursor)?))
     } else {
         known_item(known, &label)
     }
 }
 
+fn labelled((name, place, inverse): Label, prim: Primitive) -> Named {
+    Named {
+        name,
+        place,
+        inverse,
+        prim,
+    }
+}
+
 fn known_item(known: &[Named], label: &Label) -> Result<Named, NotationError> {
     for p in known {
-        if p.name == label.name && p.place == label.place && p.inverse == label.inverse {
+        if (p.name, p.place, p.inverse) == *label {
             return Ok(p.try_clone()?);
         }
     }
     Err(NotationError::UnknownLabel)
 }
 
-fn read_label(cursor: &mut Cursor) -> Result<Label, NotationError> {
+fn read_label_there(cursor: &mut Cursor) -> Result<Label, NotationError> {
     let name = Name::new(cursor.name())?;
     let place = read_place(cursor)?;
     let inverse = cursor.take(b"^");
-    Ok(Label {
-        name,
-        place,
-        inverse,
-    })
+    Ok((name, place, inverse))
 }
 
 fn read_place(cursor: &mut Cursor) -> Result<u8, NotationError> {
@@ -173,9 +194,9 @@ fn read_hunk(
 ) -> Result<Primitive, NotationError> {
     let path = Path::new(alloc, path)?;
     let line = read_number(line)?;
-    let old = read_lines(alloc, cursor)?;
+    let old = read_row_of_lines(alloc, cursor)?;
     cursor.expect(b" -> ", '-')?;
-    let new = read_lines(alloc, cursor)?;
+    let new = read_row_of_lines(alloc, cursor)?;
     Primitive::hunk(path, line, old, new).ok_or(NotationError::NoHunk)
 }
 
@@ -186,7 +207,7 @@ fn read_number(digits: &[u8]) -> Result<u32, NotationError> {
     Ok(number)
 }
 
-fn read_lines(alloc: Global, cursor: &mut Cursor) -> Result<Vec<Line>, NotationError> {
+fn read_row_of_lines(alloc: Global, cursor: &mut Cursor) -> Result<Vec<Line>, NotationError> {
     let mut lines = Vec::new(alloc);
     cursor.expect(b"[", '[')?;
     if cursor.take(b"]") {

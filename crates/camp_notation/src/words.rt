@@ -1,12 +1,30 @@
-ghost use Rattle.std.specs.Prelude.{◌≡◌, ◌∷◌, [], ◌++◌, ◌<◌, ◌/◌, ◌%◌, IsTrue, OnOk, string_bytes};
+ghost use Rattle.std.specs.Prelude.{◌≡◌, ◌∷◌, [], ◌++◌, ◌<◌, ◌/◌, ◌%◌, IsTrue, IfOk, OnOk, string_bytes};
 ghost use Rattle.std.specs.List.{list_all, flat_map};
 ghost use Rattle.camp_notation.specs.Words.{hex_digit, is_plain, is_plain_byte, lines_text, quoted_byte, separator, word_text};
 
 use camp_base::Line;
-use std::alloc::AllocError;
+use std::alloc::{AllocError, Global};
 
-/// Appends bytes as a word: as they are where they are letters, digits and `-`, `.`, `/`, `_`, and
-/// else between quotes.
+/// Bytes as a word: as they are where they are letters, digits and `-`, `.`, `/`, `_`, and else
+/// between quotes, as `"two words"`.
+pub fn word_text(alloc: Global, bytes: &[u8]) -> Result<String, AllocError>
+    ensures { IfOk result (λ text. string_bytes text ≡ word_text bytes.now) }
+{
+    let mut text = String::new(alloc);
+    append_word(&mut text, bytes)?;
+    Ok(text)
+}
+
+/// Lines as `[one, two]`.
+pub fn lines_text(alloc: Global, lines: &[Line]) -> Result<String, AllocError>
+    ensures { IfOk result (λ text. string_bytes text ≡ lines_text lines.now) }
+{
+    let mut text = String::new(alloc);
+    append_lines(&mut text, lines)?;
+    Ok(text)
+}
+
+/// Appends bytes as a word.
 pub(crate) fn append_word(text: &mut String, bytes: &[u8]) -> Result<(), AllocError>
     ensures { OnOk result (string_bytes text.new ≡ string_bytes text.old ++ word_text bytes.now) }
 {
