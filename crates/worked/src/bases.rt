@@ -35,7 +35,7 @@ enum Kind {
 
 /// The bytes that may stand alone in a name, a path or a line, all 256 of them tried.
 pub(crate) fn bytes_alone(a: &Arguments) -> Result<String> {
-    let kind = kind(a)?;
+    let kind = kind_of(a)?;
     let mut bytes = Vec::new(a.alloc());
     for byte in 0..=255 {
         if is_made(a, kind, &[byte]) {
@@ -47,7 +47,7 @@ pub(crate) fn bytes_alone(a: &Arguments) -> Result<String> {
 
 /// The bytes that may stand between two letters of a name, a path or a line.
 pub(crate) fn bytes_within(a: &Arguments) -> Result<String> {
-    let kind = kind(a)?;
+    let kind = kind_of(a)?;
     let mut bytes = Vec::new(a.alloc());
     for byte in 0..=255 {
         if is_made(a, kind, &[b'a', byte, b'z']) {
@@ -57,7 +57,35 @@ pub(crate) fn bytes_within(a: &Arguments) -> Result<String> {
     Ok(word_text(a.alloc(), &bytes)?)
 }
 
-fn kind(a: &Arguments) -> Result<Kind> {
+/// From how many to how many bytes a name, a path or a line may have, up to 5,000 tried. It is told
+/// where there are gaps.
+pub(crate) fn lengths(a: &Arguments) -> Result<String> {
+    let kind = kind_of(a)?;
+    let mut bytes = Vec::new(a.alloc());
+    let mut lengths = Vec::new(a.alloc());
+    for length in 0..=5_000 {
+        if is_made(a, kind, &bytes) {
+            lengths.push(length)?;
+        }
+        bytes.push(b'a')?;
+    }
+    range_text(a, &lengths)
+}
+
+fn range_text(a: &Arguments, numbers: &[u32]) -> Result<String> {
+    let (Some(first), Some(last)) = (numbers.first(), numbers.last()) else {
+        return results::none(a);
+    };
+    let (first, last) = (*first, *last);
+    let gaps = if numbers.len() as u64 + first as u64 == last as u64 + 1 {
+        ""
+    } else {
+        ", with gaps"
+    };
+    Ok(format!(in a.alloc(); "{first} to {last}{gaps}")?)
+}
+
+fn kind_of(a: &Arguments) -> Result<Kind> {
     match a.word(0)?.as_slice() {
         b"name" => Ok(Kind::Name),
         b"path" => Ok(Kind::Path),

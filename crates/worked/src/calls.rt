@@ -10,6 +10,7 @@ pub(crate) fn call(name: &[u8], a: &Arguments) -> Result<String> {
         b"line" => bases::line(a),
         b"bytes_alone" => bases::bytes_alone(a),
         b"bytes_within" => bases::bytes_within(a),
+        b"lengths" => bases::lengths(a),
         b"compare_names" => bases::compare_names(a),
         b"compare_paths" => bases::compare_paths(a),
         b"faults" => bases::faults(a),

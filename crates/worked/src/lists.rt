@@ -1,9 +1,7 @@
 use crate::arguments::Arguments;
 use crate::results;
 use anyhow::Result;
-use camp_seq::{
-    Seq, apply_all, clean_merge, front, invert_all, norm, past, past_all, split,
-};
+use camp_seq::{Seq, apply_all, clean_merge, front, invert_all, norm, past, past_all, split};
 
 pub(crate) fn passed(a: &Arguments) -> Result<String> {
     match past(&a.named(0)?, &a.list(1)?)? {

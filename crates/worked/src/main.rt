@@ -40,9 +40,9 @@ fn print_line(rt: &impl Print, table: &mut Table, line: &[u8]) -> Result<()> {
     let text = str::from_utf8(line)?;
     println!(rt; "{text}")?;
     match table.answer(line) {
-        Ok(Some(result)) => println!(rt; "{result}")?,
+        Ok(Some(result)) => println!(rt; "= {result}")?,
         Ok(None) => {}
-        Err(error) => println!(rt; "{error}")?,
+        Err(error) => println!(rt; "= {error}")?,
     }
     Ok(())
 }

@@ -81,7 +81,11 @@ impl Table {
                 tree_text(self.alloc, &read_tree(self.alloc, text)?)?;
             }
             _ => {
-                list_text(self.alloc, &self.known, &read_list(self.alloc, &self.known, text)?)?;
+                list_text(
+                    self.alloc,
+                    &self.known,
+                    &read_list(self.alloc, &self.known, text)?,
+                )?;
             }
         }
         let name = Vec::from_slice(self.alloc, name)?;
@@ -94,7 +98,8 @@ impl Table {
     fn learn(&mut self, line: &[u8]) -> Result<()> {
         let p = read_named(self.alloc, &[], line)?;
         let inverse = p.try_clone()?.invert();
-        self.known.retain(|k| k.name != p.name || k.place != p.place);
+        self.known
+            .retain(|k| k.name != p.name || k.place != p.place);
         self.known.push(p)?;
         self.known.push(inverse)?;
         Ok(())
