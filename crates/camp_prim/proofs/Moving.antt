@@ -3,7 +3,7 @@ use Rattle.std.proofs.Common.{◌≡◌, ℕ, ◌+◌, ◌<◌, ◌⊎◌, ◌�
 use Rattle.camp_base.specs.Trees.{Lines}
 use Rattle.camp_prim.specs.Effect.{InRange}
 use Rattle.camp_prim.specs.Hunks.{Edit, IsInRange}
-use Rattle.camp_prim.specs.Labels.{SameAbsolute}
+use Rattle.camp_prim.specs.Labels.{SameKey}
 use Rattle.camp_prim.specs.Moves.{moved, ComesTo, ChangePlaces, FindsMoves}
 use Rattle.camp_prim.specs.Swaps.{at_line, MayPass, Swap}
 use Rattle.camp_prim.specs.declared.primitives.Primitive.{Primitive}
@@ -84,7 +84,7 @@ no_place h k path below above q' p' c =
 pub finds_along : (p q : Primitive) (h k : Edit) (found : Option Moves) → p ≡ Hunk h → q ≡ Hunk k → FindsMoves (Hunk h) (Hunk k) found → FindsMoves p q found
 finds_along p q h k found e f finds = subst (λ x. FindsMoves p x found) (sym f) (subst (λ x. FindsMoves x (Hunk k) found) (sym e) finds)
 
-pub swap_from : (p q q' p' : Named) (moves : Moves) → ¬ (SameAbsolute p q) → ChangePlaces p.prim q.prim (moved moves.second q.prim) (moved moves.first p.prim) → q' ≡ record q { prim = moved moves.second q.prim } → p' ≡ record p { prim = moved moves.first p.prim } → Swap p q q' p'
+pub swap_from : (p q q' p' : Named) (moves : Moves) → ¬ (SameKey p q) → ChangePlaces p.prim q.prim (moved moves.second q.prim) (moved moves.first p.prim) → q' ≡ record q { prim = moved moves.second q.prim } → p' ≡ record p { prim = moved moves.first p.prim } → Swap p q q' p'
 swap_from p q q' p' moves apart c e f =
     subst (λ x. Swap p q q' x) (sym f) (subst (λ x. Swap p q x (record p { prim = moved moves.first p.prim })) (sym e) (record {
       apart = apart;
@@ -95,7 +95,7 @@ swap_from p q q' p' moves apart c e f =
     }))
 
 -- where primitives change places, there is a swap whatever the answer is
-pub swap_wanted : {T E : Type 0} (result : Result T E) (p q : Named) (moves : Moves) → ¬ (SameAbsolute p q) → ChangePlaces p.prim q.prim (moved moves.second q.prim) (moved moves.first p.prim) → IfErr result (λ error. (q' : Named) × ((p' : Named) × Swap p q q' p'))
+pub swap_wanted : {T E : Type 0} (result : Result T E) (p q : Named) (moves : Moves) → ¬ (SameKey p q) → ChangePlaces p.prim q.prim (moved moves.second q.prim) (moved moves.first p.prim) → IfErr result (λ error. (q' : Named) × ((p' : Named) × Swap p q q' p'))
 swap_wanted (Ok done) p q moves apart c = tt
 swap_wanted (Err error) p q moves apart c =
     (record q { prim = moved moves.second q.prim }, (record p { prim = moved moves.first p.prim }, swap_from p q _ _ moves apart c refl refl))

@@ -1,8 +1,8 @@
 -- The laws of swapping two primitives.
-use Rattle.std.proofs.Common.{◌≡◌, ℕ, ◌+◌, ◌≤◌, ◌^◌, not, length, refl, sym, ap, ◌∙◌, inl, inr, arith}
+use Rattle.std.proofs.Common.{◌≡◌, ℕ, ◌+◌, ◌≤◌, ◌^◌, length, refl, sym, ap, ◌∙◌, inl, inr, arith}
 use Rattle.camp_prim.specs.Hunks.{Edit, IsInRange}
 use Rattle.camp_prim.specs.Effect.{flipped, inverted, inverse_of, InRange}
-use Rattle.camp_prim.specs.Labels.{Label, label_of, SameAbsolute}
+use Rattle.camp_prim.specs.Labels.{label_of, key_of, opposite, SameKey}
 use Rattle.camp_prim.specs.Laws.{OwnInverse, Inverse, Square, SameEffect, SwapLaws}
 use Rattle.camp_prim.specs.Swaps.{path_of, at_line, MayPass, Swap}
 use Rattle.camp_prim.specs.declared.primitives.Primitive.{Primitive}
@@ -43,21 +43,11 @@ in_range-inverted (Hunk hunk) r = in_range-flipped hunk r
 at_own_line : (q : Primitive) (k : Edit) (line : ℕ) → q ≡ Hunk k → k.line ≡ line → q ≡ Hunk (at_line line k)
 at_own_line q k line is_q stands = is_q ∙ ap (λ l. Hunk (at_line l k)) stands
 
-other_sign : Label → Label
-other_sign l = record { name = l.name; place = l.place; inverse = not l.inverse }
+pub label-inverse : (p q : Named) → label_of p ≡ label_of q → label_of (inverse_of p) ≡ label_of (inverse_of q)
+label-inverse p q e = ap opposite e
 
-label-inverse : (p q : Named) → label_of p ≡ label_of q → label_of (inverse_of p) ≡ label_of (inverse_of q)
-unfolding other_sign
-label-inverse p q e = ap other_sign e
-
-absolute : (p q p' q' : Named) → label_of p ≡ label_of p' → label_of q ≡ label_of q' → SameAbsolute p q → SameAbsolute p' q'
-absolute p q p' q' e f same = record {
-  name = sym (ap (λ l. l.name) e) ∙ same.name ∙ ap (λ l. l.name) f;
-  place = sym (ap (λ l. l.place) e) ∙ same.place ∙ ap (λ l. l.place) f;
-}
-
-absolute_back : (p q : Named) → SameAbsolute p q → SameAbsolute q p
-absolute_back p q same = record { name = sym same.name; place = sym same.place }
+pub same_key : (p q p' q' : Named) → label_of p ≡ label_of p' → label_of q ≡ label_of q' → SameKey p q → SameKey p' q'
+same_key p q p' q' e f same = sym (ap key_of e) ∙ same ∙ ap key_of f
 
 swaps_back : (p q q' p' : Primitive) → Swaps p q q' p' → Swaps q' p' p q
 swaps_back p q q' p' (inl s) = inl (record {
@@ -92,7 +82,7 @@ swaps_back p q q' p' (inr (inr s)) = inr (inl (record {
 
 pub own_inverse : (p q q' p' : Named) → Swap p q q' p' → OwnInverse p q q' p'
 own_inverse p q q' p' s = record {
-  apart = λ same. s.apart (absolute_back q p (absolute q' p' q p s.second s.first same));
+  apart = λ same. s.apart (sym (same_key q' p' q p s.second s.first same));
   change = swaps_back p.prim q.prim q'.prim p'.prim s.change;
   ranges = (s.ranges.2, s.ranges.3, s.ranges.0, s.ranges.1);
   second = sym s.first;
@@ -132,7 +122,7 @@ swaps_inverse p q q' p' (inr (inr s)) = inr (inl (record {
 
 pub inverse : (p q q' p' : Named) → Swap p q q' p' → Inverse p q q' p'
 inverse p q q' p' s = record {
-  apart = λ same. s.apart (record { name = sym same.name; place = sym same.place });
+  apart = λ same. s.apart (sym same);
   change = swaps_inverse p.prim q.prim q'.prim p'.prim s.change;
   ranges = (in_range-inverted q.prim s.ranges.1, in_range-inverted p.prim s.ranges.0, in_range-inverted p'.prim s.ranges.3, in_range-inverted q'.prim s.ranges.2);
   second = label-inverse p' p s.first;
@@ -172,7 +162,7 @@ swaps_square p q q' p' (inr (inr s)) = inr (inr (record {
 
 pub square : (p q q' p' : Named) → Swap p q q' p' → Square p q q' p'
 square p q q' p' s = record {
-  apart = λ same. s.apart (record { name = same.name ∙ ap (λ l. l.name) s.second; place = same.place ∙ ap (λ l. l.place) s.second });
+  apart = λ same. s.apart (same ∙ ap key_of s.second);
   change = swaps_square p.prim q.prim q'.prim p'.prim s.change;
   ranges = (in_range-inverted p.prim s.ranges.0, s.ranges.2, s.ranges.1, in_range-inverted p'.prim s.ranges.3);
   second = sym s.second;

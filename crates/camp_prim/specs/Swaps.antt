@@ -2,7 +2,7 @@
 use Rattle.std.specs.Prelude.{◌≡◌, ◌≢◌, ℕ, ◌+◌, ◌<◌, ◌⊎◌, List, length}
 use Rattle.camp_prim.specs.Hunks.{Edit}
 use Rattle.camp_prim.specs.Effect.{InRange}
-use Rattle.camp_prim.specs.Labels.{label_of, SameAbsolute}
+use Rattle.camp_prim.specs.Labels.{label_of, SameKey}
 use Rattle.camp_prim.specs.declared.primitives.Primitive.{Primitive}
 use Rattle.camp_prim.specs.declared.primitives.Primitive.TheVariants.{Add, Remove, Hunk}
 use Rattle.camp_prim.specs.declared.named.Named.{Named}
@@ -55,7 +55,7 @@ pub record SwapsAbove (p q q' p' : Primitive) : Type 0 where
 
 -- p q <-> q' p': the absolute labels differ, one of the cases holds, all four are in range, and labels are kept
 pub record Swap (p q q' p' : Named) : Type 0 where
-  pub apart : ¬ (SameAbsolute p q)
+  pub apart : ¬ (SameKey p q)
   pub change : SwapsOnTwoPaths p.prim q.prim q'.prim p'.prim ⊎ (SwapsBelow p.prim q.prim q'.prim p'.prim ⊎ SwapsAbove p.prim q.prim q'.prim p'.prim)
   pub ranges : InRange p.prim × InRange q.prim × InRange q'.prim × InRange p'.prim
   pub second : label_of q' ≡ label_of q

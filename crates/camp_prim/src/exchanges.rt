@@ -3,7 +3,7 @@ ghost use Rattle.camp_prim.specs.Effect.{InRange};
 ghost use Rattle.camp_prim.specs.Exchange.{Exchanged};
 ghost use Rattle.camp_prim.specs.Moves.{moved};
 
-use crate::labels::is_absolute_label_same;
+use crate::labels::have_same_key;
 use crate::swaps::moves_of;
 use crate::{Named, Primitive};
 use std::mem;
@@ -14,7 +14,7 @@ use std::mem;
 pub fn exchange(first: &mut Named, second: &mut Named) -> bool
     ensures { Exchanged first.old second.old result first.new second.new }
 {
-    if is_absolute_label_same(first, second) {
+    if have_same_key(first, second) {
         return false;
     }
     match moves_of(&first.prim, &second.prim) {

@@ -1,7 +1,6 @@
-use crate::{Named, Primitive, commute, compare_labels};
+use crate::{Label, Named, Primitive, commute};
 use camp_base::{Line, Name, Path};
 use std::alloc::Global;
-use std::cmp::Ordering;
 use std::test::Fail;
 
 #[test]
@@ -79,22 +78,22 @@ fn a_file_that_comes_or_goes_stays_beside_its_other_changes(rt: HostRuntime) -> 
 
 #[test]
 fn labels_stand_by_name_then_place_then_sign(rt: HostRuntime) -> Result<(), Fail> {
-    let alloc = rt.alloc();
-    let mut rising = Vec::new(alloc);
-    for (name, place, inverse) in [
-        ("a", 1, false),
-        ("a", 1, true),
-        ("a", 2, false),
-        ("a", 64, true),
-        ("a0", 1, false),
-        ("b", 1, false),
-    ] {
-        rising.push(labelled(name, place, inverse, hunk(alloc, (1, "", "x"))?)?)?;
-    }
+    let rising = [
+        label("a", 1, false)?,
+        label("a", 1, true)?,
+        label("a", 2, false)?,
+        label("a", 64, true)?,
+        label("a0", 1, false)?,
+        label("b", 1, false)?,
+    ];
     for (i, p) in rising.iter().enumerate() {
         for (j, q) in rising.iter().enumerate() {
-            assert_eq!(rt; compare_labels(p, q), i.cmp(&j), "{p:?} {q:?}");
+            assert_eq!(rt; p.cmp(q), i.cmp(&j), "{p:?} {q:?}");
         }
+        assert!(rt;
+            p.opposite() != *p && p.opposite().key() == p.key(),
+            "{p:?}"
+        );
     }
     Ok(())
 }
@@ -119,13 +118,22 @@ fn line_of(moved: &Named, other: &Named) -> Result<u32, Fail> {
     let (Primitive::Hunk(hunk), Primitive::Hunk(from)) = (&moved.prim, &other.prim) else {
         return Err("no hunk".into());
     };
-    let is_label_kept = compare_labels(moved, other) == Ordering::Equal;
+    let is_label_kept = moved.label() == other.label();
     let are_sides_kept = hunk.old() == from.old() && hunk.new() == from.new();
     if is_label_kept && are_sides_kept && hunk.path() == from.path() {
         Ok(hunk.line())
     } else {
         Err("more than the line changed".into())
     }
+}
+
+fn label(name: &str, place: u8, inverse: bool) -> Result<Label, Fail> {
+    let name = Name::new(name.as_bytes())?;
+    Ok(Label {
+        name,
+        place,
+        inverse,
+    })
 }
 
 fn labelled(name: &str, place: u8, inverse: bool, prim: Primitive) -> Result<Named, Fail> {

@@ -6,7 +6,7 @@ ghost use Rattle.camp_prim.specs.Moves.{moved, ComesTo, FindsMoves};
 ghost use Rattle.camp_prim.specs.Swaps.{Swap};
 
 use crate::exchanges::move_to;
-use crate::labels::is_absolute_label_same;
+use crate::labels::have_same_key;
 use crate::{Hunk, Named, Primitive};
 use std::alloc::AllocError;
 
@@ -20,7 +20,7 @@ pub fn commute(p: &Named, q: &Named) -> Result<Option<(Named, Named)>, AllocErro
     ensures laws { IfOk result (λ found. IfSome found (λ pair. SwapLaws p.now q.now pair.0 pair.1)) }
     ensures wanted { IfErr result (λ error. (q' : Named) × ((p' : Named) × Swap p.now q.now q' p')) }
 {
-    if is_absolute_label_same(p, q) {
+    if have_same_key(p, q) {
         return Ok(None);
     }
     match moves_of(&p.prim, &q.prim) {

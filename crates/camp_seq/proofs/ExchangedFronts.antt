@@ -1,6 +1,7 @@
 -- What comes to the front of a list with room comes to the front of each list that is one exchange from it.
 use Rattle.std.proofs.Common.{◌≡◌, ◌≢◌, ◌⊎◌, List, [], ◌∷◌, ◌++◌, refl, sym, ap, ◌∙◌, subst, inl, inr}
-use Rattle.camp_prim.specs.Labels.{Label, label_of, SameAbsolute}
+use Rattle.camp_prim.specs.Labels.{label_of, key_of}
+use Rattle.camp_prim.specs.declared.labels.Label.{Label}
 use Rattle.camp_prim.specs.Swaps.{Swap}
 use Rattle.camp_prim.specs.declared.named.Named.{Named}
 use Rattle.camp_prim.proofs.SwapLaws.{own_inverse}
@@ -19,10 +20,6 @@ Near s t = (s ≡ t) ⊎ Exchanges s t
 abbrev pub FrontsNear : Label → List Named → Named → List Named → Type 0
 FrontsNear label t y u = (v : List Named) × Fronts label t y v × Near u v
 
--- labels that are equal name one patch
-absolute_of : (p q : Named) → label_of p ≡ label_of q → SameAbsolute p q
-absolute_of p q e = record { name = ap (λ l. l.name) e; place = ap (λ l. l.place) e }
-
 near_behind : (x : Named) (s u v : List Named) → s ≡ x ∷ u → Near u v → Near s (x ∷ v)
 near_behind x s u v e (inl same) = inl (e ∙ ap (λ y. x ∷ y) same)
 near_behind x s u v e (inr w) = inr (record {
@@ -40,7 +37,7 @@ near_behind x s u v e (inr w) = inr (record {
 -- the first of the two comes to the front
 first_comes : (label : Label) (p q q' p' : Named) (s : List Named) (y : Named) (u : List Named) → Swap p q q' p' → label_of p ≡ label → y ≡ p → u ≡ q ∷ s → FrontsNear label (q' ∷ p' ∷ s) y u
 first_comes label p q q' p' s y u w named is rest =
-    let other : label_of q' ≢ label = λ e. w.apart (absolute_of p q (named ∙ sym e ∙ w.second)) in
+    let other : label_of q' ≢ label = λ e. w.apart (ap key_of (named ∙ sym e ∙ w.second)) in
     let back : Swap q' p' y q = subst (λ x. Swap q' p' x q) (sym is) (own_inverse p q q' p' w) in
     (q ∷ s, inr (other, (p', q, s, inl (w.first ∙ named, refl, refl), back, refl)), inl rest)
 

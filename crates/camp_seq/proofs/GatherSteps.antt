@@ -1,26 +1,15 @@
 -- Elements with given labels, gathered from the last to the first.
-use Rattle.std.proofs.Common.{◌≡◌, ℕ, ◌+◌, ◌<◌, ◌≤◌, Bool, List, [], ◌∷◌, ◌++◌, length, map, take, drop, get_or, refl, sym, ap, ◌∙◌, subst, inl, inr, arith}
-use Rattle.std.specs.Prelude.{Any, Contains}
-use Rattle.std.proofs.lemmas.List.{append_assoc, length-append, length-drop, length-map, length-take-le, get_or-map, get_or_default, drop_more, take-take, take_at, drop_at}
+use Rattle.std.proofs.Common.{◌≡◌, ℕ, ◌+◌, ◌<◌, ◌≤◌, List, [], ◌∷◌, ◌++◌, length, take, drop, get_or, refl, sym, ap, ◌∙◌, subst, inl, inr, arith}
+use Rattle.std.specs.Prelude.{Contains}
+use Rattle.std.proofs.lemmas.List.{append_assoc, length-append, length-drop, length-take-le, drop_more, take-take, take_at, drop_at}
 use borrow.Rule.Slice.PartMut.{put_mid}
-use Rattle.camp_prim.specs.Labels.{Label, label_of}
+use Rattle.camp_prim.specs.Labels.{label_of}
+use Rattle.camp_prim.specs.declared.labels.Label.{Label}
 use Rattle.camp_prim.specs.declared.named.Named.{Named}
 use Rattle.camp_seq.specs.InPlace.{PartsFrom}
-use Rattle.camp_seq.specs.Keys.{keyed}
 use Rattle.camp_seq.specs.Passing.{Passes, Parts}
 use Rattle.camp_seq.proofs.ListResults.{one_parting}
 use Rattle.camp_seq.proofs.ListSteps.{at_last, whole}
-
--- a label is among the given ones
-pub contains_from_any : (keys : List (List ℕ × ℕ × Bool)) (label : Label) → Any (λ key. label ≡ keyed key) keys → Contains (map keyed keys) label
-contains_from_any keys label (k, x, within, is, same) =
-    (k, rw length-map within, get_or-map keyed keys k x label within ∙ ap keyed is ∙ sym same)
-
-pub any_from_contains : (keys : List (List ℕ × ℕ × Bool)) (label : Label) → Contains (map keyed keys) label → Any (λ key. label ≡ keyed key) keys
-any_from_contains [] label (k, within, is) = absurd (omega arith)
-any_from_contains (x ∷ keys) label (k, within, is) =
-    let there : k < length (x ∷ keys) = rw length-map at within in
-    (k, get_or (x ∷ keys) k x, there, get_or_default (x ∷ keys) k (get_or (x ∷ keys) k x) x there, sym is ∙ get_or-map keyed (x ∷ keys) k x label there)
 
 pub parts_bound : (labels : List Label) (s now : List Named) (at count : ℕ) → PartsFrom labels s at count now → at ≤ length now → at + count ≤ length now
 parts_bound labels s now at count w within =

@@ -1,17 +1,11 @@
 -- The law of three for labelled primitives.
-use Rattle.std.proofs.Common.{◌≡◌, [], ◌∷◌, refl, sym, ap, ◌∙◌}
+use Rattle.std.proofs.Common.{[], ◌∷◌, refl, sym, ◌∙◌}
 use Rattle.camp_prim.specs.Effect.{InRange}
-use Rattle.camp_prim.specs.Labels.{label_of, SameAbsolute}
 use Rattle.camp_prim.specs.declared.named.Named.{Named}
+use Rattle.camp_prim.proofs.SwapLaws.{same_key}
 use Rattle.camp_prim.proofs.ThreeSwaps.{three_swap}
 use Rattle.camp_seq.specs.Room.{SwapAnywhere, Reaches, here, further, LawOfThree}
 use Rattle.camp_seq.proofs.RoomSteps.{anywhere, with_ranges, at_front, reaches_through, reaches_behind, second_in_range, third_in_range}
-
-absolute : (p q p' q' : Named) → label_of p ≡ label_of p' → label_of q ≡ label_of q' → SameAbsolute p q → SameAbsolute p' q'
-absolute p q p' q' e f same = record {
-  name = sym (ap (λ l. l.name) e) ∙ same.name ∙ ap (λ l. l.name) f;
-  place = sym (ap (λ l. l.place) e) ∙ same.place ∙ ap (λ l. l.place) f;
-}
 
 -- the six orders, in range or not
 pub record SixAnywhere (q' p' r p1 q1 y : Named) : Type 0 where
@@ -31,19 +25,19 @@ three_anywhere p q r q' p' r1 q1 y p1 u v w =
       p2 = record p { prim = n.p2 };
       q2 = record q { prim = n.q2 };
       past_p = record {
-        apart = λ same. w.apart (absolute p' r p r1 u.first (sym v.second) same);
+        apart = λ same. w.apart (same_key p' r p r1 u.first (sym v.second) same);
         change = n.past_first;
         second = refl;
         first = sym u.first;
       };
       past_q = record {
-        apart = λ same. v.apart (absolute q' (record r { prim = n.r2 }) q r u.second refl same);
+        apart = λ same. v.apart (same_key q' (record r { prim = n.r2 }) q r u.second refl same);
         change = n.past_second;
         second = w.second ∙ v.second;
         first = sym u.second;
       };
       behind = record {
-        apart = λ same. u.apart (absolute p1 q1 p q w.first v.first same);
+        apart = λ same. u.apart (same_key p1 q1 p q w.first v.first same);
         change = n.others;
         second = sym v.first;
         first = sym w.first;

@@ -1,7 +1,8 @@
 -- What passes, comes to the front or is split is equivalent to what it came from.
 use Rattle.std.proofs.Common.{◌≡◌, inl, inr, List, [], ◌∷◌, ◌++◌, refl, sym, ap, ◌∙◌, subst}
 use Rattle.std.proofs.lemmas.List.{append_assoc, append-nil}
-use Rattle.camp_prim.specs.Labels.{Label, label_of}
+use Rattle.camp_prim.specs.Labels.{label_of}
+use Rattle.camp_prim.specs.declared.labels.Label.{Label}
 use Rattle.camp_prim.specs.Swaps.{Swap}
 use Rattle.camp_prim.specs.declared.named.Named.{Named}
 use Rattle.camp_seq.specs.Equivalence.{Exchanges, ◌~◌, same, exchanged, backwards, through}

@@ -2,14 +2,14 @@
 use Rattle.std.proofs.Common.{◌≡◌, ℕ, ◌+◌, Bool, true, false, not, [], ◌∷◌, length, refl, sym, ap, ◌∙◌, subst, inl, inr}
 use Rattle.camp_prim.specs.Hunks.{Edit}
 use Rattle.camp_prim.specs.Effect.{flipped, inverted, inverse_of, InRange}
-use Rattle.camp_prim.specs.Labels.{Label, label_of}
+use Rattle.camp_prim.specs.Labels.{label_of, key_of}
 use Rattle.camp_prim.specs.Swaps.{path_of, at_line, MayPass, Swap}
 use Rattle.camp_prim.specs.declared.primitives.Primitive.{Primitive}
 use Rattle.camp_prim.specs.declared.primitives.Primitive.TheVariants.{Add, Remove, Hunk}
 use Rattle.camp_prim.specs.declared.named.Named.{Named}
 use Rattle.camp_prim.proofs.Inverses.{inverted-inverted}
 use Rattle.camp_prim.proofs.SwapEffect.{Swaps}
-use Rattle.camp_prim.proofs.SwapLaws.{own_inverse, square}
+use Rattle.camp_prim.proofs.SwapLaws.{own_inverse, square, label-inverse}
 use Rattle.camp_prim.proofs.SwapUnique.{same_named}
 use Rattle.camp_seq.specs.Room.{SwapAnywhere, Reaches, here, further, HasRoom}
 use Rattle.camp_seq.proofs.LawOfThree.{three_anywhere}
@@ -59,13 +59,6 @@ swaps_turned p q q' p' (inr (inr s)) = inr (inr (record {
   first = ap inverted s.first;
 }))
 
-turned_label : Label → Label
-turned_label l = record { name = l.name; place = l.place; inverse = not l.inverse }
-
-label-turned : (p q : Named) → label_of p ≡ label_of q → label_of (inverse_of p) ≡ label_of (inverse_of q)
-unfolding turned_label
-label-turned p q e = ap turned_label e
-
 not-not : (b : Bool) → not (not b) ≡ b
 not-not true = refl
 not-not false = refl
@@ -77,10 +70,10 @@ turned_anywhere : (p q q' p' : Named) → SwapAnywhere (inverse_of p) q q' p' �
 turned_anywhere p q q' p' s =
     let change = swaps_turned (inverted p.prim) q.prim q'.prim p'.prim s.change in
     record {
-      apart = λ same. s.apart (record { name = same.name ∙ ap (λ l. l.name) s.second; place = same.place ∙ ap (λ l. l.place) s.second });
+      apart = λ same. s.apart (same ∙ ap key_of s.second);
       change = subst (λ x. Swaps x q'.prim q.prim (inverted p'.prim)) (inverted-inverted p.prim) change;
       second = sym s.second;
-      first = label-turned p' (inverse_of p) s.first ∙ ap label_of (inverse-inverse p);
+      first = label-inverse p' (inverse_of p) s.first ∙ ap label_of (inverse-inverse p);
     }
 
 -- x z <-> first rest, and q' r' <-> first behind: the two that x passed, in their other order

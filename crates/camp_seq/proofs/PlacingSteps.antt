@@ -1,10 +1,10 @@
 -- An element that is swapped to its place, from one neighbour to the next.
-use Rattle.std.proofs.Common.{◌≡◌, ◌≢◌, ℕ, zero, suc, ◌+◌, ◌-◌, ◌<◌, Bool, true, false, List, [], ◌∷◌, ◌++◌, Ordering, length, take, drop, get_or, set, refl, sym, ap, ◌∙◌, subst, inl, inr, arith}
+use Rattle.std.proofs.Common.{◌≡◌, ◌≢◌, ℕ, zero, suc, ◌+◌, ◌-◌, ◌<◌, Bool, true, false, List, [], ◌∷◌, ◌++◌, length, take, drop, get_or, set, refl, sym, ap, ◌∙◌, subst, inl, inr, arith}
 use Rattle.std.proofs.lemmas.List.{append_assoc, length_push, length-append, length-set, length-take-le, take_at, drop_at, take_all, take_more, take_more_set, drop_more, take-append-drop, take-take}
-use Rattle.std.specs.Ordering.{is_lt}
-use Rattle.std.specs.declared.cmp.Ordering.TheVariants.{Less, Equal, Greater}
+use Rattle.std.specs.declared.cmp.Ordering.TheVariants.{Less}
 use Rattle.camp_prim.specs.Exchange.{Exchanged}
-use Rattle.camp_prim.specs.Labels.{Label, label_of, label_cmp}
+use Rattle.camp_prim.specs.Labels.{label_of, label_cmp}
+use Rattle.camp_prim.specs.declared.labels.Label.{Label}
 use Rattle.camp_prim.specs.Swaps.{Swap}
 use Rattle.camp_prim.specs.declared.named.Named.{Named}
 use Rattle.camp_prim.proofs.SwapLaws.{own_inverse}
@@ -159,16 +159,6 @@ second_there before x y after i d long =
 are_less_more : (label : Label) (s : List Named) (y : Named) → AreLess label s → label_cmp (label_of y) label ≡ Less → AreLess label (s ++ y ∷ [])
 are_less_more label [] y all less = (less, tt)
 are_less_more label (x ∷ s) y all less = (all.0, are_less_more label s y all.1 less)
-
-pub less_where : (r : Ordering) → is_lt r ≡ true → r ≡ Less
-less_where Less e = refl
-less_where Equal e = absurd (cc)
-less_where Greater e = absurd (cc)
-
-pub not_less_where : (r : Ordering) → is_lt r ≡ false → r ≢ Less
-not_less_where Less e less = absurd (cc)
-not_less_where Equal e less = absurd (cc)
-not_less_where Greater e less = absurd (cc)
 
 -- one place further to the right
 pub goes_on : (s items t : List Named) (i : ℕ) (d e : Named) → Goes s i items → SwapsAt items i true t → label_cmp (label_of (get_or items (i + 1) d)) (label_of (get_or items i e)) ≡ Less → Goes s (i + 1) t

@@ -2,16 +2,17 @@
 use Rattle.std.proofs.Common.{◌≡◌, ℕ, ◌+◌, ◌-◌, ◌≤◌, ◌^◌, ◌⊎◌, length, Ordering, refl, sym, ap, ◌∙◌, subst, inl, inr, arith}
 use Rattle.std.proofs.lemmas.Bool.{cases_lt}
 use Rattle.std.proofs.lemmas.Cmp.{nat_list_cmp_total}
-use Rattle.std.specs.Cmp.{IsTotalOrder, nat_cmp_total, tied_itself}
+use Rattle.std.specs.Cmp.{IsTotalOrder, tied_itself}
 use Rattle.std.specs.FinMap.{IsAntisymmetric, slice_cmp-IsAntisymmetric, nat_cmp-IsAntisymmetric}
 use Rattle.std.specs.declared.cmp.Ordering.TheVariants.{Less, Equal, Greater}
 use Rattle.camp_prim.specs.Effect.{InRange}
 use Rattle.camp_prim.specs.Hunks.{Edit, IsInRange}
-use Rattle.camp_prim.specs.Labels.{SameAbsolute}
+use Rattle.camp_prim.specs.Labels.{label_of, key_of, SameKey}
 use Rattle.camp_prim.specs.Swaps.{path_of, at_line, MayPass, SwapsBelow, SwapsAbove, Swap}
 use Rattle.camp_prim.specs.declared.primitives.Primitive.{Primitive}
 use Rattle.camp_prim.specs.declared.primitives.Primitive.TheVariants.{Add, Remove, Hunk}
 use Rattle.camp_prim.specs.declared.named.Named.{Named}
+use Rattle.camp_prim.proofs.LabelOrder.{key_total, key_ties}
 use Rattle.camp_prim.proofs.SwapEffect.{Swaps}
 use Rattle.camp_prim.proofs.SwapUnique.{same_hunk}
 
@@ -137,16 +138,12 @@ change_or_not p q r s =
       | inr paths ↦ inl (q, p, inl (record { paths = paths; second = refl; first = refl }), s, r)
     ]
 
-same_absolute_or_not : (p q : Named) → Decided (SameAbsolute p q)
-same_absolute_or_not p q =
-    decided_by (λ x. record { name = x.0; place = x.1 }) (λ x. (x.name, x.place)) (both_or_not (same_or_not _ nat_list_cmp_total (slice_cmp-IsAntisymmetric nat_cmp-IsAntisymmetric) p.name q.name) (same_or_not _ nat_cmp_total nat_cmp-IsAntisymmetric p.place q.place))
-
-swap_if : (p q : Named) → ¬ (SameAbsolute p q) → InRange p.prim → InRange q.prim → Decided (Change p.prim q.prim) → Decided ((q' : Named) × (p' : Named) × Swap p q q' p')
+swap_if : (p q : Named) → ¬ (SameKey p q) → InRange p.prim → InRange q.prim → Decided (Change p.prim q.prim) → Decided ((q' : Named) × (p' : Named) × Swap p q q' p')
 swap_if p q apart r s d =
     decided_by (λ c. (record q { prim = c.0 }, record p { prim = c.1 }, record { apart = apart; change = c.2; ranges = (r, s, c.3, c.4); second = refl; first = refl })) (λ w. (w.0.prim, w.1.prim, w.2.change, w.2.ranges.2, w.2.ranges.3)) d
 
 pub swap_or_not : (p q : Named) → Decided ((q' : Named) × (p' : Named) × Swap p q q' p')
-swap_or_not p q = elim (same_absolute_or_not p q) [
+swap_or_not p q = elim (same_or_not _ key_total key_ties (key_of (label_of p)) (key_of (label_of q))) [
   | inl same ↦ inr (λ w. w.2.apart same)
   | inr apart ↦ elim (both_or_not (primitive_in_range_or_not p.prim) (primitive_in_range_or_not q.prim)) [
     | inl r ↦ swap_if p q apart r.0 r.1 (change_or_not p.prim q.prim r.0 r.1)

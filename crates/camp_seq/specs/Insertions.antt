@@ -2,7 +2,8 @@
 use Rattle.std.specs.Prelude.{◌≡◌, ◌≢◌, ℕ, Bool, List, [], ◌∷◌, ◌++◌, length, take, drop, ◌⊎◌}
 use Rattle.std.specs.declared.cmp.Ordering.TheVariants.{Less}
 use Rattle.camp_prim.specs.Exchange.{Exchanged}
-use Rattle.camp_prim.specs.Labels.{Label, label_of, label_cmp}
+use Rattle.camp_prim.specs.Labels.{label_of, label_cmp}
+use Rattle.camp_prim.specs.declared.labels.Label.{Label}
 use Rattle.camp_prim.specs.Swaps.{Swap}
 use Rattle.camp_prim.specs.declared.named.Named.{Named}
 use Rattle.camp_seq.specs.InPlace.{Precedes}

@@ -1,7 +1,7 @@
 -- The laws of lists that crates above build on.
 use Rattle.std.specs.Prelude.{◌≡◌, ◌↔◌, List, [], ◌∷◌, ◌++◌}
 use Rattle.camp_base.specs.Trees.{Files}
-use Rattle.camp_prim.specs.Labels.{Label}
+use Rattle.camp_prim.specs.declared.labels.Label.{Label}
 use Rattle.camp_prim.specs.declared.named.Named.{Named}
 use Rattle.camp_seq.specs.Equivalence.{◌~◌}
 use Rattle.camp_seq.specs.Passing.{Passes, PassesAll, Fronts, Parts}

@@ -2,19 +2,19 @@
 use Rattle.std.specs.Prelude.{◌≡◌, ◌≢◌, ℕ, Bool, true, if◌then◌else◌, List, [], ◌∷◌, Option, None, Some, IsTrue, suc, All, ◌⊎◌}
 use Rattle.std.specs.Ordering.{is_lt}
 use Rattle.std.specs.declared.cmp.Ordering.TheVariants.{Less}
-use Rattle.camp_prim.specs.Labels.{Label, label_of, label_cmp}
+use Rattle.camp_prim.specs.Labels.{label_of, label_cmp}
+use Rattle.camp_prim.specs.declared.labels.Label.{Label}
 use Rattle.camp_prim.specs.declared.named.Named.{Named}
-use Rattle.camp_seq.specs.Keys.{keyed}
 use Rattle.camp_seq.specs.NormalOrder.{IsLeast}
 use Rattle.camp_seq.specs.Passing.{Fronts}
 
 -- a label is above the last one that was tried, or none was
-abbrev pub is_above : Option (List ℕ × ℕ × Bool) → Label → Bool
+abbrev pub is_above : Option Label → Label → Bool
 is_above None label = true
-is_above (Some tried) label = is_lt (label_cmp (keyed tried) label)
+is_above (Some tried) label = is_lt (label_cmp tried label)
 
 -- the list begins with a label that was not tried
-abbrev pub StartsAbove : Option (List ℕ × ℕ × Bool) → List Named → Type 0
+abbrev pub StartsAbove : Option Label → List Named → Type 0
 StartsAbove tried [] = ⊥
 StartsAbove tried (p ∷ s) = IsTrue (is_above tried (label_of p))
 
@@ -24,17 +24,17 @@ Holds label [] = ⊥
 Holds label (p ∷ s) = (label_of p ≡ label) ⊎ Holds label s
 
 -- of these elements none whose label is yet to be tried has a lesser one
-abbrev pub NoneLess : Option (List ℕ × ℕ × Bool) → Label → List Named → Type 0
+abbrev pub NoneLess : Option Label → Label → List Named → Type 0
 NoneLess tried label s = All (λ p. IsTrue (is_above tried (label_of p)) → label_cmp (label_of p) label ≢ Less) s
 
 -- the least label of the list that is yet to be tried
-pub record LeastAbove (tried : Option (List ℕ × ℕ × Bool)) (s : List Named) (label : Label) : Type 0 where
+pub record LeastAbove (tried : Option Label) (s : List Named) (label : Label) : Type 0 where
   pub above : IsTrue (is_above tried label)
   pub held : Holds label s
   pub least : NoneLess tried label s
 
 -- how many elements have a label that is yet to be tried
-abbrev pub untried : Option (List ℕ × ℕ × Bool) → List Named → ℕ
+abbrev pub untried : Option Label → List Named → ℕ
 untried tried [] = 0
 untried tried (p ∷ s) = if is_above tried (label_of p) then suc (untried tried s) else untried tried s
 

@@ -1,7 +1,6 @@
 pub mod Equivalence
 pub mod InPlace
 pub mod Insertions
-pub mod Keys
 pub mod Laws
 pub mod LeastLabels
 pub mod Merging

@@ -2,7 +2,7 @@
 use Rattle.std.specs.Prelude.{◌≡◌, ◌⊎◌, List, [], ◌∷◌, ◌++◌}
 use Rattle.std.specs.List.{All}
 use Rattle.camp_prim.specs.Effect.{InRange}
-use Rattle.camp_prim.specs.Labels.{label_of, SameAbsolute}
+use Rattle.camp_prim.specs.Labels.{label_of, SameKey}
 use Rattle.camp_prim.specs.Swaps.{SwapsOnTwoPaths, SwapsBelow, SwapsAbove, Swap}
 use Rattle.camp_prim.specs.declared.named.Named.{Named}
 use Rattle.camp_seq.specs.Equivalence.{◌~◌}
@@ -10,7 +10,7 @@ use Rattle.camp_seq.specs.NormalOrder.{Norm}
 
 -- p q <-> q' p', in range or not: the absolute labels differ, one of the cases of a swap holds, and labels are kept
 pub record SwapAnywhere (p q q' p' : Named) : Type 0 where
-  pub apart : ¬ (SameAbsolute p q)
+  pub apart : ¬ (SameKey p q)
   pub change : SwapsOnTwoPaths p.prim q.prim q'.prim p'.prim ⊎ (SwapsBelow p.prim q.prim q'.prim p'.prim ⊎ SwapsAbove p.prim q.prim q'.prim p'.prim)
   pub second : label_of q' ≡ label_of q
   pub first : label_of p' ≡ label_of p

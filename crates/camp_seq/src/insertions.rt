@@ -3,7 +3,7 @@ ghost use Rattle.camp_seq.specs.Insertions.{ComesUpTo, GoesUpTo, Placed, SwapsAt
 ghost use Rattle.camp_seq.specs.NormalOrder.{Norm};
 ghost use Rattle.camp_seq.specs.Room.{HasRoom};
 
-use crate::orders::{is_less, label_of};
+use crate::orders::is_less;
 use camp_prim::{Named, exchange};
 
 /// Puts a list with room in normal order: one element after the other is put in its place among
@@ -46,7 +46,7 @@ fn take_back(items: &mut [Named])
     ensures { GoesUpTo items.old items.new }
 {
     for at in 0..items.len() - 1 {
-        if !is_less(&label_of(&items[at + 1]), &label_of(&items[at])) {
+        if !is_less(&items[at + 1].label(), &items[at].label()) {
             return;
         }
         if !swap_at(items, at) {

@@ -13,7 +13,7 @@ mod runs;
 mod seqs;
 mod splits;
 
-pub use fronts::{Label, front};
+pub use fronts::front;
 pub use laws::{
     clean_merge_closes, clean_merge_is_passing_the_inverse, clean_merge_is_symmetric,
     equivalent_lists_run_alike, every_list_has_a_normal_order, inverse_of_a_list_leads_back,

@@ -1,15 +1,14 @@
-ghost use Rattle.std.specs.Prelude.{◌≡◌, ◌<◌, ◌↔◌, List, length, map, Any, IfOk, IsTrue, MatchOption};
+ghost use Rattle.std.specs.Prelude.{◌≡◌, ◌<◌, ◌↔◌, List, length, Contains, IfOk, IsTrue, MatchOption};
 ghost use Rattle.camp_prim.specs.Labels.{label_of};
 ghost use Rattle.camp_prim.specs.declared.named.Named.{Named};
 ghost use Rattle.camp_seq.specs.InPlace.{PartsIf, TurnsIf};
-ghost use Rattle.camp_seq.specs.Keys.{keyed};
 ghost use Rattle.camp_seq.specs.NormalOrder.{Splits};
 
+use crate::Seq;
 use crate::fronts::has_label;
 use crate::orders::order;
 use crate::passes::pass;
-use crate::{Label, Seq};
-use camp_prim::Named;
+use camp_prim::{Label, Named};
 use std::alloc::AllocError;
 
 /// `Some((f, t))` where `s` is the same as `f` and then `t`: `f` has the primitives with these
@@ -17,8 +16,8 @@ use std::alloc::AllocError;
 /// can't come there.
 pub fn split(s: &Seq, labels: &[Label]) -> Result<Option<(Seq, Seq)>, AllocError>
     ensures { IfOk result (λ found. MatchOption found
-        ((f t : List Named) → ¬ (Splits (map keyed labels.now) s.now f t))
-        (λ pair. Splits (map keyed labels.now) s.now pair.0 pair.1)) }
+        ((f t : List Named) → ¬ (Splits labels.now s.now f t))
+        (λ pair. Splits labels.now s.now pair.0 pair.1)) }
 {
     let mut named = s.try_clone()?;
     let Some(count) = gather(&mut named.items, labels) else {
@@ -35,7 +34,7 @@ pub fn split(s: &Seq, labels: &[Label]) -> Result<Option<(Seq, Seq)>, AllocError
 /// Swaps the elements with these labels to the front, in their order, and answers how many they
 /// are. None where an element before one of them stops it; the list is then left as it is.
 fn gather(items: &mut [Named], labels: &[Label]) -> Option<usize>
-    ensures { PartsIf (map keyed labels.now) items.old result items.new }
+    ensures { PartsIf labels.now items.old result items.new }
 {
     let mut count = 0;
     for at in (0..items.len()).rev() {
@@ -62,7 +61,7 @@ fn pass_first(items: &mut [Named]) -> bool
 }
 
 fn is_named(p: &Named, labels: &[Label]) -> bool
-    ensures { IsTrue result ↔ Any (λ label. label_of p.now ≡ keyed label) labels.now }
+    ensures { IsTrue result ↔ Contains labels.now (label_of p.now) }
 {
     labels.iter().any(|label| has_label(p, label))
 }

@@ -1,6 +1,6 @@
 use crate::{Seq, apply_all, clean_merge, front, invert_all, norm, past, past_all, split};
 use camp_base::{Apply, Line, Name, Path, Tree};
-use camp_prim::{Named, Primitive};
+use camp_prim::{Label, Named, Primitive};
 use std::alloc::Global;
 use std::test::Fail;
 
@@ -103,9 +103,13 @@ fn the_first_primitive_with_a_label_comes_to_the_front(rt: HostRuntime) -> Resul
     let alloc = rt.alloc();
     let all = seq(alloc, &[("b", 1, "", "x"), ("a", 5, "e", "g")])?;
     let rest = seq(alloc, &[("b", 1, "", "x")])?;
-    let name = Name::new(b"a")?;
-    for (place, inverse, line) in [(1, false, Some(4)), (2, false, None), (1, true, None)] {
-        match (front(&all, &name, place, inverse)?, line) {
+    let label = edit(alloc, ("a", 1, "", "x"))?.label();
+    for (label, line) in [
+        (label, Some(4)),
+        (Label { place: 2, ..label }, None),
+        (label.opposite(), None),
+    ] {
+        match (front(&all, &label)?, line) {
             (None, None) => {}
             (Some((first, others)), Some(line)) => {
                 assert!(rt;
@@ -123,7 +127,7 @@ fn the_first_primitive_with_a_label_comes_to_the_front(rt: HostRuntime) -> Resul
 #[test]
 fn a_list_is_split_where_the_others_can_be_passed(rt: HostRuntime) -> Result<(), Fail> {
     let alloc = rt.alloc();
-    let labels = [(Name::new(b"b")?, 1, false)];
+    let labels = [edit(alloc, ("b", 1, "", "x"))?.label()];
     for (edits, wanted) in [
         ([("a", 1, "", "x"), ("b", 2, "", "y")].as_slice(), None),
         (

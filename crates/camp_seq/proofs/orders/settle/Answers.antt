@@ -1,5 +1,4 @@
 use Rattle.std.proofs.Common.{◌<◌, Some, sym, ◌∙◌, subst, arith}
-use Rattle.camp_seq.specs.Keys.{keyed}
 use Rattle.camp_seq.specs.LeastLabels.{Settles, untried}
 use Rattle.camp_seq.specs.Passing.{Fronts}
 use Rattle.camp_seq.proofs.LabelSteps.{starts_above, settles_from, above_least, untried_less}
@@ -11,7 +10,7 @@ least_above-label-requires c = starts_above c.loop-label.tried c.loop-label.item
 pub returns-then-bring : goal.returns-then-bring
 returns-then-bring c =
     let f = c.if-bring.ensures in
-    subst (λ x. Settles x c.bring.new.items) c.loop-label.invariant.as_was (settles_from c.loop-label.tried (keyed c.least_above-label.result) c.loop-label.items f.0 f.1 c.bring.new.items c.least_above-label.ensures c.loop-label.invariant.above f.2 f.3)
+    subst (λ x. Settles x c.bring.new.items) c.loop-label.invariant.as_was (settles_from c.loop-label.tried c.least_above-label.result c.loop-label.items f.0 f.1 c.bring.new.items c.least_above-label.ensures c.loop-label.invariant.above f.2 f.3)
 
 pub loop-label-smaller : goal.loop-label-smaller
 loop-label-smaller c =
