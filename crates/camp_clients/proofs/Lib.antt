@@ -1,0 +1,5 @@
+pub mod Asking
+pub mod Comparing
+pub mod Fronts
+pub mod Histories
+pub mod Positions
