@@ -9,10 +9,6 @@ use Rattle.camp_clients.specs.Positions.{own_at, done_at}
 use Rattle.camp_clients.specs.Runs.{IsExactly, lists_of, section_of}
 use Rattle.camp_clients.proofs.Positions.{own_at-append, own_at_push}
 
--- the section of a seat is what its vector has
-pub section_at : {X Z : Type 0} (vectors : List (Vec X Z)) (i : ℕ) (v : Vec X Z) → i < length vectors → v ≡ get_or vectors i v → section_of (lists_of vectors) i ≡ v.items
-section_at vectors i v below at = get_or-map vec_items vectors i v [] below ∙ ap vec_items (sym at)
-
 module _ {Call : Type 0} (history : List (ℕ × Call)) (i : ℕ) (below : i < length history) (entry : ℕ × Call) (is_entry : entry ≡ get_or history i entry) where
   front_more : take (i + 1) history ≡ take i history ++ entry ∷ []
   front_more = take_more history i entry below ∙ ap (λ e. take i history ++ e ∷ []) (sym is_entry)

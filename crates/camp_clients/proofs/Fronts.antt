@@ -1,5 +1,5 @@
 -- Lemmas on sections of calls.
-use Rattle.std.proofs.Common.{◌≡◌, ℕ, ◌+◌, ◌≤◌, true, false, List, [], ◌∷◌, ◌++◌, length, Option, None, Some, Result, Ok, Err, MatchOption, zero, suc, cond, count_by, get_or, drop, take, ◌<◌, refl, sym, ◌∙◌, ap, subst, append_assoc, arith}
+use Rattle.std.proofs.Common.{◌≡◌, ℕ, ◌+◌, ◌≤◌, true, false, List, [], ◌∷◌, ◌++◌, length, Option, None, Some, Result, Ok, Err, MatchOption, zero, suc, cond, count_by, get_or, drop, take, ◌<◌, refl, sym, ◌∙◌, ap, subst, append_assoc, add-zero, arith}
 use Rattle.std.proofs.lemmas.List.{append-nil, length-append, take_more}
 use Rattle.std.proofs.lemmas.List.Sums.{sum_by-drop_more}
 use Rattle.camp_object.specs.Asking.{Ask, Caller, Accepts, AddsNothing, IsBusy, Loses, alone_at}
@@ -9,6 +9,7 @@ use Rattle.camp_object.specs.declared.faults.Fault.{Fault}
 use Rattle.camp_object.specs.declared.faults.Fault.TheVariants.{Memory, Busy, Full}
 use Rattle.camp_clients.specs.Answers.{Asks, HasMemory, IsDone, IsOvertaken, Says, SaysAlone, told}
 use Rattle.camp_clients.specs.Positions.{own_at, where_done, done_at}
+use Rattle.camp_clients.specs.Runs.{OneByOne}
 use Rattle.camp_clients.specs.Sections.{Section}
 use Rattle.camp_clients.proofs.Asking.{own_at_asks, own_counts, goes_on}
 use Rattle.camp_clients.proofs.Histories.{front_refl, front_trans, own_rest}
@@ -139,3 +140,22 @@ module _ {State Call Reply : Type 0} (object : Sequential State Call Reply) (law
       → Section (Asks object caller) first (take (i + 1) calls) (answers ++ answer ∷ []) now
   section_more answers so_far =
       rw (take_more calls i call below, ← at) (section_push (Asks object caller) first (take i calls) answers seen now call answer so_far asked)
+
+-- a section where nobody else asks
+pub section_alone : {State Call Reply : Type 0} (object : Sequential State Call Reply) (seat : ℕ)
+    (first : List (ℕ × Call)) (calls : List Call) (answers : List (Result Reply Fault)) (last : List (ℕ × Call))
+    → Section (Asks object (alone_at seat)) first calls answers last → Section (SaysAlone object seat) first calls answers last
+section_alone object seat = section_map (Asks object (alone_at seat)) (SaysAlone object seat) (says_alone object seat)
+
+-- one section more, one after the other
+module _ {State Call Reply : Type 0} (object : Sequential State Call Reply) where
+  pub one_by_one_push : (seat : ℕ) (first : List (ℕ × Call)) (sections : List (List Call)) (answers : List (List (Result Reply Fault))) (next : List (ℕ × Call))
+      (calls : List Call) (own : List (Result Reply Fault)) (last : List (ℕ × Call))
+      → OneByOne object seat first sections answers next → Section (SaysAlone object (seat + length sections)) next calls own last
+      → OneByOne object seat first (sections ++ calls ∷ []) (answers ++ own ∷ []) last
+  one_by_one_push seat first [] [] next calls own last o s = (last, rw (o, ← add-zero seat) s, refl)
+  one_by_one_push seat first [] (a ∷ answers) next calls own last o s = absurd o
+  one_by_one_push seat first (c ∷ sections) [] next calls own last o s = absurd o
+  one_by_one_push seat first (c ∷ sections) (a ∷ answers) next calls own last o s =
+      let e : seat + length (c ∷ sections) ≡ (seat + 1) + length sections = omega arith in
+      (o.0, o.1, one_by_one_push (seat + 1) o.0 sections answers next calls own last o.2 (subst (λ n. Section (SaysAlone object n) next calls own last) e s))

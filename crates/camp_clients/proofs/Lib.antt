@@ -3,3 +3,4 @@ pub mod Comparing
 pub mod Fronts
 pub mod Histories
 pub mod Positions
+pub mod Vectors

@@ -2,7 +2,9 @@
 #![tactic(auto)]
 
 mod comparisons;
+mod one_by_one;
 mod sections;
 
 pub use comparisons::{MAX_SECTIONS, has_exactly};
-pub use sections::ask_all;
+pub use one_by_one::{BookRun, serial};
+pub use sections::{Answers, ask_all};

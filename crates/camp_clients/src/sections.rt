@@ -7,12 +7,15 @@ ghost use Rattle.camp_clients.specs.Sections.{Section};
 use camp_object::{Desk, Fault, Object};
 use std::alloc::{AllocError, Global};
 
+/// The answers to a section of calls, in order.
+pub type Answers<State> = Vec<Result<<State as Object>::Reply, Fault>>;
+
 /// Asks the calls of a section in order. Want of memory ends it, in an answer too.
 pub fn ask_all<State: Object, D: Desk<State>>(
     alloc: Global,
     desk: &mut D,
     calls: &[State::Call],
-) -> Result<Vec<Result<State::Reply, Fault>>, AllocError>
+) -> Result<Answers<State>, AllocError>
     requires { let caller = D.caller desk.old in
         caller.alone ≡ false →
         length (own caller.seat (D.seen desk.old)) + count_by State.object.is_writing calls.now ≤ caller.per_seat }

@@ -5,6 +5,7 @@ use Rattle.camp_clients.specs.Answers.{told}
 use Rattle.camp_clients.specs.Positions.{own_at, done_at}
 use Rattle.camp_clients.specs.Runs.{lists_of, section_of}
 use Rattle.camp_clients.proofs.Comparing.{found_none, found_more, differs_no_more, exact_where_none_left, none_left, zeros, each_more}
+use Rattle.camp_clients.proofs.Vectors.{length-lists_of}
 use Rattle.camp_clients.proofs.comparisons.has_exactly.Goals as goal
 
 pub loop-before-init : goal.loop-before-init
@@ -25,7 +26,7 @@ returns-then-not-goes_on g c = (
 pub loop-before-preserved : goal.loop-before-preserved
 loop-before-preserved g c =
     let m = c.if-not-goes_on.ensures in
-    let inside : length (lists_of c.args.sections.now) ≡ length c.args.sections.now = length-map c.args.sections.now vec_items in
+    let inside : length (lists_of c.args.sections.now) ≡ length c.args.sections.now = length-lists_of c.args.sections.now in
     record {
       places = rw (m.goes_on, length-set) c.loop-before.invariant.places;
       seats = each_more (λ e. e.0 < length c.args.sections.now) c.args.history.now c.loop-before.before c.index-history-before.result c.loop-before-test.true
@@ -37,7 +38,7 @@ loop-before-preserved g c =
 
 pub returns-then-not-is_used_up : goal.returns-then-not-is_used_up
 returns-then-not-is_used_up g c =
-    let inside : length (lists_of c.args.sections.now) ≡ length c.args.sections.now = length-map c.args.sections.now vec_items in (
+    let inside : length (lists_of c.args.sections.now) ≡ length c.args.sections.now = length-lists_of c.args.sections.now in (
       (λ h. absurd (cc h)),
       λ exact. absurd (
           let none = none_left (told g.State.Object.object) (lists_of c.args.sections.now) (lists_of c.args.answers.now) c.args.history.now c.loop-before.before
@@ -47,7 +48,7 @@ returns-then-not-is_used_up g c =
 
 pub loop-seat-preserved : goal.loop-seat-preserved
 loop-seat-preserved g c =
-    let inside : length (lists_of c.args.sections.now) ≡ length c.args.sections.now = length-map c.args.sections.now vec_items in
+    let inside : length (lists_of c.args.sections.now) ≡ length c.args.sections.now = length-lists_of c.args.sections.now in
     let exact = exact_where_none_left (told g.State.Object.object) (lists_of c.args.sections.now) (lists_of c.args.answers.now) c.args.history.now c.loop-before.before
     c.loop-before-test.false c.loop-before.places c.loop-before.invariant.found c.loop-seat.seat (omega (arith, inside)) (c.is_used_up.ensures.0 c.if-not-is_used_up.false) in
     below_more (λ seat. own_at seat 0 c.args.history.now
@@ -56,7 +57,7 @@ loop-seat-preserved g c =
 
 pub returns : goal.returns
 returns g c =
-    let inside : length (lists_of c.args.sections.now) ≡ length c.args.sections.now = length-map c.args.sections.now vec_items in (
+    let inside : length (lists_of c.args.sections.now) ≡ length c.args.sections.now = length-lists_of c.args.sections.now in (
       (λ h. record { own_done = λ seat below. c.loop-seat.invariant seat (omega (arith, inside)); no_other = λ k d below. rw inside (c.loop-before.invariant.seats k d (omega arith)) }),
       λ exact. refl,
     )
