@@ -1,6 +1,6 @@
 -- Lemmas on vectors of vectors as lists of lists.
 use Rattle.std.proofs.Common.{◌≡◌, ℕ, ◌+◌, ◌<◌, List, [], ◌∷◌, ◌++◌, length, take, get_or, sym, ◌∙◌, ap}
-use Rattle.std.proofs.lemmas.List.{take_more, map_push, get_or-map, length-map, length-take-le}
+use Rattle.std.proofs.lemmas.List.{take_more, map_push, get_or-map, length-map}
 use Rattle.std.specs.Prelude.{Vec, vec_items}
 use Rattle.camp_clients.specs.Runs.{lists_of, section_of}
 

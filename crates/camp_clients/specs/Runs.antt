@@ -48,8 +48,10 @@ SaysSomewhere object call (Err fault) = ⊥
 pub record IsLocked {State Call Reply : Type 0} (object : Sequential State Call Reply) (sections : List (List Call))
     (answers : List (List (Result Reply Fault))) (history : List (ℕ × Call)) : Type 0 where
   pub legal : IsLegal object history
+  pub as_many : length answers ≡ length sections
   pub exactly : IsExactly (told object) sections answers history
-  pub answered : AllZip (AllZip (SaysSomewhere object)) sections answers
+  pub answered : (seat : ℕ) → seat < length sections →
+      AllZip (SaysSomewhere object) (section_of sections seat) (section_of answers seat)
 
 -- a section's answers have fronts of the history, which begin where they are to and follow one another
 pub record HasFronts {State Call Reply : Type 0} (object : Sequential State Call Reply) (seat tries : ℕ)

@@ -2,9 +2,13 @@
 #![tactic(auto)]
 
 mod comparisons;
+mod faults;
+mod locks;
 mod one_by_one;
 mod sections;
 
 pub use comparisons::{MAX_SECTIONS, has_exactly};
+pub use faults::LockFault;
+pub use locks::locked;
 pub use one_by_one::{BookRun, serial};
 pub use sections::{Answers, ask_all};

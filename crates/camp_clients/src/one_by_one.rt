@@ -54,7 +54,7 @@ fn at_desk<'a, State: Object>(
     ensures keeps { ⟦<BookDesk<'a, State> as Desk<State>>⟧.keeps desk.old desk.new }
     ensures section { let at = ⟦<BookDesk<'a, State> as Desk<State>>⟧ in
         IfOk result (λ answers.
-            Section (SaysAlone State.object (at.caller desk.old).seat) (at.seen desk.old) calls.now answers.items (at.seen desk.new)) }
+        Section (SaysAlone State.object (at.caller desk.old).seat) (at.seen desk.old) calls.now answers.items (at.seen desk.new)) }
 {
     ask_all(alloc, desk, calls)
 }

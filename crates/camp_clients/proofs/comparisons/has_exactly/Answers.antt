@@ -1,6 +1,5 @@
 use Rattle.std.proofs.Common.{◌≡◌, ◌<◌, length, arith, subst, below_more, refl, replicate}
-use Rattle.std.proofs.lemmas.List.{length-map, length-set}
-use Rattle.std.specs.Prelude.{vec_items}
+use Rattle.std.proofs.lemmas.List.{length-set}
 use Rattle.camp_clients.specs.Answers.{told}
 use Rattle.camp_clients.specs.Positions.{own_at, done_at}
 use Rattle.camp_clients.specs.Runs.{lists_of, section_of}
