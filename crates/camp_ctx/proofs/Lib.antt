@@ -3,5 +3,6 @@ pub mod AddSteps
 pub mod AddValid
 pub mod CommonLabels
 pub mod ConflictLaws
+pub mod ConflictSteps
 pub mod NamedDecided
 pub mod SetChanges

@@ -2,12 +2,14 @@
 #![tactic(auto)]
 
 mod adding;
+mod conflicts;
 mod contexted;
 mod joins;
 mod keys;
 mod laws;
 mod sets;
 
+pub use conflicts::{conflict, merge_behind_common};
 pub use contexted::Contexted;
 pub use joins::join;
 pub use laws::{
