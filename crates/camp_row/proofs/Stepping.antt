@@ -9,11 +9,11 @@ use prog.Atomic.{either}
 use lib.ListN.{get_elem?}
 use Rattle.camp_row.specs.declared.entries.Entry.{Entry}
 use Rattle.camp_row.specs.declared.knowledge.Knowledge.{Knowledge}
-use Rattle.camp_row.specs.Chains.{IsShorter, own, turns, cell_of, head_word, Fits}
+use Rattle.camp_row.specs.Chains.{IsFront, IsShorter, own, turns, cell_of, head_word, Fits}
 use Rattle.camp_row.specs.Inside.Parts.{Part, part_of, parts_of, finds, IsSoundPart}
 use Rattle.camp_row.specs.Inside.Rule.{parent_word, place_word, Holds, Knows, IsRuled}
-use Rattle.camp_row.specs.Inside.Steps.{Sees, Looked, Walked, Advanced, StoredParent, StoredPlace, drafted_part, won_part, LostPart, Tried}
-use Rattle.camp_row.proofs.Fronts.{front_refl, front_push, front_cases, cut_longer, cut_push, cut_pushed}
+use Rattle.camp_row.specs.Inside.Steps.{Sees, Looked, Walked, Advanced, StoredParent, StoredPlace, drafted_part, won_part, WonPart, LostPart, Tried}
+use Rattle.camp_row.proofs.Fronts.{front_refl, front_both, front_push, front_cases, cut_longer, cut_push, cut_pushed}
 use Rattle.camp_row.proofs.Cells.{turns_cut, own_of_next, own_push_other, head_word-push, same_front, fits_push}
 use Rattle.camp_row.proofs.Ruling.{Owes, one_at, parts_of-cons, parts_of-self, keep, word_same, holds_other}
 
@@ -33,7 +33,7 @@ module _ (seats per_seat : ℕ) (words : List ℕ) (chain : List Entry) (fits : 
   finds_knows p k = record { sizes = k.sizes; seen = k.seen; ahead = front_refl chain; own_seen = k.own_seen; draft = k.draft; empty = k.empty }
 
   sees : (found : ℕ) → found ≡ head_word seats chain → (p : Part) → Knows seats per_seat words chain p → Sees found chain p
-  sees found named p k = record { named = named ∙ ap (λ s. head_word s chain) (sym k.sizes.0); sound = sound_of p k }
+  sees found named p k = record { named = named ∙ ap (λ s. head_word s chain) (sym k.sizes.0); grows = k.ahead; sound = sound_of p k }
 
 module _ (seats per_seat id : ℕ) (v : Knowledge) where
   -- a load of the head
@@ -222,15 +222,16 @@ module _ (seats per_seat id : ℕ) (v : Knowledge) where
         → new ≡ turns (part_of v.parts).number (part_of v.parts).seen * (part_of v.parts).seats + (part_of v.parts).number + 1
         → (part_of v.parts).parent ≡ head_word (part_of v.parts).seats (part_of v.parts).seen
         → turns (part_of v.parts).number (part_of v.parts).seen < (part_of v.parts).per_seat
+        → IsFront (part_of v.parts).seen (part_of v.parts).ahead
         → Owes seats per_seat id v 0 (λ n. either (n == expected) new n) (λ found w. Tried expected found v.parts w.parts)
-    publishes expected new expected_is new_is drafted room words views ruled at =
+    publishes expected new expected_is new_is drafted room front words views ruled at =
         elim (cases_eq (slice_index words 0) expected) [
           | inl same ↦ subst Goes (sym (eq-eqb (slice_index words 0) expected same)) (wins same)
           | inr differs ↦ subst Goes (sym (ne_eqb (slice_index words 0) expected differs)) (loses differs)
         ] where
           Goes : Bool → Type 0
           Goes b = (w : Knowledge) × IsRuled seats per_seat (set words 0 (either b new (slice_index words 0))) (set views id w)
-              × MatchBool b (w.parts ≡ won_part (part_of v.parts) ∷ []) (LostPart (slice_index words 0) (part_of v.parts) w.parts)
+              × MatchBool b (WonPart (part_of v.parts) w.parts) (LostPart (slice_index words 0) (part_of v.parts) w.parts)
 
           loses : (slice_index words 0 ≡ expected → ⊥) → Goes false
           loses differs =
@@ -306,5 +307,5 @@ module _ (seats per_seat id : ℕ) (v : Knowledge) where
                       draft = λ r. still (turns o.number o.seen * seats + o.number) o.parent o.place (ko.draft r);
                       empty = λ turn later r. still (turn * seats + o.number) 0 0 (ko.empty turn later r);
                     }),
-                refl,
+                record { whole = front_both p.ahead p.seen k.ahead front; is = refl },
               )
