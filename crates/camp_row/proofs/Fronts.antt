@@ -38,13 +38,13 @@ module _ {A : Type 0} where
   -- two lists that begin each other are one
   pub front_both : (xs ys : List A) → IsFront xs ys → IsFront ys xs → xs ≡ ys
   front_both xs ys f g = elim (front_cases xs ys f) [
-    inl same ↦ same
+    | inl same ↦ same
     | inr s ↦
-      let a : length (xs ++ s.next ∷ s.rest) ≡ length ys = ap length s.is in
-      let b : length (ys ++ g.rest) ≡ length xs = ap length g.is in
-      let c = length-append xs (s.next ∷ s.rest) in
-      let d = length-append ys g.rest in
-      absurd (omega arith)
+        let a : length (xs ++ s.next ∷ s.rest) ≡ length ys = ap length s.is in
+        let b : length (ys ++ g.rest) ≡ length xs = ap length g.is in
+        let c = length-append xs (s.next ∷ s.rest) in
+        let d = length-append ys g.rest in
+        absurd (omega arith)
   ]
 
   -- a list cut at an element goes on with the longer list

@@ -65,6 +65,6 @@ finds_known pass seat found chain table alone sees =
 
 pub one_begins : (a b : Known) (chain : List Entry) → IsFront a.seen chain → IsFront b.seen chain → OneBegins a b
 one_begins a b chain f g = elim (fronts_meet a.seen b.seen chain f g) [
-    inl begins ↦ inl begins
-    | inr shorter ↦ inr (shorter_front b.seen a.seen shorter)
-  ]
+  | inl begins ↦ inl begins
+  | inr shorter ↦ inr (shorter_front b.seen a.seen shorter)
+]

@@ -5,7 +5,7 @@ use Rattle.camp_row.specs.Inside.Parts.{part_of, known_of}
 use Rattle.camp_row.specs.Inside.PassFields.{part}
 use Rattle.camp_row.specs.Inside.Steps.{Looked}
 use Rattle.camp_row.proofs.Ruling.{allows}
-use Rattle.camp_row.proofs.Stepping.{looks}
+use Rattle.camp_row.proofs.Loading.{looks}
 use Rattle.camp_row.proofs.Dealing.{splits, joins}
 use Rattle.camp_row.proofs.Meeting.{met, found_pass, finds_known, one_begins}
 use Rattle.camp_row.proofs.PassOfRow.{is_of, row_words}
