@@ -1,11 +1,11 @@
 -- Elements and ranges of lists in parts.
-use Rattle.std.proofs.Common.{◌≡◌, ℕ, zero, suc, ◌+◌, ◌-◌, ◌<◌, ◌≤◌, List, [], ◌∷◌, ◌++◌, length, get_or, take, drop, Option, Some, None, sym, ap, subst, ◌∙◌, refl, arith}
-use Rattle.std.proofs.lemmas.List.{append-nil, append_assoc, length-append, length-drop, length-take, take_more, drop_more, drop-append-le, drop_all, take_all, take_at, drop_at, take-append-drop}
+use Rattle.std.proofs.Common.{◌≡◌, ℕ, zero, suc, ◌+◌, ◌-◌, ◌<◌, ◌≤◌, List, [], ◌∷◌, ◌++◌, length, get_or, take, drop, Some, sym, ap, subst, ◌∙◌, refl, arith}
+use Rattle.std.proofs.lemmas.List.{get_or_default, append-nil, length-append, length-drop, take_more, drop_more, take_all}
 use Rattle.std.proofs.lemmas.Option.{slice_get_read}
-use Rattle.std.specs.List.{slice_get, slice_range, flat_map}
+use Rattle.std.specs.List.{All, slice_get, slice_range}
 use Rattle.std.proofs.lemmas.Grind.{flat_map-append}
 use Rattle.std.proofs.lemmas.List.Folds.{length-flat_map-take}
-use Rattle.camp_share.specs.Parts.{joined}
+use Rattle.camp_share.specs.Parts.{joined, IsPart}
 use Rattle.std.specs.declared.vec.Vec.{Vec}
 use Rattle.std.specs.Vec.{vec_len}
 
@@ -42,9 +42,16 @@ module _ {X : Type 0} where
 pub length_told : {X Z : Type 0} (lent part : Vec X Z) (n : ℕ) → lent ≡ part → n ≡ vec_len lent → n ≡ length part.items
 length_told lent part n same told = told ∙ lent.ok.0 ∙ ap (λ (p : Vec _ _). length p.items) same
 
+-- what is read twice at one place is the same
+pub read_twice : {A : Type 0} (xs : List A) (i : ℕ) (x y : A) → i < length xs → x ≡ get_or xs i x → y ≡ get_or xs i y → x ≡ y
+read_twice xs i x y within one other = one ∙ get_or_default xs i x y within ∙ sym other
+
 module _ {X Z : Type 0} (parts : List (Vec X Z)) (i : ℕ) (part : Vec X Z) (within : i < length parts) (read : part ≡ get_or parts i part) where
+  pub part_is : All IsPart parts → IsPart part
+  part_is all = subst IsPart (sym read) (all i part within)
+
   -- the parts from one on
-  from_here : joined (drop i parts) ≡ part.items ++ joined (drop (i + 1) parts)
+  pub from_here : joined (drop i parts) ≡ part.items ++ joined (drop (i + 1) parts)
   from_here = ap joined (drop_more parts i part within) ∙ ap (λ (p : Vec X Z). p.items ++ joined (drop (i + 1) parts)) (sym read)
 
   -- the parts up to one

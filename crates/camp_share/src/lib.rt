@@ -4,8 +4,11 @@
 mod growing;
 mod iters;
 mod lists;
+mod maps;
+mod search;
 mod shared;
 
 pub use iters::Iter;
 pub use lists::SharedList;
+pub use maps::{Key, SharedMap};
 pub use shared::{Share, Shared};

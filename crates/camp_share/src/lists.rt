@@ -1,5 +1,7 @@
-ghost use Rattle.std.specs.Prelude.{◌≡◌, ◌+◌, ◌<◌, ◌≤◌, ◌==◌, List, [], ◌∷◌, ◌++◌, length, slice_get, slice_range, slice_set, IfOk, OnOk};
+ghost use Rattle.std.specs.Prelude.{◌≡◌, ◌+◌, ◌<◌, ◌≤◌, ◌^◌, ◌==◌, List, [], ◌∷◌, ◌++◌, length, slice_get, slice_range, slice_set, IfOk, OnOk};
 ghost use Rattle.std.specs.List.{splice, insert, remove};
+ghost use Rattle.std.specs.List.{All};
+ghost use Rattle.camp_share.specs.Parts.{joined, IsPart};
 ghost use Rattle.std.specs.Option.{option_copied};
 ghost use Rattle.std.specs.Cmp.Lexicographic.{pointwise, lists_per, lists_equiv};
 ghost use Rattle.std.specs.Map.Iter.{ShowsInOrder, deref};
@@ -73,6 +75,16 @@ impl<T> SharedList<T> {
         ensures runs { ShowsInOrder (deref {X = T}) }
     {
         Iter::new(&self.parts)
+    }
+
+    // The parts, one after the other.
+    pub(crate) fn parts(&self) -> &[Part<T>]
+        ensures items { joined result.now ≡ self.now }
+        ensures parts { All IsPart result.now }
+        ensures fits { length self.now < 2 ^ 64 }
+    {
+        prove!(self.len == self.len);
+        &self.parts
     }
 }
 

@@ -55,3 +55,11 @@ impl<T> Deref for Shared<T> {
         &self.arc
     }
 }
+
+impl<A: Share + Drop, B: Share + Drop> Share for (A, B) {
+    fn share(&self) -> Result<(A, B), AllocError> {
+        let first = self.0.share()?;
+        let second = self.1.share()?;
+        Ok((first, second))
+    }
+}

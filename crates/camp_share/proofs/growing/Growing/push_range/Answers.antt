@@ -1,4 +1,4 @@
-use Rattle.std.proofs.Common.{◌≡◌, ◌++◌, sym, ap, ◌∙◌, arith, append_assoc, slice_range}
+use Rattle.std.proofs.Common.{arith, append_assoc}
 use Rattle.camp_share.proofs.PartLemmas.{range_grown, length_grown, length_within, length_told}
 use Rattle.camp_share.proofs.growing.Growing.push_range.Goals as goal
 
