@@ -26,6 +26,3 @@ pub use passes::{past, past_all};
 pub use runs::apply_all;
 pub use seqs::Seq;
 pub use splits::split;
-
-#[cfg(test)]
-mod tests;
