@@ -1,4 +1,4 @@
-use crate::{TextError, append_reply, write_reply, write_text};
+use crate::{ScriptFault, append_reply, write_reply, write_text};
 use camp_base::{Line, Name, Path, Tree};
 use camp_repo::{Refusal, Reply};
 use std::alloc::Global;
@@ -78,37 +78,28 @@ fn a_reply_stands_behind_what_was_there(rt: HostRuntime) -> Result<(), Fail> {
     Ok(())
 }
 
-// What a writer does at one of its calls that it does not do at the others.
-#[derive(Clone, Copy)]
-enum Trouble {
-    None,
-    Fails,
-    TakesNothing,
-    IsInterrupted,
-}
-
-// A writer that takes a few bytes a call, and has its trouble at one of the calls.
+// A writer that takes a few bytes a call, each call only after so many that are interrupted, and fails
+// after so many calls.
 #[derive(Drop)]
 struct Fake {
     taken: Vec<u8>,
     room: usize,
+    interruptions: usize,
+    waits: usize,
     calls: usize,
-    trouble: Trouble,
-    at: usize,
 }
 
 impl Write for Fake {
     fn write(&mut self, bytes: &[u8]) -> io::Result<usize> {
-        let call = self.calls;
-        self.calls = call.saturating_add(1);
-        if call == self.at {
-            match self.trouble {
-                Trouble::None => {}
-                Trouble::Fails => return Err(ErrorKind::BrokenPipe.into()),
-                Trouble::TakesNothing => return Ok(0),
-                Trouble::IsInterrupted => return Err(ErrorKind::Interrupted.into()),
-            }
+        if self.waits > 0 {
+            self.waits -= 1;
+            return Err(ErrorKind::Interrupted.into());
         }
+        if self.calls == 0 {
+            return Err(ErrorKind::BrokenPipe.into());
+        }
+        self.waits = self.interruptions;
+        self.calls -= 1;
         let count = bytes.len().min(self.room);
         self.taken.extend_from_slice(&bytes[..count])?;
         Ok(count)
@@ -120,13 +111,13 @@ impl Write for Fake {
 }
 
 impl Fake {
-    fn new(alloc: Global, room: usize, trouble: Trouble, at: usize) -> Fake {
+    fn new(alloc: Global, room: usize, interruptions: usize, calls: usize) -> Fake {
         Fake {
             taken: Vec::new(alloc),
             room,
-            calls: 0,
-            trouble,
-            at,
+            interruptions,
+            waits: interruptions,
+            calls,
         }
     }
 }
@@ -135,31 +126,44 @@ impl Fake {
 fn a_text_is_written_whole_or_its_front_is(rt: HostRuntime) -> Result<(), Fail> {
     let alloc = rt.alloc();
     let text = b"ok 12\n".as_slice();
-    for (room, trouble, at, taken) in [
-        (9, Trouble::None, 0, text),
-        (1, Trouble::None, 0, text),
-        (4, Trouble::None, 0, text),
-        (2, Trouble::IsInterrupted, 0, text),
-        (2, Trouble::IsInterrupted, 2, text),
-        (2, Trouble::Fails, 0, b"".as_slice()),
-        (1, Trouble::Fails, 5, b"ok 12".as_slice()),
-        (2, Trouble::Fails, 2, b"ok 1".as_slice()),
-        (2, Trouble::Fails, 3, text),
-        (2, Trouble::TakesNothing, 1, b"ok".as_slice()),
+    for (room, interruptions, calls, taken) in [
+        (9, 0, 1, text),
+        (1, 0, 6, text),
+        (4, 0, 2, text),
+        (2, 1, 3, text),
+        (2, 5_000, 3, text),
+        (2, 0, 0, b"".as_slice()),
+        (1, 0, 5, b"ok 12"),
+        (2, 2, 2, b"ok 1"),
+        (0, 0, 1, b""),
     ] {
-        let mut writer = Fake::new(alloc, room, trouble, at);
+        let mut writer = Fake::new(alloc, room, interruptions, calls);
         let is_written = write_text(&mut writer, text).is_ok();
         assert_eq!(rt; writer.taken.as_slice(), taken);
         assert_eq!(rt; is_written, taken == text);
 
-        let mut writer = Fake::new(alloc, room, trouble, at);
+        let mut writer = Fake::new(alloc, room, interruptions, calls);
         let written = write_reply(alloc, &Reply::Done(12), &mut writer);
         assert_eq!(rt; writer.taken.as_slice(), taken);
-        if taken == text {
-            assert_eq!(rt; written, Ok(()));
+        let expected = if taken == text {
+            Ok(())
         } else {
-            assert_eq!(rt; written, Err(TextError::Write));
-        }
+            Err(ScriptFault::Write)
+        };
+        assert_eq!(rt; written, expected);
     }
+    Ok(())
+}
+
+#[test]
+fn a_long_text_is_written_byte_by_byte(rt: HostRuntime) -> Result<(), Fail> {
+    let alloc = rt.alloc();
+    let mut text = Vec::new(alloc);
+    for number in 0..100_000u32 {
+        text.push((number % 251) as u8)?;
+    }
+    let mut writer = Fake::new(alloc, 1, 1, 100_000);
+    assert!(rt; write_text(&mut writer, &text).is_ok());
+    assert!(rt; writer.taken.as_slice() == text.as_slice());
     Ok(())
 }
