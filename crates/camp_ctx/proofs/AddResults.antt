@@ -1,7 +1,7 @@
 -- Adding and passing by have at most one result, and adding always has one.
-use Rattle.std.proofs.Common.{◌≡◌, List, [], ◌∷◌, refl, sym, ◌∙◌, subst, inl, inr}
+use Rattle.std.proofs.Common.{◌≡◌, List, [], ◌∷◌, refl, sym, ap, ◌∙◌, subst, inl, inr}
 use Rattle.camp_prim.specs.Effect.{inverse_of}
-use Rattle.camp_prim.specs.Labels.{label_of}
+use Rattle.camp_prim.specs.Labels.{label_of, key_of}
 use Rattle.camp_prim.specs.Swaps.{Swap}
 use Rattle.camp_prim.specs.declared.named.Named.{Named}
 use Rattle.camp_prim.proofs.SwapUnique.{swap_unique}
@@ -11,7 +11,7 @@ use Rattle.camp_seq.proofs.ListResults.{one_pass, one_front, one_order}
 use Rattle.camp_seq.proofs.NormalOrders.{front_or_not, has_normal_order}
 use Rattle.camp_seq.proofs.SwapDecided.{Decided, decided_by, swap_or_not}
 use Rattle.camp_ctx.specs.Adding.{Cancels, PassesBy, Keeps, Adds, cancel, commute, keep, FromLast, AddsAll, PassesByAll}
-use Rattle.camp_ctx.specs.Contexts.{InContext}
+use Rattle.camp_ctx.specs.Contexts.{InContext, patch_key, context_key}
 use Rattle.camp_ctx.specs.Laws.{GivesOne, AlwaysGives}
 use Rattle.camp_ctx.proofs.NamedDecided.{named_or_not}
 
@@ -117,3 +117,13 @@ add_of_all_exists (a ∷ r) x =
     let rest = add_of_all_exists r x in
     let last = add_exists a rest.0 in
     (last.0, (rest.0, rest.1, last.1))
+
+-- adding keeps the absolute label
+same_key_of_one : (a : Named) (x y : InContext) → Adds a x y → context_key y ≡ context_key x
+same_key_of_one a x y (cancel w) = ap patch_key w.patch
+same_key_of_one a x y (commute never w) = ap key_of w.past_patch.second
+same_key_of_one a x y (keep never none w) = ap patch_key w.patch
+
+pub same_key_of_sum : (r : List Named) (x y : InContext) → AddsAll r x y → context_key y ≡ context_key x
+same_key_of_sum [] x y is = ap context_key is
+same_key_of_sum (a ∷ r) x y w = same_key_of_one a w.0 y w.2 ∙ same_key_of_sum r x w.0 w.1

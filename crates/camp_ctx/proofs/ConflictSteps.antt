@@ -1,5 +1,5 @@
 -- What the body of a merge behind a common front knows at its answers.
-use Rattle.std.proofs.Common.{◌≡◌, List, Option, None, Some, MatchOption, refl, sym, ap, ◌∙◌, subst}
+use Rattle.std.proofs.Common.{◌≡◌, List, Option, None, Some, MatchOption, sym, ◌∙◌, subst}
 use Rattle.camp_prim.specs.declared.labels.Label.{Label}
 use Rattle.camp_prim.specs.declared.named.Named.{Named}
 use Rattle.camp_seq.specs.Merging.{CleanMerge}

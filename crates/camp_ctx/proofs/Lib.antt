@@ -4,5 +4,7 @@ pub mod AddValid
 pub mod CommonLabels
 pub mod ConflictLaws
 pub mod ConflictSteps
+pub mod EntrySteps
 pub mod NamedDecided
 pub mod SetChanges
+pub mod SetSteps

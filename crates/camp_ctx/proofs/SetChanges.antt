@@ -66,7 +66,7 @@ members_change Change always xs =
     (with_changed f xs, λ key. subst (ChangesAt Change (get xs key)) (sym (get_changed f xs key)) (changes_at Change f (λ x. (always x).1) (get xs key)))
 
 -- a member after the change is what a member before it became
-member_before : (Change : InContext → InContext → Type 0) (was now : Option InContext) (y : InContext) → ChangesAt Change was now → now ≡ Some y → (x : InContext) × (was ≡ Some x) × Change x y
+pub member_before : (Change : InContext → InContext → Type 0) (was now : Option InContext) (y : InContext) → ChangesAt Change was now → now ≡ Some y → (x : InContext) × (was ≡ Some x) × Change x y
 member_before Change None None y w is = cc
 member_before Change None (Some z) y w is = absurd w
 member_before Change (Some x) None y w is = absurd w

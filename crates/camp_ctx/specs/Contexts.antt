@@ -36,6 +36,10 @@ Valid tree x = (after : Files) × Runs (whole x) tree after
 abbrev pub Contexts : Type 0
 Contexts = FinMap key_cmp InContext
 
+-- each member stands under its own label
+abbrev pub AreKeyed : Contexts → Type 0
+AreKeyed xs = (key : Key) (x : InContext) → get xs key ≡ Some x → key ≡ context_key x
+
 -- {x}: the set of one member
 abbrev pub only : InContext → Contexts
 only x = insert empty (context_key x) x
