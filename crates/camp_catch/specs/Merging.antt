@@ -61,10 +61,14 @@ pub record PlainJoinsConflictor (a : Named)
   pub after : k' ≡ Conflictor effect (with_member ys z) l
   pub beside : j' ≡ Conflictor [] (only l) z
 
+-- a plain catch beside a conflictor
+abbrev pub MergePlainConflictor : Named → List Named → Contexts → InContext → Catch → Catch → Type 0
+MergePlainConflictor a s ys l k' j' = PlainBesideConflictor a s ys l k' j' ⊎ PlainJoinsConflictor a s ys l k' j'
+
 -- the mirror: a conflictor and a plain catch, as a plain catch and a conflictor with the two results exchanged
 -- (r, X, i) | [b] -> [b'] | (r', X', i'), or ([], {i}, z) | (b^ r, X and z, i)
 abbrev pub Mirror : List Named → Contexts → InContext → Named → Catch → Catch → Type 0
-Mirror r xs i b k' j' = PlainBesideConflictor b r xs i j' k' ⊎ PlainJoinsConflictor b r xs i j' k'
+Mirror r xs i b k' j' = MergePlainConflictor b r xs i j' k'
 
 -- a member joins a set where a fact holds, and elsewhere the set stays
 abbrev pub JoinsWhere : Type 0 → InContext → Contexts → Contexts → Type 0
@@ -104,7 +108,6 @@ pub record TwoConflictors (r : List Named) (xs : Contexts) (i : InContext)
 -- j and k merge to k' after j and j' after k: one of the cases of their kinds holds
 abbrev pub MergeCatch : Catch → Catch → Catch → Catch → Type 0
 MergeCatch (Plain a) (Plain b) k' j' = Clean a b k' j' ⊎ FirstConflict a b k' j'
-MergeCatch (Plain a) (Conflictor s ys l) k' j' =
-    PlainBesideConflictor a s ys l k' j' ⊎ PlainJoinsConflictor a s ys l k' j'
+MergeCatch (Plain a) (Conflictor s ys l) k' j' = MergePlainConflictor a s ys l k' j'
 MergeCatch (Conflictor r xs i) (Plain b) k' j' = Mirror r xs i b k' j'
 MergeCatch (Conflictor r xs i) (Conflictor s ys l) k' j' = TwoConflictors r xs i s ys l k' j'

@@ -6,11 +6,11 @@ ghost use Rattle.camp_catch.specs.Commuting.{BothPlain, CommuteCatch, ConflictDi
 
 use crate::Catch;
 use crate::conflictors::commute_conflictors;
-use camp_ctx::{Contexted, CtxSet, join};
+use crate::values::{alone, is_bare, one, undoes};
+use camp_ctx::{Contexted, CtxSet};
 use camp_prim::Named;
 use camp_seq::{Seq, front, norm, past, past_all};
 use std::alloc::{AllocError, Global};
-use std::slice;
 
 /// What two catches and one after the other become in the other order: `Some((k', j'))`, where `k'`
 /// and then `j'` do what `j` and then `k` do. None where they can't change places.
@@ -64,7 +64,7 @@ fn plain_before_conflictor(
     ensures { IfOk result (FindsPair (CommutePlainConflictor a.now s.now ys.now l.now)) }
 {
     match ys.get(&a.label().key()) {
-        None => plain_past_conflictor(a, s, ys, l),
+        None => plain_past_conflictor(alloc, a, s, ys, l),
         Some(z) => {
             if ys.len() == 1 {
                 conflict_dissolves(alloc, a, s, ys, l)
@@ -77,6 +77,7 @@ fn plain_before_conflictor(
 
 /// `[a] (s, Y, l) <-> (s', Y', l') [a']`, where `a'` added to `Y` gives `Y'`
 fn plain_past_conflictor(
+    alloc: Global,
     a: &Named,
     s: &Seq,
     ys: &CtxSet,
@@ -94,7 +95,7 @@ fn plain_past_conflictor(
         return Ok(None);
     };
     let effect = norm(&passed)?;
-    let conflicts = CtxSet::add_one(&a, ys)?;
+    let conflicts = CtxSet::add(&one(alloc, &a)?, ys)?;
     let second = Catch::Conflictor {
         effect,
         conflicts,
@@ -121,8 +122,8 @@ fn conflict_dissolves(
     }
     let q = l.patch();
     let back = q.try_clone()?.invert();
-    let effect = join(alloc, slice::from_ref(&back), &[])?;
-    let conflicts = CtxSet::only(alloc, l)?;
+    let effect = one(alloc, &back)?;
+    let conflicts = alone(alloc, l)?;
     let identity = x.try_clone()?;
     let first = Catch::Conflictor {
         effect,
@@ -157,7 +158,7 @@ fn plain_leaves_the_set(
     };
     let first = Catch::Conflictor {
         effect: Seq::empty(alloc),
-        conflicts: CtxSet::only(alloc, l)?,
+        conflicts: alone(alloc, l)?,
         identity: z.try_clone()?,
     };
     Ok(Some((second, first)))
@@ -173,8 +174,8 @@ fn conflictor_past_plain(
 ) -> Result<Option<(Catch, Catch)>, AllocError>
     ensures { IfOk result (FindsPair (ConflictorPastPlain r.now xs.now i.now b.now)) }
 {
-    let one = join(alloc, slice::from_ref(b), &[])?;
-    let behind = past_all(r, &one)?;
+    let single = one(alloc, b)?;
+    let behind = past_all(r, &single)?;
     let Some((before, left)) = behind else {
         return Ok(None);
     };
@@ -185,7 +186,7 @@ fn conflictor_past_plain(
     };
     let first = Catch::Conflictor {
         effect: norm(&left)?,
-        conflicts: CtxSet::add_one(&back, xs)?,
+        conflicts: CtxSet::add(&one(alloc, &back)?, xs)?,
         identity,
     };
     Ok(Some((Catch::Plain(before.items()[0].try_clone()?), first)))

@@ -5,6 +5,7 @@ ghost use Rattle.camp_ctx.specs.Contexts.{context_key, Contexts, InContext};
 ghost use Rattle.camp_catch.specs.Commuting.{CommuteConflictors, EffectsPass, OneOfSeveralConflicts, OnlyConflictGoes, TwoConflictorsApart, labels_undone};
 
 use crate::Catch;
+use crate::values::{has_key, is_undone, seen_before};
 use camp_ctx::{Contexted, CtxSet, join};
 use camp_prim::{Label, Named};
 use camp_seq::{Seq, invert_all, norm, past_all, split};

@@ -1,11 +1,13 @@
-ghost use Rattle.std.specs.Prelude.{IfOk};
+ghost use Rattle.std.specs.Prelude.{◌≡◌, [], ◌∷◌, IfOk};
 ghost use Rattle.camp_base.specs.Answers.{FindsPair};
 ghost use Rattle.camp_ctx.specs.Conflicts.{Conflict};
-ghost use Rattle.camp_ctx.specs.Contexts.{bare};
+ghost use Rattle.camp_ctx.specs.Contexts.{bare, only, InContext};
+ghost use Rattle.camp_prim.specs.Effect.{inverse_of};
 ghost use Rattle.camp_ctx.specs.Adding.{AddsAll};
-ghost use Rattle.camp_catch.specs.Merging.{Clean, FirstConflict, JoinsWhere, MergeCatch, MergePlainConflictor, PlainBesideConflictor, PlainJoinsConflictor, TwoConflictors};
+ghost use Rattle.camp_catch.specs.Merging.{Clean, FirstConflict, MergeCatch, MergePlainConflictor, Mirror, PlainBesideConflictor, PlainJoinsConflictor, TwoConflictors};
 
 use crate::Catch;
+use crate::values::{alone, bare, one};
 use camp_ctx::{Contexted, CtxSet, conflict, join, merge_behind_common};
 use camp_prim::Named;
 use camp_seq::{Seq, invert_all, norm, past};
@@ -32,7 +34,7 @@ pub fn merge(alloc: Global, j: &Catch, k: &Catch) -> Result<Option<(Catch, Catch
             conflicts: xs,
             identity: i,
         } => match k {
-            Catch::Plain(b) => mirror(merge_plain_conflictor(alloc, b, r, xs, i)?),
+            Catch::Plain(b) => mirror(alloc, r, xs, i, b),
             Catch::Conflictor {
                 effect,
                 conflicts,
@@ -64,21 +66,14 @@ fn conflictor_of(alloc: Global, a: &Named, b: &Named) -> Result<Catch, AllocErro
     ensures { IfOk result (λ made. made ≡ Catch.Conflictor (inverse_of a.now ∷ []) (only (bare a.now)) (bare b.now)) }
 {
     let back = a.try_clone()?.invert();
-    let effect = join(alloc, slice::from_ref(&back), &[])?;
-    let conflicts = CtxSet::only(alloc, &bare(alloc, a)?)?;
+    let effect = one(alloc, &back)?;
+    let conflicts = alone(alloc, &bare(alloc, a)?)?;
     let identity = bare(alloc, b)?;
     Ok(Catch::Conflictor {
         effect,
         conflicts,
         identity,
     })
-}
-
-/// `:p`
-fn bare(alloc: Global, p: &Named) -> Result<Contexted, AllocError>
-    ensures { IfOk result (λ x. x ≡ bare p.now) }
-{
-    Contexted::new(alloc, Seq::empty(alloc), p.try_clone()?)
 }
 
 /// A plain catch and a conflictor: they merge cleanly, or the plain one joins the set.
@@ -96,17 +91,20 @@ fn merge_plain_conflictor(
     if conflict(&own, &seen)? {
         Ok(Some(plain_joins_conflictor(alloc, &own, s, ys, l)?))
     } else {
-        plain_beside_conflictor(a, s, ys, l)
+        plain_beside_conflictor(alloc, a, s, ys, l)
     }
 }
 
 /// `[a] | (s, Y, l) -> (s', Y', l') | [a']`, where `a'^` added to `Y` and `l` gives `Y'` and `l'`
 fn plain_beside_conflictor(
+    alloc: Global,
     a: &Named,
     s: &Seq,
     ys: &CtxSet,
     l: &Contexted,
 ) -> Result<Option<(Catch, Catch)>, AllocError>
+    requires { (seen : InContext) × AddsAll s.now l.now seen × (¬ (Conflict (bare a.now) seen)) }
+    ensures { IfOk result (FindsPair (PlainBesideConflictor a.now s.now ys.now l.now)) }
 {
     let back = a.try_clone()?.invert();
     let passed = past(&back, s)?;
@@ -115,7 +113,7 @@ fn plain_beside_conflictor(
     };
     let after = Catch::Conflictor {
         effect: norm(&merged)?,
-        conflicts: CtxSet::add_one(&back, ys)?,
+        conflicts: CtxSet::add(&one(alloc, &back)?, ys)?,
         identity: Contexted::add_one(&back, l)?,
     };
     Ok(Some((after, Catch::Plain(back.invert()))))
@@ -129,6 +127,9 @@ fn plain_joins_conflictor(
     ys: &CtxSet,
     l: &Contexted,
 ) -> Result<(Catch, Catch), AllocError>
+    requires bare { own.now ≡ bare own.now.patch }
+    requires conflict { (seen : InContext) × AddsAll s.now l.now seen × Conflict own.now seen }
+    ensures { IfOk result (λ pair. PlainJoinsConflictor own.now.patch s.now ys.now l.now pair.0 pair.1) }
 {
     let z = Contexted::add(&invert_all(s)?, own)?;
     let back = own.patch().try_clone()?.invert();
@@ -140,7 +141,7 @@ fn plain_joins_conflictor(
     };
     let beside = Catch::Conflictor {
         effect: Seq::empty(alloc),
-        conflicts: CtxSet::only(alloc, l)?,
+        conflicts: alone(alloc, l)?,
         identity: z,
     };
     Ok((after, beside))
@@ -186,4 +187,21 @@ fn merge_conflictors(
         identity: i2,
     };
     Ok(Some((k, j)))
+}
+
+/// `(r, X, i) | [b]`, as `[b] | (r, X, i)` with the two results exchanged
+fn mirror(
+    alloc: Global,
+    r: &Seq,
+    xs: &CtxSet,
+    i: &Contexted,
+    b: &Named,
+) -> Result<Option<(Catch, Catch)>, AllocError>
+    ensures { IfOk result (FindsPair (Mirror r.now xs.now i.now b.now)) }
+{
+    let merged = merge_plain_conflictor(alloc, b, r, xs, i)?;
+    match merged {
+        None => Ok(None),
+        Some((beside, after)) => Ok(Some((after, beside))),
+    }
 }
