@@ -64,8 +64,13 @@ fn cells_name_the_one_before_and_their_place(rt: HostRuntime) -> Result<(), Fail
     catch_up(&row, alloc, &mut one, &mut seen)?;
     let third = publish(&row, &mut one, 7);
     let full = publish(&row, &mut one, 1);
-    assert!(rt; [first, second, stale, third, full] == [Some(true), Some(true), Some(false), Some(true), None]);
-    assert!(rt; seen.as_slice() == [Entry { seat: 1, place: 5 }, Entry { seat: 0, place: 9 }].as_slice());
+    assert!(rt;
+        [first, second, stale, third, full]
+            == [Some(true), Some(true), Some(false), Some(true), None]
+    );
+    assert!(rt;
+        seen.as_slice() == [Entry { seat: 1, place: 5 }, Entry { seat: 0, place: 9 }].as_slice()
+    );
     // The head names cell 3, which names cell 0, which names cell 1. Cell 2 was never written.
     for (index, word) in [4, 2, 9, 0, 5, 0, 0, 1, 7].iter().enumerate() {
         assert!(rt; row.word(index) == Some(*word));
@@ -88,7 +93,9 @@ fn who_meets_another_finds_what_both_have_seen(rt: HostRuntime) -> Result<(), Fa
     assert!(rt; (zero.number(), zero.turns(), one.number(), one.turns()) == (0, 0, 1, 2));
     let mut seen = Vec::new(alloc);
     see_found(&row, alloc, &mut zero, &mut seen)?;
-    assert!(rt; seen.as_slice() == [Entry { seat: 1, place: 5 }, Entry { seat: 1, place: 7 }].as_slice());
+    assert!(rt;
+        seen.as_slice() == [Entry { seat: 1, place: 5 }, Entry { seat: 1, place: 7 }].as_slice()
+    );
     Ok(())
 }
 
