@@ -30,7 +30,7 @@ pub record IsSound (known : Known) : Type 0 where
   pub front : IsFront known.seen known.ahead
   pub own_seen : own known.number known.ahead ≡ own known.number known.seen
 
--- the chain was found as it is now: it has only grown, and the seat has no new entry in it
+-- the chain was found: it has only grown, it begins with what was seen, and the seat has no new entry in it
 pub record Finds (old new : Known) : Type 0 where
   pub is : new ≡ record old { ahead = new.ahead }
   pub grows : IsFront old.ahead new.ahead
