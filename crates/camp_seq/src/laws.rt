@@ -1,4 +1,4 @@
-ghost use Rattle.camp_seq.specs.Laws.{AreDetermined, AreEquivalent, EquivalentRun, HasNormalOrder, InverseLeadsBack, MergeCloses, MergeIsEquivalent, MergeIsPassing, MergeIsSymmetric};
+ghost use Rattle.camp_seq.specs.Laws.{AreDetermined, AreEquivalent, EquivalentRun, HasNormalOrder, InverseOfListLeadsBack, MergeCloses, MergeIsEquivalent, MergeIsPassing, MergeIsSymmetric, SplitByLabels};
 
 /// Equivalent lists lead from the same trees to the same trees.
 pub fn equivalent_lists_run_alike()
@@ -18,7 +18,7 @@ pub fn results_of_lists_are_determined()
 
 /// What a list does to a tree, its inverse undoes, and what the inverse undoes the list did.
 pub fn inverse_of_a_list_leads_back()
-    ensures { InverseLeadsBack }
+    ensures { InverseOfListLeadsBack }
 {}
 
 /// Every list has a normal order.
@@ -44,4 +44,10 @@ pub fn clean_merge_is_symmetric()
 /// Two lists merge cleanly just where the inverse of the one passes the other.
 pub fn clean_merge_is_passing_the_inverse()
     ensures { MergeIsPassing }
+{}
+
+/// Each element of the first part of a split has one of the given labels, and no element of the
+/// second has.
+pub fn splits_are_by_labels()
+    ensures { SplitByLabels }
 {}

@@ -2,7 +2,7 @@ use Rattle.std.proofs.Common.{◌≡◌, ◌≢◌, get_or, sym, ◌∙◌, subs
 use Rattle.std.specs.Ordering.{is_lt}
 use Rattle.std.specs.declared.cmp.Ordering.TheVariants.{Less}
 use Rattle.camp_prim.specs.Labels.{label_of, label_cmp}
-use Rattle.camp_seq.proofs.LabelSteps.{less_from_lt, not_less_where}
+use Rattle.camp_prim.proofs.LabelOrder.{less_from_lt, not_less_where}
 use Rattle.camp_seq.proofs.PlacingSteps.{goes_here, goes_on, goes_to_greater, goes_no_further, goes_to_end}
 use Rattle.camp_seq.proofs.insertions.take_back.Goals as goal
 
