@@ -10,7 +10,7 @@ use Rattle.camp_prim.proofs.LabelOrder.{not_below, not_above, not_below_both}
 use Rattle.camp_prim.proofs.SwapLaws.{own_inverse}
 use Rattle.camp_seq.specs.Equivalence.{◌~◌, backwards}
 use Rattle.camp_seq.specs.Inside.InPlace.{Precedes}
-use Rattle.camp_seq.specs.Inside.Insertions.{InOrder}
+use Rattle.camp_seq.specs.Inside.Insertions.{InOrder, Follows, StartsAfter}
 use Rattle.camp_seq.specs.NormalOrder.{IsLeast, Norm}
 use Rattle.camp_seq.specs.Passing.{Passes, Fronts}
 use Rattle.camp_seq.specs.Room.{Reaches, HasRoom}
@@ -86,17 +86,6 @@ fronts_of_longer label (q ∷ t) x y u (inr f) =
       | inl g ↦ inl (a.1 ∷ g.0, inr (f.0, (a.0, a.1, g.0, g.1, a.4, refl)))
       | inr g ↦ inr (g.0, (a.1 ∷ g.1.0, (a.0, a.1, g.1.0, g.1.1, a.4, refl)))
     ]
-
--- what x passes and what it does not: elements with lesser labels, or such that x can't come to before them
-abbrev pub Follows : List Named → List Named → Named → Type 0
-Follows [] s x = Unit {0}
-Follows (y ∷ a) s x =
-    ((label_cmp (label_of y) (label_of x) ≡ Less) ⊎ ((p : Named) (t : List Named) → ¬ (Precedes (y ∷ (a ++ s)) x p t))) × Follows a s x
-
--- the first of these elements has no lesser label
-abbrev pub StartsAfter : Label → List Named → Type 0
-StartsAfter label [] = Unit {0}
-StartsAfter label (y ∷ s) = label_cmp (label_of y) label ≢ Less
 
 -- what is behind x does not come to before it with a lesser label
 least_placed : (s : List Named) (x x' : Named) (s' : List Named) → HasRoom (x' ∷ s') → InOrder s → Precedes s x x' s' → StartsAfter (label_of x) s → IsLeast (label_of x') (x' ∷ s')

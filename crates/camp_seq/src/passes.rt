@@ -82,7 +82,7 @@ pub(crate) fn precede(s: &mut [Named], p: &mut Named) -> bool
 }
 
 /// Swaps `p` and the `q` behind it, where each stays in its place in memory.
-fn pass_one(p: &mut Named, q: &mut Named) -> bool
+pub(crate) fn pass_one(p: &mut Named, q: &mut Named) -> bool
     ensures exact { Changes SwapsInPlace (p.old, q.old) result (p.new, q.new) }
 {
     if !exchange(p, q) {
