@@ -8,36 +8,36 @@ use Rattle.camp_prim.specs.declared.named.Named.{Named}
 use Rattle.camp_prim.proofs.SwapLaws.{own_inverse}
 use Rattle.camp_prim.proofs.SwapUnique.{swap_unique}
 use Rattle.camp_seq.specs.Equivalence.{◌~◌, backwards, through}
-use Rattle.camp_seq.specs.Inside.InPlace.{Precedes}
+use Rattle.camp_seq.specs.Inside.InPlace.{Precedes, IsHeld, ComesUpTo}
 use Rattle.camp_seq.specs.Inside.Insertions.{InOrder, Follows, StartsAfter, StandsAt, StaysAt, Placed}
 use Rattle.camp_seq.specs.Room.{HasRoom}
 use Rattle.camp_seq.proofs.InsertionSteps.{came_behind, label_came, placed_in_order}
 use Rattle.camp_seq.proofs.ListEquivalence.{before}
-use Rattle.camp_seq.proofs.PassingSteps.{precedes_stop}
 use Rattle.camp_seq.proofs.RoomSteps.{room_before, room_of_equivalent}
 
--- x follows those before a neighbour that it can't pass, and that one
-all_follow : (a : List Named) (q : Named) (s : List Named) (x r : Named) (t : List Named) → Precedes s x r t → ((b c : Named) → ¬ (Swap q r b c)) → Follows (a ++ q ∷ []) s x
-all_follow [] q s x r t m never = (inr (λ p u. precedes_stop [] q s x r p t u m never), tt)
-all_follow (y ∷ a) q s x r t m never =
-    (inr (λ p u. subst (λ z. ¬ (Precedes (y ∷ z) x p u)) (sym (append_assoc a (q ∷ []) s)) (precedes_stop (y ∷ a) q s x r p t u m never)), all_follow a q s x r t m never)
+-- x follows those that hold it
+follows_held : (a s : List Named) (x : Named) → IsHeld a s x → Follows a s x
+follows_held [] s x held = tt
+follows_held (y ∷ a) s x held = (inr held.0, follows_held a s x held.1)
 
 -- and one with a lesser label
 follows_more : (a : List Named) (y : Named) (s : List Named) (x : Named) → Follows a (y ∷ s) x → label_cmp (label_of y) (label_of x) ≡ Less → Follows (a ++ y ∷ []) s x
 follows_more [] y s x f less = (inl less, tt)
-follows_more (z ∷ a) y s x f less = (elim f.0 [
-  | inl lesser ↦ inl lesser
-  | inr never ↦ inr (λ p t. subst (λ u. ¬ (Precedes (z ∷ u) x p t)) (sym (append_assoc a (y ∷ []) s)) (never p t))
-], follows_more a y s x f.1 less)
+follows_more (z ∷ a) y s x f less = (
+  elim f.0 [
+    | inl lesser ↦ inl lesser
+    | inr never ↦ inr (λ p t. subst (λ u. ¬ (Precedes (z ∷ u) x p t)) (sym (append_assoc a (y ∷ []) s)) (never p t))
+  ],
+  follows_more a y s x f.1 less,
+)
 
--- it stands behind the neighbour that it can't pass
-pub stands_behind : (s0 s : List Named) (x0 x : Named) (i : ℕ) (d : Named) → i < length s → length s ≡ length s0 → take (i + 1) s ≡ take (i + 1) s0 → Precedes (drop (i + 1) s0) x0 x (drop (i + 1) s) → ((a b : Named) → ¬ (Swap (get_or s i d) x a b)) → StandsAt s0 x0 (i + 1) s x
-stands_behind s0 s x0 x i d within long waiting came never = record {
-  bound = omega arith;
-  long = long;
-  waiting = waiting;
-  came = came;
-  follows = subst (λ a. Follows a (drop (i + 1) s0) x0) (sym (take_more s i d within) ∙ waiting) (all_follow (take i s) (get_or s i d) (drop (i + 1) s0) x0 x (drop (i + 1) s) came never);
+pub stands : (s0 s : List Named) (x0 x : Named) (i : ℕ) → ComesUpTo s0 x0 i s x → StandsAt s0 x0 i s x
+stands s0 s x0 x i w = record {
+  bound = w.bound;
+  long = w.long;
+  waiting = w.waiting;
+  came = w.came;
+  follows = follows_held (take i s0) (drop i s0) x0 w.held;
 }
 
 -- the element behind a place where it stands, and that it passes this one back

@@ -25,10 +25,13 @@ pub record AreEquivalent : Type 0 where
 
 -- each relation has at most one result
 pub record AreDetermined : Type 0 where
-  pub passes : (p : Named) (s s' t : List Named) (p' q : Named) → Passes p s s' p' → Passes p s t q → (s' ≡ t) × (p' ≡ q)
+  pub passes : (p : Named) (s s' t : List Named) (p' q : Named)
+      → Passes p s s' p' → Passes p s t q → (s' ≡ t) × (p' ≡ q)
   pub passes_all : (r s s' t r' q : List Named) → PassesAll r s s' r' → PassesAll r s t q → (s' ≡ t) × (r' ≡ q)
-  pub fronts : (label : Label) (s t u : List Named) (y z : Named) → Fronts label s y t → Fronts label s z u → (y ≡ z) × (t ≡ u)
-  pub splits : (labels : List Label) (s f t g u : List Named) → Splits labels s f t → Splits labels s g u → (f ≡ g) × (t ≡ u)
+  pub fronts : (label : Label) (s t u : List Named) (y z : Named)
+      → Fronts label s y t → Fronts label s z u → (y ≡ z) × (t ≡ u)
+  pub splits : (labels : List Label) (s f t g u : List Named)
+      → Splits labels s f t → Splits labels s g u → (f ≡ g) × (t ≡ u)
   pub norm : (s t u : List Named) → Norm s t → Norm s u → t ≡ u
   pub merges : (a b b' a' c d : List Named) → CleanMerge a b b' a' → CleanMerge a b c d → (b' ≡ c) × (a' ≡ d)
 
@@ -42,7 +45,10 @@ HasNormalOrder = (s : List Named) → (t : List Named) × Norm s t
 
 -- a clean merge closes a square of trees: a then b', and b then a', end in one tree
 abbrev pub MergeCloses : Type 0
-MergeCloses = (a b b' a' : List Named) → CleanMerge a b b' a' → (old left right : Files) → AppliesAll a old left → AppliesAll b old right → (new : Files) × AppliesAll b' left new × AppliesAll a' right new
+MergeCloses =
+    (a b b' a' : List Named) → CleanMerge a b b' a'
+    → (old left right : Files) → AppliesAll a old left → AppliesAll b old right
+    → (new : Files) × AppliesAll b' left new × AppliesAll a' right new
 
 -- the two orders of a clean merge are equivalent: a b' ~ b a'
 abbrev pub MergeIsEquivalent : Type 0

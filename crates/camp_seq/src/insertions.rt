@@ -4,7 +4,7 @@ ghost use Rattle.camp_seq.specs.NormalOrder.{Norm};
 ghost use Rattle.camp_seq.specs.Room.{HasRoom};
 
 use crate::orders::is_less;
-use crate::passes::pass_one;
+use crate::passes::{come_forward, pass_one};
 use camp_prim::Named;
 
 /// Puts a list with room in normal order: one element after the other is put in its place among
@@ -37,18 +37,6 @@ fn find_place(s: &mut [Named], x: &mut Named) -> usize
 {
     let at = come_forward(s, x);
     go_back(s, x, at)
-}
-
-/// Swaps `x` to the left, as far as it can come.
-fn come_forward(s: &mut [Named], x: &mut Named) -> usize
-    ensures { StandsAt s.old x.old result s.new x.new }
-{
-    for at in (0..s.len()).rev() {
-        if !pass_one(&mut s[at], x) {
-            return at + 1;
-        }
-    }
-    0
 }
 
 /// Swaps `x`, which has come to a place, to the right, past elements with lesser labels.

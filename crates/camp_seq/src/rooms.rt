@@ -10,6 +10,7 @@ use camp_prim::{Named, Primitive};
 const MAX_REACH: usize = 1 << 30;
 
 /// A list of primitives in range whose reach is in range has room.
+#[tactic(auto, using(crate::proofs::Reaching::room_within))]
 pub fn reach_gives_room()
     ensures { ReachGivesRoom }
 {}
