@@ -1,6 +1,6 @@
 use Rattle.std.proofs.Common.{◌≡◌, take, drop}
 use Rattle.camp_seq.specs.Inside.InPlace.{Precedes}
-use Rattle.camp_seq.proofs.passes.precede.Given as goal
+use Rattle.camp_seq.proofs.passes.come_forward.Given as goal
 
 abbrev pub invariant-loop-at : goal.invariant-loop-at
 invariant-loop-at l = record {
