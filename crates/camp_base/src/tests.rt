@@ -1,4 +1,5 @@
 use crate::{Apply, BaseFault, Line, Name, Path, Tree, copy_lines};
+use camp_share::SharedList;
 use std::alloc::Global;
 use std::test::Fail;
 
@@ -145,12 +146,12 @@ fn changes_apply_and_files_stand_in_the_order_of_paths(rt: HostRuntime) -> Resul
     tree.remove_file(&last)?;
 
     let want = lines(alloc, &[b"2", b"2 again", b"three", b"four"])?;
-    assert!(rt; tree.file(&outer).ok_or("no file")? == want.as_slice());
+    assert!(rt; is_list(tree.file(&outer).ok_or("no file")?, &want));
     assert!(rt; tree.file(&inner).ok_or("no file")?.is_empty());
     assert!(rt; tree.file(&last).is_none());
     assert_eq!(rt; tree.len(), 2);
     let (path, found) = tree.at(0).ok_or("no first file")?;
-    assert!(rt; *path == outer && found == want.as_slice());
+    assert!(rt; *path == outer && is_list(found, &want));
     let (path, found) = tree.at(1).ok_or("no second file")?;
     assert!(rt; *path == inner && found.is_empty());
     assert!(rt; tree.at(2).is_none());
@@ -210,6 +211,10 @@ fn a_copy_is_the_same_until_one_of_the_two_changes(rt: HostRuntime) -> Result<()
     assert!(rt; !copy.is_same(&tree) && !tree.is_same(&copy));
     assert!(rt; copy_lines(alloc, &text)? == text);
     Ok(())
+}
+
+fn is_list(lines: &SharedList<Line>, want: &[Line]) -> bool {
+    lines.len() == want.len() && lines.has_at(0, want)
 }
 
 fn lines(alloc: Global, texts: &[&[u8]]) -> Result<Vec<Line>, Fail> {

@@ -13,7 +13,7 @@ pub trait Share: Sized {
 }
 
 /// A value with several owners, in any threads. It is given back with its last owner.
-#[derive(Drop)]
+#[derive(Debug, Drop)]
 pub struct Shared<T> {
     arc: Arc<T>,
 }
@@ -62,4 +62,18 @@ impl<A: Share + Drop, B: Share + Drop> Share for (A, B) {
         let second = self.1.share()?;
         Ok((first, second))
     }
+}
+
+impl<T: PartialEq> PartialEq for Shared<T> {
+    ghost eq = { T.eq };
+
+    ghost laws = { T.laws };
+
+    fn eq(&self, other: &Shared<T>) -> bool {
+        **self == **other
+    }
+}
+
+impl<T: Eq> Eq for Shared<T> {
+    ghost laws = { T.Eq.laws };
 }
