@@ -3,7 +3,7 @@
 //! memory ran out or input or output failed; a line on standard error says why.
 #![tactic(auto)]
 
-use camp_run::{RunFault, run_book};
+use camp_run::run_book;
 use std::process::ExitCode;
 
 fn main(rt: HostRuntime) -> ExitCode {
@@ -11,10 +11,7 @@ fn main(rt: HostRuntime) -> ExitCode {
         Ok(()) => ExitCode::SUCCESS,
         Err(fault) => {
             let _ = eprintln!(rt; "camp: {fault}");
-            match fault {
-                RunFault::Script(_) => ExitCode::from(1),
-                RunFault::Memory | RunFault::Read | RunFault::Write => ExitCode::from(3),
-            }
+            ExitCode::from(fault.status())
         }
     }
 }

@@ -9,7 +9,6 @@ use Rattle.camp_prim.specs.declared.named.Named.{Named}
 use Rattle.camp_repo.specs.States.{Contents}
 use Rattle.camp_repo.specs.Trees.{tree_of}
 use Rattle.camp_repo.specs.Steps.{patches_of, with_patches, has_patch, has_long_side, has_long_file, recorded, refused, accepted, record_leads, record_in}
-use Rattle.camp_repo.specs.declared.TheConstants.{MAX_PATCHES}
 use Rattle.camp_repo.specs.declared.calls.Refusal.TheVariants.{NoBranch, PatchExists, TooLarge}
 use Rattle.camp_repo.specs.declared.states.Decided.TheVariants.{Next}
 
@@ -42,9 +41,9 @@ module _ (state : Contents) (branch name : List ℕ) (change : Primitive) (next 
   small true found is_new e = cc
   small false found is_new e = leads_on _ found is_new refl e
 
-  new_name : (t : Bool) → patches_of state.branches branch ≡ Some patches → has_patch state name ≡ t → cond t (refused (PatchExists name)) (cond (nat_le MAX_PATCHES (length patches) || has_long_side change) (refused TooLarge) (record_leads state branch patches name change (option_and_then (applied change) (tree_of patches)))) ≡ Next next → Accepted state branch name change next
+  new_name : (t : Bool) → patches_of state.branches branch ≡ Some patches → has_patch state name ≡ t → cond t (refused (PatchExists name)) (cond (nat_le 4_096 (length patches) || has_long_side change) (refused TooLarge) (record_leads state branch patches name change (option_and_then (applied change) (tree_of patches)))) ≡ Next next → Accepted state branch name change next
   new_name true found is_new e = cc
-  new_name false found is_new e = small (nat_le MAX_PATCHES (length patches) || has_long_side change) found is_new e
+  new_name false found is_new e = small (nat_le 4_096 (length patches) || has_long_side change) found is_new e
 
 pub accepted-tells : (state : Contents) (branch name : List ℕ) (change : Primitive) (next : Contents) (o : Option (List Named)) → patches_of state.branches branch ≡ o → option_map_or (record_in state branch name change) o (refused (NoBranch branch)) ≡ Next next → Accepted state branch name change next
 accepted-tells state branch name change next None found e = cc

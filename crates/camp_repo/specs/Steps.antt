@@ -11,7 +11,6 @@ use Rattle.camp_prim.specs.declared.primitives.Primitive.TheVariants.{Add, Remov
 use Rattle.camp_prim.specs.declared.named.Named.{Named}
 use Rattle.camp_repo.specs.States.{Contents}
 use Rattle.camp_repo.specs.Trees.{tree_of}
-use Rattle.camp_repo.specs.declared.TheConstants.{MAX_PATCHES, MAX_SIDE_LINES, MAX_FILE_LINES}
 use Rattle.camp_repo.specs.declared.calls.Call.{Call}
 use Rattle.camp_repo.specs.declared.calls.Call.TheVariants as call
 use Rattle.camp_repo.specs.declared.calls.Reply.TheVariants as reply
@@ -42,15 +41,15 @@ with_patches (branch ∷ branches) name patches = if bytes_eq branch.0 name then
 abbrev pub has_patch : Contents → List ℕ → Bool
 has_patch state name = list_any (λ branch. list_any (λ p. bytes_eq p.name name) branch.1) state.branches
 
--- whether a side of a hunk has more lines than a record takes
+-- whether a side of a hunk has more than the 65,535 lines that a record takes
 abbrev pub has_long_side : Primitive → Bool
 has_long_side (Add path) = false
 has_long_side (Remove path) = false
-has_long_side (Hunk hunk) = nat_lt MAX_SIDE_LINES (length hunk.old) || nat_lt MAX_SIDE_LINES (length hunk.new)
+has_long_side (Hunk hunk) = nat_lt 65_535 (length hunk.old) || nat_lt 65_535 (length hunk.new)
 
--- whether the file of a path has more lines than a record leaves
+-- whether the file of a path has more than the 1,000,000 lines that a record leaves
 abbrev pub has_long_file : List ℕ → Files → Bool
-has_long_file path tree = option_map_or (λ lines. nat_lt MAX_FILE_LINES (length lines)) (get tree path) false
+has_long_file path tree = option_map_or (λ lines. nat_lt 1_000_000 (length lines)) (get tree path) false
 
 -- the patch that a record of one primitive makes: at place 1, and positive
 abbrev pub recorded : List ℕ → Primitive → Named
@@ -70,11 +69,11 @@ record_leads state branch patches name change None = refused DoesNotApply
 record_leads state branch patches name change (Some tree) =
     if has_long_file (path_of change) tree then refused TooLarge else accepted state branch (patches ++ recorded name change ∷ [])
 
--- what a record comes to in a branch with these patches
+-- what a record comes to in a branch with these patches, which has room for 4,096
 abbrev pub record_in : Contents → List ℕ → List ℕ → Primitive → List Named → Decided
 record_in state branch name change patches =
     if has_patch state name then refused (PatchExists name)
-    else (if nat_le MAX_PATCHES (length patches) || has_long_side change then refused TooLarge
+    else (if nat_le 4_096 (length patches) || has_long_side change then refused TooLarge
     else record_leads state branch patches name change (option_and_then (applied change) (tree_of patches)))
 
 -- the tree of a branch with these patches; every state that is reached is lawful, and then there is one

@@ -1,4 +1,5 @@
 ghost use Rattle.camp_repo.specs.Laws.{AcceptedCallsHaveEffect, InitialIsLawful, StepsKeepLawful};
+ghost use Rattle.camp_repo.specs.Refusals.{AcceptanceIsExact, QuestionsAreAnswered, RefusalsAreExact};
 
 /// In a new repository each branch is lawful: the names of its patches are distinct, and each
 /// patch applies where it stands.
@@ -15,4 +16,19 @@ pub fn steps_keep_lawful()
 /// of the branch to its next one. No other branch changes, and one more call is counted.
 pub fn accepted_calls_have_effect()
     ensures { AcceptedCallsHaveEffect }
+{}
+
+/// Each refusal comes exactly under its own condition, and only where no test before its own fails.
+pub fn refusals_are_exact()
+    ensures { RefusalsAreExact }
+{}
+
+/// A record is accepted exactly where it passes all tests.
+pub fn acceptance_is_exact()
+    ensures { AcceptanceIsExact }
+{}
+
+/// A state of lawful branches answers a question with the tree of the branch.
+pub fn questions_are_answered()
+    ensures { QuestionsAreAnswered }
 {}

@@ -10,7 +10,10 @@ mod tests;
 
 pub use branches::Branch;
 pub use calls::{Call, Refusal, Reply};
-pub use laws::{accepted_calls_have_effect, initial_is_lawful, steps_keep_lawful};
+pub use laws::{
+    acceptance_is_exact, accepted_calls_have_effect, initial_is_lawful, questions_are_answered,
+    refusals_are_exact, steps_keep_lawful,
+};
 pub use states::{Decided, State};
 
 /// The most patches that a branch holds.

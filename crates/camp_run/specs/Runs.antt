@@ -16,7 +16,7 @@ pub record ReadsAll (remaining rest : Option (List ℕ)) (bytes : List ℕ) : Ty
 -- Ok: a script was read, and its output was written, no more and no less.
 -- A fault of the script: it is the first one, and nothing was written.
 -- Out of memory, or the reader failed: nothing was written.
--- The writer failed: a script was read, and a front of its output was written.
+-- The writer failed: a script was read, and a front of its output was written, and not all of it.
 abbrev pub Runs : Option (List ℕ) → Option (List ℕ) → Option (List ℕ) → Result (Unit {0}) RunFault → Option (List ℕ) → Type 0
 Runs remaining rest old (Ok done) new = (bytes : List ℕ) × ReadsAll remaining rest bytes × IsOkAnd (script_of bytes) (λ script. Appends old new (serial_output script))
 Runs remaining rest old (Err (Script fault)) new = (bytes : List ℕ) × ReadsAll remaining rest bytes × (script_of bytes ≡ Err fault) × Keeps old new

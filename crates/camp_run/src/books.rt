@@ -8,7 +8,7 @@ ghost use Rattle.camp_run.specs.declared.faults.RunFault.TheVariants as fault;
 
 use crate::RunFault;
 use camp_repo::{Call, Decided, Reply, State};
-use camp_script::{Script, ScriptError, append_reply, read_script, write_text};
+use camp_script::{Script, ScriptFault, append_reply, read_script, write_text};
 use std::alloc::{AllocError, Global};
 use std::io::{ErrorKind, Read, Write};
 
@@ -36,8 +36,9 @@ fn answers<R: Read>(alloc: Global, reader: &mut R) -> Result<Vec<u8>, RunFault>
     let bytes = read_all(alloc, reader)?;
     match read_script(alloc, &bytes) {
         Ok(script) => Ok(serial_answers(alloc, &script)?),
-        Err(ScriptError::Fault(fault)) => Err(RunFault::Script(fault)),
-        Err(ScriptError::Memory) => Err(RunFault::Memory),
+        Err(ScriptFault::Line(fault)) => Err(RunFault::Script(fault)),
+        Err(ScriptFault::Memory) => Err(RunFault::Memory),
+        Err(ScriptFault::Write) => unreachable!(),
     }
 }
 

@@ -1,26 +1,51 @@
-ghost use Rattle.std.specs.Prelude.{◌≡◌};
+ghost use Rattle.std.specs.Prelude.{◌≡◌, Some};
+ghost use Rattle.camp_run.specs.Faults.{fault_words, status_of};
 ghost use Rattle.camp_run.specs.declared.faults.RunFault.TheVariants as fault;
 
-use camp_script::ScriptFault;
+use camp_script::LineFault;
 use std::alloc::AllocError;
-use thiserror::Error;
+use std::error::Error;
+use std::fmt;
 
 /// Why a script was not run, or its answers not written.
-#[derive(Clone, Copy, PartialEq, Eq, Debug, Error)]
+#[derive(Clone, Copy, PartialEq, Eq, Debug)]
 pub enum RunFault {
     /// The input is no script. Nothing was run.
-    #[error("{0}")]
-    Script(ScriptFault),
+    Script(LineFault),
     /// Nothing was written.
-    #[error("out of memory")]
     Memory,
     /// The reader failed. Nothing was run.
-    #[error("cannot read input")]
     Read,
-    /// The writer failed. A front of the output was written.
-    #[error("cannot write output")]
+    /// The writer failed. A front of the output was written, and not all of it.
     Write,
 }
+
+impl RunFault {
+    /// The exit status of a program that ends with it.
+    pub fn status(&self) -> u8
+        ensures { result ≡ status_of self.now }
+    {
+        match self {
+            RunFault::Script(_) => 1,
+            RunFault::Memory | RunFault::Read | RunFault::Write => 3,
+        }
+    }
+}
+
+impl fmt::Display for RunFault {
+    ghost output = { λ fault. Some (fault_words fault) };
+
+    fn fmt<W: fmt::Write>(&self, f: &mut fmt::Formatter<W>) -> fmt::Result {
+        match self {
+            RunFault::Script(fault) => write!(f, "{fault}"),
+            RunFault::Memory => f.write_str("out of memory"),
+            RunFault::Read => f.write_str("cannot read input"),
+            RunFault::Write => f.write_str("cannot write output"),
+        }
+    }
+}
+
+impl Error for RunFault {}
 
 impl From<AllocError> for RunFault {
     ghost from_gives = { λ _ error. error ≡ fault.Memory };

@@ -14,12 +14,11 @@ use Rattle.camp_prim.specs.declared.primitives.Primitive.TheVariants.{Add, Remov
 use Rattle.camp_repo.specs.declared.calls.Call.{Call}
 use Rattle.camp_repo.specs.declared.calls.Call.TheVariants as call
 use Rattle.camp_script.specs.Canonical.{ReadsBack, IsCall, IsChange, call_text, section_text}
-use Rattle.camp_script.specs.Commands.{◌>>=◌, command_of, name_at, path_at, number_at, is_line_number}
+use Rattle.camp_script.specs.Commands.{◌>>=◌, command_of, file_at, name_at, path_at, number_at, is_line_number}
 use Rattle.camp_script.specs.Lines.{lines_of, is_skipped}
 use Rattle.camp_repo.specs.Calls.{is_writing}
 use Rattle.camp_script.specs.Reading.{Progress, is_full, after_command, after_words, read_from}
 use Rattle.camp_script.specs.Texts.{line_text, signed_line}
-use Rattle.camp_script.specs.declared.TheConstants.{MAX_WRITES}
 use Rattle.camp_script.specs.declared.commands.Command.TheVariants.{Whole}
 use Rattle.camp_script.specs.declared.commands.EditHead.{EditHead}
 use Rattle.camp_script.proofs.CanonicalLines.{both, first_of, second_of, all_weaker, is_word, is_word_byte, is_one_line, AreWords, first_line, first_words, words_of-joined, positive}
@@ -61,17 +60,17 @@ path_is_word (x ∷ path) h =
     let bytes = first_of (list_all is_graphic (x ∷ path)) _ (second_of (nat_le (length (x ∷ path)) MAX_PATH_LENGTH) _ h) in
     both (nat_lt 0 (length (x ∷ path))) (list_all is_word_byte (x ∷ path)) (positive x path) (all_weaker is_graphic is_word_byte graphic_is_word_byte (x ∷ path) bytes)
 
-named : (name : List ℕ) → is_name name ≡ true → name_at name ≡ Ok name
-named name h = cond-true (is_name name) _ _ h
+named : (n : ℕ) (name : List ℕ) → is_name name ≡ true → name_at n name ≡ Ok name
+named n name h = cond-true (is_name name) _ _ h
 
-placed : (path : List ℕ) → is_path path ≡ true → path_at path ≡ Ok path
-placed path h = cond-true (is_path path) _ _ h
+placed : (n : ℕ) (path : List ℕ) → is_path path ≡ true → path_at n path ≡ Ok path
+placed n path h = cond-true (is_path path) _ _ h
 
-numbered : (n : ℕ) → 1 ≤ n → n ≤ 1_073_741_823 → number_at (decimal n) ≡ Ok n
-numbered n low high = cond-true (is_line_number (decimal n)) _ _ (decimal_is_line_number n low high) ∙ ap Ok (value_of-decimal n (omega arith))
+numbered : (at n : ℕ) → 1 ≤ n → n ≤ 1_073_741_823 → number_at at (decimal n) ≡ Ok n
+numbered at n low high = cond-true (is_line_number (decimal n)) _ _ (decimal_is_line_number n low high) ∙ ap Ok (value_of-decimal n (omega arith))
 
 -- a line of words outside an edit
-words_read : (n : ℕ) (done : List Call) (word : List ℕ) (words : List (List ℕ)) (rest : List ℕ) (next : Progress) → AreWords (word ∷ words) → is_skipped (word ∷ words) ≡ false → after_command n (after done) (command_of (word ∷ words)) ≡ Ok next → Reads n (after done) (line_text (word ∷ words) ++ rest) next rest
+words_read : (n : ℕ) (done : List Call) (word : List ℕ) (words : List (List ℕ)) (rest : List ℕ) (next : Progress) → AreWords (word ∷ words) → is_skipped (word ∷ words) ≡ false → (command_of n (word ∷ words) >>= after_command n (after done)) ≡ Ok next → Reads n (after done) (line_text (word ∷ words) ++ rest) next rest
 words_read n done word words rest next are says is = (
   n + 1,
   ap (read_from n (after done)) (first_words (word ∷ words) rest are)
@@ -82,29 +81,32 @@ words_read n done word words rest next are says is = (
 tree_read : (n : ℕ) (done : List Call) (branch rest : List ℕ) → is_name branch ≡ true → Reads n (after done) (line_text (codes "tree" ∷ branch ∷ []) ++ rest) (after (done ++ call.Tree branch ∷ [])) rest
 tree_read n done branch rest h =
     words_read n done (codes "tree") (branch ∷ []) rest _ (refl, (name_is_word branch h, tt)) refl
-    (ap (after_command n (after done)) (passes (name_at branch) branch (λ b. Ok (Whole (call.Tree b))) (named branch h)))
+    (ap (λ s. s >>= after_command n (after done)) (passes (name_at n branch) branch (λ b. Ok (Whole (call.Tree b))) (named n branch h)))
 
 -- a call that writes, where there is room for one
-whole_read : (n : ℕ) (done : List Call) (new : Call) → is_writing new ≡ true → is_full done ≡ false → after_command n (after done) (Ok (Whole new)) ≡ Ok (after (done ++ new ∷ []))
+whole_read : (n : ℕ) (done : List Call) (new : Call) → is_writing new ≡ true → is_full done ≡ false → after_command n (after done) (Whole new) ≡ Ok (after (done ++ new ∷ []))
 whole_read n done new writes room = cond-false (is_writing new && is_full done) _ _ (ap (λ b. b && is_full done) writes ∙ room)
 
 module _ (n : ℕ) (done : List Call) (branch name path rest : List ℕ) (b : is_name branch ≡ true) (m : is_name name ≡ true) (p : is_path path ≡ true) (room : is_full done ≡ false) where
+  file_read : file_at n branch name path ≡ Ok (branch, name, path)
+  file_read = passes (name_at n branch) branch _ (named n branch b) ∙ passes (name_at n name) name _ (named n name m) ∙ passes (path_at n path) path _ (placed n path p)
+
   add_read : Reads n (after done) (line_text (codes "record" ∷ branch ∷ name ∷ codes "add" ∷ path ∷ []) ++ rest) (after (done ++ call.Record branch name (Add path) ∷ [])) rest
   add_read =
       words_read n done (codes "record") (branch ∷ name ∷ codes "add" ∷ path ∷ []) rest _ (refl, (name_is_word branch b, (name_is_word name m, (refl, (path_is_word path p, tt))))) refl
-      (ap (after_command n (after done)) (passes (name_at branch) branch _ (named branch b) ∙ passes (name_at name) name _ (named name m) ∙ passes (path_at path) path _ (placed path p))
+      (ap (λ s. s >>= after_command n (after done)) (passes (file_at n branch name path) (branch, name, path) _ file_read)
       ∙ whole_read n done (call.Record branch name (Add path)) refl room)
 
   remove_read : Reads n (after done) (line_text (codes "record" ∷ branch ∷ name ∷ codes "remove" ∷ path ∷ []) ++ rest) (after (done ++ call.Record branch name (Remove path) ∷ [])) rest
   remove_read =
       words_read n done (codes "record") (branch ∷ name ∷ codes "remove" ∷ path ∷ []) rest _ (refl, (name_is_word branch b, (name_is_word name m, (refl, (path_is_word path p, tt))))) refl
-      (ap (after_command n (after done)) (passes (name_at branch) branch _ (named branch b) ∙ passes (name_at name) name _ (named name m) ∙ passes (path_at path) path _ (placed path p))
+      (ap (λ s. s >>= after_command n (after done)) (passes (file_at n branch name path) (branch, name, path) _ file_read)
       ∙ whole_read n done (call.Record branch name (Remove path)) refl room)
 
   head_read : (line : ℕ) → 1 ≤ line → line ≤ 1_073_741_823 → Reads n (after done) (line_text (codes "record" ∷ branch ∷ name ∷ codes "edit" ∷ path ∷ decimal line ∷ []) ++ rest) (within done (record { branch = branch; name = name; path = path; line = line }) n [] []) rest
   head_read line low high =
       words_read n done (codes "record") (branch ∷ name ∷ codes "edit" ∷ path ∷ decimal line ∷ []) rest _ (refl, (name_is_word branch b, (name_is_word name m, (refl, (path_is_word path p, (decimal_is_word line (omega arith), tt)))))) refl
-      (ap (after_command n (after done)) (passes (name_at branch) branch _ (named branch b) ∙ passes (name_at name) name _ (named name m) ∙ passes (path_at path) path _ (placed path p) ∙ passes (number_at (decimal line)) line _ (numbered line low high))
+      (ap (λ s. s >>= after_command n (after done)) (passes (file_at n branch name path) (branch, name, path) _ file_read ∙ passes (number_at n (decimal line)) line _ (numbered n line low high))
       ∙ cond-false (is_full done) _ _ room)
 
 abbrev AreLines : Lines → Type 0
@@ -173,15 +175,15 @@ call_read n done (call.Record branch name change) rest h room = change_read n do
 call_read n done (call.Tree branch) rest h room = tree_read n done branch rest h
 
 -- where more calls follow that write, and all are within the limit, there is room
-room_for : (done : List Call) (new : Call) (calls : List Call) → count_by is_writing (done ++ new ∷ calls) ≤ MAX_WRITES → is_writing new ≡ true → is_full done ≡ false
+room_for : (done : List Call) (new : Call) (calls : List Call) → count_by is_writing (done ++ new ∷ calls) ≤ 65_536 → is_writing new ≡ true → is_full done ≡ false
 room_for done new calls few writes =
     let split = sum_by-append (λ c. cond {A = ℕ} (is_writing c) 1 0) done (new ∷ calls) in
     let first = sum_by-cons (λ c. cond {A = ℕ} (is_writing c) 1 0) new calls in
     let one : cond {A = ℕ} (is_writing new) 1 0 ≡ 1 = cond-true (is_writing new) 1 0 writes in
-    let less : count_by is_writing done < MAX_WRITES = omega arith in
+    let less : count_by is_writing done < 65_536 = omega arith in
     grind (arith, nat_tests)
 
-section_read : (n : ℕ) (done calls : List Call) → AllByRecursion IsCall calls → count_by is_writing (done ++ calls) ≤ MAX_WRITES → read_from n (after done) (lines_of (section_text calls)) ≡ Ok ((done ++ calls) ∷ [])
+section_read : (n : ℕ) (done calls : List Call) → AllByRecursion IsCall calls → count_by is_writing (done ++ calls) ≤ 65_536 → read_from n (after done) (lines_of (section_text calls)) ≡ Ok ((done ++ calls) ∷ [])
 section_read n done [] h few = ap (λ d. Ok (d ∷ [])) (sym (append-nil done))
 section_read n done (new ∷ calls) h few =
     let (m, is) = call_read n done new (section_text calls) h.0 (room_for done new calls few) in

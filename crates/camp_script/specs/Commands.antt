@@ -5,10 +5,12 @@ use Rattle.camp_base.specs.Bytes.{is_between, is_name, is_path}
 use Rattle.camp_prim.specs.declared.primitives.Primitive.{Primitive}
 use Rattle.camp_prim.specs.declared.primitives.Primitive.TheVariants.{Add, Remove}
 use Rattle.camp_repo.specs.declared.calls.Call.TheVariants as call
+use Rattle.camp_script.specs.Faults.{fault_at}
 use Rattle.camp_script.specs.declared.commands.Command.{Command}
 use Rattle.camp_script.specs.declared.commands.Command.TheVariants.{Whole, Edit as edit}
 use Rattle.camp_script.specs.declared.faults.FaultKind.{FaultKind}
 use Rattle.camp_script.specs.declared.faults.FaultKind.TheVariants.{UnknownCommand, WrongNumberOfWords, BadName, BadPath, BadNumber}
+use Rattle.camp_script.specs.declared.faults.LineFault.{LineFault}
 
 -- what follows a good answer; the first fault stays
 infixl 10 ◌>>=◌
@@ -16,16 +18,16 @@ abbrev pub ◌>>=◌ : {A B E : Type 0} → Result A E → (A → Result B E) �
 (Ok x) >>= next = next x
 (Err fault) >>= next = Err fault
 
--- a word that passes a test, or the fault
-abbrev pub word_that : (List ℕ → Bool) → FaultKind → List ℕ → Result (List ℕ) FaultKind
-word_that test fault word = if test word then Ok word else Err fault
+-- a word of a line that passes a test, or the fault
+abbrev pub word_that : (List ℕ → Bool) → FaultKind → ℕ → List ℕ → Result (List ℕ) LineFault
+word_that test kind line word = if test word then Ok word else fault_at line kind
 
 -- a word that is a name
-abbrev pub name_at : List ℕ → Result (List ℕ) FaultKind
+abbrev pub name_at : ℕ → List ℕ → Result (List ℕ) LineFault
 name_at = word_that is_name BadName
 
 -- a word that is a path
-abbrev pub path_at : List ℕ → Result (List ℕ) FaultKind
+abbrev pub path_at : ℕ → List ℕ → Result (List ℕ) LineFault
 path_at = word_that is_path BadPath
 
 -- the number that decimal digits spell
@@ -37,43 +39,47 @@ abbrev pub is_line_number : List ℕ → Bool
 is_line_number word = is_between 1 10 (length word) && (list_all (is_between 48 57) word && is_between 1 1_073_741_823 (value_of word))
 
 -- a word that is the number of a line
-abbrev pub number_at : List ℕ → Result ℕ FaultKind
-number_at word = if is_line_number word then Ok (value_of word) else Err BadNumber
+abbrev pub number_at : ℕ → List ℕ → Result ℕ LineFault
+number_at line word = if is_line_number word then Ok (value_of word) else fault_at line BadNumber
+
+-- `BRANCH`, `NAME` and `PATH`
+abbrev pub file_at : ℕ → List ℕ → List ℕ → List ℕ → Result (List ℕ × List ℕ × List ℕ) LineFault
+file_at line branch name path =
+    name_at line branch >>= λ branch. name_at line name >>= λ name. path_at line path >>= λ path. Ok (branch, name, path)
 
 -- `record BRANCH NAME add PATH`, and the same with `remove`: the words from `PATH` on
-abbrev pub whole_record : (List ℕ → Primitive) → List ℕ → List ℕ → List (List ℕ) → Result Command FaultKind
-whole_record change branch name (path ∷ []) =
-    name_at branch >>= λ branch. name_at name >>= λ name. path_at path >>= λ path. Ok (Whole (call.Record branch name (change path)))
-whole_record change branch name others = Err WrongNumberOfWords
+abbrev pub whole_record : (List ℕ → Primitive) → ℕ → List ℕ → List ℕ → List (List ℕ) → Result Command LineFault
+whole_record change line branch name (path ∷ []) = file_at line branch name path >>= λ file. Ok (Whole (call.Record file.0 file.1 (change file.2)))
+whole_record change line branch name others = fault_at line WrongNumberOfWords
 
 -- `record BRANCH NAME edit PATH LINE`: the words from `PATH` on
-abbrev pub edit_record : List ℕ → List ℕ → List (List ℕ) → Result Command FaultKind
-edit_record branch name (path ∷ line ∷ []) =
-    name_at branch >>= λ branch. name_at name >>= λ name. path_at path >>= λ path. number_at line >>= λ line.
-    Ok (edit (record { branch = branch; name = name; path = path; line = line }))
-edit_record branch name others = Err WrongNumberOfWords
+abbrev pub edit_record : ℕ → List ℕ → List ℕ → List (List ℕ) → Result Command LineFault
+edit_record line branch name (path ∷ place ∷ []) =
+    file_at line branch name path >>= λ file. number_at line place >>= λ place.
+    Ok (edit (record { branch = file.0; name = file.1; path = file.2; line = place }))
+edit_record line branch name others = fault_at line WrongNumberOfWords
 
 -- the words behind `record`
-abbrev pub record_command : List (List ℕ) → Result Command FaultKind
-record_command (branch ∷ name ∷ change ∷ words) =
-    if bytes_eq change (codes "add") then whole_record Add branch name words
-    else (if bytes_eq change (codes "remove") then whole_record Remove branch name words
-    else (if bytes_eq change (codes "edit") then edit_record branch name words
-    else Err UnknownCommand))
-record_command others = Err WrongNumberOfWords
+abbrev pub record_command : ℕ → List (List ℕ) → Result Command LineFault
+record_command line (branch ∷ name ∷ change ∷ words) =
+    if bytes_eq change (codes "add") then whole_record Add line branch name words
+    else (if bytes_eq change (codes "remove") then whole_record Remove line branch name words
+    else (if bytes_eq change (codes "edit") then edit_record line branch name words
+    else fault_at line UnknownCommand))
+record_command line others = fault_at line WrongNumberOfWords
 
 -- the words behind `tree`
-abbrev pub tree_command : List (List ℕ) → Result Command FaultKind
-tree_command (branch ∷ []) = name_at branch >>= λ branch. Ok (Whole (call.Tree branch))
-tree_command others = Err WrongNumberOfWords
+abbrev pub tree_command : ℕ → List (List ℕ) → Result Command LineFault
+tree_command line (branch ∷ []) = name_at line branch >>= λ branch. Ok (Whole (call.Tree branch))
+tree_command line others = fault_at line WrongNumberOfWords
 
 -- what the words of a line ask for
-abbrev pub command_of : List (List ℕ) → Result Command FaultKind
-command_of [] = Err UnknownCommand
-command_of (word ∷ words) =
-    if bytes_eq word (codes "record") then record_command words
-    else (if bytes_eq word (codes "tree") then tree_command words
-    else Err UnknownCommand)
+abbrev pub command_of : ℕ → List (List ℕ) → Result Command LineFault
+command_of line [] = fault_at line UnknownCommand
+command_of line (word ∷ words) =
+    if bytes_eq word (codes "record") then record_command line words
+    else (if bytes_eq word (codes "tree") then tree_command line words
+    else fault_at line UnknownCommand)
 
 -- the head of an edit has a line, counted from 1
 abbrev pub IsPlaced : Command → Type 0

@@ -1,5 +1,6 @@
 pub mod Canonical
 pub mod Commands
+pub mod Faults
 pub mod Gives
 pub mod Lines
 pub mod Reading

@@ -4,7 +4,6 @@ use Rattle.std.specs.Option.{option_map}
 use Rattle.camp_repo.specs.Calls.{is_writing}
 use Rattle.camp_repo.specs.declared.calls.Call.{Call}
 use Rattle.camp_script.specs.Reading.{Open, Progress}
-use Rattle.camp_script.specs.declared.TheConstants.{MAX_WRITES}
 use Rattle.camp_script.specs.declared.readings.Body.{Body}
 use Rattle.camp_script.specs.declared.readings.Reading.TheInside.{Inside}
 
@@ -18,7 +17,7 @@ progress_of reading = record { calls = reading.calls.items; open_edit = option_m
 
 -- there is room for one more writing call
 abbrev pub HasRoom : List Call → Type 0
-HasRoom calls = count_by is_writing calls < MAX_WRITES
+HasRoom calls = count_by is_writing calls < 65_536
 
 -- an open edit has a line, counted from 1, and room for its call
 abbrev pub IsAwaited : List Call → Option Body → Type 0
@@ -28,5 +27,5 @@ IsAwaited calls (Some body) = (1 ≤ body.head.line) × HasRoom calls
 -- the number of writing calls is kept and within the limit
 pub record IsKept (reading : Inside) : Type 0 where
   pub writes : reading.writes ≡ count_by is_writing reading.calls.items
-  pub few : count_by is_writing reading.calls.items ≤ MAX_WRITES
+  pub few : count_by is_writing reading.calls.items ≤ 65_536
   pub awaited : IsAwaited reading.calls.items reading.body

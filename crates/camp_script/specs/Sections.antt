@@ -3,9 +3,8 @@ use Rattle.std.specs.Prelude.{◌≤◌, List, length, count_by}
 use Rattle.std.specs.List.{AllByRecursion}
 use Rattle.camp_repo.specs.Calls.{is_writing}
 use Rattle.camp_repo.specs.declared.calls.Call.{Call}
-use Rattle.camp_script.specs.declared.TheConstants.{MAX_SECTIONS, MAX_WRITES}
 
--- a script has so many sections at most, and each so many writing calls
+-- a script has 64 sections at most, the opening and 63 clients, and each has 65,536 writing calls at most
 pub record AreWithinLimits (sections : List (List Call)) : Type 0 where
-  pub sections_within : length sections ≤ MAX_SECTIONS
-  pub writes_within : AllByRecursion (λ section. count_by is_writing section ≤ MAX_WRITES) sections
+  pub sections_within : length sections ≤ 64
+  pub writes_within : AllByRecursion (λ section. count_by is_writing section ≤ 65_536) sections

@@ -1,8 +1,8 @@
 -- What appending and writing a text does to the bytes that are there.
-use Rattle.std.specs.Prelude.{◌≡◌, ℕ, List, ◌++◌, Option, Result, Ok, Err}
+use Rattle.std.specs.Prelude.{◌≡◌, ◌<◌, ℕ, List, ◌++◌, length, Option, Result, Ok, Err}
 use Rattle.std.specs.Io.KnownBytes.{Appends, Keeps}
-use Rattle.camp_script.specs.declared.texts.TextError.{TextError}
-use Rattle.camp_script.specs.declared.texts.TextError.TheVariants.{Memory, Write}
+use Rattle.camp_script.specs.declared.faults.ScriptFault.{ScriptFault}
+use Rattle.camp_script.specs.declared.faults.ScriptFault.TheVariants.{Line, Memory, Write}
 
 -- Ok: the bytes grow by these. Not Ok: what was there stays in front.
 abbrev pub Extends : {E : Type 0} → List ℕ → List ℕ → Result (Unit {0}) E → List ℕ → Type 0
@@ -14,12 +14,13 @@ abbrev pub ExtendsOrKeeps : {E : Type 0} → List ℕ → List ℕ → Result (U
 ExtendsOrKeeps old bytes (Ok done) new = new ≡ old ++ bytes
 ExtendsOrKeeps old bytes (Err error) new = new ≡ old
 
--- known bytes grow by a front of a text
+-- known bytes grow by a front of a text, and not by all of it
 abbrev pub AppendsFront : Option (List ℕ) → Option (List ℕ) → List ℕ → Type 0
-AppendsFront old new text = (done : List ℕ) × (rest : List ℕ) × (text ≡ done ++ rest) × Appends old new done
+AppendsFront old new text = (done : List ℕ) × (rest : List ℕ) × (text ≡ done ++ rest) × (0 < length rest) × Appends old new done
 
--- Ok: known bytes grow by the text. Out of memory: by nothing. After a fault of the writer: by a front of the text.
-abbrev pub Writes : Option (List ℕ) → List ℕ → Result (Unit {0}) TextError → Option (List ℕ) → Type 0
+-- Ok: known bytes grow by the text. Out of memory: by nothing. After a fault of the writer: by a front of the text. Nothing is read.
+abbrev pub Writes : Option (List ℕ) → List ℕ → Result (Unit {0}) ScriptFault → Option (List ℕ) → Type 0
 Writes old text (Ok done) new = Appends old new text
+Writes old text (Err (Line fault)) new = ⊥
 Writes old text (Err Memory) new = Keeps old new
 Writes old text (Err Write) new = AppendsFront old new text

@@ -1,16 +1,10 @@
-ghost use Rattle.std.specs.Prelude.{◌≡◌, ◌∷◌, ◌≤◌, ℕ, List, IfOk, length};
-ghost use Rattle.std.specs.Result.{result_map_both};
+ghost use Rattle.std.specs.Prelude.{◌≡◌, ◌≤◌, [], ◌∷◌, IfOk, length, map};
 ghost use Rattle.std.specs.List.{list_all};
 ghost use Rattle.camp_base.specs.Bytes.{is_between};
-ghost use Rattle.camp_prim.specs.declared.primitives.Primitive.{Primitive};
-ghost use Rattle.camp_repo.specs.declared.calls.Call.TheVariants as call;
-ghost use Rattle.camp_script.specs.declared.commands.Command.TheVariants.{Whole};
-ghost use Rattle.camp_script.specs.declared.commands.CommandError.TheVariants as error;
-ghost use Rattle.camp_script.specs.Commands.{name_at, path_at, number_at, value_of, whole_record, edit_record, record_command, tree_command, command_of, IsPlaced};
-ghost use Rattle.camp_script.specs.Gives.{Gives, kind_of};
+ghost use Rattle.camp_script.specs.Commands.{name_at, path_at, number_at, value_of, is_line_number, file_at, whole_record, edit_record, record_command, tree_command, command_of, IsPlaced};
+ghost use Rattle.camp_script.specs.Gives.{Gives};
 
-use crate::faults::FaultKind;
-use crate::lines::Words;
+use crate::faults::{FaultKind, ScriptFault, at_line};
 use camp_base::{BaseFault, Name, Path};
 use camp_prim::Primitive;
 use camp_repo::Call;
@@ -40,108 +34,101 @@ pub(crate) struct EditHead {
     pub line: u32,
 }
 
-/// Why words were not read as a command.
-#[derive(Clone, Copy)]
-pub(crate) enum CommandError {
-    Fault(FaultKind),
-    Memory,
-}
-
-impl From<FaultKind> for CommandError {
-    ghost from_gives = { λ kind made. made ≡ error.Fault kind };
-
-    fn from(kind: FaultKind) -> CommandError {
-        CommandError::Fault(kind)
-    }
-}
-
-/// What a line asks for, by its first word and those that follow.
+/// What the line of a number asks for by its words.
 pub(crate) fn command_of(
     alloc: Global,
-    word: &[u8],
-    words: Words<'_>,
-) -> Result<Command, CommandError>
-    ensures given { Gives kind_of result (command_of (word.now ∷ words.entry)) }
+    number: u64,
+    words: &[&[u8]],
+) -> Result<Command, ScriptFault>
+    ensures given { Gives result (command_of number (map (λ word. word.now) words.now)) }
     ensures placed { IfOk result IsPlaced }
 {
-    if word == b"record".as_slice() {
-        return record_command(alloc, words);
+    match words {
+        [word, words @ ..] if *word == b"record".as_slice() => record_command(alloc, number, words),
+        [word, words @ ..] if *word == b"tree".as_slice() => tree_command(number, words),
+        _ => Err(at_line(number, FaultKind::UnknownCommand)),
     }
-    if word == b"tree".as_slice() {
-        return tree_command(words);
-    }
-    Err(CommandError::Fault(FaultKind::UnknownCommand))
 }
 
-fn record_command(alloc: Global, mut words: Words<'_>) -> Result<Command, CommandError>
-    ensures given { Gives kind_of result (record_command words.entry) }
+fn record_command(alloc: Global, number: u64, words: &[&[u8]]) -> Result<Command, ScriptFault>
+    ensures given { Gives result (record_command number (map (λ word. word.now) words.now)) }
     ensures placed { IfOk result IsPlaced }
 {
-    let branch = words.next().ok_or(FaultKind::WrongNumberOfWords)?;
-    let name = words.next().ok_or(FaultKind::WrongNumberOfWords)?;
-    let change = words.next().ok_or(FaultKind::WrongNumberOfWords)?;
-    if change == b"add".as_slice() {
-        let (branch, name, path) = file_words(alloc, branch, name, words)?;
-        let change = Primitive::Add(path);
-        return Ok(Command::Whole(Call::Record {
-            branch,
-            name,
-            change,
-        }));
+    let [branch, name, change, rest @ ..] = words else {
+        return Err(at_line(number, FaultKind::WrongNumberOfWords));
+    };
+    if *change == b"add".as_slice() {
+        return match rest {
+            [path] => add_record(alloc, number, branch, name, path),
+            _ => Err(at_line(number, FaultKind::WrongNumberOfWords)),
+        };
     }
-    if change == b"remove".as_slice() {
-        let (branch, name, path) = file_words(alloc, branch, name, words)?;
-        let change = Primitive::Remove(path);
-        return Ok(Command::Whole(Call::Record {
-            branch,
-            name,
-            change,
-        }));
+    if *change == b"remove".as_slice() {
+        return match rest {
+            [path] => remove_record(alloc, number, branch, name, path),
+            _ => Err(at_line(number, FaultKind::WrongNumberOfWords)),
+        };
     }
-    if change == b"edit".as_slice() {
-        return edit_record(alloc, branch, name, words);
+    if *change == b"edit".as_slice() {
+        return match rest {
+            [path, line] => edit_record(alloc, number, branch, name, path, line),
+            _ => Err(at_line(number, FaultKind::WrongNumberOfWords)),
+        };
     }
-    Err(CommandError::Fault(FaultKind::UnknownCommand))
+    Err(at_line(number, FaultKind::UnknownCommand))
 }
 
-// The branch, the name and the path of a record of a whole file.
-fn file_words(
+fn add_record(
     alloc: Global,
+    number: u64,
     branch: &[u8],
     name: &[u8],
-    mut words: Words<'_>,
-) -> Result<(Name, Name, Path), CommandError>
-    ensures { (change : List ℕ → Primitive) →
-        Gives kind_of (result_map_both (λ file. Whole (call.Record file.0 file.1 (change file.2))) (λ error. error) result) (whole_record change branch.now name.now words.entry) }
+    path: &[u8],
+) -> Result<Command, ScriptFault>
+    ensures given { Gives result (whole_record Primitive.Add number branch.now name.now (path.now ∷ [])) }
+    ensures placed { IfOk result IsPlaced }
 {
-    let path = words.next().ok_or(FaultKind::WrongNumberOfWords)?;
-    if words.next().is_some() {
-        return Err(CommandError::Fault(FaultKind::WrongNumberOfWords));
-    }
-    let branch = name_at(branch)?;
-    let name = name_at(name)?;
-    let path = path_at(alloc, path)?;
-    Ok((branch, name, path))
+    let (branch, name, path) = file_at(alloc, number, branch, name, path)?;
+    let change = Primitive::Add(path);
+    Ok(Command::Whole(Call::Record {
+        branch,
+        name,
+        change,
+    }))
+}
+
+fn remove_record(
+    alloc: Global,
+    number: u64,
+    branch: &[u8],
+    name: &[u8],
+    path: &[u8],
+) -> Result<Command, ScriptFault>
+    ensures given { Gives result (whole_record Primitive.Remove number branch.now name.now (path.now ∷ [])) }
+    ensures placed { IfOk result IsPlaced }
+{
+    let (branch, name, path) = file_at(alloc, number, branch, name, path)?;
+    let change = Primitive::Remove(path);
+    Ok(Command::Whole(Call::Record {
+        branch,
+        name,
+        change,
+    }))
 }
 
 fn edit_record(
     alloc: Global,
+    number: u64,
     branch: &[u8],
     name: &[u8],
-    mut words: Words<'_>,
-) -> Result<Command, CommandError>
-    ensures given { Gives kind_of result (edit_record branch.now name.now words.entry) }
+    path: &[u8],
+    line: &[u8],
+) -> Result<Command, ScriptFault>
+    ensures given { Gives result (edit_record number branch.now name.now (path.now ∷ line.now ∷ [])) }
     ensures placed { IfOk result IsPlaced }
 {
-    let path = words.next().ok_or(FaultKind::WrongNumberOfWords)?;
-    let line = words.next().ok_or(FaultKind::WrongNumberOfWords)?;
-    if words.next().is_some() {
-        return Err(CommandError::Fault(FaultKind::WrongNumberOfWords));
-    }
-    let branch = name_at(branch)?;
-    let name = name_at(name)?;
-    let path = path_at(alloc, path)?;
-    let line = number_at(line)?;
+    let (branch, name, path) = file_at(alloc, number, branch, name, path)?;
+    let line = number_at(number, line)?;
     Ok(Command::Edit(EditHead {
         branch,
         name,
@@ -150,53 +137,71 @@ fn edit_record(
     }))
 }
 
-fn tree_command(mut words: Words<'_>) -> Result<Command, CommandError>
-    ensures given { Gives kind_of result (tree_command words.entry) }
+// The branch, the name and the path of a record.
+fn file_at(
+    alloc: Global,
+    number: u64,
+    branch: &[u8],
+    name: &[u8],
+    path: &[u8],
+) -> Result<(Name, Name, Path), ScriptFault>
+    ensures { Gives result (file_at number branch.now name.now path.now) }
+{
+    let branch = name_at(number, branch)?;
+    let name = name_at(number, name)?;
+    let path = path_at(alloc, number, path)?;
+    Ok((branch, name, path))
+}
+
+fn tree_command(number: u64, words: &[&[u8]]) -> Result<Command, ScriptFault>
+    ensures given { Gives result (tree_command number (map (λ word. word.now) words.now)) }
     ensures placed { IfOk result IsPlaced }
 {
-    let branch = words.next().ok_or(FaultKind::WrongNumberOfWords)?;
-    if words.next().is_some() {
-        return Err(CommandError::Fault(FaultKind::WrongNumberOfWords));
-    }
-    let branch = name_at(branch)?;
+    let [branch] = words else {
+        return Err(at_line(number, FaultKind::WrongNumberOfWords));
+    };
+    let branch = name_at(number, branch)?;
     Ok(Command::Whole(Call::Tree(branch)))
 }
 
-fn name_at(word: &[u8]) -> Result<Name, FaultKind>
-    ensures { result ≡ name_at word.now }
+fn name_at(number: u64, word: &[u8]) -> Result<Name, ScriptFault>
+    ensures { Gives result (name_at number word.now) }
 {
     match Name::new(word) {
         Ok(name) => Ok(name),
-        Err(_) => Err(FaultKind::BadName),
+        Err(_) => Err(at_line(number, FaultKind::BadName)),
     }
 }
 
-fn path_at(alloc: Global, word: &[u8]) -> Result<Path, CommandError>
-    ensures { Gives kind_of result (path_at word.now) }
+fn path_at(alloc: Global, number: u64, word: &[u8]) -> Result<Path, ScriptFault>
+    ensures { Gives result (path_at number word.now) }
 {
     match Path::new(alloc, word) {
         Ok(path) => Ok(path),
-        Err(BaseFault::Memory) => Err(CommandError::Memory),
-        Err(_) => Err(CommandError::Fault(FaultKind::BadPath)),
+        Err(BaseFault::Memory) => Err(ScriptFault::Memory),
+        Err(_) => Err(at_line(number, FaultKind::BadPath)),
     }
 }
 
-// The number of a line.
-fn number_at(word: &[u8]) -> Result<u32, FaultKind>
-    ensures value { result ≡ number_at word.now }
+// The number of a line of a file.
+fn number_at(number: u64, word: &[u8]) -> Result<u32, ScriptFault>
+    ensures value { Gives result (number_at number word.now) }
     ensures counted { IfOk result (λ line. 1 ≤ line) }
 {
-    if word.is_empty() || word.len() > MAX_DIGITS {
-        return Err(FaultKind::BadNumber);
+    if !is_line_number(word) {
+        return Err(at_line(number, FaultKind::BadNumber));
     }
-    if !has_digits(word) {
-        return Err(FaultKind::BadNumber);
+    Ok(value_of(word) as u32)
+}
+
+fn is_line_number(word: &[u8]) -> bool
+    ensures { result ≡ is_line_number word.now }
+{
+    if word.is_empty() || word.len() > MAX_DIGITS || !has_digits(word) {
+        return false;
     }
     let value = value_of(word);
-    if value == 0 || value > MAX_LINE {
-        return Err(FaultKind::BadNumber);
-    }
-    Ok(value as u32)
+    1 <= value && value <= MAX_LINE
 }
 
 fn has_digits(word: &[u8]) -> bool

@@ -1,61 +1,114 @@
-ghost use Rattle.std.specs.Prelude.{◌≡◌};
-ghost use Rattle.camp_script.specs.declared.faults.ScriptError.TheVariants.{Memory};
+//! What may be wrong with a script, and why one is not read or a text not written.
+ghost use Rattle.std.specs.Prelude.{◌≡◌, Some};
+ghost use Rattle.camp_script.specs.declared.faults.ScriptFault.TheVariants.{Memory};
+ghost use Rattle.camp_script.specs.Faults.{kind_words, line_words, fault_words};
 
 use std::alloc::{AllocError, AllocFailed};
-use thiserror::Error;
+use std::error::Error;
+use std::fmt;
 
 /// What is wrong with a line of a script.
-#[derive(Clone, Copy, PartialEq, Eq, Debug, Error)]
+#[derive(Clone, Copy, PartialEq, Eq, Debug)]
 pub enum FaultKind {
-    #[error("unknown command")]
     UnknownCommand,
-    #[error("wrong number of words")]
     WrongNumberOfWords,
-    #[error("bad name")]
     BadName,
-    #[error("bad path")]
     BadPath,
-    #[error("bad number")]
     BadNumber,
-    #[error("bad line")]
     BadLine,
-    #[error("bad edit")]
     BadEdit,
-    #[error("edit not ended")]
     EditNotEnded,
-    #[error("too many commands")]
     TooManyCommands,
 }
 
-/// The first fault of a script, and its line, counted from 1.
-#[derive(Clone, Copy, PartialEq, Eq, Debug, Error)]
-#[error("line {line}: {kind}")]
-pub struct ScriptFault {
+impl FaultKind {
+    /// The words that tell it.
+    pub fn words(&self) -> &'static str
+        ensures { result.now ≡ kind_words self.now }
+    {
+        match self {
+            FaultKind::UnknownCommand => "unknown command",
+            FaultKind::WrongNumberOfWords => "wrong number of words",
+            FaultKind::BadName => "bad name",
+            FaultKind::BadPath => "bad path",
+            FaultKind::BadNumber => "bad number",
+            FaultKind::BadLine => "bad line",
+            FaultKind::BadEdit => "bad edit",
+            FaultKind::EditNotEnded => "edit not ended",
+            FaultKind::TooManyCommands => "too many commands",
+        }
+    }
+}
+
+impl fmt::Display for FaultKind {
+    ghost output = { λ kind. Some (kind_words kind) };
+
+    fn fmt<W: fmt::Write>(&self, f: &mut fmt::Formatter<W>) -> fmt::Result {
+        f.write_str(self.words())
+    }
+}
+
+/// A fault of a script: the line that has it, counted from 1, and what is wrong there.
+#[derive(Clone, Copy, PartialEq, Eq, Debug)]
+pub struct LineFault {
     pub line: u64,
     pub kind: FaultKind,
 }
 
-/// Why bytes were not read as a script.
-#[derive(Clone, Copy, PartialEq, Eq, Debug, Error)]
-pub enum ScriptError {
-    #[error("{0}")]
-    Fault(ScriptFault),
-    #[error("out of memory")]
-    Memory,
-}
+impl fmt::Display for LineFault {
+    ghost output = { λ fault. Some (line_words fault) };
 
-impl From<AllocError> for ScriptError {
-    ghost from_gives = { λ _ error. error ≡ Memory };
-
-    fn from(_error: AllocError) -> ScriptError {
-        ScriptError::Memory
+    fn fmt<W: fmt::Write>(&self, f: &mut fmt::Formatter<W>) -> fmt::Result {
+        let LineFault { line, kind } = *self;
+        write!(f, "line {line}: {kind}")
     }
 }
 
-impl<T: Drop> From<AllocFailed<T>> for ScriptError {
-    ghost from_gives = { λ _ error. error ≡ Memory };
+impl Error for LineFault {}
 
-    fn from(_error: AllocFailed<T>) -> ScriptError {
-        ScriptError::Memory
+/// The fault of a kind at a line.
+pub(crate) fn at_line(line: u64, kind: FaultKind) -> ScriptFault
+    ensures { result ≡ ScriptFault.Line (record { line = line; kind = kind }) }
+{
+    ScriptFault::Line(LineFault { line, kind })
+}
+
+/// Why bytes were not read as a script, or a text was not written.
+#[derive(Clone, Copy, PartialEq, Eq, Debug)]
+pub enum ScriptFault {
+    /// The bytes are no script: their first fault.
+    Line(LineFault),
+    Memory,
+    /// The writer failed before the whole text was written.
+    Write,
+}
+
+impl fmt::Display for ScriptFault {
+    ghost output = { λ fault. Some (fault_words fault) };
+
+    fn fmt<W: fmt::Write>(&self, f: &mut fmt::Formatter<W>) -> fmt::Result {
+        match self {
+            ScriptFault::Line(fault) => write!(f, "{fault}"),
+            ScriptFault::Memory => f.write_str("out of memory"),
+            ScriptFault::Write => f.write_str("cannot write"),
+        }
+    }
+}
+
+impl Error for ScriptFault {}
+
+impl From<AllocError> for ScriptFault {
+    ghost from_gives = { λ _ fault. fault ≡ Memory };
+
+    fn from(_error: AllocError) -> ScriptFault {
+        ScriptFault::Memory
+    }
+}
+
+impl<T: Drop> From<AllocFailed<T>> for ScriptFault {
+    ghost from_gives = { λ _ fault. fault ≡ Memory };
+
+    fn from(_error: AllocFailed<T>) -> ScriptFault {
+        ScriptFault::Memory
     }
 }

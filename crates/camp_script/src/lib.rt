@@ -9,10 +9,10 @@ mod readings;
 mod scripts;
 mod texts;
 
-pub use canonical::canonical_text_reads_back;
-pub use faults::{FaultKind, ScriptError, ScriptFault};
+pub use canonical::{calls_can_be_written, canonical_text_reads_back};
+pub use faults::{FaultKind, LineFault, ScriptFault};
 pub use scripts::{Script, read_script};
-pub use texts::{TextError, append_reply, write_reply, write_text};
+pub use texts::{append_reply, write_reply, write_text};
 
 /// The most sections of a script: the opening, and one for each client.
 pub const MAX_SECTIONS: usize = 64;

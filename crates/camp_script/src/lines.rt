@@ -1,12 +1,19 @@
-ghost use Rattle.std.specs.Prelude.{◌≡◌, ◌≤◌, length, not};
+ghost use Rattle.std.specs.Prelude.{◌≡◌, ◌≤◌, length, map, not, take};
 ghost use Rattle.std.specs.List.{position_or_len};
-ghost use Rattle.camp_script.specs.Lines.{is_blank, without_end};
+ghost use Rattle.camp_script.specs.Lines.{is_blank, is_skipped, without_end, words_of};
 
+use arrayvec::ArrayVec;
 use std::marker::Model;
+
+/// One word more than the longest command has: so many show that there are too many.
+const SOME_WORDS: usize = 7;
+
+/// The first words of a line. Where there are as many as have room, there may be more.
+pub(crate) type FirstWords<'a> = ArrayVec<&'a [u8], SOME_WORDS>;
 
 /// The words of a line, from the first to the last: what stands between runs of spaces and tabs.
 #[derive(Drop)]
-pub(crate) struct Words<'a> {
+struct Words<'a> {
     rest: &'a [u8],
 }
 
@@ -22,7 +29,7 @@ impl<'a> Model for Words<'a> {
 impl<'a> Words<'a> {
     ghost use Rattle.camp_script.specs.Lines.{words_of};
 
-    pub(crate) fn new(line: &'a [u8]) -> Words<'a>
+    fn new(line: &'a [u8]) -> Words<'a>
         ensures { result ≡ words_of line.now }
     {
         Words { rest: line }
@@ -47,6 +54,30 @@ impl<'a> Iterator for Words<'a> {
             return None;
         }
         Some(word)
+    }
+}
+
+/// The first words of a line.
+pub(crate) fn first_words(line: &[u8]) -> FirstWords<'_>
+    ensures { map (λ word. word.now) result.items ≡ take 7 (words_of line.now) }
+{
+    let mut first = ArrayVec::new();
+    for word in Words::new(line) {
+        if first.is_full() {
+            break;
+        }
+        first.push(word);
+    }
+    first
+}
+
+/// Whether a line of these words says nothing.
+pub(crate) fn is_skipped(words: &[&[u8]]) -> bool
+    ensures { result ≡ is_skipped (map (λ word. word.now) words.now) }
+{
+    match words {
+        [] => true,
+        [word, ..] => word.first() == Some(&b'#'),
     }
 }
 

@@ -3,14 +3,15 @@ ghost use Rattle.camp_base.specs.Bytes.{is_line};
 ghost use Rattle.camp_script.specs.declared.faults.FaultKind.TheVariants as kind;
 ghost use Rattle.camp_repo.specs.Calls.{is_writing};
 ghost use Rattle.camp_script.specs.Commands.{IsPlaced};
-ghost use Rattle.camp_script.specs.Gives.{Gives, fault_of};
+ghost use Rattle.camp_script.specs.Faults.{fault_at};
+ghost use Rattle.camp_script.specs.Gives.{Gives};
 ghost use Rattle.camp_script.specs.Lines.{words_of};
-ghost use Rattle.camp_script.specs.Reading.{start, is_full, fault_at, with_call, after_command, after_words, with_open, after_end, after_body, after_edit_line, after_line, finished};
+ghost use Rattle.camp_script.specs.Reading.{start, is_full, with_call, after_command, after_words, with_open, after_end, after_body, after_edit_line, after_line, finished};
 
 use crate::MAX_WRITES;
-use crate::commands::{Command, CommandError, EditHead, command_of};
-use crate::faults::{FaultKind, ScriptError, ScriptFault};
-use crate::lines::Words;
+use crate::commands::{Command, EditHead, command_of};
+use crate::faults::{FaultKind, ScriptFault, at_line};
+use crate::lines::{first_words, is_skipped};
 use crate::scripts::Script;
 use camp_base::{BaseFault, Line};
 use camp_prim::Primitive;
@@ -62,8 +63,8 @@ impl Reading {
     }
 
     /// Reads the line of a number, counted from 1.
-    pub(crate) fn read_line(mut self, number: u64, line: &[u8]) -> Result<Reading, ScriptError>
-        ensures { Gives fault_of result (after_line number self.open_edit self line.now) }
+    pub(crate) fn read_line(mut self, number: u64, line: &[u8]) -> Result<Reading, ScriptFault>
+        ensures { Gives result (after_line number self.open_edit self line.now) }
     {
         match self.body.take() {
             None => self.read_words(number, line),
@@ -72,8 +73,8 @@ impl Reading {
     }
 
     /// Ends the reading behind the last line.
-    pub(crate) fn finish(self) -> Result<Script, ScriptError>
-        ensures { Gives fault_of result (finished self self.open_edit) }
+    pub(crate) fn finish(self) -> Result<Script, ScriptFault>
+        ensures { Gives result (finished self self.open_edit) }
     {
         let Reading {
             calls,
@@ -87,27 +88,25 @@ impl Reading {
     }
 
     // A line outside an edit.
-    fn read_words(self, number: u64, line: &[u8]) -> Result<Reading, ScriptError>
-        ensures { Gives fault_of result (after_words number self (words_of line.now)) }
+    fn read_words(self, number: u64, line: &[u8]) -> Result<Reading, ScriptFault>
+        ensures { Gives result (after_words number self (words_of line.now)) }
     {
-        let mut words = Words::new(line);
-        match words.next() {
-            None | Some([b'#', ..]) => Ok(self),
-            Some(word) => {
-                let alloc = *self.calls.allocator();
-                match command_of(alloc, word, words) {
-                    Ok(command) => self.follow(number, command),
-                    Err(CommandError::Fault(kind)) => Err(at_line(number, kind)),
-                    Err(CommandError::Memory) => Err(ScriptError::Memory),
-                }
-            }
+        let words = first_words(line);
+        let words = words.as_slice();
+        if is_skipped(words) {
+            return Ok(self);
+        }
+        let alloc = *self.calls.allocator();
+        match command_of(alloc, number, words) {
+            Ok(command) => self.follow(number, command),
+            Err(fault) => Err(fault),
         }
     }
 
     // A command at a line.
-    fn follow(self, number: u64, command: Command) -> Result<Reading, ScriptError>
+    fn follow(self, number: u64, command: Command) -> Result<Reading, ScriptFault>
         requires { IsPlaced command }
-        ensures { Gives fault_of result (after_command number self (Ok command)) }
+        ensures { Gives result (after_command number self command) }
     {
         match command {
             Command::Whole(call) => {
@@ -137,9 +136,9 @@ impl Reading {
         self.writes >= MAX_WRITES
     }
 
-    fn with_call(mut self, call: Call) -> Result<Reading, ScriptError>
+    fn with_call(mut self, call: Call) -> Result<Reading, ScriptFault>
         requires { is_writing call ≡ true → HasRoom self.calls }
-        ensures { Gives fault_of result (Ok (with_call self call)) }
+        ensures { Gives result (Ok (with_call self call)) }
     {
         let writing = call.is_writing();
         self.calls.push(call)?;
@@ -159,9 +158,9 @@ impl Reading {
     }
 
     // A line of the body of an edit.
-    fn read_edit_line(self, number: u64, line: &[u8], body: Body) -> Result<Reading, ScriptError>
+    fn read_edit_line(self, number: u64, line: &[u8], body: Body) -> Result<Reading, ScriptFault>
         requires { IsAwaited self.calls (Some body) }
-        ensures { Gives fault_of result (after_edit_line number self line.now (open_of body)) }
+        ensures { Gives result (after_edit_line number self line.now (open_of body)) }
     {
         if line == b"end".as_slice() {
             return self.end_edit(number, body);
@@ -170,9 +169,9 @@ impl Reading {
     }
 
     // The line `end`.
-    fn end_edit(self, number: u64, body: Body) -> Result<Reading, ScriptError>
+    fn end_edit(self, number: u64, body: Body) -> Result<Reading, ScriptFault>
         requires { IsAwaited self.calls (Some body) }
-        ensures { Gives fault_of result (after_end number self (open_of body)) }
+        ensures { Gives result (after_end number self (open_of body)) }
     {
         let Body {
             head,
@@ -205,9 +204,9 @@ impl Reading {
         number: u64,
         line: &[u8],
         mut body: Body,
-    ) -> Result<Reading, ScriptError>
+    ) -> Result<Reading, ScriptFault>
         requires { IsAwaited self.calls (Some body) }
-        ensures { Gives fault_of result (after_body number self (open_of body) line.now) }
+        ensures { Gives result (after_body number self (open_of body) line.now) }
     {
         let alloc = *self.calls.allocator();
         match line {
@@ -227,18 +226,12 @@ impl Reading {
 }
 
 // The bytes behind the sign of a line of a side.
-fn line_at(alloc: Global, number: u64, bytes: &[u8]) -> Result<Line, ScriptError>
-    ensures { Gives fault_of result (if is_line bytes.now then Ok bytes.now else fault_at number kind.BadLine) }
+fn line_at(alloc: Global, number: u64, bytes: &[u8]) -> Result<Line, ScriptFault>
+    ensures { Gives result (if is_line bytes.now then Ok bytes.now else fault_at number kind.BadLine) }
 {
     match Line::new(alloc, bytes) {
         Ok(line) => Ok(line),
-        Err(BaseFault::Memory) => Err(ScriptError::Memory),
+        Err(BaseFault::Memory) => Err(ScriptFault::Memory),
         Err(_) => Err(at_line(number, FaultKind::BadLine)),
     }
-}
-
-fn at_line(line: u64, kind: FaultKind) -> ScriptError
-    ensures { result ≡ ScriptError.Fault (record { line = line; kind = kind }) }
-{
-    ScriptError::Fault(ScriptFault { line, kind })
 }

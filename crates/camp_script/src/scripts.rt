@@ -1,11 +1,10 @@
 ghost use Rattle.std.specs.Prelude.{◌≡◌, ◌≤◌, ◌∷◌, [], map, count_by};
 ghost use Rattle.camp_repo.specs.Calls.{is_writing};
-ghost use Rattle.camp_script.specs.Gives.{Gives, fault_of};
+ghost use Rattle.camp_script.specs.Gives.{Gives};
 ghost use Rattle.camp_script.specs.Reading.{script_of};
 ghost use Rattle.camp_script.specs.Sections.{AreWithinLimits};
-ghost use Rattle.camp_script.specs.declared.TheConstants.{MAX_WRITES};
 
-use crate::faults::ScriptError;
+use crate::faults::ScriptFault;
 use crate::lines::without_end;
 use crate::readings::Reading;
 use bstr::ByteSlice;
@@ -49,9 +48,9 @@ impl Script {
         sections
     }
 
-    pub(crate) fn of_calls(calls: Vec<Call>) -> Result<Script, ScriptError>
-        requires { count_by is_writing calls.items ≤ MAX_WRITES }
-        ensures { Gives fault_of result (Ok (calls.items ∷ [])) }
+    pub(crate) fn of_calls(calls: Vec<Call>) -> Result<Script, ScriptFault>
+        requires { count_by is_writing calls.items ≤ 65_536 }
+        ensures { Gives result (Ok (calls.items ∷ [])) }
     {
         let mut sections = Vec::new(*calls.allocator());
         sections.push(calls)?;
@@ -61,8 +60,8 @@ impl Script {
 
 /// The script that bytes are, or the first fault of its lines. Only a want of memory may come in
 /// the place of either.
-pub fn read_script(alloc: Global, bytes: &[u8]) -> Result<Script, ScriptError>
-    ensures { Gives fault_of result (script_of bytes.now) }
+pub fn read_script(alloc: Global, bytes: &[u8]) -> Result<Script, ScriptFault>
+    ensures { Gives result (script_of bytes.now) }
 {
     let mut reading = Reading::new(alloc);
     let mut number = 0;

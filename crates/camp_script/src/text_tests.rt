@@ -1,114 +1,42 @@
-use crate::{TextError, append_reply, write_reply, write_text};
-use camp_base::{Line, Name, Path, Tree};
-use camp_repo::{Refusal, Reply};
+use crate::{append_reply, write_reply, write_text};
+use camp_repo::Reply;
 use std::alloc::Global;
 use std::io;
 use std::io::{ErrorKind, Write};
 use std::test::Fail;
-
-fn tree_with(
-    alloc: Global,
-    paths: &[&[u8]],
-    edited: &[u8],
-    lines: &[&[u8]],
-) -> Result<Reply, Fail> {
-    let mut tree = Tree::empty(alloc);
-    for path in paths {
-        tree.add_file(&Path::new(alloc, path)?)?;
-    }
-    let mut new = Vec::new(alloc);
-    for line in lines {
-        new.push(Line::new(alloc, line)?)?;
-    }
-    tree.splice(&Path::new(alloc, edited)?, 1, &[], &new)?;
-    Ok(Reply::Tree(tree))
-}
-
-#[test]
-fn replies_have_their_texts(rt: HostRuntime) -> Result<(), Fail> {
-    let alloc = rt.alloc();
-    let paths = [b"b".as_slice(), b"a/b".as_slice(), b"a".as_slice()];
-    let lines = [b"".as_slice(), b"x y".as_slice(), b"=".as_slice()];
-    for (reply, expected) in [
-        (Reply::Done(0), b"ok 0\n".as_slice()),
-        (Reply::Done(1), b"ok 1\n".as_slice()),
-        (
-            Reply::Done(u64::MAX),
-            b"ok 18446744073709551615\n".as_slice(),
-        ),
-        (
-            Reply::Refused(Refusal::NoBranch(Name::new(b"x")?)),
-            b"refused 4 x\n".as_slice(),
-        ),
-        (
-            Reply::Refused(Refusal::PatchExists(Name::new(b"a")?)),
-            b"refused 6 a\n".as_slice(),
-        ),
-        (Reply::Refused(Refusal::TooLarge), b"refused 9\n".as_slice()),
-        (
-            Reply::Refused(Refusal::DoesNotApply),
-            b"refused 10\n".as_slice(),
-        ),
-        (Reply::Tree(Tree::empty(alloc)), b"tree 0\n".as_slice()),
-        (
-            tree_with(alloc, &[b"f"], b"f", &[b"one"])?,
-            b"tree 1\nfile f 1\n=one\n".as_slice(),
-        ),
-        (
-            tree_with(alloc, &paths, b"b", &lines)?,
-            b"tree 3\nfile a 0\nfile a/b 0\nfile b 3\n=\n=x y\n==\n".as_slice(),
-        ),
-    ] {
-        let mut text = Vec::new(alloc);
-        append_reply(&mut text, &reply)?;
-        assert_eq!(rt; text.as_slice(), expected);
-        let mut written = Vec::new(alloc);
-        write_reply(alloc, &reply, &mut written)?;
-        assert_eq!(rt; written.as_slice(), expected);
-    }
-    Ok(())
-}
 
 #[test]
 fn a_reply_stands_behind_what_was_there(rt: HostRuntime) -> Result<(), Fail> {
     let mut text = Vec::from_slice(rt.alloc(), b"ok 1\n")?;
     append_reply(&mut text, &Reply::Done(2))?;
     write_text(&mut text, b"ok 3\n")?;
-    assert_eq!(rt; text.as_slice(), b"ok 1\nok 2\nok 3\n".as_slice());
+    write_reply(rt.alloc(), &Reply::Done(u64::MAX), &mut text)?;
+    assert!(rt; text.as_slice() == b"ok 1\nok 2\nok 3\nok 18446744073709551615\n".as_slice());
     Ok(())
 }
 
-// What a writer does at one of its calls that it does not do at the others.
-#[derive(Clone, Copy)]
-enum Trouble {
-    None,
-    Fails,
-    TakesNothing,
-    IsInterrupted,
-}
-
-// A writer that takes a few bytes a call, and has its trouble at one of the calls.
+// A writer that takes a few bytes a call, each call only after so many that are interrupted, and fails
+// after so many calls.
 #[derive(Drop)]
 struct Fake {
     taken: Vec<u8>,
     room: usize,
+    interruptions: usize,
+    waits: usize,
     calls: usize,
-    trouble: Trouble,
-    at: usize,
 }
 
 impl Write for Fake {
     fn write(&mut self, bytes: &[u8]) -> io::Result<usize> {
-        let call = self.calls;
-        self.calls = call.saturating_add(1);
-        if call == self.at {
-            match self.trouble {
-                Trouble::None => {}
-                Trouble::Fails => return Err(ErrorKind::BrokenPipe.into()),
-                Trouble::TakesNothing => return Ok(0),
-                Trouble::IsInterrupted => return Err(ErrorKind::Interrupted.into()),
-            }
+        if self.waits > 0 {
+            self.waits -= 1;
+            return Err(ErrorKind::Interrupted.into());
         }
+        if self.calls == 0 {
+            return Err(ErrorKind::BrokenPipe.into());
+        }
+        self.waits = self.interruptions;
+        self.calls -= 1;
         let count = bytes.len().min(self.room);
         self.taken.extend_from_slice(&bytes[..count])?;
         Ok(count)
@@ -120,46 +48,45 @@ impl Write for Fake {
 }
 
 impl Fake {
-    fn new(alloc: Global, room: usize, trouble: Trouble, at: usize) -> Fake {
+    fn new(alloc: Global, room: usize, interruptions: usize, calls: usize) -> Fake {
         Fake {
             taken: Vec::new(alloc),
             room,
-            calls: 0,
-            trouble,
-            at,
+            interruptions,
+            waits: interruptions,
+            calls,
         }
     }
 }
 
 #[test]
-fn a_text_is_written_whole_or_its_front_is(rt: HostRuntime) -> Result<(), Fail> {
-    let alloc = rt.alloc();
+fn a_text_is_written_whole_or_its_front_is(rt: HostRuntime) {
     let text = b"ok 12\n".as_slice();
-    for (room, trouble, at, taken) in [
-        (9, Trouble::None, 0, text),
-        (1, Trouble::None, 0, text),
-        (4, Trouble::None, 0, text),
-        (2, Trouble::IsInterrupted, 0, text),
-        (2, Trouble::IsInterrupted, 2, text),
-        (2, Trouble::Fails, 0, b"".as_slice()),
-        (1, Trouble::Fails, 5, b"ok 12".as_slice()),
-        (2, Trouble::Fails, 2, b"ok 1".as_slice()),
-        (2, Trouble::Fails, 3, text),
-        (2, Trouble::TakesNothing, 1, b"ok".as_slice()),
+    for (room, interruptions, calls, taken) in [
+        (9, 0, 1, text),
+        (1, 0, 6, text),
+        (4, 0, 2, text),
+        (2, 5_000, 3, text),
+        (2, 0, 0, b"".as_slice()),
+        (1, 0, 5, b"ok 12"),
+        (2, 2, 2, b"ok 1"),
+        (0, 0, 1, b""),
     ] {
-        let mut writer = Fake::new(alloc, room, trouble, at);
+        let mut writer = Fake::new(rt.alloc(), room, interruptions, calls);
         let is_written = write_text(&mut writer, text).is_ok();
-        assert_eq!(rt; writer.taken.as_slice(), taken);
-        assert_eq!(rt; is_written, taken == text);
-
-        let mut writer = Fake::new(alloc, room, trouble, at);
-        let written = write_reply(alloc, &Reply::Done(12), &mut writer);
-        assert_eq!(rt; writer.taken.as_slice(), taken);
-        if taken == text {
-            assert_eq!(rt; written, Ok(()));
-        } else {
-            assert_eq!(rt; written, Err(TextError::Write));
-        }
+        assert!(rt; writer.taken.as_slice() == taken);
+        assert!(rt; is_written == (taken == text));
     }
+}
+
+#[test]
+fn a_long_text_is_written_byte_by_byte(rt: HostRuntime) -> Result<(), Fail> {
+    let mut text = Vec::new(rt.alloc());
+    for _ in 0..100_000u32 {
+        text.push(b'x')?;
+    }
+    let mut writer = Fake::new(rt.alloc(), 1, 1, 100_000);
+    assert!(rt; write_text(&mut writer, &text).is_ok());
+    assert!(rt; writer.taken.as_slice() == text.as_slice());
     Ok(())
 }

@@ -4,39 +4,35 @@ ghost use Rattle.std.specs.Io.KnownBytes.{Appends};
 ghost use Rattle.camp_script.specs.Texts.{line_text, refusal_words, file_text, tree_text, reply_text};
 ghost use Rattle.camp_script.specs.Writing.{Extends, ExtendsOrKeeps, AppendsFront, Writes};
 
+use crate::ScriptFault;
 use camp_base::{Line, Path, Tree};
 use camp_repo::{Refusal, Reply};
 use itoa::Buffer;
 use std::alloc::{AllocError, Global};
 use std::io;
 use std::io::{ErrorKind, Write};
-use thiserror::Error;
-
-/// Why a text was not written whole.
-#[derive(Clone, Copy, PartialEq, Eq, Debug, Error)]
-pub enum TextError {
-    #[error("out of memory")]
-    Memory,
-    #[error("cannot write")]
-    Write,
-}
 
 /// Writes the text of a reply. Where memory runs out nothing is written; where the writer fails, a
 /// front of the text is.
-pub fn write_reply<W: Write>(alloc: Global, reply: &Reply, writer: &mut W) -> Result<(), TextError>
+pub fn write_reply<W: Write>(
+    alloc: Global,
+    reply: &Reply,
+    writer: &mut W,
+) -> Result<(), ScriptFault>
     ensures { Writes (W.contents writer.old) (reply_text reply.now) result (W.contents writer.new) }
 {
     let mut text = Vec::new(alloc);
     if append_reply(&mut text, reply).is_err() {
-        return Err(TextError::Memory);
+        return Err(ScriptFault::Memory);
     }
     match write_text(writer, &text) {
         Ok(()) => Ok(()),
-        Err(_) => Err(TextError::Write),
+        Err(_) => Err(ScriptFault::Write),
     }
 }
 
-/// Writes all bytes of a text. Where the writer fails, a front of the text is written.
+/// Writes all bytes of a text. Where the writer fails, a front of the text is
+/// written, and not all of it. A writer that is interrupted is asked again.
 pub fn write_text<W: Write>(writer: &mut W, text: &[u8]) -> io::Result<()>
     ensures { MatchResult result
         (λ _. Appends (W.contents writer.old) (W.contents writer.new) text.now)
@@ -45,7 +41,7 @@ pub fn write_text<W: Write>(writer: &mut W, text: &[u8]) -> io::Result<()>
     let mut rest = text;
     for _ in 0..u64::MAX {
         if rest.is_empty() {
-            return Ok(());
+            break;
         }
         match writer.write(rest) {
             Ok(0) => return Err(ErrorKind::WriteZero.into()),
@@ -53,6 +49,9 @@ pub fn write_text<W: Write>(writer: &mut W, text: &[u8]) -> io::Result<()>
             Err(error) if error.kind() == ErrorKind::Interrupted => {}
             Err(error) => return Err(error),
         }
+    }
+    if rest.is_empty() {
+        return Ok(());
     }
     Err(ErrorKind::TimedOut.into())
 }

@@ -1,4 +1,4 @@
-//! Readers and writers that give or take a few bytes a call, or fail.
+//! Readers and writers that give or take a few bytes a call, are interrupted, and fail.
 
 use camp_run::{RunFault, run_book};
 use std::alloc::Global;
@@ -11,102 +11,76 @@ const SCRIPT: &[u8] = b"record main a add f\nrecord main b edit f 1\n+one\nend\n
 
 const ANSWERS: &[u8] = b"ok 1\nok 2\ntree 1\nfile f 1\n=one\n";
 
-/// What a reader or a writer does at one of its calls, and not at the others.
+/// How a reader or a writer answers: up to `size` bytes a call, each call only after so many that are
+/// interrupted, and none after `served` of them.
 #[derive(Clone, Copy)]
-enum Trouble {
-    None,
-    Fails,
-    IsInterrupted,
-    TakesNothing,
+struct Service {
+    size: usize,
+    interruptions: usize,
+    served: usize,
+    last: Option<ErrorKind>,
 }
 
-/// The trouble of one call, and how many calls there were.
+/// A service at work: how many calls it served, and how often the next one is still interrupted.
 #[derive(Clone, Copy)]
 struct Calls {
+    service: Service,
     count: usize,
-    trouble: Trouble,
-    at: usize,
+    interruptions: usize,
 }
 
 impl Calls {
-    fn new(trouble: Trouble, at: usize) -> Calls {
+    fn new(service: Service) -> Calls {
         Calls {
+            service,
             count: 0,
-            trouble,
-            at,
+            interruptions: service.interruptions,
         }
     }
 
-    fn next(&mut self) -> Trouble {
-        let call = self.count;
-        self.count = call.saturating_add(1);
-        if call == self.at {
-            self.trouble
-        } else {
-            Trouble::None
+    /// How many of so many bytes the next call moves.
+    fn next(&mut self, bytes: usize) -> io::Result<usize> {
+        if self.interruptions > 0 {
+            self.interruptions -= 1;
+            return Err(ErrorKind::Interrupted.into());
         }
+        self.interruptions = self.service.interruptions;
+        if self.count >= self.service.served {
+            return match self.service.last {
+                Some(kind) => Err(kind.into()),
+                None => Ok(0),
+            };
+        }
+        self.count += 1;
+        Ok(self.service.size.min(bytes))
     }
 }
 
-/// A reader that gives up to so many bytes a call.
 #[derive(Drop)]
-struct Reader<'a> {
-    bytes: &'a [u8],
-    size: usize,
+struct Reader {
+    bytes: &'static [u8],
     calls: Calls,
 }
 
-impl<'a> Reader<'a> {
-    fn new(size: usize, trouble: Trouble, at: usize) -> Reader<'static> {
-        Reader {
-            bytes: SCRIPT,
-            size,
-            calls: Calls::new(trouble, at),
-        }
-    }
-}
-
-impl<'a> Read for Reader<'a> {
+impl Read for Reader {
     fn read(&mut self, buffer: &mut [u8]) -> io::Result<usize> {
-        match self.calls.next() {
-            Trouble::None | Trouble::TakesNothing => {}
-            Trouble::Fails => return Err(ErrorKind::BrokenPipe.into()),
-            Trouble::IsInterrupted => return Err(ErrorKind::Interrupted.into()),
-        }
-        let count = self.size.min(buffer.len()).min(self.bytes.len());
+        let count = self.calls.next(buffer.len().min(self.bytes.len()))?;
+        let count = count.min(buffer.len()).min(self.bytes.len());
         buffer[..count].copy_from_slice(&self.bytes[..count]);
         self.bytes = &self.bytes[count..];
         Ok(count)
     }
 }
 
-/// A writer that takes up to so many bytes a call.
 #[derive(Drop)]
 struct Writer {
     taken: Vec<u8>,
-    size: usize,
     calls: Calls,
-}
-
-impl Writer {
-    fn new(alloc: Global, size: usize, trouble: Trouble, at: usize) -> Writer {
-        Writer {
-            taken: Vec::new(alloc),
-            size,
-            calls: Calls::new(trouble, at),
-        }
-    }
 }
 
 impl Write for Writer {
     fn write(&mut self, bytes: &[u8]) -> io::Result<usize> {
-        match self.calls.next() {
-            Trouble::None => {}
-            Trouble::Fails => return Err(ErrorKind::BrokenPipe.into()),
-            Trouble::IsInterrupted => return Err(ErrorKind::Interrupted.into()),
-            Trouble::TakesNothing => return Ok(0),
-        }
-        let count = self.size.min(bytes.len());
+        let count = self.calls.next(bytes.len())?.min(bytes.len());
         self.taken.extend_from_slice(&bytes[..count])?;
         Ok(count)
     }
@@ -116,103 +90,121 @@ impl Write for Writer {
     }
 }
 
-/// Checks what comes of a reader, and what is written; answers how many reads there were.
+/// Checks what comes of a reader, and what is written; answers how many reads it served.
 fn assert_read(
     rt: &impl Abort,
     alloc: Global,
-    mut reader: Reader<'static>,
+    service: Service,
     expected: Result<(), RunFault>,
     answers: &[u8],
 ) -> usize {
-    let at = reader.calls.at;
-    let size = reader.size;
+    let mut reader = Reader {
+        bytes: SCRIPT,
+        calls: Calls::new(service),
+    };
     let mut written = Vec::new(alloc);
     let result = run_book(alloc, &mut reader, &mut written);
-    assert_eq!(rt; result, expected, "read {at} of {size} bytes");
-    assert_eq!(rt; written.as_slice(), answers, "read {at} of {size} bytes");
+    assert_eq!(rt; result, expected);
+    assert_eq!(rt; written.as_slice(), answers);
     reader.calls.count
 }
 
-/// Checks what comes of a writer, and what it takes; answers how many writes there were.
+/// Checks what comes of a writer, and what it takes; answers how many writes it served.
 fn assert_written(
     rt: &impl Abort,
     alloc: Global,
-    mut writer: Writer,
+    service: Service,
     expected: Result<(), RunFault>,
     taken: &[u8],
 ) -> usize {
-    let at = writer.calls.at;
-    let size = writer.size;
     let mut reader = SCRIPT;
+    let mut writer = Writer {
+        taken: Vec::new(alloc),
+        calls: Calls::new(service),
+    };
     let result = run_book(alloc, &mut reader, &mut writer);
-    assert_eq!(rt; result, expected, "write {at} of {size} bytes");
-    assert_eq!(rt;
-        writer.taken.as_slice(),
-        taken,
-        "write {at} of {size} bytes"
-    );
+    assert_eq!(rt; result, expected);
+    assert_eq!(rt; writer.taken.as_slice(), taken);
     writer.calls.count
+}
+
+/// A service that is never interrupted and does not fail.
+fn ample(size: usize) -> Service {
+    Service {
+        size,
+        interruptions: 0,
+        served: usize::MAX,
+        last: None,
+    }
 }
 
 #[test]
 fn nothing_is_written_where_a_read_fails(rt: HostRuntime) {
     let alloc = rt.alloc();
-    for (size, least) in [(1, 63), (7, 10), (20, 5), (62, 2), (100, 2)] {
-        let ample = Reader::new(size, Trouble::None, 0);
-        let reads = assert_read(&rt, alloc, ample, Ok(()), ANSWERS);
-        assert!(rt; reads >= least, "{reads} reads of {size} bytes");
-        for at in 0..reads {
-            let failing = Reader::new(size, Trouble::Fails, at);
-            assert_read(&rt, alloc, failing, Err(RunFault::Read), b"");
+    for (size, interruptions) in [(1, 0), (7, 0), (62, 0), (1, 1), (20, 3), (100, 2_000)] {
+        let service = Service {
+            interruptions,
+            ..ample(size)
+        };
+        let reads = assert_read(&rt, alloc, service, Ok(()), ANSWERS);
+        assert!(rt; reads.saturating_mul(size) >= SCRIPT.len());
+        for served in 0..reads {
+            for kind in [ErrorKind::BrokenPipe, ErrorKind::TimedOut] {
+                let failing = Service {
+                    served,
+                    last: Some(kind),
+                    ..service
+                };
+                assert_read(&rt, alloc, failing, Err(RunFault::Read), b"");
+            }
         }
-        let failing_behind_the_end = Reader::new(size, Trouble::Fails, reads);
+        let failing_behind_the_end = Service {
+            served: reads,
+            last: Some(ErrorKind::BrokenPipe),
+            ..service
+        };
         assert_read(&rt, alloc, failing_behind_the_end, Ok(()), ANSWERS);
-    }
-}
-
-#[test]
-fn an_interrupted_read_is_tried_again(rt: HostRuntime) {
-    let alloc = rt.alloc();
-    for (size, reads) in [(1, 63), (20, 5), (62, 2)] {
-        for at in 0..reads {
-            let interrupted = Reader::new(size, Trouble::IsInterrupted, at);
-            assert_read(&rt, alloc, interrupted, Ok(()), ANSWERS);
-        }
     }
 }
 
 #[test]
 fn a_front_is_written_where_a_write_fails(rt: HostRuntime) -> Result<(), Fail> {
     let alloc = rt.alloc();
-    for (size, writes) in [(1, 31), (4, 8), (30, 2), (31, 1), (40, 1)] {
-        let ample = Writer::new(alloc, size, Trouble::None, 0);
-        assert_eq!(rt; assert_written(&rt, alloc, ample, Ok(()), ANSWERS), writes);
-        for at in 0..writes {
+    for (size, interruptions, writes) in [
+        (1, 0, 31),
+        (4, 0, 8),
+        (30, 0, 2),
+        (31, 0, 1),
+        (40, 0, 1),
+        (1, 1, 31),
+        (4, 3, 8),
+        (40, 2_000, 1),
+    ] {
+        let service = Service {
+            interruptions,
+            ..ample(size)
+        };
+        assert_eq!(rt;
+            assert_written(&rt, alloc, service, Ok(()), ANSWERS),
+            writes
+        );
+        for served in 0..writes {
             let front = ANSWERS
-                .get(..at.saturating_mul(size))
+                .get(..served.saturating_mul(size))
                 .ok_or("the answers are shorter")?;
-            for trouble in [Trouble::Fails, Trouble::TakesNothing] {
-                let failing = Writer::new(alloc, size, trouble, at);
+            for last in [
+                None,
+                Some(ErrorKind::BrokenPipe),
+                Some(ErrorKind::OutOfMemory),
+            ] {
+                let failing = Service {
+                    served,
+                    last,
+                    ..service
+                };
                 assert_written(&rt, alloc, failing, Err(RunFault::Write), front);
             }
         }
     }
     Ok(())
-}
-
-#[test]
-fn an_interrupted_write_is_tried_again(rt: HostRuntime) {
-    let alloc = rt.alloc();
-    for (size, writes) in [(1, 31), (4, 8), (40, 1)] {
-        for at in 0..writes {
-            let interrupted = Writer::new(alloc, size, Trouble::IsInterrupted, at);
-            assert_written(&rt, alloc, interrupted, Ok(()), ANSWERS);
-        }
-    }
-}
-
-#[test]
-fn a_writer_that_takes_nothing_fails(rt: HostRuntime) {
-    let writer = Writer::new(rt.alloc(), 0, Trouble::None, 0);
-    assert_written(&rt, rt.alloc(), writer, Err(RunFault::Write), b"");
 }

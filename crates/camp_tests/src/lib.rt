@@ -1,15 +1,5 @@
-//! Tests of whole runs: from the bytes of a script to those of its answers.
+//! Tests of whole runs, from a reader to a writer that may fail.
 #![tactic(auto)]
 
 #[cfg(test)]
-mod answers;
-#[cfg(test)]
 mod ends;
-#[cfg(test)]
-mod faults;
-#[cfg(test)]
-mod fronts;
-#[cfg(test)]
-mod limits;
-#[cfg(test)]
-mod runs;

@@ -1,6 +1,6 @@
 use crate::stops::{Stop, expect, value_of};
 use camp_run::{RunFault, run_book};
-use camp_script::{FaultKind, ScriptFault};
+use camp_script::{FaultKind, LineFault};
 use std::alloc::Global;
 
 const SCRIPT: &[u8] = b"record main a add f\nrecord main b edit f 1\n+one\nend\ntree main\n";
@@ -25,7 +25,7 @@ fn run(alloc: Global) -> Result<(), Stop> {
 }
 
 fn run_in_vain(alloc: Global) -> Result<(), Stop> {
-    let first = ScriptFault {
+    let first = LineFault {
         line: 2,
         kind: FaultKind::WrongNumberOfWords,
     };

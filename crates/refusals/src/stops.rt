@@ -1,6 +1,7 @@
 use camp_base::{Apply, BaseFault};
+use camp_notation::NotationError;
 use camp_run::RunFault;
-use camp_script::{ScriptError, TextError};
+use camp_script::ScriptFault;
 use std::alloc::{AllocError, AllocFailed};
 
 /// Why the calls were not all made.
@@ -64,20 +65,21 @@ impl From<Apply> for Stop {
     }
 }
 
-impl From<ScriptError> for Stop {
-    fn from(error: ScriptError) -> Stop {
+impl From<NotationError> for Stop {
+    fn from(error: NotationError) -> Stop {
         match error {
-            ScriptError::Memory => Stop::Refused,
-            ScriptError::Fault(_) => Stop::Wrong("a script without a fault"),
+            NotationError::Memory => Stop::Refused,
+            _ => Stop::Wrong("a text of a value"),
         }
     }
 }
 
-impl From<TextError> for Stop {
-    fn from(error: TextError) -> Stop {
-        match error {
-            TextError::Memory => Stop::Refused,
-            TextError::Write => Stop::Wrong("a writer with room"),
+impl From<ScriptFault> for Stop {
+    fn from(fault: ScriptFault) -> Stop {
+        match fault {
+            ScriptFault::Memory => Stop::Refused,
+            ScriptFault::Line(_) => Stop::Wrong("a script without a fault"),
+            ScriptFault::Write => Stop::Wrong("a writer with room"),
         }
     }
 }

@@ -2,7 +2,7 @@ use crate::fixtures;
 use crate::stops::{Stop, expect, value_of};
 use camp_base::Name;
 use camp_repo::{Call, Refusal, Reply};
-use camp_script::{FaultKind, ScriptError, ScriptFault, append_reply, read_script, write_reply};
+use camp_script::{FaultKind, LineFault, ScriptFault, append_reply, read_script, write_reply};
 use std::alloc::Global;
 
 const SCRIPT: &[u8] = b"record main a add f\nrecord main b edit f 1\n+one\nend\ntree main\n";
@@ -53,14 +53,14 @@ fn are_same(calls: &[Call], others: &[Call]) -> bool {
 }
 
 fn read_in_vain(alloc: Global) -> Result<(), Stop> {
-    let first = ScriptFault {
+    let first = LineFault {
         line: 4,
         kind: FaultKind::WrongNumberOfWords,
     };
     match read_script(alloc, FAULTY_SCRIPT) {
-        Err(ScriptError::Fault(fault)) => expect(fault == first, "read_script"),
-        Err(ScriptError::Memory) => Err(Stop::Refused),
-        Ok(_) => Err(Stop::Wrong("read_script")),
+        Err(ScriptFault::Line(fault)) => expect(fault == first, "read_script"),
+        Err(ScriptFault::Memory) => Err(Stop::Refused),
+        Ok(_) | Err(ScriptFault::Write) => Err(Stop::Wrong("read_script")),
     }
 }
 

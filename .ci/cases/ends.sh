@@ -1,0 +1,57 @@
+# Inputs that cannot be read, and outputs that cannot be written: status 3, and one line on standard error.
+
+# ends WHAT ERROR: after a run whose output, if any, is in $folder/out.
+ends() {
+    echo $? >"$folder/status"
+    want 3 "$2"
+    expect "ends: $1"
+}
+
+script=examples/first.camp
+: >"$folder/out"
+"$camp" <examples >"$folder/out" 2>"$folder/err"
+ends 'a directory as input' 'cannot read input'
+"$camp" <&- >"$folder/out" 2>"$folder/err"
+ends 'a closed input' 'cannot read input'
+: >"$folder/out"
+"$camp" <$script >/dev/full 2>"$folder/err"
+ends 'a full device as output' 'cannot write output'
+"$camp" <$script >&- 2>"$folder/err"
+ends 'a closed output' 'cannot write output'
+
+# A fault of the script is found before anything is written, and an empty output is always written.
+"$camp" <examples/fault.camp >/dev/full 2>"$folder/err"
+echo $? >"$folder/status"
+want 1 'line 3: unknown command'
+expect 'ends: a fault, and a full device'
+"$camp" </dev/null >/dev/full 2>"$folder/err"
+echo $? >"$folder/status"
+want 0 ''
+expect 'ends: no answers, and a full device'
+
+# Too little memory for the input, and for the answers; enough for both.
+awk 'BEGIN { for (i = 0; i < 2000000; i++) print "# comment" }' >"$folder/script"
+(ulimit -v 16000 && "$camp" <"$folder/script" >"$folder/out" 2>"$folder/err")
+ends 'an address space too small for the input' 'out of memory'
+want 0 ''
+run "$folder/script"
+expect 'ends: an input of 20,000,000 bytes'
+
+awk 'BEGIN {
+    print "record main a add f\nrecord main b edit f 1"
+    for (i = 0; i < 60000; i++) print "+a line of text"
+    print "end"
+    for (i = 0; i < 50; i++) print "tree main"
+}' >"$folder/script"
+(ulimit -v 40000 && "$camp" <"$folder/script" >"$folder/out" 2>"$folder/err")
+ends 'an address space too small for the answers' 'out of memory'
+want 0 ''
+awk 'BEGIN {
+    print "ok 1\nok 2"
+    for (n = 0; n < 50; n++) {
+        print "tree 1\nfile f 60000"
+        for (i = 0; i < 60000; i++) print "=a line of text"
+    }
+}' >"$folder/wanted.out"
+run "$folder/script"
+expect 'ends: answers of 48,000,000 bytes'

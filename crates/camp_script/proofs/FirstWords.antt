@@ -1,0 +1,41 @@
+-- The first seven words of a line say all that the line asks for.
+use Rattle.std.proofs.Common.{◌≡◌, false, ℕ, List, [], ◌∷◌, ◌++◌, length, take, refl, sym, ap, subst, ◌∙◌, Option, None, Result, Ok}
+use Rattle.std.proofs.lemmas.Bool.{cond-false}
+use Rattle.std.proofs.Math.Seq.{take-append_seam}
+use Rattle.camp_script.specs.Commands.{◌>>=◌, command_of}
+use Rattle.camp_script.specs.Gives.{Gives, IsFaultOf}
+use Rattle.camp_script.specs.Lines.{is_skipped, words_of}
+use Rattle.camp_script.specs.Reading.{Open, Progress, after_words, after_command, after_line}
+use Rattle.camp_script.specs.declared.commands.Command.{Command}
+use Rattle.camp_script.specs.declared.faults.ScriptFault.{ScriptFault}
+use Rattle.camp_script.proofs.FaultLemmas.{stays}
+
+seven_are_enough : (line : ℕ) (progress : Progress) (words : List (List ℕ)) → after_words line progress (take 7 words) ≡ after_words line progress words
+seven_are_enough line progress [] = refl
+seven_are_enough line progress (a ∷ []) = refl
+seven_are_enough line progress (a ∷ b ∷ []) = refl
+seven_are_enough line progress (a ∷ b ∷ c ∷ []) = refl
+seven_are_enough line progress (a ∷ b ∷ c ∷ d ∷ []) = refl
+seven_are_enough line progress (a ∷ b ∷ c ∷ d ∷ e ∷ []) = refl
+seven_are_enough line progress (a ∷ b ∷ c ∷ d ∷ e ∷ f ∷ []) = refl
+seven_are_enough line progress (a ∷ b ∷ c ∷ d ∷ e ∷ f ∷ g ∷ words) = refl
+
+-- where these are the first seven words of a line that is not skipped
+module _ (line : ℕ) (progress : Progress) (words all : List (List ℕ)) (first : words ≡ take 7 all) (says : is_skipped words ≡ false) where
+  after_first : after_words line progress all ≡ (command_of line words >>= after_command line progress)
+  after_first = sym (seven_are_enough line progress all) ∙ ap (after_words line progress) (sym first) ∙ cond-false (is_skipped words) _ _ says
+
+  pub followed : (command : Command) (result : Result Progress ScriptFault) → command_of line words ≡ Ok command → Gives result (after_command line progress command) → Gives result (after_words line progress all)
+  followed command result is given = subst (Gives result) (sym (after_first ∙ ap (λ r. r >>= after_command line progress) is)) given
+
+  pub not_followed : (fault : ScriptFault) → IsFaultOf fault (command_of line words) → IsFaultOf fault (after_words line progress all)
+  not_followed fault is = subst (IsFaultOf fault) (sym after_first) (stays fault (command_of line words) (after_command line progress) is)
+
+-- as many as seven, at the front
+pub front_of_seven : (words rest all : List (List ℕ)) → length words ≡ 7 → words ++ rest ≡ all → words ≡ take 7 all
+front_of_seven words rest all seven is = sym (take-append_seam words rest) ∙ ap (λ n. take n (words ++ rest)) seven ∙ ap (take 7) is
+
+-- a line where no edit is open
+pub outside : (line : ℕ) (o : Option Open) (p q : Progress) (bytes : List ℕ) (result : Result Progress ScriptFault) → o ≡ None → p ≡ q → Gives result (after_words line p (words_of bytes)) → Gives result (after_line line o q bytes)
+outside line o p q bytes result none is given =
+    subst (λ s. Gives result (after_line line s q bytes)) (sym none) (subst (λ s. Gives result (after_words line s (words_of bytes))) is given)

@@ -1,0 +1,34 @@
+-- The words that tell faults.
+use Rattle.std.specs.Prelude.{ℕ, List, ◌++◌, Result, Err, codes}
+use Rattle.std.specs.Fmt.{decimal}
+use Rattle.camp_script.specs.declared.faults.FaultKind.{FaultKind}
+use Rattle.camp_script.specs.declared.faults.FaultKind.TheVariants.{UnknownCommand, WrongNumberOfWords, BadName, BadPath, BadNumber, BadLine, BadEdit, EditNotEnded, TooManyCommands}
+use Rattle.camp_script.specs.declared.faults.LineFault.{LineFault}
+use Rattle.camp_script.specs.declared.faults.ScriptFault.{ScriptFault}
+use Rattle.camp_script.specs.declared.faults.ScriptFault.TheVariants.{Line, Memory, Write}
+
+-- what is wrong with a line
+abbrev pub kind_words : FaultKind → List ℕ
+kind_words UnknownCommand = codes "unknown command"
+kind_words WrongNumberOfWords = codes "wrong number of words"
+kind_words BadName = codes "bad name"
+kind_words BadPath = codes "bad path"
+kind_words BadNumber = codes "bad number"
+kind_words BadLine = codes "bad line"
+kind_words BadEdit = codes "bad edit"
+kind_words EditNotEnded = codes "edit not ended"
+kind_words TooManyCommands = codes "too many commands"
+
+-- which line it is, and what is wrong with it
+abbrev pub line_words : LineFault → List ℕ
+line_words fault = codes "line " ++ decimal fault.line ++ codes ": " ++ kind_words fault.kind
+
+-- why bytes were not read as a script, or a text was not written
+abbrev pub fault_words : ScriptFault → List ℕ
+fault_words (Line fault) = line_words fault
+fault_words Memory = codes "out of memory"
+fault_words Write = codes "cannot write"
+
+-- the fault of a kind at a line
+abbrev pub fault_at : {A : Type 0} → ℕ → FaultKind → Result A LineFault
+fault_at line kind = Err (record { line = line; kind = kind })
