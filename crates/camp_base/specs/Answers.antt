@@ -8,7 +8,6 @@ use Rattle.camp_base.specs.declared.faults.Apply.TheVariants.{DoesNotApply, Memo
 abbrev pub Answers : {S : Type 0} → (S → S → Type 0) → S → Result (Unit {0}) Apply → S → Type 0
 Answers Change old (Ok done) new = Change old new
 Answers Change old (Err DoesNotApply) new = ((any : _) → ¬ (Change old any)) × (new ≡ old)
-<<<<<<< HEAD
 Answers Change old (Err Memory) new = ((any : _) × Change old any) × (new ≡ old)
 
 -- the same where only a trial with memory tells whether a change applies: Memory may come in place of any answer
@@ -16,8 +15,6 @@ abbrev pub AnswersByTrial : {S : Type 0} → (S → S → Type 0) → S → Resu
 AnswersByTrial Change old (Ok done) new = Change old new
 AnswersByTrial Change old (Err DoesNotApply) new = ((any : _) → ¬ (Change old any)) × (new ≡ old)
 AnswersByTrial Change old (Err Memory) new = new ≡ old
-=======
-Answers Change old (Err Memory) new = new ≡ old
 
 -- true where the change leads from the old value to the new one; false where it leads nowhere, and then nothing has changed
 abbrev pub Changes : {S : Type 0} → (S → S → Type 0) → S → Bool → S → Type 0
@@ -32,4 +29,3 @@ Finds Result (Some found) = Result found
 -- the same where the result is a pair
 abbrev pub FindsPair : {X Y : Type 0} → (X → Y → Type 0) → Option (X × Y) → Type 0
 FindsPair Results found = Finds (λ pair. Results pair.0 pair.1) found
->>>>>>> main
