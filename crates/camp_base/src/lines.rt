@@ -64,17 +64,6 @@ impl Share for Line {
     }
 }
 
-/// A copy of each line, in order.
-pub fn copy_lines(alloc: Global, lines: &[Line]) -> Result<Vec<Line>, AllocError>
-    ensures { IfOk result (λ copies. copies.items ≡ lines.now) }
-{
-    let mut copies = Vec::with_capacity(alloc, lines.len())?;
-    for line in lines {
-        copies.push(line.try_clone()?)?;
-    }
-    Ok(copies)
-}
-
 fn is_line(bytes: &[u8]) -> bool
     ensures { result ≡ is_line bytes.now }
 {
