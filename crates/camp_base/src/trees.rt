@@ -179,9 +179,9 @@ fn stands_at(lines: &SharedList<Line>, line: u32, old: &[Line]) -> bool
     if line == 0 {
         return false;
     }
-    let start = line as usize - 1;
-    if start > lines.len() {
+    let from = line as usize - 1;
+    if from > lines.len() {
         return false;
     }
-    lines.has_at(start, old)
+    lines.has_at(from, old)
 }

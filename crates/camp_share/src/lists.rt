@@ -6,7 +6,7 @@ ghost use Rattle.std.specs.Option.{option_copied};
 ghost use Rattle.std.specs.Cmp.Lexicographic.{pointwise, lists_per, lists_equiv};
 ghost use Rattle.std.specs.Map.Iter.{ShowsInOrder, deref};
 
-use crate::growing::{Growing, Part};
+use crate::growing::{Growing, Part, append_copies};
 use crate::{Iter, Share};
 use std::alloc::{AllocError, Global};
 use std::marker::Model;
@@ -120,6 +120,17 @@ impl<T: Share + Drop> SharedList<T> {
             parts,
             len: items.len(),
         })
+    }
+
+    /// Copies of all elements, in one vector.
+    pub fn to_vec(&self) -> Result<Vec<T>, AllocError>
+        ensures { IfOk result (λ items. items.items ≡ self.now) }
+    {
+        let mut items = Vec::with_capacity(*self.parts.allocator(), self.len)?;
+        for part in &self.parts {
+            append_copies(&mut items, part)?;
+        }
+        Ok(items)
     }
 
     /// The list with one element more at its end.

@@ -56,6 +56,12 @@ impl<T> Deref for Shared<T> {
     }
 }
 
+impl Share for () {
+    fn share(&self) -> Result<(), AllocError> {
+        Ok(())
+    }
+}
+
 impl<A: Share + Drop, B: Share + Drop> Share for (A, B) {
     fn share(&self) -> Result<(A, B), AllocError> {
         let first = self.0.share()?;
