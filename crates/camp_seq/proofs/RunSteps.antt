@@ -2,7 +2,7 @@
 use Rattle.std.proofs.Common.{◌≡◌, ℕ, ◌+◌, ◌<◌, List, [], ◌∷◌, ◌++◌, Err, length, take, drop, get_or, refl, sym, ap, ◌∙◌, subst}
 use Rattle.std.proofs.lemmas.List.{drop_more, take_more}
 use Rattle.std.proofs.lemmas.Option.{same_Some}
-use Rattle.camp_base.specs.Answers.{Answers}
+use Rattle.camp_base.specs.Answers.{Answers, AnswersByTrial}
 use Rattle.camp_base.specs.Trees.{Files}
 use Rattle.camp_base.specs.declared.faults.Apply.{Apply}
 use Rattle.camp_base.specs.declared.faults.Apply.TheVariants.{DoesNotApply, Memory}
@@ -30,7 +30,7 @@ no_run (q ∷ s) p rest old between runs never new r =
     no_run s p rest runs.0 between runs.2 never new (subst (λ x. AppliesAll (s ++ p ∷ rest) x new) same r.2)
 
 -- where a primitive does not apply to what those before it leave, the list leads nowhere
-pub run_stops : (s : List Named) (i : ℕ) (p : Named) (old between after : Files) (fault : Apply) → i < length s → p ≡ get_or s i p → AppliesAll (take i s) old between → Answers (Applies p.prim) between (Err fault) after → Answers (AppliesAll s) old (Err fault) old
+pub run_stops : (s : List Named) (i : ℕ) (p : Named) (old between after : Files) (fault : Apply) → i < length s → p ≡ get_or s i p → AppliesAll (take i s) old between → Answers (Applies p.prim) between (Err fault) after → AnswersByTrial (AppliesAll s) old (Err fault) old
 run_stops s i p old between after DoesNotApply within is runs answer =
     let next : drop i s ≡ p ∷ drop (i + 1) s = drop_more s i p within ∙ ap (λ x. x ∷ drop (i + 1) s) (sym is) in
     (λ new r. no_run (take i s) p (drop (i + 1) s) old between runs answer.0 new (subst (λ x. AppliesAll x old new) (whole s i (p ∷ drop (i + 1) s) next) r), refl)
