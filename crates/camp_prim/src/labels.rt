@@ -1,30 +1,71 @@
 ghost use Rattle.std.specs.Prelude.{◌≡◌, ◌↔◌, IsTrue};
 ghost use Rattle.std.specs.Cmp.{IsTotalOrder};
 ghost use Rattle.std.specs.FinMap.{IsAntisymmetric};
-ghost use Rattle.camp_prim.specs.Labels.{label_cmp, label_of, SameAbsolute};
+ghost use Rattle.camp_prim.specs.declared.labels.Key.{Key};
+ghost use Rattle.camp_prim.specs.declared.labels.Label.{Label};
+ghost use Rattle.camp_prim.specs.Labels.{key_cmp, key_of, label_cmp, opposite, SameKey};
 
 use crate::Named;
-use std::cmp::Ordering;
+use camp_base::Name;
 
-/// The labels of two primitives in order: by name, then by place, and then the positive before the
-/// negative.
-pub fn compare_labels(p: &Named, q: &Named) -> Ordering
-    ensures { result ≡ label_cmp (label_of p.now) (label_of q.now) }
-{
-    let by_sign = p.inverse.cmp(&q.inverse);
-    let by_place = p.place.cmp(&q.place);
-    p.name.cmp(&q.name).then(by_place.then(by_sign))
+/// The absolute label of a primitive: the name of its patch and its place in it. Keys are ordered by
+/// the bytes of the name, and then by place.
+#[derive(Clone, Copy, Debug, PartialEq, Eq, PartialOrd, Ord)]
+pub struct Key {
+    pub name: Name,
+    pub place: u8,
+}
+
+/// The label of a primitive: the name of its patch, its place in it, and its sign. Labels are ordered
+/// by the bytes of the name, then by place, and then the positive before the negative.
+#[derive(Clone, Copy, Debug, PartialEq, Eq, PartialOrd, Ord)]
+pub struct Label {
+    pub name: Name,
+    pub place: u8,
+    /// Whether it is the label of an inverse.
+    pub inverse: bool,
+}
+
+impl Label {
+    /// The absolute label: name and place.
+    pub fn key(self) -> Key
+        ensures { result ≡ key_of self }
+    {
+        Key {
+            name: self.name,
+            place: self.place,
+        }
+    }
+
+    /// The label with the other sign.
+    pub fn opposite(self) -> Label
+        ensures { result ≡ opposite self }
+    {
+        Label {
+            name: self.name,
+            place: self.place,
+            inverse: !self.inverse,
+        }
+    }
 }
 
 /// Labels are in a total order, and only equal labels tie.
 pub fn labels_are_ordered()
+    ensures is { (a b : Label) → ⟦<Label as Ord>⟧.cmp a b ≡ label_cmp a b }
     ensures total { IsTotalOrder label_cmp }
     ensures ties { IsAntisymmetric label_cmp }
 {}
 
+/// Keys are in a total order, and only equal keys tie.
+pub fn keys_are_ordered()
+    ensures is { (a b : Key) → ⟦<Key as Ord>⟧.cmp a b ≡ key_cmp a b }
+    ensures total { IsTotalOrder key_cmp }
+    ensures ties { IsAntisymmetric key_cmp }
+{}
+
 /// Whether the two have one name and one place, whatever their signs are.
-pub(crate) fn is_absolute_label_same(p: &Named, q: &Named) -> bool
-    ensures { IsTrue result ↔ SameAbsolute p.now q.now }
+pub(crate) fn have_same_key(p: &Named, q: &Named) -> bool
+    ensures { IsTrue result ↔ SameKey p.now q.now }
 {
     if p.name != q.name {
         return false;

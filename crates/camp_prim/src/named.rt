@@ -1,8 +1,9 @@
 ghost use Rattle.std.specs.Prelude.{◌≡◌, ◌↔◌, IfOk, IsTrue};
 ghost use Rattle.camp_base.specs.Answers.{Answers};
 ghost use Rattle.camp_prim.specs.Effect.{Applies, inverse_of};
+ghost use Rattle.camp_prim.specs.Labels.{label_of};
 
-use crate::Primitive;
+use crate::{Label, Primitive};
 use camp_base::{Apply, Name, Tree};
 use std::alloc::AllocError;
 
@@ -18,6 +19,17 @@ pub struct Named {
 }
 
 impl Named {
+    /// The label: name, place and sign.
+    pub fn label(&self) -> Label
+        ensures { result ≡ label_of self.now }
+    {
+        Label {
+            name: self.name,
+            place: self.place,
+            inverse: self.inverse,
+        }
+    }
+
     /// The inverse primitive under the same absolute label, with the other sign.
     pub fn invert(self) -> Named
         ensures { result ≡ inverse_of self }

@@ -2,12 +2,13 @@
 use Rattle.std.proofs.Common.{◌≡◌, ◌≢◌, ℕ, zero, suc, ◌+◌, ◌≤◌, ◌⊎◌, List, [], ◌∷◌, length, map, Ordering, refl, sym, ap, subst, inl, inr, arith}
 use Rattle.std.specs.Cmp.{tied_itself}
 use Rattle.std.specs.declared.cmp.Ordering.TheVariants.{Less, Equal, Greater}
-use Rattle.camp_prim.specs.Labels.{Label, label_of, label_cmp}
+use Rattle.camp_prim.specs.Labels.{label_of, label_cmp}
+use Rattle.camp_prim.specs.declared.labels.Label.{Label}
 use Rattle.camp_prim.specs.Swaps.{Swap}
 use Rattle.camp_prim.specs.declared.named.Named.{Named}
 use Rattle.camp_prim.proofs.LabelOrder.{label_total, label_ties}
 use Rattle.camp_seq.proofs.ListResults.{one_front, label-front}
-use Rattle.camp_seq.proofs.SwapDecided.{Decided, same_or_not, swap_or_not}
+use Rattle.camp_prim.proofs.SwapDecided.{Decided, same_or_not, swap_or_not}
 use Rattle.camp_seq.specs.Laws.{HasNormalOrder}
 use Rattle.camp_seq.specs.NormalOrder.{IsLeast, Norm}
 use Rattle.camp_seq.specs.Passing.{Fronts}

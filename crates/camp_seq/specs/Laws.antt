@@ -1,7 +1,7 @@
 -- The laws of lists that crates above build on.
 use Rattle.std.specs.Prelude.{◌≡◌, ◌↔◌, List, [], ◌∷◌, ◌++◌}
 use Rattle.camp_base.specs.Trees.{Files}
-use Rattle.camp_prim.specs.Labels.{Label}
+use Rattle.camp_prim.specs.declared.labels.Label.{Label}
 use Rattle.camp_prim.specs.declared.named.Named.{Named}
 use Rattle.camp_seq.specs.Equivalence.{◌~◌}
 use Rattle.camp_seq.specs.Passing.{Passes, PassesAll, Fronts, Parts}
@@ -42,6 +42,10 @@ HasNormalOrder = (s : List Named) → (t : List Named) × Norm s t
 -- a clean merge closes a square of trees: a then b', and b then a', end in one tree
 abbrev pub MergeCloses : Type 0
 MergeCloses = (a b b' a' : List Named) → CleanMerge a b b' a' → (old left right : Files) → Runs a old left → Runs b old right → (new : Files) × Runs b' left new × Runs a' right new
+
+-- the two orders of a clean merge are equivalent: a b' ~ b a'
+abbrev pub MergeIsEquivalent : Type 0
+MergeIsEquivalent = (a b b' a' : List Named) → CleanMerge a b b' a' → (a ++ b') ~ (b ++ a')
 
 -- a clean merge is symmetric
 abbrev pub MergeIsSymmetric : Type 0

@@ -1,7 +1,8 @@
 -- Primitives that pass lists of primitives.
 use Rattle.std.specs.Prelude.{◌≡◌, ◌≢◌, List, [], ◌∷◌, ◌⊎◌, Contains}
 use Rattle.camp_prim.specs.Swaps.{Swap}
-use Rattle.camp_prim.specs.Labels.{Label, label_of}
+use Rattle.camp_prim.specs.Labels.{label_of}
+use Rattle.camp_prim.specs.declared.labels.Label.{Label}
 use Rattle.camp_prim.specs.declared.named.Named.{Named}
 
 -- p s ~ s' p': p is swapped past every element of s

@@ -1,9 +1,10 @@
 ghost use Rattle.std.specs.Prelude.{◌+◌, ◌<◌, length};
-ghost use Rattle.camp_seq.specs.Insertions.{ComesUpTo, GoesUpTo, Placed, SwapsAt};
+ghost use Rattle.camp_base.specs.Answers.{Changes};
+ghost use Rattle.camp_seq.specs.Inside.Insertions.{ComesUpTo, GoesUpTo, Placed, SwapsAt};
 ghost use Rattle.camp_seq.specs.NormalOrder.{Norm};
 ghost use Rattle.camp_seq.specs.Room.{HasRoom};
 
-use crate::orders::{is_less, label_of};
+use crate::orders::is_less;
 use camp_prim::{Named, exchange};
 
 /// Puts a list with room in normal order: one element after the other is put in its place among
@@ -46,7 +47,7 @@ fn take_back(items: &mut [Named])
     ensures { GoesUpTo items.old items.new }
 {
     for at in 0..items.len() - 1 {
-        if !is_less(&label_of(&items[at + 1]), &label_of(&items[at])) {
+        if !is_less(&items[at + 1].label(), &items[at].label()) {
             return;
         }
         if !swap_at(items, at) {
@@ -58,7 +59,7 @@ fn take_back(items: &mut [Named])
 /// Swaps the neighbours at a place. Where they can't change places, they are as they were.
 fn swap_at(items: &mut [Named], at: usize) -> bool
     requires { at + 1 < length items.old }
-    ensures { SwapsAt items.old at result items.new }
+    ensures exact { Changes (SwapsAt at) items.old result items.new }
 {
     let (front, back) = items.split_at_mut(at + 1);
     exchange(&mut front[at], &mut back[0])

@@ -3,17 +3,16 @@ ghost use Rattle.std.specs.Ordering.{is_lt};
 ghost use Rattle.std.specs.declared.cmp.Ordering.TheVariants.{Less};
 ghost use Rattle.camp_prim.specs.declared.named.Named.{Named};
 ghost use Rattle.camp_prim.specs.Labels.{label_cmp, label_of};
-ghost use Rattle.camp_seq.specs.Keys.{keyed};
-ghost use Rattle.camp_seq.specs.LeastLabels.{is_above, LeastAbove, Settles, StartsAbove};
+ghost use Rattle.camp_seq.specs.Inside.LeastLabels.{is_above, LeastAbove, Settles, StartsAbove};
 ghost use Rattle.camp_seq.specs.Equivalence.{◌~◌};
 ghost use Rattle.camp_seq.specs.NormalOrder.{Norm};
 ghost use Rattle.camp_seq.specs.Room.{HasRoom};
 
+use crate::Seq;
 use crate::fronts::bring;
 use crate::insertions::order_by_insertion;
 use crate::rooms::surely_has_room;
-use crate::{Label, Seq};
-use camp_prim::Named;
+use camp_prim::{Label, Named};
 use std::alloc::AllocError;
 
 /// The list in normal order: it begins with the least label that can come to the front, and goes on
@@ -82,11 +81,11 @@ fn settle(items: &mut [Named])
 /// The least label of the list above one that was tried.
 fn least_above(items: &[Named], tried: &Option<Label>) -> Label
     requires { StartsAbove tried.now items.now }
-    ensures { LeastAbove tried.now items.now (keyed result) }
+    ensures { LeastAbove tried.now items.now result }
 {
-    let mut least = label_of(&items[0]);
+    let mut least = items[0].label();
     for p in items {
-        let label = label_of(p);
+        let label = p.label();
         if comes_before(tried, &label, &least) {
             least = label;
         }
@@ -97,7 +96,7 @@ fn least_above(items: &[Named], tried: &Option<Label>) -> Label
 /// Whether a label is above the one that was tried, and below the least so far.
 fn comes_before(tried: &Option<Label>, label: &Label, least: &Label) -> bool
     ensures { IsTrue result
-        ↔ (IsTrue (is_above tried.now (keyed label.now)) × (label_cmp (keyed label.now) (keyed least.now) ≡ Less)) }
+        ↔ (IsTrue (is_above tried.now label.now) × (label_cmp label.now least.now ≡ Less)) }
 {
     if !is_above(tried, label) {
         return false;
@@ -106,7 +105,7 @@ fn comes_before(tried: &Option<Label>, label: &Label, least: &Label) -> bool
 }
 
 fn is_above(tried: &Option<Label>, label: &Label) -> bool
-    ensures { result ≡ is_above tried.now (keyed label.now) }
+    ensures { result ≡ is_above tried.now label.now }
 {
     match tried {
         None => true,
@@ -115,15 +114,7 @@ fn is_above(tried: &Option<Label>, label: &Label) -> bool
 }
 
 pub(crate) fn is_less(a: &Label, b: &Label) -> bool
-    ensures { result ≡ is_lt (label_cmp (keyed a.now) (keyed b.now)) }
+    ensures { result ≡ is_lt (label_cmp a.now b.now) }
 {
-    let by_sign = a.2.cmp(&b.2);
-    let by_place = a.1.cmp(&b.1);
-    a.0.cmp(&b.0).then(by_place.then(by_sign)).is_lt()
-}
-
-pub(crate) fn label_of(p: &Named) -> Label
-    ensures { keyed result ≡ label_of p.now }
-{
-    (p.name, p.place, p.inverse)
+    a < b
 }

@@ -1,7 +1,7 @@
 use crate::fixtures;
 use crate::stops::{Stop, expect, value_of};
 use camp_base::{Apply, Name, Tree};
-use camp_prim::Named;
+use camp_prim::{Label, Named};
 use camp_seq::{Seq, apply_all, clean_merge, front, invert_all, norm, past, past_all, split};
 use std::alloc::Global;
 
@@ -64,8 +64,8 @@ fn order_list(list: &Seq, ordered: &Seq) -> Result<(), Stop> {
 }
 
 fn bring_to_front(list: &Seq, ordered: &[Named]) -> Result<(), Stop> {
-    let name = Name::new(b"a")?;
-    match front(list, &name, 1, false)? {
+    let label = label_of(Name::new(b"a")?);
+    match front(list, &label)? {
         Some((first, rest)) => {
             let is_right = is_at(ordered, 0, &first) && is_at_end(ordered, rest.items());
             expect(is_right, "front")
@@ -75,14 +75,22 @@ fn bring_to_front(list: &Seq, ordered: &[Named]) -> Result<(), Stop> {
 }
 
 fn split_list(list: &Seq, ordered: &[Named]) -> Result<(), Stop> {
-    let name = Name::new(b"a")?;
-    match split(list, &[(name, 1, false)])? {
+    let label = label_of(Name::new(b"a")?);
+    match split(list, &[label])? {
         Some((named, others)) => {
             let is_right = is_at_start(ordered, named.items())
                 && is_at_end(ordered, others.items());
             expect(is_right, "split")
         }
         None => Err(Stop::Wrong("split")),
+    }
+}
+
+fn label_of(name: Name) -> Label {
+    Label {
+        name,
+        place: 1,
+        inverse: false,
     }
 }
 
@@ -148,8 +156,8 @@ fn merge_lists(alloc: Global) -> Result<(), Stop> {
 fn ask_in_vain(alloc: Global) -> Result<(), Stop> {
     let behind = fixtures::patch(alloc, b"a", 2, &[], &[b"y"])?;
     let list = list_of(alloc, upper(alloc)?, behind)?;
-    let name = Name::new(b"a")?;
-    expect(split(&list, &[(name, 1, false)])?.is_none(), "split")?;
+    let label = label_of(Name::new(b"a")?);
+    expect(split(&list, &[label])?.is_none(), "split")?;
     let beside = fixtures::patch(alloc, b"a", 1, &[], &[b"y"])?;
     merge_in_vain(alloc, beside)
 }

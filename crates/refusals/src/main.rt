@@ -1,11 +1,13 @@
-//! Each allocation refused in turn. Makes an allocation for each byte of standard input and lets it
-//! go; then goes once through each call that takes memory. Prints `done` where all of them
-//! succeeded, `refused` where one answered want of memory and left its arguments as they were, and
-//! `wrong` with the name of a call otherwise.
+//! Each allocation refused in turn. The first byte of standard input chooses a part of the calls (no
+//! byte: all of them). Makes an allocation for each further byte and lets it go; then goes once
+//! through each call of the part that takes memory. Prints `done` where all of them succeeded,
+//! `refused` where one answered want of memory and left its arguments as they were, and `wrong` with
+//! the name of a call otherwise.
 #![tactic(auto)]
 
 mod fixtures;
 mod lists;
+mod notation;
 mod patches;
 mod records;
 mod runs;
@@ -19,18 +21,27 @@ use std::io::Read;
 use stops::Stop;
 
 fn main(rt: HostRuntime) -> io::Result<()> {
-    allocate_for_each_byte(rt.alloc(), &mut rt.stdin())?;
-    match make_all_calls(rt.alloc()) {
+    let mut reader = rt.stdin();
+    let part = next_byte(&mut reader)?;
+    allocate_for_each_byte(rt.alloc(), &mut reader)?;
+    match make_calls(rt.alloc(), part) {
         Ok(()) => println!(rt; "done"),
         Err(Stop::Refused) => println!(rt; "refused"),
         Err(Stop::Wrong(call)) => println!(rt; "wrong {call}"),
     }
 }
 
-fn allocate_for_each_byte(alloc: Global, reader: &mut impl Read) -> io::Result<()> {
+fn next_byte(reader: &mut impl Read) -> io::Result<Option<u8>> {
     let mut byte = [0];
+    if reader.read(&mut byte)? == 0 {
+        return Ok(None);
+    }
+    Ok(Some(byte[0]))
+}
+
+fn allocate_for_each_byte(alloc: Global, reader: &mut impl Read) -> io::Result<()> {
     for _ in 0..u64::MAX {
-        if reader.read(&mut byte)? == 0 {
+        if next_byte(reader)?.is_none() {
             break;
         }
         allocate(alloc)?;
@@ -45,12 +56,30 @@ fn allocate(alloc: Global) -> Result<(), AllocError> {
 
 // The last allocation stands for itself: if it is refused, all calls before it were granted theirs.
 // So a call that goes on without memory always shows as a `done` between two `refused`.
-fn make_all_calls(alloc: Global) -> Result<(), Stop> {
-    trees::make_calls(alloc)?;
-    patches::make_calls(alloc)?;
-    lists::make_calls(alloc)?;
-    records::make_calls(alloc)?;
-    texts::make_calls(alloc)?;
-    runs::make_calls(alloc)?;
+fn make_calls(alloc: Global, part: Option<u8>) -> Result<(), Stop> {
+    match part {
+        None => make_all_calls(alloc)?,
+        Some(part) => make_calls_of(alloc, part)?,
+    }
     Ok(allocate(alloc)?)
+}
+
+fn make_calls_of(alloc: Global, part: u8) -> Result<(), Stop> {
+    match part {
+        b't' => trees::make_calls(alloc),
+        b'p' => patches::make_calls(alloc),
+        b'l' => lists::make_calls(alloc),
+        b'n' => notation::make_calls(alloc),
+        b'r' => records::make_calls(alloc),
+        b's' => texts::make_calls(alloc),
+        b'u' => runs::make_calls(alloc),
+        _ => Err(Stop::Wrong("no such part")),
+    }
+}
+
+fn make_all_calls(alloc: Global) -> Result<(), Stop> {
+    for part in b"tplnrsu" {
+        make_calls_of(alloc, *part)?;
+    }
+    Ok(())
 }

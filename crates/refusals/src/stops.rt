@@ -1,4 +1,5 @@
 use camp_base::{Apply, BaseFault};
+use camp_notation::NotationError;
 use camp_run::RunFault;
 use camp_script::ScriptFault;
 use std::alloc::{AllocError, AllocFailed};
@@ -60,6 +61,15 @@ impl From<Apply> for Stop {
         match fault {
             Apply::Memory => Stop::Refused,
             Apply::DoesNotApply => Stop::Wrong("a change that applies"),
+        }
+    }
+}
+
+impl From<NotationError> for Stop {
+    fn from(error: NotationError) -> Stop {
+        match error {
+            NotationError::Memory => Stop::Refused,
+            _ => Stop::Wrong("a text of a value"),
         }
     }
 }

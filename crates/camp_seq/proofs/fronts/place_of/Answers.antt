@@ -1,8 +1,7 @@
 use Rattle.std.proofs.Common.{◌+◌, List, ◌∷◌, take, drop, refl, sym, ap, ◌∙◌, subst, arith}
 use Rattle.std.proofs.lemmas.List.{drop_more, length-take-le, take_all}
 use Rattle.camp_prim.specs.declared.named.Named.{Named}
-use Rattle.camp_seq.specs.InPlace.{Lacks}
-use Rattle.camp_seq.specs.Keys.{keyed}
+use Rattle.camp_seq.specs.Inside.InPlace.{Lacks}
 use Rattle.camp_seq.proofs.ListSteps.{whole}
 use Rattle.camp_seq.proofs.fronts.place_of.Goals as goal
 
@@ -24,4 +23,4 @@ returns-then-has_label c =
 pub returns : goal.returns
 returns c =
     let s : List Named = c.args.items.now in
-    subst (λ x. Lacks (keyed c.args.label.now) x) (take_all c.loop-at.at s (omega arith)) c.loop-at.invariant
+    subst (λ x. Lacks c.args.label.now x) (take_all c.loop-at.at s (omega arith)) c.loop-at.invariant

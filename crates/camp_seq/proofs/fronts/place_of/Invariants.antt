@@ -1,7 +1,6 @@
 use Rattle.std.proofs.Common.{take}
-use Rattle.camp_seq.specs.InPlace.{Lacks}
-use Rattle.camp_seq.specs.Keys.{keyed}
+use Rattle.camp_seq.specs.Inside.InPlace.{Lacks}
 use Rattle.camp_seq.proofs.fronts.place_of.Given as goal
 
 abbrev pub invariant-loop-at : goal.invariant-loop-at
-invariant-loop-at l = Lacks (keyed l.label) (take l.at l.items)
+invariant-loop-at l = Lacks l.label (take l.at l.items)

@@ -1,10 +1,9 @@
-use Rattle.std.proofs.Common.{◌+◌, ◌≤◌, length, map}
-use Rattle.camp_seq.specs.InPlace.{PartsFrom}
-use Rattle.camp_seq.specs.Keys.{keyed}
+use Rattle.std.proofs.Common.{◌+◌, ◌≤◌, length}
+use Rattle.camp_seq.specs.Inside.InPlace.{PartsFrom}
 use Rattle.camp_seq.proofs.splits.gather.Given as goal
 
 abbrev pub invariant-loop-at : goal.invariant-loop-at
 invariant-loop-at l = record {
-  parts : PartsFrom (map keyed l.labels) l.initial.items l.at l.count l.items;
+  parts : PartsFrom l.labels l.initial.items l.at l.count l.items;
   bound : l.at + l.count ≤ length l.initial.items;
 }

@@ -1,0 +1,57 @@
+-- Lemmas on lists that go side by side.
+use Rattle.std.proofs.Common.{◌≡◌, ℕ, ◌+◌, ◌<◌, suc, zero, List, [], ◌∷◌, ◌++◌, length, take, get_or, Result, Ok, IfOk, refl, ◌∙◌, ap, subst, add-one, arith}
+use Rattle.std.specs.List.{AllZip}
+use Rattle.std.proofs.lemmas.List.{take_more, get_or-map}
+use Rattle.std.specs.Prelude.{Vec, vec_items}
+use Rattle.camp_clients.specs.Gathering.{Gathers}
+use Rattle.camp_clients.specs.Runs.{lists_of, section_of}
+
+module _ {A B : Type 0} (R : A → B → Type 0) where
+  pub zip_push : (xs : List A) (ys : List B) (x : A) (y : B) → AllZip R xs ys → R x y → AllZip R (xs ++ x ∷ []) (ys ++ y ∷ [])
+  zip_push [] [] x y all one = (one, tt)
+  zip_push [] (b ∷ ys) x y all one = absurd all
+  zip_push (a ∷ xs) [] x y all one = absurd all
+  zip_push (a ∷ xs) (b ∷ ys) x y all one = (all.0, zip_push xs ys x y all.1 one)
+
+  -- one element more, at place i
+  pub zip_more : (xs : List A) (i : ℕ) (x : A) → i < length xs → x ≡ get_or xs i x → (ys : List B) (y : B) → AllZip R (take i xs) ys → R x y
+      → AllZip R (take (i + 1) xs) (ys ++ y ∷ [])
+  zip_more xs i x below at ys y all one = rw (take_more xs i x below, ← at) (zip_push (take i xs) ys x y all one)
+
+  pub zip_length : (xs : List A) (ys : List B) → AllZip R xs ys → length xs ≡ length ys
+  zip_length [] [] all = refl
+  zip_length [] (b ∷ ys) all = absurd all
+  zip_length (a ∷ xs) [] all = absurd all
+  zip_length (a ∷ xs) (b ∷ ys) all = ap suc (zip_length xs ys all.1)
+
+  pub zip_at : (xs : List A) (ys : List B) (i : ℕ) (d : A) (e : B) → i < length xs → AllZip R xs ys → R (get_or xs i d) (get_or ys i e)
+  zip_at [] ys i d e below all = absurd (omega arith)
+  zip_at (a ∷ xs) [] i d e below all = absurd all
+  zip_at (a ∷ xs) (b ∷ ys) zero d e below all = all.0
+  zip_at (a ∷ xs) (b ∷ ys) (suc i) d e below all = zip_at xs ys i d e (omega arith) all.1
+
+-- one thread more
+pub gathers_push : {Own Fault : Type 0} (first : Own) (made : List (Result Own Fault)) (all : List Own) (one : Result Own Fault) (own : Own)
+    → Gathers first made all → one ≡ Ok own → Gathers first (made ++ one ∷ []) (all ++ own ∷ [])
+gathers_push first made all one own so_far is = record {
+  others = so_far.others ++ own ∷ [];
+  begins = ap (λ x. x ++ own ∷ []) so_far.begins;
+  brought = zip_push (λ one own. one ≡ Ok own) made so_far.others one own so_far.brought is;
+}
+
+-- what holds of the first answers, and of each that a thread brought, holds of all
+module _ {X Z Fault : Type 0} (first : Vec X Z) (made : List (Result (Vec X Z) Fault)) (all : List (Vec X Z)) (gathers : Gathers first made all) where
+  pub gathered_length : length all ≡ length made + 1
+  gathered_length = ap length gathers.begins ∙ omega (arith, zip_length (λ one own. one ≡ Ok own) made gathers.others gathers.brought)
+
+  pub gathered : (P : ℕ → List X → Type 0) → P 0 first.items
+      → ((k : ℕ) (d : Result (Vec X Z) Fault) → k < length made → IfOk (get_or made k d) (λ own. P (k + 1) own.items))
+      → (seat : ℕ) → seat < length made + 1 → P seat (section_of (lists_of all) seat)
+  gathered P here each zero below = rw gathers.begins here
+  gathered P here each (suc k) below =
+      let in_made : k < length made = omega arith in
+      let in_others : k < length gathers.others = omega (arith, zip_length (λ one own. one ≡ Ok own) made gathers.others gathers.brought) in
+      let own = get_or gathers.others k first in
+      let is = zip_at (λ one own. one ≡ Ok own) made gathers.others k (Ok first) first in_made gathers.brought in
+      let holds = subst (λ r. IfOk r (λ own. P (k + 1) own.items)) is (each k (Ok first) in_made) in
+      rw (gathers.begins, get_or-map vec_items gathers.others k first [] in_others, ← add-one k) holds

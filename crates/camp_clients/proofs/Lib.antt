@@ -1,0 +1,7 @@
+pub mod Asking
+pub mod Comparing
+pub mod Fronts
+pub mod Gathering
+pub mod Histories
+pub mod Positions
+pub mod Vectors

@@ -1,0 +1,62 @@
+-- Lemmas on calls with their positions.
+use Rattle.std.proofs.Common.{◌≡◌, ℕ, ◌+◌, ◌==◌, true, false, cond, List, [], ◌∷◌, ◌++◌, length, Option, None, Some, refl, sym, ◌∙◌, ap, zero-add, inl, inr, min, drop, get_or, ◌<◌, ◌≤◌, arith}
+use Rattle.std.proofs.lemmas.List.{append-nil, drop_all, drop_more}
+use Rattle.std.proofs.lemmas.Bool.{cases_lt}
+use Rattle.camp_object.specs.Histories.{IsFront, own}
+use Rattle.camp_clients.specs.Positions.{own_at, where_done, done_at}
+use Rattle.camp_clients.proofs.Histories.{own_rest, same_seat}
+
+-- the calls of a seat in two parts of a history, one after the other
+pub own_at-append : {Call : Type 0} (seat before : ℕ) (h more : List (ℕ × Call))
+    → own_at seat before (h ++ more) ≡ own_at seat before h ++ own_at seat (before + length h) more
+own_at-append seat before [] more = ap (λ n. own_at seat n more) (omega arith)
+own_at-append seat before (entry ∷ h) more =
+    let e : (before + 1) + length h ≡ before + length (entry ∷ h) = omega arith in
+    let rest = rw e at (own_at-append seat (before + 1) h more) in
+    elim (entry.0 == seat)
+    as (λ b. cond b ((before + 1, entry.1) ∷ own_at seat (before + 1) (h ++ more)) (own_at seat (before + 1) (h ++ more))
+    ≡ cond b ((before + 1, entry.1) ∷ own_at seat (before + 1) h) (own_at seat (before + 1) h) ++ own_at seat (before + length (entry ∷ h)) more)
+    [ true ↦ ap (λ xs. (before + 1, entry.1) ∷ xs) rest | false ↦ rest ]
+
+-- without calls of a seat there are none with positions
+pub own_at_none : {Call : Type 0} (seat before : ℕ) (h : List (ℕ × Call)) → own seat h ≡ [] → own_at seat before h ≡ []
+own_at_none seat before [] = λ none. refl
+own_at_none seat before (entry ∷ h) =
+    elim (entry.0 == seat)
+    as (λ b. cond b (entry.1 ∷ own seat h) (own seat h) ≡ [] → cond b ((before + 1, entry.1) ∷ own_at seat (before + 1) h) (own_at seat (before + 1) h) ≡ [])
+    [ true ↦ (λ none. absurd (cc none)) | false ↦ (λ none. own_at_none seat (before + 1) h none) ]
+
+-- a front with all calls of a seat has them at the same positions
+pub own_at_front : {Call : Type 0} (seat : ℕ) (f h : List (ℕ × Call)) (front : IsFront f h) → own seat h ≡ own seat f → own_at seat 0 h ≡ own_at seat 0 f
+own_at_front seat f h front same =
+    let none = own_at_none seat (0 + length f) front.rest (own_rest seat f h front same) in
+    sym (ap (own_at seat 0) front.makes) ∙ own_at-append seat 0 f front.rest ∙ ap (λ xs. own_at seat 0 f ++ xs) none ∙ append-nil (own_at seat 0 f)
+
+pub where_done-append : {Call : Type 0} (at : Option ℕ) (call : Call) (rest : List (ℕ × Call)) → where_done at call [] ++ rest ≡ where_done at call rest
+where_done-append None call rest = refl
+where_done-append (Some at) call rest = refl
+
+-- one more call of the seat
+pub own_at_push : {Call : Type 0} (seat : ℕ) (h : List (ℕ × Call)) (call : Call)
+    → own_at seat 0 (h ++ (seat, call) ∷ []) ≡ own_at seat 0 h ++ (length h + 1, call) ∷ []
+own_at_push seat h call = own_at-append seat 0 h ((seat, call) ∷ []) ∙ rw (same_seat, zero-add)
+
+module _ {Call Answer : Type 0} (told : Answer → Option ℕ) where
+  no_answers : (calls : List Call) → done_at told calls [] ≡ []
+  no_answers [] = refl
+  no_answers (call ∷ calls) = refl
+
+  -- without answers, or without calls, nothing is done
+  pub done_at_end : (calls : List Call) (answers : List Answer) (i : ℕ) → min (length calls) (length answers) ≤ i → done_at told (drop i calls) (drop i answers) ≡ []
+  done_at_end calls answers i past =
+      elim (cases_lt i (length calls)) [
+        | inl below ↦ (let short : length answers ≤ i = omega arith in rw (drop_all i answers short) (no_answers (drop i calls)))
+        | inr past ↦ rw (drop_all i calls past)
+      ]
+
+  -- the call and the answer at a place
+  pub done_at_more : (calls : List Call) (answers : List Answer) (i : ℕ) (call : Call) (answer : Answer) (at : Option ℕ)
+      → i < length calls → i < length answers → call ≡ get_or calls i call → answer ≡ get_or answers i answer → told answer ≡ at
+      → done_at told (drop i calls) (drop i answers) ≡ where_done at call (done_at told (drop (i + 1) calls) (drop (i + 1) answers))
+  done_at_more calls answers i call answer at in_calls in_answers is_call is_answer is_at =
+      rw (drop_more calls i call in_calls, drop_more answers i answer in_answers, ← is_call, ← is_answer, is_at)

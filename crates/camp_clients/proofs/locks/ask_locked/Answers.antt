@@ -1,0 +1,10 @@
+use Rattle.camp_clients.specs.Runs.{SaysSomewhere}
+use Rattle.camp_clients.proofs.Gathering.{zip_more}
+use Rattle.camp_clients.proofs.locks.ask_locked.Goals as goal
+
+pub loop-call-preserved : goal.loop-call-preserved
+loop-call-preserved g c =
+    let kept = c.in_ok-unless_memory.ensures in
+    rw (c.in_ok-push.ensures.items, kept.0)
+    (zip_more (SaysSomewhere g.State.Object.object) c.args.calls.now c.loop-call.call-index c.call-item.result c.loop-call-test.true c.call-item.is
+    c.loop-call.answers.items c.ask_once.result c.loop-call.invariant (c.ask_once.ensures kept.1))

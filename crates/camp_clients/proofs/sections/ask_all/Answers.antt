@@ -1,0 +1,32 @@
+use Rattle.std.proofs.Common.{◌∙◌}
+use Rattle.camp_clients.proofs.Fronts.{section_grows, section_more, room_more}
+use Rattle.camp_clients.proofs.Histories.{front_trans}
+use Rattle.camp_clients.proofs.sections.ask_all.Goals as goal
+
+pub returns-in_err-unless_memory-clause-grows : goal.returns-in_err-unless_memory-clause-grows
+returns-in_err-unless_memory-clause-grows g c =
+    front_trans _ _ _ (section_grows g.State.Object.object _ _ _ _ _ c.loop-call.invariant.section) c.ask.ensures.asks.grows
+
+pub returns-in_err-push-clause-grows : goal.returns-in_err-push-clause-grows
+returns-in_err-push-clause-grows g c =
+    front_trans _ _ _ (section_grows g.State.Object.object _ _ _ _ _ c.loop-call.invariant.section) c.ask.ensures.asks.grows
+
+pub loop-call-preserved : goal.loop-call-preserved
+loop-call-preserved g c =
+    let inv = c.loop-call.invariant in
+    let kept = c.in_ok-unless_memory.ensures in
+    let asks = rw inv.caller at c.ask.ensures.asks in
+    record {
+      keeps = g.met.D.Desk.transitive _ _ _ inv.keeps c.ask.ensures.keeps;
+      caller = c.ask.ensures.caller ∙ inv.caller;
+      section = rw (c.in_ok-push.ensures.items, kept.0)
+          (section_more g.State.Object.object g.met.State.Object.lawful (g.D.Desk.caller c.args.desk.now) (g.D.Desk.seen c.args.desk.now) c.args.calls.now
+          c.loop-call.call-index c.loop-call-test.true (g.D.Desk.seen c.loop-call.desk) c.call-item.result c.call-item.is c.ask.result (g.D.Desk.seen c.ask.new.self)
+          kept.1 asks inv.room c.loop-call.answers.items inv.section);
+      room = room_more g.State.Object.object g.met.State.Object.lawful (g.D.Desk.caller c.args.desk.now) (g.D.Desk.seen c.args.desk.now) c.args.calls.now
+          c.loop-call.call-index c.loop-call-test.true (g.D.Desk.seen c.loop-call.desk) c.call-item.result c.call-item.is c.ask.result (g.D.Desk.seen c.ask.new.self)
+          kept.1 asks inv.room;
+    }
+
+pub returns-clause-grows : goal.returns-clause-grows
+returns-clause-grows g c = section_grows g.State.Object.object _ _ _ _ _ c.loop-call.invariant.section

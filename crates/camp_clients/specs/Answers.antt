@@ -1,0 +1,68 @@
+-- What an answer says of the history, between the front before it and the front at which it was given.
+use Rattle.std.specs.Prelude.{◌≡◌, ℕ, ◌≤◌, List, [], ◌∷◌, ◌++◌, length, Option, None, Result, Ok, Err, MatchOption}
+use Rattle.camp_object.specs.Asking.{Ask, Caller}
+use Rattle.camp_object.specs.Histories.{IsFront, IsAnswered, own}
+use Rattle.camp_object.specs.Objects.{Sequential}
+use Rattle.camp_object.specs.declared.faults.Fault.{Fault}
+use Rattle.camp_object.specs.declared.faults.Fault.TheVariants.{Memory, Busy, Full}
+
+-- the position that an answer tells, if its call was accepted
+abbrev pub told : {State Call Reply : Type 0} → Sequential State Call Reply → Result Reply Fault → Option ℕ
+told object (Ok reply) = object.done_at reply
+told object (Err fault) = None
+
+-- an answer but want of memory
+abbrev pub HasMemory : {Reply : Type 0} → Result Reply Fault → Type 0
+HasMemory (Ok reply) = Unit {0}
+HasMemory (Err Memory) = ⊥
+HasMemory (Err (Busy lost)) = Unit {0}
+HasMemory (Err Full) = Unit {0}
+
+-- an answer with which a section goes on: neither want of memory nor a full seat
+abbrev pub GoesOn : {Reply : Type 0} → Result Reply Fault → Type 0
+GoesOn (Ok reply) = Unit {0}
+GoesOn (Err Memory) = ⊥
+GoesOn (Err (Busy lost)) = Unit {0}
+GoesOn (Err Full) = ⊥
+
+-- an answer of a desk with which a section goes on
+pub record Asks {State Call Reply : Type 0} (object : Sequential State Call Reply) (caller : Caller)
+    (seen : List (ℕ × Call)) (call : Call) (answer : Result Reply Fault) (now : List (ℕ × Call)) : Type 0 where
+  pub asks : Ask object caller seen call answer now
+  pub goes_on : GoesOn answer
+
+-- done: the front ends with the call, which was accepted after all that stood before it; the answer tells its length
+pub record IsDone {Call : Type 0} (seat : ℕ) (before : List (ℕ × Call)) (call : Call) (at : ℕ)
+    (front : List (ℕ × Call)) : Type 0 where
+  pub stood : List (ℕ × Call)
+  pub since : IsFront before stood
+  pub ends : stood ++ (seat, call) ∷ [] ≡ front
+  pub position : at ≡ length front
+
+-- busy: since the front before, at least as many calls as the seat tries went ahead, and all were others' calls
+pub record IsOvertaken {Call : Type 0} (seat tries : ℕ) (before : List (ℕ × Call)) (lost : ℕ)
+    (front : List (ℕ × Call)) : Type 0 where
+  pub others : List (ℕ × Call)
+  pub makes : before ++ others ≡ front
+  pub none_own : own seat others ≡ []
+  pub enough : tries ≤ length others
+  pub all_lost : lost ≡ tries
+
+-- what an answer says among threads; any reply but done is the object's at the front
+abbrev pub Says : {State Call Reply : Type 0} → Sequential State Call Reply → (seat tries : ℕ)
+    → List (ℕ × Call) → Call → Result Reply Fault → List (ℕ × Call) → Type 0
+Says object seat tries before call (Ok reply) front =
+    MatchOption (object.done_at reply) (IsFront before front × IsAnswered object front call reply)
+    (λ at. IsDone seat before call at front)
+Says object seat tries before call (Err Memory) front = ⊥
+Says object seat tries before call (Err (Busy lost)) front = IsOvertaken seat tries before lost front
+Says object seat tries before call (Err Full) front = ⊥
+
+-- what an answer says where nobody else asks: it is the object's at the history as it stood, and only a call that is
+-- done lengthens the history, by itself
+abbrev pub SaysAlone : {State Call Reply : Type 0} → Sequential State Call Reply → (seat : ℕ)
+    → List (ℕ × Call) → Call → Result Reply Fault → List (ℕ × Call) → Type 0
+SaysAlone object seat before call (Ok reply) front =
+    MatchOption (object.done_at reply) ((front ≡ before) × IsAnswered object before call reply)
+    (λ at. (front ≡ before ++ (seat, call) ∷ []) × (at ≡ length front))
+SaysAlone object seat before call (Err fault) front = ⊥

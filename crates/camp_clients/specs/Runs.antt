@@ -1,0 +1,74 @@
+-- Runs of several sections of calls over one object, section k for seat k.
+use Rattle.std.specs.Prelude.{◌≡◌, ℕ, ◌+◌, ◌<◌, List, [], ◌∷◌, length, map, slice_index_or, Option, Result, Ok, Err, MatchOption, Vec, vec_items}
+use Rattle.std.specs.List.{All, AllZip}
+use Rattle.camp_object.specs.Histories.{IsFront, IsAnswered, IsLegal}
+use Rattle.camp_object.specs.Objects.{Sequential}
+use Rattle.camp_object.specs.declared.faults.Fault.{Fault}
+use Rattle.camp_clients.specs.Answers.{Says, SaysAlone, told}
+use Rattle.camp_clients.specs.Positions.{own_at, done_at}
+use Rattle.camp_clients.specs.Sections.{Section}
+
+-- vectors as the lists of their elements
+abbrev pub lists_of : {X Z : Type 0} → List (Vec X Z) → List (List X)
+lists_of vectors = map vec_items vectors
+
+-- the section of a seat
+abbrev pub section_of : {X : Type 0} → List (List X) → ℕ → List X
+section_of sections seat = slice_index_or sections seat []
+
+-- the calls of each seat in the history are those of its section that are done, in order, each at its position
+abbrev pub OwnDone : {Call Answer : Type 0} → (Answer → Option ℕ) → List (List Call) → List (List Answer)
+    → List (ℕ × Call) → Type 0
+OwnDone told sections answers history = (seat : ℕ) → seat < length sections →
+    own_at seat 0 history ≡ done_at told (section_of sections seat) (section_of answers seat)
+
+-- and the history has no other calls
+pub record IsExactly {Call Answer : Type 0} (told : Answer → Option ℕ) (sections : List (List Call))
+    (answers : List (List Answer)) (history : List (ℕ × Call)) : Type 0 where
+  pub own_done : OwnDone told sections answers history
+  pub no_other : All (λ entry. entry.0 < length sections) history
+
+-- sections one after the other, where nobody else asks, from the section of a seat on
+abbrev pub OneByOne : {State Call Reply : Type 0} → Sequential State Call Reply → (seat : ℕ) → List (ℕ × Call)
+    → List (List Call) → List (List (Result Reply Fault)) → List (ℕ × Call) → Type 0
+OneByOne object seat first [] [] last = first ≡ last
+OneByOne object seat first [] (answers ∷ others) last = ⊥
+OneByOne object seat first (calls ∷ sections) [] last = ⊥
+OneByOne {State} {Call} object seat first (calls ∷ sections) (answers ∷ others) last =
+    (next : List (ℕ × Call)) × Section (SaysAlone object seat) first calls answers next
+    × OneByOne object (seat + 1) next sections others last
+
+-- an answer under a lock: done, or the object's at some legal history
+abbrev pub SaysSomewhere : {State Call Reply : Type 0} → Sequential State Call Reply → Call → Result Reply Fault → Type 0
+SaysSomewhere {State} {Call} object call (Ok reply) =
+    MatchOption (object.done_at reply) ((front : List (ℕ × Call)) × IsAnswered object front call reply) (λ at. Unit {0})
+SaysSomewhere object call (Err fault) = ⊥
+
+-- a run over a lock: one legal history of exactly the calls that are done
+pub record IsLocked {State Call Reply : Type 0} (object : Sequential State Call Reply) (sections : List (List Call))
+    (answers : List (List (Result Reply Fault))) (history : List (ℕ × Call)) : Type 0 where
+  pub legal : IsLegal object history
+  pub as_many : length answers ≡ length sections
+  pub exactly : IsExactly (told object) sections answers history
+  pub answered : (seat : ℕ) → seat < length sections →
+      AllZip (SaysSomewhere object) (section_of sections seat) (section_of answers seat)
+
+-- a section's answers have fronts of the history, which begin where they are to and follow one another
+pub record HasFronts {State Call Reply : Type 0} (object : Sequential State Call Reply) (seat tries : ℕ)
+    (first : List (ℕ × Call)) (calls : List Call) (answers : List (Result Reply Fault)) (history : List (ℕ × Call))
+    : Type 0 where
+  pub last : List (ℕ × Call)
+  pub fronts : Section (Says object seat tries) first calls answers last
+  pub within : IsFront last history
+
+-- a run over a head: one legal history, whose fronts the answers tell. The opening's begin with the empty one, and
+-- each client's with the opening's last
+pub record IsShared {State Call Reply : Type 0} (object : Sequential State Call Reply) (tries : ℕ)
+    (sections : List (List Call)) (answers : List (List (Result Reply Fault))) (history : List (ℕ × Call))
+    : Type 0 where
+  pub legal : IsLegal object history
+  pub as_many : length answers ≡ length sections
+  pub own_done : OwnDone (told object) sections answers history
+  pub opening : HasFronts object 0 tries [] (section_of sections 0) (section_of answers 0) history
+  pub clients : (seat : ℕ) → 0 < seat → seat < length sections →
+      HasFronts object seat tries opening.last (section_of sections seat) (section_of answers seat) history

@@ -1,0 +1,11 @@
+-- Sections of calls: how the fronts of their answers follow one another.
+use Rattle.std.specs.Prelude.{◌≡◌, List, [], ◌∷◌}
+
+-- from front to front: each answer has a front of the history, which is what it says after the front before it
+abbrev pub Section : {Front Call Answer : Type 0} → (Front → Call → Answer → Front → Type 0)
+    → Front → List Call → List Answer → Front → Type 0
+Section Says first [] [] last = first ≡ last
+Section Says first [] (answer ∷ answers) last = ⊥
+Section Says first (call ∷ calls) [] last = ⊥
+Section {Front} Says first (call ∷ calls) (answer ∷ answers) last =
+    (next : Front) × Says first call answer next × Section Says next calls answers last

@@ -1,0 +1,23 @@
+ghost use Rattle.std.specs.Prelude.{◌≡◌};
+ghost use Rattle.camp_clients.specs.declared.faults.LockFault.TheVariants as fault;
+
+use std::alloc::AllocError;
+use thiserror::Error;
+
+/// Why a run over a lock came to nothing.
+#[derive(Clone, Copy, PartialEq, Eq, Debug, Error)]
+pub enum LockFault {
+    #[error("out of memory")]
+    Memory,
+    /// The history has a call that no answer tells as done, or lacks one.
+    #[error("foreign call")]
+    Foreign,
+}
+
+impl From<AllocError> for LockFault {
+    ghost from_gives = { λ _ result. result ≡ fault.Memory };
+
+    fn from(_error: AllocError) -> LockFault {
+        LockFault::Memory
+    }
+}

@@ -1,0 +1,14 @@
+//! Sections of calls over one object: one after the other, in threads over a lock, in threads over a head.
+#![tactic(auto)]
+
+mod comparisons;
+mod faults;
+mod locks;
+mod one_by_one;
+mod sections;
+
+pub use comparisons::{MAX_SECTIONS, has_exactly};
+pub use faults::LockFault;
+pub use locks::locked;
+pub use one_by_one::{BookRun, serial};
+pub use sections::{Answers, ask_all};

@@ -1,0 +1,114 @@
+ghost use Rattle.std.specs.Prelude.{◌≡◌, ℕ, ◌+◌, ◌<◌, ◌≤◌, length, IfOk, slice_index_or};
+ghost use Rattle.std.specs.List.{AllZip};
+ghost use Rattle.std.specs.Thread.{IsSync};
+ghost use Rattle.camp_clients.specs.Answers.{HasMemory};
+ghost use Rattle.camp_clients.specs.Gathering.{Gathers};
+ghost use Rattle.camp_clients.specs.Runs.{IsLocked, SaysSomewhere, lists_of, section_of};
+
+use crate::comparisons::has_exactly;
+use crate::faults::LockFault;
+use crate::one_by_one::BookRun;
+use crate::sections::{Answers, unless_memory};
+use camp_object::{Book, Fault, Object};
+use std::alloc::{AllocError, Global};
+use std::sync::{Mutex, Wait};
+use std::thread;
+use std::thread::Threads;
+
+/// Asks sections of calls over a book under a lock, section k at seat k: the first alone, then each
+/// further one in a thread of its own. Afterwards the history is compared with the answers.
+pub fn locked<R: Threads + Wait + Sync, State: Object + Send>(
+    rt: &R,
+    alloc: Global,
+    sections: &[Vec<State::Call>],
+) -> Result<BookRun<State>, LockFault>
+where
+    State::Call: Send + Sync,
+    State::Reply: Send,
+    requires { (0 < length sections.now) × (length sections.now ≤ 64) }
+    ensures { IfOk result (λ run.
+        IsLocked State.object (lists_of sections.now) (lists_of run.answers.items) run.book) }
+{
+    let lock = Mutex::new(Book::<State>::new(alloc)?);
+    let opening = ask_locked::<R, State>(rt, alloc, &lock, 0, &sections[0])?;
+    let clients = in_threads::<R, State>(rt, alloc, &lock, sections)?;
+    let answers = gather::<State>(alloc, opening, clients)?;
+    let book = lock.into_inner();
+    if !has_exactly::<State>(book.history(), sections, &answers) {
+        return Err(LockFault::Foreign);
+    }
+    Ok(BookRun { answers, book })
+}
+
+/// Asks each section but the first in a thread of its own.
+fn in_threads<R: Threads + Wait + Sync, State: Object + Send>(
+    rt: &R,
+    alloc: Global,
+    lock: &Mutex<Book<State>>,
+    sections: &[Vec<State::Call>],
+) -> Result<Vec<Result<Answers<State>, AllocError>>, AllocError>
+where
+    State::Call: Send + Sync,
+    State::Reply: Send,
+    requires { (0 < length sections.now) × (length sections.now ≤ 64) }
+    ensures as_many { IfOk result (λ made. length made.items + 1 ≡ length sections.now) }
+    ensures each { IfOk result (λ made. (k : ℕ) (d : _) → k < length made.items →
+        IfOk (slice_index_or made.items k d) (λ answers.
+        AllZip (SaysSomewhere State.object) (section_of (lists_of sections.now) (k + 1)) answers.items)) }
+{
+    thread::map_indices(
+        rt,
+        alloc,
+        sections.len() - 1,
+        &|k: usize| -> Result<Answers<State>, AllocError>
+            requires { IsSync R.row × (k + 1 < length sections.now) × (length sections.now ≤ 64) }
+            ensures { IfOk result (λ answers.
+                AllZip (SaysSomewhere State.object) (section_of (lists_of sections.entry.now) (k + 1)) answers.items) }
+        { ask_locked::<R, State>(rt, alloc, lock, k as u32 + 1, &sections[k + 1]) },
+    )
+}
+
+/// The answers of all sections, or want of memory where one of them wanted it.
+fn gather<State: Object>(
+    alloc: Global,
+    opening: Answers<State>,
+    made: Vec<Result<Answers<State>, AllocError>>,
+) -> Result<Vec<Answers<State>>, AllocError>
+    ensures { IfOk result (λ all. Gathers opening made.items all.items) }
+{
+    let mut all = Vec::with_capacity(alloc, made.len() + 1)?;
+    all.push(opening)?;
+    for own in made {
+        all.push(own?)?;
+    }
+    Ok(all)
+}
+
+/// Asks a section of calls, each under the lock.
+fn ask_locked<R: Wait, State: Object>(
+    rt: &R,
+    alloc: Global,
+    lock: &Mutex<Book<State>>,
+    seat: u32,
+    calls: &[State::Call],
+) -> Result<Answers<State>, AllocError>
+    ensures { IfOk result (λ answers. AllZip (SaysSomewhere State.object) calls.now answers.items) }
+{
+    let mut answers = Vec::with_capacity(alloc, calls.len())?;
+    for call in calls {
+        answers.push(unless_memory(ask_once::<R, State>(rt, lock, seat, call))?)?;
+    }
+    Ok(answers)
+}
+
+/// Asks one call, under the lock.
+fn ask_once<R: Wait, State: Object>(
+    rt: &R,
+    lock: &Mutex<Book<State>>,
+    seat: u32,
+    call: &State::Call,
+) -> Result<State::Reply, Fault>
+    ensures { HasMemory result → SaysSomewhere State.object call.now result }
+{
+    lock.lock(rt).ask(seat, call)
+}

@@ -1,0 +1,60 @@
+ghost use Rattle.std.specs.Prelude.{◌≤◌, [], length, IfOk};
+ghost use Rattle.camp_clients.specs.Answers.{SaysAlone};
+ghost use Rattle.camp_clients.specs.Runs.{OneByOne, lists_of};
+ghost use Rattle.camp_clients.specs.Sections.{Section};
+
+use crate::sections::{Answers, ask_all};
+use camp_object::{Book, BookDesk, Desk, Object};
+use std::alloc::{AllocError, Global};
+
+/// What sections over one book came to: the answers of each, and the book.
+#[derive(Drop)]
+pub struct BookRun<State: Object> {
+    pub answers: Vec<Answers<State>>,
+    pub book: Book<State>,
+}
+
+/// Asks sections of calls one after the other, section k at seat k of a new book.
+pub fn serial<State: Object>(
+    alloc: Global,
+    sections: &[Vec<State::Call>],
+) -> Result<BookRun<State>, AllocError>
+    requires { length sections.now ≤ 64 }
+    ensures { IfOk result (λ run.
+        OneByOne State.object 0 [] (lists_of sections.now) (lists_of run.answers.items) run.book) }
+{
+    let mut book = Book::new(alloc)?;
+    let mut answers = Vec::with_capacity(alloc, sections.len())?;
+    for (seat, calls) in sections.iter().enumerate() {
+        answers.push(at_seat::<State>(alloc, &mut book, seat as u32, calls)?)?;
+    }
+    Ok(BookRun { answers, book })
+}
+
+/// Asks a section of calls at a seat of a book that nobody else writes.
+fn at_seat<State: Object>(
+    alloc: Global,
+    book: &mut Book<State>,
+    seat: u32,
+    calls: &[State::Call],
+) -> Result<Answers<State>, AllocError>
+    ensures { IfOk result (λ answers.
+        Section (SaysAlone State.object seat) book.old calls.now answers.items book.new) }
+{
+    let mut desk = BookDesk::new(book, seat);
+    at_desk(alloc, &mut desk, calls)
+}
+
+/// Asks a section of calls at the desk of a book.
+fn at_desk<'a, State: Object>(
+    alloc: Global,
+    desk: &mut BookDesk<'a, State>,
+    calls: &[State::Call],
+) -> Result<Answers<State>, AllocError>
+    ensures keeps { ⟦<BookDesk<'a, State> as Desk<State>>⟧.keeps desk.old desk.new }
+    ensures section { let at = ⟦<BookDesk<'a, State> as Desk<State>>⟧ in
+        IfOk result (λ answers.
+        Section (SaysAlone State.object (at.caller desk.old).seat) (at.seen desk.old) calls.now answers.items (at.seen desk.new)) }
+{
+    ask_all(alloc, desk, calls)
+}

@@ -1,0 +1,45 @@
+ghost use Rattle.std.specs.Prelude.{◌≡◌, ◌+◌, ◌≤◌, false, length, count_by, IfOk, MatchResult};
+ghost use Rattle.camp_object.specs.declared.faults.Fault.TheVariants as fault;
+ghost use Rattle.camp_object.specs.Histories.{IsFront, own};
+ghost use Rattle.camp_clients.specs.Answers.{Asks, HasMemory};
+ghost use Rattle.camp_clients.specs.Sections.{Section};
+
+use camp_object::{Desk, Fault, Object};
+use std::alloc::{AllocError, Global};
+
+/// The answers to a section of calls, in order.
+pub type Answers<State> = Vec<Result<<State as Object>::Reply, Fault>>;
+
+/// Asks the calls of a section in order. Want of memory ends it, in an answer too.
+pub fn ask_all<State: Object, D: Desk<State>>(
+    alloc: Global,
+    desk: &mut D,
+    calls: &[State::Call],
+) -> Result<Answers<State>, AllocError>
+    requires { let caller = D.caller desk.old in
+        caller.alone ≡ false →
+        length (own caller.seat (D.seen desk.old)) + count_by State.object.is_writing calls.now ≤ caller.per_seat }
+    ensures keeps { D.keeps desk.old desk.new }
+    ensures caller { D.caller desk.new ≡ D.caller desk.old }
+    ensures grows { IsFront (D.seen desk.old) (D.seen desk.new) }
+    ensures section { IfOk result (λ answers.
+        Section (Asks State.object (D.caller desk.old)) (D.seen desk.old) calls.now answers.items (D.seen desk.new)) }
+{
+    let mut answers = Vec::with_capacity(alloc, calls.len())?;
+    for call in calls {
+        answers.push(unless_memory(desk.ask(call))?)?;
+    }
+    Ok(answers)
+}
+
+/// The answer, but want of memory as an error.
+pub(crate) fn unless_memory<Reply>(
+    answer: Result<Reply, Fault>,
+) -> Result<Result<Reply, Fault>, AllocError>
+    ensures { MatchResult result (λ other. (other ≡ answer) × HasMemory answer) (λ _. answer ≡ Err fault.Memory) }
+{
+    match answer {
+        Err(Fault::Memory) => Err(AllocError),
+        other => Ok(other),
+    }
+}

@@ -1,0 +1,43 @@
+-- Rows that grow item by item.
+use Rattle.std.proofs.Common.{◌≡◌, ℕ, ◌+◌, ◌<◌, ◌≤◌, List, [], ◌∷◌, ◌++◌, length, take, None, Some, sym, ap, ◌∙◌, append_assoc, append-nil, arith}
+use Rattle.std.proofs.lemmas.List.{take_more, take_all, length-take-le}
+use Rattle.std.proofs.lemmas.Grind.{flat_map-append}
+use Rattle.std.proofs.lemmas.Option.{slice_get-get_or, slice_get_within, get_or_from_slice_get, none-some}
+use Rattle.std.specs.List.{flat_map, slice_get}
+use Rattle.std.specs.FinMap.{entries, len, len-entries}
+use Rattle.camp_base.specs.Trees.{Files}
+use Rattle.camp_notation.specs.Words.{row, separator}
+
+-- one more item, behind those that are there
+behind : {X : Type 0} (text : X → List ℕ) (xs : List X) (x : X) → row text (xs ++ x ∷ []) ≡ row text xs ++ (separator (length xs) ++ text x)
+behind text [] x = append-nil (text x)
+behind text (y ∷ ys) x =
+    ap (λ t. text y ++ t) (flat_map-append (λ z. 44 ∷ 32 ∷ text z) ys (x ∷ []) ∙ ap (λ t. flat_map (λ z. 44 ∷ 32 ∷ text z) ys ++ t) (append-nil (44 ∷ 32 ∷ text x)))
+    ∙ sym (append_assoc (text y) (flat_map (λ z. 44 ∷ 32 ∷ text z) ys) (44 ∷ 32 ∷ text x))
+
+-- one more item of a list
+pub one_more : {X : Type 0} (text : X → List ℕ) (xs : List X) (i : ℕ) (x : X) (old now apart new : List ℕ) → now ≡ old ++ row text (take i xs) → slice_get xs i ≡ Some x → apart ≡ now ++ separator i → new ≡ apart ++ text x → new ≡ old ++ row text (take (i + 1) xs)
+one_more text xs i x old now apart new so read separated is =
+    let inside : i < length xs = slice_get_within xs i x read in
+    let last = ap (λ y. take i xs ++ y ∷ []) (sym (get_or_from_slice_get xs i x x read)) ∙ sym (take_more xs i x inside) in
+    let size : length (take i xs) ≡ i = length-take-le i xs (omega arith) in
+    let grown = behind text (take i xs) x ∙ ap (λ n. row text (take i xs) ++ (separator n ++ text x)) size in
+    is ∙ ap (λ t. t ++ text x) (separated ∙ ap (λ t. t ++ separator i) so) ∙ append_assoc (old ++ row text (take i xs)) (separator i) (text x)
+    ∙ append_assoc old (row text (take i xs)) (separator i ++ text x) ∙ ap (λ t. old ++ t) (sym grown ∙ ap (row text) last)
+
+-- a tree has a file at each place below its number of files
+pub no_file : (tree : Files) (n i : ℕ) → n ≡ len tree → i < n → slice_get (entries tree) i ≡ None → ⊥
+no_file tree n i is within none =
+    let size = len-entries tree in
+    let inside : i < length (entries tree) = omega arith in
+    elim (entries tree) as (λ es. i < length es → slice_get es i ≡ None → ⊥) [
+      | [] ↦ λ h e. omega arith
+      | file ∷ files ↦ λ h e. none-some _ (sym e ∙ slice_get-get_or (file ∷ files) i file h)
+    ] inside none
+
+-- all files of a tree
+pub all_files : (text : List ℕ × List (List ℕ) → List ℕ) (tree : Files) (n i : ℕ) (old now : List ℕ) → n ≡ len tree → n ≤ i → now ≡ old ++ row text (take i (entries tree)) → now ≡ old ++ row text (entries tree)
+all_files text tree n i old now is past so =
+    let size = len-entries tree in
+    let over : length (entries tree) ≤ i = omega arith in
+    so ∙ ap (λ es. old ++ row text es) (take_all i (entries tree) over)

@@ -1,0 +1,6 @@
+use Rattle.std.proofs.Common.{◌≡◌, ◌++◌, take, string_bytes}
+use Rattle.camp_notation.specs.Words.{row, word_text}
+use Rattle.camp_notation.proofs.words.append_lines.Given as goal
+
+abbrev pub invariant-loop-at : goal.invariant-loop-at
+invariant-loop-at l = string_bytes l.text ≡ string_bytes l.initial.text ++ row word_text (take l.at l.lines)

@@ -1,0 +1,7 @@
+use Rattle.std.proofs.Common.{◌≡◌, ◌∷◌, ◌++◌, take, string_bytes}
+use Rattle.std.specs.List.{flat_map}
+use Rattle.camp_notation.specs.Words.{quoted_byte}
+use Rattle.camp_notation.proofs.words.append_quoted.Given as goal
+
+abbrev pub invariant-loop-byte : goal.invariant-loop-byte
+invariant-loop-byte l = string_bytes l.text ≡ string_bytes l.initial.text ++ flat_map quoted_byte (take l.byte-index l.bytes)

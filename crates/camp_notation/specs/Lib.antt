@@ -1,0 +1,4 @@
+pub mod Lists
+pub mod Patches
+pub mod Trees
+pub mod Words

@@ -1,0 +1,9 @@
+-- Lists of labelled primitives as text.
+use Rattle.std.specs.Prelude.{ℕ, List, [], ◌∷◌, ◌++◌}
+use Rattle.camp_prim.specs.declared.named.Named.{Named}
+use Rattle.camp_notation.specs.Words.{row}
+use Rattle.camp_notation.specs.Patches.{named_text}
+
+-- the primitives in a row, between brackets
+abbrev pub list_text : List Named → List Named → List ℕ
+list_text known s = 91 ∷ row (named_text known) s ++ 93 ∷ []

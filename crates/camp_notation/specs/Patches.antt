@@ -1,0 +1,46 @@
+-- Labels and labelled primitives as text.
+use Rattle.std.specs.Prelude.{ℕ, Bool, ◌==◌, if◌then◌else◌, List, [], ◌∷◌, ◌++◌, codes}
+use Rattle.std.specs.List.{list_any}
+use Rattle.std.specs.Fmt.{decimal}
+use Rattle.std.specs.Cmp.Lexicographic.{pointwise}
+use Rattle.camp_prim.specs.Hunks.{Edit}
+use Rattle.camp_prim.specs.Labels.{label_of}
+use Rattle.camp_prim.specs.declared.labels.Label.{Label}
+use Rattle.camp_prim.specs.declared.primitives.Primitive.{Primitive}
+use Rattle.camp_prim.specs.declared.primitives.Primitive.TheVariants.{Add, Remove, Hunk}
+use Rattle.camp_prim.specs.declared.named.Named.{Named}
+use Rattle.camp_notation.specs.Words.{word_text, lines_text}
+
+-- `.PLACE`, and nothing for the first place
+abbrev pub place_text : ℕ → List ℕ
+place_text place = if place == 1 then [] else 46 ∷ decimal place
+
+-- `^` for an inverse
+abbrev pub sign_text : Bool → List ℕ
+sign_text inverse = if inverse then 94 ∷ [] else []
+
+-- NAME.PLACE^
+abbrev pub label_text : Label → List ℕ
+label_text label = label.name ++ place_text label.place ++ sign_text label.inverse
+
+-- PATH LINE [OLD, ..] -> [NEW, ..]
+abbrev pub hunk_text : Edit → List ℕ
+hunk_text hunk = word_text hunk.path ++ 32 ∷ decimal hunk.line ++ 32 ∷ lines_text hunk.old ++ codes " -> " ++ lines_text hunk.new
+
+-- add PATH; remove PATH; or a hunk
+abbrev pub change_text : Primitive → List ℕ
+change_text (Add path) = codes "add " ++ word_text path
+change_text (Remove path) = codes "remove " ++ word_text path
+change_text (Hunk hunk) = hunk_text hunk
+
+-- LABEL CHANGE
+abbrev pub whole_text : Named → List ℕ
+whole_text p = label_text (label_of p) ++ 32 ∷ change_text p.prim
+
+-- a primitive is known where one of those that are known has its text
+abbrev pub is_known : List Named → Named → Bool
+is_known known p = list_any (λ k. pointwise ◌==◌ (whole_text k) (whole_text p)) known
+
+-- a primitive that is known by its label alone, and any other as a whole
+abbrev pub named_text : List Named → Named → List ℕ
+named_text known p = if is_known known p then label_text (label_of p) else whole_text p

@@ -1,0 +1,158 @@
+ghost use Rattle.std.specs.Prelude.{◌≤◌, ◌<◌, length, IfOk};
+
+use crate::NotationError;
+use crate::words::is_plain_byte;
+use std::alloc::Global;
+use std::str;
+
+/// A text that is read from left to right.
+#[derive(Drop)]
+pub(crate) struct Cursor<'a> {
+    rest: &'a [u8],
+}
+
+/// The bytes that stand together in a word without quotes, in a name, or in a number.
+#[derive(Clone, Copy)]
+enum Run {
+    Plain,
+    Name,
+    Digits,
+}
+
+impl<'a> Cursor<'a> {
+    pub(crate) fn new(text: &'a [u8]) -> Cursor<'a> {
+        Cursor { rest: text }
+    }
+
+    /// How many bytes are left: a row has no more items.
+    pub(crate) fn len(&self) -> usize {
+        self.rest.len()
+    }
+
+    /// Goes past some bytes, where they stand next.
+    pub(crate) fn take(&mut self, bytes: &[u8]) -> bool {
+        match self.rest.strip_prefix(bytes) {
+            Some(rest) => {
+                self.rest = rest;
+                true
+            }
+            None => false,
+        }
+    }
+
+    /// Goes past a sign that has to stand next.
+    pub(crate) fn expect(&mut self, sign: &[u8], mark: char) -> Result<(), NotationError> {
+        if self.take(sign) {
+            Ok(())
+        } else {
+            Err(NotationError::Expected(mark))
+        }
+    }
+
+    /// Nothing is left.
+    pub(crate) fn expect_end(&self) -> Result<(), NotationError> {
+        if self.rest.is_empty() {
+            Ok(())
+        } else {
+            Err(NotationError::MoreBehind)
+        }
+    }
+
+    /// The bytes of a word, with quotes or without.
+    pub(crate) fn word(&mut self, alloc: Global) -> Result<Vec<u8>, NotationError> {
+        if self.take(b"\"") {
+            return self.quoted(alloc);
+        }
+        let bytes = self.run(Run::Plain);
+        if bytes.is_empty() {
+            return Err(NotationError::NoWord);
+        }
+        Ok(Vec::from_slice(alloc, bytes)?)
+    }
+
+    /// The bytes that may be of a name.
+    pub(crate) fn name(&mut self) -> &'a [u8] {
+        self.run(Run::Name)
+    }
+
+    /// A number.
+    pub(crate) fn number(&mut self) -> Result<u32, NotationError> {
+        let digits = self.run(Run::Digits);
+        let Ok(text) = str::from_utf8(digits) else {
+            return Err(NotationError::BadNumber);
+        };
+        match text.parse::<u32>() {
+            Ok(number) => Ok(number),
+            Err(_) => Err(NotationError::BadNumber),
+        }
+    }
+
+    fn run(&mut self, run: Run) -> &'a [u8] {
+        let (taken, rest) = self.rest.split_at(run_len(self.rest, run));
+        self.rest = rest;
+        taken
+    }
+
+    // What stands between quotes, behind the first of them.
+    fn quoted(&mut self, alloc: Global) -> Result<Vec<u8>, NotationError> {
+        let mut bytes = Vec::new(alloc);
+        for _ in 0..self.len() {
+            match self.next()? {
+                b'"' => return Ok(bytes),
+                b'\\' => bytes.push(self.escaped()?)?,
+                byte => bytes.push(byte)?,
+            }
+        }
+        Err(NotationError::Expected('"'))
+    }
+
+    // The byte that stands behind a `\`.
+    fn escaped(&mut self) -> Result<u8, NotationError> {
+        match self.next()? {
+            b'x' => {
+                let high = self.hex_digit()?;
+                let low = self.hex_digit()?;
+                Ok(16 * high + low)
+            }
+            byte => Ok(byte),
+        }
+    }
+
+    fn hex_digit(&mut self) -> Result<u8, NotationError>
+        ensures { IfOk result (λ digit. digit < 16) }
+    {
+        match self.next()? {
+            byte @ b'0'..=b'9' => Ok(byte - b'0'),
+            byte @ b'a'..=b'f' => Ok(byte - b'a' + 10),
+            _ => Err(NotationError::BadEscape),
+        }
+    }
+
+    fn next(&mut self) -> Result<u8, NotationError> {
+        let Some((byte, rest)) = self.rest.split_first() else {
+            return Err(NotationError::Expected('"'));
+        };
+        self.rest = rest;
+        Ok(*byte)
+    }
+}
+
+// How many bytes of a run stand in front.
+fn run_len(bytes: &[u8], run: Run) -> usize
+    ensures { result ≤ length bytes.now }
+{
+    for (at, byte) in bytes.iter().enumerate() {
+        if !is_of(run, *byte) {
+            return at;
+        }
+    }
+    bytes.len()
+}
+
+fn is_of(run: Run, byte: u8) -> bool {
+    match run {
+        Run::Plain => is_plain_byte(byte),
+        Run::Name => matches!(byte, b'a'..=b'z' | b'0'..=b'9' | b'-'),
+        Run::Digits => byte.is_ascii_digit(),
+    }
+}

@@ -1,0 +1,80 @@
+-- How an answer is shown to say what it says of the history.
+use Rattle.std.proofs.Common.{◌≡◌, ℕ, zero, suc, ◌<◌, Bool, true, false, List, [], ◌∷◌, ◌++◌, length, Option, Some, None, MatchOption, Ok, Err, refl, sym, ◌∙◌, ap, subst, is_some}
+use Rattle.std.specs.Option.{option_and_then}
+use Rattle.std.proofs.lemmas.Option.{option_and_then_some}
+use Rattle.camp_object.specs.Objects.{Sequential, IsLawful}
+use Rattle.camp_object.specs.Histories.{IsFront, replay, IsLegal, IsAccepted, IsAnswered, own}
+use Rattle.camp_object.specs.Asking.{Caller, alone_at, Accepts, AddsNothing, Loses, Ask}
+use Rattle.camp_object.specs.declared.faults.Fault.TheVariants.{Memory}
+use Rattle.camp_object.proofs.Fronts.{front_longer, front_front}
+use Rattle.camp_object.proofs.Replays.{own_mine, replay_more, some_is_some, state_of_legal}
+
+-- a call that was accepted after what stands before it
+pub ask_done : {State Call Reply : Type 0} (object : Sequential State Call Reply) → IsLawful object → (caller : Caller) (seen before now : List (ℕ × Call)) (call : Call) (at : ℕ) (reply : Reply)
+    → IsFront seen before → own caller.seat before ≡ own caller.seat seen → IsAccepted object before call
+    → (caller.alone ≡ false → length (own caller.seat seen) < caller.per_seat) → (caller.alone ≡ true → before ≡ seen)
+    → now ≡ before ++ (caller.seat, call) ∷ [] → at ≡ length now → reply ≡ object.done at
+    → Ask object caller seen call (Ok reply) now
+ask_done {Call = Call} {Reply = Reply} object lawful caller seen before now call at reply since stays accepted has_room exact ends position is =
+    let begins : IsFront seen (before ++ (caller.seat, call) ∷ []) = front_longer ((caller.seat, call) ∷ []) since in
+    let legal : IsLegal object (before ++ (caller.seat, call) ∷ []) = ap {B = Bool} is_some (replay_more object before (caller.seat, call)) ∙ accepted in
+    let grown : own caller.seat now ≡ own caller.seat seen ++ call ∷ [] =
+    ap (own caller.seat) ends ∙ own_mine caller.seat before call ∙ ap (λ calls. calls ++ call ∷ []) stays
+    in
+    let accepts : Accepts caller seen call at now =
+    record { before = before; since = since; ends = ends; own_grows = grown; position = position; has_room = has_room; exact = exact }
+    in
+    let P : Option ℕ → Type 0 = λ told. MatchOption told (AddsNothing caller seen now × IsAnswered object now call reply) (λ at. Accepts caller seen call at now) in
+    record {
+      grows = let Begins : List (ℕ × Call) → Type 0 = λ list. IsFront seen list in subst Begins (sym ends) begins;
+      legal = let Legal : List (ℕ × Call) → Type 0 = λ list. IsLegal object list in subst Legal (sym ends) legal;
+      says = subst P (sym (ap object.done_at is ∙ lawful.tells at)) accepts;
+    }
+
+-- a call that was not accepted
+pub ask_answered : {State Call Reply : Type 0} (object : Sequential State Call Reply) → IsLawful object → (caller : Caller) (seen now : List (ℕ × Call)) (call : Call) (reply : Reply) (state : State)
+    → IsFront seen now → AddsNothing caller seen now → replay object now ≡ Some state → object.after state call ≡ None → object.answers state call reply
+    → Ask object caller seen call (Ok reply) now
+ask_answered object lawful caller seen now call reply state grows adds_nothing replays stays gives =
+    let P : Option ℕ → Type 0 = λ told. MatchOption told (AddsNothing caller seen now × IsAnswered object now call reply) (λ at. Accepts caller seen call at now) in
+    record {
+      grows = grows;
+      legal = some_is_some replays;
+      says = subst P (sym (lawful.tells_none state call reply gives)) (adds_nothing, record { state = state; replays = replays; stays = stays; gives = gives });
+    }
+
+-- a call for which memory was wanting
+pub ask_memory : {State Call Reply : Type 0} (object : Sequential State Call Reply) (caller : Caller) (seen now : List (ℕ × Call)) (call : Call)
+    → IsFront seen now → AddsNothing caller seen now → IsLegal object now → Ask object caller seen call (Err Memory) now
+ask_memory object caller seen now call grows adds_nothing legal = record { grows = grows; legal = legal; says = adds_nothing }
+
+-- a caller that is alone, and to whose history nothing was added
+pub adds_nothing_alone : {Call : Type 0} (seat : ℕ) (seen : List (ℕ × Call)) → AddsNothing (alone_at seat) seen seen
+adds_nothing_alone seat seen = record { own_stays = refl; exact = λ _. refl }
+
+-- one more loss at the end
+pub loses_more : {State Call Reply : Type 0} (object : Sequential State Call Reply) (call : Call) (times : ℕ) (seen front now : List (ℕ × Call)) (ahead : ℕ × Call)
+    → Loses object call times seen front → IsAccepted object front call → IsFront (front ++ ahead ∷ []) now → Loses object call (suc times) seen now
+loses_more object call zero seen front now ahead begins accepted further = (front, ahead, begins, accepted, further)
+loses_more object call (suc times) seen front now ahead loses accepted further =
+    (loses.0, loses.1, loses.2, loses.3, loses_more object call times (loses.0 ++ loses.1 ∷ []) front now ahead loses.4 accepted further)
+
+-- the losses stay when more is seen
+pub loses_longer : {State Call Reply : Type 0} (object : Sequential State Call Reply) (call : Call) (times : ℕ) (seen front now : List (ℕ × Call))
+    → Loses object call times seen front → IsFront front now → Loses object call times seen now
+loses_longer object call zero seen front now begins further = front_front begins further
+loses_longer object call (suc times) seen front now loses further =
+    (loses.0, loses.1, loses.2, loses.3, loses_longer object call times (loses.0 ++ loses.1 ∷ []) front now loses.4 further)
+
+-- the call of a done was accepted at what stood before it
+pub accepted_before : {State Call Reply : Type 0} (object : Sequential State Call Reply) (caller : Caller) (seen : List (ℕ × Call)) (call : Call) (at : ℕ) (now : List (ℕ × Call))
+    → (accepts : Accepts caller seen call at now) → IsLegal object now → IsAccepted object accepts.before call
+accepted_before object caller seen call at now accepts legal =
+    sym (ap {B = Bool} is_some (replay_more object accepts.before (caller.seat, call))) ∙ ap {B = Bool} (λ list. is_some (replay object list)) (sym accepts.ends) ∙ legal
+
+-- an accepted call writes
+pub accepted_writes : {State Call Reply : Type 0} (object : Sequential State Call Reply) → IsLawful object → (history : List (ℕ × Call)) (call : Call)
+    → IsAccepted object history call → object.is_writing call ≡ true
+accepted_writes object lawful history call accepted =
+    let next = state_of_legal (option_and_then (λ s. object.after s call) (replay object history)) accepted in
+    option_and_then_some (λ s. object.after s call) (replay object history) next.0 next.1 (λ state at gives. lawful.writes state call next.0 gives)

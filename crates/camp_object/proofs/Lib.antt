@@ -1,0 +1,3 @@
+pub mod Asks
+pub mod Fronts
+pub mod Replays

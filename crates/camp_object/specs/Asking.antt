@@ -1,0 +1,80 @@
+-- What an answer says of the history, between what its caller had seen and what it has seen now.
+use Rattle.std.specs.Prelude.{◌≡◌, ℕ, zero, suc, ◌<◌, Bool, true, false, List, [], ◌∷◌, ◌++◌, length}
+use Rattle.std.specs.Prelude.{Result, Ok, Err, MatchOption}
+use Rattle.camp_object.specs.Objects.{Sequential}
+use Rattle.camp_object.specs.Histories.{IsFront, IsLegal, IsAccepted, IsAnswered, own}
+use Rattle.camp_object.specs.declared.faults.Fault.{Fault}
+use Rattle.camp_object.specs.declared.faults.Fault.TheVariants.{Memory, Busy, Full}
+
+-- who asks, and under which bounds
+pub record Caller : Type 0 where
+  -- the number of its seat
+  pub seat : ℕ
+  -- how many exchanges a call loses before its caller is told that the object is busy
+  pub tries : ℕ
+  -- how many calls of the seat are accepted at most
+  pub per_seat : ℕ
+  -- whether nobody else adds to the history; then neither bound holds
+  pub alone : Bool
+
+-- a caller that is alone, at a seat
+abbrev pub alone_at : ℕ → Caller
+alone_at seat = record { seat = seat; tries = 0; per_seat = 0; alone = true }
+
+module _ {Call : Type 0} (caller : Caller) (seen : List (ℕ × Call)) where
+  -- the call was accepted after all that its caller had seen: it ends the history, at this position, and is the one
+  -- new call of its caller
+  pub record Accepts (call : Call) (at : ℕ) (now : List (ℕ × Call)) : Type 0 where
+    pub before : List (ℕ × Call)
+    pub since : IsFront seen before
+    pub ends : now ≡ before ++ (caller.seat, call) ∷ []
+    pub own_grows : own caller.seat now ≡ own caller.seat seen ++ call ∷ []
+    pub position : at ≡ length now
+    pub has_room : caller.alone ≡ false → length (own caller.seat seen) < caller.per_seat
+    pub exact : caller.alone ≡ true → before ≡ seen
+
+  -- no call of the caller is new, and no call at all where it is alone
+  pub record AddsNothing (now : List (ℕ × Call)) : Type 0 where
+    pub own_stays : own caller.seat now ≡ own caller.seat seen
+    pub exact : caller.alone ≡ true → now ≡ seen
+
+-- the call lost so many times: at a front it was accepted but another call went ahead, and so on from there
+abbrev pub Loses : {State Call Reply : Type 0} → Sequential State Call Reply → Call → ℕ
+    → List (ℕ × Call) → List (ℕ × Call) → Type 0
+Loses object call zero seen now = IsFront seen now
+Loses {Call = Call} object call (suc times) seen now =
+    (front : List (ℕ × Call)) × (ahead : ℕ × Call) × IsFront seen front × IsAccepted object front call
+    × Loses object call times (front ++ ahead ∷ []) now
+
+module _ {State Call Reply : Type 0} (object : Sequential State Call Reply)
+    (caller : Caller) (seen : List (ℕ × Call)) (call : Call) where
+  -- as many exchanges as the caller tries were lost, and nothing was added
+  pub record IsBusy (lost : ℕ) (now : List (ℕ × Call)) : Type 0 where
+    pub adds_nothing : AddsNothing caller seen now
+    pub not_alone : caller.alone ≡ false
+    pub all_lost : lost ≡ caller.tries
+    pub has_room : length (own caller.seat seen) < caller.per_seat
+    pub loses : Loses object call lost seen now
+
+  -- the call would be accepted, but its caller has as many accepted calls as it may
+  pub record IsFull (now : List (ℕ × Call)) : Type 0 where
+    pub adds_nothing : AddsNothing caller seen now
+    pub not_alone : caller.alone ≡ false
+    pub no_room : length (own caller.seat seen) ≡ caller.per_seat
+    pub accepted : IsAccepted object now call
+
+  -- what each answer says; a reply tells a position exactly where the call was accepted
+  abbrev pub Says : Result Reply Fault → List (ℕ × Call) → Type 0
+  Says (Ok reply) now =
+      MatchOption (object.done_at reply)
+      (AddsNothing caller seen now × IsAnswered object now call reply)
+      (λ at. Accepts caller seen call at now)
+  Says (Err Memory) now = AddsNothing caller seen now
+  Says (Err (Busy lost)) now = IsBusy lost now
+  Says (Err Full) now = IsFull now
+
+  -- the answer to a call: what its caller has seen now is a legal history that begins with all it had seen
+  pub record Ask (answer : Result Reply Fault) (now : List (ℕ × Call)) : Type 0 where
+    pub grows : IsFront seen now
+    pub legal : IsLegal object now
+    pub says : Says answer now

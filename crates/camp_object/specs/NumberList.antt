@@ -1,0 +1,49 @@
+-- The example: a list of numbers that takes each number once.
+use Rattle.std.specs.Prelude.{◌≡◌, ℕ, Bool, true, false, List, [], ◌∷◌, ◌++◌, length, Option, None, Some, IsSomeAnd, ◌==◌, if◌then◌else◌}
+use Rattle.std.specs.List.{list_any}
+use Rattle.camp_object.specs.Objects.{Sequential}
+use Rattle.camp_object.specs.declared.numbers.NumberCall.{NumberCall}
+use Rattle.camp_object.specs.declared.numbers.NumberCall.TheVariants.{Insert, Show}
+use Rattle.camp_object.specs.declared.numbers.NumberReply.{NumberReply}
+use Rattle.camp_object.specs.declared.numbers.NumberReply.TheVariants.{Done, Present, Shown}
+
+-- whether a number is in the list
+abbrev pub has_number : List ℕ → ℕ → Bool
+has_number numbers number = list_any (λ n. n == number) numbers
+
+-- a number that is not there is put at the end, and nothing else is accepted
+abbrev pub inserted : List ℕ → NumberCall → Option (List ℕ)
+inserted numbers (Insert number) = if has_number numbers number then None else Some (numbers ++ number ∷ [])
+inserted numbers Show = None
+
+-- the numbers that a reply shows
+abbrev pub numbers_in : NumberReply → Option (List ℕ)
+numbers_in (Done at) = None
+numbers_in Present = None
+numbers_in (Shown numbers) = Some numbers.items
+
+-- a number that is there is refused; a question shows the numbers
+abbrev pub Replies : List ℕ → NumberCall → NumberReply → Type 0
+Replies numbers (Insert number) reply = reply ≡ Present
+Replies numbers Show reply = IsSomeAnd (numbers_in reply) (λ shown. shown ≡ numbers)
+
+abbrev pub is_insert : NumberCall → Bool
+is_insert (Insert number) = true
+is_insert Show = false
+
+abbrev pub position_of : NumberReply → Option ℕ
+position_of (Done at) = Some at
+position_of Present = None
+position_of (Shown numbers) = None
+
+-- the list as an object
+abbrev pub numbers_object : Sequential (List ℕ) NumberCall NumberReply
+numbers_object = record {
+  initial = [];
+  after = inserted;
+  answers = Replies;
+  count = length;
+  is_writing = is_insert;
+  done = Done;
+  done_at = position_of;
+}

@@ -1,0 +1,58 @@
+ghost use Rattle.std.specs.Prelude.{◌≡◌, List, ℕ};
+ghost use Rattle.std.proofs.Common.{refl, ◌∙◌};
+ghost use Rattle.camp_object.specs.Asking.{Ask, Caller, alone_at};
+
+use crate::{Book, Fault, Object};
+
+/// Where one caller asks an object. Its calls are answered at a history that others may lengthen.
+/// Proofs see who asks (`caller`), the history that it has seen (`seen`), and whether one desk is
+/// another at a later moment (`keeps`): what the desk lends stays the same.
+pub trait Desk<State: Object> {
+    ghost caller: { Self → Caller };
+
+    ghost seen: { Self → List (ℕ × State.Call) };
+
+    ghost keeps: { Self → Self → Type 0 };
+
+    fn ask(&mut self, call: &State::Call) -> Result<State::Reply, Fault>
+        ensures keeps { keeps self.old self.new }
+        ensures caller { caller self.new ≡ caller self.old }
+        ensures asks { Ask State.object (caller self.old) (seen self.old) call.now result (seen self.new) };
+
+    ghost reflexive: { (desk : Self) → keeps desk desk };
+
+    ghost transitive: { (one two three : Self) → keeps one two → keeps two three → keeps one three };
+}
+
+/// A seat at a book that nobody else writes.
+#[derive(Drop)]
+pub struct BookDesk<'a, State: Object> {
+    book: &'a mut Book<State>,
+    seat: u32,
+}
+
+impl<'a, State: Object> BookDesk<'a, State> {
+    pub fn new(book: &'a mut Book<State>, seat: u32) -> BookDesk<'a, State>
+        ensures lends { result.book.ghost_name ≡ book.entry.ghost_name }
+        ensures caller { ⟦<BookDesk<'a, State> as Desk<State>>⟧.caller result ≡ alone_at seat }
+        ensures seen { ⟦<BookDesk<'a, State> as Desk<State>>⟧.seen result ≡ book.old }
+    {
+        BookDesk { book, seat }
+    }
+}
+
+impl<'a, State: Object> Desk<State> for BookDesk<'a, State> {
+    ghost caller = { λ desk. alone_at desk.seat };
+
+    ghost seen = { λ desk. desk.book.now };
+
+    ghost keeps = { λ desk later. later.book.ghost_name ≡ desk.book.ghost_name };
+
+    fn ask(&mut self, call: &State::Call) -> Result<State::Reply, Fault> {
+        self.book.ask(self.seat, call)
+    }
+
+    ghost reflexive = { λ desk. refl };
+
+    ghost transitive = { λ one two three earlier later. later ∙ earlier };
+}

@@ -1,0 +1,26 @@
+ghost use Rattle.std.specs.Prelude.{◌≡◌};
+ghost use Rattle.camp_object.specs.declared.faults.Fault.TheVariants as fault;
+
+use std::alloc::AllocError;
+use thiserror::Error;
+
+/// Why a call got no reply. No call of its caller was then added to the history.
+#[derive(Clone, Copy, PartialEq, Eq, Debug, Error)]
+pub enum Fault {
+    #[error("out of memory")]
+    Memory,
+    /// Another call went ahead of this one as often as the caller tries.
+    #[error("busy after {lost} lost exchanges")]
+    Busy { lost: u32 },
+    /// The call would be accepted, but its seat has as many accepted calls as it may.
+    #[error("the seat is full")]
+    Full,
+}
+
+impl From<AllocError> for Fault {
+    ghost from_gives = { λ _ result. result ≡ fault.Memory };
+
+    fn from(_error: AllocError) -> Fault {
+        Fault::Memory
+    }
+}

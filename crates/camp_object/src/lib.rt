@@ -1,0 +1,16 @@
+//! An object that one thread owns, its history, and what an answer says of that history.
+#![tactic(auto)]
+
+mod books;
+mod desks;
+mod faults;
+mod numbers;
+mod objects;
+#[cfg(test)]
+mod tests;
+
+pub use books::Book;
+pub use desks::{BookDesk, Desk};
+pub use faults::Fault;
+pub use numbers::{NumberCall, NumberReply, Numbers};
+pub use objects::{Decided, Object};

@@ -1,0 +1,49 @@
+ghost use Rattle.std.specs.Prelude.{◌≡◌, ◌<◌, ◌^◌, ◌-◌, ◌↔◌, IfOk, IsTrue};
+ghost use Rattle.camp_object.specs.Objects.{Sequential, IsLawful};
+ghost use Rattle.camp_object.specs.Deciding.{Decides};
+
+use std::alloc::{AllocError, Global};
+
+/// What a call comes to.
+#[derive(Drop)]
+pub enum Decided<State, Reply> {
+    /// The call is accepted, and this is the state after it.
+    Next(State),
+    /// The reply. Nothing changes.
+    Answer(Reply),
+}
+
+/// The states of an object that one thread owns.
+pub trait Object: Sized + Drop {
+    type Call: Drop;
+
+    type Reply: Drop;
+
+    ghost object: { Sequential Self Self.Call Self.Reply };
+
+    fn initial(alloc: Global) -> Result<Self, AllocError>
+        ensures { IfOk result (λ state. state ≡ object.initial) };
+
+    fn decide(&self, call: &Self::Call) -> Result<Decided<Self, Self::Reply>, AllocError>
+        requires { object.count self.now < 2 ^ 64 - 1 }
+        ensures { IfOk result (Decides object self.now call.now) };
+
+    /// The reply to an accepted call at a position of the history, counted from 1.
+    fn done(at: u64) -> Self::Reply
+        ensures { result ≡ object.done at };
+
+    /// The position that a reply tells, if its call was accepted.
+    fn done_at(reply: &Self::Reply) -> Option<u64>
+        ensures { result ≡ object.done_at reply.now };
+
+    fn is_writing(call: &Self::Call) -> bool
+        ensures { result ≡ object.is_writing call.now };
+
+    fn is_same(call: &Self::Call, other: &Self::Call) -> bool
+        ensures { IsTrue result ↔ (call.now ≡ other.now) };
+
+    fn copy(call: &Self::Call) -> Result<Self::Call, AllocError>
+        ensures { IfOk result (λ copy. copy ≡ call.now) };
+
+    ghost lawful: { IsLawful object };
+}

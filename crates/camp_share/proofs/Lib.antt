@@ -1,0 +1,5 @@
+mod Entries
+mod Found
+mod MapLemmas
+mod Parted
+mod PartLemmas

@@ -1,0 +1,35 @@
+-- Where a key stands, or would stand, among entries in the order of their keys.
+use Rattle.std.specs.Prelude.{◌≡◌, ℕ, zero, suc, ◌+◌, ◌<◌, ◌≤◌, List, [], ◌∷◌, length, take, slice_index_or}
+use Rattle.std.specs.declared.cmp.Ordering.{Ordering}
+use Rattle.std.specs.declared.cmp.Ordering.TheVariants.{Less}
+use Rattle.std.specs.declared.vec.Vec.{Vec}
+use Rattle.camp_share.specs.Parts.{joined}
+
+-- the entry at a place has the key
+abbrev pub IsAt : {K X : Type 0} → List (K × X) → K → ℕ → Type 0
+IsAt [] key place = ⊥
+IsAt (entry ∷ rest) key zero = entry.0 ≡ key
+IsAt (entry ∷ rest) key (suc place) = IsAt rest key place
+
+-- a key would stand at a place: it is above all the keys before it, and below the next one
+abbrev pub WouldBeAt : {K X : Type 0} → (K → K → Ordering) → List (K × X) → K → ℕ → Type 0
+WouldBeAt order [] key zero = Unit {0}
+WouldBeAt order [] key (suc place) = ⊥
+WouldBeAt order (entry ∷ rest) key zero = order key entry.0 ≡ Less
+WouldBeAt order (entry ∷ rest) key (suc place) = (order entry.0 key ≡ Less) × WouldBeAt order rest key place
+
+-- a key is above those of all entries
+abbrev pub IsAbove : {K X : Type 0} → (K → K → Ordering) → List (K × X) → K → Type 0
+IsAbove order [] key = Unit {0}
+IsAbove order (entry ∷ rest) key = (order entry.0 key ≡ Less) × IsAbove order rest key
+
+-- the entry at a place of a part has the key
+abbrev pub IsInPart : {K X Z : Type 0} → List (Vec (K × X) Z) → K → ℕ → ℕ → Type 0
+IsInPart {K} {X} {Z} parts key index place =
+    (index < length parts) × ((part : Vec (K × X) Z) → part ≡ slice_index_or parts index part → IsAt part.items key place)
+    × IsAt (joined parts) key (length (joined (take index parts)) + place)
+
+-- a key would stand at a place of a part
+abbrev pub WouldBeInPart : {K X Z : Type 0} → (K → K → Ordering) → List (Vec (K × X) Z) → K → ℕ → ℕ → Type 0
+WouldBeInPart order parts key index place =
+    (index ≤ length parts) × WouldBeAt order (joined parts) key (length (joined (take index parts)) + place)

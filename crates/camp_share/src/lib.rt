@@ -1,0 +1,14 @@
+//! Values that are copied by a count: one value, lists in parts, and sorted maps over them.
+#![tactic(auto)]
+
+mod growing;
+mod iters;
+mod lists;
+mod maps;
+mod search;
+mod shared;
+
+pub use iters::Iter;
+pub use lists::SharedList;
+pub use maps::{Key, SharedMap};
+pub use shared::{Share, Shared};

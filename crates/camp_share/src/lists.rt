@@ -1,0 +1,236 @@
+ghost use Rattle.std.specs.Prelude.{◌≡◌, ◌+◌, ◌<◌, ◌≤◌, ◌^◌, ◌==◌, List, [], ◌∷◌, ◌++◌, length, slice_get, slice_range, slice_set, IfOk, OnOk};
+ghost use Rattle.std.specs.List.{splice, insert, remove};
+ghost use Rattle.std.specs.List.{All};
+ghost use Rattle.camp_share.specs.Parts.{joined, IsPart};
+ghost use Rattle.std.specs.Option.{option_copied};
+ghost use Rattle.std.specs.Cmp.Lexicographic.{pointwise, lists_per, lists_equiv};
+ghost use Rattle.std.specs.Map.Iter.{ShowsInOrder, deref};
+
+use crate::growing::{Growing, Part};
+use crate::{Iter, Share};
+use std::alloc::{AllocError, Global};
+use std::marker::Model;
+
+/// A list in parts of up to 64 elements, which it shares with the lists that it was made from.
+#[derive(Drop)]
+pub struct SharedList<T> {
+    parts: Vec<Part<T>>,
+    len: usize,
+}
+
+impl<T> Model for SharedList<T> {
+    ghost use Rattle.std.specs.Prelude.{◌≡◌, List, length};
+    ghost use Rattle.std.specs.List.{All};
+    ghost use Rattle.camp_share.specs.Parts.{joined, IsPart};
+
+    ghost Value = { List T };
+
+    ghost view = { λ list. joined list.parts.items };
+
+    ghost invariant = { λ list. All IsPart list.parts.items × (length (joined list.parts.items) ≡ list.len) };
+}
+
+impl<T> SharedList<T> {
+    /// The list without an element.
+    pub fn new(alloc: Global) -> SharedList<T>
+        ensures { result ≡ [] }
+    {
+        SharedList {
+            parts: Vec::new(alloc),
+            len: 0,
+        }
+    }
+
+    /// How many elements the list has.
+    pub fn len(&self) -> usize
+        ensures { result ≡ length self.now }
+    {
+        self.len
+    }
+
+    /// Whether the list has no element.
+    pub fn is_empty(&self) -> bool
+        ensures { result ≡ (length self.now == 0) }
+    {
+        self.len == 0
+    }
+
+    /// The element at a place.
+    pub fn get(&self, index: usize) -> Option<&T>
+        ensures { option_copied result ≡ slice_get self.now index }
+    {
+        let mut left = index;
+        for part in &self.parts {
+            if left < part.len() {
+                return Some(&part[left]);
+            }
+            left -= part.len();
+        }
+        None
+    }
+
+    /// The elements from the first to the last.
+    pub fn iter(&self) -> Iter<'_, T>
+        ensures rest { result ≡ self.now }
+        ensures runs { ShowsInOrder (deref {X = T}) }
+    {
+        Iter::new(&self.parts)
+    }
+
+    // The parts, one after the other.
+    pub(crate) fn parts(&self) -> &[Part<T>]
+        ensures items { joined result.now ≡ self.now }
+        ensures parts { All IsPart result.now }
+        ensures fits { length self.now < 2 ^ 64 }
+    {
+        prove!(self.len == self.len);
+        &self.parts
+    }
+}
+
+impl<T: Share + Drop> SharedList<T> {
+    /// The list of copies of these elements.
+    pub fn from_items(alloc: Global, items: &[T]) -> Result<SharedList<T>, AllocError>
+        ensures { IfOk result (λ list. list ≡ items.now) }
+    {
+        let mut grown = Growing::new(alloc);
+        grown.push_items(items)?;
+        let parts = grown.into_parts()?;
+        Ok(SharedList {
+            parts,
+            len: items.len(),
+        })
+    }
+
+    /// The list with one element more at its end.
+    pub fn pushed(&self, item: T) -> Result<SharedList<T>, AllocError>
+        ensures { IfOk result (λ list. list ≡ self.now ++ item ∷ []) }
+    {
+        let Some(len) = self.len.checked_add(1) else {
+            return Err(AllocError);
+        };
+        let mut grown = Growing::new(*self.parts.allocator());
+        grown.push_range(&self.parts, 0, self.len)?;
+        grown.push(item)?;
+        let parts = grown.into_parts()?;
+        Ok(SharedList { parts, len })
+    }
+
+    /// The list with one element more before the one at a place.
+    pub fn inserted(&self, index: usize, item: T) -> Result<SharedList<T>, AllocError>
+        requires { index ≤ length self.now }
+        ensures { IfOk result (λ list. list ≡ insert self.now index item) }
+    {
+        let Some(len) = self.len.checked_add(1) else {
+            return Err(AllocError);
+        };
+        let mut grown = Growing::new(*self.parts.allocator());
+        grown.push_range(&self.parts, 0, index)?;
+        grown.push(item)?;
+        grown.push_range(&self.parts, index, self.len)?;
+        let parts = grown.into_parts()?;
+        Ok(SharedList { parts, len })
+    }
+
+    /// The list with copies of these elements in place of those from one place up to another.
+    pub fn spliced(&self, from: usize, to: usize, items: &[T]) -> Result<SharedList<T>, AllocError>
+        requires range { from ≤ to }
+        requires within { to ≤ length self.now }
+        ensures { IfOk result (λ list. list ≡ splice self.now from to items.now) }
+    {
+        let Some(len) = (self.len - (to - from)).checked_add(items.len()) else {
+            return Err(AllocError);
+        };
+        let mut grown = Growing::new(*self.parts.allocator());
+        grown.push_range(&self.parts, 0, from)?;
+        grown.push_items(items)?;
+        grown.push_range(&self.parts, to, self.len)?;
+        let parts = grown.into_parts()?;
+        Ok(SharedList { parts, len })
+    }
+
+    /// The list with another element at a place.
+    pub fn replaced(&self, index: usize, item: T) -> Result<SharedList<T>, AllocError>
+        requires { index < length self.now }
+        ensures { IfOk result (λ list. list ≡ slice_set self.now index item) }
+    {
+        prove!(index < self.len);
+        let mut grown = Growing::new(*self.parts.allocator());
+        grown.push_range(&self.parts, 0, index)?;
+        grown.push(item)?;
+        grown.push_range(&self.parts, index + 1, self.len)?;
+        let parts = grown.into_parts()?;
+        Ok(SharedList {
+            parts,
+            len: self.len,
+        })
+    }
+
+    /// The list without the element at a place.
+    pub fn without(&self, index: usize) -> Result<SharedList<T>, AllocError>
+        requires { index < length self.now }
+        ensures { IfOk result (λ list. list ≡ remove self.now index) }
+    {
+        prove!(index < self.len);
+        let mut grown = Growing::new(*self.parts.allocator());
+        grown.push_range(&self.parts, 0, index)?;
+        grown.push_range(&self.parts, index + 1, self.len)?;
+        let parts = grown.into_parts()?;
+        Ok(SharedList {
+            parts,
+            len: self.len - 1,
+        })
+    }
+
+    /// A list of the elements from one place up to another.
+    pub fn copied(&self, from: usize, to: usize) -> Result<SharedList<T>, AllocError>
+        requires range { from ≤ to }
+        requires within { to ≤ length self.now }
+        ensures { IfOk result (λ list. list ≡ slice_range self.now from to) }
+    {
+        prove!(to <= self.len);
+        let mut grown = Growing::new(*self.parts.allocator());
+        grown.push_range(&self.parts, from, to)?;
+        let parts = grown.into_parts()?;
+        Ok(SharedList {
+            parts,
+            len: to - from,
+        })
+    }
+}
+
+impl<T: Drop> Share for SharedList<T> {
+    fn share(&self) -> Result<SharedList<T>, AllocError> {
+        let mut parts = Vec::with_capacity(*self.parts.allocator(), self.parts.len())?;
+        for part in &self.parts {
+            parts.push(part.share()?)?;
+        }
+        Ok(SharedList {
+            parts,
+            len: self.len,
+        })
+    }
+}
+
+impl<T: PartialEq> PartialEq for SharedList<T> {
+    ghost eq = { pointwise T.eq };
+
+    ghost laws = { lists_per T.laws };
+
+    fn eq(&self, other: &SharedList<T>) -> bool {
+        if self.len != other.len {
+            return false;
+        }
+        let (mut mine, mut others) = (self.iter(), other.iter());
+        while let Some(item) = mine.next() {
+            if !others.next().is_some_and(|other| *item == *other) {
+                return false;
+            }
+        }
+        true
+    }
+}
+
+impl<T: Eq> Eq for SharedList<T> {
+    ghost laws = { lists_equiv T.Eq.laws };
+}

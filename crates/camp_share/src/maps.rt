@@ -1,0 +1,174 @@
+ghost use Rattle.std.specs.Prelude.{◌≡◌, ◌==◌, ◌<◌, if◌then◌else◌, List, None, Some, T as Holds, IfOk, IfErr, MatchOption, length, slice_get};
+ghost use Rattle.std.specs.Option.{option_copied};
+ghost use Rattle.std.specs.FinMap as map;
+ghost use Rattle.std.specs.FinMap.{IsAntisymmetric, is_sorted};
+ghost use Rattle.std.specs.Map.Iter.{ShowsInOrder, deref};
+ghost use Rattle.std.specs.Cmp.Lexicographic.{pointwise, lists_per};
+ghost use Rattle.std.specs.Cmp.{on_per, and_per};
+ghost use Rattle.camp_share.specs.Maps.{map_of};
+ghost use Rattle.camp_share.specs.Places.{IsAt, WouldBeAt};
+
+use crate::search::{length_of, search};
+use crate::{Iter, Share, SharedList};
+use std::alloc::{AllocError, Global};
+use std::marker::Model;
+
+/// A key of a map: only equal keys tie in their order.
+pub trait Key: Ord + Share + Drop {
+    ghost same: { IsAntisymmetric Self.cmp };
+}
+
+/// A map in the order of its keys, which it shares in parts of up to 64 entries with the maps that
+/// it was made from.
+#[derive(Drop)]
+pub struct SharedMap<K: Key, V> {
+    entries: SharedList<(K, V)>,
+}
+
+impl<K: Key, V> Model for SharedMap<K, V> {
+    ghost use Rattle.std.specs.Prelude.{List, T as Holds};
+    ghost use Rattle.std.specs.FinMap.{is_sorted};
+
+    ghost Value = { List (K × V) };
+
+    ghost view = { λ map. map.entries };
+
+    ghost invariant = { λ map. Holds (is_sorted K.cmp map.entries) };
+}
+
+impl<K: Key, V> SharedMap<K, V> {
+    /// The map without an entry.
+    pub fn new(alloc: Global) -> SharedMap<K, V>
+        ensures { map_of K.cmp result ≡ map.empty }
+    {
+        SharedMap {
+            entries: SharedList::new(alloc),
+        }
+    }
+
+    /// How many entries the map has.
+    pub fn len(&self) -> usize
+        ensures value { result ≡ map.len (map_of K.cmp self.now) }
+        ensures ordered { Holds (is_sorted K.cmp self.now) }
+    {
+        self.entries.len()
+    }
+
+    /// Whether the map has no entry.
+    pub fn is_empty(&self) -> bool
+        ensures { result ≡ (map.len (map_of K.cmp self.now) == 0) }
+    {
+        self.len() == 0
+    }
+
+    /// The entry at a place in the order of the keys.
+    pub fn at(&self, index: usize) -> Option<&(K, V)>
+        ensures { option_copied result ≡ slice_get (map.entries (map_of K.cmp self.now)) index }
+    {
+        self.entries.get(index)
+    }
+
+    /// The entries in the order of the keys.
+    pub fn iter(&self) -> Iter<'_, (K, V)>
+        ensures rest { result ≡ map.entries (map_of K.cmp self.now) }
+        ensures runs { ShowsInOrder (deref {X = K × V}) }
+    {
+        self.entries.iter()
+    }
+
+    /// The value of a key.
+    pub fn get(&self, key: &K) -> Option<&V>
+        ensures { option_copied result ≡ map.get (map_of K.cmp self.now) key.now }
+    {
+        let parts = self.entries.parts();
+        match search(parts, key) {
+            Ok((index, place)) => {
+                let part = &parts[index];
+                Some(&part[place].1)
+            }
+            Err(_) => None,
+        }
+    }
+
+    /// Whether the map has the key.
+    pub fn contains_key(&self, key: &K) -> bool
+        ensures { result ≡ map.contains_key (map_of K.cmp self.now) key.now }
+    {
+        self.get(key).is_some()
+    }
+
+    // Where the entry of a key is, or where it would be.
+    fn place(&self, key: &K) -> Result<usize, usize>
+        ensures found { IfOk result (IsAt self.now key.now) }
+        ensures absent { IfErr result (WouldBeAt K.cmp self.now key.now) }
+        ensures sorted { Holds (is_sorted K.cmp self.now) }
+    {
+        let parts = self.entries.parts();
+        match search(parts, key) {
+            Ok((index, place)) => Ok(length_of(&parts[..index]) + place),
+            Err((index, place)) => Err(length_of(&parts[..index]) + place),
+        }
+    }
+}
+
+impl<K: Key, V: Share + Drop> SharedMap<K, V> {
+    /// The map in which the key has the value, whether or not it had one.
+    pub fn inserted(&self, key: K, value: V) -> Result<SharedMap<K, V>, AllocError>
+        ensures { IfOk result (λ new. map_of K.cmp new ≡ map.insert (map_of K.cmp self.now) key value) }
+    {
+        match self.place(&key) {
+            Ok(index) => {
+                let entries = self.entries.replaced(index, (key, value))?;
+                Ok(SharedMap { entries })
+            }
+            Err(index) => {
+                let entries = self.entries.inserted(index, (key, value))?;
+                Ok(SharedMap { entries })
+            }
+        }
+    }
+
+    /// The map in which the key has the value that it had, or else this one.
+    pub fn inserted_if_absent(&self, key: K, value: V) -> Result<SharedMap<K, V>, AllocError>
+        ensures { IfOk result (λ new. map_of K.cmp new ≡ (if map.contains_key (map_of K.cmp self.now) key then map_of K.cmp self.now else map.insert (map_of K.cmp self.now) key value)) }
+    {
+        if self.contains_key(&key) {
+            self.share()
+        } else {
+            self.inserted(key, value)
+        }
+    }
+
+    /// The map without the key, whether or not it had it.
+    pub fn without(&self, key: &K) -> Result<SharedMap<K, V>, AllocError>
+        ensures { IfOk result (λ new. map_of K.cmp new ≡ map.remove (map_of K.cmp self.now) key.now) }
+    {
+        match self.place(key) {
+            Ok(index) => {
+                let entries = self.entries.without(index)?;
+                Ok(SharedMap { entries })
+            }
+            Err(_) => {
+                let entries = self.entries.share()?;
+                Ok(SharedMap { entries })
+            }
+        }
+    }
+}
+
+impl<K: Key, V: Drop> Share for SharedMap<K, V> {
+    fn share(&self) -> Result<SharedMap<K, V>, AllocError> {
+        let entries = self.entries.share()?;
+        Ok(SharedMap { entries })
+    }
+}
+
+impl<K: Key, V: PartialEq> PartialEq for SharedMap<K, V> {
+    ghost eq = { pointwise ⟦<(K, V) as PartialEq>⟧.eq };
+
+    ghost laws = { lists_per (and_per (on_per (λ entry. entry.0) K.PartialEq.laws) (on_per (λ entry. entry.1) V.laws)) };
+
+    fn eq(&self, other: &SharedMap<K, V>) -> bool {
+        self.entries == other.entries
+    }
+}

@@ -1,0 +1,65 @@
+ghost use Rattle.std.specs.Prelude.{◌≡◌, IfOk};
+
+use std::alloc::{AllocError, Global};
+use std::marker::Model;
+use std::ops::Deref;
+use std::sync::Arc;
+
+/// What is copied without copying what it is made of: the copy and the first are one value.
+pub trait Share: Sized {
+    /// A copy, which is equal.
+    fn share(&self) -> Result<Self, AllocError>
+        ensures { IfOk result (λ copy. copy ≡ self.now) };
+}
+
+/// A value with several owners, in any threads. It is given back with its last owner.
+#[derive(Drop)]
+pub struct Shared<T> {
+    arc: Arc<T>,
+}
+
+impl<T> Model for Shared<T> {
+    ghost use Rattle.std.specs.Arc.{arc_value};
+
+    ghost Value = { T };
+
+    ghost view = { λ shared. arc_value shared.arc };
+}
+
+impl<T: Drop> Shared<T> {
+    /// The value with its first owner. Where memory runs out, the value is dropped.
+    pub fn new(alloc: Global, value: T) -> Result<Shared<T>, AllocError>
+        ensures { IfOk result (λ shared. shared ≡ value) }
+    {
+        let arc = Arc::new(alloc, value)?;
+        Ok(Shared { arc })
+    }
+}
+
+impl<T> Share for Shared<T> {
+    /// One more owner. It takes no memory: an error is a count of owners that is full.
+    fn share(&self) -> Result<Shared<T>, AllocError> {
+        let arc = Arc::try_clone(&self.arc)?;
+        Ok(Shared { arc })
+    }
+}
+
+impl<T> Deref for Shared<T> {
+    type Target = T;
+
+    ghost deref_gives = { λ shared value. value ≡ shared };
+
+    fn deref(&self) -> &T
+        ensures { result.now ≡ self.now }
+    {
+        &self.arc
+    }
+}
+
+impl<A: Share + Drop, B: Share + Drop> Share for (A, B) {
+    fn share(&self) -> Result<(A, B), AllocError> {
+        let first = self.0.share()?;
+        let second = self.1.share()?;
+        Ok((first, second))
+    }
+}
