@@ -1,0 +1,75 @@
+-- Lists of catches brought into another order by commuting neighbours.
+use Rattle.std.specs.Prelude.{◌≡◌, ◌≢◌, ◌⊎◌, ℕ, List, [], ◌∷◌, ◌++◌, Contains}
+use Rattle.camp_prim.specs.declared.labels.Key.{Key}
+use Rattle.camp_catch.specs.Catches.{catch_key}
+use Rattle.camp_catch.specs.Commuting.{CommuteCatch}
+use Rattle.camp_catch.specs.declared.catches.Catch.{Catch}
+
+-- list k <-> k' list': k is commuted left over a list, from its last to its first
+abbrev pub ComesBefore : List Catch → Catch → Catch → List Catch → Type 0
+ComesBefore [] k k' list' = (k' ≡ k) × (list' ≡ [])
+ComesBefore (j ∷ list) k k' list' =
+    (coming : Catch) × (j' : Catch) × (t : List Catch)
+    × ComesBefore list k coming t × CommuteCatch j coming k' j' × (list' ≡ j' ∷ t)
+
+-- j and k do not commute
+abbrev pub DoNotCommute : Catch → Catch → Type 0
+DoNotCommute j k = (k' j' : Catch) → ¬ (CommuteCatch j k k' j')
+
+-- on its way left over a list, k can not pass the catch with this label
+abbrev pub StopsAt : List Catch → Catch → Key → Type 0
+StopsAt [] k on = ⊥
+StopsAt (j ∷ list) k on =
+    StopsAt list k on
+    ⊎ ((coming : Catch) × (t : List Catch) × ComesBefore list k coming t × DoNotCommute j coming × (on ≡ catch_key j))
+
+-- a catch belongs to one of these patches
+abbrev pub IsOf : List (List ℕ) → Catch → Type 0
+IsOf names k = Contains names (catch_key k).name
+
+-- rest list <-> first others: behind the catches of rest, those of the names come first, in their order
+abbrev pub ArrangesBehind : List (List ℕ) → List Catch → List Catch → List Catch → List Catch → Type 0
+ArrangesBehind names rest [] first others = (first ≡ []) × (others ≡ rest)
+ArrangesBehind names rest (k ∷ list) first others =
+    (IsOf names k × ((k' : Catch) × (rest' : List Catch) × (t : List Catch)
+    × ComesBefore rest k k' rest' × ArrangesBehind names rest' list t others × (first ≡ k' ∷ t)))
+    ⊎ ((¬ (IsOf names k)) × ArrangesBehind names (rest ++ k ∷ []) list first others)
+
+-- behind the catches of rest, the catch `patch` is the first of the names that stops, and it stops at the catch `on`
+abbrev pub SticksBehind : List (List ℕ) → List Catch → List Catch → Key → Key → Type 0
+SticksBehind names rest [] patch on = ⊥
+SticksBehind names rest (k ∷ list) patch on =
+    (IsOf names k × StopsAt rest k on × (patch ≡ catch_key k))
+    ⊎ ((IsOf names k × ((k' : Catch) × (rest' : List Catch)
+    × ComesBefore rest k k' rest' × SticksBehind names rest' list patch on))
+    ⊎ ((¬ (IsOf names k)) × SticksBehind names (rest ++ k ∷ []) list patch on))
+
+-- list <-> first rest: the catches of the names are commuted left over the others
+abbrev pub Arrange : List (List ℕ) → List Catch → List Catch → List Catch → Type 0
+Arrange names list first rest = ArrangesBehind names [] list first rest
+
+-- the list can not be arranged: the catch `patch`, of the names, can not pass the catch `on`
+abbrev pub ArrangeSticks : List (List ℕ) → List Catch → Key → Key → Type 0
+ArrangeSticks names list patch on = SticksBehind names [] list patch on
+
+-- list <-> k' others: the catch with this label is commuted left over all before it
+abbrev pub ComesFirst : Key → List Catch → Catch → List Catch → Type 0
+ComesFirst key [] k' others = ⊥
+ComesFirst key (j ∷ list) k' others =
+    ((catch_key j ≡ key) × (k' ≡ j) × (others ≡ list))
+    ⊎ ((catch_key j ≢ key) × ((coming : Catch) × (j' : Catch) × (t : List Catch)
+    × ComesFirst key list coming t × CommuteCatch j coming k' j' × (others ≡ j' ∷ t)))
+
+-- the list in the order of these labels; the catches that it does not name stay behind the others, in their order
+abbrev pub Align : List Key → List Catch → List Catch → Type 0
+Align [] list aligned = aligned ≡ list
+Align (key ∷ order) list aligned =
+    (k : Catch) × (others : List Catch) × (t : List Catch)
+    × ComesFirst key list k others × Align order others t × (aligned ≡ k ∷ t)
+
+-- the first label of the order whose catch can not come first, or is not there
+abbrev pub AlignSticks : List Key → List Catch → Key → Type 0
+AlignSticks [] list stuck = ⊥
+AlignSticks (key ∷ order) list stuck =
+    (((k : Catch) (others : List Catch) → ¬ (ComesFirst key list k others)) × (stuck ≡ key))
+    ⊎ ((k : Catch) × (others : List Catch) × ComesFirst key list k others × AlignSticks order others stuck)

@@ -1,0 +1,38 @@
+-- Catches: their labels, their effects, and the trees that they fit.
+use Rattle.std.specs.Prelude.{◌≡◌, List, [], ◌∷◌}
+use Rattle.camp_base.specs.Trees.{Files}
+use Rattle.camp_prim.specs.declared.named.Named.{Named}
+use Rattle.camp_seq.specs.Running.{Runs}
+use Rattle.camp_ctx.specs.Contexts.{Valid, AreValid, patch_key, context_key}
+use Rattle.camp_prim.specs.declared.labels.Key.{Key}
+use Rattle.camp_catch.specs.declared.catches.Catch.{Catch}
+use Rattle.camp_catch.specs.declared.catches.Catch.TheVariants.{Plain, Conflictor}
+
+-- the absolute label of a catch: that of its patch, or of its identity
+abbrev pub catch_key : Catch → Key
+catch_key (Plain a) = patch_key a
+catch_key (Conflictor r xs i) = context_key i
+
+-- the effect of a catch as a list
+abbrev pub effect_of : Catch → List Named
+effect_of (Plain a) = a ∷ []
+effect_of (Conflictor r xs i) = r
+
+-- what a catch conflicts with, and its identity, are valid in a tree; a plain catch has neither
+abbrev pub IsSeenFrom : Files → Catch → Type 0
+IsSeenFrom tree (Plain a) = Unit {0}
+IsSeenFrom tree (Conflictor r xs i) = AreValid tree xs × Valid tree i
+
+-- a catch fits a tree and leads to another: its effect does, and there its conflicts and its identity are valid
+pub record Fits (j : Catch) (old new : Files) : Type 0 where
+  pub effect : Runs (effect_of j) old new
+  pub seen : IsSeenFrom new j
+
+-- a catch fits a tree
+abbrev pub Fit : Files → Catch → Type 0
+Fit tree j = (after : Files) × Fits j tree after
+
+-- catches, each in the tree that those before it leave, fit a tree and lead to another
+abbrev pub FitsAll : List Catch → Files → Files → Type 0
+FitsAll [] old new = new ≡ old
+FitsAll (j ∷ js) old new = (between : Files) × Fits j old between × FitsAll js between new

@@ -1,0 +1,37 @@
+-- The merge of two lists of catches that begin in one state.
+use Rattle.std.specs.Prelude.{◌≡◌, ◌⊎◌, List, [], ◌∷◌}
+use Rattle.camp_prim.specs.declared.labels.Key.{Key}
+use Rattle.camp_catch.specs.Catches.{catch_key}
+use Rattle.camp_catch.specs.Merging.{MergeCatch}
+use Rattle.camp_catch.specs.declared.catches.Catch.{Catch}
+
+-- one catch against a list: k' after q, and q' after k; each pair as its neighbours left it
+abbrev pub MergesOne : List Catch → Catch → Catch → List Catch → Type 0
+MergesOne [] k k' q' = (k' ≡ k) × (q' ≡ [])
+MergesOne (j ∷ q) k k' q' =
+    (next : Catch) × (j' : Catch) × (t : List Catch) × MergeCatch j k next j' × MergesOne q next k' t × (q' ≡ j' ∷ t)
+
+-- two lists: p' after q, and q' after p; each pair as its neighbours left it
+abbrev pub MergeLists : List Catch → List Catch → List Catch → List Catch → Type 0
+MergeLists [] q p' q' = (p' ≡ []) × (q' ≡ q)
+MergeLists (k ∷ p) q p' q' =
+    (k' : Catch) × (beside : List Catch) × (t : List Catch)
+    × MergesOne q k k' beside × MergeLists p beside t q' × (p' ≡ k' ∷ t)
+
+-- j and k do not merge
+abbrev pub DoNotMerge : Catch → Catch → Type 0
+DoNotMerge j k = (k' j' : Catch) → ¬ (MergeCatch j k k' j')
+
+-- one catch against a list: the labels of the first pair that does not merge
+abbrev pub OneSticks : List Catch → Catch → Key → Key → Type 0
+OneSticks [] k left right = ⊥
+OneSticks (j ∷ q) k left right =
+    (DoNotMerge j k × (left ≡ catch_key j) × (right ≡ catch_key k))
+    ⊎ ((next : Catch) × (j' : Catch) × MergeCatch j k next j' × OneSticks q next left right)
+
+-- two lists: the labels of the first pair that does not merge, left from q and right from p
+abbrev pub MergeSticks : List Catch → List Catch → Key → Key → Type 0
+MergeSticks [] q left right = ⊥
+MergeSticks (k ∷ p) q left right =
+    OneSticks q k left right
+    ⊎ ((k' : Catch) × (beside : List Catch) × MergesOne q k k' beside × MergeSticks p beside left right)

@@ -1,0 +1,66 @@
+-- What a body of adding and passing by knows at its answers.
+use Rattle.std.proofs.Common.{◌≡◌, ℕ, ◌+◌, ◌<◌, List, [], ◌∷◌, ◌++◌, length, take, drop, get_or, sym, ap, ◌∙◌, subst}
+use Rattle.std.proofs.lemmas.List.{drop_more}
+use Rattle.camp_prim.specs.Effect.{inverse_of}
+use Rattle.camp_prim.specs.Labels.{label_of}
+use Rattle.camp_prim.specs.Swaps.{Swap}
+use Rattle.camp_prim.specs.declared.labels.Label.{Label}
+use Rattle.camp_prim.specs.declared.named.Named.{Named}
+use Rattle.camp_seq.specs.NormalOrder.{Norm}
+use Rattle.camp_seq.specs.Passing.{Passes, Fronts}
+use Rattle.camp_seq.proofs.ListResults.{one_front, one_pass}
+use Rattle.camp_seq.proofs.ListSteps.{whole}
+use Rattle.camp_seq.proofs.ListRuns.{inverse_of-inverse_of}
+use Rattle.camp_ctx.specs.Adding.{Cancels, PassesBy, GivesNone, FromLast}
+use Rattle.camp_ctx.specs.Contexts.{InContext}
+use Rattle.camp_ctx.proofs.AddResults.{one_from_last}
+use Rattle.camp_ctx.specs.Laws.{GivesOne}
+
+-- what came to the front of a context, and its inverse
+module _ (a : Named) (x : InContext) (label : Label) (s : List Named) (first back : Named) (rest : List Named) (labelled : label ≡ label_of (inverse_of a)) (is : s ≡ x.context) (comes : Fronts label s first rest) (inverted : back ≡ inverse_of first) where
+  front : Fronts (label_of (inverse_of a)) x.context first rest
+  front = subst (λ t. Fronts (label_of (inverse_of a)) t first rest) is (subst (λ l. Fronts l s first rest) labelled comes)
+
+  pub not_cancelled : ¬ (back ≡ a) → GivesNone (Cancels a) x
+  not_cancelled other y w =
+      let firsts = one_front _ x.context rest w.rest first (inverse_of a) front w.front in
+      other (inverted ∙ ap inverse_of firsts.0 ∙ inverse_of-inverse_of a)
+
+  pub cancels_from : (y : InContext) (context : List Named) (patch : Named) → back ≡ a → Norm rest context → patch ≡ x.patch → y ≡ record { context = context; patch = patch } → Cancels a x y
+  cancels_from y context patch same order kept made =
+      let it : first ≡ inverse_of a = sym (inverse_of-inverse_of first) ∙ ap inverse_of (sym inverted ∙ same) in
+      subst (Cancels a x) (sym made) (record {
+        rest = rest;
+        front = subst (λ z. Fronts (label_of (inverse_of a)) x.context z rest) it front;
+        context = order;
+        patch = kept;
+      })
+
+-- what passed a context
+module _ (a : Named) (x : InContext) (s passed : List Named) (a' : Named) (is : s ≡ x.context) (past : Passes a s passed a') where
+  pub not_past_patch : (p : Named) → p ≡ x.patch → ((q' p' : Named) → ¬ (Swap a' p q' p')) → GivesNone (PassesBy a) x
+  not_past_patch p patch never y w =
+      let pass = one_pass a s passed w.passed a' w.a' past (subst (λ t. Passes a t w.passed w.a') (sym is) w.past_context) in
+      never y.patch w.a'' (subst (λ q. Swap a' q y.patch w.a'') (sym patch) (subst (λ b. Swap b x.patch y.patch w.a'') (sym pass.1) w.past_patch))
+
+  pub passes_by_from : (y : InContext) (context : List Named) (p patch a'' : Named) → p ≡ x.patch → Swap a' p patch a'' → Norm passed context → y ≡ record { context = context; patch = patch } → PassesBy a x y
+  passes_by_from y context p patch a'' here swap order made = subst (PassesBy a x) (sym made) (record {
+    a' = a';
+    a'' = a'';
+    passed = passed;
+    past_context = subst (λ t. Passes a t passed a') is past;
+    past_patch = subst (λ q. Swap a' q patch a'') here swap;
+    context = order;
+  })
+
+-- where the elements from i on have been taken, and the one before them gives nothing, the list gives nothing
+pub none_from_last : (Change : Named → InContext → InContext → Type 0) → ((a : Named) → GivesOne (Change a)) → (before : List Named) (a : Named) (r : List Named) (x y : InContext) → FromLast Change r x y → GivesNone (Change a) y → GivesNone (FromLast Change (before ++ a ∷ r)) x
+none_from_last Change one [] a r x y taken never z w =
+    never z (subst (λ u. Change a u z) (one_from_last Change one r x w.0 y w.1 taken) w.2)
+none_from_last Change one (b ∷ before) a r x y taken never z w = none_from_last Change one before a r x y taken never w.0 w.1
+
+-- the same at a step of a loop that goes back over the list
+pub none_at_step : (Change : Named → InContext → InContext → Type 0) → ((a : Named) → GivesOne (Change a)) → (r : List Named) (i : ℕ) (a : Named) (x y : InContext) → i < length r → a ≡ get_or r i a → FromLast Change (drop (i + 1) r) x y → GivesNone (Change a) y → GivesNone (FromLast Change r) x
+none_at_step Change one r i a x y within is taken never =
+    let next : drop i r ≡ a ∷ drop (i + 1) r = drop_more r i a within ∙ ap (λ p. p ∷ drop (i + 1) r) (sym is) in
+    subst (λ s. GivesNone (FromLast Change s) x) (sym (whole r i (a ∷ drop (i + 1) r) next)) (none_from_last Change one (take i r) a (drop (i + 1) r) x y taken never)

@@ -1,0 +1,79 @@
+-- The labels that two lists have in common.
+use Rattle.std.proofs.Common.{◌≡◌, zero, suc, ◌⊎◌, Bool, true, false, cond, ◌||◌, List, [], ◌∷◌, map, refl, sym, subst, inl, inr, arith}
+use Rattle.std.specs.Prelude.{Contains}
+use Rattle.std.specs.List.{filter}
+use Rattle.std.specs.Cmp.{Equal-is, tied_itself}
+use Rattle.std.specs.Ordering.{eq_by_cmp}
+use Rattle.camp_prim.specs.Labels.{label_of, label_cmp}
+use Rattle.camp_prim.specs.declared.labels.Label.{Label}
+use Rattle.camp_prim.specs.declared.named.Named.{Named}
+use Rattle.camp_prim.proofs.LabelOrder.{label_total, label_ties}
+use Rattle.camp_ctx.specs.Conflicts.{has_label, common_labels}
+
+-- an element of a list, by recursion
+abbrev pub IsIn : Label → List Label → Type 0
+IsIn l [] = ⊥
+IsIn l (x ∷ xs) = (x ≡ l) ⊎ IsIn l xs
+
+pub in_from_contains : (l : Label) (xs : List Label) → Contains xs l → IsIn l xs
+in_from_contains l [] (k, within, is) = absurd (omega arith)
+in_from_contains l (x ∷ xs) (zero, within, is) = inl is
+in_from_contains l (x ∷ xs) (suc k, within, is) = inr (in_from_contains l xs (k, (omega arith), is))
+
+pub contains_from_in : (l : Label) (xs : List Label) → IsIn l xs → Contains xs l
+contains_from_in l [] among = absurd among
+contains_from_in l (x ∷ xs) (inl is) = (0, (omega arith), is)
+contains_from_in l (x ∷ xs) (inr among) =
+    let rest = contains_from_in l xs among in
+    let within = rest.1 in
+    (suc rest.0, (omega arith), rest.2)
+
+either : (a b : Bool) → (a || b) ≡ true → (a ≡ true) ⊎ (b ≡ true)
+either true b e = inl refl
+either false b e = inr e
+
+first_true : (a b : Bool) → a ≡ true → (a || b) ≡ true
+first_true true b e = refl
+first_true false b e = cc
+
+second_true : (a b : Bool) → b ≡ true → (a || b) ≡ true
+second_true true b e = refl
+second_true false b e = e
+
+same_label : (a b : Label) → eq_by_cmp label_cmp a b ≡ true → a ≡ b
+same_label a b e = label_ties a b ((Equal-is _).0 e)
+
+pub in_from_has : (t : List Named) (l : Label) → has_label t l ≡ true → IsIn l (map label_of t)
+in_from_has [] l e = cc
+in_from_has (p ∷ t) l e = elim (either _ _ e) [ inl here ↦ inl (same_label _ _ here) | inr later ↦ inr (in_from_has t l later) ]
+
+pub has_from_in : (t : List Named) (l : Label) → IsIn l (map label_of t) → has_label t l ≡ true
+has_from_in [] l among = absurd among
+has_from_in (p ∷ t) l (inl is) =
+    first_true _ _ (subst (λ x. eq_by_cmp label_cmp (label_of p) x ≡ true) is ((Equal-is _).1 (tied_itself label_total (label_of p))))
+has_from_in (p ∷ t) l (inr among) = second_true _ _ (has_from_in t l among)
+
+in_filtered : (test : Label → Bool) (l x : Label) (xs : List Label) (b : Bool) → test x ≡ b → IsIn l (cond b (x ∷ filter test xs) (filter test xs)) → (IsIn l (filter test xs) → IsIn l xs × (test l ≡ true)) → IsIn l (x ∷ xs) × (test l ≡ true)
+in_filtered test l x xs true is (inl here) rest = (inl here, subst (λ y. test y ≡ true) here is)
+in_filtered test l x xs true is (inr among) rest = let more = rest among in (inr more.0, more.1)
+in_filtered test l x xs false is among rest = let more = rest among in (inr more.0, more.1)
+
+pub in_from_filter : (test : Label → Bool) (l : Label) (xs : List Label) → IsIn l (filter test xs) → IsIn l xs × (test l ≡ true)
+in_from_filter test l [] among = absurd among
+in_from_filter test l (x ∷ xs) among = in_filtered test l x xs (test x) refl among (in_from_filter test l xs)
+
+kept : (b : Bool) (l x : Label) (xs : List Label) → IsIn l xs → IsIn l (cond b (x ∷ xs) xs)
+kept true l x xs among = inr among
+kept false l x xs among = among
+
+pub filter_from_in : (test : Label → Bool) (l : Label) (xs : List Label) → test l ≡ true → IsIn l xs → IsIn l (filter test xs)
+filter_from_in test l [] e among = absurd among
+filter_from_in test l (x ∷ xs) e (inl is) =
+    let here : test x ≡ true = subst (λ y. test y ≡ true) (sym is) e in
+    subst (λ b. IsIn l (cond b (x ∷ filter test xs) (filter test xs))) (sym here) (inl is)
+filter_from_in test l (x ∷ xs) e (inr among) = kept (test x) l x (filter test xs) (filter_from_in test l xs e among)
+
+pub common_turned : (s t : List Named) (l : Label) → Contains (common_labels s t) l → Contains (common_labels t s) l
+common_turned s t l among =
+    let both = in_from_filter (has_label t) l (map label_of s) (in_from_contains l (common_labels s t) among) in
+    contains_from_in l (common_labels t s) (filter_from_in (has_label s) l (map label_of t) (has_from_in s l both.0) (in_from_has t l both.1))

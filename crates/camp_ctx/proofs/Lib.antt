@@ -1,0 +1,10 @@
+pub mod AddResults
+pub mod AddSteps
+pub mod AddValid
+pub mod CommonLabels
+pub mod ConflictLaws
+pub mod ConflictSteps
+pub mod EntrySteps
+pub mod NamedDecided
+pub mod SetChanges
+pub mod SetSteps

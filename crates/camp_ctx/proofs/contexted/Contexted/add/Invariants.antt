@@ -1,0 +1,6 @@
+use Rattle.std.proofs.Common.{drop}
+use Rattle.camp_ctx.specs.Adding.{AddsAll}
+use Rattle.camp_ctx.proofs.contexted.Contexted.add.Given as goal
+
+abbrev pub invariant-loop-at : goal.invariant-loop-at
+invariant-loop-at l = AddsAll (drop l.at l.items) l.x l.sum

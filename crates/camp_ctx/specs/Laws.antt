@@ -1,0 +1,64 @@
+-- The laws of contexted patches that crates above build on.
+use Rattle.std.specs.Prelude.{◌≡◌, List, []}
+use Rattle.camp_base.specs.Trees.{Files}
+use Rattle.camp_prim.specs.Effect.{Applies}
+use Rattle.camp_prim.specs.declared.named.Named.{Named}
+use Rattle.camp_seq.specs.Running.{Runs}
+use Rattle.camp_ctx.specs.Adding.{Adds, AddsAll, PassesBy, PassesByAll}
+use Rattle.camp_ctx.specs.Conflicts.{MergesBehindCommon, Conflict}
+use Rattle.camp_ctx.specs.Contexts.{InContext, Valid, Contexts, AreValid, EachMember}
+
+-- a change has at most one result
+abbrev pub GivesOne : {X : Type 0} → (X → X → Type 0) → Type 0
+GivesOne {X} Change = (x y z : X) → Change x y → Change x z → y ≡ z
+
+-- each relation has at most one result
+pub record AreDetermined : Type 0 where
+  pub adds : (a : Named) → GivesOne (Adds a)
+  pub adds_all : (r : List Named) → GivesOne (AddsAll r)
+  pub adds_to_members : (a : Named) → GivesOne (EachMember (Adds a))
+  pub adds_all_to_members : (r : List Named) → GivesOne (EachMember (AddsAll r))
+  pub passes_by : (a : Named) → GivesOne (PassesBy a)
+  pub passes_by_all : (r : List Named) → GivesOne (PassesByAll r)
+  pub merges :
+      (s t t' s' u v : List Named) → MergesBehindCommon s t t' s' → MergesBehindCommon s t u v → (t' ≡ u) × (s' ≡ v)
+
+-- a change always has a result
+abbrev pub AlwaysGives : {X : Type 0} → (X → X → Type 0) → Type 0
+AlwaysGives {X} Change = (x : X) → (y : X) × Change x y
+
+-- adding always has a result
+pub record AddingGives : Type 0 where
+  pub adds : (a : Named) → AlwaysGives (Adds a)
+  pub adds_all : (r : List Named) → AlwaysGives (AddsAll r)
+  pub adds_to_members : (a : Named) → AlwaysGives (EachMember (Adds a))
+  pub adds_all_to_members : (r : List Named) → AlwaysGives (EachMember (AddsAll r))
+
+-- where a step leads from one tree to another, what is valid in the second becomes by a change valid in the first
+abbrev pub KeepsValid : (InContext → InContext → Type 0) → (Files → Files → Type 0) → Type 0
+KeepsValid Change Step = (x y : InContext) → Change x y → (old new : Files) → Step old new → Valid new x → Valid old y
+
+-- the same of the members of a set
+abbrev pub KeepsMembersValid : (InContext → InContext → Type 0) → (Files → Files → Type 0) → Type 0
+KeepsMembersValid Change Step =
+    (xs ys : Contexts) → EachMember Change xs ys →
+    (old new : Files) → Step old new → AreValid new xs → AreValid old ys
+
+-- adding and passing by keep what is valid
+pub record KeepValid : Type 0 where
+  pub adds : (a : Named) → KeepsValid (Adds a) (Applies a.prim)
+  pub adds_all : (r : List Named) → KeepsValid (AddsAll r) (Runs r)
+  pub adds_to_members : (a : Named) → KeepsMembersValid (Adds a) (Applies a.prim)
+  pub adds_all_to_members : (r : List Named) → KeepsMembersValid (AddsAll r) (Runs r)
+  pub passes_by : (a : Named) → KeepsValid (PassesBy a) (Applies a.prim)
+  pub passes_by_all : (r : List Named) → KeepsValid (PassesByAll r) (Runs r)
+
+-- adding the empty list changes nothing, of a contexted patch and of a set
+pub record EmptyChangesNothing : Type 0 where
+  pub adds : (x y : InContext) → AddsAll [] x y → y ≡ x
+  pub adds_to_members : (xs ys : Contexts) → EachMember (AddsAll []) xs ys → ys ≡ xs
+
+-- what merges cleanly behind a common front, and what conflicts, does so in either order
+pub record AreSymmetric : Type 0 where
+  pub merges : (s t t' s' : List Named) → MergesBehindCommon s t t' s' → MergesBehindCommon t s s' t'
+  pub conflicts : (x y : InContext) → Conflict x y → Conflict y x

@@ -1,0 +1,4 @@
+pub mod Adding
+pub mod Conflicts
+pub mod Contexts
+pub mod Laws

@@ -1,0 +1,106 @@
+ghost use Rattle.std.specs.Prelude.{◌≡◌, IfOk, MatchOption};
+ghost use Rattle.camp_ctx.specs.Adding.{Adds, AddsAll, Cancels, GivesNone, Keeps, PassesBy, PassesByAll};
+
+use crate::{Contexted, join};
+use camp_prim::{Named, commute};
+use camp_seq::{Seq, front, norm, past};
+use std::alloc::AllocError;
+use std::slice;
+
+impl Contexted {
+    /// What is seen behind a list, as it is seen before the list: each primitive of the list, from
+    /// the last to the first, is added.
+    pub fn add(r: &Seq, x: &Contexted) -> Result<Contexted, AllocError>
+        ensures { IfOk result (λ y. AddsAll r.now x.now y) }
+    {
+        let items = r.items();
+        let mut sum = x.try_clone()?;
+        for at in (0..items.len()).rev() {
+            sum = Contexted::add_one(&items[at], &sum)?;
+        }
+        Ok(sum)
+    }
+
+    /// What is seen behind a primitive, as it is seen before it: its inverse at the front of the
+    /// context is taken away; else it passes by; else it comes into the context.
+    pub fn add_one(a: &Named, x: &Contexted) -> Result<Contexted, AllocError>
+        ensures { IfOk result (λ y. Adds a.now x.now y) }
+    {
+        let cancelled = cancelled(a, x)?;
+        if let Some(y) = cancelled {
+            return Ok(y);
+        }
+        let passed = Contexted::past_one(a, x)?;
+        match passed {
+            Some(y) => Ok(y),
+            None => kept(a, x),
+        }
+    }
+
+    /// `Some` of what is seen behind a list, as it is seen before the list, where each primitive of
+    /// the list, from the last to the first, passes by. None where one can't.
+    pub fn past(r: &Seq, x: &Contexted) -> Result<Option<Contexted>, AllocError>
+        ensures { IfOk result (λ found. MatchOption found
+            (GivesNone (PassesByAll r.now) x.now)
+            (λ y. PassesByAll r.now x.now y)) }
+    {
+        let items = r.items();
+        let mut passed = x.try_clone()?;
+        for at in (0..items.len()).rev() {
+            let next = Contexted::past_one(&items[at], &passed)?;
+            match next {
+                None => return Ok(None),
+                Some(y) => passed = y,
+            }
+        }
+        Ok(Some(passed))
+    }
+
+    /// `Some` of what is seen behind a primitive, as it is seen before it, where the primitive
+    /// passes by the context and the patch. None where it can't.
+    pub fn past_one(a: &Named, x: &Contexted) -> Result<Option<Contexted>, AllocError>
+        ensures { IfOk result (λ found. MatchOption found
+            (GivesNone (PassesBy a.now) x.now)
+            (λ y. PassesBy a.now x.now y)) }
+    {
+        let behind = past(a, x.context())?;
+        let Some((context, a)) = behind else {
+            return Ok(None);
+        };
+        let swapped = commute(&a, x.patch())?;
+        let Some((patch, _)) = swapped else {
+            return Ok(None);
+        };
+        let context = norm(&context)?;
+        Ok(Some(Contexted::new(x.allocator(), context, patch)?))
+    }
+}
+
+/// The contexted patch without the inverse of `a` at the front of its context. None where what comes
+/// to the front there is not that inverse.
+fn cancelled(a: &Named, x: &Contexted) -> Result<Option<Contexted>, AllocError>
+    ensures { IfOk result (λ found. MatchOption found
+        (GivesNone (Cancels a.now) x.now)
+        (λ y. Cancels a.now x.now y)) }
+{
+    let found = front(x.context(), &a.label().opposite())?;
+    let Some((first, rest)) = found else {
+        return Ok(None);
+    };
+    if !first.invert().is_same(a) {
+        return Ok(None);
+    }
+    let context = norm(&rest)?;
+    let patch = x.patch().try_clone()?;
+    Ok(Some(Contexted::new(x.allocator(), context, patch)?))
+}
+
+/// The contexted patch with `a` before its context.
+fn kept(a: &Named, x: &Contexted) -> Result<Contexted, AllocError>
+    ensures { IfOk result (λ y. Keeps a.now x.now y) }
+{
+    let whole = join(x.allocator(), slice::from_ref(a), x.context().items())?;
+    let context = norm(&whole)?;
+    let patch = x.patch().try_clone()?;
+    Contexted::new(x.allocator(), context, patch)
+}

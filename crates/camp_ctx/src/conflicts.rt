@@ -1,0 +1,78 @@
+ghost use Rattle.std.specs.Prelude.{◌≡◌, ◌↔◌, List, IfOk, IsTrue, MatchOption};
+ghost use Rattle.camp_prim.specs.declared.named.Named.{Named};
+ghost use Rattle.camp_ctx.specs.Conflicts.{common_labels, has_label, Conflict, MergesBehindCommon};
+ghost use Rattle.camp_ctx.specs.Contexts.{whole};
+
+use crate::{Contexted, join};
+use camp_prim::{Label, Named};
+use camp_seq::{Seq, clean_merge, split};
+use std::alloc::{AllocError, Global};
+use std::slice;
+
+/// Whether two contexted patches that are seen from one state conflict.
+pub fn conflict(x: &Contexted, y: &Contexted) -> Result<bool, AllocError>
+    ensures { IfOk result (λ found. IsTrue found ↔ Conflict x.now y.now) }
+{
+    let first = whole(x)?;
+    let second = whole(y)?;
+    let merged = merge_behind_common(x.allocator(), &first, &second)?;
+    match merged {
+        None => Ok(true),
+        Some(_) => Ok(false),
+    }
+}
+
+/// `Some((t', s'))` where two lists that begin in one state have a common front, and merge cleanly
+/// behind it: `t'` stands behind `s`, and `s'` behind `t`.
+pub fn merge_behind_common(
+    alloc: Global,
+    s: &Seq,
+    t: &Seq,
+) -> Result<Option<(Seq, Seq)>, AllocError>
+    ensures { IfOk result (λ found. MatchOption found
+        ((t' s' : List Named) → ¬ (MergesBehindCommon s.now t.now t' s'))
+        (λ pair. MergesBehindCommon s.now t.now pair.0 pair.1)) }
+{
+    let common = common_labels(alloc, s.items(), t.items())?;
+    let labels = common.as_slice();
+    let first = split(s, labels)?;
+    let Some((common, rest)) = first else {
+        return Ok(None);
+    };
+    let second = split(t, labels)?;
+    let Some((other, beside)) = second else {
+        return Ok(None);
+    };
+    if !common.is_same(&other) {
+        return Ok(None);
+    }
+    let merged = clean_merge(&rest, &beside)?;
+    Ok(merged)
+}
+
+/// The context and then the patch.
+fn whole(x: &Contexted) -> Result<Seq, AllocError>
+    ensures { IfOk result (λ list. list ≡ whole x.now) }
+{
+    join(
+        x.allocator(),
+        x.context().items(),
+        slice::from_ref(x.patch()),
+    )
+}
+
+/// The labels of the elements of `s` that an element of `t` has too.
+fn common_labels(alloc: Global, s: &[Named], t: &[Named]) -> Result<Vec<Label>, AllocError>
+    ensures { IfOk result (λ labels. labels.items ≡ common_labels s.now t.now) }
+{
+    s.iter()
+        .map(|p| p.label())
+        .filter(|label| has_label(t, label))
+        .collect(alloc)
+}
+
+fn has_label(s: &[Named], label: &Label) -> bool
+    ensures { result ≡ has_label s.now label.now }
+{
+    s.iter().any(|p| p.label().cmp(label).is_eq())
+}

@@ -1,0 +1,104 @@
+ghost use Rattle.std.specs.Prelude.{◌≡◌, ◌↔◌, IfOk, IsTrue};
+ghost use Rattle.camp_ctx.specs.Contexts.{context_key};
+
+use camp_base::Name;
+use camp_prim::{Key, Named};
+use camp_seq::Seq;
+use camp_share::{Share, Shared};
+use std::alloc::{AllocError, Global};
+use std::marker::Model;
+
+/// A patch with a list of primitives, its context, that leads to it from the state where it is seen.
+/// A copy is one count.
+#[derive(Drop)]
+pub struct Contexted {
+    alloc: Global,
+    parts: Shared<Parts>,
+}
+
+#[derive(Drop)]
+struct Parts {
+    context: Seq,
+    patch: Named,
+}
+
+impl Model for Contexted {
+    ghost use Rattle.camp_ctx.specs.Contexts.{InContext};
+
+    ghost Value = { InContext };
+
+    ghost view = { λ x. record { context = x.parts.context; patch = x.parts.patch } };
+}
+
+impl Contexted {
+    /// `c:p`, with the context as it is given.
+    pub fn new(alloc: Global, context: Seq, patch: Named) -> Result<Contexted, AllocError>
+        ensures { IfOk result (λ x. x ≡ record { context = context; patch = patch }) }
+    {
+        let parts = Shared::new(alloc, Parts { context, patch })?;
+        Ok(Contexted { alloc, parts })
+    }
+
+    pub fn context(&self) -> &Seq
+        ensures { result.now ≡ self.now.context }
+    {
+        &self.parts.context
+    }
+
+    pub fn patch(&self) -> &Named
+        ensures { result.now ≡ self.now.patch }
+    {
+        &self.parts.patch
+    }
+
+    /// The name of the patch.
+    pub fn name(&self) -> &Name
+        ensures { result.now ≡ self.now.patch.name }
+    {
+        &self.patch().name
+    }
+
+    /// The place in the patch.
+    pub fn place(&self) -> u8
+        ensures { result ≡ self.now.patch.place }
+    {
+        self.patch().place
+    }
+
+    /// The absolute label of the patch.
+    pub fn key(&self) -> Key
+        ensures { result ≡ context_key self.now }
+    {
+        self.patch().label().key()
+    }
+
+    pub fn try_clone(&self) -> Result<Contexted, AllocError>
+        ensures { IfOk result (λ copy. copy ≡ self.now) }
+    {
+        let parts = self.parts.share()?;
+        Ok(Contexted {
+            alloc: self.alloc,
+            parts,
+        })
+    }
+
+    /// Whether the two have the same context and the same patch. It takes no memory.
+    pub fn is_same(&self, other: &Contexted) -> bool
+        ensures { IsTrue result ↔ (self.now ≡ other.now) }
+    {
+        if !self.context().is_same(other.context()) {
+            return false;
+        }
+        self.patch().is_same(other.patch())
+    }
+
+    pub(crate) fn allocator(&self) -> Global {
+        self.alloc
+    }
+}
+
+impl Share for Contexted {
+    fn share(&self) -> Result<Contexted, AllocError> {
+        self.try_clone()
+    }
+}

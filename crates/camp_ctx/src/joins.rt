@@ -1,0 +1,24 @@
+ghost use Rattle.std.specs.Prelude.{◌≡◌, ◌++◌, IfOk};
+
+use camp_prim::Named;
+use camp_seq::Seq;
+use std::alloc::{AllocError, Global};
+
+/// A list and then another, copied.
+pub fn join(alloc: Global, s: &[Named], t: &[Named]) -> Result<Seq, AllocError>
+    ensures { IfOk result (λ joined. joined ≡ s.now ++ t.now) }
+{
+    let mut joined = Seq::empty(alloc);
+    push_all(&mut joined, s)?;
+    push_all(&mut joined, t)?;
+    Ok(joined)
+}
+
+fn push_all(list: &mut Seq, items: &[Named]) -> Result<(), AllocError>
+    ensures { IfOk result (λ _. list.new ≡ list.old ++ items.now) }
+{
+    for p in items {
+        list.push(p.try_clone()?)?;
+    }
+    Ok(())
+}

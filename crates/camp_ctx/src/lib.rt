@@ -1,0 +1,19 @@
+//! Patches with a context that leads to them, and sets of them.
+#![tactic(auto)]
+
+mod adding;
+mod conflicts;
+mod contexted;
+mod joins;
+mod keys;
+mod laws;
+mod sets;
+
+pub use conflicts::{conflict, merge_behind_common};
+pub use contexted::Contexted;
+pub use joins::join;
+pub use laws::{
+    adding_always_gives, adding_and_passing_keep_valid, adding_the_empty_list_changes_nothing,
+    conflict_is_symmetric, results_in_context_are_determined,
+};
+pub use sets::CtxSet;

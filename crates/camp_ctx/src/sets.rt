@@ -1,0 +1,166 @@
+ghost use Rattle.std.specs.Prelude.{◌≡◌, ◌↔◌, IfOk, IsTrue, MatchOption, None, Some, slice_get};
+ghost use Rattle.std.specs.FinMap as map;
+ghost use Rattle.camp_ctx.specs.Contexts.{context_key, only, with_member, InContext, AreKeyed, EachMember};
+ghost use Rattle.camp_ctx.specs.Adding.{AddsAll};
+
+use crate::Contexted;
+use crate::keys::MemberKey;
+use camp_prim::Key;
+use camp_seq::Seq;
+use camp_share::{Share, SharedMap};
+use std::alloc::{AllocError, Global};
+use std::marker::Model;
+
+/// A set of contexted patches with different absolute labels.
+#[derive(Drop)]
+pub struct CtxSet {
+    alloc: Global,
+    members: SharedMap<MemberKey, Contexted>,
+}
+
+impl Model for CtxSet {
+    ghost use Rattle.std.specs.FinMap as map;
+    ghost use Rattle.camp_prim.specs.Labels.{coded_key, key_cmp};
+    ghost use Rattle.camp_share.specs.Maps.{map_of};
+    ghost use Rattle.camp_ctx.specs.Contexts.{AreKeyed, Contexts};
+    ghost use Rattle.camp_ctx.specs.declared.contexted.Contexted.{the_code};
+
+    ghost Value = { Contexts };
+
+    ghost coded = { map.code coded_key the_code };
+
+    ghost view = { λ set. map_of key_cmp set.members };
+
+    ghost invariant = { λ set. AreKeyed (map_of key_cmp set.members) };
+}
+
+impl CtxSet {
+    /// The set without a member. It takes no memory.
+    pub fn empty(alloc: Global) -> CtxSet
+        ensures { result ≡ map.empty }
+    {
+        CtxSet {
+            alloc,
+            members: SharedMap::new(alloc),
+        }
+    }
+
+    /// How many members the set has.
+    pub fn len(&self) -> usize
+        ensures value { result ≡ map.len self.now }
+        ensures keyed { AreKeyed self.now }
+    {
+        self.members.len()
+    }
+
+    /// The member with an absolute label.
+    pub fn get(&self, key: &Key) -> Option<&Contexted>
+        ensures { MatchOption result
+            (map.get self.now key.now ≡ None)
+            (λ member. map.get self.now key.now ≡ Some member.now) }
+    {
+        self.members.get(&MemberKey::new(*key))
+    }
+
+    /// The set with a member too. A member with its label that is there stays.
+    pub fn insert(&self, member: &Contexted) -> Result<CtxSet, AllocError>
+        ensures { IfOk result (λ set. set ≡ with_member self.now member.now) }
+    {
+        let key = MemberKey::new(member.key());
+        let members = self.members.inserted_if_absent(key, member.try_clone()?)?;
+        Ok(CtxSet {
+            alloc: self.alloc,
+            members,
+        })
+    }
+
+    /// The set without the member of a label.
+    pub fn without(&self, key: &Key) -> Result<CtxSet, AllocError>
+        ensures { IfOk result (λ set. set ≡ map.remove self.now key.now) }
+    {
+        let members = self.members.without(&MemberKey::new(*key))?;
+        Ok(CtxSet {
+            alloc: self.alloc,
+            members,
+        })
+    }
+
+    /// The member at a place in the order of the labels.
+    pub fn at(&self, index: usize) -> Option<&Contexted>
+        ensures { MatchOption result
+            (slice_get (map.values self.now) index ≡ None)
+            (λ member. slice_get (map.values self.now) index ≡ Some member.now) }
+    {
+        match self.members.at(index) {
+            None => None,
+            Some((_, member)) => Some(member),
+        }
+    }
+
+    /// The member of a set that has no other. None where it has none, or more than one.
+    pub fn sole(&self) -> Option<&Contexted>
+        ensures { MatchOption result
+            ((x : InContext) → ¬ (self.now ≡ only x))
+            (λ member. self.now ≡ only member.now) }
+    {
+        if self.len() != 1 {
+            return None;
+        }
+        self.at(0)
+    }
+
+    /// What is seen behind a list, as it is seen before the list: the list is added to every member.
+    pub fn add(r: &Seq, set: &CtxSet) -> Result<CtxSet, AllocError>
+        ensures { IfOk result (λ sum. EachMember (AddsAll r.now) set.now sum) }
+    {
+        if r.items().is_empty() {
+            return set.try_clone();
+        }
+        let mut members = SharedMap::new(set.alloc);
+        for index in 0..set.members.len() {
+            if let Some((key, member)) = set.members.at(index) {
+                let sum = Contexted::add(r, member)?;
+                members = members.inserted(*key, sum)?;
+            }
+        }
+        Ok(CtxSet {
+            alloc: set.alloc,
+            members,
+        })
+    }
+
+    pub fn try_clone(&self) -> Result<CtxSet, AllocError>
+        ensures { IfOk result (λ copy. copy ≡ self.now) }
+    {
+        let members = self.members.share()?;
+        Ok(CtxSet {
+            alloc: self.alloc,
+            members,
+        })
+    }
+
+    /// Whether the two sets have the same members. It takes no memory.
+    pub fn is_same(&self, other: &CtxSet) -> bool
+        ensures { IsTrue result ↔ (self.now ≡ other.now) }
+    {
+        if self.len() != other.len() {
+            return false;
+        }
+        for index in 0..self.len() {
+            if !have_same_member(self, other, index) {
+                return false;
+            }
+        }
+        true
+    }
+}
+
+fn have_same_member(a: &CtxSet, b: &CtxSet, index: usize) -> bool
+    ensures { IsTrue result ↔ (slice_get (map.values a.now) index ≡ slice_get (map.values b.now) index) }
+{
+    match (a.at(index), b.at(index)) {
+        (None, None) => true,
+        (Some(x), Some(y)) => x.is_same(y),
+        _ => false,
+    }
+}

@@ -1,0 +1,47 @@
+-- The labels of a list in ascending order, up to the first that comes to its front.
+use Rattle.std.specs.Prelude.{◌≡◌, ◌≢◌, ℕ, Bool, true, if◌then◌else◌, List, [], ◌∷◌, Option, None, Some, IsTrue, suc, All, ◌⊎◌}
+use Rattle.std.specs.Ordering.{is_lt}
+use Rattle.std.specs.declared.cmp.Ordering.TheVariants.{Less}
+use Rattle.camp_prim.specs.Labels.{label_of, label_cmp}
+use Rattle.camp_prim.specs.declared.labels.Label.{Label}
+use Rattle.camp_prim.specs.declared.named.Named.{Named}
+use Rattle.camp_seq.specs.NormalOrder.{IsLeast}
+use Rattle.camp_seq.specs.Passing.{Fronts}
+
+-- a label is above the last one that was tried, or none was
+abbrev pub is_above : Option Label → Label → Bool
+is_above None label = true
+is_above (Some tried) label = is_lt (label_cmp tried label)
+
+-- the list begins with a label that was not tried
+abbrev pub StartsAbove : Option Label → List Named → Type 0
+StartsAbove tried [] = ⊥
+StartsAbove tried (p ∷ s) = IsTrue (is_above tried (label_of p))
+
+-- an element has this label
+abbrev pub HasLabel : Label → List Named → Type 0
+HasLabel label [] = ⊥
+HasLabel label (p ∷ s) = (label_of p ≡ label) ⊎ HasLabel label s
+
+-- of these elements none whose label is yet to be tried has a lesser one
+abbrev pub NoneLess : Option Label → Label → List Named → Type 0
+NoneLess tried label s = All (λ p. IsTrue (is_above tried (label_of p)) → label_cmp (label_of p) label ≢ Less) s
+
+-- the least label of the list that is yet to be tried
+pub record LeastAbove (tried : Option Label) (s : List Named) (label : Label) : Type 0 where
+  pub above : IsTrue (is_above tried label)
+  pub held : HasLabel label s
+  pub least : NoneLess tried label s
+
+-- how many elements have a label that is yet to be tried
+abbrev pub untried : Option Label → List Named → ℕ
+untried tried [] = 0
+untried tried (p ∷ s) = if is_above tried (label_of p) then suc (untried tried s) else untried tried s
+
+-- t is s with the least label that comes to the front at its front
+pub record Settles (s t : List Named) : Type 0 where
+  pub first : Named
+  pub rest : List Named
+  pub fronts : Fronts (label_of first) s first rest
+  pub least : IsLeast (label_of first) s
+  pub is : t ≡ first ∷ rest
