@@ -1,5 +1,5 @@
--- What a change that may not apply, or may want memory, answers and leaves.
-use Rattle.std.specs.Prelude.{◌≡◌, Result, Ok, Err}
+-- What a change that may not apply, or may want memory, answers and leaves; and what a search answers.
+use Rattle.std.specs.Prelude.{◌≡◌, Bool, true, false, Option, None, Some, Result, Ok, Err}
 use Rattle.camp_base.specs.declared.faults.Apply.{Apply}
 use Rattle.camp_base.specs.declared.faults.Apply.TheVariants.{DoesNotApply, Memory}
 
@@ -8,3 +8,17 @@ abbrev pub Answers : {S : Type 0} → (S → S → Type 0) → S → Result (Uni
 Answers Change old (Ok done) new = Change old new
 Answers Change old (Err DoesNotApply) new = ((any : _) → ¬ (Change old any)) × (new ≡ old)
 Answers Change old (Err Memory) new = new ≡ old
+
+-- true where the change leads from the old value to the new one; false where it leads nowhere, and then nothing has changed
+abbrev pub Changes : {S : Type 0} → (S → S → Type 0) → S → Bool → S → Type 0
+Changes Change old true new = Change old new
+Changes Change old false new = ((any : _) → ¬ (Change old any)) × (new ≡ old)
+
+-- Some exactly where the relation has a result, and that one
+abbrev pub Finds : {X : Type 0} → (X → Type 0) → Option X → Type 0
+Finds Result None = (any : _) → ¬ (Result any)
+Finds Result (Some found) = Result found
+
+-- the same where the result is a pair
+abbrev pub FindsPair : {X Y : Type 0} → (X → Y → Type 0) → Option (X × Y) → Type 0
+FindsPair Results found = Finds (λ pair. Results pair.0 pair.1) found

@@ -21,6 +21,3 @@ pub const MAX_PATH_LENGTH: usize = 200;
 
 /// The most bytes that a line has.
 pub const MAX_LINE_LENGTH: usize = 4_096;
-
-#[cfg(test)]
-mod tests;

@@ -4,6 +4,8 @@ use Rattle.std.specs.List.{list_any}
 use Rattle.std.specs.Fmt.{decimal}
 use Rattle.std.specs.Cmp.Lexicographic.{pointwise}
 use Rattle.camp_prim.specs.Hunks.{Edit}
+use Rattle.camp_prim.specs.Labels.{label_of}
+use Rattle.camp_prim.specs.declared.labels.Label.{Label}
 use Rattle.camp_prim.specs.declared.primitives.Primitive.{Primitive}
 use Rattle.camp_prim.specs.declared.primitives.Primitive.TheVariants.{Add, Remove, Hunk}
 use Rattle.camp_prim.specs.declared.named.Named.{Named}
@@ -18,8 +20,8 @@ abbrev pub sign_text : Bool → List ℕ
 sign_text inverse = if inverse then 94 ∷ [] else []
 
 -- NAME.PLACE^
-abbrev pub label_text : Named → List ℕ
-label_text p = p.name ++ place_text p.place ++ sign_text p.inverse
+abbrev pub label_text : Label → List ℕ
+label_text label = label.name ++ place_text label.place ++ sign_text label.inverse
 
 -- PATH LINE [OLD, ..] -> [NEW, ..]
 abbrev pub hunk_text : Edit → List ℕ
@@ -33,7 +35,7 @@ change_text (Hunk hunk) = hunk_text hunk
 
 -- LABEL CHANGE
 abbrev pub whole_text : Named → List ℕ
-whole_text p = label_text p ++ 32 ∷ change_text p.prim
+whole_text p = label_text (label_of p) ++ 32 ∷ change_text p.prim
 
 -- a primitive is known where one of those that are known has its text
 abbrev pub is_known : List Named → Named → Bool
@@ -41,4 +43,4 @@ is_known known p = list_any (λ k. pointwise ◌==◌ (whole_text k) (whole_text
 
 -- a primitive that is known by its label alone, and any other as a whole
 abbrev pub named_text : List Named → Named → List ℕ
-named_text known p = if is_known known p then label_text p else whole_text p
+named_text known p = if is_known known p then label_text (label_of p) else whole_text p

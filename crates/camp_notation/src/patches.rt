@@ -4,18 +4,18 @@ ghost use Rattle.std.specs.Cmp.Lexicographic.{pointwise};
 ghost use Rattle.camp_notation.specs.Patches.{change_text, hunk_text, label_text, named_text, place_text, sign_text, whole_text};
 
 use crate::words::{append_lines, append_word};
-use camp_prim::{Hunk, Named, Primitive};
+use camp_prim::{Hunk, Label, Named, Primitive};
 use itoa::Buffer;
 use std::alloc::{AllocError, Global};
 use std::fmt::Write;
 
-/// The label of a primitive: `NAME.PLACE^`, without the place where it is 1, and without the caret
+/// A label: `NAME.PLACE^`, without the place where it is 1, and without the caret
 /// where it is no inverse.
-pub fn label_text(alloc: Global, p: &Named) -> Result<String, AllocError>
-    ensures { IfOk result (λ text. string_bytes text ≡ label_text p.now) }
+pub fn label_text(alloc: Global, label: Label) -> Result<String, AllocError>
+    ensures { IfOk result (λ text. string_bytes text ≡ label_text label) }
 {
     let mut text = String::new(alloc);
-    append_label(&mut text, p)?;
+    append_label(&mut text, label)?;
     Ok(text)
 }
 
@@ -34,7 +34,7 @@ pub(crate) fn append_named(text: &mut String, known: &[Named], p: &Named) -> Res
 {
     let whole = whole_text(*text.allocator(), p)?;
     if is_known(known, &whole)? {
-        append_label(text, p)
+        append_label(text, p.label())
     } else {
         text.push_str(&whole)
     }
@@ -55,19 +55,19 @@ fn whole_text(alloc: Global, p: &Named) -> Result<String, AllocError>
     ensures { IfOk result (λ text. string_bytes text ≡ whole_text p.now) }
 {
     let mut text = String::new(alloc);
-    append_label(&mut text, p)?;
+    append_label(&mut text, p.label())?;
     text.push(' ')?;
     append_change(&mut text, &p.prim)?;
     Ok(text)
 }
 
-fn append_label(text: &mut String, p: &Named) -> Result<(), AllocError>
-    ensures { OnOk result (string_bytes text.new ≡ string_bytes text.old ++ label_text p.now) }
+fn append_label(text: &mut String, label: Label) -> Result<(), AllocError>
+    ensures { OnOk result (string_bytes text.new ≡ string_bytes text.old ++ label_text label) }
 {
-    let name = p.name;
+    let name = label.name;
     write!(text, "{name}")?;
-    append_place(text, p.place)?;
-    append_sign(text, p.inverse)
+    append_place(text, label.place)?;
+    append_sign(text, label.inverse)
 }
 
 fn append_place(text: &mut String, place: u8) -> Result<(), AllocError>

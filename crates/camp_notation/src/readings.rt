@@ -1,14 +1,14 @@
 ghost use Rattle.std.specs.Prelude.{◌≡◌, IfOk};
 ghost use Rattle.camp_notation.specs.Lists.{list_text};
-ghost use Rattle.camp_notation.specs.Patches.{named_text};
+ghost use Rattle.camp_notation.specs.Patches.{label_text, named_text};
 ghost use Rattle.camp_notation.specs.Trees.{tree_text};
 ghost use Rattle.camp_notation.specs.Words.{lines_text, word_text};
 
 use crate::cursors::Cursor;
-use crate::{NotationError, lines_text, list_text, named_text, tree_text, word_text};
+use crate::{NotationError, label_text, lines_text, list_text, named_text, tree_text, word_text};
 use camp_base::{Line, Name, Path, Tree};
-use camp_prim::{Named, Primitive};
-use camp_seq::{Label, Seq};
+use camp_prim::{Label, Named, Primitive};
+use camp_seq::Seq;
 use std::alloc::Global;
 
 /// The labelled primitive of a text. A label alone stands for the primitive of that label among
@@ -77,11 +77,16 @@ pub fn read_lines(alloc: Global, text: &[u8]) -> Result<Vec<Line>, NotationError
     Ok(lines)
 }
 
-/// The label of a text: `NAME.PLACE^`, where the place may be left out if it is 1.
-pub fn read_label(text: &[u8]) -> Result<Label, NotationError> {
+/// The label of a text.
+pub fn read_label(alloc: Global, text: &[u8]) -> Result<Label, NotationError>
+    ensures { IfOk result (λ label. text.now ≡ label_text label) }
+{
     let mut cursor = Cursor::new(text);
     let label = read_label_there(&mut cursor)?;
     cursor.expect_end()?;
+    if label_text(alloc, label)?.as_bytes() != text {
+        return Err(NotationError::WrittenOtherwise);
+    }
     Ok(label)
 }
 
@@ -130,22 +135,22 @@ fn read_item(alloc: Global, known: &[Named], cursor: &mut Cursor) -> Result<Name
     if cursor.take(b" ") {
         Ok(labelled(label, read_change(alloc, cursor)?))
     } else {
-        known_item(known, &label)
+        known_item(known, label)
     }
 }
 
-fn labelled((name, place, inverse): Label, prim: Primitive) -> Named {
+fn labelled(label: Label, prim: Primitive) -> Named {
     Named {
-        name,
-        place,
-        inverse,
+        name: label.name,
+        place: label.place,
+        inverse: label.inverse,
         prim,
     }
 }
 
-fn known_item(known: &[Named], label: &Label) -> Result<Named, NotationError> {
+fn known_item(known: &[Named], label: Label) -> Result<Named, NotationError> {
     for p in known {
-        if (p.name, p.place, p.inverse) == *label {
+        if p.label() == label {
             return Ok(p.try_clone()?);
         }
     }
@@ -156,7 +161,11 @@ fn read_label_there(cursor: &mut Cursor) -> Result<Label, NotationError> {
     let name = Name::new(cursor.name())?;
     let place = read_place(cursor)?;
     let inverse = cursor.take(b"^");
-    Ok((name, place, inverse))
+    Ok(Label {
+        name,
+        place,
+        inverse,
+    })
 }
 
 fn read_place(cursor: &mut Cursor) -> Result<u8, NotationError> {

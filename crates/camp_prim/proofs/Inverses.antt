@@ -1,9 +1,10 @@
 -- The inverse of a primitive leads back.
-use Rattle.std.proofs.Common.{◌≡◌, ℕ, List, [], refl, sym, ap, ◌∙◌}
+use Rattle.std.proofs.Common.{◌≡◌, ℕ, Bool, true, false, not, List, [], refl, sym, ap, ◌∙◌}
 use Rattle.std.specs.FinMap.{get, insert, remove}
 use Rattle.camp_base.specs.Trees.{Lines, Files, Adds, Removes, Splices, SplicesLines}
-use Rattle.camp_prim.specs.Effect.{Applies, inverted}
+use Rattle.camp_prim.specs.Effect.{Applies, inverted, inverse_of}
 use Rattle.camp_prim.specs.Applied.{InverseLeadsBack}
+use Rattle.camp_prim.specs.declared.named.Named.{Named}
 use Rattle.camp_prim.specs.declared.primitives.Primitive.{Primitive}
 use Rattle.camp_prim.specs.declared.primitives.Primitive.TheVariants.{Add, Remove, Hunk}
 use Rattle.camp_prim.proofs.Maps.{get_inserted, get_removed, remove-insert, insert-remove, insert-insert}
@@ -46,6 +47,14 @@ pub inverted-inverted : (p : Primitive) → inverted (inverted p) ≡ p
 inverted-inverted (Add path) = refl
 inverted-inverted (Remove path) = refl
 inverted-inverted (Hunk hunk) = refl
+
+not-not : (b : Bool) → not (not b) ≡ b
+not-not true = refl
+not-not false = refl
+
+pub inverse_of-inverse_of : (p : Named) → inverse_of (inverse_of p) ≡ p
+inverse_of-inverse_of p =
+    λ i. record { name = p.name; place = p.place; inverse = not-not p.inverse i; prim = inverted-inverted p.prim i }
 
 pub inverse_leads_back : InverseLeadsBack
 inverse_leads_back p old new =

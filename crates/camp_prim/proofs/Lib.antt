@@ -6,8 +6,10 @@ pub mod LabelOrder
 pub mod Maps
 pub mod Moving
 pub mod Splices
+pub mod SwapDecided
 pub mod SwapEffect
 pub mod SwapLaws
 pub mod SwapUnique
+pub mod ThreeAnywhere
 pub mod ThreeHunks
 pub mod ThreeSwaps

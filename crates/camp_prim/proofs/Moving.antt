@@ -1,15 +1,16 @@
 -- Where hunks that change places come to stand.
-use Rattle.std.proofs.Common.{◌≡◌, ℕ, ◌+◌, ◌<◌, ◌⊎◌, ◌↔◌, Bool, true, false, IsTrue, Option, Result, Ok, Err, IfErr, length, refl, sym, ap, subst, inl, inr}
+use Rattle.std.proofs.Common.{◌≡◌, ℕ, ◌+◌, ◌<◌, ◌⊎◌, ◌↔◌, Bool, true, false, IsTrue, Option, option_map, Result, Ok, Err, IfErr, length, refl, sym, ap, subst, inl, inr}
 use Rattle.camp_base.specs.Trees.{Lines}
 use Rattle.camp_prim.specs.Effect.{InRange}
 use Rattle.camp_prim.specs.Hunks.{Edit, IsInRange}
 use Rattle.camp_prim.specs.Labels.{SameKey}
-use Rattle.camp_prim.specs.Moves.{moved, ComesTo, ChangePlaces, FindsMoves}
+use Rattle.camp_base.specs.Answers.{FindsPair}
+use Rattle.camp_prim.specs.Inside.Targets.{moved, turned, ComesTo, ChangeInRange}
 use Rattle.camp_prim.specs.Swaps.{at_line, MayPass, Swap}
 use Rattle.camp_prim.specs.declared.primitives.Primitive.{Primitive}
 use Rattle.camp_prim.specs.declared.primitives.Primitive.TheVariants.{Hunk}
 use Rattle.camp_prim.specs.declared.named.Named.{Named}
-use Rattle.camp_prim.specs.declared.swaps.Moves.{Moves}
+use Rattle.camp_prim.specs.declared.swaps.Targets.{Targets}
 use Rattle.camp_prim.proofs.SwapUnique.{same_hunk}
 
 -- the sides of the upper hunk as other names for them have it
@@ -17,7 +18,7 @@ pub comes_along : (upper upper' : ℕ) (takes takes' leaves leaves' : Lines) (lo
 comes_along upper upper' takes takes' leaves leaves' lower line e f g c =
     subst (λ x. ComesTo upper' (length takes') (length x) lower line) g (subst (λ x. ComesTo upper' (length x) (length leaves) lower line) f (subst (λ x. ComesTo x (length takes) (length leaves) lower line) e c))
 
-pub comes_below : (h k : Edit) (line : ℕ) → h.path ≡ k.path → IsInRange h → IsInRange k → ComesTo h.line (length h.old) (length h.new) k line → ChangePlaces (Hunk h) (Hunk k) (Hunk (at_line line k)) (Hunk h)
+pub comes_below : (h k : Edit) (line : ℕ) → h.path ≡ k.path → IsInRange h → IsInRange k → ComesTo h.line (length h.old) (length h.new) k line → ChangeInRange (Hunk h) (Hunk k) (Hunk (at_line line k)) (Hunk h)
 comes_below h k line path r s c = record {
   change = inr (inl (record {
     h = h;
@@ -42,7 +43,7 @@ passes_back : (gap : ℕ) (h k : Edit) → (0 < gap) ⊎ ((0 < length k.new) × 
 passes_back gap h k (inl apart) = inl apart
 passes_back gap h k (inr full) = inr (full.2, full.3, full.1, full.0)
 
-pub comes_above : (h k : Edit) (line : ℕ) → h.path ≡ k.path → IsInRange h → IsInRange k → ComesTo k.line (length k.new) (length k.old) h line → ChangePlaces (Hunk h) (Hunk k) (Hunk k) (Hunk (at_line line h))
+pub comes_above : (h k : Edit) (line : ℕ) → h.path ≡ k.path → IsInRange h → IsInRange k → ComesTo k.line (length k.new) (length k.old) h line → ChangeInRange (Hunk h) (Hunk k) (Hunk k) (Hunk (at_line line h))
 comes_above h k line path r s c = record {
   change = inr (inr (record {
     h = h;
@@ -59,8 +60,8 @@ comes_above h k line path r s c = record {
   ranges = (r, s, s, c.fits);
 }
 
-pub no_place : (h k : Edit) → h.path ≡ k.path → ((line : ℕ) → ¬ (ComesTo h.line (length h.old) (length h.new) k line)) → ((line : ℕ) → ¬ (ComesTo k.line (length k.new) (length k.old) h line)) → (q' p' : Primitive) → ¬ (ChangePlaces (Hunk h) (Hunk k) q' p')
-no_place h k path below above q' p' c =
+pub no_place : (h k : Edit) → h.path ≡ k.path → ((line : ℕ) → ¬ (ComesTo h.line (length h.old) (length h.new) k line)) → ((line : ℕ) → ¬ (ComesTo k.line (length k.new) (length k.old) h line)) → (any : Primitive × Primitive) → ¬ (ChangeInRange (Hunk h) (Hunk k) any.0 any.1)
+no_place h k path below above any c =
     elim c.change [
       | inl s ↦ s.paths path
       | inr some ↦ elim some [
@@ -81,24 +82,26 @@ no_place h k path below above q' p' c =
       ]
     ]
 
-pub finds_along : (p q : Primitive) (h k : Edit) (found : Option Moves) → p ≡ Hunk h → q ≡ Hunk k → FindsMoves (Hunk h) (Hunk k) found → FindsMoves p q found
-finds_along p q h k found e f finds = subst (λ x. FindsMoves p x found) (sym f) (subst (λ x. FindsMoves x (Hunk k) found) (sym e) finds)
+pub finds_along : (p q : Primitive) (h k : Edit) (found : Option Targets) → p ≡ Hunk h → q ≡ Hunk k → FindsPair (ChangeInRange (Hunk h) (Hunk k)) (option_map (turned (Hunk h) (Hunk k)) found) → FindsPair (ChangeInRange p q) (option_map (turned p q) found)
+finds_along p q h k found e f finds =
+    subst (λ x. FindsPair (ChangeInRange p x) (option_map (turned p x) found)) (sym f) (subst (λ x. FindsPair (ChangeInRange x (Hunk k)) (option_map (turned x (Hunk k)) found)) (sym e) finds)
 
-pub swap_from : (p q q' p' : Named) (moves : Moves) → ¬ (SameKey p q) → ChangePlaces p.prim q.prim (moved moves.second q.prim) (moved moves.first p.prim) → q' ≡ record q { prim = moved moves.second q.prim } → p' ≡ record p { prim = moved moves.first p.prim } → Swap p q q' p'
-swap_from p q q' p' moves apart c e f =
-    subst (λ x. Swap p q q' x) (sym f) (subst (λ x. Swap p q x (record p { prim = moved moves.first p.prim })) (sym e) (record {
-      apart = apart;
-      change = c.change;
+pub swap_from : (p q q' p' : Named) (targets : Targets) → ¬ (SameKey p q) → ChangeInRange p.prim q.prim (moved targets.second q.prim) (moved targets.first p.prim) → q' ≡ record q { prim = moved targets.second q.prim } → p' ≡ record p { prim = moved targets.first p.prim } → Swap p q q' p'
+swap_from p q q' p' targets apart c e f =
+    subst (λ x. Swap p q q' x) (sym f) (subst (λ x. Swap p q x (record p { prim = moved targets.first p.prim })) (sym e) (record {
+      anywhere = record { apart = apart; change = c.change; second = refl; first = refl };
       ranges = c.ranges;
-      second = refl;
-      first = refl;
     }))
 
 -- where primitives change places, there is a swap whatever the answer is
-pub swap_wanted : {T E : Type 0} (result : Result T E) (p q : Named) (moves : Moves) → ¬ (SameKey p q) → ChangePlaces p.prim q.prim (moved moves.second q.prim) (moved moves.first p.prim) → IfErr result (λ error. (q' : Named) × ((p' : Named) × Swap p q q' p'))
-swap_wanted (Ok done) p q moves apart c = tt
-swap_wanted (Err error) p q moves apart c =
-    (record q { prim = moved moves.second q.prim }, (record p { prim = moved moves.first p.prim }, swap_from p q _ _ moves apart c refl refl))
+pub swap_wanted : {T E : Type 0} (result : Result T E) (p q : Named) (targets : Targets) → ¬ (SameKey p q) → ChangeInRange p.prim q.prim (moved targets.second q.prim) (moved targets.first p.prim) → IfErr result (λ error. (q' : Named) × ((p' : Named) × Swap p q q' p'))
+swap_wanted (Ok done) p q targets apart c = tt
+swap_wanted (Err error) p q targets apart c =
+    (record q { prim = moved targets.second q.prim }, (record p { prim = moved targets.first p.prim }, swap_from p q _ _ targets apart c refl refl))
+
+-- where primitives do not change places, there is no swap
+pub no_swap : (p q : Named) → ((any : Primitive × Primitive) → ¬ (ChangeInRange p.prim q.prim any.0 any.1)) → (any : Named × Named) → ¬ (Swap p q any.0 any.1)
+no_swap p q never any s = never (any.0.prim, any.1.prim) (record { change = s.anywhere.change; ranges = s.ranges })
 
 -- what a test that says no tells
 pub told_not : {P : Type 0} (b : Bool) → b ≡ false → IsTrue b ↔ P → ¬ P

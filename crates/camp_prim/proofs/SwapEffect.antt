@@ -1,10 +1,10 @@
 -- Two primitives that swap have one effect in both orders.
-use Rattle.std.proofs.Common.{◌≡◌, ◌≢◌, ℕ, ◌+◌, ◌⊎◌, inl, inr, [], Option, None, Some, length, refl, sym, ap, ◌∙◌, subst}
+use Rattle.std.proofs.Common.{◌≡◌, ◌≢◌, ℕ, ◌+◌, inl, inr, [], Option, None, Some, length, refl, sym, ap, ◌∙◌, subst}
 use Rattle.std.specs.FinMap.{get}
 use Rattle.camp_base.specs.Trees.{Lines, Files, Splices, SplicesLines}
 use Rattle.camp_prim.specs.Hunks.{Edit}
 use Rattle.camp_prim.specs.Effect.{Applies, Leads}
-use Rattle.camp_prim.specs.Swaps.{path_of, at_line, SwapsOnTwoPaths, SwapsBelow, SwapsAbove}
+use Rattle.camp_prim.specs.Swaps.{path_of, at_line, ChangePlaces}
 use Rattle.camp_prim.specs.declared.primitives.Primitive.{Primitive}
 use Rattle.camp_prim.specs.declared.primitives.Primitive.TheVariants.{Add, Remove, Hunk}
 use Rattle.camp_prim.proofs.FilesAtPaths.{with_file, get-with_file_same, get-with_file_other, with_file_twice, with_files_apart}
@@ -131,14 +131,10 @@ above_leads h k gap old new same stands leads =
       becomes = e.becomes ∙ ap (λ p. with_file old p (Some e.changed)) same;
     })
 
--- one of the three cases of a swap
-abbrev pub Swaps : Primitive → Primitive → Primitive → Primitive → Type 0
-Swaps p q q' p' = SwapsOnTwoPaths p q q' p' ⊎ (SwapsBelow p q q' p' ⊎ SwapsAbove p q q' p')
-
 leads_along : (p q r s : Primitive) (old new : Files) → p ≡ r → q ≡ s → Leads p q old new → Leads r s old new
 leads_along p q r s old new e f leads = subst (λ x. Leads r x old new) f (subst (λ x. Leads x q old new) e leads)
 
-pub swaps_lead : (p q q' p' : Primitive) (old new : Files) → Swaps p q q' p' → Leads p q old new → Leads q' p' old new
+pub swaps_lead : (p q q' p' : Primitive) (old new : Files) → ChangePlaces p q q' p' → Leads p q old new → Leads q' p' old new
 swaps_lead p q q' p' old new (inl s) leads =
     leads_along q p q' p' old new (sym s.second) (sym s.first) (apart_leads p q old new s.paths leads)
 swaps_lead p q q' p' old new (inr (inl s)) leads =

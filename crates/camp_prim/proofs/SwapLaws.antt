@@ -4,11 +4,11 @@ use Rattle.camp_prim.specs.Hunks.{Edit, IsInRange}
 use Rattle.camp_prim.specs.Effect.{flipped, inverted, inverse_of, InRange}
 use Rattle.camp_prim.specs.Labels.{label_of, key_of, opposite, SameKey}
 use Rattle.camp_prim.specs.Laws.{OwnInverse, Inverse, Square, SameEffect, SwapLaws}
-use Rattle.camp_prim.specs.Swaps.{path_of, at_line, MayPass, Swap}
+use Rattle.camp_prim.specs.Swaps.{path_of, at_line, MayPass, Swap, ChangePlaces, SwapAnywhere}
 use Rattle.camp_prim.specs.declared.primitives.Primitive.{Primitive}
 use Rattle.camp_prim.specs.declared.primitives.Primitive.TheVariants.{Add, Remove, Hunk}
 use Rattle.camp_prim.specs.declared.named.Named.{Named}
-use Rattle.camp_prim.proofs.SwapEffect.{Swaps, swaps_lead}
+use Rattle.camp_prim.proofs.SwapEffect.{swaps_lead}
 
 passes_back : (gap : ℕ) (h k : Edit) → MayPass gap h k → MayPass gap k h
 passes_back gap h k (inl apart) = inl apart
@@ -49,7 +49,7 @@ label-inverse p q e = ap opposite e
 pub same_key : (p q p' q' : Named) → label_of p ≡ label_of p' → label_of q ≡ label_of q' → SameKey p q → SameKey p' q'
 same_key p q p' q' e f same = sym (ap key_of e) ∙ same ∙ ap key_of f
 
-swaps_back : (p q q' p' : Primitive) → Swaps p q q' p' → Swaps q' p' p q
+swaps_back : (p q q' p' : Primitive) → ChangePlaces p q q' p' → ChangePlaces q' p' p q
 swaps_back p q q' p' (inl s) = inl (record {
   paths = λ e. s.paths (ap path_of (sym s.first) ∙ sym e ∙ ap path_of s.second);
   second = sym s.first;
@@ -80,16 +80,19 @@ swaps_back p q q' p' (inr (inr s)) = inr (inl (record {
   first = sym s.second;
 }))
 
-pub own_inverse : (p q q' p' : Named) → Swap p q q' p' → OwnInverse p q q' p'
-own_inverse p q q' p' s = record {
+pub own_inverse_anywhere : (p q q' p' : Named) → SwapAnywhere p q q' p' → SwapAnywhere q' p' p q
+own_inverse_anywhere p q q' p' s = record {
   apart = λ same. s.apart (sym (same_key q' p' q p s.second s.first same));
   change = swaps_back p.prim q.prim q'.prim p'.prim s.change;
-  ranges = (s.ranges.2, s.ranges.3, s.ranges.0, s.ranges.1);
   second = sym s.first;
   first = sym s.second;
 }
 
-swaps_inverse : (p q q' p' : Primitive) → Swaps p q q' p' → Swaps (inverted q) (inverted p) (inverted p') (inverted q')
+pub own_inverse : (p q q' p' : Named) → Swap p q q' p' → OwnInverse p q q' p'
+own_inverse p q q' p' s =
+    record { anywhere = own_inverse_anywhere p q q' p' s.anywhere; ranges = (s.ranges.2, s.ranges.3, s.ranges.0, s.ranges.1) }
+
+swaps_inverse : (p q q' p' : Primitive) → ChangePlaces p q q' p' → ChangePlaces (inverted q) (inverted p) (inverted p') (inverted q')
 swaps_inverse p q q' p' (inl s) = inl (record {
   paths = λ e. s.paths (sym (path_of-inverted p) ∙ sym e ∙ path_of-inverted q);
   second = ap inverted s.first;
@@ -122,14 +125,16 @@ swaps_inverse p q q' p' (inr (inr s)) = inr (inl (record {
 
 pub inverse : (p q q' p' : Named) → Swap p q q' p' → Inverse p q q' p'
 inverse p q q' p' s = record {
-  apart = λ same. s.apart (sym same);
-  change = swaps_inverse p.prim q.prim q'.prim p'.prim s.change;
+  anywhere = record {
+    apart = λ same. s.anywhere.apart (sym same);
+    change = swaps_inverse p.prim q.prim q'.prim p'.prim s.anywhere.change;
+    second = label-inverse p' p s.anywhere.first;
+    first = label-inverse q' q s.anywhere.second;
+  };
   ranges = (in_range-inverted q.prim s.ranges.1, in_range-inverted p.prim s.ranges.0, in_range-inverted p'.prim s.ranges.3, in_range-inverted q'.prim s.ranges.2);
-  second = label-inverse p' p s.first;
-  first = label-inverse q' q s.second;
 }
 
-swaps_square : (p q q' p' : Primitive) → Swaps p q q' p' → Swaps (inverted p) q' q (inverted p')
+swaps_square : (p q q' p' : Primitive) → ChangePlaces p q q' p' → ChangePlaces (inverted p) q' q (inverted p')
 swaps_square p q q' p' (inl s) = inl (record {
   paths = λ e. s.paths (sym (path_of-inverted p) ∙ e ∙ ap path_of s.second);
   second = sym s.second;
@@ -160,17 +165,22 @@ swaps_square p q q' p' (inr (inr s)) = inr (inr (record {
   first = ap inverted s.first;
 }))
 
-pub square : (p q q' p' : Named) → Swap p q q' p' → Square p q q' p'
-square p q q' p' s = record {
+pub square_anywhere : (p q q' p' : Named) → SwapAnywhere p q q' p' → SwapAnywhere (inverse_of p) q' q (inverse_of p')
+square_anywhere p q q' p' s = record {
   apart = λ same. s.apart (same ∙ ap key_of s.second);
   change = swaps_square p.prim q.prim q'.prim p'.prim s.change;
-  ranges = (in_range-inverted p.prim s.ranges.0, s.ranges.2, s.ranges.1, in_range-inverted p'.prim s.ranges.3);
   second = sym s.second;
   first = label-inverse p' p s.first;
 }
 
+pub square : (p q q' p' : Named) → Swap p q q' p' → Square p q q' p'
+square p q q' p' s = record {
+  anywhere = square_anywhere p q q' p' s.anywhere;
+  ranges = (in_range-inverted p.prim s.ranges.0, s.ranges.2, s.ranges.1, in_range-inverted p'.prim s.ranges.3);
+}
+
 pub effect : (p q q' p' : Named) → Swap p q q' p' → SameEffect p q q' p'
-effect p q q' p' s old new = (swaps_lead p.prim q.prim q'.prim p'.prim old new s.change, swaps_lead q'.prim p'.prim p.prim q.prim old new (swaps_back p.prim q.prim q'.prim p'.prim s.change))
+effect p q q' p' s old new = (swaps_lead p.prim q.prim q'.prim p'.prim old new s.anywhere.change, swaps_lead q'.prim p'.prim p.prim q.prim old new (swaps_back p.prim q.prim q'.prim p'.prim s.anywhere.change))
 
 pub swap_laws : (p q q' p' : Named) → Swap p q q' p' → SwapLaws p q q' p'
 swap_laws p q q' p' s = record {

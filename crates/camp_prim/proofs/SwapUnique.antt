@@ -1,10 +1,9 @@
 -- What two primitives become is determined.
-use Rattle.std.proofs.Common.{◌≡◌, ◌+◌, ◌<◌, length, sym, ap, ◌∙◌, inl, inr, arith}
+use Rattle.std.proofs.Common.{◌≡◌, ◌+◌, ◌<◌, true, false, None, Some, length, refl, sym, ap, ◌∙◌, inl, inr, arith}
 use Rattle.camp_prim.specs.Hunks.{Edit}
 use Rattle.camp_prim.specs.Labels.{label_of}
-use Rattle.camp_prim.specs.Laws.{SwapIsUnique}
-use Rattle.camp_prim.specs.Swaps.{path_of, at_line, SwapsBelow, SwapsAbove}
-use Rattle.camp_prim.proofs.SwapEffect.{Swaps}
+use Rattle.camp_prim.specs.Laws.{CommuteIsExchange, SwapIsUnique}
+use Rattle.camp_prim.specs.Swaps.{path_of, at_line, SwapsBelow, SwapsAbove, ChangePlaces}
 use Rattle.camp_prim.specs.declared.primitives.Primitive.{Primitive}
 use Rattle.camp_prim.specs.declared.primitives.Primitive.TheVariants.{Hunk}
 use Rattle.camp_prim.specs.declared.named.Named.{Named}
@@ -59,7 +58,7 @@ one_above p q q' p' r' o' b a =
     let lines : b.k.line + length b.k.new + b.gap ≡ a.k.line + length a.k.new + a.gap = omega arith in
     (b.second ∙ sym a.second, b.first ∙ ap (λ l. Hunk (at_line l b.h)) lines ∙ ap (λ h. Hunk (at_line (a.k.line + length a.k.new + a.gap) h)) hs ∙ sym a.first)
 
-one_change : (p q q' p' r' o' : Primitive) → Swaps p q q' p' → Swaps p q r' o' → (q' ≡ r') × (p' ≡ o')
+one_change : (p q q' p' r' o' : Primitive) → ChangePlaces p q q' p' → ChangePlaces p q r' o' → (q' ≡ r') × (p' ≡ o')
 one_change p q q' p' r' o' (inl x) (inl y) = (x.second ∙ sym y.second, x.first ∙ sym y.first)
 one_change p q q' p' r' o' (inl x) (inr (inl y)) = absurd (x.paths (one_path p q y.h y.k y.is_p y.is_q y.path))
 one_change p q q' p' r' o' (inl x) (inr (inr y)) = absurd (x.paths (one_path p q y.h y.k y.is_p y.is_q y.path))
@@ -72,5 +71,13 @@ one_change p q q' p' r' o' (inr (inr x)) (inr (inr y)) = one_above p q q' p' r' 
 
 pub swap_unique : SwapIsUnique
 swap_unique p q q' p' r' o' x y =
-    let prims = one_change p.prim q.prim q'.prim p'.prim r'.prim o'.prim x.change y.change in
-    (same_named q' r' (x.second ∙ sym y.second) prims.0, same_named p' o' (x.first ∙ sym y.first) prims.1)
+    let prims = one_change p.prim q.prim q'.prim p'.prim r'.prim o'.prim x.anywhere.change y.anywhere.change in
+    (same_named q' r' (x.anywhere.second ∙ sym y.anywhere.second) prims.0, same_named p' o' (x.anywhere.first ∙ sym y.anywhere.first) prims.1)
+
+pub commute_is_exchange : CommuteIsExchange
+commute_is_exchange p q first second None true never w = absurd (never (first, second) w)
+commute_is_exchange p q first second None false never w = refl
+commute_is_exchange p q first second (Some found) true v w =
+    let pair = swap_unique p q found.0 found.1 first second v w in
+    λ i. Some (pair.0 i, pair.1 i)
+commute_is_exchange p q first second (Some found) false v w = absurd (w.0 found v)

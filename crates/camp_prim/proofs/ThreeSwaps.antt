@@ -1,10 +1,9 @@
 -- Where two primitives change places and a third passes both, it passes them in their other order too.
 use Rattle.std.proofs.Common.{◌≡◌, ◌≢◌, ℕ, ◌⊎◌, ◌+◌, length, refl, sym, ap, ◌∙◌, subst, inl, inr}
 use Rattle.camp_prim.specs.Hunks.{Edit}
-use Rattle.camp_prim.specs.Swaps.{path_of, at_line, SwapsOnTwoPaths, SwapsBelow, SwapsAbove}
+use Rattle.camp_prim.specs.Swaps.{path_of, at_line, SwapsOnTwoPaths, SwapsBelow, SwapsAbove, ChangePlaces}
 use Rattle.camp_prim.specs.declared.primitives.Primitive.{Primitive}
 use Rattle.camp_prim.specs.declared.primitives.Primitive.TheVariants.{Hunk}
-use Rattle.camp_prim.proofs.SwapEffect.{Swaps}
 use Rattle.camp_prim.proofs.SwapUnique.{same_hunk, one_path}
 use Rattle.camp_prim.proofs.ThreeHunks.{Moves, MovesInOrder, three_move}
 
@@ -47,7 +46,7 @@ hunks_move h k p q q' p' is_p is_q (inl s) =
 hunks_move h k p q q' p' is_p is_q (inr s) =
     move_of h k s.h s.k q' p' (same_hunk s.h h (sym s.is_p ∙ is_p)) (same_hunk s.k k (sym s.is_q ∙ is_q)) (above_moves p q q' p' s)
 
-swaps_by_moves : (h k : Edit) (p q q' p' : Primitive) (q_line p_line : ℕ) → h.path ≡ k.path → p ≡ Hunk h → q ≡ Hunk k → q' ≡ Hunk (at_line q_line k) → p' ≡ Hunk (at_line p_line h) → Moves (length h.old) (length h.new) (length k.old) (length k.new) h.line k.line q_line p_line → Swaps p q q' p'
+swaps_by_moves : (h k : Edit) (p q q' p' : Primitive) (q_line p_line : ℕ) → h.path ≡ k.path → p ≡ Hunk h → q ≡ Hunk k → q' ≡ Hunk (at_line q_line k) → p' ≡ Hunk (at_line p_line h) → Moves (length h.old) (length h.new) (length k.old) (length k.new) h.line k.line q_line p_line → ChangePlaces p q q' p'
 swaps_by_moves h k p q q' p' q_line p_line path is_p is_q second first (inl m) = inr (inl (record {
   h = h;
   k = k;
@@ -106,9 +105,9 @@ pub record PassesInOrder (p' q' r p1 q1 y : Primitive) : Type 0 where
   pub r2 : Primitive
   pub p2 : Primitive
   pub q2 : Primitive
-  pub past_first : Swaps p' r r2 p2
-  pub past_second : Swaps q' r2 y q2
-  pub others : Swaps p1 q1 q2 p2
+  pub past_first : ChangePlaces p' r r2 p2
+  pub past_second : ChangePlaces q' r2 y q2
+  pub others : ChangePlaces p1 q1 q2 p2
 
 lines_in_order : (h k m : Edit) (q' p' r r1 q1 y p1 : Primitive) (first : HunksMove h k q' p') (then : HunksMove k m r1 q1) (last : HunksMove h (at_line then.second_line m) y p1) → MovesInOrder (length h.old) (length h.new) (length k.old) (length k.new) (length m.old) (length m.new) first.first_line first.second_line m.line last.first_line then.first_line last.second_line
 lines_in_order h k m q' p' r r1 q1 y p1 first then last =
@@ -135,11 +134,11 @@ three_hunks p q q' p' r r1 q1 y p1 u v w =
     let last = hunks_move a.h (at_line then.second_line b.k) p r1 y p1 a.is_p then.second w in
     hunks_in_order a.h a.k b.k q' p' r r1 q1 y p1 a.path path b.is_q first then last (lines_in_order a.h a.k b.k q' p' r r1 q1 y p1 first then last)
 
-swaps_along : (p q q' p' s t t' s' : Primitive) → p ≡ s → q ≡ t → q' ≡ t' → p' ≡ s' → Swaps p q q' p' → Swaps s t t' s'
+swaps_along : (p q q' p' s t t' s' : Primitive) → p ≡ s → q ≡ t → q' ≡ t' → p' ≡ s' → ChangePlaces p q q' p' → ChangePlaces s t t' s'
 swaps_along p q q' p' s t t' s' e f g h w =
-    subst (λ x. Swaps s t t' x) h (subst (λ x. Swaps s t x p') g (subst (λ x. Swaps s x q' p') f (subst (λ x. Swaps x q q' p') e w)))
+    subst (λ x. ChangePlaces s t t' x) h (subst (λ x. ChangePlaces s t x p') g (subst (λ x. ChangePlaces s x q' p') f (subst (λ x. ChangePlaces x q q' p') e w)))
 
-on_two_paths : (p q q' p' : Primitive) → path_of p ≢ path_of q → q' ≡ q → p' ≡ p → Swaps p q q' p'
+on_two_paths : (p q q' p' : Primitive) → path_of p ≢ path_of q → q' ≡ q → p' ≡ p → ChangePlaces p q q' p'
 on_two_paths p q q' p' paths second first = inl (record { paths = paths; second = second; first = first })
 
 -- for three paths
@@ -187,7 +186,7 @@ two_near p q q' p' r r1 q1 y p1 u v w = record {
 }
 
 -- where p and q can change places, and r passes q and then p and comes to y, it passes them in their other order too and comes to y, and what they become behind it are one pair in its two orders
-pub three_swap : (p q q' p' r r1 q1 y p1 : Primitive) → Swaps p q q' p' → Swaps q r r1 q1 → Swaps p r1 y p1 → PassesInOrder p' q' r p1 q1 y
+pub three_swap : (p q q' p' r r1 q1 y p1 : Primitive) → ChangePlaces p q q' p' → ChangePlaces q r r1 q1 → ChangePlaces p r1 y p1 → PassesInOrder p' q' r p1 q1 y
 three_swap p q q' p' r r1 q1 y p1 (inl u) (inl v) (inl w) = on_three_paths p q q' p' r r1 q1 y p1 u v w
 three_swap p q q' p' r r1 q1 y p1 (inl u) (inl v) (inr w) = third_near_first p q q' p' r r1 q1 y p1 u v w
 three_swap p q q' p' r r1 q1 y p1 (inl u) (inr v) (inl w) = third_near_second p q q' p' r r1 q1 y p1 u v w

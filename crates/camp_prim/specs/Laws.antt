@@ -1,8 +1,9 @@
 -- The laws of swapping two primitives.
-use Rattle.std.specs.Prelude.{◌≡◌, ◌↔◌}
+use Rattle.std.specs.Prelude.{◌≡◌, ◌↔◌, Bool, Option, None, Some, if◌then◌else◌}
+use Rattle.camp_base.specs.Answers.{Changes, FindsPair}
 use Rattle.camp_base.specs.Trees.{Files}
 use Rattle.camp_prim.specs.Effect.{inverse_of, Leads}
-use Rattle.camp_prim.specs.Swaps.{Swap}
+use Rattle.camp_prim.specs.Swaps.{Swap, Swapped}
 use Rattle.camp_prim.specs.declared.named.Named.{Named}
 
 -- what two primitives become when they change places is determined
@@ -31,3 +32,21 @@ pub record SwapLaws (p q q' p' : Named) : Type 0 where
   pub inverse : Inverse p q q' p'
   pub square : Square p q q' p'
   pub effect : SameEffect p q q' p'
+
+-- commuting and exchanging agree: None is answered exactly where false is, and else both give the same two
+abbrev pub CommuteIsExchange : Type 0
+CommuteIsExchange =
+    (p q first second : Named) (found : Option (Named × Named)) (done : Bool)
+    → FindsPair (Swap p q) found → Changes Swapped (p, q) done (first, second)
+    → found ≡ (if done then Some (first, second) else None)
+
+-- the six orders of p q r, each one turn of neighbours from the next, round about:
+--   p q r    q' p' r    q' r2 p2    y q2 p2    y p1 q1    p r1 q1    p q r
+pub record SixOrders (Turns : Named → Named → Named → Named → Type 0)
+    (p q r q' p' r1 q1 r2 p2 y p1 q2 : Named) : Type 0 where
+  pub pq : Turns p q q' p'
+  pub pr : Turns p' r r2 p2
+  pub qr2 : Turns q' r2 y q2
+  pub p1q1 : Turns p1 q1 q2 p2
+  pub pr1 : Turns p r1 y p1
+  pub qr : Turns q r r1 q1

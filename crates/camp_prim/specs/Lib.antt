@@ -1,9 +1,7 @@
 pub mod Applied
 pub mod Effect
-pub mod Exchange
-pub mod HunkFields
 pub mod Hunks
+pub mod Inside
 pub mod Labels
 pub mod Laws
-pub mod Moves
 pub mod Swaps

@@ -53,10 +53,26 @@ pub record SwapsAbove (p q q' p' : Primitive) : Type 0 where
   pub second : q' ≡ q
   pub first : p' ≡ Hunk (at_line (k.line + length k.new + gap) h)
 
--- p q <-> q' p': the absolute labels differ, one of the cases holds, all four are in range, and labels are kept
-pub record Swap (p q q' p' : Named) : Type 0 where
+-- p and then q change places and become q' and then p', whatever their labels are: one of the three cases
+abbrev pub ChangePlaces : Primitive → Primitive → Primitive → Primitive → Type 0
+ChangePlaces p q q' p' = SwapsOnTwoPaths p q q' p' ⊎ (SwapsBelow p q q' p' ⊎ SwapsAbove p q q' p')
+
+-- each of four primitives is in range
+abbrev pub AreInRange : Primitive → Primitive → Primitive → Primitive → Type 0
+AreInRange p q q' p' = InRange p × InRange q × InRange q' × InRange p'
+
+-- p q <-> q' p', in range or not: the absolute labels differ, the primitives change places, and labels are kept
+pub record SwapAnywhere (p q q' p' : Named) : Type 0 where
   pub apart : ¬ (SameKey p q)
-  pub change : SwapsOnTwoPaths p.prim q.prim q'.prim p'.prim ⊎ (SwapsBelow p.prim q.prim q'.prim p'.prim ⊎ SwapsAbove p.prim q.prim q'.prim p'.prim)
-  pub ranges : InRange p.prim × InRange q.prim × InRange q'.prim × InRange p'.prim
+  pub change : ChangePlaces p.prim q.prim q'.prim p'.prim
   pub second : label_of q' ≡ label_of q
   pub first : label_of p' ≡ label_of p
+
+-- p q <-> q' p': the same, and all four are in range
+pub record Swap (p q q' p' : Named) : Type 0 where
+  pub anywhere : SwapAnywhere p q q' p'
+  pub ranges : AreInRange p.prim q.prim q'.prim p'.prim
+
+-- the same of pairs: the second pair is the first one swapped
+abbrev pub Swapped : Named × Named → Named × Named → Type 0
+Swapped old new = Swap old.0 old.1 new.0 new.1

@@ -1,10 +1,11 @@
 ghost use Rattle.std.specs.Prelude.{◌≡◌, ℕ, Some};
+ghost use Rattle.camp_base.specs.Answers.{Changes};
 ghost use Rattle.camp_prim.specs.Effect.{InRange};
-ghost use Rattle.camp_prim.specs.Exchange.{Exchanged};
-ghost use Rattle.camp_prim.specs.Moves.{moved};
+ghost use Rattle.camp_prim.specs.Inside.Targets.{moved};
+ghost use Rattle.camp_prim.specs.Swaps.{Swapped};
 
 use crate::labels::have_same_key;
-use crate::swaps::moves_of;
+use crate::swaps::targets_of;
 use crate::{Named, Primitive};
 use std::mem;
 
@@ -12,17 +13,17 @@ use std::mem;
 /// what `first` is behind that. Answers false where they can't, and leaves both as they were. It
 /// takes no memory.
 pub fn exchange(first: &mut Named, second: &mut Named) -> bool
-    ensures { Exchanged first.old second.old result first.new second.new }
+    ensures exact { Changes Swapped (first.old, second.old) result (first.new, second.new) }
 {
     if have_same_key(first, second) {
         return false;
     }
-    match moves_of(&first.prim, &second.prim) {
+    match targets_of(&first.prim, &second.prim) {
         None => false,
-        Some(moves) => {
+        Some(targets) => {
             mem::swap(first, second);
-            move_to(&mut first.prim, moves.second);
-            move_to(&mut second.prim, moves.first);
+            move_to(&mut first.prim, targets.second);
+            move_to(&mut second.prim, targets.first);
             true
         }
     }

@@ -25,7 +25,7 @@ impl Model for Hunk {
 
     ghost Value = { Edit };
 
-    ghost use Rattle.camp_prim.specs.HunkFields.{edit_of, IsHunk};
+    ghost use Rattle.camp_prim.specs.Inside.HunkFields.{edit_of, IsHunk};
 
     ghost view = { edit_of };
 

@@ -16,9 +16,4 @@ pub use hunks::Hunk;
 pub use labels::{Key, Label, keys_are_ordered, labels_are_ordered};
 pub use named::Named;
 pub use primitives::Primitive;
-pub use swaps::{commute, swap_has_laws, swap_is_unique};
-
-#[cfg(test)]
-mod swap_tests;
-#[cfg(test)]
-mod tests;
+pub use swaps::{commute, commute_is_exchange, swap_has_laws, swap_is_unique};

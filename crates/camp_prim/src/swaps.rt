@@ -1,8 +1,9 @@
-ghost use Rattle.std.specs.Prelude.{◌≡◌, ℕ, ◌+◌, ◌^◌, ◌≤◌, ◌<◌, ◌⊎◌, ◌↔◌, IfOk, IfErr, IfSome, IsTrue, MatchOption, length};
+ghost use Rattle.std.specs.Prelude.{◌≡◌, ◌+◌, ◌^◌, ◌≤◌, ◌<◌, ◌↔◌, IfOk, IfErr, IfSome, IsTrue, MatchOption, length, option_map};
+ghost use Rattle.camp_base.specs.Answers.{Finds, FindsPair};
 ghost use Rattle.camp_prim.specs.Effect.{InRange};
 ghost use Rattle.camp_prim.specs.Hunks.{IsInRange};
-ghost use Rattle.camp_prim.specs.Laws.{SwapIsUnique, SwapLaws};
-ghost use Rattle.camp_prim.specs.Moves.{moved, ComesTo, FindsMoves};
+ghost use Rattle.camp_prim.specs.Laws.{CommuteIsExchange, SwapIsUnique, SwapLaws};
+ghost use Rattle.camp_prim.specs.Inside.Targets.{moved, turned, ChangeInRange, ComesTo};
 ghost use Rattle.camp_prim.specs.Swaps.{Swap};
 
 use crate::exchanges::move_to;
@@ -14,20 +15,18 @@ use std::alloc::AllocError;
 /// what `p` and then `q` do, and None where they can't change places. None is answered whatever
 /// memory does.
 pub fn commute(p: &Named, q: &Named) -> Result<Option<(Named, Named)>, AllocError>
-    ensures exact { IfOk result (λ found. MatchOption found
-        ((q' p' : Named) → ¬ (Swap p.now q.now q' p'))
-        (λ pair. Swap p.now q.now pair.0 pair.1)) }
+    ensures exact { IfOk result (FindsPair (Swap p.now q.now)) }
     ensures laws { IfOk result (λ found. IfSome found (λ pair. SwapLaws p.now q.now pair.0 pair.1)) }
     ensures wanted { IfErr result (λ error. (q' : Named) × ((p' : Named) × Swap p.now q.now q' p')) }
 {
     if have_same_key(p, q) {
         return Ok(None);
     }
-    match moves_of(&p.prim, &q.prim) {
+    match targets_of(&p.prim, &q.prim) {
         None => Ok(None),
-        Some(moves) => {
-            let second = moved_copy(q, moves.second)?;
-            let first = moved_copy(p, moves.first)?;
+        Some(targets) => {
+            let second = moved_copy(q, targets.second)?;
+            let first = moved_copy(p, targets.first)?;
             Ok(Some((second, first)))
         }
     }
@@ -43,18 +42,23 @@ pub fn swap_has_laws()
     ensures { (p q q' p' : Named) → Swap p q q' p' → SwapLaws p q q' p' }
 {}
 
+/// `commute` answers None exactly where `exchange` answers false, and else both give the same two.
+pub fn commute_is_exchange()
+    ensures { CommuteIsExchange }
+{}
+
 /// The lines to which two primitives move as they change places, where they move.
 #[derive(Drop)]
-pub(crate) struct Moves {
+pub(crate) struct Targets {
     pub(crate) second: Option<u32>,
     pub(crate) first: Option<u32>,
 }
 
-pub(crate) fn moves_of(p: &Primitive, q: &Primitive) -> Option<Moves>
-    ensures { FindsMoves p.now q.now result }
+pub(crate) fn targets_of(p: &Primitive, q: &Primitive) -> Option<Targets>
+    ensures { FindsPair (ChangeInRange p.now q.now) (option_map (turned p.now q.now) result) }
 {
     if p.path() != q.path() {
-        return Some(Moves {
+        return Some(Targets {
             second: None,
             first: None,
         });
@@ -65,23 +69,24 @@ pub(crate) fn moves_of(p: &Primitive, q: &Primitive) -> Option<Moves>
     let Primitive::Hunk(k) = q else {
         return None;
     };
-    hunk_moves(h, k)
+    hunk_targets(h, k)
 }
 
-fn hunk_moves(h: &Hunk, k: &Hunk) -> Option<Moves>
+fn hunk_targets(h: &Hunk, k: &Hunk) -> Option<Targets>
     requires path { h.now.path ≡ k.now.path }
     requires first { IsInRange h.now }
     requires second { IsInRange k.now }
-    ensures { FindsMoves (Primitive.Hunk h.now) (Primitive.Hunk k.now) result }
+    ensures { FindsPair (ChangeInRange (Primitive.Hunk h.now) (Primitive.Hunk k.now))
+        (option_map (turned (Primitive.Hunk h.now) (Primitive.Hunk k.now)) result) }
 {
     if let Some(line) = line_below(h.line(), h.old().len(), h.new().len(), k) {
-        return Some(Moves {
+        return Some(Targets {
             second: Some(line),
             first: None,
         });
     }
     if let Some(line) = line_below(k.line(), k.new().len(), k.old().len(), h) {
-        return Some(Moves {
+        return Some(Targets {
             second: None,
             first: Some(line),
         });
@@ -93,9 +98,7 @@ fn hunk_moves(h: &Hunk, k: &Hunk) -> Option<Moves>
 /// and is to stand as far behind what that takes. None where it can't pass it, or leaves the range.
 fn line_below(upper: u32, takes: usize, leaves: usize, lower: &Hunk) -> Option<u32>
     requires { upper + takes + leaves ≤ 2 ^ 30 }
-    ensures { MatchOption result
-        ((line : ℕ) → ¬ (ComesTo upper takes leaves lower.now line))
-        (λ line. ComesTo upper takes leaves lower.now line) }
+    ensures { Finds (ComesTo upper takes leaves lower.now) result }
 {
     let gap = gap_between(upper as usize + leaves, lower.line() as usize)?;
     if gap == 0 && !are_full(takes, leaves, lower) {

@@ -1,5 +1,5 @@
 -- Fronts of lists, and lists cut at an element.
-use Rattle.std.proofs.Common.{◌≡◌, ◌⊎◌, inl, inr, List, [], ◌∷◌, ◌++◌, sym, refl, ap, ◌∙◌}
+use Rattle.std.proofs.Common.{arith, length, length-append, ◌≡◌, ◌⊎◌, inl, inr, List, [], ◌∷◌, ◌++◌, sym, refl, ap, ◌∙◌}
 use Rattle.std.proofs.lemmas.List.{append-nil, append_assoc, append_cancel_left}
 use Rattle.camp_row.specs.Chains.{IsFront, IsShorter}
 
@@ -34,6 +34,18 @@ module _ {A : Type 0} where
     at : (rest : List A) → xs ++ rest ≡ ys → (xs ≡ ys) ⊎ (IsShorter xs ys)
     at [] e = inl (sym (append-nil xs) ∙ e)
     at (z ∷ rest) e = inr (record { next = z; rest = rest; is = e })
+
+  -- two lists that begin each other are one
+  pub front_both : (xs ys : List A) → IsFront xs ys → IsFront ys xs → xs ≡ ys
+  front_both xs ys f g = elim (front_cases xs ys f) [
+    | inl same ↦ same
+    | inr s ↦
+        let a : length (xs ++ s.next ∷ s.rest) ≡ length ys = ap length s.is in
+        let b : length (ys ++ g.rest) ≡ length xs = ap length g.is in
+        let c = length-append xs (s.next ∷ s.rest) in
+        let d = length-append ys g.rest in
+        absurd (omega arith)
+  ]
 
   -- a list cut at an element goes on with the longer list
   pub cut_longer : (before : List A) (x : A) (after whole rest longer : List A) → before ++ x ∷ after ≡ whole → whole ++ rest ≡ longer → before ++ x ∷ (after ++ rest) ≡ longer

@@ -1,16 +1,18 @@
 -- Two passes that find one chain.
-use Rattle.std.proofs.Common.{◌≡◌, ◌≢◌, ℕ, ◌+◌, ◌≤◌, List, [], ◌∷◌, All, map, sym, ap, ◌∙◌, arith}
+use Rattle.std.proofs.Common.{subst, ◌≡◌, ◌≢◌, inl, inr, ℕ, ◌+◌, ◌≤◌, List, [], ◌∷◌, All, map, sym, ap, ◌∙◌, arith}
 use Rattle.std.proofs.lemmas.List.Elements.{All-head, All-tail, All-same}
 use Rattle.atomic_table.specs.declared.shared.Seat.{Seat}
 use Rattle.camp_row.specs.declared.entries.Entry.{Entry}
 use Rattle.camp_row.specs.declared.knowledge.Knowledge.{Knowledge}
 use Rattle.camp_row.specs.declared.passes.Pass.TheInside.{Inside as PassInside}
-use Rattle.camp_row.specs.Known.{IsSound}
-use Rattle.camp_row.specs.Inside.Parts.{Part, parts_of, finds}
+use Rattle.camp_row.specs.Chains.{IsFront}
+use Rattle.camp_row.specs.Known.{Known, Finds, OneBegins}
+use Rattle.camp_row.specs.Inside.Parts.{Part, part_of, known_of, parts_of, finds}
 use Rattle.camp_row.specs.Inside.PassFields.{part, known, IsPass}
 use Rattle.camp_row.specs.Inside.Steps.{Sees, Looked}
+use Rattle.camp_row.proofs.Fronts.{fronts_meet, shorter_front}
 use Rattle.camp_row.proofs.Ruling.{parts_of-self}
-use Rattle.camp_row.proofs.PassOfRow.{at_part}
+use Rattle.camp_row.proofs.PassOfRow.{at_part, known_at}
 
 -- both parts, after a load of the head by the seat that has both
 pub record Met (found : ℕ) (b a : Part) (new : List Part) : Type 0 where
@@ -51,5 +53,18 @@ found_pass pass seat found chain alone slots sees is = at_part (record pass { se
   sound = sees.sound;
 })
 
-pub sound_known : (pass : PassInside) → IsPass pass (part pass) → IsSound (known pass)
-sound_known pass is = record { front = is.sound.front; own_seen = is.sound.own_seen }
+-- and what contracts see of it
+pub finds_known : (pass : PassInside) (seat : Seat (Unit {0}) Knowledge) (found : ℕ) (chain : List Entry) → seat.table_id ≡ pass.seat.table_id → seat.me.0.parts ≡ finds chain (part pass) ∷ [] → Sees found chain (part pass)
+    → Finds (known pass) (known_of seat.table_id (part_of seat.me.0.parts))
+finds_known pass seat found chain table alone sees =
+    subst (Finds (known pass)) (sym (known_at seat.table_id seat.me.0.parts (finds chain (part pass)) alone)) (record {
+      is = ap (λ t. known_of t (finds chain (part pass))) table;
+      grows = sees.grows;
+      sound = record { front = sees.sound.front; own_seen = sees.sound.own_seen };
+    })
+
+pub one_begins : (a b : Known) (chain : List Entry) → IsFront a.seen chain → IsFront b.seen chain → OneBegins a b
+one_begins a b chain f g = elim (fronts_meet a.seen b.seen chain f g) [
+  | inl begins ↦ inl begins
+  | inr shorter ↦ inr (shorter_front b.seen a.seen shorter)
+]

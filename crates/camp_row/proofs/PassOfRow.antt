@@ -8,6 +8,7 @@ use Rattle.camp_row.specs.declared.knowledge.Knowledge.{Knowledge}
 use Rattle.camp_row.specs.declared.trails.Next.{Next}
 use Rattle.camp_row.specs.Chains.{IsShorter, turns, cell_of}
 use Rattle.camp_row.specs.Known.{RowId, Known, ComesNext}
+use Rattle.camp_row.proofs.Drafting.{next_cell, HasRoom}
 use Rattle.camp_row.specs.Inside.Parts.{Part, part_of, known_of, IsSoundPart}
 use Rattle.camp_row.specs.Inside.PassFields.{part, known, IsPass}
 use Rattle.camp_row.specs.Inside.RowFields.{id_of, IsRow}
@@ -55,16 +56,6 @@ same_part pass seat slots parts is = at_part (record pass { seat = seat }) (part
   turn_within = is.turn_within;
   sound = is.sound;
 })
-
-pub alone_at : (parts : List Part) (q : Part) → parts ≡ q ∷ [] → parts ≡ part_of parts ∷ []
-alone_at parts q alone = alone ∙ ap (λ ps. part_of ps ∷ []) (sym alone)
-
--- the seat's next cell, and the room for it
-abbrev pub next_cell : Part → ℕ
-next_cell p = turns p.number p.seen * p.seats + p.number
-
-abbrev pub HasRoom : Part → Type 0
-HasRoom p = turns p.number p.seen < p.per_seat
 
 module _ (pass : PassInside) (k : Known) (r : RowId) (pass_is : known pass ≡ k) (same : k.row ≡ r) where
   pub own_at : (cell : ℕ) → cell ≡ turns k.number k.seen * r.seats + k.number → cell ≡ next_cell (part pass)

@@ -2,7 +2,7 @@
 use Rattle.std.proofs.Common.{◌≡◌, ◌≢◌, ℕ, zero, suc, ◌+◌, ◌≤◌, inl, inr, List, [], ◌∷◌, length, cond, ◌==◌, sym, refl, ap, ◌∙◌, subst, arith, zero-add, set, get_or, slice_index, sum_by, All}
 use Rattle.std.proofs.lemmas.List.{get_or-set_other, set-get_or}
 use Rattle.std.proofs.lemmas.List.Sums.{sum_by-cons}
-use Rattle.std.proofs.lemmas.List.Elements.{All-cons, All-nil}
+use Rattle.std.proofs.lemmas.List.Elements.{All-head, All-cons, All-nil}
 use Rattle.std.proofs.lemmas.Bool.{eq-eqb, ne_eqb, cond-true, cond-false}
 use mathlib.Core.Option.{some, some-injective, some-ne-none}
 use lib.ListN.{get_elem?}
@@ -25,6 +25,16 @@ Ruled seats per_seat s = IsRuled seats per_seat s.words s.views
 pub allows : (seats per_seat slots id : ℕ) (me : Me (Unit {0}) Knowledge) (i : ℕ) (f : ℕ → ℕ) (then : ℕ → Knowledge → Type 0)
     → Owes seats per_seat id me.0 i f then → Allows (Ruled seats per_seat) slots id me i f (λ n m. (m.1 ≡ me.1) × then n m.0)
 allows seats per_seat slots id me i f then owes s ruled homes at fits = let o = owes s.words s.views ruled at in (o.0, keeps, tt, o.1, (refl, o.2))
+
+-- a view with one part, and the same of it
+abbrev pub only : Part → Knowledge
+only p = record { parts = p ∷ [] }
+
+pub allows_one : (seats per_seat slots id : ℕ) (me : Me (Unit {0}) Knowledge) (i : ℕ) (f : ℕ → ℕ) (then : ℕ → List Part → List Part → Type 0) (p : Part) → me.0.parts ≡ p ∷ []
+    → Owes seats per_seat id (only p) i f (λ n w. then n (p ∷ []) w.parts) → Allows (Ruled seats per_seat) slots id me i f (λ n m. (m.1 ≡ me.1) × then n me.0.parts m.0.parts)
+allows_one seats per_seat slots id me i f then p alone owes =
+    allows seats per_seat slots id me i f (λ n w. then n me.0.parts w.parts)
+    (subst (λ ps. Owes seats per_seat id (record { parts = ps }) i f (λ n w. then n ps w.parts)) (sym alone) owes)
 
 -- sums over views
 module _ (f : Knowledge → ℕ) where
@@ -98,3 +108,31 @@ holds_other words i x cell parent place apart apart' h = record {
   names = get_or-set_other words i (parent_word cell) x 0 (λ e. apart (sym e)) ∙ h.names;
   places = get_or-set_other words i (place_word cell) x 0 (λ e. apart' (sym e)) ∙ h.places;
 }
+
+-- the rule after a step by a seat with one part
+module _ (seats per_seat : ℕ) (words : List ℕ) (views : List Knowledge) (ruled : IsRuled seats per_seat words views) (id : ℕ) (p : Part) (at : get_elem? views id ≡ some (only p)) where
+  pub knows : Knows seats per_seat words ruled.chain p
+  knows = All-head (Knows seats per_seat words ruled.chain) p [] (ruled.known id (only p) at)
+
+  same_count : (number : ℕ) (q : Part) → q.number ≡ p.number → parts_of number (q ∷ []) ≡ parts_of number (p ∷ [])
+  same_count number q same = parts_of-cons number q [] ∙ (ap (λ n. cond (n == number) 1 0 + parts_of number []) same ∙ sym (parts_of-cons number p []))
+
+  other_number : (o : Part) → parts_of o.number (p ∷ []) ≡ 0 → o.number ≢ p.number
+  other_number o none same = let one = parts_of-self p [] in let here : parts_of o.number (p ∷ []) ≡ parts_of p.number (p ∷ []) = ap (λ n. parts_of n (p ∷ [])) same in absurd (omega arith)
+
+  pub keep_one : (words' : List ℕ) (chain' : List Entry) (q : Part)
+      → length words' ≡ length words → slice_index words' 0 ≡ head_word seats chain' → IsLinked seats words' chain' → Fits seats per_seat chain'
+      → q.number ≡ p.number
+      → Knows seats per_seat words' chain' q
+      → ((o : Part) → o.number ≢ p.number → Knows seats per_seat words ruled.chain o → Knows seats per_seat words' chain' o)
+      → IsRuled seats per_seat words' (set views id (only q))
+  keep_one words' chain' q long head linked fits same mine theirs =
+      keep seats per_seat words views ruled id (only p) at words' chain' (only q) long head linked fits (λ n. same_count n q same)
+      (All-cons (Knows seats per_seat words' chain') q [] mine (All-nil (Knows seats per_seat words' chain')))
+      (λ o none. theirs o (other_number o none))
+
+  -- no word changes
+  pub keep_words : (i : ℕ) (q : Part) → q.number ≡ p.number → Knows seats per_seat words ruled.chain q → IsRuled seats per_seat (set words i (slice_index words i)) (set views id (only q))
+  keep_words i q same mine =
+      subst (λ ws. IsRuled seats per_seat ws (set views id (only q))) (sym (word_same words i))
+      (keep_one words ruled.chain q refl ruled.head ruled.linked ruled.fits same mine (λ o _ known. known))

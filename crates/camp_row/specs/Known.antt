@@ -1,5 +1,5 @@
 -- What contracts see of a row, of a pass to it, and of a walk back along its chain.
-use Rattle.std.specs.Prelude.{◌≡◌, ◌≢◌, ℕ, ◌<◌, List, [], ◌∷◌, ◌++◌}
+use Rattle.std.specs.Prelude.{◌≡◌, ◌≢◌, ◌⊎◌, ℕ, ◌<◌, List, [], ◌∷◌, ◌++◌}
 use Rattle.atomic_table.specs.Seated.{TableId}
 use Rattle.camp_row.specs.declared.entries.Entry.{Entry}
 use Rattle.camp_row.specs.declared.trails.Next.{Next}
@@ -28,6 +28,12 @@ newcomer row number = record { row = row; number = number; seen = []; ahead = []
 pub record IsSound (known : Known) : Type 0 where
   pub front : IsFront known.seen known.ahead
   pub own_seen : own known.number known.ahead ≡ own known.number known.seen
+
+-- the chain was found as it is now: it has only grown, and the seat has no new entry in it
+pub record Finds (old new : Known) : Type 0 where
+  pub is : new ≡ record old { ahead = new.ahead }
+  pub grows : IsFront old.ahead new.ahead
+  pub sound : IsSound new
 
 -- the cells from `before` on, newest first
 abbrev pub cells_back : ℕ → List Entry → List Entry → List ℕ
@@ -60,12 +66,16 @@ with_draft known place = record known { parent = head_word known.row.seats known
 abbrev pub drafted : Known → Entry
 drafted known = record { seat = known.number; place = known.place }
 
--- the chain was what was seen; the drafted cell is its last now
-abbrev pub won : Known → Known
-won known = record known { seen = known.seen ++ drafted known ∷ []; ahead = known.seen ++ drafted known ∷ []; parent = 0; place = 0 }
+-- the chain was just what was seen; the drafted cell is its last now, and was seen
+pub record Won (old new : Known) : Type 0 where
+  pub whole : old.ahead ≡ old.seen
+  pub is : new ≡ record old { seen = old.seen ++ drafted old ∷ []; ahead = old.seen ++ drafted old ∷ []; parent = 0; place = 0 }
 
 -- the chain was longer than what was seen, and was found
 pub record Lost (old new : Known) : Type 0 where
-  pub is : new ≡ record old { ahead = new.ahead }
+  pub finds : Finds old new
   pub longer : IsShorter old.seen new.ahead
-  pub sound : IsSound new
+
+-- of two passes, what one has seen begins what the other has seen
+abbrev pub OneBegins : Known → Known → Type 0
+OneBegins a b = (IsFront a.seen b.seen) ⊎ (IsFront b.seen a.seen)

@@ -49,7 +49,7 @@ fn place_word(cell: usize) -> usize
 impl Row {
     ghost use Rattle.camp_row.specs.Chains.{turns};
     ghost use Rattle.camp_row.specs.Inside.Parts.{all_fresh};
-    ghost use Rattle.camp_row.specs.Known.{newcomer, IsSound, Leads, ComesNext, IsDrafted, with_draft, won, Lost};
+    ghost use Rattle.camp_row.specs.Known.{newcomer, Finds, Leads, ComesNext, IsDrafted, with_draft, Won, Lost, OneBegins};
 
     /// A row with nothing published, and a pass for each of its seats, in their order.
     pub fn new(alloc: Global, seats: u32, per_seat: u32) -> Result<(Row, Vec<Pass>), AllocError>
@@ -89,11 +89,26 @@ impl Row {
         Ok(passes)
     }
 
+    /// The number of seats, 1 to 64.
+    pub fn seats(&self) -> u32
+        ensures seats { result ≡ self.now.seats }
+        ensures range { (0 < result) × (result ≤ 64) }
+    {
+        self.seats
+    }
+
+    /// How many cells each seat has, 1 to 65,536.
+    pub fn per_seat(&self) -> u32
+        ensures per_seat { result ≡ self.now.per_seat }
+        ensures range { (0 < result) × (result ≤ 65536) }
+    {
+        self.per_seat
+    }
+
     /// Finds the chain as it is now.
     pub fn look(&self, pass: &mut Pass)
         requires { pass.old.row ≡ self.now }
-        ensures found { pass.new ≡ record pass.old { ahead = pass.new.ahead } }
-        ensures sound { IsSound pass.new }
+        ensures { Finds pass.old pass.new }
     {
         pass.head = self.table.shared.load::<Look>(&mut pass.seat, 0);
     }
@@ -179,7 +194,7 @@ impl Row {
         requires row { pass.old.row ≡ self.now }
         requires room { turns pass.old.number pass.old.seen < self.now.per_seat }
         requires drafted { IsDrafted pass.old }
-        ensures { MatchBool result (pass.new ≡ won pass.old) (Lost pass.old pass.new) }
+        ensures { MatchBool result (Won pass.old pass.new) (Lost pass.old pass.new) }
     {
         let own = self.own_cell(pass) as u64 + 1;
         let found = self
@@ -199,9 +214,10 @@ impl Row {
     /// Both passes find one chain, which begins with what either has seen.
     pub fn meet(&self, a: &mut Pass, b: Pass) -> Pass
         requires { (a.old.row ≡ self.now) × (b.row ≡ self.now) }
-        ensures a { a.new ≡ record a.old { ahead = a.new.ahead } }
-        ensures b { result ≡ record b { ahead = a.new.ahead } }
-        ensures sound { IsSound a.new × IsSound result }
+        ensures a { Finds a.old a.new }
+        ensures b { Finds b result }
+        ensures one_chain { result.ahead ≡ a.new.ahead }
+        ensures one_begins { OneBegins a.old b }
         ensures apart { a.old.number ≢ b.number }
     {
         let Pass {

@@ -9,12 +9,13 @@ use Rattle.camp_prim.proofs.SwapUnique.{swap_unique}
 use Rattle.camp_seq.specs.Equivalence.{Exchanges}
 use Rattle.camp_seq.specs.Passing.{Fronts}
 use Rattle.camp_seq.specs.Room.{Reaches, HasRoom}
+use Rattle.camp_seq.proofs.ExchangeSteps.{at_front, exchanges_behind}
 use Rattle.camp_seq.proofs.LawOfThree.{law_of_three}
 use Rattle.camp_seq.proofs.RoomSteps.{reaches_behind, front_reached, room_after, room_before, room_behind}
 
 -- equal, or one exchange apart
 abbrev pub Near : List Named → List Named → Type 0
-Near s t = (s ≡ t) ⊎ Exchanges s t
+Near s t = (s ≡ t) ⊎ Exchanges Swap s t
 
 -- this comes to the front of the list too, with a rest that is near
 abbrev pub FrontsNear : Label → List Named → Named → List Named → Type 0
@@ -22,30 +23,21 @@ FrontsNear label t y u = (v : List Named) × Fronts label t y v × Near u v
 
 near_behind : (x : Named) (s u v : List Named) → s ≡ x ∷ u → Near u v → Near s (x ∷ v)
 near_behind x s u v e (inl same) = inl (e ∙ ap (λ y. x ∷ y) same)
-near_behind x s u v e (inr w) = inr (record {
-  before = x ∷ w.before;
-  p = w.p;
-  q = w.q;
-  q' = w.q';
-  p' = w.p';
-  after = w.after;
-  was = e ∙ ap (λ y. x ∷ y) w.was;
-  swap = w.swap;
-  becomes = ap (λ y. x ∷ y) w.becomes;
-})
+near_behind x s u v e (inr w) =
+    inr (subst (λ y. Exchanges Swap y (x ∷ v)) (sym e) (exchanges_behind (x ∷ []) u v w))
 
 -- the first of the two comes to the front
 first_comes : (label : Label) (p q q' p' : Named) (s : List Named) (y : Named) (u : List Named) → Swap p q q' p' → label_of p ≡ label → y ≡ p → u ≡ q ∷ s → FrontsNear label (q' ∷ p' ∷ s) y u
 first_comes label p q q' p' s y u w named is rest =
-    let other : label_of q' ≢ label = λ e. w.apart (ap key_of (named ∙ sym e ∙ w.second)) in
+    let other : label_of q' ≢ label = λ e. w.anywhere.apart (ap key_of (named ∙ sym e ∙ w.anywhere.second)) in
     let back : Swap q' p' y q = subst (λ x. Swap q' p' x q) (sym is) (own_inverse p q q' p' w) in
-    (q ∷ s, inr (other, (p', q, s, inl (w.first ∙ named, refl, refl), back, refl)), inl rest)
+    (q ∷ s, inr (other, (p', q, s, inl (w.anywhere.first ∙ named, refl, refl), back, refl)), inl rest)
 
 -- the second of the two comes to the front
 second_comes : (label : Label) (p q q' p' : Named) (s : List Named) (y p1 : Named) (u : List Named) → Swap p q q' p' → label_of q ≡ label → Swap p q y p1 → u ≡ p1 ∷ s → FrontsNear label (q' ∷ p' ∷ s) y u
 second_comes label p q q' p' s y p1 u w named v rest =
     let pair = swap_unique p q q' p' y p1 w v in
-    (p' ∷ s, inl (w.second ∙ named, sym pair.0, refl), inl (rest ∙ ap (λ x. x ∷ s) (sym pair.1)))
+    (p' ∷ s, inl (w.anywhere.second ∙ named, sym pair.0, refl), inl (rest ∙ ap (λ x. x ∷ s) (sym pair.1)))
 
 -- a third behind the two comes to the front
 third_comes : (label : Label) (p q q' p' : Named) (s : List Named) (y : Named) (u : List Named) (r q1 r1 p1 : Named) (v : List Named) → HasRoom (p ∷ q ∷ s) → Swap p q q' p' → label_of p ≢ label → label_of q ≢ label → Fronts label s r v → Swap q r r1 q1 → Swap p r1 y p1 → u ≡ p1 ∷ q1 ∷ v → FrontsNear label (q' ∷ p' ∷ s) y u
@@ -54,22 +46,12 @@ third_comes label p q q' p' s y u r q1 r1 p1 v room w not_p not_q front b c rest
     reaches_behind p (q ∷ s) (q ∷ r ∷ v) (reaches_behind q s (r ∷ v) (front_reached label s r v front)) in
     let room_of_three : HasRoom (p ∷ q ∷ r ∷ []) =
     room_before (p ∷ q ∷ r ∷ []) v (room_after (p ∷ q ∷ s) (p ∷ q ∷ r ∷ v) room came) in
-    let n = law_of_three p q r q' p' r1 q1 y p1 room_of_three w b c in
-    let passes_p : Fronts label (p' ∷ s) n.passing (n.p2 ∷ v) =
-    inr ((λ e. not_p (sym w.first ∙ e)), (r, n.p2, v, front, n.past_p, refl)) in (
-      n.q2 ∷ n.p2 ∷ v,
-      inr ((λ e. not_q (sym w.second ∙ e)), (n.passing, n.q2, n.p2 ∷ v, passes_p, n.past_q, refl)),
-      inr (record {
-        before = [];
-        p = p1;
-        q = q1;
-        q' = n.q2;
-        p' = n.p2;
-        after = v;
-        was = rest;
-        swap = n.behind;
-        becomes = refl;
-      }),
+    let n = law_of_three.from_behind p q r q' p' r1 q1 y p1 room_of_three w b c in
+    let passes_p : Fronts label (p' ∷ s) n.0 (n.1 ∷ v) =
+    inr ((λ e. not_p (sym w.anywhere.first ∙ e)), (r, n.1, v, front, n.3.pr, refl)) in (
+      n.2 ∷ n.1 ∷ v,
+      inr ((λ e. not_q (sym w.anywhere.second ∙ e)), (n.0, n.2, n.1 ∷ v, passes_p, n.3.qr2, refl)),
+      inr (subst (λ x. Exchanges Swap x (n.2 ∷ n.1 ∷ v)) (sym rest) (at_front p1 q1 n.2 n.1 v n.3.p1q1)),
     )
 
 -- exchange at the front of the list
@@ -99,7 +81,7 @@ front_swapped_behind label (x ∷ before) p q q' p' s y u room w (inl f) = (
     p' = p';
     after = s;
     was = f.2;
-    swap = w;
+    turns = w;
     becomes = refl;
   }),
 )
@@ -109,6 +91,6 @@ front_swapped_behind label (x ∷ before) p q q' p' s y u room w (inr f) =
     (a.1 ∷ rest.0, inr (f.0, (a.0, a.1, rest.0, rest.1, a.4, refl)), near_behind a.1 u a.2 rest.0 a.5 rest.2)
 
 -- what comes to the front of a list with room comes to the front of a list one exchange from it, with rests that are near
-pub exchanged_front : (label : Label) (s t : List Named) (y : Named) (u : List Named) → HasRoom s → Exchanges s t → Fronts label s y u → FrontsNear label t y u
+pub exchanged_front : (label : Label) (s t : List Named) (y : Named) (u : List Named) → HasRoom s → Exchanges Swap s t → Fronts label s y u → FrontsNear label t y u
 exchanged_front label s t y u room e f =
-    subst (λ x. FrontsNear label x y u) (sym e.becomes) (front_swapped_behind label e.before e.p e.q e.q' e.p' e.after y u (subst HasRoom e.was room) e.swap (subst (λ x. Fronts label x y u) e.was f))
+    subst (λ x. FrontsNear label x y u) (sym e.becomes) (front_swapped_behind label e.before e.p e.q e.q' e.p' e.after y u (subst HasRoom e.was room) e.turns (subst (λ x. Fronts label x y u) e.was f))

@@ -3,7 +3,7 @@ use Rattle.std.proofs.Common.{◌≡◌, ◌≢◌, List, [], ◌∷◌, ◌++�
 use Rattle.camp_prim.specs.Labels.{label_of}
 use Rattle.camp_prim.specs.declared.labels.Label.{Label}
 use Rattle.camp_prim.specs.declared.named.Named.{Named}
-use Rattle.camp_seq.specs.InPlace.{Lacks, Precedes}
+use Rattle.camp_seq.specs.Inside.InPlace.{Lacks, Precedes}
 use Rattle.camp_seq.specs.Passing.{Fronts}
 
 lacks_first : (label : Label) (p : Named) (s : List Named) → Lacks label (p ∷ s) → label_of p ≢ label

@@ -6,7 +6,7 @@ use borrow.Rule.Slice.PartMut.{put_mid}
 use Rattle.camp_prim.specs.Labels.{label_of}
 use Rattle.camp_prim.specs.declared.labels.Label.{Label}
 use Rattle.camp_prim.specs.declared.named.Named.{Named}
-use Rattle.camp_seq.specs.InPlace.{PartsFrom}
+use Rattle.camp_seq.specs.Inside.InPlace.{FirstPasses, PartsFrom}
 use Rattle.camp_seq.specs.Passing.{Passes, Parts}
 use Rattle.camp_seq.proofs.ListResults.{one_parting}
 use Rattle.camp_seq.proofs.ListSteps.{at_last, whole}
@@ -52,7 +52,7 @@ window labels s0 s i count k d within v k_is w =
     (ap (take k) from ∙ take_at (p ∷ w.named) w.others k long, ap (drop k) from ∙ drop_at (p ∷ w.named) w.others k long)
 
 -- another element is swapped past them
-pub parts_other : (labels : List Label) (s0 s part new : List Named) (i count k : ℕ) (d : Named) → i < length s → length s ≡ length s0 → k ≡ count + 1 → PartsFrom labels s0 (i + 1) count s → ¬ (Contains labels (label_of (get_or s i d))) → part ≡ take k (drop i s) → (p : Named) × (rest : List Named) × (rest' : List Named) × (p' : Named) × (part ≡ p ∷ rest) × Passes p rest rest' p' × (new ≡ rest' ++ p' ∷ []) → PartsFrom labels s0 i count (put_mid i k s new)
+pub parts_other : (labels : List Label) (s0 s part new : List Named) (i count k : ℕ) (d : Named) → i < length s → length s ≡ length s0 → k ≡ count + 1 → PartsFrom labels s0 (i + 1) count s → ¬ (Contains labels (label_of (get_or s i d))) → part ≡ take k (drop i s) → FirstPasses part new → PartsFrom labels s0 i count (put_mid i k s new)
 parts_other labels s0 s part new i count k d within same k_is w other part_is (p, rest, rest', p', is, passes, new_is) =
     let q : Named = get_or s i d in
     let cut = window labels s0 s i count k d within w k_is w in
@@ -84,12 +84,20 @@ stop labels (x ∷ before) q s g u f t m other never (inr v) =
     let a = v.1 in stop labels before q s g u a.0 a.1 m other never a.3
 
 -- where another element can't pass them, there is no parting
-pub parts_stop : (labels : List Label) (s0 s part : List Named) (i count k : ℕ) (d : Named) → i < length s → length s ≡ length s0 → k ≡ count + 1 → PartsFrom labels s0 (i + 1) count s → ¬ (Contains labels (label_of (get_or s i d))) → part ≡ take k (drop i s) → (p : Named) × (rest : List Named) × (part ≡ p ∷ rest) × ((rest' : List Named) (p' : Named) → ¬ (Passes p rest rest' p')) → (f t : List Named) → ¬ (Parts labels s0 f t)
-parts_stop labels s0 s part i count k d within same k_is w other part_is (p, rest, is, never) f t m =
+pub parts_stop : (labels : List Label) (s0 s part : List Named) (i count k : ℕ) (d : Named) → i < length s → length s ≡ length s0 → k ≡ count + 1 → PartsFrom labels s0 (i + 1) count s → ¬ (Contains labels (label_of (get_or s i d))) → part ≡ take k (drop i s) → ((any : List Named) → ¬ (FirstPasses part any)) → (f t : List Named) → ¬ (Parts labels s0 f t)
+parts_stop labels s0 s part i count k d within same k_is w other part_is never f t m =
     let q : Named = get_or s i d in
     let cut = window labels s0 s i count k d within w k_is w in
-    let both : p ∷ rest ≡ q ∷ w.named = sym is ∙ part_is ∙ cut.0 in
-    let p_is : p ≡ q = cc in
-    let rest_is : rest ≡ w.named = cc in
     let next : drop i s0 ≡ q ∷ drop (i + 1) s0 = at_last s0 s i d (omega arith) w.waiting in
-    stop labels (take i s0) q (drop (i + 1) s0) w.named w.others f t w.parts other (λ x y v. never x y (subst (λ z. Passes z rest x y) (sym p_is) (subst (λ z. Passes q z x y) (sym rest_is) v))) (subst (λ x. Parts labels x f t) (whole s0 i (q ∷ drop (i + 1) s0) next) m)
+    let stuck : (x : List Named) (y : Named) → ¬ (Passes q w.named x y) = λ x y v. never (x ++ y ∷ []) (q, w.named, x, y, part_is ∙ cut.0, v, refl) in
+    stop labels (take i s0) q (drop (i + 1) s0) w.named w.others f t w.parts other stuck (subst (λ x. Parts labels x f t) (whole s0 i (q ∷ drop (i + 1) s0) next) m)
+
+-- where the first element can't pass the others
+pub never_passes : (items first rest any : List Named) (d : Named) → items ≡ first ++ rest → length first ≡ 1 → ((found : List Named × Named) → ¬ (Passes (get_or first 0 d) rest found.0 found.1)) → ¬ (FirstPasses items any)
+never_passes items [] rest any d is long never m = absurd (omega arith)
+never_passes items (x ∷ y ∷ first) rest any d is long never m = absurd (omega arith)
+never_passes items (x ∷ []) rest any d is long never (p, others, others', p', was, w, turned) =
+    let both : p ∷ others ≡ x ∷ rest = sym was ∙ is in
+    let p_is : p ≡ x = cc in
+    let others_are : others ≡ rest = cc in
+    never (others', p') (subst (λ y. Passes y rest others' p') p_is (subst (λ y. Passes p y others' p') others_are w))

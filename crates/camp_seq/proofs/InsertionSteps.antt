@@ -10,51 +10,25 @@ use Rattle.camp_prim.specs.Swaps.{Swap}
 use Rattle.camp_prim.specs.declared.named.Named.{Named}
 use Rattle.camp_prim.proofs.LabelOrder.{label_total, label_ties}
 use Rattle.camp_prim.proofs.SwapLaws.{own_inverse}
-use Rattle.camp_seq.specs.Equivalence.{◌~◌, same, exchanged, backwards, through}
-use Rattle.camp_seq.specs.InPlace.{Precedes}
-use Rattle.camp_seq.specs.Insertions.{InOrder}
+use Rattle.camp_seq.specs.Equivalence.{◌~◌, backwards}
+use Rattle.camp_seq.specs.Inside.InPlace.{Precedes}
+use Rattle.camp_seq.specs.Inside.Insertions.{InOrder}
 use Rattle.camp_seq.specs.NormalOrder.{IsLeast, Norm}
 use Rattle.camp_seq.specs.Passing.{Passes, Fronts}
 use Rattle.camp_seq.specs.Room.{Reaches, HasRoom}
 use Rattle.camp_seq.proofs.ExchangedFronts.{exchanged_front}
 use Rattle.camp_seq.proofs.ListEquivalence.{behind, passed}
-use Rattle.camp_seq.proofs.MirrorOfThree.{mirror_of_three}
+use Rattle.camp_seq.proofs.LawOfThree.{law_of_three}
 use Rattle.camp_seq.proofs.NormalForms.{normal_form}
 use Rattle.camp_seq.proofs.PassingSteps.{precedes_back}
-use Rattle.camp_seq.proofs.RoomSteps.{anywhere, at_front, reaches_behind, front_reached, room_after, room_before, room_behind, room_exchanged, exchanged_back}
+use Rattle.camp_seq.proofs.ExchangeSteps.{at_front}
+use Rattle.camp_seq.proofs.RoomSteps.{kept_by_swaps, room_of_equivalent, reaches_behind, front_reached, room_after, room_before, room_behind}
 use Rattle.camp_seq.specs.Room.{further, here}
 
--- what two lists have in common: room, and what comes to the front
-record Alike (s t : List Named) : Type 0 where
-  room : HasRoom s → HasRoom t
-  room_back : HasRoom t → HasRoom s
-  fronts : HasRoom s → (label : Label) (y : Named) (u : List Named) → Fronts label s y u → (v : List Named) × Fronts label t y v
-  fronts_back : HasRoom t → (label : Label) (y : Named) (u : List Named) → Fronts label t y u → (v : List Named) × Fronts label s y v
-
-alike : (s t : List Named) → s ~ t → Alike s t
-alike s t same = record { room = λ r. r; room_back = λ r. r; fronts = λ r label y u f. (u, f); fronts_back = λ r label y u f. (u, f) }
-alike s t (exchanged e) = record {
-  room = room_exchanged s t e;
-  room_back = room_exchanged t s (exchanged_back s t e);
-  fronts = λ r label y u f. let g = exchanged_front label s t y u r e f in (g.0, g.1);
-  fronts_back = λ r label y u f. let g = exchanged_front label t s y u r (exchanged_back s t e) f in (g.0, g.1);
-}
-alike s t (backwards e) =
-    let a = alike t s e in
-    record { room = a.room_back; room_back = a.room; fronts = a.fronts_back; fronts_back = a.fronts }
-alike s t (through {t = v} e f) =
-    let a = alike s v e in
-    let b = alike v t f in
-    record {
-      room = λ r. b.room (a.room r);
-      room_back = λ r. a.room_back (b.room_back r);
-      fronts = λ r label y u g. let h = a.fronts r label y u g in b.fronts (a.room r) label y h.0 h.1;
-      fronts_back = λ r label y u g. let h = b.fronts_back r label y u g in a.fronts_back (b.room_back r) label y h.0 h.1;
-    }
-
--- equivalent lists have room together
-pub room_of_equivalent : (s t : List Named) → s ~ t → HasRoom s → HasRoom t
-room_of_equivalent s t e room = (alike s t e).room room
+-- what comes to the front of a list with room comes to the front of each equivalent list
+front_of_equivalent : (s t : List Named) → s ~ t → HasRoom s → (label : Label) (y : Named) (u : List Named) → Fronts label s y u → (v : List Named) × Fronts label t y v
+front_of_equivalent s t e room label y u f =
+    kept_by_swaps (λ x. (v : List Named) × Fronts label x y v) (λ a b r w g. let h = exchanged_front label a b y g.0 r w g.1 in (h.0, h.1)) s t e room (u, f)
 
 -- what comes to the front of a list, from behind what passed it
 abbrev FrontsPast : Label → Named → List Named → Named → Type 0
@@ -69,17 +43,17 @@ fronts_behind label q s t z r p u other is f w =
 front_past : (label : Label) (x : Named) (s s' : List Named) (x' z : Named) (w : List Named) → HasRoom (x ∷ s) → Passes x s s' x' → Fronts label s z w → FrontsPast label x s' z
 front_past label x [] s' x' z w room m f = absurd f
 front_past label x (q ∷ s) s' x' z w room m (inl f) =
-    (m.0, m.1, m.2, subst (λ y. Swap x y m.0 m.1) (sym f.1) m.3, subst (λ y. Fronts label y m.0 m.2) (sym m.5) (inl (m.3.second ∙ f.0, refl, refl)))
+    (m.0, m.1, m.2, subst (λ y. Swap x y m.0 m.1) (sym f.1) m.3, subst (λ y. Fronts label y m.0 m.2) (sym m.5) (inl (m.3.anywhere.second ∙ f.0, refl, refl)))
 front_past label x (q ∷ s) s' x' z w room m (inr f) =
     let a = f.1 in
-    let room_one : HasRoom (m.0 ∷ m.1 ∷ s) = room_after (x ∷ q ∷ s) (m.0 ∷ m.1 ∷ s) room (further (at_front x q m.0 m.1 s (anywhere x q m.0 m.1 m.3)) here) in
+    let room_one : HasRoom (m.0 ∷ m.1 ∷ s) = room_after (x ∷ q ∷ s) (m.0 ∷ m.1 ∷ s) room (further (at_front x q m.0 m.1 s m.3.anywhere) here) in
     let next = front_past label m.1 s m.2 x' a.0 a.2 (room_behind m.0 (m.1 ∷ s) room_one) m.4 a.3 in
     let came : Reaches (x ∷ q ∷ s) (x ∷ q ∷ a.0 ∷ a.2) =
     reaches_behind x (q ∷ s) (q ∷ a.0 ∷ a.2) (reaches_behind q s (a.0 ∷ a.2) (front_reached label s a.0 a.2 a.3)) in
     let room_of_three : HasRoom (x ∷ q ∷ a.0 ∷ []) =
     room_before (x ∷ q ∷ a.0 ∷ []) a.2 (room_after (x ∷ q ∷ s) (x ∷ q ∷ a.0 ∷ a.2) room came) in
-    let n = mirror_of_three x q a.0 m.0 m.1 next.0 next.1 z a.1 room_of_three m.3 next.3 a.4 in
-    (n.first, n.rest, n.behind ∷ next.2, n.passes, fronts_behind label m.0 s' m.2 n.first next.0 n.behind next.2 (λ e. f.0 (sym m.3.second ∙ e)) m.5 next.4 n.fronts)
+    let n = law_of_three.from_before x q a.0 m.0 m.1 next.0 next.1 z a.1 room_of_three m.3 next.3 a.4 in
+    (n.0, n.1, n.2 ∷ next.2, n.3.pr1, fronts_behind label m.0 s' m.2 n.0 next.0 n.2 next.2 (λ e. f.0 (sym m.3.anywhere.second ∙ e)) m.5 next.4 n.3.qr2)
 
 -- what a list leaves behind an element that came before it is in normal order where the list was
 left_in_order : (s : List Named) (x x' : Named) (s' : List Named) → HasRoom (x' ∷ s') → Precedes s x x' s' → InOrder s → InOrder s'
@@ -89,9 +63,9 @@ left_in_order (q ∷ s) x x' s' room m o =
     let room_all : HasRoom (x' ∷ m.1 ∷ m.2) = subst (λ y. HasRoom (x' ∷ y)) is room in
     let back = precedes_back (q ∷ s) x x' s' m in
     let all : Passes x' (m.1 ∷ m.2) (q ∷ s) x = subst (λ y. Passes x' y (q ∷ s) x) is back in
-    let room_one : HasRoom (q ∷ m.0 ∷ m.2) = room_after (x' ∷ m.1 ∷ m.2) (q ∷ m.0 ∷ m.2) room_all (further (at_front x' m.1 q m.0 m.2 (anywhere x' m.1 q m.0 (own_inverse q m.0 x' m.1 m.4))) here) in
+    let room_one : HasRoom (q ∷ m.0 ∷ m.2) = room_after (x' ∷ m.1 ∷ m.2) (q ∷ m.0 ∷ m.2) room_all (further (at_front x' m.1 q m.0 m.2 (own_inverse q m.0 x' m.1 m.4).anywhere) here) in
     let rest : InOrder m.2 = left_in_order s x m.0 m.2 (room_behind q (m.0 ∷ m.2) room_one) m.3 o.1 in
-    let label : label_of m.1 ≡ label_of q = m.4.first in
+    let label : label_of m.1 ≡ label_of q = m.4.anywhere.first in
     let least : IsLeast (label_of m.1) (m.1 ∷ m.2) = λ other z w f.
     let g = front_past other x' (m.1 ∷ m.2) (q ∷ s) x z w room_all all f in
     subst (λ l. label_cmp other l ≢ Less) (sym label) (o.0 other g.0 g.2 g.4)
@@ -124,7 +98,7 @@ not_below_both a b c first second =
 -- coming to the front keeps the label
 pub label_came : (s : List Named) (x x' : Named) (s' : List Named) → Precedes s x x' s' → label_of x' ≡ label_of x
 label_came [] x x' s' m = ap label_of m.0
-label_came (q ∷ s) x x' s' m = m.4.second ∙ label_came s x m.0 m.2 m.3
+label_came (q ∷ s) x x' s' m = m.4.anywhere.second ∙ label_came s x m.0 m.2 m.3
 
 -- what comes to the front of a list with one more element is what came there without it, or that element
 fronts_of_longer : (label : Label) (t : List Named) (x y : Named) (u : List Named) → Fronts label (t ++ x ∷ []) y u → ((v : List Named) × Fronts label t y v) ⊎ ((label_of x ≡ label) × ((v : List Named) × Precedes t x y v))
@@ -171,7 +145,7 @@ placed_in_order [] s x x' s' room o m f after = (least_placed s x x' s' room o m
 placed_in_order (y ∷ a) s x x' s' room o m f after =
     let rest = placed_in_order a s x x' s' (room_behind y (a ++ x' ∷ s') room) o.1 m f.1 after in
     let least : IsLeast (label_of y) (y ∷ (a ++ x' ∷ s')) = λ other z w front.
-    let g = (alike (y ∷ (a ++ x' ∷ s')) (y ∷ ((a ++ s) ++ x ∷ [])) (came_behind (y ∷ a) s x x' s' m)).fronts room other z w front in
+    let g = front_of_equivalent (y ∷ (a ++ x' ∷ s')) (y ∷ ((a ++ s) ++ x ∷ [])) (came_behind (y ∷ a) s x x' s' m) room other z w front in
     elim (fronts_of_longer other (y ∷ (a ++ s)) x z g.0 g.1) [
       | inl h ↦ o.0 other z h.0 h.1
       | inr h ↦ elim f.0 [

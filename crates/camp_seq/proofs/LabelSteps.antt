@@ -8,7 +8,7 @@ use Rattle.camp_prim.specs.Labels.{label_of, label_cmp}
 use Rattle.camp_prim.specs.declared.labels.Label.{Label}
 use Rattle.camp_prim.specs.declared.named.Named.{Named}
 use Rattle.camp_prim.proofs.LabelOrder.{label_total, label_ties}
-use Rattle.camp_seq.specs.LeastLabels.{is_above, StartsAbove, Holds, NoneLess, LeastAbove, untried, Settles}
+use Rattle.camp_seq.specs.Inside.LeastLabels.{is_above, StartsAbove, HasLabel, NoneLess, LeastAbove, untried, Settles}
 use Rattle.camp_seq.specs.NormalOrder.{IsLeast}
 use Rattle.camp_seq.specs.Passing.{Fronts}
 use Rattle.camp_seq.proofs.ListResults.{label-front}
@@ -17,7 +17,7 @@ use Rattle.camp_seq.proofs.ListResults.{label-front}
 never_less : (l : Label) → label_cmp l l ≢ Less
 never_less l less = let tie : label_cmp l l ≡ Equal = tied_itself label_total l in cc
 
-pub holds_at : (s : List Named) (i : ℕ) (d : Named) → i < length s → Holds (label_of (get_or s i d)) s
+pub holds_at : (s : List Named) (i : ℕ) (d : Named) → i < length s → HasLabel (label_of (get_or s i d)) s
 holds_at [] i d within = absurd (omega arith)
 holds_at (p ∷ s) zero d within = inl refl
 holds_at (p ∷ s) (suc i) d within = inr (holds_at s i d (omega arith))
@@ -103,7 +103,7 @@ untried_le tried key (p ∷ s) above =
     step_le (is_above (Some key) (label_of p)) (is_above tried (label_of p)) (untried (Some key) s) (untried tried s) (further tried key (label_of p) above) (untried_le tried key s above)
 
 -- each label that is tried leaves fewer
-pub untried_less : (tried : Option Label) (key : Label) (s : List Named) → IsTrue (is_above tried key) → Holds key s → untried (Some key) s < untried tried s
+pub untried_less : (tried : Option Label) (key : Label) (s : List Named) → IsTrue (is_above tried key) → HasLabel key s → untried (Some key) s < untried tried s
 untried_less tried key [] above held = absurd held
 untried_less tried key (p ∷ s) above (inl is) =
     step_first (is_above (Some key) (label_of p)) (is_above tried (label_of p)) (untried (Some key) s) (untried tried s) (λ more. never_less key (less_from_lt (label_cmp key key) (subst (λ x. IsTrue (is_lt (label_cmp key x))) is more))) (subst (λ x. IsTrue (is_above tried x)) (sym is) above) (untried_le tried key s above)

@@ -1,68 +1,64 @@
--- The law of three for labelled primitives.
-use Rattle.std.proofs.Common.{[], ◌∷◌, refl, sym, ◌∙◌}
+-- The law of three: with room, the six orders of three primitives are in range.
+use Rattle.std.proofs.Common.{List, [], ◌∷◌}
+use Rattle.std.specs.List.{All}
+use Rattle.std.proofs.lemmas.List.Elements.{All-head, All-tail}
 use Rattle.camp_prim.specs.Effect.{InRange}
+use Rattle.camp_prim.specs.Laws.{SixOrders}
+use Rattle.camp_prim.specs.Swaps.{Swap, SwapAnywhere}
 use Rattle.camp_prim.specs.declared.named.Named.{Named}
-use Rattle.camp_prim.proofs.SwapLaws.{same_key}
-use Rattle.camp_prim.proofs.ThreeSwaps.{three_swap}
-use Rattle.camp_seq.specs.Room.{SwapAnywhere, Reaches, here, further, LawOfThree}
-use Rattle.camp_seq.proofs.RoomSteps.{anywhere, with_ranges, at_front, reaches_through, reaches_behind, second_in_range, third_in_range}
+use Rattle.camp_prim.proofs.ThreeAnywhere.{six_from_behind, six_from_before}
+use Rattle.camp_seq.specs.Room.{Reaches, here, further, HasRoom, LawOfThree}
+use Rattle.camp_seq.proofs.ExchangeSteps.{at_front}
+use Rattle.camp_seq.proofs.RoomSteps.{reaches_through, reaches_behind}
 
--- the six orders, in range or not
-pub record SixAnywhere (q' p' r p1 q1 y : Named) : Type 0 where
-  pub passing : Named
-  pub p2 : Named
-  pub q2 : Named
-  pub past_p : SwapAnywhere p' r passing p2
-  pub past_q : SwapAnywhere q' passing y q2
-  pub behind : SwapAnywhere p1 q1 q2 p2
+abbrev Three : Named → Named → Named → Type 0
+Three p q r = InRange p.prim × InRange q.prim × InRange r.prim
 
--- the law of three holds without room too, where no range is asked for
-pub three_anywhere : (p q r q' p' r1 q1 y p1 : Named) → SwapAnywhere p q q' p' → SwapAnywhere q r r1 q1 → SwapAnywhere p r1 y p1 → SixAnywhere q' p' r p1 q1 y
-three_anywhere p q r q' p' r1 q1 y p1 u v w =
-    let n = three_swap p.prim q.prim q'.prim p'.prim r.prim r1.prim q1.prim y.prim p1.prim u.change v.change w.change in
+three_in_range : (s : List Named) (p q r : Named) → HasRoom s → Reaches s (p ∷ q ∷ r ∷ []) → Three p q r
+three_in_range s p q r room reaches =
+    let P : Named → Type 0 = λ x. InRange x.prim in
+    let all : All P (p ∷ q ∷ r ∷ []) = room (p ∷ q ∷ r ∷ []) reaches in
+    let behind : All P (q ∷ r ∷ []) = All-tail P p (q ∷ r ∷ []) all in
+    (All-head P p (q ∷ r ∷ []) all, All-head P q (r ∷ []) behind, All-head P r [] (All-tail P q (r ∷ []) behind))
+
+-- one more turn, of the first two or of the last two
+first_turn : (s : List Named) (p q q' p' r : Named) → Reaches s (p ∷ q ∷ r ∷ []) → SwapAnywhere p q q' p' → Reaches s (q' ∷ p' ∷ r ∷ [])
+first_turn s p q q' p' r reaches w =
+    reaches_through s (p ∷ q ∷ r ∷ []) (q' ∷ p' ∷ r ∷ []) reaches (further (at_front p q q' p' (r ∷ []) w) here)
+
+last_turn : (s : List Named) (p q r r' q' : Named) → Reaches s (p ∷ q ∷ r ∷ []) → SwapAnywhere q r r' q' → Reaches s (p ∷ r' ∷ q' ∷ [])
+last_turn s p q r r' q' reaches w =
+    reaches_through s (p ∷ q ∷ r ∷ []) (p ∷ r' ∷ q' ∷ []) reaches (reaches_behind p (q ∷ r ∷ []) (r' ∷ q' ∷ []) (further (at_front q r r' q' [] w) here))
+
+six_in_range : (p q r q' p' r1 q1 r2 p2 y p1 q2 : Named) → HasRoom (p ∷ q ∷ r ∷ []) → SixOrders SwapAnywhere p q r q' p' r1 q1 r2 p2 y p1 q2 → SixOrders Swap p q r q' p' r1 q1 r2 p2 y p1 q2
+six_in_range p q r q' p' r1 q1 r2 p2 y p1 q2 room n =
+    let s : List Named = p ∷ q ∷ r ∷ [] in
+    let to_b = first_turn s p q q' p' r here n.pq in
+    let to_c = last_turn s q' p' r r2 p2 to_b n.pr in
+    let to_d = first_turn s q' r2 y q2 p2 to_c n.qr2 in
+    let to_f = last_turn s p q r r1 q1 here n.qr in
+    let to_e = first_turn s p r1 y p1 q1 to_f n.pr1 in
+    let a = three_in_range s p q r room here in
+    let b = three_in_range s q' p' r room to_b in
+    let c = three_in_range s q' r2 p2 room to_c in
+    let d = three_in_range s y q2 p2 room to_d in
+    let e = three_in_range s y p1 q1 room to_e in
+    let f = three_in_range s p r1 q1 room to_f in
     record {
-      passing = record r { prim = n.r2 };
-      p2 = record p { prim = n.p2 };
-      q2 = record q { prim = n.q2 };
-      past_p = record {
-        apart = λ same. w.apart (same_key p' r p r1 u.first (sym v.second) same);
-        change = n.past_first;
-        second = refl;
-        first = sym u.first;
-      };
-      past_q = record {
-        apart = λ same. v.apart (same_key q' (record r { prim = n.r2 }) q r u.second refl same);
-        change = n.past_second;
-        second = w.second ∙ v.second;
-        first = sym u.second;
-      };
-      behind = record {
-        apart = λ same. u.apart (same_key p1 q1 p q w.first v.first same);
-        change = n.others;
-        second = sym v.first;
-        first = sym w.first;
-      };
+      pq = record { anywhere = n.pq; ranges = (a.0, a.1, b.0, b.1) };
+      pr = record { anywhere = n.pr; ranges = (b.1, b.2, c.1, c.2) };
+      qr2 = record { anywhere = n.qr2; ranges = (c.0, c.1, d.0, d.1) };
+      p1q1 = record { anywhere = n.p1q1; ranges = (e.1, e.2, d.1, d.2) };
+      pr1 = record { anywhere = n.pr1; ranges = (f.0, f.1, e.0, e.1) };
+      qr = record { anywhere = n.qr; ranges = (a.1, a.2, f.1, f.2) };
     }
 
 pub law_of_three : LawOfThree
-law_of_three p q r q' p' r1 q1 y p1 room u v w =
-    let n = three_anywhere p q r q' p' r1 q1 y p1 (anywhere p q q' p' u) (anywhere q r r1 q1 v) (anywhere p r1 y p1 w) in
-    let r2 = n.passing in
-    let one : Reaches (p ∷ q ∷ r ∷ []) (q' ∷ p' ∷ r ∷ []) = further (at_front p q q' p' (r ∷ []) (anywhere p q q' p' u)) here in
-    let two : Reaches (p ∷ q ∷ r ∷ []) (q' ∷ r2 ∷ n.p2 ∷ []) =
-    reaches_through (p ∷ q ∷ r ∷ []) (q' ∷ p' ∷ r ∷ []) (q' ∷ r2 ∷ n.p2 ∷ []) one (reaches_behind q' (p' ∷ r ∷ []) (r2 ∷ n.p2 ∷ []) (further (at_front p' r r2 n.p2 [] n.past_p) here)) in
-    let three : Reaches (p ∷ q ∷ r ∷ []) (y ∷ n.q2 ∷ n.p2 ∷ []) =
-    reaches_through (p ∷ q ∷ r ∷ []) (q' ∷ r2 ∷ n.p2 ∷ []) (y ∷ n.q2 ∷ n.p2 ∷ []) two (further (at_front q' r2 y n.q2 (n.p2 ∷ []) n.past_q) here) in
-    let in_two = room (q' ∷ r2 ∷ n.p2 ∷ []) two in
-    let in_three = room (y ∷ n.q2 ∷ n.p2 ∷ []) three in
-    let r2_in : InRange r2.prim = second_in_range q' r2 (n.p2 ∷ []) in_two in
-    let p2_in : InRange n.p2.prim = third_in_range q' r2 n.p2 [] in_two in
-    let q2_in : InRange n.q2.prim = second_in_range y n.q2 (n.p2 ∷ []) in_three in
-    record {
-      passing = r2;
-      p2 = n.p2;
-      q2 = n.q2;
-      past_p = with_ranges p' r r2 n.p2 n.past_p u.ranges.3 v.ranges.1 r2_in p2_in;
-      past_q = with_ranges q' r2 y n.q2 n.past_q u.ranges.2 r2_in w.ranges.2 q2_in;
-      behind = with_ranges p1 q1 n.q2 n.p2 n.behind w.ranges.3 v.ranges.3 q2_in p2_in;
-    }
+law_of_three = record {
+  from_behind = λ p q r q' p' r1 q1 y p1 room u v w.
+      let n = six_from_behind p q r q' p' r1 q1 y p1 u.anywhere v.anywhere w.anywhere in
+      (n.0, n.1, n.2, six_in_range p q r q' p' r1 q1 n.0 n.1 y p1 n.2 room n.3);
+  from_before = λ p q r q' p' r2 p2 r1 q1 room u v w.
+      let n = six_from_before p q r q' p' r2 p2 r1 q1 u.anywhere v.anywhere w.anywhere in
+      (n.0, n.1, n.2, six_in_range p q r q' p' r1 q1 r2 p2 n.0 n.1 n.2 room n.3);
+}

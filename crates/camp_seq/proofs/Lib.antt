@@ -1,3 +1,4 @@
+pub mod ExchangeSteps
 pub mod ExchangedFronts
 pub mod FrontSteps
 pub mod GatherSteps
@@ -10,15 +11,11 @@ pub mod ListRuns
 pub mod ListSteps
 pub mod MergeGrid
 pub mod MergeSteps
-pub mod MirrorOfThree
 pub mod NormalForms
 pub mod NormalOrders
 pub mod OrderSteps
 pub mod PassingSteps
 pub mod PlacingSteps
+pub mod Reaching
 pub mod RoomSteps
 pub mod RunSteps
-pub mod ShapeMoves
-pub mod ShapeRooms
-pub mod Shapes
-pub mod SwapDecided

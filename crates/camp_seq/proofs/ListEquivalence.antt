@@ -1,44 +1,19 @@
 -- What passes, comes to the front or is split is equivalent to what it came from.
-use Rattle.std.proofs.Common.{◌≡◌, inl, inr, List, [], ◌∷◌, ◌++◌, refl, sym, ap, ◌∙◌, subst}
+use Rattle.std.proofs.Common.{◌≡◌, inl, inr, List, [], ◌∷◌, ◌++◌, sym, ap, ◌∙◌, subst}
 use Rattle.std.proofs.lemmas.List.{append_assoc, append-nil}
 use Rattle.camp_prim.specs.Labels.{label_of}
 use Rattle.camp_prim.specs.declared.labels.Label.{Label}
 use Rattle.camp_prim.specs.Swaps.{Swap}
 use Rattle.camp_prim.specs.declared.named.Named.{Named}
-use Rattle.camp_seq.specs.Equivalence.{Exchanges, ◌~◌, same, exchanged, backwards, through}
+use Rattle.camp_seq.specs.Equivalence.{◌~◌, same, exchanged, backwards, through}
 use Rattle.camp_seq.specs.Laws.{AreEquivalent}
 use Rattle.camp_seq.specs.NormalOrder.{Norm, Splits}
+use Rattle.camp_seq.proofs.ExchangeSteps.{at_front, exchanges_behind, exchanges_before}
 use Rattle.camp_seq.specs.Passing.{Passes, PassesAll, Fronts, Parts}
 
 -- equal lists are equivalent
 pub equal_are : (s t : List Named) → s ≡ t → s ~ t
 equal_are s t e = subst (λ x. s ~ x) e same
-
-exchanges_behind : (u s t : List Named) → Exchanges s t → Exchanges (u ++ s) (u ++ t)
-exchanges_behind u s t e = record {
-  before = u ++ e.before;
-  p = e.p;
-  q = e.q;
-  q' = e.q';
-  p' = e.p';
-  after = e.after;
-  was = ap (λ x. u ++ x) e.was ∙ sym (append_assoc u e.before (e.p ∷ e.q ∷ e.after));
-  swap = e.swap;
-  becomes = ap (λ x. u ++ x) e.becomes ∙ sym (append_assoc u e.before (e.q' ∷ e.p' ∷ e.after));
-}
-
-exchanges_before : (s t u : List Named) → Exchanges s t → Exchanges (s ++ u) (t ++ u)
-exchanges_before s t u e = record {
-  before = e.before;
-  p = e.p;
-  q = e.q;
-  q' = e.q';
-  p' = e.p';
-  after = e.after ++ u;
-  was = ap (λ x. x ++ u) e.was ∙ append_assoc e.before (e.p ∷ e.q ∷ e.after) u;
-  swap = e.swap;
-  becomes = ap (λ x. x ++ u) e.becomes ∙ append_assoc e.before (e.q' ∷ e.p' ∷ e.after) u;
-}
 
 -- equivalent lists stay equivalent behind a list
 pub behind : (u s t : List Named) → s ~ t → (u ++ s) ~ (u ++ t)
@@ -63,7 +38,7 @@ after_one p s t e = behind (p ∷ []) s t e
 
 pub swapped : (p q q' p' : Named) (s : List Named) → Swap p q q' p' → (p ∷ q ∷ s) ~ (q' ∷ p' ∷ s)
 swapped p q q' p' s w =
-    exchanged (record { before = []; p = p; q = q; q' = q'; p' = p'; after = s; was = refl; swap = w; becomes = refl })
+    exchanged (at_front p q q' p' s w)
 
 pub passed : (p : Named) (s s' : List Named) (p' : Named) → Passes p s s' p' → (p ∷ s) ~ (s' ++ p' ∷ [])
 passed p [] s' p' r =

@@ -2,16 +2,17 @@
 use Rattle.std.proofs.Common.{◌≡◌, ◌≢◌, inl, inr, List, [], ◌∷◌, Ordering, refl, sym, ap, ◌∙◌, subst}
 use Rattle.std.specs.Ordering.{ordering_reverse}
 use Rattle.std.specs.declared.cmp.Ordering.TheVariants.{Less, Equal, Greater}
-use Rattle.camp_prim.specs.Effect.{inverse_of}
 use Rattle.camp_prim.specs.Labels.{label_of, label_cmp}
 use Rattle.camp_prim.specs.declared.labels.Label.{Label}
 use Rattle.camp_prim.specs.Swaps.{Swap}
 use Rattle.camp_prim.specs.declared.named.Named.{Named}
 use Rattle.camp_prim.proofs.LabelOrder.{label_total, label_ties}
 use Rattle.camp_prim.proofs.SwapUnique.{swap_unique}
-use Rattle.camp_seq.proofs.ListRuns.{inverse_of-inverse_of}
+use Rattle.camp_seq.proofs.ListRuns.{inverse_all-inverse_all}
+use Rattle.camp_seq.proofs.MergeGrid.{merge_passes}
+use Rattle.camp_seq.specs.Running.{inverse_all}
 use Rattle.camp_seq.specs.Laws.{AreDetermined}
-use Rattle.camp_seq.specs.Merging.{Merges, MergesOne, CleanMerge}
+use Rattle.camp_seq.specs.Merging.{CleanMerge}
 use Rattle.camp_seq.specs.NormalOrder.{Norm, Splits}
 use Rattle.camp_seq.specs.Passing.{Passes, PassesAll, Fronts, Parts}
 
@@ -64,7 +65,7 @@ label-front label (p ∷ s) y t (inl w) = ap label_of w.1 ∙ w.0
 label-front label (p ∷ s) y t (inr w) =
     let a = w.1 in
     let swap : Swap p a.0 y a.1 = a.4 in
-    swap.second ∙ label-front label s a.0 a.2 a.3
+    swap.anywhere.second ∙ label-front label s a.0 a.2 a.3
 
 neither_less : (r : Ordering) → r ≢ Less → ordering_reverse r ≢ Less → r ≡ Equal
 neither_less Less v w = absurd (v refl)
@@ -90,27 +91,10 @@ one_split labels s f t g u v w =
     let parts = one_parting labels s v.named v.others w.named w.others v.parts w.parts in
     (one_order w.named f g (subst (λ x. Norm x f) parts.0 v.first) w.first, one_order w.others t u (subst (λ x. Norm x t) parts.1 v.rest) w.rest)
 
-pub same_inverse : (p q : Named) → inverse_of p ≡ inverse_of q → p ≡ q
-same_inverse p q e = sym (inverse_of-inverse_of p) ∙ ap inverse_of e ∙ inverse_of-inverse_of q
-
-one_merge : (a b b' a' c d : Named) → Merges a b b' a' → Merges a b c d → (b' ≡ c) × (a' ≡ d)
-one_merge a b b' a' c d v w =
-    let pair = swap_unique (inverse_of a) b b' (inverse_of a') c (inverse_of d) v w in
-    (pair.0, same_inverse a' d pair.1)
-
-pub one_merge_of_one : (a : Named) (b b' c : List Named) (a' d : Named) → MergesOne a b b' a' → MergesOne a b c d → (b' ≡ c) × (a' ≡ d)
-one_merge_of_one a [] b' c a' d v w = (v.0 ∙ sym w.0, v.1 ∙ sym w.1)
-one_merge_of_one a (b ∷ bs) b' c a' d v w =
-    let pair = one_merge a b v.0 v.1 w.0 w.1 v.3 w.3 in
-    let rest = one_merge_of_one w.1 bs v.2 w.2 a' d (subst (λ y. MergesOne y bs v.2 a') pair.1 v.4) w.4 in
-    (v.5 ∙ ap (λ y. y ∷ v.2) pair.0 ∙ ap (λ y. w.0 ∷ y) rest.0 ∙ sym w.5, rest.1)
-
 pub one_clean_merge : (a b b' a' c d : List Named) → CleanMerge a b b' a' → CleanMerge a b c d → (b' ≡ c) × (a' ≡ d)
-one_clean_merge [] b b' a' c d v w = (v.0 ∙ sym w.0, v.1 ∙ sym w.1)
-one_clean_merge (p ∷ a) b b' a' c d v w =
-    let row = one_merge_of_one p b v.0 w.0 v.1 w.1 v.3 w.3 in
-    let rest = one_clean_merge a w.0 b' v.2 c w.2 (subst (λ y. CleanMerge a y b' v.2) row.0 v.4) w.4 in
-    (rest.0, v.5 ∙ ap (λ y. y ∷ v.2) row.1 ∙ ap (λ y. w.1 ∷ y) rest.1 ∙ sym w.5)
+one_clean_merge a b b' a' c d v w =
+    let rest = one_pass_of_all (inverse_all a) b b' c (inverse_all a') (inverse_all d) (merge_passes a b b' a' v) (merge_passes a b c d w) in
+    (rest.0, sym (inverse_all-inverse_all a') ∙ ap inverse_all rest.1 ∙ inverse_all-inverse_all d)
 
 pub are_determined : AreDetermined
 are_determined = record {

@@ -1,12 +1,13 @@
 -- What lists of primitives do to trees: joined lists, lists after a swap, inverses.
-use Rattle.std.proofs.Common.{◌≡◌, Bool, true, false, not, List, [], ◌∷◌, ◌++◌, map, reverse, refl, sym, ap, ◌∙◌, subst}
+use Rattle.std.proofs.Common.{◌≡◌, List, [], ◌∷◌, ◌++◌, map, reverse, refl, sym, ap, ◌∙◌, subst}
 use Rattle.std.proofs.lemmas.List.{reverse-append, map-append}
 use Rattle.camp_base.specs.Trees.{Files}
 use Rattle.camp_prim.specs.Effect.{inverse_of}
 use Rattle.camp_prim.specs.Swaps.{Swap}
 use Rattle.camp_prim.specs.declared.named.Named.{Named}
-use Rattle.camp_prim.proofs.Inverses.{leads_back, inverted-inverted}
-use Rattle.camp_prim.proofs.SwapLaws.{effect, own_inverse}
+use Rattle.camp_prim.proofs.Inverses.{leads_back, inverse_of-inverse_of}
+use Rattle.camp_prim.proofs.SwapLaws.{effect}
+use Rattle.camp_seq.proofs.ExchangeSteps.{exchanges_back}
 use Rattle.camp_seq.specs.Equivalence.{Exchanges, same, exchanged, backwards, through}
 use Rattle.camp_seq.specs.Laws.{EquivalentRun, InverseLeadsBack}
 use Rattle.camp_seq.specs.Running.{Runs, inverse_all}
@@ -27,23 +28,10 @@ swapped_runs p q q' p' after old new s r =
     let leads = (effect p q q' p' s old r.2.0).0 (record { between = r.0; first = r.1; second = r.2.1 }) in
     (leads.between, leads.first, (r.2.0, leads.second, r.2.2))
 
-exchanged_runs : (s t : List Named) (old new : Files) → Exchanges s t → Runs s old new → Runs t old new
+exchanged_runs : (s t : List Named) (old new : Files) → Exchanges Swap s t → Runs s old new → Runs t old new
 exchanged_runs s t old new e r =
     let cut = cut_run e.before (e.p ∷ e.q ∷ e.after) old new (subst (λ x. Runs x old new) e.was r) in
-    subst (λ x. Runs x old new) (sym e.becomes) (joined_runs e.before (e.q' ∷ e.p' ∷ e.after) old cut.0 new cut.1 (swapped_runs e.p e.q e.q' e.p' e.after cut.0 new e.swap cut.2))
-
-pub exchanges_back : (s t : List Named) → Exchanges s t → Exchanges t s
-exchanges_back s t e = record {
-  before = e.before;
-  p = e.q';
-  q = e.p';
-  q' = e.p;
-  p' = e.q;
-  after = e.after;
-  was = e.becomes;
-  swap = own_inverse e.p e.q e.q' e.p' e.swap;
-  becomes = e.was;
-}
+    subst (λ x. Runs x old new) (sym e.becomes) (joined_runs e.before (e.q' ∷ e.p' ∷ e.after) old cut.0 new cut.1 (swapped_runs e.p e.q e.q' e.p' e.after cut.0 new e.turns cut.2))
 
 pub equivalent_run : EquivalentRun
 equivalent_run s t same old new = (λ r. r, λ r. r)
@@ -61,14 +49,6 @@ inverse_all-cons p s = reverse-append (inverse_of p ∷ []) (map inverse_of s)
 
 pub inverse_all-append : (s t : List Named) → inverse_all (s ++ t) ≡ inverse_all t ++ inverse_all s
 inverse_all-append s t = ap reverse (map-append inverse_of s t) ∙ reverse-append (map inverse_of s) (map inverse_of t)
-
-not-not : (b : Bool) → not (not b) ≡ b
-not-not true = refl
-not-not false = refl
-
-pub inverse_of-inverse_of : (p : Named) → inverse_of (inverse_of p) ≡ p
-inverse_of-inverse_of p =
-    λ i. record { name = p.name; place = p.place; inverse = not-not p.inverse i; prim = inverted-inverted p.prim i }
 
 pub inverse_all-inverse_all : (s : List Named) → inverse_all (inverse_all s) ≡ s
 inverse_all-inverse_all [] = refl

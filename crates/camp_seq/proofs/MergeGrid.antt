@@ -1,47 +1,41 @@
 -- The grid of a clean merge: it closes a square of trees, is symmetric, and is passing the inverse.
 use Rattle.std.proofs.Common.{◌≡◌, List, [], ◌∷◌, ◌++◌, refl, sym, ap, ◌∙◌, subst}
-use Rattle.camp_base.specs.Trees.{Files}
-use Rattle.camp_prim.specs.Effect.{Applies, inverse_of}
+use Rattle.camp_prim.specs.Effect.{inverse_of}
 use Rattle.camp_prim.specs.Swaps.{Swap}
 use Rattle.camp_prim.specs.declared.named.Named.{Named}
-use Rattle.camp_prim.proofs.Inverses.{inverse_leads_back}
-use Rattle.camp_prim.proofs.SwapLaws.{own_inverse, square, effect}
-use Rattle.camp_seq.proofs.ListRuns.{inverse_of-inverse_of, inverse_all-cons, inverse_all-append, inverse_all-inverse_all}
-use Rattle.camp_seq.specs.Laws.{MergeCloses, MergeIsSymmetric, MergeIsPassing}
+use Rattle.camp_prim.proofs.Inverses.{inverse_of-inverse_of}
+use Rattle.camp_prim.proofs.SwapLaws.{own_inverse, square}
+use Rattle.camp_seq.proofs.ListEquivalence.{all_passed}
+use Rattle.camp_seq.proofs.ListRuns.{joined_runs, cut_run, equivalent_run, inverse_all-cons, inverse_all-append, inverse_all-inverse_all, inverse_all_leads_back}
+use Rattle.camp_seq.specs.Laws.{MergeCloses, MergeIsEquivalent, MergeIsSymmetric, MergeIsPassing}
 use Rattle.camp_seq.specs.Merging.{Merges, MergesOne, CleanMerge}
 use Rattle.camp_seq.specs.Passing.{Passes, PassesAll}
-use Rattle.camp_seq.specs.Running.{Runs, inverse_all}
+use Rattle.camp_seq.specs.Running.{inverse_all}
 
--- a cell closes a square of trees
-pub cell_closes : (a b b' a' : Named) → Merges a b b' a' → (old left right : Files) → Applies a.prim old left → Applies b.prim old right → (new : Files) × Applies b'.prim left new × Applies a'.prim right new
-cell_closes a b b' a' m old left right x y =
-    let back : Applies (inverse_of a).prim left old = (inverse_leads_back a.prim old left).0 x in
-    let leads = (effect (inverse_of a) b b' (inverse_of a') m left right).0 (record { between = old; first = back; second = y }) in
-    (leads.between, leads.first, (inverse_leads_back a'.prim right leads.between).1 leads.second)
+-- a cell, seen from its other side: [a] [b'] <-> [b] [a']
+cell_passes : (a b b' a' : Named) → Merges a b b' a' → Swap a b' b a'
+cell_passes a b b' a' m =
+    let turned : Swap (inverse_of (inverse_of a)) b' b (inverse_of (inverse_of a')) = square (inverse_of a) b b' (inverse_of a') m in
+    subst (λ x. Swap a b' b x) (inverse_of-inverse_of a') (subst (λ x. Swap x b' b (inverse_of (inverse_of a'))) (inverse_of-inverse_of a) turned)
 
-pub row_closes : (a : Named) (bs b' : List Named) (a' : Named) → MergesOne a bs b' a' → (old left right : Files) → Applies a.prim old left → Runs bs old right → (new : Files) × Runs b' left new × Applies a'.prim right new
-row_closes a [] b' a' m old left right x y =
-    (left, subst (λ s. Runs s left left) (sym m.0) refl, subst (λ t. Applies a'.prim t left) (sym y) (subst (λ p. Applies p.prim old left) (sym m.1) x))
-row_closes a (b ∷ bs) b' a' m old left right x y =
-    let cell = cell_closes a b m.0 m.1 m.3 old left y.0 x y.1 in
-    let rest = row_closes m.1 bs m.2 a' m.4 y.0 cell.0 right cell.2 y.2 in
-    (rest.0, subst (λ s. Runs s left rest.0) (sym m.5) (cell.0, cell.1, rest.1), rest.2)
+column_passes : (a : Named) (bs b' : List Named) (a' : Named) → MergesOne a bs b' a' → Passes a b' bs a'
+column_passes a [] b' a' m = subst (λ x. Passes a x [] a') (sym m.0) (refl, m.1)
+column_passes a (b ∷ bs) b' a' m =
+    subst (λ x. Passes a x (b ∷ bs) a') (sym m.5) (b, m.1, bs, cell_passes a b m.0 m.1 m.3, column_passes m.1 bs m.2 a' m.4, refl)
 
-pub merge_closes : MergeCloses
-merge_closes [] b b' a' m old left right x y =
-    (right, subst (λ s. Runs s left right) (sym m.0) (subst (λ t. Runs b t right) (sym x) y), subst (λ s. Runs s right right) (sym m.1) refl)
-merge_closes (p ∷ a) b b' a' m old left right x y =
-    let row = row_closes p b m.0 m.1 m.3 old x.0 right x.1 y in
-    let rest = merge_closes a m.0 b' m.2 m.4 x.0 left row.0 x.2 row.1 in
-    (rest.0, rest.1, subst (λ s. Runs s right rest.0) (sym m.5) (row.0, row.2, rest.2))
+-- the one list passes what the other becomes behind it
+grid_passes : (a b b' a' : List Named) → CleanMerge a b b' a' → PassesAll a b' b a'
+grid_passes [] b b' a' m = (sym m.0, m.1)
+grid_passes (p ∷ a) b b' a' m =
+    (m.0, m.1, m.2, grid_passes a m.0 b' m.2 m.4, column_passes p b m.0 m.1 m.3, m.5)
+
+pub merge_is_equivalent : MergeIsEquivalent
+merge_is_equivalent a b b' a' m = all_passed a b' b a' (grid_passes a b b' a' m)
 
 -- a cell is symmetric
 pub cell_is_symmetric : (a b b' a' : Named) → Merges a b b' a' → Merges b a a' b'
 cell_is_symmetric a b b' a' m =
-    let turned : Swap (inverse_of (inverse_of a)) b' b (inverse_of (inverse_of a')) = square (inverse_of a) b b' (inverse_of a') m in
-    let plain : Swap a b' b a' =
-    subst (λ x. Swap a b' b x) (inverse_of-inverse_of a') (subst (λ x. Swap x b' b (inverse_of (inverse_of a'))) (inverse_of-inverse_of a) turned) in
-    square b a' a b' (own_inverse a b' b a' plain)
+    square b a' a b' (own_inverse a b' b a' (cell_passes a b b' a' m))
 
 -- a list against none
 pub beside_none : (b : List Named) → CleanMerge b [] [] b
@@ -107,3 +101,11 @@ passing_merges (p ∷ a) b b' r' w =
 pub merge_is_passing : MergeIsPassing
 merge_is_passing a b b' a' =
     (merge_passes a b b' a', λ w. subst (λ x. CleanMerge a b b' x) (inverse_all-inverse_all a') (passing_merges a b b' (inverse_all a') w))
+
+-- back over the one list and over the other leads where both do in the other order
+pub merge_closes : MergeCloses
+merge_closes a b b' a' m old left right x y =
+    let around = joined_runs (inverse_all a) b left old right ((inverse_all_leads_back a old left).0 x) y in
+    let turned = (equivalent_run _ _ (all_passed (inverse_all a) b b' (inverse_all a') (merge_passes a b b' a' m)) left right).0 around in
+    let cut = cut_run b' (inverse_all a') left right turned in
+    (cut.0, cut.1, (inverse_all_leads_back a' right cut.0).1 cut.2)

@@ -8,7 +8,7 @@ use Rattle.camp_prim.specs.Swaps.{Swap}
 use Rattle.camp_prim.specs.declared.named.Named.{Named}
 use Rattle.camp_prim.proofs.LabelOrder.{label_total, label_ties}
 use Rattle.camp_seq.proofs.ListResults.{one_front, label-front}
-use Rattle.camp_seq.proofs.SwapDecided.{Decided, same_or_not, swap_or_not}
+use Rattle.camp_prim.proofs.SwapDecided.{Decided, same_or_not, swap_or_not}
 use Rattle.camp_seq.specs.Laws.{HasNormalOrder}
 use Rattle.camp_seq.specs.NormalOrder.{IsLeast, Norm}
 use Rattle.camp_seq.specs.Passing.{Fronts}

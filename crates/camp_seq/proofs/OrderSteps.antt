@@ -3,7 +3,7 @@ use Rattle.std.proofs.Common.{◌≡◌, ℕ, ◌+◌, ◌-◌, ◌<◌, List, [
 use Rattle.std.proofs.lemmas.List.{append-nil, append_assoc, length-drop, length_push, length-take-le, take_at, drop_at, drop_all}
 use borrow.Rule.Slice.PartMut.{put_mid}
 use Rattle.camp_prim.specs.declared.named.Named.{Named}
-use Rattle.camp_seq.specs.LeastLabels.{Settles}
+use Rattle.camp_seq.specs.Inside.LeastLabels.{Settles}
 use Rattle.camp_seq.specs.NormalOrder.{Norm}
 
 -- what a list is after its part from n on is written

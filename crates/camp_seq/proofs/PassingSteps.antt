@@ -1,10 +1,12 @@
 -- Steps of passing, from one neighbour to the next, and passing that stops.
 use Rattle.std.proofs.Common.{◌≡◌, Bool, true, false, List, [], ◌∷◌, ◌++◌, refl, sym, ap, ◌∙◌, subst}
+use Rattle.std.specs.Bool.{then_some}
+use Rattle.camp_base.specs.Answers.{FindsPair}
 use Rattle.camp_prim.specs.Swaps.{Swap}
 use Rattle.camp_prim.specs.declared.named.Named.{Named}
 use Rattle.camp_prim.proofs.SwapUnique.{swap_unique}
 use Rattle.camp_prim.proofs.SwapLaws.{own_inverse}
-use Rattle.camp_seq.specs.InPlace.{PassesIf, Precedes}
+use Rattle.camp_seq.specs.Inside.InPlace.{Precedes}
 use Rattle.camp_seq.specs.Passing.{Passes, PassesAll}
 use Rattle.camp_seq.proofs.ListResults.{one_pass, one_pass_of_all}
 
@@ -45,6 +47,6 @@ precedes_back [] p p' s' m = subst (λ t. Passes p' t [] p) (sym m.1) (refl, sym
 precedes_back (q ∷ s) p p' s' m =
     subst (λ t. Passes p' t (q ∷ s) p) (sym m.5) (q, m.0, s, own_inverse q m.0 p' m.1 m.4, precedes_back s p m.0 m.2 m.3, refl)
 
-pub passed_back : (s : List Named) (p p' : Named) (s' : List Named) (done : Bool) (t : List Named) (r : Named) → Precedes s p p' s' → PassesIf p' s' done t r → (t ≡ s) × (r ≡ p)
+pub passed_back : (s : List Named) (p p' : Named) (s' : List Named) (done : Bool) (t : List Named) (r : Named) → Precedes s p p' s' → FindsPair (Passes p' s') (then_some done (t, r)) → (t ≡ s) × (r ≡ p)
 passed_back s p p' s' true t r m w = one_pass p' s' t s r p w (precedes_back s p p' s' m)
-passed_back s p p' s' false t r m w = absurd (w s p (precedes_back s p p' s' m))
+passed_back s p p' s' false t r m w = absurd (w (s, p) (precedes_back s p p' s' m))

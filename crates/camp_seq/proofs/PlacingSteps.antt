@@ -1,23 +1,23 @@
 -- An element that is swapped to its place, from one neighbour to the next.
 use Rattle.std.proofs.Common.{◌≡◌, ◌≢◌, ℕ, zero, suc, ◌+◌, ◌-◌, ◌<◌, Bool, true, false, List, [], ◌∷◌, ◌++◌, length, take, drop, get_or, set, refl, sym, ap, ◌∙◌, subst, inl, inr, arith}
-use Rattle.std.proofs.lemmas.List.{append_assoc, length_push, length-append, length-set, length-take-le, take_at, drop_at, take_all, take_more, take_more_set, drop_more, take-append-drop, take-take}
+use Rattle.std.proofs.lemmas.List.{append_assoc, length_push, length-append, length-set, set-get_or, length-take-le, take_at, drop_at, take_all, take_more, take_more_set, drop_more, take-append-drop, take-take}
 use Rattle.std.specs.declared.cmp.Ordering.TheVariants.{Less}
-use Rattle.camp_prim.specs.Exchange.{Exchanged}
+use Rattle.camp_base.specs.Answers.{Changes}
 use Rattle.camp_prim.specs.Labels.{label_of, label_cmp}
 use Rattle.camp_prim.specs.declared.labels.Label.{Label}
-use Rattle.camp_prim.specs.Swaps.{Swap}
+use Rattle.camp_prim.specs.Swaps.{Swap, Swapped}
 use Rattle.camp_prim.specs.declared.named.Named.{Named}
 use Rattle.camp_prim.proofs.SwapLaws.{own_inverse}
 use Rattle.camp_prim.proofs.SwapUnique.{swap_unique}
 use Rattle.camp_seq.specs.Equivalence.{◌~◌, backwards, through}
-use Rattle.camp_seq.specs.InPlace.{Precedes}
-use Rattle.camp_seq.specs.Insertions.{InOrder, SwapsAt, Comes, Holds, ComesUpTo, AreLess, Stays, Goes, GoesUpTo, Placed}
+use Rattle.camp_seq.specs.Inside.InPlace.{Precedes}
+use Rattle.camp_seq.specs.Inside.Insertions.{InOrder, SwapsAt, Comes, IsHeld, ComesUpTo, AreLess, Stays, Goes, GoesUpTo, Placed}
 use Rattle.camp_seq.specs.Passing.{Passes}
 use Rattle.camp_seq.specs.Room.{HasRoom}
-use Rattle.camp_seq.proofs.InsertionSteps.{Follows, StartsAfter, came_behind, label_came, placed_in_order, room_of_equivalent}
+use Rattle.camp_seq.proofs.InsertionSteps.{Follows, StartsAfter, came_behind, label_came, placed_in_order}
 use Rattle.camp_seq.proofs.ListEquivalence.{before}
 use Rattle.camp_seq.proofs.PassingSteps.{passes_push, precedes_stop}
-use Rattle.camp_seq.proofs.RoomSteps.{room_before}
+use Rattle.camp_seq.proofs.RoomSteps.{room_before, room_of_equivalent}
 
 -- a list is cut at one place in one way
 cut_once : (a b c d : List Named) → length a ≡ length c → a ++ b ≡ c ++ d → (a ≡ c) × (b ≡ d)
@@ -44,19 +44,35 @@ written_first [] y some = absurd (omega arith)
 written_first (x ∷ s) y some = refl
 
 -- two neighbours, each in its part of a list that is cut between them
-pub swapped_there : (s front back : List Named) (i : ℕ) (d e : Named) (done : Bool) (a b : Named) → length front ≡ i + 1 → 0 < length back → s ≡ front ++ back → Exchanged (get_or front i d) (get_or back 0 e) done a b → SwapsAt s i done (set front i a ++ set back 0 b)
-swapped_there s front back i d e done a b long some is w = record {
-  before = take i front;
-  p = get_or front i d;
-  q = get_or back 0 e;
-  q' = a;
-  p' = b;
-  after = drop 1 back;
+between : (front back : List Named) (i : ℕ) (d e : Named) → length front ≡ i + 1 → 0 < length back → front ++ back ≡ take i front ++ get_or front i d ∷ get_or back 0 e ∷ drop 1 back
+between front back i d e long some =
+    ap (λ x. x ++ back) (last_is front i d long) ∙ ap (λ x. (take i front ++ get_or front i d ∷ []) ++ x) (drop_more back 0 e some) ∙ append_assoc (take i front) (get_or front i d ∷ []) (get_or back 0 e ∷ drop 1 back)
+
+pub swapped_there : (s front back : List Named) (i : ℕ) (d e : Named) (done : Bool) (a b : Named) → length front ≡ i + 1 → 0 < length back → s ≡ front ++ back → Changes Swapped (get_or front i d, get_or back 0 e) done (a, b) → Changes (SwapsAt i) s done (set front i a ++ set back 0 b)
+swapped_there s front back i d e true a b long some is w = record {
+  exchange = record {
+    before = take i front;
+    p = get_or front i d;
+    q = get_or back 0 e;
+    q' = a;
+    p' = b;
+    after = drop 1 back;
+    was = is ∙ between front back i d e long some;
+    turns = w;
+    becomes = ap (λ x. x ++ set back 0 b) (written_last front i a long) ∙ ap (λ x. (take i front ++ a ∷ []) ++ x) (written_first back b some) ∙ append_assoc (take i front) (a ∷ []) (b ∷ drop 1 back);
+  };
   stands = length-take-le i front (omega arith);
-  was = is ∙ ap (λ x. x ++ back) (last_is front i d long) ∙ ap (λ x. (take i front ++ get_or front i d ∷ []) ++ x) (drop_more back 0 e some) ∙ append_assoc (take i front) (get_or front i d ∷ []) (get_or back 0 e ∷ drop 1 back);
-  swaps = w;
-  becomes = ap (λ x. x ++ set back 0 b) (written_last front i a long) ∙ ap (λ x. (take i front ++ a ∷ []) ++ x) (written_first back b some) ∙ append_assoc (take i front) (a ∷ []) (b ∷ drop 1 back);
 }
+swapped_there s front back i d e false a b long some is w = (
+  λ any v.
+      let x = v.exchange in
+      let stands : length x.before ≡ length (take i front) = v.stands ∙ sym (length-take-le i front (omega arith)) in
+      let cut = cut_once x.before (x.p ∷ x.q ∷ x.after) (take i front) (get_or front i d ∷ get_or back 0 e ∷ drop 1 back) stands (sym x.was ∙ is ∙ between front back i d e long some) in
+      let p_is : x.p ≡ get_or front i d = same_head _ _ _ _ cut.1 in
+      let q_is : x.q ≡ get_or back 0 e = same_head _ _ _ _ (same_tail _ _ _ _ cut.1) in
+      w.0 (x.q', x.p') (subst (λ y. Swap y (get_or back 0 e) x.q' x.p') p_is (subst (λ y. Swap x.p y x.q' x.p') q_is x.turns)),
+  ap (λ x. set front i x.0 ++ set back 0 x.1) w.1 ∙ ap (λ x. x ++ set back 0 (get_or back 0 e)) (set-get_or front i d) ∙ ap (λ x. front ++ x) (set-get_or back 0 e) ∙ sym is,
+)
 
 -- a list with its last element where it stands
 pub comes_here : (s : List Named) → 0 < length s → Comes s (length s - 1) s
@@ -86,9 +102,10 @@ cut_behind items before after c x left i p q is long was stands =
     cut_once c (x ∷ left) (before ++ p ∷ []) (q ∷ after) (omega arith) same
 
 -- one place further to the left
-pub comes_on : (s items t : List Named) (i : ℕ) → Comes s (i + 1) items → SwapsAt items i true t → Comes s i t
-comes_on s items t i c w =
-    let cut = cut_behind items w.before w.after c.before c.first c.left i w.p w.q c.becomes c.stands w.was w.stands in
+pub comes_on : (s items t : List Named) (i : ℕ) → Comes s (i + 1) items → SwapsAt i items t → Comes s i t
+comes_on s items t i c v =
+    let w = v.exchange in
+    let cut = cut_behind items w.before w.after c.before c.first c.left i w.p w.q c.becomes c.stands w.was v.stands in
     let first : c.first ≡ w.q = same_head c.first w.q c.left w.after cut.1 in
     let left : c.left ≡ w.after = same_tail c.first w.q c.left w.after cut.1 in
     record {
@@ -97,43 +114,38 @@ comes_on s items t i c w =
       last = c.last;
       first = w.q';
       left = w.p' ∷ c.left;
-      stands = w.stands;
+      stands = v.stands;
       was = c.was ∙ ap (λ x. x ++ (c.passed ++ c.last ∷ [])) cut.0 ∙ append_assoc w.before (w.p ∷ []) (c.passed ++ c.last ∷ []);
-      came = (c.first, w.p', c.left, c.came, subst (λ x. Swap w.p x w.q' w.p') (sym first) w.swaps, refl);
+      came = (c.first, w.p', c.left, c.came, subst (λ x. Swap w.p x w.q' w.p') (sym first) w.turns, refl);
       becomes = w.becomes ∙ ap (λ x. w.before ++ w.q' ∷ w.p' ∷ x) (sym left);
     }
 
 -- the neighbour that x can't pass holds it behind all that stand before that one
-all_hold : (before : List Named) (q : Named) (s : List Named) (x r : Named) (t : List Named) → Precedes s x r t → ((a b : Named) → ¬ (Swap q r a b)) → Holds (before ++ q ∷ []) s x
+all_hold : (before : List Named) (q : Named) (s : List Named) (x r : Named) (t : List Named) → Precedes s x r t → ((a b : Named) → ¬ (Swap q r a b)) → IsHeld (before ++ q ∷ []) s x
 all_hold [] q s x r t m never = ((λ p u. precedes_stop [] q s x r p t u m never), tt)
 all_hold (y ∷ before) q s x r t m never =
     ((λ p u. subst (λ z. ¬ (Precedes (y ∷ z) x p u)) (sym (append_assoc before (q ∷ []) s)) (precedes_stop (y ∷ before) q s x r p t u m never)), all_hold before q s x r t m never)
 
--- where the two can't change places the list is as it was
-stuck_is : (items t : List Named) (i : ℕ) → SwapsAt items i false t → t ≡ items
-stuck_is items t i w = w.becomes ∙ ap (λ x. w.before ++ x ∷ w.p' ∷ w.after) w.swaps.1 ∙ ap (λ x. w.before ++ w.p ∷ x ∷ w.after) w.swaps.2 ∙ sym w.was
+-- where nothing is swapped at a place, what stands there does not swap with what is behind it
+no_swap_there : (items : List Named) (i : ℕ) (before : List Named) (p q : Named) (after : List Named) → ((any : List Named) → ¬ (SwapsAt i items any)) → length before ≡ i → items ≡ before ++ p ∷ q ∷ after → (a b : Named) → ¬ (Swap p q a b)
+no_swap_there items i before p q after never stands is a b w =
+    never (before ++ a ∷ b ∷ after) (record {
+      exchange = record { before = before; p = p; q = q; q' = a; p' = b; after = after; was = is; turns = w; becomes = refl };
+      stands = stands;
+    })
 
-pub comes_no_further : (s items t : List Named) (i : ℕ) → Comes s (i + 1) items → SwapsAt items i false t → ComesUpTo s (i + 1) t
+pub comes_no_further : (s items t : List Named) (i : ℕ) → Comes s (i + 1) items → Changes (SwapsAt i) items false t → ComesUpTo s (i + 1) t
 comes_no_further s items t i c w =
-    let cut = cut_behind items w.before w.after c.before c.first c.left i w.p w.q c.becomes c.stands w.was w.stands in
-    let first : c.first ≡ w.q = same_head c.first w.q c.left w.after cut.1 in
-    let stop : (a b : Named) → ¬ (Swap w.p c.first a b) = λ a b v. w.swaps.0 a b (subst (λ x. Swap w.p x a b) first v) in
-    record {
-      comes = record {
-        before = c.before;
-        passed = c.passed;
-        last = c.last;
-        first = c.first;
-        left = c.left;
-        stands = c.stands;
-        was = c.was;
-        came = c.came;
-        becomes = stuck_is items t i w ∙ c.becomes;
-      };
-      held = subst (λ x. Holds x c.passed c.last) (sym cut.0) (all_hold w.before w.p c.passed c.last c.first c.left c.came stop);
-    }
+    let cut : c.before ≡ take i c.before ++ get_or c.before i c.first ∷ [] = last_is c.before i c.first c.stands in
+    let is : items ≡ take i c.before ++ get_or c.before i c.first ∷ c.first ∷ c.left = c.becomes ∙ ap (λ x. x ++ c.first ∷ c.left) cut ∙ append_assoc (take i c.before) (get_or c.before i c.first ∷ []) (c.first ∷ c.left) in
+    let before : length c.before ≡ i + 1 = c.stands in
+    let stop = no_swap_there items i (take i c.before) (get_or c.before i c.first) c.first c.left w.0 (length-take-le i c.before (omega arith)) is in
+    subst (ComesUpTo s (i + 1)) (sym w.1) (record {
+      comes = c;
+      held = subst (λ x. IsHeld x c.passed c.last) (sym cut) (all_hold (take i c.before) (get_or c.before i c.first) c.passed c.last c.first c.left c.came stop);
+    })
 
-none_hold : (before s : List Named) (x : Named) → length before ≡ 0 → Holds before s x
+none_hold : (before s : List Named) (x : Named) → length before ≡ 0 → IsHeld before s x
 none_hold [] s x none = tt
 none_hold (y ∷ before) s x none = absurd (omega arith)
 
@@ -161,16 +173,17 @@ are_less_more label [] y all less = (less, tt)
 are_less_more label (x ∷ s) y all less = (all.0, are_less_more label s y all.1 less)
 
 -- one place further to the right
-pub goes_on : (s items t : List Named) (i : ℕ) (d e : Named) → Goes s i items → SwapsAt items i true t → label_cmp (label_of (get_or items (i + 1) d)) (label_of (get_or items i e)) ≡ Less → Goes s (i + 1) t
-goes_on s items t i d e g w less =
-    let stands : length g.left ≡ length w.before = g.stands ∙ sym w.stands in
+pub goes_on : (s items t : List Named) (i : ℕ) (d e : Named) → Goes s i items → SwapsAt i items t → label_cmp (label_of (get_or items (i + 1) d)) (label_of (get_or items i e)) ≡ Less → Goes s (i + 1) t
+goes_on s items t i d e g v less =
+    let w = v.exchange in
+    let stands : length g.left ≡ length w.before = g.stands ∙ sym v.stands in
     let cut = cut_once g.left (g.moved ∷ g.rest) w.before (w.p ∷ w.q ∷ w.after) stands (sym g.becomes ∙ w.was) in
     let moved : g.moved ≡ w.p = same_head g.moved w.p g.rest (w.q ∷ w.after) cut.1 in
     let rest : g.rest ≡ w.q ∷ w.after = same_tail g.moved w.p g.rest (w.q ∷ w.after) cut.1 in
-    let second : get_or items (i + 1) d ≡ w.q = ap (λ z. get_or z (i + 1) d) w.was ∙ second_there w.before w.p w.q w.after i d w.stands in
-    let first : get_or items i e ≡ w.p = ap (λ z. get_or z i e) w.was ∙ first_there w.before w.p (w.q ∷ w.after) i e w.stands in
+    let second : get_or items (i + 1) d ≡ w.q = ap (λ z. get_or z (i + 1) d) w.was ∙ second_there w.before w.p w.q w.after i d v.stands in
+    let first : get_or items i e ≡ w.p = ap (λ z. get_or z i e) w.was ∙ first_there w.before w.p (w.q ∷ w.after) i e v.stands in
     let own : label_of (get_or items i e) ≡ label_of g.first = ap label_of (first ∙ sym moved) ∙ g.label in
-    let other : label_of (get_or items (i + 1) d) ≡ label_of w.q' = ap label_of second ∙ sym w.swaps.second in
+    let other : label_of (get_or items (i + 1) d) ≡ label_of w.q' = ap label_of second ∙ sym w.turns.anywhere.second in
     let below : label_cmp (label_of w.q') (label_of g.first) ≡ Less = subst (λ l. label_cmp (label_of w.q') l ≡ Less) own (subst (λ l. label_cmp l (label_of (get_or items i e)) ≡ Less) other less) in
     record {
       first = g.first;
@@ -180,9 +193,9 @@ goes_on s items t i d e g w less =
       moved = w.p';
       stands = length_push g.left w.q' ∙ ap (λ k. k + 1) g.stands;
       was = g.was ∙ ap (λ z. g.first ∷ (g.gone ++ z)) rest ∙ ap (λ z. g.first ∷ z) (sym (append_assoc g.gone (w.q ∷ []) w.after));
-      passes = passes_push g.first g.gone g.left g.moved w.q w.q' w.p' g.passes (subst (λ x. Swap x w.q w.q' w.p') (sym moved) w.swaps);
+      passes = passes_push g.first g.gone g.left g.moved w.q w.q' w.p' g.passes (subst (λ x. Swap x w.q w.q' w.p') (sym moved) w.turns);
       lesser = are_less_more (label_of g.first) g.left w.q' g.lesser below;
-      label = w.swaps.first ∙ ap label_of (sym moved) ∙ g.label;
+      label = w.turns.anywhere.first ∙ ap label_of (sym moved) ∙ g.label;
       becomes = w.becomes ∙ ap (λ z. z ++ w.q' ∷ w.p' ∷ w.after) (sym cut.0) ∙ sym (append_assoc g.left (w.q' ∷ []) (w.p' ∷ w.after));
     }
 
@@ -199,30 +212,13 @@ goes_to_greater s items i d e g never =
     record { at = i; goes = g; stays = stays_before items g.left g.moved g.rest i d e g.stands g.becomes never }
 
 -- it stands before an element that it can't pass
-pub goes_no_further : (s items t : List Named) (i : ℕ) → Goes s i items → SwapsAt items i false t → GoesUpTo s t
+stuck_there : (items : List Named) (i : ℕ) (left : List Named) (moved : Named) (rest : List Named) → ((any : List Named) → ¬ (SwapsAt i items any)) → length left ≡ i → items ≡ left ++ moved ∷ rest → Stays moved rest
+stuck_there items i left moved [] never stands is = tt
+stuck_there items i left moved (q ∷ rest) never stands is = inr (no_swap_there items i left moved q rest never stands is)
+
+pub goes_no_further : (s items t : List Named) (i : ℕ) → Goes s i items → Changes (SwapsAt i) items false t → GoesUpTo s t
 goes_no_further s items t i g w =
-    let stands : length g.left ≡ length w.before = g.stands ∙ sym w.stands in
-    let cut = cut_once g.left (g.moved ∷ g.rest) w.before (w.p ∷ w.q ∷ w.after) stands (sym g.becomes ∙ w.was) in
-    let moved : g.moved ≡ w.p = same_head g.moved w.p g.rest (w.q ∷ w.after) cut.1 in
-    let rest : g.rest ≡ w.q ∷ w.after = same_tail g.moved w.p g.rest (w.q ∷ w.after) cut.1 in
-    let stuck : Stays g.moved (w.q ∷ w.after) = inr (λ a b v. w.swaps.0 a b (subst (λ x. Swap x w.q a b) moved v)) in
-    record {
-      at = i;
-      goes = record {
-        first = g.first;
-        gone = g.gone;
-        rest = g.rest;
-        left = g.left;
-        moved = g.moved;
-        stands = g.stands;
-        was = g.was;
-        passes = g.passes;
-        lesser = g.lesser;
-        label = g.label;
-        becomes = stuck_is items t i w ∙ g.becomes;
-      };
-      stays = subst (λ x. Stays g.moved x) (sym rest) stuck;
-    }
+    subst (GoesUpTo s) (sym w.1) (record { at = i; goes = g; stays = stuck_there items i g.left g.moved g.rest w.0 g.stands g.becomes })
 
 stays_last : (moved : Named) (rest : List Named) → length rest ≡ 0 → Stays moved rest
 stays_last moved [] none = tt
@@ -250,7 +246,7 @@ back_where (g ∷ gone) rest (q ∷ passed) last first left l moved is m w =
     let r = back_where gone rest passed last m.0 m.2 w.2 moved tail m.3 (subst (λ y. Passes y gone w.2 moved) (sym pair.1) w.4) in
     (r.0, ap (λ y. q ∷ y) r.1 ∙ ap (λ y. y ∷ (w.2 ++ r.0)) pair.0 ∙ ap (λ y. y ++ r.0) (sym w.5), r.2)
 
-follows_all : (before l back : List Named) (x : Named) → Holds before (l ++ back) x → AreLess (label_of x) l → Follows (before ++ l) back x
+follows_all : (before l back : List Named) (x : Named) → IsHeld before (l ++ back) x → AreLess (label_of x) l → Follows (before ++ l) back x
 follows_all [] [] back x held lesser = tt
 follows_all [] (y ∷ l) back x held lesser = (inl lesser.0, follows_all [] l back x tt lesser.1)
 follows_all (y ∷ before) l back x held lesser =
@@ -261,8 +257,8 @@ starts_after [] last moved rest m stays = tt
 starts_after (q ∷ back) last moved rest m stays =
     let own : label_of moved ≡ label_of last = label_came (q ∷ back) last moved rest m in
     elim (subst (λ z. Stays moved z) m.5 stays) [
-      | inl never ↦ subst (λ l. label_cmp l (label_of last) ≢ Less) m.4.first (subst (λ l. label_cmp (label_of m.1) l ≢ Less) own never)
-      | inr stuck ↦ absurd (stuck q m.0 (own_inverse q m.0 moved m.1 m.4))
+      | inl never ↦ subst (λ l. label_cmp l (label_of last) ≢ Less) m.4.anywhere.first (subst (λ l. label_cmp (label_of m.1) l ≢ Less) own never)
+      | inr never ↦ absurd (never q m.0 (own_inverse q m.0 moved m.1 m.4))
     ]
 
 -- the last element of a list with room, put in its place among the others, which are in normal order
@@ -286,7 +282,7 @@ placed s t n room long o w =
     let now : t ≡ a ++ g.moved ∷ g.rest = w.becomes ∙ ap (λ x. x ++ w.behind) front ∙ ap (λ x. c.before ++ x) g.becomes ∙ sym (append_assoc c.before g.left (g.moved ∷ g.rest)) in
     let reached : s ~ (a ++ g.moved ∷ g.rest) = subst (λ x. x ~ (a ++ g.moved ∷ g.rest)) (sym whole) (backwards (came_behind a back c.last g.moved g.rest b.2)) in
     let own : label_of g.first ≡ label_of c.last = ap label_of (sym first) ∙ label_came c.passed c.last c.first c.left c.came in
-    let held : Holds c.before (g.left ++ back) c.last = subst (λ x. Holds c.before x c.last) b.1 w.comes.held in
+    let held : IsHeld c.before (g.left ++ back) c.last = subst (λ x. IsHeld c.before x c.last) b.1 w.comes.held in
     let lesser : AreLess (label_of c.last) g.left = subst (λ l. AreLess l g.left) own g.lesser in
     let all = placed_in_order a back c.last g.moved g.rest (room_of_equivalent s (a ++ g.moved ∷ g.rest) reached room) ordered b.2 (follows_all c.before g.left back c.last held lesser) (starts_after back c.last g.moved g.rest b.2 w.goes.stays) in
     (subst (λ x. s ~ x) (sym now) reached, subst InOrder (sym now) all)

@@ -1,81 +1,27 @@
 -- What a list with room reaches has room.
-use Rattle.std.proofs.Common.{◌≡◌, List, [], ◌∷◌, ◌++◌, refl, sym, ap, ◌∙◌, subst, inl, inr}
-use Rattle.std.proofs.lemmas.List.{append_assoc}
+use Rattle.std.proofs.Common.{◌≡◌, List, [], ◌∷◌, ◌++◌, sym, ap, ◌∙◌, subst, inl, inr}
 use Rattle.std.specs.List.{All}
 use Rattle.std.proofs.lemmas.List.Elements.{All-nil, All-cons, All-head, All-tail}
 use Rattle.camp_prim.specs.Effect.{InRange}
 use Rattle.camp_prim.specs.declared.labels.Label.{Label}
 use Rattle.camp_prim.specs.Swaps.{Swap}
 use Rattle.camp_prim.specs.declared.named.Named.{Named}
-use Rattle.camp_prim.proofs.SwapLaws.{own_inverse}
-use Rattle.camp_seq.specs.Equivalence.{Exchanges}
+use Rattle.camp_seq.specs.Equivalence.{Exchanges, ◌~◌, same, exchanged, backwards, through}
 use Rattle.camp_seq.specs.Passing.{Fronts}
-use Rattle.camp_seq.specs.Room.{SwapAnywhere, ExchangesAnywhere, Reaches, here, further, HasRoom}
-
--- a swap is one in range or not
-pub anywhere : (p q q' p' : Named) → Swap p q q' p' → SwapAnywhere p q q' p'
-anywhere p q q' p' s = record { apart = s.apart; change = s.change; second = s.second; first = s.first }
-
--- where all four are in range it is a swap
-pub with_ranges : (p q q' p' : Named) → SwapAnywhere p q q' p' → InRange p.prim → InRange q.prim → InRange q'.prim → InRange p'.prim → Swap p q q' p'
-with_ranges p q q' p' s a b c d =
-    record { apart = s.apart; change = s.change; ranges = (a, b, c, d); second = s.second; first = s.first }
-
-pub exchanged_anywhere : (s t : List Named) → Exchanges s t → ExchangesAnywhere s t
-exchanged_anywhere s t e = record {
-  before = e.before;
-  p = e.p;
-  q = e.q;
-  q' = e.q';
-  p' = e.p';
-  after = e.after;
-  was = e.was;
-  swap = anywhere e.p e.q e.q' e.p' e.swap;
-  becomes = e.becomes;
-}
-
--- one exchange of the first two
-pub at_front : (p q q' p' : Named) (s : List Named) → SwapAnywhere p q q' p' → ExchangesAnywhere (p ∷ q ∷ s) (q' ∷ p' ∷ s)
-at_front p q q' p' s w =
-    record { before = []; p = p; q = q; q' = q'; p' = p'; after = s; was = refl; swap = w; becomes = refl }
+use Rattle.camp_seq.specs.Room.{Reaches, here, further, HasRoom}
+use Rattle.camp_seq.proofs.ExchangeSteps.{at_front, exchanges_behind, exchanges_before, exchanges_back, exchanged_anywhere}
 
 pub reaches_through : (s t u : List Named) → Reaches s t → Reaches t u → Reaches s u
 reaches_through s t u here r = r
 reaches_through s t u (further {t = v} e w) r = further e (reaches_through v t u w r)
 
-behind_one : (x : Named) (s t : List Named) → ExchangesAnywhere s t → ExchangesAnywhere (x ∷ s) (x ∷ t)
-behind_one x s t e = record {
-  before = x ∷ e.before;
-  p = e.p;
-  q = e.q;
-  q' = e.q';
-  p' = e.p';
-  after = e.after;
-  was = ap (λ y. x ∷ y) e.was;
-  swap = e.swap;
-  becomes = ap (λ y. x ∷ y) e.becomes;
-}
-
 pub reaches_behind : (x : Named) (s t : List Named) → Reaches s t → Reaches (x ∷ s) (x ∷ t)
 reaches_behind x s t here = here
-reaches_behind x s t (further {t = v} e w) = further (behind_one x s v e) (reaches_behind x v t w)
-
-before_some : (s t u : List Named) → ExchangesAnywhere s t → ExchangesAnywhere (s ++ u) (t ++ u)
-before_some s t u e = record {
-  before = e.before;
-  p = e.p;
-  q = e.q;
-  q' = e.q';
-  p' = e.p';
-  after = e.after ++ u;
-  was = ap (λ x. x ++ u) e.was ∙ append_assoc e.before (e.p ∷ e.q ∷ e.after) u;
-  swap = e.swap;
-  becomes = ap (λ x. x ++ u) e.becomes ∙ append_assoc e.before (e.q' ∷ e.p' ∷ e.after) u;
-}
+reaches_behind x s t (further {t = v} e w) = further (exchanges_behind (x ∷ []) s v e) (reaches_behind x v t w)
 
 pub reaches_before : (s t u : List Named) → Reaches s t → Reaches (s ++ u) (t ++ u)
 reaches_before s t u here = here
-reaches_before s t u (further {t = v} e w) = further (before_some s v u e) (reaches_before v t u w)
+reaches_before s t u (further {t = v} e w) = further (exchanges_before s v u e) (reaches_before v t u w)
 
 pub reaches_same : (s t : List Named) → s ≡ t → Reaches s t
 reaches_same s t e = subst (λ x. Reaches s x) e here
@@ -95,21 +41,8 @@ in_range_before (x ∷ s) u a =
 pub room_before : (s u : List Named) → HasRoom (s ++ u) → HasRoom s
 room_before s u room t r = in_range_before t u (room (t ++ u) (reaches_before s t u r))
 
-pub room_exchanged : (s t : List Named) → Exchanges s t → HasRoom s → HasRoom t
+pub room_exchanged : (s t : List Named) → Exchanges Swap s t → HasRoom s → HasRoom t
 room_exchanged s t e room = room_after s t room (further (exchanged_anywhere s t e) here)
-
-pub exchanged_back : (s t : List Named) → Exchanges s t → Exchanges t s
-exchanged_back s t e = record {
-  before = e.before;
-  p = e.q';
-  q = e.p';
-  q' = e.p;
-  p' = e.q;
-  after = e.after;
-  was = e.becomes;
-  swap = own_inverse e.p e.q e.q' e.p' e.swap;
-  becomes = e.was;
-}
 
 -- a list reaches itself with an element swapped to its front
 pub front_reached : (label : Label) (s : List Named) (y : Named) (t : List Named) → Fronts label s y t → Reaches s (y ∷ t)
@@ -118,15 +51,40 @@ front_reached label (p ∷ s) y t (inl w) =
     reaches_same (p ∷ s) (y ∷ t) (ap (λ x. x ∷ s) (sym w.1) ∙ ap (λ x. y ∷ x) (sym w.2))
 front_reached label (p ∷ s) y t (inr w) =
     let f = w.1 in
-    reaches_through (p ∷ s) (p ∷ f.0 ∷ f.2) (y ∷ t) (reaches_behind p s (f.0 ∷ f.2) (front_reached label s f.0 f.2 f.3)) (further (at_front p f.0 y f.1 f.2 (anywhere p f.0 y f.1 f.4)) (reaches_same (y ∷ f.1 ∷ f.2) (y ∷ t) (ap (λ x. y ∷ x) (sym f.5))))
+    reaches_through (p ∷ s) (p ∷ f.0 ∷ f.2) (y ∷ t) (reaches_behind p s (f.0 ∷ f.2) (front_reached label s f.0 f.2 f.3)) (further (at_front p f.0 y f.1 f.2 f.4.anywhere) (reaches_same (y ∷ f.1 ∷ f.2) (y ∷ t) (ap (λ x. y ∷ x) (sym f.5))))
 
-pub first_in_range : (x : Named) (s : List Named) → All (λ p. InRange p.prim) (x ∷ s) → InRange x.prim
-first_in_range x s a = All-head (λ p. InRange p.prim) x s a
+-- a fact that one exchange keeps in lists with room passes between two lists
+record Shares (Fact : List Named → Type 0) (s t : List Named) : Type 0 where
+  room : HasRoom s → HasRoom t
+  room_back : HasRoom t → HasRoom s
+  to : HasRoom s → Fact s → Fact t
+  back : HasRoom t → Fact t → Fact s
 
-pub second_in_range : (x y : Named) (s : List Named) → All (λ p. InRange p.prim) (x ∷ y ∷ s) → InRange y.prim
-second_in_range x y s a =
-    first_in_range y s (All-tail (λ p. InRange p.prim) x (y ∷ s) a)
+shared : (Fact : List Named → Type 0) → ((s t : List Named) → HasRoom s → Exchanges Swap s t → Fact s → Fact t) → (s t : List Named) → s ~ t → Shares Fact s t
+shared Fact kept s t same = record { room = λ r. r; room_back = λ r. r; to = λ r f. f; back = λ r f. f }
+shared Fact kept s t (exchanged e) = record {
+  room = room_exchanged s t e;
+  room_back = room_exchanged t s (exchanges_back s t e);
+  to = λ r f. kept s t r e f;
+  back = λ r f. kept t s r (exchanges_back s t e) f;
+}
+shared Fact kept s t (backwards e) =
+    let a = shared Fact kept t s e in
+    record { room = a.room_back; room_back = a.room; to = a.back; back = a.to }
+shared Fact kept s t (through {t = v} e f) =
+    let a = shared Fact kept s v e in
+    let b = shared Fact kept v t f in
+    record {
+      room = λ r. b.room (a.room r);
+      room_back = λ r. a.room_back (b.room_back r);
+      to = λ r x. b.to (a.room r) (a.to r x);
+      back = λ r x. a.back (b.room_back r) (b.back r x);
+    }
 
-pub third_in_range : (x y z : Named) (s : List Named) → All (λ p. InRange p.prim) (x ∷ y ∷ z ∷ s) → InRange z.prim
-third_in_range x y z s a =
-    second_in_range y z s (All-tail (λ p. InRange p.prim) x (y ∷ z ∷ s) a)
+-- a fact that one exchange keeps in lists with room, equivalent lists share
+pub kept_by_swaps : (Fact : List Named → Type 0) → ((s t : List Named) → HasRoom s → Exchanges Swap s t → Fact s → Fact t) → (s t : List Named) → s ~ t → HasRoom s → Fact s → Fact t
+kept_by_swaps Fact kept s t e = (shared Fact kept s t e).to
+
+-- equivalent lists have room together
+pub room_of_equivalent : (s t : List Named) → s ~ t → HasRoom s → HasRoom t
+room_of_equivalent s t e = (shared (λ x. Unit {0}) (λ x y r w f. f) s t e).room

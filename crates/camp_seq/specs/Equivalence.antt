@@ -3,8 +3,8 @@ use Rattle.std.specs.Prelude.{◌≡◌, List, ◌∷◌, ◌++◌}
 use Rattle.camp_prim.specs.Swaps.{Swap}
 use Rattle.camp_prim.specs.declared.named.Named.{Named}
 
--- .. [p] [q] .. <-> .. [q'] [p'] ..
-pub record Exchanges (s t : List Named) : Type 0 where
+-- .. [p] [q] .. becomes .. [q'] [p'] .., where the relation leads from p and q to q' and p'
+pub record Exchanges (Turns : Named → Named → Named → Named → Type 0) (s t : List Named) : Type 0 where
   pub before : List Named
   pub p : Named
   pub q : Named
@@ -12,13 +12,13 @@ pub record Exchanges (s t : List Named) : Type 0 where
   pub p' : Named
   pub after : List Named
   pub was : s ≡ before ++ p ∷ q ∷ after
-  pub swap : Swap p q q' p'
+  pub turns : Turns p q q' p'
   pub becomes : t ≡ before ++ q' ∷ p' ∷ after
 
 -- the least equivalence under one swap of neighbours
 infix 4 ◌~◌
 pub data ◌~◌ : List Named → List Named → Type 0 where
   same : {s : List Named} → s ~ s
-  exchanged : {s t : List Named} → Exchanges s t → s ~ t
+  exchanged : {s t : List Named} → Exchanges Swap s t → s ~ t
   backwards : {s t : List Named} → s ~ t → t ~ s
   through : {s t u : List Named} → s ~ t → t ~ u → s ~ u

@@ -43,6 +43,10 @@ HasNormalOrder = (s : List Named) → (t : List Named) × Norm s t
 abbrev pub MergeCloses : Type 0
 MergeCloses = (a b b' a' : List Named) → CleanMerge a b b' a' → (old left right : Files) → Runs a old left → Runs b old right → (new : Files) × Runs b' left new × Runs a' right new
 
+-- the two orders of a clean merge are equivalent: a b' ~ b a'
+abbrev pub MergeIsEquivalent : Type 0
+MergeIsEquivalent = (a b b' a' : List Named) → CleanMerge a b b' a' → (a ++ b') ~ (b ++ a')
+
 -- a clean merge is symmetric
 abbrev pub MergeIsSymmetric : Type 0
 MergeIsSymmetric = (a b b' a' : List Named) → CleanMerge a b b' a' → CleanMerge b a a' b'

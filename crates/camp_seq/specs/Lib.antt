@@ -1,8 +1,6 @@
 pub mod Equivalence
-pub mod InPlace
-pub mod Insertions
+pub mod Inside
 pub mod Laws
-pub mod LeastLabels
 pub mod Merging
 pub mod NormalOrder
 pub mod Passing

@@ -1,7 +1,7 @@
-ghost use Rattle.std.specs.Prelude.{◌≡◌, ◌↔◌, List, IfOk, IsTrue, MatchOption};
+ghost use Rattle.std.specs.Prelude.{◌≡◌, ◌↔◌, IfOk, IsTrue, MatchOption};
+ghost use Rattle.camp_base.specs.Answers.{Changes, FindsPair};
 ghost use Rattle.camp_prim.specs.Labels.{label_of};
-ghost use Rattle.camp_prim.specs.declared.named.Named.{Named};
-ghost use Rattle.camp_seq.specs.InPlace.{Finds, FrontsIf};
+ghost use Rattle.camp_seq.specs.Inside.InPlace.{FirstWith, FrontsInPlace, Lacks};
 ghost use Rattle.camp_seq.specs.Passing.{Fronts};
 
 use crate::Seq;
@@ -12,9 +12,7 @@ use std::alloc::AllocError;
 /// `Some((y, t))` where `s` is the same as `y` and then `t`: the first primitive of `s` with this
 /// label is swapped to the front, where it is `y`. None where it can't come there, or there is none.
 pub fn front(s: &Seq, label: &Label) -> Result<Option<(Named, Seq)>, AllocError>
-    ensures { IfOk result (λ found. MatchOption found
-        ((y : Named) (t : List Named) → ¬ (Fronts label.now s.now y t))
-        (λ pair. Fronts label.now s.now pair.0 pair.1)) }
+    ensures exact { IfOk result (FindsPair (Fronts label.now s.now)) }
 {
     let mut rest = s.try_clone()?;
     if !bring(&mut rest.items, label) {
@@ -27,7 +25,7 @@ pub fn front(s: &Seq, label: &Label) -> Result<Option<(Named, Seq)>, AllocError>
 /// Swaps the first element with a label to the front. Where it can't come there, or there is none,
 /// the elements are as they were.
 pub(crate) fn bring(items: &mut [Named], label: &Label) -> bool
-    ensures { FrontsIf label.now items.old result items.new }
+    ensures exact { Changes (FrontsInPlace label.now) items.old result items.new }
 {
     let Some(at) = place_of(items, label) else {
         return false;
@@ -42,7 +40,7 @@ pub(crate) fn bring(items: &mut [Named], label: &Label) -> bool
 
 /// The place of the first element with a label.
 fn place_of(items: &[Named], label: &Label) -> Option<usize>
-    ensures { Finds label.now items.now result }
+    ensures { MatchOption result (Lacks label.now items.now) (FirstWith label.now items.now) }
 {
     for (at, p) in items.iter().enumerate() {
         if has_label(p, label) {

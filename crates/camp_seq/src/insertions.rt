@@ -1,5 +1,6 @@
 ghost use Rattle.std.specs.Prelude.{◌+◌, ◌<◌, length};
-ghost use Rattle.camp_seq.specs.Insertions.{ComesUpTo, GoesUpTo, Placed, SwapsAt};
+ghost use Rattle.camp_base.specs.Answers.{Changes};
+ghost use Rattle.camp_seq.specs.Inside.Insertions.{ComesUpTo, GoesUpTo, Placed, SwapsAt};
 ghost use Rattle.camp_seq.specs.NormalOrder.{Norm};
 ghost use Rattle.camp_seq.specs.Room.{HasRoom};
 
@@ -58,7 +59,7 @@ fn take_back(items: &mut [Named])
 /// Swaps the neighbours at a place. Where they can't change places, they are as they were.
 fn swap_at(items: &mut [Named], at: usize) -> bool
     requires { at + 1 < length items.old }
-    ensures { SwapsAt items.old at result items.new }
+    ensures exact { Changes (SwapsAt at) items.old result items.new }
 {
     let (front, back) = items.split_at_mut(at + 1);
     exchange(&mut front[at], &mut back[0])

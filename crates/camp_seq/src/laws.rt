@@ -1,4 +1,4 @@
-ghost use Rattle.camp_seq.specs.Laws.{AreDetermined, AreEquivalent, EquivalentRun, HasNormalOrder, InverseLeadsBack, MergeCloses, MergeIsPassing, MergeIsSymmetric};
+ghost use Rattle.camp_seq.specs.Laws.{AreDetermined, AreEquivalent, EquivalentRun, HasNormalOrder, InverseLeadsBack, MergeCloses, MergeIsEquivalent, MergeIsPassing, MergeIsSymmetric};
 
 /// Equivalent lists lead from the same trees to the same trees.
 pub fn equivalent_lists_run_alike()
@@ -29,6 +29,11 @@ pub fn every_list_has_a_normal_order()
 /// Two lists that merge cleanly lead to one tree in both orders.
 pub fn clean_merge_closes()
     ensures { MergeCloses }
+{}
+
+/// The two orders of a clean merge are equivalent.
+pub fn clean_merge_is_equivalent()
+    ensures { MergeIsEquivalent }
 {}
 
 /// The clean merge of two lists does not depend on which comes first.

@@ -15,9 +15,9 @@ mod splits;
 
 pub use fronts::front;
 pub use laws::{
-    clean_merge_closes, clean_merge_is_passing_the_inverse, clean_merge_is_symmetric,
-    equivalent_lists_run_alike, every_list_has_a_normal_order, inverse_of_a_list_leads_back,
-    lists_of_results_are_equivalent, results_of_lists_are_determined,
+    clean_merge_closes, clean_merge_is_equivalent, clean_merge_is_passing_the_inverse,
+    clean_merge_is_symmetric, equivalent_lists_run_alike, every_list_has_a_normal_order,
+    inverse_of_a_list_leads_back, lists_of_results_are_equivalent, results_of_lists_are_determined,
 };
 pub use merges::{clean_merge, invert_all};
 pub use normal_forms::{normal_order_is_a_normal_form, six_orders_of_three_agree};
@@ -26,6 +26,3 @@ pub use passes::{past, past_all};
 pub use runs::apply_all;
 pub use seqs::Seq;
 pub use splits::split;
-
-#[cfg(test)]
-mod tests;

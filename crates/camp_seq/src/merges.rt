@@ -1,5 +1,5 @@
-ghost use Rattle.std.specs.Prelude.{◌≡◌, List, IfOk, MatchOption};
-ghost use Rattle.camp_prim.specs.declared.named.Named.{Named};
+ghost use Rattle.std.specs.Prelude.{◌≡◌, IfOk};
+ghost use Rattle.camp_base.specs.Answers.{FindsPair};
 ghost use Rattle.camp_seq.specs.Merging.{CleanMerge};
 ghost use Rattle.camp_seq.specs.Running.{inverse_all};
 
@@ -24,9 +24,7 @@ pub fn invert_all(s: &Seq) -> Result<Seq, AllocError>
 /// end where `b` and then `a'` do. Each primitive of `a` is taken back past all of `b`. None where
 /// one can't pass.
 pub fn clean_merge(a: &Seq, b: &Seq) -> Result<Option<(Seq, Seq)>, AllocError>
-    ensures { IfOk result (λ found. MatchOption found
-        ((b' a' : List Named) → ¬ (CleanMerge a.now b.now b' a'))
-        (λ pair. CleanMerge a.now b.now pair.0 pair.1)) }
+    ensures exact { IfOk result (FindsPair (CleanMerge a.now b.now)) }
 {
     let mut back = invert_all(a)?;
     let mut after = b.try_clone()?;

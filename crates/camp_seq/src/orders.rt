@@ -3,7 +3,7 @@ ghost use Rattle.std.specs.Ordering.{is_lt};
 ghost use Rattle.std.specs.declared.cmp.Ordering.TheVariants.{Less};
 ghost use Rattle.camp_prim.specs.declared.named.Named.{Named};
 ghost use Rattle.camp_prim.specs.Labels.{label_cmp, label_of};
-ghost use Rattle.camp_seq.specs.LeastLabels.{is_above, LeastAbove, Settles, StartsAbove};
+ghost use Rattle.camp_seq.specs.Inside.LeastLabels.{is_above, LeastAbove, Settles, StartsAbove};
 ghost use Rattle.camp_seq.specs.Equivalence.{◌~◌};
 ghost use Rattle.camp_seq.specs.NormalOrder.{Norm};
 ghost use Rattle.camp_seq.specs.Room.{HasRoom};

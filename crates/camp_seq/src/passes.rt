@@ -1,6 +1,7 @@
-ghost use Rattle.std.specs.Prelude.{List, IfOk, MatchOption};
-ghost use Rattle.camp_prim.specs.declared.named.Named.{Named};
-ghost use Rattle.camp_seq.specs.InPlace.{PassesAllIf, PassesIf, PassesOne, PrecedesIf};
+ghost use Rattle.std.specs.Prelude.{IfOk};
+ghost use Rattle.std.specs.Bool.{then_some};
+ghost use Rattle.camp_base.specs.Answers.{Changes, FindsPair};
+ghost use Rattle.camp_seq.specs.Inside.InPlace.{PrecedesInPlace, SwapsInPlace};
 ghost use Rattle.camp_seq.specs.Passing.{Passes, PassesAll};
 
 use crate::Seq;
@@ -11,9 +12,7 @@ use std::mem;
 /// `Some((s', p'))` where `p` and then `s` are the same as `s'` and then `p'`: `p` is swapped past
 /// every primitive of `s`. None where it can't pass.
 pub fn past(p: &Named, s: &Seq) -> Result<Option<(Seq, Named)>, AllocError>
-    ensures { IfOk result (λ found. MatchOption found
-        ((s' : List Named) (p' : Named) → ¬ (Passes p.now s.now s' p'))
-        (λ pair. Passes p.now s.now pair.0 pair.1)) }
+    ensures exact { IfOk result (FindsPair (Passes p.now s.now)) }
 {
     let mut before = s.try_clone()?;
     let mut behind = p.try_clone()?;
@@ -26,9 +25,7 @@ pub fn past(p: &Named, s: &Seq) -> Result<Option<(Seq, Named)>, AllocError>
 /// `Some((s', r'))` where `r` and then `s` are the same as `s'` and then `r'`: each primitive of
 /// `r`, from its last to its first, is swapped past all of `s`. None where one can't pass.
 pub fn past_all(r: &Seq, s: &Seq) -> Result<Option<(Seq, Seq)>, AllocError>
-    ensures { IfOk result (λ found. MatchOption found
-        ((s' r' : List Named) → ¬ (PassesAll r.now s.now s' r'))
-        (λ pair. PassesAll r.now s.now pair.0 pair.1)) }
+    ensures exact { IfOk result (FindsPair (PassesAll r.now s.now)) }
 {
     let mut before = s.try_clone()?;
     let mut behind = r.try_clone()?;
@@ -41,13 +38,13 @@ pub fn past_all(r: &Seq, s: &Seq) -> Result<Option<(Seq, Seq)>, AllocError>
 /// Swaps all of `r` past `s`, each list in its place in memory. Where one can't pass, both are left
 /// as they are then.
 pub(crate) fn change_places(r: &mut Seq, s: &mut Seq) -> bool
-    ensures { PassesAllIf r.old s.old result s.new r.new }
+    ensures exact { FindsPair (PassesAll r.old s.old) (then_some result (s.new, r.new)) }
 {
     pass_all(&mut r.items, &mut s.items)
 }
 
 fn pass_all(r: &mut [Named], s: &mut [Named]) -> bool
-    ensures { PassesAllIf r.old s.old result s.new r.new }
+    ensures exact { FindsPair (PassesAll r.old s.old) (then_some result (s.new, r.new)) }
 {
     for at in (0..r.len()).rev() {
         if !pass(&mut r[at], s) {
@@ -60,7 +57,7 @@ fn pass_all(r: &mut [Named], s: &mut [Named]) -> bool
 /// Swaps `p` past all of `s`, which stands behind it. Where it can't pass, both are left as they
 /// are then.
 pub(crate) fn pass(p: &mut Named, s: &mut [Named]) -> bool
-    ensures { PassesIf p.old s.old result s.new p.new }
+    ensures exact { FindsPair (Passes p.old s.old) (then_some result (s.new, p.new)) }
 {
     for q in s.iter_mut() {
         if !pass_one(p, q) {
@@ -73,7 +70,7 @@ pub(crate) fn pass(p: &mut Named, s: &mut [Named]) -> bool
 /// Swaps `p` to before all of `s`, which stands before it. Where it can't come there, both are as
 /// they were.
 pub(crate) fn precede(s: &mut [Named], p: &mut Named) -> bool
-    ensures { PrecedesIf s.old p.old result p.new s.new }
+    ensures exact { Changes PrecedesInPlace (s.old, p.old) result (s.new, p.new) }
 {
     for at in (0..s.len()).rev() {
         if !pass_one(&mut s[at], p) {
@@ -86,7 +83,7 @@ pub(crate) fn precede(s: &mut [Named], p: &mut Named) -> bool
 
 /// Swaps `p` and the `q` behind it, where each stays in its place in memory.
 fn pass_one(p: &mut Named, q: &mut Named) -> bool
-    ensures { PassesOne p.old q.old result q.new p.new }
+    ensures exact { Changes SwapsInPlace (p.old, q.old) result (p.new, q.new) }
 {
     if !exchange(p, q) {
         return false;

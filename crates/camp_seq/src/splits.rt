@@ -1,7 +1,8 @@
-ghost use Rattle.std.specs.Prelude.{◌≡◌, ◌<◌, ◌↔◌, List, length, Contains, IfOk, IsTrue, MatchOption};
+ghost use Rattle.std.specs.Prelude.{◌<◌, ◌↔◌, length, option_map, Contains, IfOk, IsTrue};
+ghost use Rattle.std.specs.Bool.{then_some};
+ghost use Rattle.camp_base.specs.Answers.{Finds, FindsPair};
 ghost use Rattle.camp_prim.specs.Labels.{label_of};
-ghost use Rattle.camp_prim.specs.declared.named.Named.{Named};
-ghost use Rattle.camp_seq.specs.InPlace.{PartsIf, TurnsIf};
+ghost use Rattle.camp_seq.specs.Inside.InPlace.{FirstPasses, PartsInPlace};
 ghost use Rattle.camp_seq.specs.NormalOrder.{Splits};
 
 use crate::Seq;
@@ -15,9 +16,7 @@ use std::alloc::AllocError;
 /// labels, swapped to before the others, and `t` the others, both in normal order. None where one
 /// can't come there.
 pub fn split(s: &Seq, labels: &[Label]) -> Result<Option<(Seq, Seq)>, AllocError>
-    ensures { IfOk result (λ found. MatchOption found
-        ((f t : List Named) → ¬ (Splits labels.now s.now f t))
-        (λ pair. Splits labels.now s.now pair.0 pair.1)) }
+    ensures exact { IfOk result (FindsPair (Splits labels.now s.now)) }
 {
     let mut named = s.try_clone()?;
     let Some(count) = gather(&mut named.items, labels) else {
@@ -34,7 +33,8 @@ pub fn split(s: &Seq, labels: &[Label]) -> Result<Option<(Seq, Seq)>, AllocError
 /// Swaps the elements with these labels to the front, in their order, and answers how many they
 /// are. None where an element before one of them stops it; the list is then left as it is.
 fn gather(items: &mut [Named], labels: &[Label]) -> Option<usize>
-    ensures { PartsIf labels.now items.old result items.new }
+    ensures exact { FindsPair (PartsInPlace labels.now items.old)
+        (option_map (λ count. (count, items.new)) result) }
 {
     let mut count = 0;
     for at in (0..items.len()).rev() {
@@ -50,7 +50,7 @@ fn gather(items: &mut [Named], labels: &[Label]) -> Option<usize>
 /// Swaps the first element past the others. Where it can't pass, they are left as they are then.
 fn pass_first(items: &mut [Named]) -> bool
     requires { 0 < length items.old }
-    ensures { TurnsIf items.old result items.new }
+    ensures exact { Finds (FirstPasses items.old) (then_some result items.new) }
 {
     let (first, rest) = items.split_at_mut(1);
     if !pass(&mut first[0], rest) {

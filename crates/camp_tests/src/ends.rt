@@ -184,7 +184,10 @@ fn a_front_is_written_where_a_write_fails(rt: HostRuntime) -> Result<(), Fail> {
             interruptions,
             ..ample(size)
         };
-        assert_eq!(rt; assert_written(&rt, alloc, service, Ok(()), ANSWERS), writes);
+        assert_eq!(rt;
+            assert_written(&rt, alloc, service, Ok(()), ANSWERS),
+            writes
+        );
         for served in 0..writes {
             let front = ANSWERS
                 .get(..served.saturating_mul(size))

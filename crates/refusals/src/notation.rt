@@ -39,8 +39,9 @@ fn write_tree(alloc: Global) -> Result<(), Stop> {
 }
 
 fn write_patch(alloc: Global, p: &Named) -> Result<(), Stop> {
-    expect(label_text(alloc, p)?.as_str() == "p", "label_text")?;
-    expect(read_label(b"p.2^").is_ok(), "read_label")?;
+    expect(label_text(alloc, p.label())?.as_str() == "p", "label_text")?;
+    let label = read_label(alloc, b"p")?;
+    expect(label == p.label(), "read_label")?;
     let text = named_text(alloc, &[], p)?;
     expect(
         text.as_str() == "p f 1 [x] -> [\"two words\"]",

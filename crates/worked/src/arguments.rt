@@ -4,8 +4,8 @@ use crate::tables::Table;
 use anyhow::{Result, bail};
 use camp_base::{Line, Path, Tree};
 use camp_notation::{read_label, read_lines, read_list, read_named, read_tree, read_word};
-use camp_prim::Named;
-use camp_seq::{Label, Seq};
+use camp_prim::{Label, Named};
+use camp_seq::Seq;
 use std::alloc::{AllocError, Global};
 use std::str;
 
@@ -76,7 +76,7 @@ impl<'a> Arguments<'a> {
     }
 
     pub(crate) fn label(&self, at: usize) -> Result<Label> {
-        Ok(read_label(self.text(at)?)?)
+        Ok(read_label(self.alloc, self.text(at)?)?)
     }
 
     fn text(&self, at: usize) -> Result<&'a [u8]> {

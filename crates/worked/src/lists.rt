@@ -19,8 +19,7 @@ pub(crate) fn passed_all(a: &Arguments) -> Result<String> {
 }
 
 pub(crate) fn fronted(a: &Arguments) -> Result<String> {
-    let (name, place, inverse) = a.label(1)?;
-    match front(&a.list(0)?, &name, place, inverse)? {
+    match front(&a.list(0)?, &a.label(1)?)? {
         Some((first, rest)) => {
             let first = results::named(a, &first)?;
             let rest = results::list(a, &rest)?;

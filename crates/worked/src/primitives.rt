@@ -2,7 +2,7 @@ use crate::arguments::Arguments;
 use crate::results;
 use anyhow::Result;
 use camp_notation::{lines_text, word_text};
-use camp_prim::{Hunk, Named, Primitive, commute, compare_labels, exchange};
+use camp_prim::{Hunk, Named, Primitive, commute, exchange};
 
 pub(crate) fn hunk(a: &Arguments) -> Result<String> {
     let (path, line) = (a.path(0)?, a.number(1)?);
@@ -35,7 +35,7 @@ pub(crate) fn are_same(a: &Arguments) -> Result<String> {
 
 pub(crate) fn compare(a: &Arguments) -> Result<String> {
     let (left, right) = (a.named(0)?, a.named(1)?);
-    results::order(a, compare_labels(&left, &right))
+    results::order(a, left.label().cmp(&right.label()))
 }
 
 pub(crate) fn apply(a: &Arguments) -> Result<String> {

@@ -2,13 +2,14 @@
 use Rattle.std.specs.Prelude.{◌≡◌, ℕ, ◌==◌, List, [], ◌∷◌, ◌++◌, map, take, drop, All, MatchBool, ◌≤◌}
 use Rattle.camp_row.specs.declared.entries.Entry.{Entry}
 use Rattle.camp_row.specs.declared.knowledge.Knowledge.{Knowledge}
-use Rattle.camp_row.specs.Chains.{IsShorter, cell_of, head_word}
+use Rattle.camp_row.specs.Chains.{IsFront, IsShorter, cell_of, head_word}
 use Rattle.camp_row.specs.Inside.Parts.{Part, part_of, parts_of, finds, IsSoundPart}
 use Rattle.camp_row.specs.Inside.Rule.{parent_word, place_word}
 
--- the chain was found: its last cell is the one that the head names, and a part stays sound
+-- the chain was found: its last cell is the one that the head names, it has only grown, and a part stays sound
 pub record Sees (found : ℕ) (chain : List Entry) (part : Part) : Type 0 where
   pub named : found ≡ head_word part.seats chain
+  pub grows : IsFront part.ahead chain
   pub sound : IsSoundPart (finds chain part)
 
 -- a load of the head: what is ahead of each part becomes the chain. No two parts are of one seat
@@ -46,9 +47,14 @@ StoredPlace stored old new = new ≡ (record (part_of old) { place = stored }) �
 abbrev pub drafted_part : Part → Entry
 drafted_part part = record { seat = part.number; place = part.place }
 
--- the drafted cell is the last of the chain, which was what the part had seen
+-- the part when the drafted cell has become the last of the chain
 abbrev pub won_part : Part → Part
 won_part part = record part { seen = part.seen ++ drafted_part part ∷ []; ahead = part.seen ++ drafted_part part ∷ []; parent = 0; place = 0 }
+
+-- the chain was just what the part had seen
+pub record WonPart (part : Part) (new : List Part) : Type 0 where
+  pub whole : part.ahead ≡ part.seen
+  pub is : new ≡ won_part part ∷ []
 
 -- the chain was longer than what the part had seen, and was found
 pub record LostPart (found : ℕ) (part : Part) (new : List Part) : Type 0 where
@@ -59,7 +65,7 @@ pub record LostPart (found : ℕ) (part : Part) (new : List Part) : Type 0 where
 
 -- a compare_exchange of the head, from the last cell that was seen to the seat's next cell
 abbrev pub Tried : ℕ → ℕ → List Part → List Part → Type 0
-Tried expected found old new = MatchBool (found == expected) (new ≡ won_part (part_of old) ∷ []) (LostPart found (part_of old) new)
+Tried expected found old new = MatchBool (found == expected) (WonPart (part_of old) new) (LostPart found (part_of old) new)
 
 -- a split: the first part goes to a new seat, the others stay
 abbrev pub first_apart : Knowledge → Knowledge

@@ -1,4 +1,4 @@
-use Rattle.camp_seq.specs.Insertions.{Comes}
+use Rattle.camp_seq.specs.Inside.Insertions.{Comes}
 use Rattle.camp_seq.proofs.insertions.bring_forward.Given as goal
 
 abbrev pub invariant-loop-at : goal.invariant-loop-at

@@ -2,7 +2,7 @@ use Rattle.std.proofs.Common.{◌≡◌, ◌+◌, List, length, subst, ◌∙◌
 use Rattle.std.proofs.lemmas.List.{length-take-le, take_all}
 use Rattle.camp_prim.specs.declared.named.Named.{Named}
 use Rattle.camp_seq.specs.Equivalence.{same}
-use Rattle.camp_seq.specs.Insertions.{InOrder}
+use Rattle.camp_seq.specs.Inside.Insertions.{InOrder}
 use Rattle.camp_seq.proofs.InsertionSteps.{norm_of_equivalent}
 use Rattle.camp_seq.proofs.PlacingSteps.{placed_more}
 use Rattle.camp_seq.proofs.insertions.order_by_insertion.Goals as goal

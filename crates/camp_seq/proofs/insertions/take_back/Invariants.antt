@@ -1,4 +1,4 @@
-use Rattle.camp_seq.specs.Insertions.{Goes}
+use Rattle.camp_seq.specs.Inside.Insertions.{Goes}
 use Rattle.camp_seq.proofs.insertions.take_back.Given as goal
 
 abbrev pub invariant-loop-at : goal.invariant-loop-at

@@ -2,7 +2,7 @@ use Rattle.std.proofs.Common.{◌≡◌, ◌+◌, true, false, IsTrue, List, tak
 use Rattle.std.proofs.lemmas.List.{take_all}
 use Rattle.camp_prim.specs.Labels.{label_of}
 use Rattle.camp_prim.specs.declared.named.Named.{Named}
-use Rattle.camp_seq.specs.LeastLabels.{is_above, Holds, NoneLess}
+use Rattle.camp_seq.specs.Inside.LeastLabels.{is_above, HasLabel, NoneLess}
 use Rattle.camp_seq.proofs.LabelSteps.{holds_at, none_less_of, none_less_still}
 use Rattle.camp_seq.proofs.orders.least_above.Goals as goal
 use Rattle.camp_seq.proofs.orders.least_above.Goals.{then-comes_before, else-comes_before}
@@ -20,13 +20,13 @@ loop-p-preserved c =
           let before = w.if-comes_before.ensures.0 refl in
           record {
             above = subst (λ x. IsTrue (is_above tried x)) (sym w.least-is) before.0;
-            held = subst (λ x. Holds x s) (sym w.least-is) (subst (λ x. Holds x s) (sym at) (holds_at s i d (omega arith)));
+            held = subst (λ x. HasLabel x s) (sym w.least-is) (subst (λ x. HasLabel x s) (sym at) (holds_at s i d (omega arith)));
             least = subst (λ x. NoneLess tried x (take (i + 1) s)) (sym w.least-is) (none_less_of tried s i d label c.loop-p.least (omega arith) at before.1 c.loop-p.invariant.least);
           }
       | else-comes_before w ↦
           record {
             above = subst (λ x. IsTrue (is_above tried x)) (sym w.least-is) c.loop-p.invariant.above;
-            held = subst (λ x. Holds x s) (sym w.least-is) c.loop-p.invariant.held;
+            held = subst (λ x. HasLabel x s) (sym w.least-is) c.loop-p.invariant.held;
             least = subst (λ x. NoneLess tried x (take (i + 1) s)) (sym w.least-is) (none_less_still tried s i d label c.loop-p.least (omega arith) at (λ both. let e : false ≡ true = w.if-comes_before.ensures.1 both in cc) c.loop-p.invariant.least);
           }
     ]

@@ -1,5 +1,5 @@
-use Rattle.std.proofs.Common.{◌<◌, Some, sym, ◌∙◌, subst, arith}
-use Rattle.camp_seq.specs.LeastLabels.{Settles, untried}
+use Rattle.std.proofs.Common.{◌<◌, ◌∷◌, Some, refl, sym, ◌∙◌, subst, arith}
+use Rattle.camp_seq.specs.Inside.LeastLabels.{Settles, untried}
 use Rattle.camp_seq.specs.Passing.{Fronts}
 use Rattle.camp_seq.proofs.LabelSteps.{starts_above, settles_from, above_least, untried_less}
 use Rattle.camp_seq.proofs.orders.settle.Goals as goal
@@ -9,7 +9,7 @@ least_above-label-requires c = starts_above c.loop-label.tried c.loop-label.item
 
 pub returns-then-bring : goal.returns-then-bring
 returns-then-bring c =
-    let f = c.if-bring.ensures in
+    let f = c.if-bring.ensures.exact in
     subst (λ x. Settles x c.bring.new.items) c.loop-label.invariant.as_was (settles_from c.loop-label.tried c.least_above-label.result c.loop-label.items f.0 f.1 c.bring.new.items c.least_above-label.ensures c.loop-label.invariant.above f.2 f.3)
 
 pub loop-label-smaller : goal.loop-label-smaller
@@ -17,14 +17,14 @@ loop-label-smaller c =
     let tried = c.loop-label.tried in
     let label = c.least_above-label.result in
     let least = c.least_above-label.ensures in
-    subst (λ x. untried (Some label) x < untried tried c.loop-label.items) (sym c.if-bring.ensures.1) (untried_less tried label c.loop-label.items least.above least.held)
+    subst (λ x. untried (Some label) x < untried tried c.loop-label.items) (sym c.if-bring.ensures.exact.1) (untried_less tried label c.loop-label.items least.above least.held)
 
 pub loop-label-preserved : goal.loop-label-preserved
 loop-label-preserved c =
-    let f = c.if-bring.ensures in
+    let f = c.if-bring.ensures.exact in
     record {
       as_was = f.1 ∙ c.loop-label.invariant.as_was;
       above = λ other y t w.
           let front = subst (λ x. Fronts other x y t) f.1 w in
-          above_least c.loop-label.tried c.least_above-label.result c.loop-label.items c.least_above-label.ensures f.0 other y t front (c.loop-label.invariant.above other y t front);
+          above_least c.loop-label.tried c.least_above-label.result c.loop-label.items c.least_above-label.ensures (λ z u g. f.0 (z ∷ u) (z, u, g, refl)) other y t front (c.loop-label.invariant.above other y t front);
     }

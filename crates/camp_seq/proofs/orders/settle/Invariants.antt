@@ -1,7 +1,7 @@
 use Rattle.std.proofs.Common.{◌≡◌, List, IsTrue}
 use Rattle.camp_prim.specs.declared.labels.Label.{Label}
 use Rattle.camp_prim.specs.declared.named.Named.{Named}
-use Rattle.camp_seq.specs.LeastLabels.{is_above, untried}
+use Rattle.camp_seq.specs.Inside.LeastLabels.{is_above, untried}
 use Rattle.camp_seq.specs.Passing.{Fronts}
 use Rattle.camp_seq.proofs.orders.settle.Given as goal
 

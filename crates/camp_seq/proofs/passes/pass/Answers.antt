@@ -10,7 +10,9 @@ pub returns-then-not-pass_one : goal.returns-then-not-pass_one
 returns-then-not-pass_one c =
     let s0 : List Named = c.args.s.now in
     let next = at_next s0 c.loop-q.s c.loop-q.q-index c.q-item.result (omega arith) (omega arith) c.loop-q.invariant.waiting in
-    λ t z m. passes_stop _ _ _ _ _ _ _ _ c.loop-q.invariant.passed c.if-not-pass_one.ensures.0 (subst (λ x. Passes c.args.p.now x t z) (whole s0 c.loop-q.q-index _ next) m)
+    record {
+      exact = λ any m. passes_stop _ _ _ _ _ _ _ _ c.loop-q.invariant.passed (λ x y. c.if-not-pass_one.ensures.exact.0 (y, x)) (subst (λ x. Passes c.args.p.now x any.0 any.1) (whole s0 c.loop-q.q-index _ next) m);
+    }
 
 pub loop-q-preserved : goal.loop-q-preserved
 loop-q-preserved c =
@@ -18,7 +20,7 @@ loop-q-preserved c =
     let s : List Named = c.loop-q.s in
     let i = c.loop-q.q-index in
     let next = at_next s0 s i c.q-item.result (omega arith) (omega arith) c.loop-q.invariant.waiting in
-    let more = passes_push _ _ _ _ _ _ _ c.loop-q.invariant.passed c.if-not-pass_one.ensures in
+    let more = passes_push _ _ _ _ _ _ _ c.loop-q.invariant.passed c.if-not-pass_one.ensures.exact in
     record {
       passed = rw (take_next s0 i _ (omega arith) next, take_more_set s i c.pass_one.new.q (omega arith)) more;
       waiting = drop_next s0 s i c.q-item.result c.pass_one.new.q (omega arith) (omega arith) c.loop-q.invariant.waiting;

@@ -20,7 +20,9 @@ returns-then-not-pass c =
     let waiting = subst (λ n. take n r ≡ take n r0) e c.loop-at.invariant.waiting in
     let passed = subst (λ n. PassesAll (drop n r0) c.args.s.now c.loop-at.s (drop n r)) e c.loop-at.invariant.passed in
     let next = at_last r0 r i c.index-r-at.result (omega arith) waiting in
-    λ t z m. all_stop _ _ _ _ _ _ _ _ passed c.if-not-pass.ensures (subst (λ x. PassesAll x c.args.s.now t z) (whole r0 i _ next) m)
+    record {
+      exact = λ any m. all_stop _ _ _ _ _ _ _ _ passed (λ x y. c.if-not-pass.ensures.exact (x, y)) (subst (λ x. PassesAll x c.args.s.now any.0 any.1) (whole r0 i _ next) m);
+    }
 
 pub loop-at-preserved : goal.loop-at-preserved
 loop-at-preserved c =
@@ -32,11 +34,11 @@ loop-at-preserved c =
     let passed = subst (λ n. PassesAll (drop n r0) c.args.s.now c.loop-at.s (drop n r)) e c.loop-at.invariant.passed in
     let next = at_last r0 r i c.index-r-at.result (omega arith) waiting in
     record {
-      passed = rw (next, drop-set r i c.pass.new.p (omega arith)) (c.loop-at.s, c.pass.new.p, drop (i + 1) r, passed, c.if-not-pass.ensures, refl);
+      passed = rw (next, drop-set r i c.pass.new.p (omega arith)) (c.loop-at.s, c.pass.new.p, drop (i + 1) r, passed, c.if-not-pass.ensures.exact, refl);
       waiting = take_last r0 r i c.pass.new.p waiting;
     }
 
 pub returns : goal.returns
 returns c =
     let e : c.loop-at.at ≡ 0 = omega arith in
-    subst (λ n. PassesAll (drop n c.args.r.now) c.args.s.now c.loop-at.s (drop n c.loop-at.r)) e c.loop-at.invariant.passed
+    record { exact = subst (λ n. PassesAll (drop n c.args.r.now) c.args.s.now c.loop-at.s (drop n c.loop-at.r)) e c.loop-at.invariant.passed }

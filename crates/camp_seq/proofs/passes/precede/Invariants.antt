@@ -1,5 +1,5 @@
 use Rattle.std.proofs.Common.{◌≡◌, take, drop}
-use Rattle.camp_seq.specs.InPlace.{Precedes}
+use Rattle.camp_seq.specs.Inside.InPlace.{Precedes}
 use Rattle.camp_seq.proofs.passes.precede.Given as goal
 
 abbrev pub invariant-loop-at : goal.invariant-loop-at

@@ -6,7 +6,7 @@ use borrow.Author.Tests.{leb-true}
 use Rattle.camp_prim.specs.Effect.{InRange}
 use Rattle.camp_prim.specs.declared.named.Named.{Named}
 use Rattle.camp_seq.specs.Shapes.{reach_of}
-use Rattle.camp_seq.proofs.ShapeRooms.{room_within, reach_at_end}
+use Rattle.camp_seq.proofs.Reaching.{room_within, reach_at_end}
 use Rattle.camp_seq.proofs.rooms.surely_has_room.Goals as goal
 
 pub returns-clause-room : goal.returns-clause-room

@@ -1,6 +1,6 @@
 use Rattle.std.proofs.Common.{◌≡◌, ◌+◌, ◌-◌, List, false, true, refl, subst, arith}
 use Rattle.camp_prim.specs.declared.named.Named.{Named}
-use Rattle.camp_seq.specs.InPlace.{PartsFrom}
+use Rattle.camp_seq.specs.Inside.InPlace.{PartsFrom}
 use Rattle.camp_seq.proofs.GatherSteps.{parts_named, parts_other, parts_stop}
 use Rattle.camp_seq.proofs.splits.gather.Goals as goal
 
@@ -23,7 +23,7 @@ returns-then-not-pass_first c =
     let i = c.loop-at.at - 1 in
     let e : c.loop-at.at ≡ i + 1 = omega arith in
     let w = subst (λ n. PartsFrom labels s0 n c.loop-at.count s) e c.loop-at.invariant.parts in
-    parts_stop labels s0 s _ i c.loop-at.count _ c.index-items-at.result (omega arith) (omega arith) (omega arith) w (λ named. let never : false ≡ true = c.if-is_named.ensures.1 named in cc) refl c.if-not-pass_first.ensures
+    record { exact = λ any m. parts_stop labels s0 s _ i c.loop-at.count _ c.index-items-at.result (omega arith) (omega arith) (omega arith) w (λ named. let never : false ≡ true = c.if-is_named.ensures.1 named in cc) refl c.if-not-pass_first.ensures.exact m.0 m.1 m.2 }
 
 pub loop-at-preserved : goal.loop-at-preserved
 loop-at-preserved c =
@@ -34,6 +34,6 @@ loop-at-preserved c =
     let e : c.loop-at.at ≡ i + 1 = omega arith in
     let w = subst (λ n. PartsFrom labels s0 n c.loop-at.count s) e c.loop-at.invariant.parts in
     record {
-      parts = parts_other labels s0 s _ c.pass_first.new.items i c.loop-at.count _ c.index-items-at.result (omega arith) (omega arith) (omega arith) w (λ named. let never : false ≡ true = c.if-is_named.ensures.1 named in cc) refl c.if-not-pass_first.ensures;
+      parts = parts_other labels s0 s _ c.pass_first.new.items i c.loop-at.count _ c.index-items-at.result (omega arith) (omega arith) (omega arith) w (λ named. let never : false ≡ true = c.if-is_named.ensures.1 named in cc) refl c.if-not-pass_first.ensures.exact;
       bound = omega arith;
     }

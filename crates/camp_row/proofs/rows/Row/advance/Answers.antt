@@ -8,8 +8,8 @@ use Rattle.camp_row.specs.Inside.Rule.{place_word}
 use Rattle.camp_row.specs.Inside.Steps.{Advanced}
 use Rattle.camp_row.proofs.Fronts.{next_is, cut_pushed}
 use Rattle.camp_row.proofs.Cells.{own_of_next, head_word-push}
-use Rattle.camp_row.proofs.Ruling.{allows}
-use Rattle.camp_row.proofs.Stepping.{advances}
+use Rattle.camp_row.proofs.Ruling.{allows_one}
+use Rattle.camp_row.proofs.Loading.{advances}
 use Rattle.camp_row.proofs.PassOfRow.{is_of, next_of, at_part, known_at, few_cells}
 use Rattle.camp_row.proofs.rows.Row.advance.Goals as goal
 
@@ -35,8 +35,8 @@ load-requires c =
     let words = c.self.invariant.words in (
       of.table,
       omega arith,
-      allows shared.key.seats shared.key.per_seat shared.table_id.slots seat.id seat.me word (λ n. n) (λ found w. Advanced found seat.me.0.parts w.parts)
-          (advances shared.key.seats shared.key.per_seat seat.id seat.me.0 c.pass.invariant.alone word n.shorter cell_is),
+      allows_one shared.key.seats shared.key.per_seat shared.table_id.slots seat.id seat.me word (λ n. n) Advanced (part c.pass.inside) c.pass.invariant.alone
+          (advances shared.key.seats shared.key.per_seat seat.id (part c.pass.inside) word n.shorter cell_is),
     )
 
 pub invariant_of-pass : goal.invariant_of-pass

@@ -1,11 +1,11 @@
-use Rattle.std.proofs.Common.{arith, ◌≡◌, ◌∷◌, [], subst, sym, ap, ◌∙◌}
-use Rattle.camp_row.specs.Inside.Parts.{Part, part_of}
+use Rattle.std.proofs.Common.{arith, ◌≡◌, ◌∷◌, [], ap, ◌∙◌}
+use Rattle.camp_row.specs.Inside.Parts.{Part}
 use Rattle.camp_row.specs.Inside.PassFields.{part}
 use Rattle.camp_row.specs.Inside.Rule.{parent_word, place_word}
 use Rattle.camp_row.specs.Inside.Steps.{StoredParent, StoredPlace}
-use Rattle.camp_row.proofs.Ruling.{allows}
-use Rattle.camp_row.proofs.Stepping.{drafts_parent, drafts_place}
-use Rattle.camp_row.proofs.PassOfRow.{is_of, row_words, own_at, room_at, next_cell, HasRoom, alone_at}
+use Rattle.camp_row.proofs.Ruling.{allows_one}
+use Rattle.camp_row.proofs.Drafting.{drafts_parent, drafts_place}
+use Rattle.camp_row.proofs.PassOfRow.{is_of, row_words, own_at, room_at}
 use Rattle.camp_row.proofs.rows.Row.draft.Goals as goal
 
 pub store-requires : goal.store-requires
@@ -21,8 +21,8 @@ store-requires c =
     let word_is : word ≡ parent_word c.own_cell-cell.result = c.parent_word.ensures in (
       of.table,
       omega arith,
-      allows shared.key.seats shared.key.per_seat shared.table_id.slots seat.id seat.me word (λ _. c.pass.inside.last) (λ _ w. StoredParent c.pass.inside.last seat.me.0.parts w.parts)
-          (drafts_parent shared.key.seats shared.key.per_seat seat.id seat.me.0 c.pass.invariant.alone word c.pass.inside.last room (word_is ∙ ap parent_word own)),
+      allows_one shared.key.seats shared.key.per_seat shared.table_id.slots seat.id seat.me word (λ _. c.pass.inside.last) (λ _. StoredParent c.pass.inside.last) (part c.pass.inside) c.pass.invariant.alone
+          (drafts_parent shared.key.seats shared.key.per_seat seat.id (part c.pass.inside) room word c.pass.inside.last (word_is ∙ ap parent_word own)),
     )
 
 pub store-requires-2 : goal.store-requires-2
@@ -34,13 +34,12 @@ store-requires-2 c =
     let seat = c.store.new.seat in
     let q : Part = record (part c.pass.inside) { parent = c.pass.inside.last } in
     let stored : seat.me.0.parts ≡ q ∷ [] = c.store.ensures.2.1 in
-    let q_is : part_of seat.me.0.parts ≡ q = ap part_of stored in
     let word = c.place_word.result in
     let in_row = c.own_cell-cell.ensures.in_row in
     let words = row_words c.self.inside c.args.self.now c.self.invariant c.self.view_is in
     let word_is : word ≡ place_word c.own_cell-cell.result = c.place_word.ensures in (
       c.store.ensures.0 ∙ of.table,
       omega arith,
-      allows shared.key.seats shared.key.per_seat shared.table_id.slots seat.id seat.me word (λ _. c.args.place) (λ _ w. StoredPlace c.args.place seat.me.0.parts w.parts)
-          (drafts_place shared.key.seats shared.key.per_seat seat.id seat.me.0 (alone_at seat.me.0.parts q stored) word c.args.place (subst HasRoom (sym q_is) room) (word_is ∙ (ap place_word own ∙ ap (λ (x : Part). place_word (next_cell x)) (sym q_is)))),
+      allows_one shared.key.seats shared.key.per_seat shared.table_id.slots seat.id seat.me word (λ _. c.args.place) (λ _. StoredPlace c.args.place) q stored
+          (drafts_place shared.key.seats shared.key.per_seat seat.id q room word c.args.place (word_is ∙ ap place_word own)),
     )

@@ -1,7 +1,7 @@
 use Rattle.std.proofs.Common.{arith, ◌<◌}
 use Rattle.camp_row.specs.Inside.Steps.{Looked}
 use Rattle.camp_row.proofs.Ruling.{allows}
-use Rattle.camp_row.proofs.Stepping.{looks}
+use Rattle.camp_row.proofs.Loading.{looks}
 use Rattle.camp_row.proofs.PassOfRow.{is_of}
 use Rattle.camp_row.proofs.rows.Row.look.Goals as goal
 

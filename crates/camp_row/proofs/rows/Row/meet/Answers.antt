@@ -1,11 +1,13 @@
-use Rattle.std.proofs.Common.{arith, ◌≡◌, ◌<◌, ◌∷◌, [], ◌++◌, sym, ap, ◌∙◌, take, drop}
-use Rattle.camp_row.specs.Known.{Known}
+use Rattle.std.proofs.Common.{subst, arith, ◌≡◌, ◌<◌, ◌∷◌, [], ◌++◌, sym, ap, ◌∙◌, take, drop}
+use Rattle.camp_row.specs.Chains.{IsFront}
+use Rattle.camp_row.specs.Known.{Known, Finds}
+use Rattle.camp_row.specs.Inside.Parts.{part_of, known_of}
 use Rattle.camp_row.specs.Inside.PassFields.{part}
 use Rattle.camp_row.specs.Inside.Steps.{Looked}
 use Rattle.camp_row.proofs.Ruling.{allows}
-use Rattle.camp_row.proofs.Stepping.{looks}
+use Rattle.camp_row.proofs.Loading.{looks}
 use Rattle.camp_row.proofs.Dealing.{splits, joins}
-use Rattle.camp_row.proofs.Meeting.{met, found_pass, sound_known}
+use Rattle.camp_row.proofs.Meeting.{met, found_pass, finds_known, one_begins}
 use Rattle.camp_row.proofs.PassOfRow.{is_of, row_words}
 use Rattle.camp_row.proofs.rows.Row.meet.Goals as goal
 
@@ -67,8 +69,24 @@ invariant_of-result c =
     (ap (λ s. s.1) split.4)
     m.b_sees c.b.invariant
 
-pub returns-clause-sound : goal.returns-clause-sound
-returns-clause-sound c = (sound_known _ (invariant_of-a c), sound_known _ (invariant_of-result c))
+pub returns-clause-b : goal.returns-clause-b
+returns-clause-b c =
+    let of_a = is_of c.a.inside c.self.inside c.args.a.now c.args.self.now c.a.view_is c.self.view_is c.requires.0 in
+    let of_b = is_of c.b.inside c.self.inside c.args.b c.args.self.now c.b.view_is c.self.view_is c.requires.1 in
+    let both : c.join_seat.new.seat.me.0.parts ≡ part c.b.inside ∷ part c.a.inside ∷ [] = ap (λ m. m.0.parts) c.join_seat.ensures.2 ∙ (λ k. c.b.invariant.alone k ++ c.a.invariant.alone k) in
+    let m = met c.load-head.result (part c.b.inside) (part c.a.inside) c.join_seat.new.seat.me.0.parts c.load-head.new.seat.me.0.parts both c.load-head.ensures.2.1 in
+    let split = c.split_seat-seat.ensures in
+    let table : c.split_seat-seat.result.table_id ≡ c.b.inside.seat.table_id = split.3 ∙ (c.load-head.ensures.0 ∙ (c.join_seat.ensures.0 ∙ (of_a.table ∙ sym of_b.table))) in
+    subst (λ k. Finds k (known_of c.split_seat-seat.result.table_id (part_of c.split_seat-seat.result.me.0.parts))) c.b.view_is
+    (finds_known c.b.inside c.split_seat-seat.result c.load-head.result m.chain table (ap (λ s. s.0.parts) split.4 ∙ ap (take 1) m.is) m.b_sees)
+
+pub returns-clause-one_begins : goal.returns-clause-one_begins
+returns-clause-one_begins c =
+    let both : c.join_seat.new.seat.me.0.parts ≡ part c.b.inside ∷ part c.a.inside ∷ [] = ap (λ m. m.0.parts) c.join_seat.ensures.2 ∙ (λ k. c.b.invariant.alone k ++ c.a.invariant.alone k) in
+    let m = met c.load-head.result (part c.b.inside) (part c.a.inside) c.join_seat.new.seat.me.0.parts c.load-head.new.seat.me.0.parts both c.load-head.ensures.2.1 in
+    one_begins c.args.a.now c.args.b m.chain
+    (subst (λ (k : Known). IsFront k.seen m.chain) c.a.view_is m.a_sees.sound.front)
+    (subst (λ (k : Known). IsFront k.seen m.chain) c.b.view_is m.b_sees.sound.front)
 
 pub returns-clause-apart : goal.returns-clause-apart
 returns-clause-apart c =

@@ -6,8 +6,8 @@ use Rattle.camp_row.specs.Known.{ComesNext, Leads, cells_back}
 use Rattle.camp_row.specs.Inside.Rule.{place_word}
 use Rattle.camp_row.specs.Inside.Steps.{Walked}
 use Rattle.camp_row.specs.Inside.PassFields.{part}
-use Rattle.camp_row.proofs.Ruling.{allows}
-use Rattle.camp_row.proofs.Stepping.{walks}
+use Rattle.camp_row.proofs.Ruling.{allows_one}
+use Rattle.camp_row.proofs.Loading.{walks}
 use Rattle.camp_row.proofs.PassOfRow.{is_of, few_cells}
 use Rattle.camp_row.proofs.TrailSteps.{trail_none, on_top, comes_next, leads_on}
 use Rattle.camp_row.proofs.rows.Row.next.Goals as goal
@@ -44,8 +44,7 @@ load-place-requires c =
     let words = c.self.invariant.words in (
       of.table,
       omega arith,
-      allows shared.key.seats shared.key.per_seat shared.table_id.slots seat.id seat.me word (λ n. n) (λ found w. Walked word found seat.me.0.parts w.parts)
-          (walks shared.key.seats shared.key.per_seat seat.id seat.me.0 c.pass.invariant.alone word),
+      allows_one shared.key.seats shared.key.per_seat shared.table_id.slots seat.id seat.me word (λ n. n) (Walked word) (part c.pass.inside) c.pass.invariant.alone (walks shared.key.seats shared.key.per_seat seat.id (part c.pass.inside) word),
     )
 
 pub returns-clause-next : goal.returns-clause-next

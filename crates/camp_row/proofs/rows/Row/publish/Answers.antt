@@ -6,11 +6,11 @@ use Rattle.camp_row.specs.Chains.{head_word}
 use Rattle.camp_row.specs.Known.{IsDrafted}
 use Rattle.camp_row.specs.Inside.Parts.{Part}
 use Rattle.camp_row.specs.Inside.PassFields.{part}
-use Rattle.camp_row.specs.Inside.Steps.{drafted_part, won_part, LostPart, Tried}
+use Rattle.camp_row.specs.Inside.Steps.{drafted_part, won_part, WonPart, LostPart, Tried}
 use Rattle.camp_row.proofs.Fronts.{front_refl}
 use Rattle.camp_row.proofs.Cells.{head_word-push, turns_push, fits_push, fits_front}
-use Rattle.camp_row.proofs.Ruling.{allows}
-use Rattle.camp_row.proofs.Stepping.{publishes}
+use Rattle.camp_row.proofs.Ruling.{allows_one}
+use Rattle.camp_row.proofs.Publishing.{publishes}
 use Rattle.camp_row.proofs.PassOfRow.{is_of, row_words, own_at, room_at, at_part}
 use Rattle.camp_row.proofs.rows.Row.publish.Goals as goal
 
@@ -27,8 +27,8 @@ compare_exchange-found-requires c =
     let some_words : 0 < shared.table_id.words = omega arith in (
       of.table,
       some_words,
-      allows shared.key.seats shared.key.per_seat shared.table_id.slots seat.id seat.me 0 (λ n. either (n == c.pass.inside.last) (c.own_cell.result + 1) n) (λ found w. Tried c.pass.inside.last found seat.me.0.parts w.parts)
-          (publishes shared.key.seats shared.key.per_seat seat.id seat.me.0 c.pass.invariant.alone c.pass.inside.last (c.own_cell.result + 1) c.pass.invariant.last (ap (λ n. n + 1) own) drafted room),
+      allows_one shared.key.seats shared.key.per_seat shared.table_id.slots seat.id seat.me 0 (λ n. either (n == c.pass.inside.last) (c.own_cell.result + 1) n) (Tried c.pass.inside.last) p c.pass.invariant.alone
+          (publishes shared.key.seats shared.key.per_seat seat.id p room c.pass.invariant.sound.front drafted c.pass.inside.last (c.own_cell.result + 1) c.pass.invariant.last (ap (λ n. n + 1) own)),
     )
 
 pub invariant_of-pass-2 : goal.invariant_of-pass-2
@@ -41,12 +41,12 @@ invariant_of-pass-2 c =
     let was = c.pass.invariant in
     let found = c.compare_exchange-found.result in
     let new = c.compare_exchange-found.new.seat.me.0.parts in
-    let won : new ≡ won_part p ∷ [] =
-    MatchBool-at_true (new ≡ won_part p ∷ []) (LostPart found p new) (eq-eqb found c.pass.inside.last c.if-found-pass.false) c.compare_exchange-found.ensures.2.1 in
+    let won : WonPart p new =
+    MatchBool-at_true (WonPart p new) (LostPart found p new) (eq-eqb found c.pass.inside.last c.if-found-pass.false) c.compare_exchange-found.ensures.2.1 in
     let named : c.own_cell.result + 1 ≡ head_word p.seats (p.seen ++ e ∷ []) = ap (λ n. n + 1) own ∙ sym (head_word-push p.seats p.seen e) in
     let turn = was.turn in
     at_part _ (won_part p) (record {
-      alone = won;
+      alone = won.is;
       no_slot = c.compare_exchange-found.ensures.2.0 ∙ was.no_slot;
       number = was.number;
       turn = ap (λ n. n + 1) was.turn ∙ sym (turns_push e p.seen);

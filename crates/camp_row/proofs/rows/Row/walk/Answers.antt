@@ -6,8 +6,8 @@ use Rattle.camp_row.specs.Inside.Parts.{Part, part_of, known_of}
 use Rattle.camp_row.specs.Inside.PassFields.{part}
 use Rattle.camp_row.specs.Inside.Rule.{parent_word}
 use Rattle.camp_row.specs.Inside.Steps.{Walked}
-use Rattle.camp_row.proofs.Ruling.{allows}
-use Rattle.camp_row.proofs.Stepping.{walks}
+use Rattle.camp_row.proofs.Ruling.{allows_one}
+use Rattle.camp_row.proofs.Loading.{walks}
 use Rattle.camp_row.proofs.PassOfRow.{is_of, few_cells, same_part}
 use Rattle.camp_row.proofs.TrailSteps.{Climbs, climbs_first, above, climbs_on, climbs_last}
 use Rattle.camp_row.proofs.rows.Row.walk.Goals as goal
@@ -54,8 +54,7 @@ load-word-requires c =
     let words = c.self.invariant.words in (
       of.table,
       omega arith,
-      allows shared.key.seats shared.key.per_seat shared.table_id.slots seat.id seat.me word (λ n. n) (λ found w. Walked word found seat.me.0.parts w.parts)
-          (walks shared.key.seats shared.key.per_seat seat.id seat.me.0 was.pass.alone word),
+      allows_one shared.key.seats shared.key.per_seat shared.table_id.slots seat.id seat.me word (λ n. n) (Walked word) p was.pass.alone (walks shared.key.seats shared.key.per_seat seat.id p word),
     )
 
 pub loop-word-smaller : goal.loop-word-smaller

@@ -8,12 +8,11 @@ use Rattle.std.specs.declared.cmp.Ordering.TheVariants.{Less, Equal, Greater}
 use Rattle.camp_prim.specs.Effect.{InRange}
 use Rattle.camp_prim.specs.Hunks.{Edit, IsInRange}
 use Rattle.camp_prim.specs.Labels.{label_of, key_of, SameKey}
-use Rattle.camp_prim.specs.Swaps.{path_of, at_line, MayPass, SwapsBelow, SwapsAbove, Swap}
+use Rattle.camp_prim.specs.Swaps.{path_of, at_line, MayPass, SwapsBelow, SwapsAbove, ChangePlaces, Swap}
 use Rattle.camp_prim.specs.declared.primitives.Primitive.{Primitive}
 use Rattle.camp_prim.specs.declared.primitives.Primitive.TheVariants.{Add, Remove, Hunk}
 use Rattle.camp_prim.specs.declared.named.Named.{Named}
 use Rattle.camp_prim.proofs.LabelOrder.{key_total, key_ties}
-use Rattle.camp_prim.proofs.SwapEffect.{Swaps}
 use Rattle.camp_prim.proofs.SwapUnique.{same_hunk}
 
 -- a fact holds or does not
@@ -100,7 +99,7 @@ gap_above h k q' p' s r =
 
 -- what two primitives become, in range
 abbrev Change : Primitive → Primitive → Type 0
-Change p q = (q' : Primitive) × (p' : Primitive) × Swaps p q q' p' × InRange q' × InRange p'
+Change p q = (q' : Primitive) × (p' : Primitive) × ChangePlaces p q q' p' × InRange q' × InRange p'
 
 change_below : (h k : Edit) → h.path ≡ k.path → IsInRange h → GapBelow h k → Change (Hunk h) (Hunk k)
 change_below h k same r g =
@@ -140,11 +139,11 @@ change_or_not p q r s =
 
 swap_if : (p q : Named) → ¬ (SameKey p q) → InRange p.prim → InRange q.prim → Decided (Change p.prim q.prim) → Decided ((q' : Named) × (p' : Named) × Swap p q q' p')
 swap_if p q apart r s d =
-    decided_by (λ c. (record q { prim = c.0 }, record p { prim = c.1 }, record { apart = apart; change = c.2; ranges = (r, s, c.3, c.4); second = refl; first = refl })) (λ w. (w.0.prim, w.1.prim, w.2.change, w.2.ranges.2, w.2.ranges.3)) d
+    decided_by (λ c. (record q { prim = c.0 }, record p { prim = c.1 }, record { anywhere = record { apart = apart; change = c.2; second = refl; first = refl }; ranges = (r, s, c.3, c.4) })) (λ w. (w.0.prim, w.1.prim, w.2.anywhere.change, w.2.ranges.2, w.2.ranges.3)) d
 
 pub swap_or_not : (p q : Named) → Decided ((q' : Named) × (p' : Named) × Swap p q q' p')
 swap_or_not p q = elim (same_or_not _ key_total key_ties (key_of (label_of p)) (key_of (label_of q))) [
-  | inl same ↦ inr (λ w. w.2.apart same)
+  | inl same ↦ inr (λ w. w.2.anywhere.apart same)
   | inr apart ↦ elim (both_or_not (primitive_in_range_or_not p.prim) (primitive_in_range_or_not q.prim)) [
     | inl r ↦ swap_if p q apart r.0 r.1 (change_or_not p.prim q.prim r.0 r.1)
     | inr never ↦ inr (λ w. never (w.2.ranges.0, w.2.ranges.1))

@@ -1,12 +1,12 @@
 -- A list in normal order, and one more element that is put in its place there.
-use Rattle.std.specs.Prelude.{◌≡◌, ◌≢◌, ℕ, Bool, List, [], ◌∷◌, ◌++◌, length, take, drop, ◌⊎◌}
+use Rattle.std.specs.Prelude.{◌≡◌, ◌≢◌, ℕ, List, [], ◌∷◌, ◌++◌, length, take, drop, ◌⊎◌}
 use Rattle.std.specs.declared.cmp.Ordering.TheVariants.{Less}
-use Rattle.camp_prim.specs.Exchange.{Exchanged}
 use Rattle.camp_prim.specs.Labels.{label_of, label_cmp}
 use Rattle.camp_prim.specs.declared.labels.Label.{Label}
 use Rattle.camp_prim.specs.Swaps.{Swap}
 use Rattle.camp_prim.specs.declared.named.Named.{Named}
-use Rattle.camp_seq.specs.InPlace.{Precedes}
+use Rattle.camp_seq.specs.Equivalence.{Exchanges}
+use Rattle.camp_seq.specs.Inside.InPlace.{Precedes}
 use Rattle.camp_seq.specs.NormalOrder.{IsLeast}
 use Rattle.camp_seq.specs.Passing.{Passes}
 
@@ -15,18 +15,10 @@ abbrev pub InOrder : List Named → Type 0
 InOrder [] = Unit {0}
 InOrder (y ∷ t) = IsLeast (label_of y) (y ∷ t) × InOrder t
 
--- the neighbours at a place: true, and the list with the two swapped; or false where they can't change places, and the list as it was
-pub record SwapsAt (s : List Named) (at : ℕ) (done : Bool) (t : List Named) : Type 0 where
-  pub before : List Named
-  pub p : Named
-  pub q : Named
-  pub q' : Named
-  pub p' : Named
-  pub after : List Named
-  pub stands : length before ≡ at
-  pub was : s ≡ before ++ p ∷ q ∷ after
-  pub swaps : Exchanged p q done q' p'
-  pub becomes : t ≡ before ++ q' ∷ p' ∷ after
+-- the neighbours at a place are swapped
+pub record SwapsAt (at : ℕ) (s t : List Named) : Type 0 where
+  pub exchange : Exchanges Swap s t
+  pub stands : length exchange.before ≡ at
 
 -- the last element of a list is swapped to the left, to this place
 pub record Comes (s : List Named) (at : ℕ) (t : List Named) : Type 0 where
@@ -41,14 +33,14 @@ pub record Comes (s : List Named) (at : ℕ) (t : List Named) : Type 0 where
   pub becomes : t ≡ before ++ first ∷ left
 
 -- an element behind two lists comes to before the second, and to before no element of the first
-abbrev pub Holds : List Named → List Named → Named → Type 0
-Holds [] s x = Unit {0}
-Holds (y ∷ before) s x = ((p : Named) (t : List Named) → ¬ (Precedes (y ∷ (before ++ s)) x p t)) × Holds before s x
+abbrev pub IsHeld : List Named → List Named → Named → Type 0
+IsHeld [] s x = Unit {0}
+IsHeld (y ∷ before) s x = ((p : Named) (t : List Named) → ¬ (Precedes (y ∷ (before ++ s)) x p t)) × IsHeld before s x
 
 -- the last element of a list is swapped as far to the left as it can come
 pub record ComesUpTo (s : List Named) (at : ℕ) (t : List Named) : Type 0 where
   pub comes : Comes s at t
-  pub held : Holds comes.before comes.passed comes.last
+  pub held : IsHeld comes.before comes.passed comes.last
 
 -- the labels of these elements are less than this one
 abbrev pub AreLess : Label → List Named → Type 0

@@ -1,6 +1,6 @@
 use Rattle.std.proofs.Common.{sym}
 use Rattle.camp_prim.proofs.Moving.{comes_along, comes_below, no_place}
-use Rattle.camp_prim.proofs.swaps.hunk_moves.Goals as goal
+use Rattle.camp_prim.proofs.swaps.hunk_targets.Goals as goal
 
 pub returns-in-Some : goal.returns-in-Some
 returns-in-Some c =

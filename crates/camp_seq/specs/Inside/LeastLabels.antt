@@ -19,9 +19,9 @@ StartsAbove tried [] = ⊥
 StartsAbove tried (p ∷ s) = IsTrue (is_above tried (label_of p))
 
 -- an element has this label
-abbrev pub Holds : Label → List Named → Type 0
-Holds label [] = ⊥
-Holds label (p ∷ s) = (label_of p ≡ label) ⊎ Holds label s
+abbrev pub HasLabel : Label → List Named → Type 0
+HasLabel label [] = ⊥
+HasLabel label (p ∷ s) = (label_of p ≡ label) ⊎ HasLabel label s
 
 -- of these elements none whose label is yet to be tried has a lesser one
 abbrev pub NoneLess : Option Label → Label → List Named → Type 0
@@ -30,7 +30,7 @@ NoneLess tried label s = All (λ p. IsTrue (is_above tried (label_of p)) → lab
 -- the least label of the list that is yet to be tried
 pub record LeastAbove (tried : Option Label) (s : List Named) (label : Label) : Type 0 where
   pub above : IsTrue (is_above tried label)
-  pub held : Holds label s
+  pub held : HasLabel label s
   pub least : NoneLess tried label s
 
 -- how many elements have a label that is yet to be tried

@@ -1,0 +1,5 @@
+use Rattle.camp_prim.proofs.SwapUnique.{commute_is_exchange}
+use Rattle.camp_prim.proofs.swaps.commute_is_exchange.Goals as goal
+
+pub returns : goal.returns
+returns c = commute_is_exchange

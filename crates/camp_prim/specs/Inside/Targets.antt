@@ -1,0 +1,32 @@
+-- The lines to which hunks move as they change places.
+use Rattle.std.specs.Prelude.{◌≡◌, ℕ, ◌+◌, ◌<◌, ◌⊎◌, Option, None, Some, length}
+use Rattle.camp_prim.specs.Hunks.{Edit, IsInRange}
+use Rattle.camp_prim.specs.Swaps.{at_line, AreInRange, ChangePlaces}
+use Rattle.camp_prim.specs.declared.swaps.Targets.{Targets}
+use Rattle.camp_prim.specs.declared.primitives.Primitive.{Primitive}
+use Rattle.camp_prim.specs.declared.primitives.Primitive.TheVariants.{Add, Remove, Hunk}
+
+-- a primitive at another line, where there is one: only a hunk has a line
+abbrev pub moved : Option ℕ → Primitive → Primitive
+moved None p = p
+moved (Some line) (Add path) = Add path
+moved (Some line) (Remove path) = Remove path
+moved (Some line) (Hunk hunk) = Hunk (at_line line hunk)
+
+-- p and then q, moved and in the other order
+abbrev pub turned : Primitive → Primitive → Targets → Primitive × Primitive
+turned p q targets = (moved targets.second q, moved targets.first p)
+
+-- a hunk below another comes to this line: it stands as far behind what the upper one takes as it stood behind what
+-- that leaves, and it is in range there
+pub record ComesTo (upper takes leaves : ℕ) (lower : Edit) (line : ℕ) : Type 0 where
+  pub gap : ℕ
+  pub stands : lower.line ≡ upper + leaves + gap
+  pub passes : (0 < gap) ⊎ ((0 < takes) × (0 < leaves) × (0 < length lower.old) × (0 < length lower.new))
+  pub comes : line ≡ upper + takes + gap
+  pub fits : IsInRange (at_line line lower)
+
+-- p and then q change places and become q' and then p', whatever their labels are, and all four are in range
+pub record ChangeInRange (p q q' p' : Primitive) : Type 0 where
+  pub change : ChangePlaces p q q' p'
+  pub ranges : AreInRange p q q' p'

@@ -1,0 +1,224 @@
+-- A list whose reach is in range has room: in every order its hunks stand in their files, whose ends are known.
+use Rattle.std.proofs.Common.{◌≡◌, ◌≢◌, ℕ, ◌+◌, ◌-◌, ◌≤◌, ◌^◌, ◌⊎◌, max, List, [], ◌∷◌, ◌++◌, length, drop, get_or, refl, sym, ap, ◌∙◌, subst, inl, inr, arith}
+use Rattle.std.specs.List.{All}
+use Rattle.std.specs.FinMap.{slice_cmp-IsAntisymmetric, nat_cmp-IsAntisymmetric}
+use Rattle.std.proofs.Math.Nat.{le-max_left, le-max_right}
+use Rattle.std.proofs.lemmas.Cmp.{nat_list_cmp_total}
+use Rattle.std.proofs.lemmas.List.{at_drop_all}
+use Rattle.std.proofs.lemmas.List.Elements.{All-nil, All-cons, All-head, All-tail}
+use Rattle.camp_prim.specs.Effect.{InRange}
+use Rattle.camp_prim.specs.Hunks.{Edit}
+use Rattle.camp_prim.specs.Swaps.{path_of, at_line, ChangePlaces}
+use Rattle.camp_prim.specs.declared.primitives.Primitive.{Primitive}
+use Rattle.camp_prim.specs.declared.primitives.Primitive.TheVariants.{Add, Remove, Hunk}
+use Rattle.camp_prim.specs.declared.named.Named.{Named}
+use Rattle.camp_prim.proofs.SwapDecided.{Decided, same_or_not}
+use Rattle.camp_seq.specs.Room.{Reaches, here, further, HasRoom}
+use Rattle.camp_seq.specs.Shapes.{line_of, sides_of, greatest_line, all_sides, reach_of}
+
+-- a hunk of so many old and new lines stands at a line of a file that ends here, and moves the end there
+abbrev Ends : ℕ → ℕ → ℕ → ℕ → ℕ → Type 0
+Ends line olds news before behind = (line + olds ≤ before) × (behind + olds ≡ before + news)
+
+turned_below : (p a b q c d gap before between behind : ℕ) → q ≡ p + b + gap → Ends p a b before between → Ends q c d between behind → (m : ℕ) × Ends (p + a + gap) c d before m × Ends p a b m behind
+turned_below p a b q c d gap before between behind stands u v =
+    let u0 : p + a ≤ before = u.0 in
+    let u1 : between + a ≡ before + b = u.1 in
+    let v0 : q + c ≤ between = v.0 in
+    let v1 : behind + c ≡ between + d = v.1 in
+    (before + d - c, (omega arith, omega arith), (omega arith, omega arith))
+
+turned_above : (p a b q c d gap before between behind : ℕ) → p ≡ q + c + gap → Ends p a b before between → Ends q c d between behind → (m : ℕ) × Ends q c d before m × Ends (q + d + gap) a b m behind
+turned_above p a b q c d gap before between behind stands u v =
+    let u0 : p + a ≤ before = u.0 in
+    let u1 : between + a ≡ before + b = u.1 in
+    let v0 : q + c ≤ between = v.0 in
+    let v1 : behind + c ≡ between + d = v.1 in
+    (before + d - c, (omega arith, omega arith), (omega arith, omega arith))
+
+-- the end of the file of a path, before and behind a hunk of any path
+abbrev MovesEnd : List ℕ → ℕ → Edit → ℕ → Type 0
+MovesEnd path before h behind =
+    ((h.path ≡ path) × Ends h.line (length h.old) (length h.new) before behind) ⊎ ((h.path ≢ path) × (behind ≡ before))
+
+-- and before and behind a primitive
+abbrev Steps : List ℕ → ℕ → Primitive → ℕ → Type 0
+Steps path before (Add at) behind = behind ≡ before
+Steps path before (Remove at) behind = behind ≡ before
+Steps path before (Hunk h) behind = (1 ≤ h.line) × (1 ≤ length h.old + length h.new) × MovesEnd path before h behind
+
+abbrev StepBoth : List ℕ → ℕ → Primitive → Primitive → ℕ → Type 0
+StepBoth path before p q behind = (between : ℕ) × Steps path before p between × Steps path between q behind
+
+abbrev Fits : List ℕ → ℕ → List Named → Type 0
+Fits path before [] = Unit {0}
+Fits path before (p ∷ s) = (behind : ℕ) × Steps path before p.prim behind × Fits path behind s
+
+-- what changes another file leaves this one
+idles : (path : List ℕ) (before behind : ℕ) (p : Primitive) → path_of p ≢ path → Steps path before p behind → (behind ≡ before) × ((b : ℕ) → Steps path b p b)
+idles path before behind (Add at) off s = (s, λ b. refl)
+idles path before behind (Remove at) off s = (s, λ b. refl)
+idles path before behind (Hunk h) off (line, sides, inl on) = absurd (off on.0)
+idles path before behind (Hunk h) off (line, sides, inr other) = (other.1, λ b. (line, sides, inr (off, refl)))
+
+same_path_or_not : (a b : List ℕ) → Decided (a ≡ b)
+same_path_or_not a b = same_or_not _ nat_list_cmp_total (slice_cmp-IsAntisymmetric nat_cmp-IsAntisymmetric) a b
+
+on_two_paths : (path : List ℕ) (before behind : ℕ) (p q : Primitive) → path_of p ≢ path_of q → StepBoth path before p q behind → StepBoth path before q p behind
+on_two_paths path before behind p q apart s = elim (same_path_or_not (path_of p) path) [
+  | inl on ↦
+      let i = idles path s.0 behind q (λ e. apart (on ∙ sym e)) s.2 in
+      (before, i.1 before, subst (Steps path before p) (sym i.0) s.1)
+  | inr off ↦
+      let i = idles path before s.0 p off s.1 in
+      (behind, subst (λ x. Steps path x q behind) i.0 s.2, i.1 behind)
+]
+
+below_steps : (path : List ℕ) (before behind : ℕ) (h k : Edit) (gap : ℕ) → h.path ≡ k.path → k.line ≡ h.line + length h.new + gap → StepBoth path before (Hunk h) (Hunk k) behind → StepBoth path before (Hunk (at_line (h.line + length h.old + gap) k)) (Hunk h) behind
+below_steps path before behind h k gap same stands (m, (line, sides, inl u), (line', sides', inl v)) =
+    let t = turned_below h.line (length h.old) (length h.new) k.line (length k.old) (length k.new) gap before m behind stands u.1 v.1 in
+    (t.0, (omega arith, sides', inl (v.0, t.1)), (line, sides, inl (u.0, t.2)))
+below_steps path before behind h k gap same stands (m, (line, sides, inl u), (line', sides', inr v)) =
+    absurd (v.0 (sym same ∙ u.0))
+below_steps path before behind h k gap same stands (m, (line, sides, inr u), (line', sides', inl v)) =
+    absurd (u.0 (same ∙ v.0))
+below_steps path before behind h k gap same stands (m, (line, sides, inr u), (line', sides', inr v)) =
+    (before, (omega arith, sides', inr (v.0, refl)), (line, sides, inr (u.0, v.1 ∙ u.1)))
+
+above_steps : (path : List ℕ) (before behind : ℕ) (h k : Edit) (gap : ℕ) → h.path ≡ k.path → h.line ≡ k.line + length k.old + gap → StepBoth path before (Hunk h) (Hunk k) behind → StepBoth path before (Hunk k) (Hunk (at_line (k.line + length k.new + gap) h)) behind
+above_steps path before behind h k gap same stands (m, (line, sides, inl u), (line', sides', inl v)) =
+    let t = turned_above h.line (length h.old) (length h.new) k.line (length k.old) (length k.new) gap before m behind stands u.1 v.1 in
+    (t.0, (line', sides', inl (v.0, t.1)), (omega arith, sides, inl (u.0, t.2)))
+above_steps path before behind h k gap same stands (m, (line, sides, inl u), (line', sides', inr v)) =
+    absurd (v.0 (sym same ∙ u.0))
+above_steps path before behind h k gap same stands (m, (line, sides, inr u), (line', sides', inl v)) =
+    absurd (u.0 (same ∙ v.0))
+above_steps path before behind h k gap same stands (m, (line, sides, inr u), (line', sides', inr v)) =
+    (before, (line', sides', inr (v.0, refl)), (omega arith, sides, inr (u.0, v.1 ∙ u.1)))
+
+steps_along : (path : List ℕ) (before behind : ℕ) (p q r s : Primitive) → p ≡ r → q ≡ s → StepBoth path before p q behind → StepBoth path before r s behind
+steps_along path before behind p q r s e f both =
+    subst (λ x. StepBoth path before r x behind) f (subst (λ x. StepBoth path before x q behind) e both)
+
+both_turned : (path : List ℕ) (before behind : ℕ) (p q q' p' : Primitive) → ChangePlaces p q q' p' → StepBoth path before p q behind → StepBoth path before q' p' behind
+both_turned path before behind p q q' p' (inl w) s =
+    steps_along path before behind q p q' p' (sym w.second) (sym w.first) (on_two_paths path before behind p q w.paths s)
+both_turned path before behind p q q' p' (inr (inl w)) s =
+    steps_along path before behind _ _ q' p' (sym w.second) (sym (w.first ∙ w.is_p)) (below_steps path before behind w.h w.k w.gap w.path w.stands (steps_along path before behind p q _ _ w.is_p w.is_q s))
+both_turned path before behind p q q' p' (inr (inr w)) s =
+    steps_along path before behind _ _ q' p' (sym (w.second ∙ w.is_q)) (sym w.first) (above_steps path before behind w.h w.k w.gap w.path w.stands (steps_along path before behind p q _ _ w.is_p w.is_q s))
+
+fits_turned : (path : List ℕ) (before : ℕ) (s : List Named) (p q q' p' : Named) (t : List Named) → ChangePlaces p.prim q.prim q'.prim p'.prim → Fits path before (s ++ p ∷ q ∷ t) → Fits path before (s ++ q' ∷ p' ∷ t)
+fits_turned path before [] p q q' p' t w f =
+    let b = both_turned path before f.2.0 p.prim q.prim q'.prim p'.prim w (f.0, f.1, f.2.1) in
+    (b.0, b.1, (f.2.0, b.2, f.2.2))
+fits_turned path before (x ∷ s) p q q' p' t w f = (f.0, f.1, fits_turned path f.0 s p q q' p' t w f.2)
+
+-- how many old and how many new lines a primitive has, and a list
+abbrev olds_of : Primitive → ℕ
+olds_of (Add path) = 0
+olds_of (Remove path) = 0
+olds_of (Hunk hunk) = length hunk.old
+
+abbrev news_of : Primitive → ℕ
+news_of (Add path) = 0
+news_of (Remove path) = 0
+news_of (Hunk hunk) = length hunk.new
+
+abbrev all_olds : List Named → ℕ
+all_olds [] = 0
+all_olds (p ∷ s) = olds_of p.prim + all_olds s
+
+abbrev all_news : List Named → ℕ
+all_news [] = 0
+all_news (p ∷ s) = news_of p.prim + all_news s
+
+sides_are : (p : Primitive) → sides_of p ≡ olds_of p + news_of p
+sides_are (Add path) = refl
+sides_are (Remove path) = refl
+sides_are (Hunk hunk) = refl
+
+all_sides_are : (s : List Named) → all_sides s ≡ all_olds s + all_news s
+all_sides_are [] = refl
+all_sides_are (p ∷ s) = omega (arith, sides_are p.prim, all_sides_are s)
+
+news_kept : (p q q' p' : Primitive) → ChangePlaces p q q' p' → (news_of q' ≡ news_of q) × (news_of p' ≡ news_of p)
+news_kept p q q' p' (inl w) = (ap news_of w.second, ap news_of w.first)
+news_kept p q q' p' (inr (inl w)) = (ap news_of w.second ∙ sym (ap news_of w.is_q), ap news_of w.first)
+news_kept p q q' p' (inr (inr w)) = (ap news_of w.second, ap news_of w.first ∙ sym (ap news_of w.is_p))
+
+news_turned : (s : List Named) (p q q' p' : Named) (t : List Named) → ChangePlaces p.prim q.prim q'.prim p'.prim → all_news (s ++ q' ∷ p' ∷ t) ≡ all_news (s ++ p ∷ q ∷ t)
+news_turned [] p q q' p' t w =
+    let kept = news_kept p.prim q.prim q'.prim p'.prim w in
+    let e : news_of q'.prim ≡ news_of q.prim = kept.0 in
+    let f : news_of p'.prim ≡ news_of p.prim = kept.1 in
+    omega arith
+news_turned (x ∷ s) p q q' p' t w = ap (λ n. news_of x.prim + n) (news_turned s p q q' p' t w)
+
+-- what a list reaches fits where the list does, and has as many new lines
+reached : (path : List ℕ) (before : ℕ) (s t : List Named) → Reaches s t → Fits path before s → Fits path before t × (all_news t ≡ all_news s)
+reached path before s t here f = (f, refl)
+reached path before s t (further {t = v} e r) f =
+    let next : Fits path before v = subst (Fits path before) (sym e.becomes) (fits_turned path before e.before e.p e.q e.q' e.p' e.after e.turns.change (subst (Fits path before) e.was f)) in
+    let news : all_news v ≡ all_news s = ap all_news e.becomes ∙ news_turned e.before e.p e.q e.q' e.p' e.after e.turns.change ∙ sym (ap all_news e.was) in
+    let rest = reached path before v t r next in
+    (rest.0, rest.1 ∙ news)
+
+-- a primitive stands in a file that ends behind it, and takes away no more than its old lines
+stands : (path : List ℕ) (before : ℕ) (p : Primitive) → InRange p → line_of p + olds_of p ≤ before → (behind : ℕ) × Steps path before p behind × (before ≤ behind + olds_of p)
+stands path before (Add at) r within = (before, refl, omega arith)
+stands path before (Remove at) r within = (before, refl, omega arith)
+stands path before (Hunk h) r within =
+    let w : h.line + length h.old ≤ before = within in
+    elim (same_path_or_not h.path path) [
+      | inl on ↦
+          (before + length h.new - length h.old, (r.counted, r.changes, inl (on, (w, omega arith))), omega arith)
+      | inr off ↦ (before, (r.counted, r.changes, inr (off, refl)), omega arith)
+    ]
+
+-- a list fits where its greatest line and all its old lines do
+every_fits : (path : List ℕ) (before top : ℕ) (s : List Named) → All (λ p. InRange p.prim) s → greatest_line s ≤ top → top + all_olds s ≤ before → Fits path before s
+every_fits path before top [] a g w = tt
+every_fits path before top (p ∷ s) a g w =
+    let l : line_of p.prim ≤ max (line_of p.prim) (greatest_line s) = le-max_left (line_of p.prim) (greatest_line s) in
+    let m : greatest_line s ≤ max (line_of p.prim) (greatest_line s) = le-max_right (line_of p.prim) (greatest_line s) in
+    let c = stands path before p.prim (All-head (λ p. InRange p.prim) p s a) (omega arith) in
+    let left : before ≤ c.0 + olds_of p.prim = c.2 in
+    (c.0, c.1, every_fits path c.0 top s (All-tail (λ p. InRange p.prim) p s a) (omega arith) (omega arith))
+
+-- what stands in a file is in range where that and its new lines are
+in_range_there : (path : List ℕ) (before behind : ℕ) (p : Primitive) → Steps path before p behind → before + news_of p ≤ 2 ^ 30 → (path_of p ≡ path → InRange p) × (behind ≤ before + news_of p)
+in_range_there path before behind (Add at) s le = (λ e. tt, omega (arith, s))
+in_range_there path before behind (Remove at) s le = (λ e. tt, omega (arith, s))
+in_range_there path before behind (Hunk h) (line, sides, inr off) le = (λ e. absurd (off.0 e), omega (arith, off.1))
+in_range_there path before behind (Hunk h) (line, sides, inl on) le =
+    let w : h.line + length h.old ≤ before = on.1.0 in
+    let c : behind + length h.old ≡ before + length h.new = on.1.1 in
+    (λ e. record { counted = line; changes = sides; within = omega arith }, omega arith)
+
+in_range_at : (path : List ℕ) (before : ℕ) (s : List Named) → Fits path before s → before + all_news s ≤ 2 ^ 30 → All (λ p. path_of p.prim ≡ path → InRange p.prim) s
+in_range_at path before [] f le = All-nil (λ p. path_of p.prim ≡ path → InRange p.prim)
+in_range_at path before (p ∷ s) f le =
+    let r = in_range_there path before f.0 p.prim f.1 (omega arith) in
+    let left : f.0 ≤ before + news_of p.prim = r.1 in
+    All-cons (λ p. path_of p.prim ≡ path → InRange p.prim) p s r.0 (in_range_at path f.0 s f.2 (omega arith))
+
+in_range_everywhere : (s : List Named) → ((path : List ℕ) → All (λ p. path_of p.prim ≡ path → InRange p.prim) s) → All (λ p. InRange p.prim) s
+in_range_everywhere s a k d within = a (path_of (get_or s k d).prim) k d within refl
+
+-- a list of primitives in range has room where its reach is within the limit of a hunk
+pub room_within : (s : List Named) → All (λ p. InRange p.prim) s → reach_of s ≤ 2 ^ 30 → HasRoom s
+room_within s a le t r =
+    let before = greatest_line s + all_olds s in
+    let sides : all_sides s ≡ all_olds s + all_news s = all_sides_are s in
+    in_range_everywhere t (λ path.
+        let there = reached path before s t r (every_fits path before (greatest_line s) s a (omega arith) (omega arith)) in
+        let news : all_news t ≡ all_news s = there.1 in
+        in_range_at path before t there.0 (omega arith))
+
+-- what a walk over the whole list has found is its reach
+pub reach_at_end : (greatest sides i : ℕ) (s : List Named) → length s ≤ i → max greatest (greatest_line (drop i s)) ≡ greatest_line s → sides + all_sides (drop i s) ≡ all_sides s → greatest + sides ≡ reach_of s
+reach_at_end greatest sides i s le line all =
+    let a : greatest_line (drop i s) ≡ 0 = at_drop_all greatest_line s i le in
+    let b : all_sides (drop i s) ≡ 0 = at_drop_all all_sides s i le in
+    omega arith

@@ -1,0 +1,4 @@
+-- Words that serve only private functions.
+pub mod InPlace
+pub mod Insertions
+pub mod LeastLabels

@@ -1,0 +1,60 @@
+-- What moving elements inside a list answers and leaves.
+use Rattle.std.specs.Prelude.{◌≡◌, ◌≢◌, ℕ, List, [], ◌∷◌, ◌++◌, length, take, drop, All}
+use Rattle.camp_prim.specs.Swaps.{Swap}
+use Rattle.camp_prim.specs.Labels.{label_of}
+use Rattle.camp_prim.specs.declared.labels.Label.{Label}
+use Rattle.camp_prim.specs.declared.named.Named.{Named}
+use Rattle.camp_seq.specs.Passing.{Passes, Fronts, Parts}
+
+-- p and the q behind it, each in its own place: p becomes p', and q becomes q'
+abbrev pub SwapsInPlace : Named × Named → Named × Named → Type 0
+SwapsInPlace old new = Swap old.0 old.1 new.1 new.0
+
+-- s p ~ p' s': p is swapped to before every element of s
+abbrev pub Precedes : List Named → Named → Named → List Named → Type 0
+Precedes [] p p' s' = (p' ≡ p) × (s' ≡ [])
+Precedes (q ∷ s) p p' s' =
+    (coming : Named) × (q' : Named) × (t : List Named) × Precedes s p coming t × Swap q coming p' q' × (s' ≡ q' ∷ t)
+
+-- the list and the p behind it, each in its own place
+abbrev pub PrecedesInPlace : List Named × Named → List Named × Named → Type 0
+PrecedesInPlace old new = Precedes old.0 old.1 new.1 new.0
+
+-- no element has this label
+abbrev pub Lacks : Label → List Named → Type 0
+Lacks label s = All (λ p. label_of p ≢ label) s
+
+-- the first element with this label
+pub record FirstWith (label : Label) (s : List Named) (at : ℕ) : Type 0 where
+  pub before : List Named
+  pub first : Named
+  pub after : List Named
+  pub is : s ≡ before ++ first ∷ after
+  pub stands : length before ≡ at
+  pub labelled : label_of first ≡ label
+  pub lacks : Lacks label before
+
+-- the first element with this label is swapped to the front
+abbrev pub FrontsInPlace : Label → List Named → List Named → Type 0
+FrontsInPlace label s t = (y : Named) × (rest : List Named) × Fronts label s y rest × (t ≡ y ∷ rest)
+
+-- the first element is swapped past the others
+abbrev pub FirstPasses : List Named → List Named → Type 0
+FirstPasses s t =
+    (p : Named) × (rest : List Named) × (rest' : List Named) × (p' : Named)
+    × (s ≡ p ∷ rest) × Passes p rest rest' p' × (t ≡ rest' ++ p' ∷ [])
+
+-- the elements with these labels and behind them the others, from a place on, and before it the list as it was
+pub record PartsFrom (labels : List Label) (s : List Named) (at count : ℕ) (now : List Named) : Type 0 where
+  pub named : List Named
+  pub others : List Named
+  pub parts : Parts labels (drop at s) named others
+  pub is : drop at now ≡ named ++ others
+  pub counted : length named ≡ count
+  pub waiting : take at now ≡ take at s
+
+-- so many elements have these labels, and are swapped to the front
+abbrev pub PartsInPlace : List Label → List Named → ℕ → List Named → Type 0
+PartsInPlace labels s count t =
+    (named : List Named) × (others : List Named) × Parts labels s named others
+    × (t ≡ named ++ others) × (length named ≡ count)
