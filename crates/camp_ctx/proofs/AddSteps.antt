@@ -16,6 +16,11 @@ use Rattle.camp_ctx.specs.Contexts.{InContext}
 use Rattle.camp_ctx.proofs.AddResults.{one_from_last}
 use Rattle.camp_ctx.specs.Laws.{GivesOne}
 
+-- a label that does not come to the front of a context
+pub nothing_cancels : (a : Named) (x : InContext) (label : Label) (s : List Named) → label ≡ label_of (inverse_of a) → s ≡ x.context → ((y : Named) (t : List Named) → ¬ (Fronts label s y t)) → GivesNone (Cancels a) x
+nothing_cancels a x label s labelled is never y w =
+    never (inverse_of a) w.rest (subst (λ l. Fronts l s (inverse_of a) w.rest) (sym labelled) (subst (λ t. Fronts (label_of (inverse_of a)) t (inverse_of a) w.rest) (sym is) w.front))
+
 -- what came to the front of a context, and its inverse
 module _ (a : Named) (x : InContext) (label : Label) (s : List Named) (first back : Named) (rest : List Named) (labelled : label ≡ label_of (inverse_of a)) (is : s ≡ x.context) (comes : Fronts label s first rest) (inverted : back ≡ inverse_of first) where
   front : Fronts (label_of (inverse_of a)) x.context first rest

@@ -1,6 +1,7 @@
 ghost use Rattle.std.specs.Prelude.{◌≡◌, IfOk, MatchOption};
 ghost use Rattle.camp_ctx.specs.Adding.{Adds, AddsAll, Cancels, GivesNone, Keeps, PassesBy, PassesByAll};
 
+use crate::conflicts::has_label;
 use crate::{Contexted, join};
 use camp_prim::{Named, commute};
 use camp_seq::{Seq, front, norm, past};
@@ -83,16 +84,21 @@ fn cancelled(a: &Named, x: &Contexted) -> Result<Option<Contexted>, AllocError>
         (GivesNone (Cancels a.now) x.now)
         (λ y. Cancels a.now x.now y)) }
 {
-    let found = front(x.context(), &a.label().opposite())?;
+    let context = x.context();
+    let label = a.label().opposite();
+    if !has_label(context.items(), &label) {
+        return Ok(None);
+    }
+    let found = front(context, &label)?;
     let Some((first, rest)) = found else {
         return Ok(None);
     };
     if !first.invert().is_same(a) {
         return Ok(None);
     }
-    let context = norm(&rest)?;
+    let left = norm(&rest)?;
     let patch = x.patch().try_clone()?;
-    Ok(Some(Contexted::new(x.allocator(), context, patch)?))
+    Ok(Some(Contexted::new(x.allocator(), left, patch)?))
 }
 
 /// The contexted patch with `a` before its context.

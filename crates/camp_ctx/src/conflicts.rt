@@ -71,7 +71,8 @@ fn common_labels(alloc: Global, s: &[Named], t: &[Named]) -> Result<Vec<Label>, 
         .collect(alloc)
 }
 
-fn has_label(s: &[Named], label: &Label) -> bool
+/// Whether an element of a list has a label.
+pub(crate) fn has_label(s: &[Named], label: &Label) -> bool
     ensures { result ≡ has_label s.now label.now }
 {
     s.iter().any(|p| p.label().cmp(label).is_eq())
