@@ -212,9 +212,9 @@ room_within s a le t r =
     let before = greatest_line s + all_olds s in
     let sides : all_sides s ≡ all_olds s + all_news s = all_sides_are s in
     in_range_everywhere t (λ path.
-        let there = reached path before s t r (every_fits path before (greatest_line s) s a (omega arith) (omega arith)) in
-        let news : all_news t ≡ all_news s = there.1 in
-        in_range_at path before t there.0 (omega arith))
+    let there = reached path before s t r (every_fits path before (greatest_line s) s a (omega arith) (omega arith)) in
+    let news : all_news t ≡ all_news s = there.1 in
+    in_range_at path before t there.0 (omega arith))
 
 -- what a walk over the whole list has found is its reach
 pub reach_at_end : (greatest sides i : ℕ) (s : List Named) → length s ≤ i → max greatest (greatest_line (drop i s)) ≡ greatest_line s → sides + all_sides (drop i s) ≡ all_sides s → greatest + sides ≡ reach_of s
