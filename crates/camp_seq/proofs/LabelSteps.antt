@@ -49,22 +49,16 @@ above_least tried key s least never other y t w above =
     let not_less = fronts_none_less tried key other s y t least.least w above in
     lt_from_less (label_cmp key other) (less_unless other key not_less (λ e. never y t (subst (λ x. Fronts x s y t) e w)))
 
-step_le : (a b : Bool) (m n : ℕ) → (IsTrue a → IsTrue b) → m ≤ n → (if a then suc m else m) ≤ (if b then suc n else n)
-step_le true true m n h le = omega arith
-step_le true false m n h le = let e : false ≡ true = h refl in cc
-step_le false true m n h le = omega arith
-step_le false false m n h le = le
+one_le : (a b : Bool) → (IsTrue a → IsTrue b) → (if a then 1 else 0) ≤ (if b then 1 else 0)
+one_le true true h = omega arith
+one_le true false h = let e : false ≡ true = h refl in cc
+one_le false true h = omega arith
+one_le false false h = omega arith
 
-step_lt : (a b : Bool) (m n : ℕ) → (IsTrue a → IsTrue b) → m < n → (if a then suc m else m) < (if b then suc n else n)
-step_lt true true m n h lt = omega arith
-step_lt true false m n h lt = let e : false ≡ true = h refl in cc
-step_lt false true m n h lt = omega arith
-step_lt false false m n h lt = lt
-
-step_first : (a b : Bool) (m n : ℕ) → ¬ (IsTrue a) → IsTrue b → m ≤ n → (if a then suc m else m) < (if b then suc n else n)
-step_first true b m n h k le = absurd (h refl)
-step_first false true m n h k le = omega arith
-step_first false false m n h k le = cc
+none_one : (a b : Bool) → ¬ (IsTrue a) → IsTrue b → (if a then 1 else 0) < (if b then 1 else 0)
+none_one true b h k = absurd (h refl)
+none_one false true h k = omega arith
+none_one false false h k = cc
 
 -- what is above a label that is above another, is above that
 further : (tried : Option Label) (key : Label) (other : Label) → IsTrue (is_above tried key) → IsTrue (is_above (Some key) other) → IsTrue (is_above tried other)
@@ -75,15 +69,19 @@ further (Some last) key other above more =
 untried_le : (tried : Option Label) (key : Label) (s : List Named) → IsTrue (is_above tried key) → untried (Some key) s ≤ untried tried s
 untried_le tried key [] above = omega arith
 untried_le tried key (p ∷ s) above =
-    step_le (is_above (Some key) (label_of p)) (is_above tried (label_of p)) (untried (Some key) s) (untried tried s) (further tried key (label_of p) above) (untried_le tried key s above)
+    let l = label_of p in
+    omega (arith, one_le (is_above (Some key) l) (is_above tried l) (further tried key l above), untried_le tried key s above)
 
 -- each label that is tried leaves fewer
 pub untried_less : (tried : Option Label) (key : Label) (s : List Named) → IsTrue (is_above tried key) → HasLabel key s → untried (Some key) s < untried tried s
 untried_less tried key [] above held = absurd held
 untried_less tried key (p ∷ s) above (inl is) =
-    step_first (is_above (Some key) (label_of p)) (is_above tried (label_of p)) (untried (Some key) s) (untried tried s) (λ more. not_below key key refl (less_from_lt (label_cmp key key) (subst (λ x. IsTrue (is_lt (label_cmp key x))) is more))) (subst (λ x. IsTrue (is_above tried x)) (sym is) above) (untried_le tried key s above)
+    let l = label_of p in
+    let itself : ¬ (IsTrue (is_above (Some key) l)) = λ more. not_below key key refl (less_from_lt (label_cmp key key) (subst (λ x. IsTrue (is_lt (label_cmp key x))) is more)) in
+    omega (arith, none_one (is_above (Some key) l) (is_above tried l) itself (subst (λ x. IsTrue (is_above tried x)) (sym is) above), untried_le tried key s above)
 untried_less tried key (p ∷ s) above (inr held) =
-    step_lt (is_above (Some key) (label_of p)) (is_above tried (label_of p)) (untried (Some key) s) (untried tried s) (further tried key (label_of p) above) (untried_less tried key s above held)
+    let l = label_of p in
+    omega (arith, one_le (is_above (Some key) l) (is_above tried l) (further tried key l above), untried_less tried key s above held)
 
 -- the least label that comes to the front, brought there
 pub settles_from : (tried : Option Label) (label : Label) (s : List Named) (y : Named) (t now : List Named) → LeastAbove tried s label → ((other : Label) (z : Named) (u : List Named) → Fronts other s z u → IsTrue (is_above tried other)) → Fronts label s y t → now ≡ y ∷ t → Settles s now

@@ -12,6 +12,7 @@ use Rattle.camp_seq.specs.Inside.InPlace.{Precedes, IsHeld, ComesUpTo}
 use Rattle.camp_seq.specs.Inside.Insertions.{InOrder, Follows, StartsAfter, StandsAt, StaysAt, Placed}
 use Rattle.camp_seq.specs.Room.{HasRoom}
 use Rattle.camp_seq.proofs.InsertionSteps.{came_behind, label_came, placed_in_order}
+use Rattle.camp_seq.proofs.ListSteps.{turned}
 use Rattle.camp_seq.proofs.ListEquivalence.{before}
 use Rattle.camp_seq.proofs.RoomSteps.{room_before, room_of_equivalent}
 
@@ -109,14 +110,6 @@ pub only : (s : List Named) (d y : Named) → length s ≡ 1 → (s ≡ get_or s
 only [] d y one = absurd (omega arith)
 only (x ∷ []) d y one = (refl, refl)
 only (x ∷ z ∷ s) d y one = absurd (omega arith)
-
--- a list that ends with y, turned so that y comes first
-turned : (s : List Named) (y : Named) (part : List Named) → part ≡ s ++ y ∷ [] → drop (length part - 1) part ++ take (length part - 1) part ≡ y ∷ s
-turned s y part is =
-    let push : length (s ++ y ∷ []) ≡ length s + 1 = length_push s y in
-    let long : length part ≡ length (s ++ y ∷ []) = ap length is in
-    let less : length s ≡ length part - 1 = omega arith in
-    ap (λ x. drop (length part - 1) x ++ take (length part - 1) x) is ∙ ap (λ x. x ++ take (length part - 1) (s ++ y ∷ [])) (drop_at s (y ∷ []) (length part - 1) less) ∙ ap (λ x. y ∷ x) (take_at s (y ∷ []) (length part - 1) less)
 
 -- what is written from its place on
 pub placed_there : (s s0 left items part new : List Named) (x0 x : Named) (at : ℕ) → s ≡ s0 ++ x0 ∷ [] → StaysAt s0 x0 at left x → items ≡ left ++ x ∷ [] → part ≡ drop at items → new ≡ drop (length part - 1) part ++ take (length part - 1) part → Placed s (take at items ++ new)

@@ -9,7 +9,7 @@ use Rattle.camp_seq.specs.Equivalence.{Exchanges, ◌~◌}
 use Rattle.camp_seq.specs.NormalOrder.{Norm}
 use Rattle.camp_seq.specs.Shapes.{reach_of}
 
--- a list leads to another by any number of such exchanges, one after the other
+-- a list leads to another by any number of exchanges of neighbours, in range or not, one after the other
 pub data Reaches : List Named → List Named → Type 0 where
   here : {s : List Named} → Reaches s s
   further : {s t u : List Named} → Exchanges SwapAnywhere s t → Reaches t u → Reaches s u
