@@ -16,7 +16,8 @@ AnswersByTrial Change old (Ok done) new = Change old new
 AnswersByTrial Change old (Err DoesNotApply) new = ((any : _) → ¬ (Change old any)) × (new ≡ old)
 AnswersByTrial Change old (Err Memory) new = new ≡ old
 
--- true where the change leads from the old value to the new one; false where it leads nowhere, and then nothing has changed
+-- true where the change leads from the old value to the new one; false where it leads nowhere, and then nothing has
+-- changed
 abbrev pub Changes : {S : Type 0} → (S → S → Type 0) → S → Bool → S → Type 0
 Changes Change old true new = Change old new
 Changes Change old false new = ((any : _) → ¬ (Change old any)) × (new ≡ old)

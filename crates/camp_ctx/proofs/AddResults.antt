@@ -9,7 +9,7 @@ use Rattle.camp_seq.specs.NormalOrder.{Norm}
 use Rattle.camp_seq.specs.Passing.{Passes, Fronts}
 use Rattle.camp_seq.proofs.ListResults.{one_pass, one_front, one_order}
 use Rattle.camp_seq.proofs.NormalOrders.{front_or_not, has_normal_order}
-use Rattle.camp_seq.proofs.SwapDecided.{Decided, decided_by, swap_or_not}
+use Rattle.camp_prim.proofs.SwapDecided.{Decided, decided_by, swap_or_not}
 use Rattle.camp_ctx.specs.Adding.{Cancels, PassesBy, Keeps, Adds, cancel, commute, keep, FromLast, AddsAll, PassesByAll}
 use Rattle.camp_ctx.specs.Contexts.{InContext, patch_key, context_key}
 use Rattle.camp_ctx.specs.Laws.{GivesOne, AlwaysGives}
@@ -121,7 +121,7 @@ add_of_all_exists (a ∷ r) x =
 -- adding keeps the absolute label
 same_key_of_one : (a : Named) (x y : InContext) → Adds a x y → context_key y ≡ context_key x
 same_key_of_one a x y (cancel w) = ap patch_key w.patch
-same_key_of_one a x y (commute never w) = ap key_of w.past_patch.second
+same_key_of_one a x y (commute never w) = ap key_of w.past_patch.anywhere.second
 same_key_of_one a x y (keep never none w) = ap patch_key w.patch
 
 pub same_key_of_sum : (r : List Named) (x y : InContext) → AddsAll r x y → context_key y ≡ context_key x

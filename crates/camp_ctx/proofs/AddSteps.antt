@@ -10,11 +10,16 @@ use Rattle.camp_seq.specs.NormalOrder.{Norm}
 use Rattle.camp_seq.specs.Passing.{Passes, Fronts}
 use Rattle.camp_seq.proofs.ListResults.{one_front, one_pass}
 use Rattle.camp_seq.proofs.ListSteps.{whole}
-use Rattle.camp_seq.proofs.ListRuns.{inverse_of-inverse_of}
+use Rattle.camp_prim.proofs.Inverses.{inverse_of-inverse_of}
 use Rattle.camp_ctx.specs.Adding.{Cancels, PassesBy, GivesNone, FromLast}
 use Rattle.camp_ctx.specs.Contexts.{InContext}
 use Rattle.camp_ctx.proofs.AddResults.{one_from_last}
 use Rattle.camp_ctx.specs.Laws.{GivesOne}
+
+-- a label that does not come to the front of a context
+pub nothing_cancels : (a : Named) (x : InContext) (label : Label) (s : List Named) → label ≡ label_of (inverse_of a) → s ≡ x.context → ((pair : Named × List Named) → ¬ (Fronts label s pair.0 pair.1)) → GivesNone (Cancels a) x
+nothing_cancels a x label s labelled is never y w =
+    never (inverse_of a, w.rest) (subst (λ l. Fronts l s (inverse_of a) w.rest) (sym labelled) (subst (λ t. Fronts (label_of (inverse_of a)) t (inverse_of a) w.rest) (sym is) w.front))
 
 -- what came to the front of a context, and its inverse
 module _ (a : Named) (x : InContext) (label : Label) (s : List Named) (first back : Named) (rest : List Named) (labelled : label ≡ label_of (inverse_of a)) (is : s ≡ x.context) (comes : Fronts label s first rest) (inverted : back ≡ inverse_of first) where
@@ -36,12 +41,16 @@ module _ (a : Named) (x : InContext) (label : Label) (s : List Named) (first bac
         patch = kept;
       })
 
+-- a context that can not be passed
+pub not_past_context : (a : Named) (x : InContext) (s : List Named) → s ≡ x.context → ((pair : List Named × Named) → ¬ (Passes a s pair.0 pair.1)) → GivesNone (PassesBy a) x
+not_past_context a x s is never y w = never (w.passed, w.a') (subst (λ t. Passes a t w.passed w.a') (sym is) w.past_context)
+
 -- what passed a context
 module _ (a : Named) (x : InContext) (s passed : List Named) (a' : Named) (is : s ≡ x.context) (past : Passes a s passed a') where
-  pub not_past_patch : (p : Named) → p ≡ x.patch → ((q' p' : Named) → ¬ (Swap a' p q' p')) → GivesNone (PassesBy a) x
+  pub not_past_patch : (p : Named) → p ≡ x.patch → ((pair : Named × Named) → ¬ (Swap a' p pair.0 pair.1)) → GivesNone (PassesBy a) x
   not_past_patch p patch never y w =
       let pass = one_pass a s passed w.passed a' w.a' past (subst (λ t. Passes a t w.passed w.a') (sym is) w.past_context) in
-      never y.patch w.a'' (subst (λ q. Swap a' q y.patch w.a'') (sym patch) (subst (λ b. Swap b x.patch y.patch w.a'') (sym pass.1) w.past_patch))
+      never (y.patch, w.a'') (subst (λ q. Swap a' q y.patch w.a'') (sym patch) (subst (λ b. Swap b x.patch y.patch w.a'') (sym pass.1) w.past_patch))
 
   pub passes_by_from : (y : InContext) (context : List Named) (p patch a'' : Named) → p ≡ x.patch → Swap a' p patch a'' → Norm passed context → y ≡ record { context = context; patch = patch } → PassesBy a x y
   passes_by_from y context p patch a'' here swap order made = subst (PassesBy a x) (sym made) (record {

@@ -7,6 +7,7 @@ use Rattle.std.specs.Ordering.{eq_by_cmp}
 use Rattle.camp_prim.specs.Labels.{label_of, label_cmp}
 use Rattle.camp_prim.specs.declared.labels.Label.{Label}
 use Rattle.camp_prim.specs.declared.named.Named.{Named}
+use Rattle.camp_seq.specs.Passing.{Fronts}
 use Rattle.camp_prim.proofs.LabelOrder.{label_total, label_ties}
 use Rattle.camp_ctx.specs.Conflicts.{has_label, common_labels}
 
@@ -77,3 +78,12 @@ pub common_turned : (s t : List Named) (l : Label) → Contains (common_labels s
 common_turned s t l among =
     let both = in_from_filter (has_label t) l (map label_of s) (in_from_contains l (common_labels s t) among) in
     contains_from_in l (common_labels t s) (filter_from_in (has_label s) l (map label_of t) (has_from_in s l both.0) (in_from_has t l both.1))
+
+in_from_fronts : (l : Label) (s : List Named) (y : Named) (t : List Named) → Fronts l s y t → IsIn l (map label_of s)
+in_from_fronts l [] y t w = absurd w
+in_from_fronts l (p ∷ s) y t (inl w) = inl w.0
+in_from_fronts l (p ∷ s) y t (inr w) = let found = w.1 in inr (in_from_fronts l s found.0 found.2 found.3)
+
+-- no label comes to the front of a list that does not have it
+pub none_fronts : (l : Label) (s : List Named) → has_label s l ≡ false → (y : Named) (t : List Named) → ¬ (Fronts l s y t)
+none_fronts l s lacks y t w = let yes = has_from_in s l (in_from_fronts l s y t w) in cc

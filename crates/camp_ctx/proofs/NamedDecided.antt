@@ -13,7 +13,7 @@ use Rattle.camp_prim.specs.declared.primitives.Primitive.TheVariants.{Add, Remov
 use Rattle.camp_prim.specs.declared.named.Named.{Named}
 use Rattle.camp_prim.proofs.LabelOrder.{label_total, label_ties}
 use Rattle.camp_prim.proofs.SwapUnique.{same_named, same_hunk}
-use Rattle.camp_seq.proofs.SwapDecided.{Decided, decided_by, same_or_not}
+use Rattle.camp_prim.proofs.SwapDecided.{Decided, decided_by, same_or_not}
 
 bytes_tie : IsAntisymmetric (slice_cmp nat_cmp)
 bytes_tie = slice_cmp-IsAntisymmetric nat_cmp-IsAntisymmetric

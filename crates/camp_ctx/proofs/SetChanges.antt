@@ -6,7 +6,8 @@ use Rattle.std.specs.FinMap.Entries.{below_all}
 use Rattle.std.specs.Ordering.{is_lt, eq_by_cmp}
 use Rattle.std.proofs.lemmas.Option.{same_Some}
 use Rattle.camp_base.specs.Trees.{Files}
-use Rattle.camp_ctx.specs.Adding.{AddsAll}
+use Rattle.camp_prim.specs.declared.named.Named.{Named}
+use Rattle.camp_ctx.specs.Adding.{Adds, AddsAll}
 use Rattle.camp_ctx.specs.Contexts.{InContext, Contexts, ChangesAt, EachMember}
 use Rattle.camp_prim.specs.Labels.{key_cmp}
 use Rattle.camp_prim.specs.declared.labels.Key.{Key}
@@ -84,3 +85,14 @@ unchanged_at (Some x) = refl
 -- adding the empty list leaves a set as it is
 pub empty_changes_none : (xs ys : Contexts) → EachMember (AddsAll []) xs ys → ys ≡ xs
 empty_changes_none xs ys w = one_change_of_members (AddsAll []) (one_add_of_all []) xs ys xs w (λ key. unchanged_at (get xs key))
+
+alone_at : (a : Named) (was now : Option InContext) → ChangesAt (AddsAll (a ∷ [])) was now → ChangesAt (Adds a) was now
+alone_at a None None w = w
+alone_at a None (Some y) w = w
+alone_at a (Some x) None w = w
+alone_at a (Some x) (Some y) w = subst (λ u. Adds a u y) w.1 w.2
+
+-- a list of one is added as its one element
+pub added_alone : (a : Named) (r : List Named) (xs ys : Contexts) → r ≡ a ∷ [] → EachMember (AddsAll r) xs ys → EachMember (Adds a) xs ys
+added_alone a r xs ys is w key =
+    alone_at a (get xs key) (get ys key) (subst (λ s. ChangesAt (AddsAll s) (get xs key) (get ys key)) is (w key))

@@ -1,6 +1,8 @@
-ghost use Rattle.std.specs.Prelude.{◌≡◌, IfOk, MatchOption};
-ghost use Rattle.camp_ctx.specs.Adding.{Adds, AddsAll, Cancels, GivesNone, Keeps, PassesBy, PassesByAll};
+ghost use Rattle.std.specs.Prelude.{◌≡◌, IfOk};
+ghost use Rattle.camp_base.specs.Answers.{Finds};
+ghost use Rattle.camp_ctx.specs.Adding.{Adds, AddsAll, Cancels, Keeps, PassesBy, PassesByAll};
 
+use crate::conflicts::has_label;
 use crate::{Contexted, join};
 use camp_prim::{Named, commute};
 use camp_seq::{Seq, front, norm, past};
@@ -40,9 +42,7 @@ impl Contexted {
     /// `Some` of what is seen behind a list, as it is seen before the list, where each primitive of
     /// the list, from the last to the first, passes by. None where one can't.
     pub fn past(r: &Seq, x: &Contexted) -> Result<Option<Contexted>, AllocError>
-        ensures { IfOk result (λ found. MatchOption found
-            (GivesNone (PassesByAll r.now) x.now)
-            (λ y. PassesByAll r.now x.now y)) }
+        ensures exact { IfOk result (Finds (PassesByAll r.now x.now)) }
     {
         let items = r.items();
         let mut passed = x.try_clone()?;
@@ -59,9 +59,7 @@ impl Contexted {
     /// `Some` of what is seen behind a primitive, as it is seen before it, where the primitive
     /// passes by the context and the patch. None where it can't.
     pub fn past_one(a: &Named, x: &Contexted) -> Result<Option<Contexted>, AllocError>
-        ensures { IfOk result (λ found. MatchOption found
-            (GivesNone (PassesBy a.now) x.now)
-            (λ y. PassesBy a.now x.now y)) }
+        ensures exact { IfOk result (Finds (PassesBy a.now x.now)) }
     {
         let behind = past(a, x.context())?;
         let Some((context, a)) = behind else {
@@ -79,20 +77,23 @@ impl Contexted {
 /// The contexted patch without the inverse of `a` at the front of its context. None where what comes
 /// to the front there is not that inverse.
 fn cancelled(a: &Named, x: &Contexted) -> Result<Option<Contexted>, AllocError>
-    ensures { IfOk result (λ found. MatchOption found
-        (GivesNone (Cancels a.now) x.now)
-        (λ y. Cancels a.now x.now y)) }
+    ensures exact { IfOk result (Finds (Cancels a.now x.now)) }
 {
-    let found = front(x.context(), &a.label().opposite())?;
+    let context = x.context();
+    let label = a.label().opposite();
+    if !has_label(context.items(), &label) {
+        return Ok(None);
+    }
+    let found = front(context, &label)?;
     let Some((first, rest)) = found else {
         return Ok(None);
     };
     if !first.invert().is_same(a) {
         return Ok(None);
     }
-    let context = norm(&rest)?;
+    let left = norm(&rest)?;
     let patch = x.patch().try_clone()?;
-    Ok(Some(Contexted::new(x.allocator(), context, patch)?))
+    Ok(Some(Contexted::new(x.allocator(), left, patch)?))
 }
 
 /// The contexted patch with `a` before its context.

@@ -1,4 +1,5 @@
-ghost use Rattle.std.specs.Prelude.{◌≡◌, ◌↔◌, List, IfOk, IsTrue, MatchOption};
+ghost use Rattle.std.specs.Prelude.{◌≡◌, ◌↔◌, List, IfOk, IsTrue};
+ghost use Rattle.camp_base.specs.Answers.{FindsPair};
 ghost use Rattle.camp_prim.specs.declared.named.Named.{Named};
 ghost use Rattle.camp_ctx.specs.Conflicts.{common_labels, has_label, Conflict, MergesBehindCommon};
 ghost use Rattle.camp_ctx.specs.Contexts.{whole};
@@ -29,9 +30,7 @@ pub fn merge_behind_common(
     s: &Seq,
     t: &Seq,
 ) -> Result<Option<(Seq, Seq)>, AllocError>
-    ensures { IfOk result (λ found. MatchOption found
-        ((t' s' : List Named) → ¬ (MergesBehindCommon s.now t.now t' s'))
-        (λ pair. MergesBehindCommon s.now t.now pair.0 pair.1)) }
+    ensures exact { IfOk result (FindsPair (MergesBehindCommon s.now t.now)) }
 {
     let common = common_labels(alloc, s.items(), t.items())?;
     let labels = common.as_slice();
@@ -71,7 +70,8 @@ fn common_labels(alloc: Global, s: &[Named], t: &[Named]) -> Result<Vec<Label>, 
         .collect(alloc)
 }
 
-fn has_label(s: &[Named], label: &Label) -> bool
+/// Whether an element of a list has a label.
+pub(crate) fn has_label(s: &[Named], label: &Label) -> bool
     ensures { result ≡ has_label s.now label.now }
 {
     s.iter().any(|p| p.label().cmp(label).is_eq())

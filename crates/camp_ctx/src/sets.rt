@@ -1,15 +1,16 @@
 ghost use Rattle.std.specs.Prelude.{◌≡◌, ◌↔◌, IfOk, IsTrue, MatchOption, None, Some, slice_get};
 ghost use Rattle.std.specs.FinMap as map;
 ghost use Rattle.camp_ctx.specs.Contexts.{context_key, only, with_member, InContext, AreKeyed, EachMember};
-ghost use Rattle.camp_ctx.specs.Adding.{AddsAll};
+ghost use Rattle.camp_ctx.specs.Adding.{Adds, AddsAll};
 
-use crate::Contexted;
 use crate::keys::MemberKey;
-use camp_prim::Key;
+use crate::{Contexted, join};
+use camp_prim::{Key, Named};
 use camp_seq::Seq;
 use camp_share::{Share, SharedMap};
 use std::alloc::{AllocError, Global};
 use std::marker::Model;
+use std::slice;
 
 /// A set of contexted patches with different absolute labels.
 #[derive(Drop)]
@@ -127,6 +128,15 @@ impl CtxSet {
             alloc: set.alloc,
             members,
         })
+    }
+
+    /// The same with a primitive in place of a list.
+    pub fn add_one(a: &Named, set: &CtxSet) -> Result<CtxSet, AllocError>
+        ensures { IfOk result (λ sum. EachMember (Adds a.now) set.now sum) }
+    {
+        let list = join(set.alloc, slice::from_ref(a), &[])?;
+        let sum = CtxSet::add(&list, set)?;
+        Ok(sum)
     }
 
     pub fn try_clone(&self) -> Result<CtxSet, AllocError>

@@ -1,15 +1,26 @@
-use Rattle.std.proofs.Common.{◌∙◌, ap}
+use Rattle.std.proofs.Common.{◌∙◌, ap, sym}
 use Rattle.camp_prim.specs.Labels.{opposite}
-use Rattle.camp_ctx.proofs.AddSteps.{not_cancelled, cancels_from}
+use Rattle.camp_ctx.proofs.AddSteps.{nothing_cancels, not_cancelled, cancels_from}
+use Rattle.camp_ctx.proofs.CommonLabels.{none_fronts}
 use Rattle.camp_ctx.proofs.adding.cancelled.Goals as goal
+
+pub returns-then-not-has_label : goal.returns-then-not-has_label
+returns-then-not-has_label c =
+    let no = sym c.has_label.ensures ∙ c.if-not-has_label.true in
+    record { exact = nothing_cancels c.args.a.now c.args.x.now _ _ (c.opposite-label.ensures ∙ ap opposite c.label.ensures) (c.items.ensures ∙ c.context-context.ensures) (λ pair. none_fronts _ _ no pair.0 pair.1) }
+
+pub returns-in_default : goal.returns-in_default
+returns-in_default c =
+    let never = rw c.in_default.is at c.in_ok-found.ensures.exact in
+    record { exact = nothing_cancels c.args.a.now c.args.x.now _ _ (c.opposite-label.ensures ∙ ap opposite c.label.ensures) c.context-context.ensures never }
 
 pub returns-then-not-is_same : goal.returns-then-not-is_same
 returns-then-not-is_same c =
-    let front = rw c.in-Some.is at c.in_ok-found.ensures in
+    let front = rw c.in-Some.is at c.in_ok-found.ensures.exact in
     let no = c.if-not-is_same.true in
-    not_cancelled c.args.a.now c.args.x.now _ _ _ _ _ (c.opposite.ensures ∙ ap opposite c.label.ensures) c.context.ensures front c.invert.ensures (λ same. let yes = c.is_same.ensures.1 same in cc)
+    record { exact = not_cancelled c.args.a.now c.args.x.now _ _ _ _ _ (c.opposite-label.ensures ∙ ap opposite c.label.ensures) c.context-context.ensures front c.invert.ensures (λ same. let yes = c.is_same.ensures.1 same in cc) }
 
 pub returns : goal.returns
 returns c =
-    let front = rw c.in-Some.is at c.in_ok-found.ensures in
-    cancels_from c.args.a.now c.args.x.now _ _ _ _ _ (c.opposite.ensures ∙ ap opposite c.label.ensures) c.context.ensures front c.invert.ensures _ _ _ (c.is_same.ensures.0 c.if-not-is_same.false) c.in_ok-context.ensures.order (c.in_ok-patch.ensures ∙ c.patch.ensures) c.in_ok-new.ensures
+    let front = rw c.in-Some.is at c.in_ok-found.ensures.exact in
+    record { exact = cancels_from c.args.a.now c.args.x.now _ _ _ _ _ (c.opposite-label.ensures ∙ ap opposite c.label.ensures) c.context-context.ensures front c.invert.ensures _ _ _ (c.is_same.ensures.0 c.if-not-is_same.false) c.in_ok-left.ensures.order (c.in_ok-patch.ensures ∙ c.patch.ensures) c.in_ok-new.ensures }

@@ -4,5 +4,5 @@ use Rattle.camp_ctx.proofs.conflicts.conflict.Goals as goal
 
 pub returns-in-None : goal.returns-in-None
 returns-in-None c =
-    let never = rw c.in-None.is at c.in_ok-merged.ensures in
+    let never = rw c.in-None.is at c.in_ok-merged.ensures.exact in
     (λ yes. conflicts_from _ _ _ _ c.in_ok-first.ensures c.in_ok-second.ensures never, λ conflict. refl)
