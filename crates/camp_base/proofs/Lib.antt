@@ -1,5 +1,2 @@
-pub mod Entries
-pub mod Files
 mod LineLemmas
-mod SameFiles
-mod Search
+mod TreeLemmas

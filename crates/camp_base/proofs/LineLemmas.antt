@@ -1,27 +1,41 @@
--- Lines put in place of others, and copies of files.
-use Rattle.std.proofs.Common.{◌≡◌, ℕ, ◌+◌, ◌-◌, ◌<◌, ◌≤◌, List, [], ◌∷◌, ◌++◌, length, get_or, take, drop, sym, ap, subst, ◌∙◌, refl, arith}
-use Rattle.std.proofs.lemmas.List.{append_assoc, take-append-drop, take_rest, drop-drop, drop_at, length-take-le, map_push, take_more, length-map, get_or-map}
+-- Lines put in place of others.
+use Rattle.std.proofs.Common.{◌≡◌, ◌↔◌, ℕ, ◌+◌, ◌-◌, ◌<◌, ◌≤◌, Bool, List, ◌++◌, length, take, drop, eqb, IsTrue, sym, ap, ◌∙◌, refl, arith}
+use Rattle.std.proofs.lemmas.List.{append_assoc, length-append, take-append-drop, drop-drop, drop_at, take_at, length-take-le}
+use Rattle.std.proofs.lemmas.Bool.Decides.{Decides-eqb}
+use Rattle.std.proofs.lemmas.Slice.Eq.{slice_eq-Decides}
+use Rattle.std.specs.Cmp.Lexicographic.{pointwise}
 use Rattle.std.specs.List.{splice}
 use Rattle.camp_base.specs.Trees.{Lines, SplicesLines}
-use Rattle.camp_base.specs.TreeFields.{entry_of, entries_of}
-use Rattle.camp_base.specs.declared.trees.File.{File}
+use Rattle.camp_base.specs.Steps.{StandsAt}
 
-pub spliced : (line : ℕ) (gone come rest lines given moved new : Lines) → 0 < line → line - 1 ≤ length lines → given ≡ lines → take (length given - (line - 1)) (drop (line - 1) given) ≡ gone ++ rest → moved ≡ come → new ≡ splice lines (line - 1) (line - 1 + length gone) moved → SplicesLines line gone come lines new
-spliced line gone come rest lines given moved new positive within same stands comes becomes =
+pub lines_told : (line : ℕ) (front lines : Lines) (told : Bool) → 0 < line → line - 1 ≤ length lines → told ≡ pointwise (pointwise eqb) (take (length front) (drop (line - 1) lines)) front → IsTrue told ↔ StandsAt line front lines
+lines_told line front lines told positive within answers =
+    let decided = slice_eq-Decides (λ l m. slice_eq-Decides Decides-eqb l m _ refl) (take (length front) (drop (line - 1) lines)) front _ refl in (
+      λ true. record { positive = positive; within = within; same = decided.0 (sym answers ∙ true) },
+      λ at. answers ∙ decided.1 at.same,
+    )
+
+-- where the old lines stand, the new ones can be put in their place
+pub spliced : (line : ℕ) (gone come lines : Lines) → StandsAt line gone lines → SplicesLines line gone come lines (splice lines (line - 1) (line - 1 + length gone) come)
+spliced line gone come lines at =
     let start = line - 1 in
-    let behind : drop start lines ≡ gone ++ rest = sym (take_rest lines start) ∙ subst (λ (ls : Lines). take (length ls - start) (drop start ls) ≡ gone ++ rest) same stands in
-    let left : drop (start + length gone) lines ≡ rest = sym (drop-drop (length gone) start lines) ∙ ap (drop (length gone)) behind ∙ drop_at gone rest (length gone) refl in
+    let behind : drop start lines ≡ gone ++ drop (start + length gone) lines = sym (take-append-drop (length gone) (drop start lines)) ∙ (λ j. at.same j ++ drop-drop (length gone) start lines j) in
     record {
       before = take start lines;
-      after = rest;
-      at = (let size = length-take-le start lines within in omega arith);
-      was = sym (take-append-drop start lines) ∙ ap (λ (ls : Lines). take start lines ++ ls) behind ∙ sym (append_assoc (take start lines) gone rest);
-      becomes = becomes ∙ (λ j. take start lines ++ (comes j ++ left j)) ∙ sym (append_assoc (take start lines) come rest);
+      after = drop (start + length gone) lines;
+      at = (let size = length-take-le start lines at.within in let positive = at.positive in omega arith);
+      was = sym (take-append-drop start lines) ∙ ap (λ (ls : Lines). take start lines ++ ls) behind ∙ sym (append_assoc (take start lines) gone (drop (start + length gone) lines));
+      becomes = sym (append_assoc (take start lines) come (drop (start + length gone) lines));
     }
 
-pub copied_more : (files copies after : List File) (i : ℕ) (file copy : File) → i < length files → file ≡ get_or files i file → entry_of copy ≡ entry_of file → entries_of copies ≡ take i (entries_of files) → after ≡ copies ++ copy ∷ [] → entries_of after ≡ take (i + 1) (entries_of files)
-copied_more files copies after i file copy within read same so_far becomes =
-    let size = length-map files entry_of in
-    let more = take_more (entries_of files) i (entry_of file) (omega arith) in
-    let here = get_or-map entry_of files i file (entry_of file) within ∙ ap entry_of (sym read) in
-    ap entries_of becomes ∙ map_push entry_of copies copy ∙ (λ j. so_far j ++ (same ∙ sym here) j ∷ []) ∙ sym more
+-- and nowhere else
+pub stands : (line : ℕ) (gone come lines any : Lines) → SplicesLines line gone come lines any → StandsAt line gone lines
+stands line gone come lines any splices =
+    let size : length splices.before ≡ line - 1 = (let at = splices.at in omega arith) in
+    let is : lines ≡ splices.before ++ (gone ++ splices.after) = splices.was ∙ append_assoc splices.before gone splices.after in
+    let long = ap length is ∙ length-append splices.before (gone ++ splices.after) in
+    record {
+      positive = (let at = splices.at in omega arith);
+      within = omega arith;
+      same = ap (λ ls. take (length gone) (drop (line - 1) ls)) is ∙ ap (take (length gone)) (drop_at splices.before (gone ++ splices.after) (line - 1) size) ∙ take_at gone splices.after (length gone) refl;
+    }

@@ -3,13 +3,21 @@ use Rattle.std.specs.Prelude.{◌≡◌, Bool, true, false, Option, None, Some, 
 use Rattle.camp_base.specs.declared.faults.Apply.{Apply}
 use Rattle.camp_base.specs.declared.faults.Apply.TheVariants.{DoesNotApply, Memory}
 
--- Ok where the change leads from the old value to the new one; DoesNotApply where it leads nowhere; and after either error nothing has changed
+-- Ok: the change led from the old value to the new one; DoesNotApply: it leads nowhere; Memory: it leads
+-- somewhere, and memory ran out; after either error nothing has changed
 abbrev pub Answers : {S : Type 0} → (S → S → Type 0) → S → Result (Unit {0}) Apply → S → Type 0
 Answers Change old (Ok done) new = Change old new
 Answers Change old (Err DoesNotApply) new = ((any : _) → ¬ (Change old any)) × (new ≡ old)
-Answers Change old (Err Memory) new = new ≡ old
+Answers Change old (Err Memory) new = ((any : _) × Change old any) × (new ≡ old)
 
--- true where the change leads from the old value to the new one; false where it leads nowhere, and then nothing has changed
+-- the same where only a trial with memory tells whether a change applies: Memory may come in place of any answer
+abbrev pub AnswersByTrial : {S : Type 0} → (S → S → Type 0) → S → Result (Unit {0}) Apply → S → Type 0
+AnswersByTrial Change old (Ok done) new = Change old new
+AnswersByTrial Change old (Err DoesNotApply) new = ((any : _) → ¬ (Change old any)) × (new ≡ old)
+AnswersByTrial Change old (Err Memory) new = new ≡ old
+
+-- true where the change leads from the old value to the new one; false where it leads nowhere, and then nothing has
+-- changed
 abbrev pub Changes : {S : Type 0} → (S → S → Type 0) → S → Bool → S → Type 0
 Changes Change old true new = Change old new
 Changes Change old false new = ((any : _) → ¬ (Change old any)) × (new ≡ old)

@@ -2,7 +2,6 @@
 use Rattle.std.specs.Prelude.{ℕ, Bool, not, ◌&&◌, ◌||◌, ◌==◌, nat_le, List, [], ◌∷◌, length, slice_index}
 use Rattle.std.specs.List.{list_all, slice_split}
 use Rattle.std.specs.Cmp.Lexicographic.{pointwise}
-use Rattle.camp_base.specs.declared.TheConstants.{MAX_NAME_LENGTH, MAX_PATH_LENGTH, MAX_LINE_LENGTH}
 
 -- whether a byte lies from low to high
 abbrev pub is_between : ℕ → ℕ → ℕ → Bool
@@ -14,7 +13,7 @@ is_name_byte byte = is_between 97 122 byte || (is_between 48 57 byte || byte == 
 
 -- whether bytes are a name: 1 to 40 of those, the first not `-`
 abbrev pub is_name : List ℕ → Bool
-is_name bytes = not (length bytes == 0) && (not (slice_index bytes 0 == 45) && (nat_le (length bytes) MAX_NAME_LENGTH && list_all is_name_byte bytes))
+is_name bytes = not (length bytes == 0) && (not (slice_index bytes 0 == 45) && (nat_le (length bytes) 40 && list_all is_name_byte bytes))
 
 -- whether a byte is a printing character of ASCII, and no space
 abbrev pub is_graphic : ℕ → Bool
@@ -30,8 +29,8 @@ path_parts bytes = slice_split (λ byte. byte == 47) bytes
 
 -- whether bytes are a path: 1 to 200 printing characters, in parts between `/`
 abbrev pub is_path : List ℕ → Bool
-is_path bytes = nat_le (length bytes) MAX_PATH_LENGTH && (list_all is_graphic bytes && list_all is_path_part (path_parts bytes))
+is_path bytes = nat_le (length bytes) 200 && (list_all is_graphic bytes && list_all is_path_part (path_parts bytes))
 
 -- whether bytes are a line: at most 4,096, none of them LF
 abbrev pub is_line : List ℕ → Bool
-is_line bytes = nat_le (length bytes) MAX_LINE_LENGTH && list_all (λ byte. not (byte == 10)) bytes
+is_line bytes = nat_le (length bytes) 4096 && list_all (λ byte. not (byte == 10)) bytes

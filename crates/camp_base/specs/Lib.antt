@@ -2,6 +2,5 @@ pub mod Answers
 pub mod Bytes
 pub mod Made
 pub mod NameFields
-pub mod Places
-pub mod TreeFields
+pub mod Steps
 pub mod Trees

@@ -8,7 +8,7 @@ mod paths;
 mod trees;
 
 pub use faults::{Apply, BaseFault};
-pub use lines::{Line, copy_lines};
+pub use lines::Line;
 pub use names::Name;
 pub use paths::Path;
 pub use trees::Tree;

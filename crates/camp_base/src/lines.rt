@@ -8,13 +8,14 @@ ghost use Rattle.camp_base.specs.Made.{Makes};
 ghost use Rattle.camp_base.specs.declared.faults.BaseFault.TheVariants as fault;
 
 use crate::{BaseFault, MAX_LINE_LENGTH};
+use camp_share::{Share, Shared};
 use std::alloc::{AllocError, Global};
 use std::marker::Model;
 
 /// A line of a file, without its end: 0 to 4,096 bytes, none of them LF.
 #[derive(Debug, Drop)]
 pub struct Line {
-    bytes: Vec<u8>,
+    bytes: Shared<Vec<u8>>,
 }
 
 impl Model for Line {
@@ -36,7 +37,7 @@ impl Line {
         if !is_line(bytes) {
             return Err(BaseFault::BadLine);
         }
-        let bytes = Vec::from_slice(alloc, bytes)?;
+        let bytes = Shared::new(alloc, Vec::from_slice(alloc, bytes)?)?;
         Ok(Line { bytes })
     }
 
@@ -48,24 +49,19 @@ impl Line {
         &self.bytes
     }
 
-    /// A line of the same bytes.
+    /// The same line. It shares its bytes with this one and takes no memory.
     pub fn try_clone(&self) -> Result<Line, AllocError>
         ensures { IfOk result (λ copy. copy ≡ self.now) }
     {
-        let bytes = Vec::from_slice(*self.bytes.allocator(), &self.bytes)?;
-        Ok(Line { bytes })
+        self.share()
     }
 }
 
-/// A copy of each line, in order.
-pub fn copy_lines(alloc: Global, lines: &[Line]) -> Result<Vec<Line>, AllocError>
-    ensures { IfOk result (λ copies. copies.items ≡ lines.now) }
-{
-    let mut copies = Vec::with_capacity(alloc, lines.len())?;
-    for line in lines {
-        copies.push(line.try_clone()?)?;
+impl Share for Line {
+    fn share(&self) -> Result<Line, AllocError> {
+        let bytes = self.bytes.share()?;
+        Ok(Line { bytes })
     }
-    Ok(copies)
 }
 
 fn is_line(bytes: &[u8]) -> bool

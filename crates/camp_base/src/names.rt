@@ -1,13 +1,15 @@
-ghost use Rattle.std.specs.Prelude.{◌≡◌, ◌==◌, if◌then◌else◌, IsTrue, Some};
+ghost use Rattle.std.specs.Prelude.{◌≡◌, ◌==◌, if◌then◌else◌, IsTrue, Some, ⊤};
 ghost use Rattle.std.specs.List.{list_all};
 ghost use Rattle.std.specs.Ordering.{nat_cmp, as_partial_cmp};
 ghost use Rattle.std.specs.Cmp.{partial_order_from_own_ties};
 ghost use Rattle.std.specs.Cmp.Rules.{comparing};
 ghost use Rattle.std.specs.Cmp.Lexicographic.{slice_cmp, pointwise};
+ghost use Rattle.std.specs.FinMap.{nat_cmp-IsAntisymmetric, slice_cmp-IsAntisymmetric};
 ghost use Rattle.std.proofs.Common.{rules};
 ghost use Rattle.camp_base.specs.Bytes.{is_name, is_name_byte};
 
 use crate::{BaseFault, MAX_NAME_LENGTH};
+use camp_share::{Key, Share};
 use std::alloc::AllocError;
 use std::cmp::Ordering;
 use std::marker::Model;
@@ -40,12 +42,24 @@ impl Model for Name {
 impl Clone for Name {
     ghost is_clone = { λ name copy. copy ≡ name };
 
+    ghost is_infallible = { λ _. ⊤ };
+
     fn clone(&self) -> Result<Name, AllocError> {
         Ok(*self)
     }
 }
 
 impl Copy for Name {}
+
+impl Share for Name {
+    fn share(&self) -> Result<Name, AllocError> {
+        Ok(*self)
+    }
+}
+
+impl Key for Name {
+    ghost same = { slice_cmp-IsAntisymmetric nat_cmp-IsAntisymmetric };
+}
 
 impl Name {
     /// The name that the bytes spell. It takes no memory.

@@ -4,12 +4,14 @@ ghost use Rattle.std.specs.Ordering.{nat_cmp, as_partial_cmp};
 ghost use Rattle.std.specs.Cmp.{partial_order_from_own_ties};
 ghost use Rattle.std.specs.Cmp.Rules.{comparing};
 ghost use Rattle.std.specs.Cmp.Lexicographic.{slice_cmp, pointwise};
+ghost use Rattle.std.specs.FinMap.{nat_cmp-IsAntisymmetric, slice_cmp-IsAntisymmetric};
 ghost use Rattle.std.proofs.Common.{rules};
 ghost use Rattle.camp_base.specs.Bytes.{is_graphic, is_path, is_path_part, path_parts};
 ghost use Rattle.camp_base.specs.Made.{Makes};
 ghost use Rattle.camp_base.specs.declared.faults.BaseFault.TheVariants as fault;
 
 use crate::{BaseFault, MAX_PATH_LENGTH};
+use camp_share::{Key, Share, Shared};
 use std::alloc::{AllocError, Global};
 use std::cmp::Ordering;
 use std::marker::Model;
@@ -19,7 +21,7 @@ use std::{fmt, str};
 /// `.` and not `..`. Paths are plain keys, ordered by their bytes: `d` and `d/e` may both be files.
 #[derive(Debug, Drop)]
 pub struct Path {
-    bytes: Vec<u8>,
+    bytes: Shared<Vec<u8>>,
 }
 
 impl Model for Path {
@@ -41,7 +43,7 @@ impl Path {
         if !is_path(bytes) {
             return Err(BaseFault::BadPath);
         }
-        let bytes = Vec::from_slice(alloc, bytes)?;
+        let bytes = Shared::new(alloc, Vec::from_slice(alloc, bytes)?)?;
         Ok(Path { bytes })
     }
 
@@ -53,13 +55,23 @@ impl Path {
         &self.bytes
     }
 
-    /// A path of the same bytes.
+    /// The same path. It shares its bytes with this one and takes no memory.
     pub fn try_clone(&self) -> Result<Path, AllocError>
         ensures { IfOk result (λ copy. copy ≡ self.now) }
     {
-        let bytes = Vec::from_slice(*self.bytes.allocator(), &self.bytes)?;
+        self.share()
+    }
+}
+
+impl Share for Path {
+    fn share(&self) -> Result<Path, AllocError> {
+        let bytes = self.bytes.share()?;
         Ok(Path { bytes })
     }
+}
+
+impl Key for Path {
+    ghost same = { slice_cmp-IsAntisymmetric nat_cmp-IsAntisymmetric };
 }
 
 fn is_path(bytes: &[u8]) -> bool

@@ -1,44 +1,34 @@
-ghost use Rattle.std.specs.Prelude.{◌≡◌, ◌==◌, ◌↔◌, IfOk, IfErr, IsTrue, MatchOption, None, Some, slice_get};
-ghost use Rattle.std.specs.Ordering.{nat_cmp};
-ghost use Rattle.std.specs.Cmp.Lexicographic.{slice_cmp};
+ghost use Rattle.std.specs.Prelude.{◌≡◌, ◌==◌, ◌↔◌, IfOk, IsTrue, MatchOption, None, Some, slice_get};
 ghost use Rattle.std.specs.FinMap as map;
-ghost use Rattle.camp_base.specs.Trees.{Adds, Removes, Splices, SplicesLines};
-ghost use Rattle.camp_base.specs.TreeFields.{entry_of};
-ghost use Rattle.camp_base.specs.Places.{BeginsWith, IsAt, WouldBeAt};
+ghost use Rattle.camp_base.specs.Trees.{Adds, Removes, Splices};
 ghost use Rattle.camp_base.specs.Answers.{Answers};
-ghost use Rattle.camp_base.specs.declared.faults.Apply.TheVariants as apply;
+ghost use Rattle.camp_base.specs.Steps.{Steps, StandsAt};
 
-use crate::{Apply, Line, Path, copy_lines};
+use crate::{Apply, Line, Path};
+use camp_share::{Share, Shared, SharedList, SharedMap};
 use std::alloc::{AllocError, Global};
 use std::marker::Model;
 
-/// The files of a repository: each path with its lines, in the order of the bytes of the paths.
+/// The files of a repository: each path with its lines, in the order of the bytes of the paths. A
+/// tree shares its files with the trees that it was made from.
 #[derive(Drop)]
 pub struct Tree {
-    files: Vec<File>,
-}
-
-#[derive(PartialEq, Drop)]
-struct File {
-    path: Path,
-    lines: Vec<Line>,
+    files: SharedMap<Path, Shared<SharedList<Line>>>,
 }
 
 impl Model for Tree {
-    ghost use Rattle.std.specs.FinMap.{from_sorted};
+    ghost use Rattle.std.specs.Ordering.{nat_cmp};
+    ghost use Rattle.std.specs.Cmp.Lexicographic.{slice_cmp};
     ghost use Rattle.std.specs.FinMap as map;
     ghost use Rattle.std.specs.Coded.{coded_ℕ, coded_list};
+    ghost use Rattle.camp_share.specs.Maps.{map_of};
     ghost use Rattle.camp_base.specs.Trees.{Files};
 
     ghost Value = { Files };
 
     ghost coded = { map.code (coded_list coded_ℕ) (coded_list (coded_list coded_ℕ)) };
 
-    ghost use Rattle.camp_base.specs.TreeFields.{files_of, IsInOrder};
-
-    ghost view = { files_of };
-
-    ghost invariant = { IsInOrder };
+    ghost view = { λ tree. map_of (slice_cmp nat_cmp) tree.files };
 }
 
 impl Tree {
@@ -47,7 +37,7 @@ impl Tree {
         ensures { result ≡ map.empty }
     {
         Tree {
-            files: Vec::new(alloc),
+            files: SharedMap::new(alloc),
         }
     }
 
@@ -66,57 +56,54 @@ impl Tree {
     }
 
     /// The lines of the file of a path.
-    pub fn file(&self, path: &Path) -> Option<&[Line]>
+    pub fn file(&self, path: &Path) -> Option<&SharedList<Line>>
         ensures { MatchOption result
             (map.get self.now path.now ≡ None)
             (λ lines. map.get self.now path.now ≡ Some lines.now) }
     {
-        match self.place(path) {
-            Ok(index) => Some(&self.files[index].lines),
-            Err(_) => None,
+        match self.files.get(path) {
+            Some(lines) => {
+                let lines: &SharedList<Line> = lines;
+                Some(lines)
+            }
+            None => None,
         }
     }
 
     /// The file at a place in the order of the paths: its path and its lines.
-    pub fn at(&self, index: usize) -> Option<(&Path, &[Line])>
+    pub fn at(&self, index: usize) -> Option<(&Path, &SharedList<Line>)>
         ensures { MatchOption result
             (slice_get (map.entries self.now) index ≡ None)
             (λ file. slice_get (map.entries self.now) index ≡ Some (file.0.now, file.1.now)) }
     {
-        if index >= self.files.len() {
-            return None;
+        match self.files.at(index) {
+            Some(file) => {
+                let lines: &SharedList<Line> = &file.1;
+                Some((&file.0, lines))
+            }
+            None => None,
         }
-        let file = &self.files[index];
-        Some((&file.path, &file.lines))
     }
 
     /// Adds a file without lines.
     pub fn add_file(&mut self, path: &Path) -> Result<(), Apply>
         ensures { Answers (Adds path.now) self.old result self.new }
     {
-        match self.place(path) {
-            Ok(_) => Err(Apply::DoesNotApply),
-            Err(index) => {
-                let path = path.try_clone()?;
-                let lines = Vec::new(*self.files.allocator());
-                Ok(self.files.insert(index, File { path, lines })?)
-            }
+        if self.files.contains_key(path) {
+            return Err(Apply::DoesNotApply);
         }
+        let lines = SharedList::new(self.files.allocator());
+        self.write(path, lines)
     }
 
-    /// Removes a file without lines. It takes no memory.
+    /// Removes a file without lines.
     pub fn remove_file(&mut self, path: &Path) -> Result<(), Apply>
-        ensures change { Answers (Removes path.now) self.old result self.new }
-        ensures without_memory { IfErr result (λ fault. fault ≡ apply.DoesNotApply) }
+        ensures { Answers (Removes path.now) self.old result self.new }
     {
-        let Ok(index) = self.place(path) else {
-            return Err(Apply::DoesNotApply);
-        };
-        if !self.files[index].lines.is_empty() {
-            return Err(Apply::DoesNotApply);
+        match self.file(path) {
+            Some(lines) if lines.is_empty() => self.erase(path),
+            _ => Err(Apply::DoesNotApply),
         }
-        self.files.remove(index);
-        Ok(())
     }
 
     /// Puts new lines in place of old ones in the file of a path, where the old ones stand from a
@@ -130,9 +117,16 @@ impl Tree {
     ) -> Result<(), Apply>
         ensures { Answers (Splices path.now line old.now new.now) self.old result self.new }
     {
-        match self.place(path) {
-            Ok(index) => splice_lines(&mut self.files[index].lines, line, old, new),
-            Err(_) => Err(Apply::DoesNotApply),
+        let Some(lines) = self.file(path) else {
+            return Err(Apply::DoesNotApply);
+        };
+        if !stands_at(lines, line, old) {
+            return Err(Apply::DoesNotApply);
+        }
+        let start = line as usize - 1;
+        match lines.spliced(start, start + old.len(), new) {
+            Ok(lines) => self.write(path, lines),
+            Err(_) => Err(Apply::Memory),
         }
     }
 
@@ -140,59 +134,54 @@ impl Tree {
     pub fn is_same(&self, other: &Tree) -> bool
         ensures { IsTrue result ↔ (self.now ≡ other.now) }
     {
+        if self.files.len() != other.files.len() {
+            return false;
+        }
         self.files == other.files
     }
 
-    /// A copy of the tree with copies of all its lines.
+    /// The same tree, which shares all its files with this one.
     pub fn try_clone(&self) -> Result<Tree, AllocError>
         ensures { IfOk result (λ copy. copy ≡ self.now) }
     {
-        let mut files = Vec::with_capacity(*self.files.allocator(), self.files.len())?;
-        for file in &self.files {
-            files.push(file.try_clone()?)?;
-        }
+        let files = self.files.share()?;
         Ok(Tree { files })
     }
 
-    // Where the file of a path is, or where it would be.
-    fn place(&self, path: &Path) -> Result<usize, usize>
-        ensures found { IfOk result (IsAt (map.entries self.now) path.now) }
-        ensures absent { IfErr result (WouldBeAt (slice_cmp nat_cmp) (map.entries self.now) path.now) }
+    // Gives the file of a path its lines, whether or not the path had a file.
+    fn write(&mut self, path: &Path, lines: SharedList<Line>) -> Result<(), Apply>
+        ensures { Steps (map.insert self.old path.now lines) self.old result self.new }
     {
-        self.files.binary_search_by(|file| file.path.cmp(path))
+        let lines = Shared::new(self.files.allocator(), lines)?;
+        self.files = self.files.inserted(path.try_clone()?, lines)?;
+        Ok(())
+    }
+
+    // Takes the file of a path away.
+    fn erase(&mut self, path: &Path) -> Result<(), Apply>
+        ensures { Steps (map.remove self.old path.now) self.old result self.new }
+    {
+        self.files = self.files.without(path)?;
+        Ok(())
     }
 }
 
-impl File {
-    fn try_clone(&self) -> Result<File, AllocError>
-        ensures { IfOk result (λ copy. entry_of copy ≡ entry_of self.now) }
-    {
-        let path = self.path.try_clone()?;
-        let lines = copy_lines(*self.lines.allocator(), &self.lines)?;
-        Ok(File { path, lines })
+impl Share for Tree {
+    fn share(&self) -> Result<Tree, AllocError> {
+        self.try_clone()
     }
 }
 
-fn splice_lines(lines: &mut Vec<Line>, line: u32, old: &[Line], new: &[Line]) -> Result<(), Apply>
-    ensures { Answers (SplicesLines line old.now new.now) lines.old.items result lines.new.items }
+// Whether lines stand in others from a line on, which counts from 1.
+fn stands_at(lines: &SharedList<Line>, line: u32, old: &[Line]) -> bool
+    ensures { IsTrue result ↔ StandsAt line old.now lines.now }
 {
     if line == 0 {
-        return Err(Apply::DoesNotApply);
+        return false;
     }
-    let start = line as usize - 1;
-    if start > lines.len() {
-        return Err(Apply::DoesNotApply);
+    let from = line as usize - 1;
+    if from > lines.len() {
+        return false;
     }
-    if !begins_with(&lines[start..], old) {
-        return Err(Apply::DoesNotApply);
-    }
-    let new = copy_lines(*lines.allocator(), new)?;
-    lines.splice(start..start + old.len(), new)?;
-    Ok(())
-}
-
-fn begins_with(lines: &[Line], front: &[Line]) -> bool
-    ensures { IsTrue result ↔ BeginsWith front.now lines.now }
-{
-    lines.starts_with(front)
+    lines.has_at(from, old)
 }

@@ -11,7 +11,7 @@ mod trees;
 mod words;
 
 pub use faults::NotationError;
-pub use lists::list_text;
+pub use lists::{list_text, listing};
 pub use patches::{label_text, named_text};
 pub use readings::{read_label, read_lines, read_list, read_named, read_tree, read_word};
 pub use trees::tree_text;

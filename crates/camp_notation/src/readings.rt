@@ -7,7 +7,7 @@ ghost use Rattle.camp_notation.specs.Words.{lines_text, word_text};
 use crate::cursors::Cursor;
 use crate::{NotationError, label_text, lines_text, list_text, named_text, tree_text, word_text};
 use camp_base::{Line, Name, Path, Tree};
-use camp_prim::{Label, Named, Primitive};
+use camp_prim::{Label, Lines, Named, Primitive};
 use camp_seq::Seq;
 use std::alloc::Global;
 
@@ -206,6 +206,7 @@ fn read_hunk(
     let old = read_row_of_lines(alloc, cursor)?;
     cursor.expect(b" -> ", '-')?;
     let new = read_row_of_lines(alloc, cursor)?;
+    let (old, new) = (Lines::new(alloc, old)?, Lines::new(alloc, new)?);
     Primitive::hunk(path, line, old, new).ok_or(NotationError::NoHunk)
 }
 

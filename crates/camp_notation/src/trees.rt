@@ -16,7 +16,7 @@ pub fn tree_text(alloc: Global, tree: &Tree) -> Result<String, AllocError>
             unreachable!();
         };
         append_separator(&mut text, at)?;
-        append_file(&mut text, path, lines)?;
+        append_file(&mut text, path, &lines.to_vec()?)?;
     }
     text.push('}')?;
     Ok(text)

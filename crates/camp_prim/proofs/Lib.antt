@@ -1,4 +1,5 @@
 pub mod Applied
+pub mod FileEnds
 pub mod FilesAtPaths
 pub mod HunksOfOneFile
 pub mod Inverses

@@ -1,5 +1,6 @@
 -- The tree that a primitive leads to, as a function, and that inverses lead back.
-use Rattle.std.specs.Prelude.{◌≡◌, ◌↔◌, ℕ, ◌+◌, ◌-◌, Bool, true, false, ◌&&◌, ◌==◌, if◌then◌else◌, Option, None, Some, option_map, option_and_then, [], ◌∷◌, ◌++◌, length, take, drop, bytes_eq}
+use Rattle.std.specs.Prelude.{◌≡◌, ◌↔◌, ℕ, ◌+◌, ◌-◌, Bool, true, false, ◌&&◌, ◌==◌, if◌then◌else◌}
+use Rattle.std.specs.Prelude.{Option, None, Some, option_map, option_and_then, [], ◌∷◌, ◌++◌, length, take, drop, bytes_eq}
 use Rattle.std.specs.Cmp.Lexicographic.{pointwise}
 use Rattle.std.specs.FinMap.{get, contains_key, insert, remove}
 use Rattle.camp_base.specs.Trees.{Lines, Files}
@@ -29,7 +30,8 @@ abbrev pub applied : Primitive → Files → Option Files
 applied (Add path) files = if contains_key files path then None else Some (insert files path [])
 applied (Remove path) files = if is_empty_file (get files path) then Some (remove files path) else None
 applied (Hunk hunk) files =
-    option_and_then (λ lines. option_map (insert files hunk.path) (spliced hunk.line hunk.old hunk.new lines)) (get files hunk.path)
+    option_and_then (λ lines. option_map (insert files hunk.path) (spliced hunk.line hunk.old hunk.new lines))
+    (get files hunk.path)
 
 -- a primitive leads to a tree just where this is the one that the function gives
 abbrev pub AppliedIsApplies : Type 0

@@ -9,7 +9,8 @@ pub record Edit : Type 0 where
   pub old : Lines
   pub new : Lines
 
--- a hunk that may stand in a patch: its line is counted from 1, one of its sides has lines, and its line and the numbers of its old and new lines add up to 2^30 at most
+-- a hunk that may stand in a patch: its line is counted from 1, one of its sides has lines, and its line and the
+-- numbers of its old and new lines add up to 2^30 at most
 pub record IsInRange (hunk : Edit) : Type 0 where
   pub counted : 1 ≤ hunk.line
   pub changes : 1 ≤ length hunk.old + length hunk.new

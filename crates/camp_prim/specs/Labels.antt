@@ -27,7 +27,8 @@ key_cmp a b = ordering_then (slice_cmp nat_cmp a.name b.name) (nat_cmp a.place b
 -- labels in order: by the bytes of the name, then by place, then the positive before the negative
 abbrev pub label_cmp : Label → Label → Ordering
 label_cmp a b =
-    ordering_then (slice_cmp nat_cmp a.name b.name) (ordering_then (nat_cmp a.place b.place) (bool_cmp a.inverse b.inverse))
+    ordering_then (slice_cmp nat_cmp a.name b.name)
+    (ordering_then (nat_cmp a.place b.place) (bool_cmp a.inverse b.inverse))
 
 -- the absolute labels of two primitives are equal
 abbrev pub SameKey : Named → Named → Type 0
@@ -36,7 +37,10 @@ SameKey p q = key_of (label_of p) ≡ key_of (label_of q)
 -- keys as plain data, for maps over them
 abbrev pub coded_key : Coded Key
 coded_key =
-    code_by (List ℕ × ℕ) (coded× (coded_list coded_ℕ) coded_ℕ) (λ k. (k.name, k.place)) (λ p. record { name = p.0; place = p.1 }) (λ _. refl)
+    code_by (List ℕ × ℕ) (coded× (coded_list coded_ℕ) coded_ℕ)
+    (λ k. (k.name, k.place))
+    (λ p. record { name = p.0; place = p.1 })
+    (λ _. refl)
 
 -- labels as plain data, for maps over them
 abbrev pub coded_label : Coded Label

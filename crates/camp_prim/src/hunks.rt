@@ -3,7 +3,9 @@ ghost use Rattle.camp_prim.specs.Effect.{flipped};
 ghost use Rattle.camp_prim.specs.Hunks.{Edit, IsInRange};
 ghost use Rattle.camp_prim.specs.Swaps.{at_line};
 
-use camp_base::{Line, Path, copy_lines};
+use crate::Lines;
+use camp_base::{Line, Path};
+use camp_share::Share;
 use std::alloc::AllocError;
 use std::marker::Model;
 
@@ -16,8 +18,8 @@ const MAX_REACH: usize = 1 << 30;
 pub struct Hunk {
     path: Path,
     line: u32,
-    old: Vec<Line>,
-    new: Vec<Line>,
+    old: Lines,
+    new: Lines,
 }
 
 impl Model for Hunk {
@@ -33,11 +35,11 @@ impl Model for Hunk {
 }
 
 impl Hunk {
-    pub(crate) fn from_parts(path: Path, line: u32, old: Vec<Line>, new: Vec<Line>) -> Option<Hunk>
-        ensures { let edit : Edit = record { path = path; line = line; old = old.items; new = new.items } in
+    pub(crate) fn from_parts(path: Path, line: u32, old: Lines, new: Lines) -> Option<Hunk>
+        ensures { let edit : Edit = record { path = path; line = line; old = old; new = new } in
             MatchOption result (¬ (IsInRange edit)) (λ hunk. IsInRange edit × (hunk ≡ edit)) }
     {
-        if !is_in_range(line, old.len(), new.len()) {
+        if !is_in_range(line, old.as_slice().len(), new.as_slice().len()) {
             return None;
         }
         Some(Hunk {
@@ -68,14 +70,14 @@ impl Hunk {
     pub fn old(&self) -> &[Line]
         ensures { result.now ≡ self.now.old }
     {
-        &self.old
+        self.old.as_slice()
     }
 
     /// The lines that it puts in their place.
     pub fn new(&self) -> &[Line]
         ensures { result.now ≡ self.now.new }
     {
-        &self.new
+        self.new.as_slice()
     }
 
     /// The hunk with its sides changed over, which takes it back.
@@ -100,7 +102,7 @@ impl Hunk {
     pub(crate) fn can_stand_at(&self, line: u32) -> bool
         ensures { IsTrue result ↔ IsInRange (at_line line self.now) }
     {
-        is_in_range(line, self.old.len(), self.new.len())
+        is_in_range(line, self.old().len(), self.new().len())
     }
 
     /// Moves the hunk to another line.
@@ -111,12 +113,13 @@ impl Hunk {
         self.line = line;
     }
 
+    /// The same hunk. It shares its path and its lines with this one and takes no memory.
     pub fn try_clone(&self) -> Result<Hunk, AllocError>
         ensures { IfOk result (λ copy. copy ≡ self.now) }
     {
         let path = self.path.try_clone()?;
-        let old = copy_lines(*self.old.allocator(), &self.old)?;
-        let new = copy_lines(*self.new.allocator(), &self.new)?;
+        let old = self.old.share()?;
+        let new = self.new.share()?;
         Ok(Hunk {
             path,
             line: self.line,
@@ -135,10 +138,10 @@ impl Hunk {
         if self.line != other.line {
             return false;
         }
-        if !are_same(&self.old, &other.old) {
+        if !are_same(self.old(), other.old()) {
             return false;
         }
-        are_same(&self.new, &other.new)
+        are_same(self.new(), other.new())
     }
 }
 

@@ -8,6 +8,7 @@ mod hunks;
 mod labels;
 mod named;
 mod primitives;
+mod sides;
 mod swaps;
 
 pub use effect::{applied_is_applies, inverse_leads_back};
@@ -16,4 +17,5 @@ pub use hunks::Hunk;
 pub use labels::{Key, Label, keys_are_ordered, labels_are_ordered};
 pub use named::Named;
 pub use primitives::Primitive;
+pub use sides::Lines;
 pub use swaps::{commute, commute_is_exchange, swap_has_laws, swap_is_unique};

@@ -5,6 +5,7 @@ ghost use Rattle.camp_prim.specs.Labels.{label_of};
 
 use crate::{Label, Primitive};
 use camp_base::{Apply, Name, Tree};
+use camp_share::Share;
 use std::alloc::AllocError;
 
 /// A primitive with its label: the name of its patch, its place in it, and its sign. The absolute
@@ -48,6 +49,7 @@ impl Named {
         }
     }
 
+    /// The same primitive under the same label. It takes no memory.
     pub fn try_clone(&self) -> Result<Named, AllocError>
         ensures { IfOk result (λ copy. copy ≡ self.now) }
     {
@@ -81,5 +83,11 @@ impl Named {
         ensures { Answers (Applies self.now.prim) tree.old result tree.new }
     {
         self.prim.apply(tree)
+    }
+}
+
+impl Share for Named {
+    fn share(&self) -> Result<Named, AllocError> {
+        self.try_clone()
     }
 }

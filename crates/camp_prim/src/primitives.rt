@@ -4,8 +4,8 @@ ghost use Rattle.camp_prim.specs.Effect.{Applies, InRange, inverted};
 ghost use Rattle.camp_prim.specs.Swaps.{path_of};
 ghost use Rattle.camp_prim.specs.Hunks.{Edit, IsInRange};
 
-use crate::Hunk;
-use camp_base::{Apply, Line, Path, Tree};
+use crate::{Hunk, Lines};
+use camp_base::{Apply, Path, Tree};
 use std::alloc::AllocError;
 
 /// The smallest changes to a tree.
@@ -22,8 +22,8 @@ pub enum Primitive {
 impl Primitive {
     /// The hunk of these parts. None where the line is 0, where both sides are empty, or where the
     /// line and the numbers of old and of new lines add up to more than 2^30.
-    pub fn hunk(path: Path, line: u32, old: Vec<Line>, new: Vec<Line>) -> Option<Primitive>
-        ensures { let edit : Edit = record { path = path; line = line; old = old.items; new = new.items } in
+    pub fn hunk(path: Path, line: u32, old: Lines, new: Lines) -> Option<Primitive>
+        ensures { let edit : Edit = record { path = path; line = line; old = old; new = new } in
             MatchOption result (¬ (IsInRange edit)) (λ made. IsInRange edit × (made ≡ Primitive.Hunk edit)) }
     {
         let hunk = Hunk::from_parts(path, line, old, new)?;
@@ -54,6 +54,7 @@ impl Primitive {
         }
     }
 
+    /// The same change. It shares its path and its lines with this one and takes no memory.
     pub fn try_clone(&self) -> Result<Primitive, AllocError>
         ensures { IfOk result (λ copy. copy ≡ self.now) }
     {

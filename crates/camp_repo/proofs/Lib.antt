@@ -1,4 +1,5 @@
 pub mod Accepted
+mod IndexLemmas
 pub mod LawLemmas
 pub mod Names
 pub mod RefusalLemmas

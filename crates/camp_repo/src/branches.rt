@@ -7,13 +7,16 @@ ghost use Rattle.camp_repo.specs.Trees.{IsLawful, tree_of};
 
 use camp_base::{Apply, Name, Tree};
 use camp_prim::{Named, Primitive};
+use camp_share::{Share, Shared, SharedList, SharedMap};
 use std::alloc::{AllocError, Global};
 use std::marker::Model;
 
-/// A branch: its patches in the order in which they came, and the tree that they lead to.
+/// A branch: its patches in the order in which they came, and the tree that they lead to. A branch
+/// shares its patches and its files with those that it was made from.
 #[derive(Drop)]
 pub struct Branch {
-    patches: Vec<Named>,
+    patches: SharedList<Shared<Named>>,
+    names: SharedMap<Name, ()>,
     tree: Tree,
 }
 
@@ -25,7 +28,7 @@ impl Model for Branch {
 
     ghost use Rattle.camp_repo.specs.BranchFields.{IsBranch};
 
-    ghost view = { λ branch. branch.patches.items };
+    ghost view = { λ branch. branch.patches };
 
     ghost invariant = { IsBranch };
 }
@@ -36,13 +39,14 @@ impl Branch {
         ensures lawful { IsLawful result }
     {
         Branch {
-            patches: Vec::new(alloc),
+            patches: SharedList::new(alloc),
+            names: SharedMap::new(alloc),
             tree: Tree::empty(alloc),
         }
     }
 
     /// The patches, in the order in which they came.
-    pub fn patches(&self) -> &[Named]
+    pub fn patches(&self) -> &SharedList<Shared<Named>>
         ensures value { result.now ≡ self.now }
         ensures lawful { IsLawful self.now }
     {
@@ -59,16 +63,21 @@ impl Branch {
     pub fn try_clone(&self) -> Result<Branch, AllocError>
         ensures { IfOk result (λ copy. copy ≡ self.now) }
     {
-        let patches = copy_patches(*self.patches.allocator(), &self.patches)?;
+        let patches = self.patches.share()?;
+        let names = self.names.share()?;
         let tree = self.tree.try_clone()?;
-        Ok(Branch { patches, tree })
+        Ok(Branch {
+            patches,
+            names,
+            tree,
+        })
     }
 
     /// Whether a patch of this name is among the patches.
     pub(crate) fn has_patch(&self, name: &Name) -> bool
         ensures { result ≡ list_any (λ p. bytes_eq p.name name.now) self.now }
     {
-        self.patches.iter().any(|patch| patch.name == *name)
+        self.names.contains_key(name)
     }
 
     /// The tree that a change leads to from that of the branch, if it applies.
@@ -101,18 +110,13 @@ impl Branch {
             inverse: false,
             prim: change.try_clone()?,
         };
-        let mut patches = copy_patches(*self.patches.allocator(), &self.patches)?;
-        patches.push(patch)?;
-        Ok(Branch { patches, tree })
+        let patch = Shared::new(self.patches.allocator(), patch)?;
+        let patches = self.patches.pushed(patch)?;
+        let names = self.names.inserted(*name, ())?;
+        Ok(Branch {
+            patches,
+            names,
+            tree,
+        })
     }
-}
-
-fn copy_patches(alloc: Global, patches: &[Named]) -> Result<Vec<Named>, AllocError>
-    ensures { IfOk result (λ copy. copy.items ≡ patches.now) }
-{
-    let mut copied = Vec::with_capacity(alloc, patches.len())?;
-    for patch in patches {
-        copied.push(patch.try_clone()?)?;
-    }
-    Ok(copied)
 }

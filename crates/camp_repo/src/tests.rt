@@ -1,6 +1,6 @@
 use crate::{Branch, Call, Decided, Refusal, Reply, State};
 use camp_base::{Line, Name, Path, Tree};
-use camp_prim::Primitive;
+use camp_prim::{Lines, Primitive};
 use std::alloc::{AllocError, Global};
 use std::process::Abort;
 use std::test::Fail;
@@ -28,7 +28,8 @@ fn edit(alloc: Global, path: Path, count: usize) -> Result<Primitive, Fail> {
     for _ in 0..count {
         new.push(Line::new(alloc, b"")?)?;
     }
-    Ok(Primitive::hunk(path, 1, Vec::new(alloc), new).ok_or("no hunk")?)
+    let (old, new) = (Lines::new(alloc, Vec::new(alloc))?, Lines::new(alloc, new)?);
+    Ok(Primitive::hunk(path, 1, old, new).ok_or("no hunk")?)
 }
 
 /// A record: its branch, the name of its patch and its change.

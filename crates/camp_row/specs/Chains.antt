@@ -28,7 +28,8 @@ cell_of seats before entry = turns entry.seat before * seats + entry.seat
 -- the word that names the last cell: 0 where there is none, else its number and 1
 abbrev pub head_after : ℕ → List Entry → ℕ → List Entry → ℕ
 head_after seats before word [] = word
-head_after seats before word (entry ∷ later) = head_after seats (before ++ entry ∷ []) (cell_of seats before entry + 1) later
+head_after seats before word (entry ∷ later) =
+    head_after seats (before ++ entry ∷ []) (cell_of seats before entry + 1) later
 
 abbrev pub head_word : ℕ → List Entry → ℕ
 head_word seats chain = head_after seats [] 0 chain

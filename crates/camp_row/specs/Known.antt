@@ -11,7 +11,8 @@ pub record RowId : Type 0 where
   pub seats : ℕ
   pub per_seat : ℕ
 
--- what a pass knows: its row and its seat's number, the entries that it has seen, the chain that it last found, and the two words of its seat's next cell
+-- what a pass knows: its row and its seat's number, the entries that it has seen, the chain that it last found,
+-- and the two words of its seat's next cell
 pub record Known : Type 0 where
   pub row : RowId
   pub number : ℕ
@@ -29,7 +30,7 @@ pub record IsSound (known : Known) : Type 0 where
   pub front : IsFront known.seen known.ahead
   pub own_seen : own known.number known.ahead ≡ own known.number known.seen
 
--- the chain was found as it is now: it has only grown, and the seat has no new entry in it
+-- the chain was found: it has only grown, it begins with what was seen, and the seat has no new entry in it
 pub record Finds (old new : Known) : Type 0 where
   pub is : new ≡ record old { ahead = new.ahead }
   pub grows : IsFront old.ahead new.ahead
@@ -38,9 +39,11 @@ pub record Finds (old new : Known) : Type 0 where
 -- the cells from `before` on, newest first
 abbrev pub cells_back : ℕ → List Entry → List Entry → List ℕ
 cells_back seats before [] = []
-cells_back seats before (entry ∷ later) = cells_back seats (before ++ entry ∷ []) later ++ cell_of seats before entry ∷ []
+cells_back seats before (entry ∷ later) =
+    cells_back seats (before ++ entry ∷ []) later ++ cell_of seats before entry ∷ []
 
--- the trail leads from what was seen to the end of the chain that was found: it has the cells between, the oldest on top
+-- the trail leads from what was seen to the end of the chain that was found: it has the cells between,
+-- the oldest on top
 pub record Leads (known : Known) (seen : List Entry) (trail : List ℕ) : Type 0 where
   pub left : List Entry
   pub is : seen ++ left ≡ known.ahead
@@ -66,14 +69,22 @@ with_draft known place = record known { parent = head_word known.row.seats known
 abbrev pub drafted : Known → Entry
 drafted known = record { seat = known.number; place = known.place }
 
+-- the pass when the drafted cell has become the last of the chain
+abbrev pub won : Known → Known
+won known =
+    let entries = known.seen ++ drafted known ∷ [] in
+    record known { seen = entries; ahead = entries; parent = 0; place = 0 }
+
 -- the chain was just what was seen; the drafted cell is its last now, and was seen
 pub record Won (old new : Known) : Type 0 where
   pub whole : old.ahead ≡ old.seen
-  pub is : new ≡ record old { seen = old.seen ++ drafted old ∷ []; ahead = old.seen ++ drafted old ∷ []; parent = 0; place = 0 }
+  pub is : new ≡ won old
 
 -- the chain was longer than what was seen, and was found
 pub record Lost (old new : Known) : Type 0 where
-  pub finds : Finds old new
+  pub is : new ≡ record old { ahead = new.ahead }
+  pub grows : IsFront old.ahead new.ahead
+  pub sound : IsSound new
   pub longer : IsShorter old.seen new.ahead
 
 -- of two passes, what one has seen begins what the other has seen

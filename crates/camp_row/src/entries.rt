@@ -3,6 +3,6 @@
 pub struct Entry {
     /// The seat that published it.
     pub seat: u32,
-    /// The number that the seat gave.
+    /// The number that the seat gave it.
     pub place: usize,
 }

@@ -1,13 +1,12 @@
 ghost use Rattle.std.specs.Prelude.{List};
 ghost use Rattle.std.specs.Borrow.{ftrue};
-ghost use Rattle.std.specs.Coded.{coded_list};
-ghost use Rattle.camp_row.specs.Inside.Parts.{Part, part_code};
+ghost use Rattle.camp_row.specs.Inside.Parts.{Part};
 
 use std::marker::Model;
 
 /// What a seat of the table knows. No value of it is made.
 pub struct Knowledge {
-    pub ghost parts: { List Part } by { coded_list part_code },
+    pub ghost parts: { List Part },
 }
 
 impl Model for Knowledge {

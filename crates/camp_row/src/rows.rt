@@ -11,7 +11,7 @@ use atomic_table::{Seat, Table};
 use std::alloc::{AllocError, Global};
 use std::marker::Model;
 
-/// The words. Contracts see it as `RowId`.
+/// The words, which threads share by a `&`. Contracts see it as `RowId`.
 #[derive(Drop)]
 pub struct Row {
     table: Table<(), Knowledge, Sizes, Law, Global>,
@@ -51,7 +51,9 @@ impl Row {
     ghost use Rattle.camp_row.specs.Inside.Parts.{all_fresh};
     ghost use Rattle.camp_row.specs.Known.{newcomer, Finds, Leads, ComesNext, IsDrafted, with_draft, Won, Lost, OneBegins};
 
-    /// A row with nothing published, and a pass for each of its seats, in their order.
+    /// A row with nothing published, and a pass for each of its seats, in their order. It has
+    /// `1 + 2 * seats * per_seat` words of eight bytes, for which it takes twice the memory while
+    /// it is made.
     pub fn new(alloc: Global, seats: u32, per_seat: u32) -> Result<(Row, Vec<Pass>), AllocError>
         requires seats { (0 < seats) × (seats ≤ 64) }
         requires per_seat { (0 < per_seat) × (per_seat ≤ 65536) }
@@ -105,7 +107,7 @@ impl Row {
         self.per_seat
     }
 
-    /// Finds the chain as it is now.
+    /// Finds the chain.
     pub fn look(&self, pass: &mut Pass)
         requires { pass.old.row ≡ self.now }
         ensures { Finds pass.old pass.new }
@@ -113,7 +115,8 @@ impl Row {
         pass.head = self.table.shared.load::<Look>(&mut pass.seat, 0);
     }
 
-    /// Goes back along the chain that was found, to what the pass has seen.
+    /// Goes back along the chain that was found, to what the pass has seen. The trail takes memory
+    /// for each cell between.
     pub fn walk(&self, alloc: Global, pass: &mut Pass) -> Result<Trail, AllocError>
         requires { pass.old.row ≡ self.now }
         ensures same { pass.new ≡ pass.old }
@@ -176,7 +179,8 @@ impl Row {
         pass.turn as usize * self.seats as usize + pass.number as usize
     }
 
-    /// Writes the seat's next cell: the last cell that was seen as the one before it, and its place.
+    /// Writes the seat's next cell: the last cell that was seen as the one before it, and its place,
+    /// any number of the caller's.
     pub fn draft(&self, pass: &mut Pass, place: usize)
         requires row { pass.old.row ≡ self.now }
         requires room { turns pass.old.number pass.old.seen < self.now.per_seat }
@@ -241,3 +245,6 @@ impl Row {
         }
     }
 }
+
+#[cfg(test)]
+mod tests;

@@ -14,7 +14,7 @@ use crate::faults::{FaultKind, ScriptFault, at_line};
 use crate::lines::{first_words, is_skipped};
 use crate::scripts::Script;
 use camp_base::{BaseFault, Line};
-use camp_prim::Primitive;
+use camp_prim::{Lines, Primitive};
 use camp_repo::Call;
 use std::alloc::Global;
 use std::marker::Model;
@@ -188,6 +188,8 @@ impl Reading {
             path,
             line,
         } = head;
+        let alloc = *self.calls.allocator();
+        let (old, new) = (Lines::new(alloc, old)?, Lines::new(alloc, new)?);
         match Primitive::hunk(path, line, old, new) {
             None => Err(at_line(number, FaultKind::BadNumber)),
             Some(change) => self.with_call(Call::Record {

@@ -99,7 +99,7 @@ fn extend_by_tree(text: &mut Vec<u8>, tree: &Tree) -> Result<(), AllocError>
         let Some((path, lines)) = tree.at(index) else {
             unreachable!();
         };
-        extend_by_file(text, path, lines)?;
+        extend_by_file(text, path, &lines.to_vec()?)?;
     }
     Ok(())
 }

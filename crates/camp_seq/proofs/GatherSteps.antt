@@ -1,7 +1,7 @@
 -- Elements with given labels, gathered from the last to the first.
-use Rattle.std.proofs.Common.{◌≡◌, ℕ, ◌+◌, ◌<◌, ◌≤◌, List, [], ◌∷◌, ◌++◌, length, take, drop, get_or, refl, sym, ap, ◌∙◌, subst, inl, inr, arith}
+use Rattle.std.proofs.Common.{◌≡◌, ℕ, ◌+◌, ◌<◌, List, [], ◌∷◌, ◌++◌, length, take, drop, get_or, refl, sym, ap, ◌∙◌, subst, inl, inr, arith}
 use Rattle.std.specs.Prelude.{Contains}
-use Rattle.std.proofs.lemmas.List.{append_assoc, length-append, length-drop, length-take-le, drop_more, take-take, take_at, drop_at}
+use Rattle.std.proofs.lemmas.List.{append_assoc, length-take-le, drop_more, take-take, take_at, drop_at}
 use borrow.Rule.Slice.PartMut.{put_mid}
 use Rattle.camp_prim.specs.Labels.{label_of}
 use Rattle.camp_prim.specs.declared.labels.Label.{Label}
@@ -10,12 +10,6 @@ use Rattle.camp_seq.specs.Inside.InPlace.{FirstPasses, PartsFrom}
 use Rattle.camp_seq.specs.Passing.{Passes, Parts}
 use Rattle.camp_seq.proofs.ListResults.{one_parting}
 use Rattle.camp_seq.proofs.ListSteps.{at_last, whole}
-
-pub parts_bound : (labels : List Label) (s now : List Named) (at count : ℕ) → PartsFrom labels s at count now → at ≤ length now → at + count ≤ length now
-parts_bound labels s now at count w within =
-    let is : length (drop at now) ≡ length (w.named ++ w.others) = ap (λ x. length x) w.is in
-    let counted : length w.named ≡ count = w.counted in
-    omega (arith, length-drop at now, length-append w.named w.others)
 
 shorter : (s0 s : List Named) (i : ℕ) → take (i + 1) s ≡ take (i + 1) s0 → take i s ≡ take i s0
 shorter s0 s i waiting =

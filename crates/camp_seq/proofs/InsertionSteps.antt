@@ -1,18 +1,16 @@
 -- One more element in its place keeps a list in normal order.
-use Rattle.std.proofs.Common.{◌≡◌, ◌≢◌, ◌⊎◌, List, [], ◌∷◌, ◌++◌, Ordering, refl, sym, ap, ◌∙◌, subst, inl, inr}
+use Rattle.std.proofs.Common.{◌≡◌, ◌≢◌, ◌⊎◌, List, [], ◌∷◌, ◌++◌, refl, sym, ap, ◌∙◌, subst, inl, inr}
 use Rattle.std.proofs.lemmas.List.{append_assoc}
-use Rattle.std.specs.Cmp.{tied_itself}
-use Rattle.std.specs.Ordering.{ordering_reverse}
-use Rattle.std.specs.declared.cmp.Ordering.TheVariants.{Less, Equal, Greater}
+use Rattle.std.specs.declared.cmp.Ordering.TheVariants.{Less}
 use Rattle.camp_prim.specs.Labels.{label_of, label_cmp}
 use Rattle.camp_prim.specs.declared.labels.Label.{Label}
 use Rattle.camp_prim.specs.Swaps.{Swap}
 use Rattle.camp_prim.specs.declared.named.Named.{Named}
-use Rattle.camp_prim.proofs.LabelOrder.{label_total, label_ties}
+use Rattle.camp_prim.proofs.LabelOrder.{not_below, not_above, not_below_both}
 use Rattle.camp_prim.proofs.SwapLaws.{own_inverse}
 use Rattle.camp_seq.specs.Equivalence.{◌~◌, backwards}
 use Rattle.camp_seq.specs.Inside.InPlace.{Precedes}
-use Rattle.camp_seq.specs.Inside.Insertions.{InOrder}
+use Rattle.camp_seq.specs.Inside.Insertions.{InOrder, Follows, StartsAfter}
 use Rattle.camp_seq.specs.NormalOrder.{IsLeast, Norm}
 use Rattle.camp_seq.specs.Passing.{Passes, Fronts}
 use Rattle.camp_seq.specs.Room.{Reaches, HasRoom}
@@ -72,29 +70,6 @@ left_in_order (q ∷ s) x x' s' room m o =
     in
     subst InOrder (sym is) (least, rest)
 
--- no label is less than itself
-not_below : (a b : Label) → a ≡ b → label_cmp a b ≢ Less
-not_below a b e less =
-    let tie : label_cmp b b ≡ Equal = tied_itself label_total b in
-    let own : label_cmp b b ≡ Less = subst (λ x. label_cmp x b ≡ Less) e less in
-    cc
-
--- of two labels the greater is not less
-not_above : (a b : Label) → label_cmp a b ≡ Less → label_cmp b a ≢ Less
-not_above a b less more = not_below a a refl (label_total.trans a b a less more)
-
-below_by : (r s : Ordering) (a b c : Label) → label_cmp b c ≡ r → label_cmp c b ≡ s → r ≡ ordering_reverse s → label_cmp a b ≢ Less → r ≢ Less → label_cmp a c ≢ Less
-below_by Less s a b c is back turn first second less = second refl
-below_by Equal s a b c is back turn first second less = first (subst (λ x. label_cmp a x ≡ Less) (sym (label_ties b c is)) less)
-below_by Greater Less a b c is back turn first second less = first (label_total.trans a c b less back)
-below_by Greater Equal a b c is back turn first second less = absurd (cc)
-below_by Greater Greater a b c is back turn first second less = absurd (cc)
-
--- a is not less than b, and b not less than c
-not_below_both : (a b c : Label) → label_cmp a b ≢ Less → label_cmp b c ≢ Less → label_cmp a c ≢ Less
-not_below_both a b c first second =
-    below_by (label_cmp b c) (label_cmp c b) a b c refl refl (label_total.antisymm b c) first second
-
 -- coming to the front keeps the label
 pub label_came : (s : List Named) (x x' : Named) (s' : List Named) → Precedes s x x' s' → label_of x' ≡ label_of x
 label_came [] x x' s' m = ap label_of m.0
@@ -111,17 +86,6 @@ fronts_of_longer label (q ∷ t) x y u (inr f) =
       | inl g ↦ inl (a.1 ∷ g.0, inr (f.0, (a.0, a.1, g.0, g.1, a.4, refl)))
       | inr g ↦ inr (g.0, (a.1 ∷ g.1.0, (a.0, a.1, g.1.0, g.1.1, a.4, refl)))
     ]
-
--- what x passes and what it does not: elements with lesser labels, or such that x can't come to before them
-abbrev pub Follows : List Named → List Named → Named → Type 0
-Follows [] s x = Unit {0}
-Follows (y ∷ a) s x =
-    ((label_cmp (label_of y) (label_of x) ≡ Less) ⊎ ((p : Named) (t : List Named) → ¬ (Precedes (y ∷ (a ++ s)) x p t))) × Follows a s x
-
--- the first of these elements has no lesser label
-abbrev pub StartsAfter : Label → List Named → Type 0
-StartsAfter label [] = Unit {0}
-StartsAfter label (y ∷ s) = label_cmp (label_of y) label ≢ Less
 
 -- what is behind x does not come to before it with a lesser label
 least_placed : (s : List Named) (x x' : Named) (s' : List Named) → HasRoom (x' ∷ s') → InOrder s → Precedes s x x' s' → StartsAfter (label_of x) s → IsLeast (label_of x') (x' ∷ s')

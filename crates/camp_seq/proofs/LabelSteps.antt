@@ -1,21 +1,17 @@
 -- Labels tried in ascending order.
-use Rattle.std.proofs.Common.{◌≡◌, ◌≢◌, ℕ, zero, suc, ◌+◌, ◌<◌, ◌≤◌, Bool, true, false, if◌then◌else◌, List, [], ◌∷◌, Option, None, Some, Ordering, length, take, get_or, IsTrue, refl, sym, ap, ◌∙◌, subst, inl, inr, arith}
-use Rattle.std.proofs.lemmas.List.Elements.{All-head, All-tail, All-more, All-weaker}
-use Rattle.std.specs.Cmp.{tied_itself}
-use Rattle.std.specs.Ordering.{is_lt, ordering_reverse}
-use Rattle.std.specs.declared.cmp.Ordering.TheVariants.{Less, Equal, Greater}
+use Rattle.std.proofs.Common.{◌≡◌, ◌≢◌, ℕ, zero, suc, ◌+◌, ◌<◌, ◌≤◌, Bool, true, false, if◌then◌else◌, List, [], ◌∷◌, Option, None, Some, Ordering, length, take, get_or, IsTrue, refl, sym, ap, subst, inl, inr, arith}
+use Rattle.std.proofs.lemmas.List.Elements.{All-more, All-weaker}
+use Rattle.std.specs.Ordering.{is_lt}
+use Rattle.std.specs.declared.cmp.Ordering.TheVariants.{Less}
 use Rattle.camp_prim.specs.Labels.{label_of, label_cmp}
 use Rattle.camp_prim.specs.declared.labels.Label.{Label}
 use Rattle.camp_prim.specs.declared.named.Named.{Named}
-use Rattle.camp_prim.proofs.LabelOrder.{label_total, label_ties}
+use Rattle.camp_prim.proofs.LabelOrder.{label_total, less_unless, not_below, less_from_lt}
+use Rattle.camp_seq.proofs.LabelsKept.{each_front}
 use Rattle.camp_seq.specs.Inside.LeastLabels.{is_above, StartsAbove, HasLabel, NoneLess, LeastAbove, untried, Settles}
 use Rattle.camp_seq.specs.NormalOrder.{IsLeast}
 use Rattle.camp_seq.specs.Passing.{Fronts}
 use Rattle.camp_seq.proofs.ListResults.{label-front}
-
--- no label is less than itself
-never_less : (l : Label) → label_cmp l l ≢ Less
-never_less l less = let tie : label_cmp l l ≡ Equal = tied_itself label_total l in cc
 
 pub holds_at : (s : List Named) (i : ℕ) (d : Named) → i < length s → HasLabel (label_of (get_or s i d)) s
 holds_at [] i d within = absurd (omega arith)
@@ -26,7 +22,7 @@ pub none_less_of : (tried : Option Label) (s : List Named) (i : ℕ) (d : Named)
 none_less_of tried s i d l least within is less none =
     let P : Named → Type 0 = λ p. IsTrue (is_above tried (label_of p)) → label_cmp (label_of p) least ≢ Less in
     let Q : Named → Type 0 = λ p. IsTrue (is_above tried (label_of p)) → label_cmp (label_of p) l ≢ Less in
-    All-more Q s i d within (All-weaker P Q (λ p none above below. none above (label_total.trans (label_of p) l least below less)) (take i s) none) (λ above below. never_less l (subst (λ x. label_cmp x l ≡ Less) (sym is) below))
+    All-more Q s i d within (All-weaker P Q (λ p none above below. none above (label_total.trans (label_of p) l least below less)) (take i s) none) (λ above below. not_below l l refl (subst (λ x. label_cmp x l ≡ Less) (sym is) below))
 
 pub none_less_still : (tried : Option Label) (s : List Named) (i : ℕ) (d : Named) (l least : Label) → i < length s → l ≡ label_of (get_or s i d) → ¬ (IsTrue (is_above tried l) × (label_cmp l least ≡ Less)) → NoneLess tried least (take i s) → NoneLess tried least (take (i + 1) s)
 none_less_still tried s i d l least within is not none =
@@ -34,62 +30,35 @@ none_less_still tried s i d l least within is not none =
     All-more P s i d within none (λ above below. not (subst (λ x. IsTrue (is_above tried x)) (sym is) above, subst (λ x. label_cmp x least ≡ Less) (sym is) below))
 
 -- what comes to the front is not less than the least label
-pub fronts_none_less : (tried : Option Label) (least other : Label) (s : List Named) (y : Named) (t : List Named) → NoneLess tried least s → Fronts other s y t → IsTrue (is_above tried other) → label_cmp other least ≢ Less
-fronts_none_less tried least other [] y t none w above = absurd w
-fronts_none_less tried least other (p ∷ s) y t none (inl w) above =
-    let P : Named → Type 0 = λ p. IsTrue (is_above tried (label_of p)) → label_cmp (label_of p) least ≢ Less in
-    subst (λ x. label_cmp x least ≢ Less) w.0 (All-head P p s none (subst (λ x. IsTrue (is_above tried x)) (sym w.0) above))
-fronts_none_less tried least other (p ∷ s) y t none (inr w) above =
-    let P : Named → Type 0 = λ p. IsTrue (is_above tried (label_of p)) → label_cmp (label_of p) least ≢ Less in
-    let found = w.1 in
-    fronts_none_less tried least other s found.0 found.2 (All-tail P p s none) found.3 above
+fronts_none_less : (tried : Option Label) (least other : Label) (s : List Named) (y : Named) (t : List Named) → NoneLess tried least s → Fronts other s y t → IsTrue (is_above tried other) → label_cmp other least ≢ Less
+fronts_none_less tried least other s y t none w above =
+    let P : Label → Type 0 = λ l. IsTrue (is_above tried l) → label_cmp l least ≢ Less in
+    subst P (label-front other s y t w) (each_front P other s y t w none).0 above
 
 -- a list has a first element, whose label comes to the front
 pub starts_above : (tried : Option Label) (s : List Named) → 0 < length s → ((other : Label) (y : Named) (t : List Named) → Fronts other s y t → IsTrue (is_above tried other)) → StartsAbove tried s
 starts_above tried [] some above = absurd (omega arith)
 starts_above tried (p ∷ s) some above = above (label_of p) p s (inl (refl, refl, refl))
 
-less_or_same : (r : Ordering) → r ≢ Less → r ≢ Equal → ordering_reverse r ≡ Less
-less_or_same Less v w = absurd (v refl)
-less_or_same Equal v w = absurd (w refl)
-less_or_same Greater v w = refl
-
 lt_from_less : (r : Ordering) → r ≡ Less → IsTrue (is_lt r)
 lt_from_less r e = ap is_lt e
-
-pub less_from_lt : (r : Ordering) → IsTrue (is_lt r) → r ≡ Less
-less_from_lt Less e = refl
-less_from_lt Equal e = cc
-less_from_lt Greater e = cc
-
-pub not_less_where : (r : Ordering) → is_lt r ≡ false → r ≢ Less
-not_less_where Less e less = absurd (cc)
-not_less_where Equal e less = absurd (cc)
-not_less_where Greater e less = absurd (cc)
 
 -- where the least label does not come to the front, what comes there is above it
 pub above_least : (tried : Option Label) (key : Label) (s : List Named) → LeastAbove tried s key → ((y : Named) (t : List Named) → ¬ (Fronts key s y t)) → (other : Label) (y : Named) (t : List Named) → Fronts other s y t → IsTrue (is_above tried other) → IsTrue (is_above (Some key) other)
 above_least tried key s least never other y t w above =
     let not_less = fronts_none_less tried key other s y t least.least w above in
-    let not_same : label_cmp other key ≢ Equal = λ e. never y t (subst (λ x. Fronts x s y t) (label_ties other key e) w) in
-    lt_from_less (label_cmp key other) (label_total.antisymm key other ∙ less_or_same (label_cmp other key) not_less not_same)
+    lt_from_less (label_cmp key other) (less_unless other key not_less (λ e. never y t (subst (λ x. Fronts x s y t) e w)))
 
-step_le : (a b : Bool) (m n : ℕ) → (IsTrue a → IsTrue b) → m ≤ n → (if a then suc m else m) ≤ (if b then suc n else n)
-step_le true true m n h le = omega arith
-step_le true false m n h le = let e : false ≡ true = h refl in cc
-step_le false true m n h le = omega arith
-step_le false false m n h le = le
+one_le : (a b : Bool) → (IsTrue a → IsTrue b) → (if a then 1 else 0) ≤ (if b then 1 else 0)
+one_le true true h = omega arith
+one_le true false h = let e : false ≡ true = h refl in cc
+one_le false true h = omega arith
+one_le false false h = omega arith
 
-step_lt : (a b : Bool) (m n : ℕ) → (IsTrue a → IsTrue b) → m < n → (if a then suc m else m) < (if b then suc n else n)
-step_lt true true m n h lt = omega arith
-step_lt true false m n h lt = let e : false ≡ true = h refl in cc
-step_lt false true m n h lt = omega arith
-step_lt false false m n h lt = lt
-
-step_first : (a b : Bool) (m n : ℕ) → ¬ (IsTrue a) → IsTrue b → m ≤ n → (if a then suc m else m) < (if b then suc n else n)
-step_first true b m n h k le = absurd (h refl)
-step_first false true m n h k le = omega arith
-step_first false false m n h k le = cc
+none_one : (a b : Bool) → ¬ (IsTrue a) → IsTrue b → (if a then 1 else 0) < (if b then 1 else 0)
+none_one true b h k = absurd (h refl)
+none_one false true h k = omega arith
+none_one false false h k = cc
 
 -- what is above a label that is above another, is above that
 further : (tried : Option Label) (key : Label) (other : Label) → IsTrue (is_above tried key) → IsTrue (is_above (Some key) other) → IsTrue (is_above tried other)
@@ -100,15 +69,19 @@ further (Some last) key other above more =
 untried_le : (tried : Option Label) (key : Label) (s : List Named) → IsTrue (is_above tried key) → untried (Some key) s ≤ untried tried s
 untried_le tried key [] above = omega arith
 untried_le tried key (p ∷ s) above =
-    step_le (is_above (Some key) (label_of p)) (is_above tried (label_of p)) (untried (Some key) s) (untried tried s) (further tried key (label_of p) above) (untried_le tried key s above)
+    let l = label_of p in
+    omega (arith, one_le (is_above (Some key) l) (is_above tried l) (further tried key l above), untried_le tried key s above)
 
 -- each label that is tried leaves fewer
 pub untried_less : (tried : Option Label) (key : Label) (s : List Named) → IsTrue (is_above tried key) → HasLabel key s → untried (Some key) s < untried tried s
 untried_less tried key [] above held = absurd held
 untried_less tried key (p ∷ s) above (inl is) =
-    step_first (is_above (Some key) (label_of p)) (is_above tried (label_of p)) (untried (Some key) s) (untried tried s) (λ more. never_less key (less_from_lt (label_cmp key key) (subst (λ x. IsTrue (is_lt (label_cmp key x))) is more))) (subst (λ x. IsTrue (is_above tried x)) (sym is) above) (untried_le tried key s above)
+    let l = label_of p in
+    let itself : ¬ (IsTrue (is_above (Some key) l)) = λ more. not_below key key refl (less_from_lt (label_cmp key key) (subst (λ x. IsTrue (is_lt (label_cmp key x))) is more)) in
+    omega (arith, none_one (is_above (Some key) l) (is_above tried l) itself (subst (λ x. IsTrue (is_above tried x)) (sym is) above), untried_le tried key s above)
 untried_less tried key (p ∷ s) above (inr held) =
-    step_lt (is_above (Some key) (label_of p)) (is_above tried (label_of p)) (untried (Some key) s) (untried tried s) (further tried key (label_of p) above) (untried_less tried key s above held)
+    let l = label_of p in
+    omega (arith, one_le (is_above (Some key) l) (is_above tried l) (further tried key l above), untried_less tried key s above held)
 
 -- the least label that comes to the front, brought there
 pub settles_from : (tried : Option Label) (label : Label) (s : List Named) (y : Named) (t now : List Named) → LeastAbove tried s label → ((other : Label) (z : Named) (u : List Named) → Fronts other s z u → IsTrue (is_above tried other)) → Fronts label s y t → now ≡ y ∷ t → Settles s now

@@ -4,6 +4,7 @@ pub mod FrontSteps
 pub mod GatherSteps
 pub mod InsertionSteps
 pub mod LabelSteps
+pub mod LabelsKept
 pub mod LawOfThree
 pub mod ListEquivalence
 pub mod ListResults

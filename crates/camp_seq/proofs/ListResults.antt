@@ -1,12 +1,10 @@
 -- Each relation of lists has at most one result.
-use Rattle.std.proofs.Common.{◌≡◌, ◌≢◌, inl, inr, List, [], ◌∷◌, Ordering, refl, sym, ap, ◌∙◌, subst}
-use Rattle.std.specs.Ordering.{ordering_reverse}
-use Rattle.std.specs.declared.cmp.Ordering.TheVariants.{Less, Equal, Greater}
-use Rattle.camp_prim.specs.Labels.{label_of, label_cmp}
+use Rattle.std.proofs.Common.{◌≡◌, inl, inr, List, [], ◌∷◌, refl, sym, ap, ◌∙◌, subst}
+use Rattle.camp_prim.specs.Labels.{label_of}
 use Rattle.camp_prim.specs.declared.labels.Label.{Label}
 use Rattle.camp_prim.specs.Swaps.{Swap}
 use Rattle.camp_prim.specs.declared.named.Named.{Named}
-use Rattle.camp_prim.proofs.LabelOrder.{label_total, label_ties}
+use Rattle.camp_prim.proofs.LabelOrder.{same_label}
 use Rattle.camp_prim.proofs.SwapUnique.{swap_unique}
 use Rattle.camp_seq.proofs.ListRuns.{inverse_all-inverse_all}
 use Rattle.camp_seq.proofs.MergeGrid.{merge_passes}
@@ -66,16 +64,6 @@ label-front label (p ∷ s) y t (inr w) =
     let a = w.1 in
     let swap : Swap p a.0 y a.1 = a.4 in
     swap.anywhere.second ∙ label-front label s a.0 a.2 a.3
-
-neither_less : (r : Ordering) → r ≢ Less → ordering_reverse r ≢ Less → r ≡ Equal
-neither_less Less v w = absurd (v refl)
-neither_less Equal v w = refl
-neither_less Greater v w = absurd (w refl)
-
--- two labels neither of which is less are one
-same_label : (a b : Label) → label_cmp a b ≢ Less → label_cmp b a ≢ Less → a ≡ b
-same_label a b v w =
-    label_ties a b (neither_less (label_cmp a b) v (λ e. w (label_total.antisymm b a ∙ e)))
 
 pub one_order : (s t u : List Named) → Norm s t → Norm s u → t ≡ u
 one_order s [] [] v w = refl

@@ -9,29 +9,29 @@ use Rattle.camp_prim.proofs.Inverses.{leads_back, inverse_of-inverse_of}
 use Rattle.camp_prim.proofs.SwapLaws.{effect}
 use Rattle.camp_seq.proofs.ExchangeSteps.{exchanges_back}
 use Rattle.camp_seq.specs.Equivalence.{Exchanges, same, exchanged, backwards, through}
-use Rattle.camp_seq.specs.Laws.{EquivalentRun, InverseLeadsBack}
-use Rattle.camp_seq.specs.Running.{Runs, inverse_all}
+use Rattle.camp_seq.specs.Laws.{EquivalentRun, InverseOfListLeadsBack}
+use Rattle.camp_seq.specs.Running.{AppliesAll, inverse_all}
 
-pub joined_runs : (s t : List Named) (old between new : Files) → Runs s old between → Runs t between new → Runs (s ++ t) old new
-joined_runs [] t old between new r q = subst (λ x. Runs t x new) r q
+pub joined_runs : (s t : List Named) (old between new : Files) → AppliesAll s old between → AppliesAll t between new → AppliesAll (s ++ t) old new
+joined_runs [] t old between new r q = subst (λ x. AppliesAll t x new) r q
 joined_runs (p ∷ s) t old between new r q = (r.0, r.1, joined_runs s t r.0 between new r.2 q)
 
 -- a run of two lists has a tree between them
-pub cut_run : (s t : List Named) (old new : Files) → Runs (s ++ t) old new → (between : Files) × Runs s old between × Runs t between new
+pub cut_run : (s t : List Named) (old new : Files) → AppliesAll (s ++ t) old new → (between : Files) × AppliesAll s old between × AppliesAll t between new
 cut_run [] t old new r = (old, refl, r)
 cut_run (p ∷ s) t old new r =
     let cut = cut_run s t r.0 new r.2 in
     (cut.0, (r.0, r.1, cut.1), cut.2)
 
-swapped_runs : (p q q' p' : Named) (after : List Named) (old new : Files) → Swap p q q' p' → Runs (p ∷ q ∷ after) old new → Runs (q' ∷ p' ∷ after) old new
+swapped_runs : (p q q' p' : Named) (after : List Named) (old new : Files) → Swap p q q' p' → AppliesAll (p ∷ q ∷ after) old new → AppliesAll (q' ∷ p' ∷ after) old new
 swapped_runs p q q' p' after old new s r =
     let leads = (effect p q q' p' s old r.2.0).0 (record { between = r.0; first = r.1; second = r.2.1 }) in
     (leads.between, leads.first, (r.2.0, leads.second, r.2.2))
 
-exchanged_runs : (s t : List Named) (old new : Files) → Exchanges Swap s t → Runs s old new → Runs t old new
+exchanged_runs : (s t : List Named) (old new : Files) → Exchanges Swap s t → AppliesAll s old new → AppliesAll t old new
 exchanged_runs s t old new e r =
-    let cut = cut_run e.before (e.p ∷ e.q ∷ e.after) old new (subst (λ x. Runs x old new) e.was r) in
-    subst (λ x. Runs x old new) (sym e.becomes) (joined_runs e.before (e.q' ∷ e.p' ∷ e.after) old cut.0 new cut.1 (swapped_runs e.p e.q e.q' e.p' e.after cut.0 new e.turns cut.2))
+    let cut = cut_run e.before (e.p ∷ e.q ∷ e.after) old new (subst (λ x. AppliesAll x old new) e.was r) in
+    subst (λ x. AppliesAll x old new) (sym e.becomes) (joined_runs e.before (e.q' ∷ e.p' ∷ e.after) old cut.0 new cut.1 (swapped_runs e.p e.q e.q' e.p' e.after cut.0 new e.turns cut.2))
 
 pub equivalent_run : EquivalentRun
 equivalent_run s t same old new = (λ r. r, λ r. r)
@@ -55,11 +55,11 @@ inverse_all-inverse_all [] = refl
 inverse_all-inverse_all (p ∷ s) =
     ap inverse_all (inverse_all-cons p s) ∙ inverse_all-append (inverse_all s) (inverse_of p ∷ []) ∙ ap (λ x. x ∷ inverse_all (inverse_all s)) (inverse_of-inverse_of p) ∙ ap (λ x. p ∷ x) (inverse_all-inverse_all s)
 
-pub runs_back : (s : List Named) (old new : Files) → Runs s old new → Runs (inverse_all s) new old
+pub runs_back : (s : List Named) (old new : Files) → AppliesAll s old new → AppliesAll (inverse_all s) new old
 runs_back [] old new r = sym r
 runs_back (p ∷ s) old new r =
-    subst (λ x. Runs x new old) (sym (inverse_all-cons p s)) (joined_runs (inverse_all s) (inverse_of p ∷ []) new r.0 old (runs_back s r.0 new r.2) (old, leads_back p.prim old r.0 r.1, refl))
+    subst (λ x. AppliesAll x new old) (sym (inverse_all-cons p s)) (joined_runs (inverse_all s) (inverse_of p ∷ []) new r.0 old (runs_back s r.0 new r.2) (old, leads_back p.prim old r.0 r.1, refl))
 
-pub inverse_all_leads_back : InverseLeadsBack
+pub inverse_all_leads_back : InverseOfListLeadsBack
 inverse_all_leads_back s old new =
-    (runs_back s old new, λ r. subst (λ x. Runs x old new) (inverse_all-inverse_all s) (runs_back (inverse_all s) new old r))
+    (runs_back s old new, λ r. subst (λ x. AppliesAll x old new) (inverse_all-inverse_all s) (runs_back (inverse_all s) new old r))

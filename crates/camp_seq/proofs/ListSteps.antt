@@ -1,7 +1,6 @@
 -- A loop that goes over a list in place, from its first element to its last, or back.
-use Rattle.std.proofs.Common.{◌≡◌, ℕ, ◌+◌, ◌-◌, ◌<◌, List, [], ◌∷◌, ◌++◌, length, take, drop, get_or, set, sym, ap, subst, ◌∙◌, arith}
-use Rattle.std.proofs.lemmas.List.{append-nil, append_assoc, length_push, take_at, drop_at, length-drop, set-get_or, drop_all, drop_more, take_more, take-append-drop, drop-set-lt, take-set, take-take, get_or-take}
-use borrow.Rule.Slice.PartMut.{put_mid}
+use Rattle.std.proofs.Common.{◌≡◌, ℕ, ◌+◌, ◌-◌, ◌<◌, List, [], ◌∷◌, ◌++◌, length, take, drop, get_or, set, sym, ap, ◌∙◌, arith}
+use Rattle.std.proofs.lemmas.List.{append_assoc, length_push, take_at, drop_at, drop_more, take_more, take-append-drop, drop-set-lt, take-set, take-take, get_or-take}
 
 -- the element at i and what is behind it, in a list that is unchanged from i on
 pub at_next : {X : Type 0} (s0 s : List X) (i : ℕ) (d : X) → i < length s → length s ≡ length s0 → drop i s ≡ drop i s0 → drop i s0 ≡ get_or s i d ∷ drop (i + 1) s0
@@ -44,21 +43,19 @@ pub take_last : {X : Type 0} (s0 s : List X) (i : ℕ) (y : X) → take (i + 1) 
 take_last s0 s i y waiting =
     take-set s i y ∙ sym (take-take i (i + 1) s (omega arith)) ∙ ap (λ t. take i t) waiting ∙ take-take i (i + 1) s0 (omega arith)
 
--- a part behind i that is as it was, in a list that was written at i with what stood there
-pub put_back : {X : Type 0} (s0 s : List X) (i : ℕ) (d y : X) (part : List X) → take (i + 1) s ≡ take (i + 1) s0 → y ≡ get_or s i d → part ≡ drop (i + 1) s0 → put_mid (i + 1) (length (set s i y) - (i + 1)) (set s i y) part ≡ s0
-put_back s0 s i d y part waiting is behind =
-    let same : set s i y ≡ s = ap (set s i) is ∙ set-get_or s i d in
-    let none : drop (length s - (i + 1)) (drop (i + 1) s) ≡ [] = drop_all (length s - (i + 1)) (drop (i + 1) s) (rw length-drop (omega arith)) in
-    subst (λ x. put_mid (i + 1) (length x - (i + 1)) x part ≡ s0) (sym same) (ap (λ x. take (i + 1) s ++ (part ++ x)) none ∙ ap (λ x. take (i + 1) s ++ x) (append-nil part ∙ behind) ∙ ap (λ x. x ++ drop (i + 1) s0) waiting ∙ take-append-drop (i + 1) s0)
+-- a list that ends with y, turned so that y comes first
+pub turned : {X : Type 0} (s : List X) (y : X) (part : List X) → part ≡ s ++ y ∷ [] → drop (length part - 1) part ++ take (length part - 1) part ≡ y ∷ s
+turned s y part is =
+    let push : length (s ++ y ∷ []) ≡ length s + 1 = length_push s y in
+    let long : length part ≡ length (s ++ y ∷ []) = ap length is in
+    let less : length s ≡ length part - 1 = omega arith in
+    ap (λ x. drop (length part - 1) x ++ take (length part - 1) x) is ∙ ap (λ x. x ++ take (length part - 1) (s ++ y ∷ [])) (drop_at s (y ∷ []) (length part - 1) less) ∙ ap (λ x. y ∷ x) (take_at s (y ∷ []) (length part - 1) less)
 
--- the front of a list that ends with y, turned so that y comes first
+-- the same of the front of a list
 pub turned_right : {X : Type 0} (xs s : List X) (y : X) (after new : List X) (n : ℕ) → xs ≡ s ++ y ∷ after → length s ≡ n → new ≡ drop (length (take (n + 1) xs) - 1) (take (n + 1) xs) ++ take (length (take (n + 1) xs) - 1) (take (n + 1) xs) → new ++ drop (n + 1) xs ≡ y ∷ (s ++ after)
-turned_right xs s y after new n whole is turned =
+turned_right xs s y after new n whole is moved =
     let joined : xs ≡ (s ++ y ∷ []) ++ after = whole ∙ sym (append_assoc s (y ∷ []) after) in
     let long : length (s ++ y ∷ []) ≡ n + 1 = length_push s y ∙ ap (λ k. k + 1) is in
     let part : take (n + 1) xs ≡ s ++ y ∷ [] = ap (take (n + 1)) joined ∙ take_at (s ++ y ∷ []) after (n + 1) long in
     let rest : drop (n + 1) xs ≡ after = ap (drop (n + 1)) joined ∙ drop_at (s ++ y ∷ []) after (n + 1) long in
-    let less : length (take (n + 1) xs) - 1 ≡ n = ap (λ p. length p - 1) part ∙ (omega arith) in
-    let first : drop (length (take (n + 1) xs) - 1) (take (n + 1) xs) ≡ y ∷ [] = ap (λ k. drop k (take (n + 1) xs)) less ∙ ap (drop n) part ∙ drop_at s (y ∷ []) n is in
-    let others : take (length (take (n + 1) xs) - 1) (take (n + 1) xs) ≡ s = ap (λ k. take k (take (n + 1) xs)) less ∙ ap (take n) part ∙ take_at s (y ∷ []) n is in
-    ap (λ x. new ++ x) rest ∙ ap (λ x. x ++ after) (turned ∙ ap (λ x. x ++ take (length (take (n + 1) xs) - 1) (take (n + 1) xs)) first ∙ ap (λ x. y ∷ x) others)
+    ap (λ x. new ++ x) rest ∙ ap (λ x. x ++ after) (moved ∙ turned s y (take (n + 1) xs) part)

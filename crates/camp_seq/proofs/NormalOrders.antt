@@ -1,12 +1,13 @@
 -- Every list has a normal order.
-use Rattle.std.proofs.Common.{◌≡◌, ◌≢◌, ℕ, zero, suc, ◌+◌, ◌≤◌, ◌⊎◌, List, [], ◌∷◌, length, map, Ordering, refl, sym, ap, subst, inl, inr, arith}
-use Rattle.std.specs.Cmp.{tied_itself}
-use Rattle.std.specs.declared.cmp.Ordering.TheVariants.{Less, Equal, Greater}
+use Rattle.std.proofs.Common.{◌≡◌, ◌≢◌, ℕ, zero, suc, ◌+◌, ◌≤◌, List, [], ◌∷◌, length, refl, sym, ap, subst, inl, inr, arith}
+use Rattle.std.specs.declared.cmp.Ordering.TheVariants.{Less}
 use Rattle.camp_prim.specs.Labels.{label_of, label_cmp}
 use Rattle.camp_prim.specs.declared.labels.Label.{Label}
 use Rattle.camp_prim.specs.Swaps.{Swap}
 use Rattle.camp_prim.specs.declared.named.Named.{Named}
-use Rattle.camp_prim.proofs.LabelOrder.{label_total, label_ties}
+use Rattle.std.proofs.lemmas.List.Elements.{All-nil, All-cons}
+use Rattle.camp_prim.proofs.LabelOrder.{label_total, label_ties, less_or_not, not_below, not_above, not_below_both}
+use Rattle.camp_seq.proofs.LabelsKept.{Each, each_front}
 use Rattle.camp_seq.proofs.ListResults.{one_front, label-front}
 use Rattle.camp_prim.proofs.SwapDecided.{Decided, same_or_not, swap_or_not}
 use Rattle.camp_seq.specs.Laws.{HasNormalOrder}
@@ -42,82 +43,48 @@ front_or_not label (p ∷ s) =
       | inr other ↦ front_behind label p s other rest
     ]
 
--- a label is among these
-abbrev IsOneOf : Label → List Label → Type 0
-IsOneOf label [] = ⊥
-IsOneOf label (l ∷ labels) = (label ≡ l) ⊎ IsOneOf label labels
+-- no label of these elements that comes to the front of a list is less than this one
+abbrev LeastOf : List Named → Label → List Named → Type 0
+LeastOf s label t = Each (λ l. Front l s → label_cmp l label ≢ Less) t
 
-front-one_of : (label : Label) (s : List Named) (y : Named) (t : List Named) → Fronts label s y t → IsOneOf label (map label_of s)
-front-one_of label [] y t w = absurd w
-front-one_of label (p ∷ s) y t (inl w) = inl (sym w.0)
-front-one_of label (p ∷ s) y t (inr w) = let a = w.1 in inr (front-one_of label s a.0 a.2 a.3)
-
--- the least of these labels that comes to the front
-record LeastOf (s : List Named) (labels : List Label) : Type 0 where
+-- of a label that comes to the front of a list and of those of some elements, the least that does
+record Least (s : List Named) (first : Label) (t : List Named) : Type 0 where
   label : Label
   front : Front label s
-  least : (other : Label) → IsOneOf other labels → Front other s → label_cmp other label ≢ Less
+  below : label_cmp first label ≢ Less
+  least : LeastOf s label t
 
-less_or_not : (r : Ordering) → Decided (r ≡ Less)
-less_or_not Less = inl refl
-less_or_not Equal = inr (λ e. cc)
-less_or_not Greater = inr (λ e. cc)
-
--- no label is less than itself
-not_less_itself : (a b : Label) → a ≡ b → label_cmp a b ≢ Less
-not_less_itself a b e less =
-    let tie : label_cmp b b ≡ Equal = tied_itself label_total b in
-    let own : label_cmp b b ≡ Less = subst (λ x. label_cmp x b ≡ Less) e less in
-    cc
-
-lesser : (s : List Named) (l : Label) (labels : List Label) → Front l s → (b : LeastOf s labels) → Decided (label_cmp l b.label ≡ Less) → LeastOf s (l ∷ labels)
-lesser s l labels f b (inl less) = record {
-  label = l;
-  front = f;
-  least = λ other one g. elim one [
-    | inl e ↦ not_less_itself other l e
-    | inr among ↦ λ below. b.least other among g (label_total.trans other l b.label below less)
-  ];
-}
-lesser s l labels f b (inr never) = record {
+least_with : (s : List Named) (best : Label) (p : Named) (t : List Named) → Least s best t → ((b : Label) → label_cmp best b ≢ Less → Front (label_of p) s → label_cmp (label_of p) b ≢ Less) → Least s best (p ∷ t)
+least_with s best p t b own = record {
   label = b.label;
   front = b.front;
-  least = λ other one g. elim one [
-    | inl e ↦ λ below. never (subst (λ x. label_cmp x b.label ≡ Less) e below)
-    | inr among ↦ b.least other among g
-  ];
+  below = b.below;
+  least = All-cons (λ x. Front (label_of x) s → label_cmp (label_of x) b.label ≢ Less) p t (own b.label b.below) b.least;
 }
 
-least_with : (s : List Named) (l : Label) (labels : List Label) → Decided (Front l s) → LeastOf s labels ⊎ ((other : Label) → IsOneOf other labels → ¬ (Front other s)) → LeastOf s (l ∷ labels) ⊎ ((other : Label) → IsOneOf other (l ∷ labels) → ¬ (Front other s))
-least_with s l labels (inl f) (inl b) = inl (lesser s l labels f b (less_or_not (label_cmp l b.label)))
-least_with s l labels (inl f) (inr none) = inl (record {
-  label = l;
-  front = f;
-  least = λ other one g. elim one [
-    | inl e ↦ not_less_itself other l e
-    | inr among ↦ absurd (none other among g)
-  ];
-})
-least_with s l labels (inr never) (inl b) = inl (record {
+-- where the next one is less it is the better one
+lesser : (s : List Named) (best : Label) (p : Named) (t : List Named) → label_cmp (label_of p) best ≡ Less → Least s (label_of p) t → Least s best (p ∷ t)
+lesser s best p t less b = record {
   label = b.label;
   front = b.front;
-  least = λ other one g. elim one [
-    | inl e ↦ absurd (never (subst (λ x. Front x s) e g))
-    | inr among ↦ b.least other among g
-  ];
-})
-least_with s l labels (inr never) (inr none) = inr (λ other one g. elim one [
-  | inl e ↦ never (subst (λ x. Front x s) e g)
-  | inr among ↦ none other among g
-])
+  below = not_below_both best (label_of p) b.label (not_above (label_of p) best less) b.below;
+  least = All-cons (λ x. Front (label_of x) s → label_cmp (label_of x) b.label ≢ Less) p t (λ f. b.below) b.least;
+}
 
-least_or_none : (s : List Named) (labels : List Label) → LeastOf s labels ⊎ ((other : Label) → IsOneOf other labels → ¬ (Front other s))
-least_or_none s [] = inr (λ other one g. one)
-least_or_none s (l ∷ labels) = least_with s l labels (front_or_not l s) (least_or_none s labels)
-
-least_front : (p : Named) (s : List Named) → LeastOf (p ∷ s) (map label_of (p ∷ s)) ⊎ ((other : Label) → IsOneOf other (map label_of (p ∷ s)) → ¬ (Front other (p ∷ s))) → LeastOf (p ∷ s) (map label_of (p ∷ s))
-least_front p s (inl b) = b
-least_front p s (inr none) = absurd (none (label_of p) (inl refl) (p, s, inl (refl, refl, refl)))
+least_of : (s : List Named) (best : Label) → Front best s → (t : List Named) → Least s best t
+least_of s best f [] = record {
+  label = best;
+  front = f;
+  below = not_below best best refl;
+  least = All-nil (λ x. Front (label_of x) s → label_cmp (label_of x) best ≢ Less);
+}
+least_of s best f (p ∷ t) = elim (front_or_not (label_of p) s) [
+  | inr never ↦ least_with s best p t (least_of s best f t) (λ b above g. absurd (never g))
+  | inl g ↦ elim (less_or_not (label_of p) best) [
+    | inl less ↦ lesser s best p t less (least_of s (label_of p) g t)
+    | inr not ↦ least_with s best p t (least_of s best f t) (λ b above h. not_below_both (label_of p) best b not above)
+  ]
+]
 
 -- coming to the front keeps the number of elements
 pub length_front : (label : Label) (s : List Named) (y : Named) (t : List Named) → Fronts label s y t → length s ≡ length t + 1
@@ -133,14 +100,14 @@ order_up_to : (n : ℕ) (s : List Named) → length s ≤ n → (t : List Named)
 order_up_to n [] le = ([], refl)
 order_up_to zero (p ∷ s) le = absurd (omega arith)
 order_up_to (suc n) (p ∷ s) le =
-    let b = least_front p s (least_or_none (p ∷ s) (map label_of (p ∷ s))) in
+    let b = least_of (p ∷ s) (label_of p) (p, s, inl (refl, refl, refl)) (p ∷ s) in
     let y = b.front.0 in
     let rest = b.front.1 in
     let shorter : length (p ∷ s) ≡ length rest + 1 = length_front b.label (p ∷ s) y rest b.front.2 in
     let ordered = order_up_to n rest (omega arith) in
     let is : label_of y ≡ b.label = label-front b.label (p ∷ s) y rest b.front.2 in
     let front : Fronts (label_of y) (p ∷ s) y rest = subst (λ l. Fronts l (p ∷ s) y rest) (sym is) b.front.2 in
-    let least : IsLeast (label_of y) (p ∷ s) = subst (λ l. IsLeast l (p ∷ s)) (sym is) (λ other z t w. b.least other (front-one_of other (p ∷ s) z t w) (z, t, w)) in
+    let least : IsLeast (label_of y) (p ∷ s) = subst (λ l. IsLeast l (p ∷ s)) (sym is) (λ other z t w. subst (λ l. Front l (p ∷ s) → label_cmp l b.label ≢ Less) (label-front other (p ∷ s) z t w) (each_front (λ l. Front l (p ∷ s) → label_cmp l b.label ≢ Less) other (p ∷ s) z t w b.least).0 (z, t, w)) in
     (y ∷ ordered.0, (rest, front, least, ordered.1))
 
 pub has_normal_order : HasNormalOrder

@@ -1,12 +1,13 @@
 -- Steps of passing, from one neighbour to the next, and passing that stops.
-use Rattle.std.proofs.Common.{◌≡◌, Bool, true, false, List, [], ◌∷◌, ◌++◌, refl, sym, ap, ◌∙◌, subst}
+use Rattle.std.proofs.Common.{◌≡◌, ℕ, zero, suc, ◌+◌, ◌<◌, ◌≤◌, Bool, true, false, List, [], ◌∷◌, ◌++◌, length, take, drop, get_or, refl, sym, ap, ◌∙◌, subst, arith}
+use Rattle.std.proofs.lemmas.List.{append_assoc, take_more, take-append-drop}
 use Rattle.std.specs.Bool.{then_some}
 use Rattle.camp_base.specs.Answers.{FindsPair}
 use Rattle.camp_prim.specs.Swaps.{Swap}
 use Rattle.camp_prim.specs.declared.named.Named.{Named}
 use Rattle.camp_prim.proofs.SwapUnique.{swap_unique}
 use Rattle.camp_prim.proofs.SwapLaws.{own_inverse}
-use Rattle.camp_seq.specs.Inside.InPlace.{Precedes}
+use Rattle.camp_seq.specs.Inside.InPlace.{Precedes, IsHeld, ComesUpTo}
 use Rattle.camp_seq.specs.Passing.{Passes, PassesAll}
 use Rattle.camp_seq.proofs.ListResults.{one_pass, one_pass_of_all}
 
@@ -50,3 +51,25 @@ precedes_back (q ∷ s) p p' s' m =
 pub passed_back : (s : List Named) (p p' : Named) (s' : List Named) (done : Bool) (t : List Named) (r : Named) → Precedes s p p' s' → FindsPair (Passes p' s') (then_some done (t, r)) → (t ≡ s) × (r ≡ p)
 passed_back s p p' s' true t r m w = one_pass p' s' t s r p w (precedes_back s p p' s' m)
 passed_back s p p' s' false t r m w = absurd (w (s, p) (precedes_back s p p' s' m))
+
+-- the neighbour that it can't pass holds it, and those before that one do
+all_hold : (a : List Named) (q : Named) (s : List Named) (x r : Named) (t : List Named) → Precedes s x r t → ((b c : Named) → ¬ (Swap q r b c)) → IsHeld (a ++ q ∷ []) s x
+all_hold [] q s x r t m never = ((λ p u. precedes_stop [] q s x r p t u m never), tt)
+all_hold (y ∷ a) q s x r t m never =
+    ((λ p u. subst (λ z. ¬ (Precedes (y ∷ z) x p u)) (sym (append_assoc a (q ∷ []) s)) (precedes_stop (y ∷ a) q s x r p t u m never)), all_hold a q s x r t m never)
+
+pub comes_up_to : (s0 s : List Named) (x0 x : Named) (i : ℕ) (d : Named) → i < length s → length s ≡ length s0 → take (i + 1) s ≡ take (i + 1) s0 → Precedes (drop (i + 1) s0) x0 x (drop (i + 1) s) → ((a b : Named) → ¬ (Swap (get_or s i d) x a b)) → ComesUpTo s0 x0 (i + 1) s x
+comes_up_to s0 s x0 x i d within long waiting came never = record {
+  bound = omega arith;
+  long = long;
+  waiting = waiting;
+  came = came;
+  held = subst (λ a. IsHeld a (drop (i + 1) s0) x0) (sym (take_more s i d within) ∙ waiting) (all_hold (take i s) (get_or s i d) (drop (i + 1) s0) x0 x (drop (i + 1) s) came never);
+}
+
+-- what is held does not come to before the whole list
+pub never_first : (s0 : List Named) (at : ℕ) (x : Named) → 0 < at → at ≤ length s0 → IsHeld (take at s0) (drop at s0) x → (y : Named) (t : List Named) → ¬ (Precedes s0 x y t)
+never_first s0 zero x some bound held y t = absurd (omega arith)
+never_first [] (suc n) x some bound held y t = absurd (omega arith)
+never_first (z ∷ s) (suc n) x some bound held y t =
+    subst (λ u. ¬ (Precedes (z ∷ u) x y t)) (take-append-drop n s) (held.0 y t)

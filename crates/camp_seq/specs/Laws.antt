@@ -1,17 +1,18 @@
 -- The laws of lists that crates above build on.
-use Rattle.std.specs.Prelude.{◌≡◌, ◌↔◌, List, [], ◌∷◌, ◌++◌}
+use Rattle.std.specs.Prelude.{◌≡◌, ◌↔◌, List, [], ◌∷◌, ◌++◌, All, Contains}
 use Rattle.camp_base.specs.Trees.{Files}
+use Rattle.camp_prim.specs.Labels.{label_of}
 use Rattle.camp_prim.specs.declared.labels.Label.{Label}
 use Rattle.camp_prim.specs.declared.named.Named.{Named}
 use Rattle.camp_seq.specs.Equivalence.{◌~◌}
 use Rattle.camp_seq.specs.Passing.{Passes, PassesAll, Fronts, Parts}
 use Rattle.camp_seq.specs.NormalOrder.{Norm, Splits}
 use Rattle.camp_seq.specs.Merging.{CleanMerge}
-use Rattle.camp_seq.specs.Running.{Runs, inverse_all}
+use Rattle.camp_seq.specs.Running.{AppliesAll, inverse_all}
 
 -- equivalent lists lead from the same trees to the same trees
 abbrev pub EquivalentRun : Type 0
-EquivalentRun = (s t : List Named) → s ~ t → (old new : Files) → Runs s old new ↔ Runs t old new
+EquivalentRun = (s t : List Named) → s ~ t → (old new : Files) → AppliesAll s old new ↔ AppliesAll t old new
 
 -- what passes, comes to the front, is split or put in order, is equivalent to what it came from
 pub record AreEquivalent : Type 0 where
@@ -24,16 +25,19 @@ pub record AreEquivalent : Type 0 where
 
 -- each relation has at most one result
 pub record AreDetermined : Type 0 where
-  pub passes : (p : Named) (s s' t : List Named) (p' q : Named) → Passes p s s' p' → Passes p s t q → (s' ≡ t) × (p' ≡ q)
+  pub passes : (p : Named) (s s' t : List Named) (p' q : Named)
+      → Passes p s s' p' → Passes p s t q → (s' ≡ t) × (p' ≡ q)
   pub passes_all : (r s s' t r' q : List Named) → PassesAll r s s' r' → PassesAll r s t q → (s' ≡ t) × (r' ≡ q)
-  pub fronts : (label : Label) (s t u : List Named) (y z : Named) → Fronts label s y t → Fronts label s z u → (y ≡ z) × (t ≡ u)
-  pub splits : (labels : List Label) (s f t g u : List Named) → Splits labels s f t → Splits labels s g u → (f ≡ g) × (t ≡ u)
+  pub fronts : (label : Label) (s t u : List Named) (y z : Named)
+      → Fronts label s y t → Fronts label s z u → (y ≡ z) × (t ≡ u)
+  pub splits : (labels : List Label) (s f t g u : List Named)
+      → Splits labels s f t → Splits labels s g u → (f ≡ g) × (t ≡ u)
   pub norm : (s t u : List Named) → Norm s t → Norm s u → t ≡ u
   pub merges : (a b b' a' c d : List Named) → CleanMerge a b b' a' → CleanMerge a b c d → (b' ≡ c) × (a' ≡ d)
 
 -- the inverse of a list leads back
-abbrev pub InverseLeadsBack : Type 0
-InverseLeadsBack = (s : List Named) (old new : Files) → Runs s old new ↔ Runs (inverse_all s) new old
+abbrev pub InverseOfListLeadsBack : Type 0
+InverseOfListLeadsBack = (s : List Named) (old new : Files) → AppliesAll s old new ↔ AppliesAll (inverse_all s) new old
 
 -- every list has a normal order
 abbrev pub HasNormalOrder : Type 0
@@ -41,7 +45,10 @@ HasNormalOrder = (s : List Named) → (t : List Named) × Norm s t
 
 -- a clean merge closes a square of trees: a then b', and b then a', end in one tree
 abbrev pub MergeCloses : Type 0
-MergeCloses = (a b b' a' : List Named) → CleanMerge a b b' a' → (old left right : Files) → Runs a old left → Runs b old right → (new : Files) × Runs b' left new × Runs a' right new
+MergeCloses =
+    (a b b' a' : List Named) → CleanMerge a b b' a'
+    → (old left right : Files) → AppliesAll a old left → AppliesAll b old right
+    → (new : Files) × AppliesAll b' left new × AppliesAll a' right new
 
 -- the two orders of a clean merge are equivalent: a b' ~ b a'
 abbrev pub MergeIsEquivalent : Type 0
@@ -54,3 +61,9 @@ MergeIsSymmetric = (a b b' a' : List Named) → CleanMerge a b b' a' → CleanMe
 -- a and b merge cleanly exactly where the inverse of a passes b
 abbrev pub MergeIsPassing : Type 0
 MergeIsPassing = (a b b' a' : List Named) → CleanMerge a b b' a' ↔ PassesAll (inverse_all a) b b' (inverse_all a')
+
+-- each element of the first part of a split has one of the given labels, and no element of the second has
+abbrev pub SplitByLabels : Type 0
+SplitByLabels =
+    (labels : List Label) (s f t : List Named) → Splits labels s f t
+    → All (λ p. Contains labels (label_of p)) f × All (λ p. ¬ (Contains labels (label_of p))) t

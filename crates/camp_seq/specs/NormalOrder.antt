@@ -10,7 +10,8 @@ use Rattle.camp_seq.specs.Passing.{Fronts, Parts}
 abbrev pub IsLeast : Label → List Named → Type 0
 IsLeast label s = (other : Label) (y : Named) (t : List Named) → Fronts other s y t → label_cmp other label ≢ Less
 
--- t is s in normal order: it begins with the least label that comes to the front, and goes on with the rest in normal order
+-- t is s in normal order: it begins with the least label that comes to the front, and goes on with the rest in normal
+-- order
 abbrev pub Norm : List Named → List Named → Type 0
 Norm s [] = s ≡ []
 Norm s (y ∷ t) = (rest : List Named) × Fronts (label_of y) s y rest × IsLeast (label_of y) s × Norm rest t

@@ -1,5 +1,5 @@
 -- When every list that swaps of neighbours make of a list is in range.
-use Rattle.std.specs.Prelude.{List, [], ◌∷◌}
+use Rattle.std.specs.Prelude.{◌^◌, ◌≤◌, List, [], ◌∷◌}
 use Rattle.std.specs.List.{All}
 use Rattle.camp_prim.specs.Effect.{InRange}
 use Rattle.camp_prim.specs.Laws.{SixOrders}
@@ -7,8 +7,9 @@ use Rattle.camp_prim.specs.Swaps.{SwapAnywhere, Swap}
 use Rattle.camp_prim.specs.declared.named.Named.{Named}
 use Rattle.camp_seq.specs.Equivalence.{Exchanges, ◌~◌}
 use Rattle.camp_seq.specs.NormalOrder.{Norm}
+use Rattle.camp_seq.specs.Shapes.{reach_of}
 
--- a list leads to another by any number of such exchanges, one after the other
+-- a list leads to another by any number of exchanges of neighbours, in range or not, one after the other
 pub data Reaches : List Named → List Named → Type 0 where
   here : {s : List Named} → Reaches s s
   further : {s t u : List Named} → Exchanges SwapAnywhere s t → Reaches t u → Reaches s u
@@ -30,3 +31,7 @@ pub record LawOfThree : Type 0 where
 -- the normal order is a normal form: a list with room and every list equivalent to it have one normal order
 abbrev pub NormalForm : Type 0
 NormalForm = (s t : List Named) → HasRoom s → s ~ t → (u : List Named) → Norm s u → Norm t u
+
+-- a list of primitives in range whose reach is in range has room
+abbrev pub ReachGivesRoom : Type 0
+ReachGivesRoom = (s : List Named) → All (λ p. InRange p.prim) s → reach_of s ≤ 2 ^ 30 → HasRoom s

@@ -5,9 +5,9 @@ use Rattle.camp_prim.specs.Effect.{Applies, inverse_of}
 use Rattle.camp_prim.specs.declared.named.Named.{Named}
 
 -- the primitives, one after the other, lead from this tree to that one
-abbrev pub Runs : List Named → Files → Files → Type 0
-Runs [] old new = new ≡ old
-Runs (p ∷ s) old new = (between : Files) × Applies p.prim old between × Runs s between new
+abbrev pub AppliesAll : List Named → Files → Files → Type 0
+AppliesAll [] old new = new ≡ old
+AppliesAll (p ∷ s) old new = (between : Files) × Applies p.prim old between × AppliesAll s between new
 
 -- the inverse of a list: the inverses, in reverse order
 abbrev pub inverse_all : List Named → List Named

@@ -1,11 +1,11 @@
-ghost use Rattle.std.specs.Prelude.{◌+◌, ◌<◌, length};
-ghost use Rattle.camp_base.specs.Answers.{Changes};
-ghost use Rattle.camp_seq.specs.Inside.Insertions.{ComesUpTo, GoesUpTo, Placed, SwapsAt};
+ghost use Rattle.std.specs.Prelude.{◌+◌, ◌<◌, ◌≤◌, length};
+ghost use Rattle.camp_seq.specs.Inside.Insertions.{GoesBack, Placed, StandsAt, StaysAt};
 ghost use Rattle.camp_seq.specs.NormalOrder.{Norm};
 ghost use Rattle.camp_seq.specs.Room.{HasRoom};
 
 use crate::orders::is_less;
-use camp_prim::{Named, exchange};
+use crate::passes::{come_forward, pass_one};
+use camp_prim::Named;
 
 /// Puts a list with room in normal order: one element after the other is put in its place among
 /// those before it. n elements take at most n * (n - 1) exchanges.
@@ -24,43 +24,33 @@ fn place_last(items: &mut [Named])
     requires { 0 < length items.old }
     ensures { Placed items.old items.new }
 {
-    let at = bring_forward(items);
-    take_back(&mut items[at..]);
+    let last = items.len() - 1;
+    let (others, rest) = items.split_at_mut(last);
+    let at = find_place(others, &mut rest[0]);
+    items[at..].rotate_right(1);
 }
 
-/// Swaps the last element to the left as far as it can come, and answers with its place.
-fn bring_forward(items: &mut [Named]) -> usize
-    requires { 0 < length items.old }
-    ensures { ComesUpTo items.old result items.new }
+/// Swaps `x`, which stands behind `s`, to its place among the elements of `s`. Each stays in its
+/// place in memory, and the answer is the number of elements of `s` before it.
+fn find_place(s: &mut [Named], x: &mut Named) -> usize
+    ensures { StaysAt s.old x.old result s.new x.new }
 {
-    for at in (0..items.len() - 1).rev() {
-        if !swap_at(items, at) {
-            return at + 1;
+    let at = come_forward(s, x);
+    go_back(s, x, at)
+}
+
+/// Swaps `x`, which has come to a place, to the right, past elements with lesser labels.
+fn go_back(s: &mut [Named], x: &mut Named, from: usize) -> usize
+    requires { from ≤ length s.old }
+    ensures { GoesBack s.old x.old from result s.new x.new }
+{
+    for at in from..s.len() {
+        if !is_less(&s[at].label(), &x.label()) {
+            return at;
+        }
+        if !pass_one(x, &mut s[at]) {
+            return at;
         }
     }
-    0
-}
-
-/// Swaps the first element to the right, past those whose labels are less than its own.
-fn take_back(items: &mut [Named])
-    requires { 0 < length items.old }
-    ensures { GoesUpTo items.old items.new }
-{
-    for at in 0..items.len() - 1 {
-        if !is_less(&items[at + 1].label(), &items[at].label()) {
-            return;
-        }
-        if !swap_at(items, at) {
-            return;
-        }
-    }
-}
-
-/// Swaps the neighbours at a place. Where they can't change places, they are as they were.
-fn swap_at(items: &mut [Named], at: usize) -> bool
-    requires { at + 1 < length items.old }
-    ensures exact { Changes (SwapsAt at) items.old result items.new }
-{
-    let (front, back) = items.split_at_mut(at + 1);
-    exchange(&mut front[at], &mut back[0])
+    s.len()
 }

@@ -23,6 +23,7 @@ pub use merges::{clean_merge, invert_all};
 pub use normal_forms::{normal_order_is_a_normal_form, six_orders_of_three_agree};
 pub use orders::norm;
 pub use passes::{past, past_all};
+pub use rooms::{has_room, reach_gives_room};
 pub use runs::apply_all;
 pub use seqs::Seq;
 pub use splits::split;

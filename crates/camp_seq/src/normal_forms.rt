@@ -2,11 +2,13 @@ ghost use Rattle.camp_seq.specs.Room.{LawOfThree, NormalForm};
 
 /// Where the first two of three primitives swap, and the third swaps past both, the six orders of
 /// the three exist and agree, given room.
+#[tactic(auto, using(crate::proofs::LawOfThree::law_of_three))]
 pub fn six_orders_of_three_agree()
     ensures { LawOfThree }
 {}
 
 /// A list with room and every list equivalent to it have one normal order.
+#[tactic(auto, using(crate::proofs::NormalForms::normal_form))]
 pub fn normal_order_is_a_normal_form()
     ensures { NormalForm }
 {}

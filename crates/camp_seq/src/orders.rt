@@ -18,6 +18,7 @@ use std::alloc::AllocError;
 /// The list in normal order: it begins with the least label that can come to the front, and goes on
 /// with the rest in normal order. Where the list has room, it is the normal order of all lists that
 /// are equivalent to it.
+#[tactic(auto, using(crate::proofs::NormalForms::normal_form))]
 pub fn norm(s: &Seq) -> Result<Seq, AllocError>
     ensures order { IfOk result (λ ordered. Norm s.now ordered) }
     ensures normal_form { IfOk result (λ ordered.

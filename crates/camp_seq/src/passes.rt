@@ -1,7 +1,7 @@
 ghost use Rattle.std.specs.Prelude.{IfOk};
 ghost use Rattle.std.specs.Bool.{then_some};
 ghost use Rattle.camp_base.specs.Answers.{Changes, FindsPair};
-ghost use Rattle.camp_seq.specs.Inside.InPlace.{PrecedesInPlace, SwapsInPlace};
+ghost use Rattle.camp_seq.specs.Inside.InPlace.{ComesUpTo, PrecedesInPlace, SwapsInPlace};
 ghost use Rattle.camp_seq.specs.Passing.{Passes, PassesAll};
 
 use crate::Seq;
@@ -72,17 +72,29 @@ pub(crate) fn pass(p: &mut Named, s: &mut [Named]) -> bool
 pub(crate) fn precede(s: &mut [Named], p: &mut Named) -> bool
     ensures exact { Changes PrecedesInPlace (s.old, p.old) result (s.new, p.new) }
 {
-    for at in (0..s.len()).rev() {
-        if !pass_one(&mut s[at], p) {
-            pass(p, &mut s[at + 1..]);
-            return false;
-        }
+    let at = come_forward(s, p);
+    if at > 0 {
+        pass(p, &mut s[at..]);
+        return false;
     }
     true
 }
 
+/// Swaps `p`, which stands behind `s`, to the left as far as it can come, and answers with the
+/// number of elements of `s` that are still before it.
+pub(crate) fn come_forward(s: &mut [Named], p: &mut Named) -> usize
+    ensures { ComesUpTo s.old p.old result s.new p.new }
+{
+    for at in (0..s.len()).rev() {
+        if !pass_one(&mut s[at], p) {
+            return at + 1;
+        }
+    }
+    0
+}
+
 /// Swaps `p` and the `q` behind it, where each stays in its place in memory.
-fn pass_one(p: &mut Named, q: &mut Named) -> bool
+pub(crate) fn pass_one(p: &mut Named, q: &mut Named) -> bool
     ensures exact { Changes SwapsInPlace (p.old, q.old) result (p.new, q.new) }
 {
     if !exchange(p, q) {

@@ -1,12 +1,28 @@
 ghost use Rattle.std.specs.Prelude.{◌≡◌, ◌^◌, ◌≤◌, ◌↔◌, IsTrue};
 ghost use Rattle.camp_prim.specs.Effect.{InRange};
-ghost use Rattle.camp_seq.specs.Room.{HasRoom};
+ghost use Rattle.camp_seq.specs.Room.{HasRoom, ReachGivesRoom};
 ghost use Rattle.camp_seq.specs.Shapes.{line_of, sides_of, reach_of};
 
+use crate::Seq;
 use camp_prim::{Named, Primitive};
 
 /// The greatest sum of a hunk's line and the numbers of its old and of its new lines.
 const MAX_REACH: usize = 1 << 30;
+
+/// A list of primitives in range whose reach is in range has room.
+#[tactic(auto, using(crate::proofs::Reaching::room_within))]
+pub fn reach_gives_room()
+    ensures { ReachGivesRoom }
+{}
+
+/// Whether a list has room for sure: the greatest line of its hunks and the numbers of all their
+/// lines add up to 2^30 at most. Other lists may have room too.
+pub fn has_room(s: &Seq) -> bool
+    ensures exact { IsTrue result ↔ (reach_of s.now ≤ 2 ^ 30) }
+    ensures room { IsTrue result → HasRoom s.now }
+{
+    surely_has_room(&s.items)
+}
 
 /// Whether the greatest line of a list's hunks and the numbers of all their lines together are in
 /// the range of one hunk. Where they are, no swaps of neighbours bring a hunk out of range; where

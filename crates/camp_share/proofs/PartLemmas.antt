@@ -1,6 +1,6 @@
 -- Elements and ranges of lists in parts.
 use Rattle.std.proofs.Common.{◌≡◌, ℕ, zero, suc, ◌+◌, ◌-◌, ◌<◌, ◌≤◌, List, [], ◌∷◌, ◌++◌, length, get_or, take, drop, Some, sym, ap, subst, ◌∙◌, refl, arith}
-use Rattle.std.proofs.lemmas.List.{get_or_default, append-nil, length-append, length-drop, take_more, drop_more, take_all}
+use Rattle.std.proofs.lemmas.List.{drop_all, get_or_default, append-nil, length-append, length-drop, take_more, drop_more, take_all}
 use Rattle.std.proofs.lemmas.Option.{slice_get_read}
 use Rattle.std.specs.List.{All, slice_get, slice_range}
 use Rattle.std.proofs.lemmas.Grind.{flat_map-append}
@@ -67,6 +67,12 @@ module _ {X Z : Type 0} (parts : List (Vec X Z)) (i : ℕ) (part : Vec X Z) (wit
 
   pub passed : (left index : ℕ) → slice_get (joined (drop i parts)) left ≡ slice_get (joined parts) index → length part.items ≤ left → slice_get (joined (drop (i + 1) parts)) (left - length part.items) ≡ slice_get (joined parts) index
   passed left index is behind = sym (get_behind part.items (joined (drop (i + 1) parts)) left behind) ∙ ap (λ xs. slice_get xs left) (sym from_here) ∙ is
+
+  pub left_behind : (start : ℕ) → length part.items ≤ start → drop (start - length part.items) (joined (drop (i + 1) parts)) ≡ drop start (joined (drop i parts))
+  left_behind start behind =
+      sym
+      (ap (drop start) from_here ∙ drop_behind part.items (joined (drop (i + 1) parts)) start
+      ∙ ap (λ xs. xs ++ drop (start - length part.items) (joined (drop (i + 1) parts))) (drop_all start part.items behind))
 
   -- a range grows by what it has of a part
   pub range_grown : (from to : ℕ) → slice_range (joined (take (i + 1) parts)) from to ≡ slice_range (joined (take i parts)) from to ++ slice_range part.items (from - length (joined (take i parts))) (to - length (joined (take i parts)))

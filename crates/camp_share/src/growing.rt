@@ -151,10 +151,21 @@ fn copied<T: Share + Drop>(part: &Part<T>) -> Result<Vec<T>, AllocError>
     ensures { IfOk result (λ items. items.items ≡ part.now.items) }
 {
     let mut items = Vec::with_capacity(*part.allocator(), part.len())?;
-    for item in part.iter() {
+    append_copies(&mut items, part)?;
+    Ok(items)
+}
+
+// Puts copies of elements behind others.
+pub(crate) fn append_copies<T: Share + Drop>(
+    items: &mut Vec<T>,
+    more: &[T],
+) -> Result<(), AllocError>
+    ensures { OnOk result (items.new.items ≡ items.old.items ++ more.now) }
+{
+    for item in more {
         items.push(item.share()?)?;
     }
-    Ok(items)
+    Ok(())
 }
 
 // Makes a part of the last elements.

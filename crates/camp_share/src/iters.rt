@@ -1,4 +1,4 @@
-ghost use Rattle.std.specs.Prelude.{◌≡◌, length};
+ghost use Rattle.std.specs.Prelude.{◌≡◌, ◌++◌, length};
 ghost use Rattle.std.specs.List.{All};
 ghost use Rattle.std.specs.Iterator.{at_most};
 ghost use Rattle.std.specs.Map.Iter.{TakesFirst, ShowsInOrder, deref};
@@ -33,7 +33,15 @@ impl<'a, T> Iter<'a, T> {
         ensures rest { result ≡ joined parts.now }
         ensures runs { ShowsInOrder (deref {X = T}) }
     {
-        Iter { part: &[], parts }
+        Iter::within(&[], parts)
+    }
+
+    pub(crate) fn within(part: &'a [T], parts: &'a [Part<T>]) -> Iter<'a, T>
+        requires { All IsPart parts.now }
+        ensures rest { result ≡ part.now ++ joined parts.now }
+        ensures runs { ShowsInOrder (deref {X = T}) }
+    {
+        Iter { part, parts }
     }
 }
 

@@ -1,4 +1,4 @@
-ghost use Rattle.std.specs.Prelude.{◌≡◌, ◌+◌, ◌<◌, ◌≤◌, ◌^◌, ◌==◌, List, [], ◌∷◌, ◌++◌, length, slice_get, slice_range, slice_set, IfOk, OnOk};
+ghost use Rattle.std.specs.Prelude.{◌≡◌, ◌+◌, ◌<◌, ◌≤◌, ◌^◌, ◌==◌, List, [], ◌∷◌, ◌++◌, length, take, drop, slice_get, slice_range, slice_set, IfOk};
 ghost use Rattle.std.specs.List.{splice, insert, remove};
 ghost use Rattle.std.specs.List.{All};
 ghost use Rattle.camp_share.specs.Parts.{joined, IsPart};
@@ -6,7 +6,7 @@ ghost use Rattle.std.specs.Option.{option_copied};
 ghost use Rattle.std.specs.Cmp.Lexicographic.{pointwise, lists_per, lists_equiv};
 ghost use Rattle.std.specs.Map.Iter.{ShowsInOrder, deref};
 
-use crate::growing::{Growing, Part};
+use crate::growing::{Growing, Part, append_copies};
 use crate::{Iter, Share};
 use std::alloc::{AllocError, Global};
 use std::marker::Model;
@@ -77,6 +77,26 @@ impl<T> SharedList<T> {
         Iter::new(&self.parts)
     }
 
+    /// The elements from a place to the last.
+    pub fn iter_from(&self, from: usize) -> Iter<'_, T>
+        ensures rest { result ≡ drop from self.now }
+        ensures runs { ShowsInOrder (deref {X = T}) }
+    {
+        let mut start = from;
+        for (index, part) in self.parts.iter().enumerate() {
+            if start < part.len() {
+                return Iter::within(&part[start..], &self.parts[index + 1..]);
+            }
+            start -= part.len();
+        }
+        Iter::new(&[])
+    }
+
+    /// The allocator of the list.
+    pub fn allocator(&self) -> Global {
+        *self.parts.allocator()
+    }
+
     // The parts, one after the other.
     pub(crate) fn parts(&self) -> &[Part<T>]
         ensures items { joined result.now ≡ self.now }
@@ -100,6 +120,17 @@ impl<T: Share + Drop> SharedList<T> {
             parts,
             len: items.len(),
         })
+    }
+
+    /// Copies of all elements, in one vector.
+    pub fn to_vec(&self) -> Result<Vec<T>, AllocError>
+        ensures { IfOk result (λ items. items.items ≡ self.now) }
+    {
+        let mut items = Vec::with_capacity(*self.parts.allocator(), self.len)?;
+        for part in &self.parts {
+            append_copies(&mut items, part)?;
+        }
+        Ok(items)
     }
 
     /// The list with one element more at its end.
@@ -224,6 +255,21 @@ impl<T: PartialEq> PartialEq for SharedList<T> {
         let (mut mine, mut others) = (self.iter(), other.iter());
         while let Some(item) = mine.next() {
             if !others.next().is_some_and(|other| *item == *other) {
+                return false;
+            }
+        }
+        true
+    }
+}
+
+impl<T: PartialEq> SharedList<T> {
+    /// Whether these elements stand in the list from a place on.
+    pub fn has_at(&self, from: usize, items: &[T]) -> bool
+        ensures { result ≡ pointwise T.eq (take (length items.now) (drop from self.now)) items.now }
+    {
+        let mut rest = self.iter_from(from);
+        for item in items {
+            if !rest.next().is_some_and(|found| *found == *item) {
                 return false;
             }
         }

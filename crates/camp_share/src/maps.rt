@@ -97,6 +97,11 @@ impl<K: Key, V> SharedMap<K, V> {
         self.get(key).is_some()
     }
 
+    /// The allocator of the map.
+    pub fn allocator(&self) -> Global {
+        self.entries.allocator()
+    }
+
     // Where the entry of a key is, or where it would be.
     fn place(&self, key: &K) -> Result<usize, usize>
         ensures found { IfOk result (IsAt self.now key.now) }

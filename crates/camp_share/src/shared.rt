@@ -13,7 +13,7 @@ pub trait Share: Sized {
 }
 
 /// A value with several owners, in any threads. It is given back with its last owner.
-#[derive(Drop)]
+#[derive(Debug, Drop)]
 pub struct Shared<T> {
     arc: Arc<T>,
 }
@@ -56,10 +56,30 @@ impl<T> Deref for Shared<T> {
     }
 }
 
+impl Share for () {
+    fn share(&self) -> Result<(), AllocError> {
+        Ok(())
+    }
+}
+
 impl<A: Share + Drop, B: Share + Drop> Share for (A, B) {
     fn share(&self) -> Result<(A, B), AllocError> {
         let first = self.0.share()?;
         let second = self.1.share()?;
         Ok((first, second))
     }
+}
+
+impl<T: PartialEq> PartialEq for Shared<T> {
+    ghost eq = { T.eq };
+
+    ghost laws = { T.laws };
+
+    fn eq(&self, other: &Shared<T>) -> bool {
+        **self == **other
+    }
+}
+
+impl<T: Eq> Eq for Shared<T> {
+    ghost laws = { T.Eq.laws };
 }

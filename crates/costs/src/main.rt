@@ -7,7 +7,7 @@ ghost use Rattle.std.specs.Prelude.{◌≤◌};
 
 use anyhow::{Result, bail, ensure};
 use camp_base::{Line, Name, Path};
-use camp_prim::{Named, Primitive};
+use camp_prim::{Lines, Named, Primitive};
 use camp_seq::{Seq, norm};
 use std::alloc::Global;
 use std::env;
@@ -49,6 +49,7 @@ fn hunk(alloc: Global, number: u32, line: u32) -> Result<Named> {
     let mut new = Vec::new(alloc);
     new.push(Line::new(alloc, b"new")?)?;
     let path = Path::new(alloc, b"f")?;
+    let (old, new) = (Lines::new(alloc, old)?, Lines::new(alloc, new)?);
     let Some(prim) = Primitive::hunk(path, line, old, new) else {
         bail!("no hunk at line {line}");
     };

@@ -1,6 +1,6 @@
 use crate::stops::Stop;
 use camp_base::{Line, Name, Path, Tree};
-use camp_prim::{Named, Primitive};
+use camp_prim::{Lines, Named, Primitive};
 use camp_repo::Call;
 use std::alloc::Global;
 
@@ -26,7 +26,8 @@ pub(crate) fn edit(
     new: &[&[u8]],
 ) -> Result<Primitive, Stop> {
     let path = Path::new(alloc, b"f")?;
-    let (old, new) = (lines(alloc, old)?, lines(alloc, new)?);
+    let old = Lines::new(alloc, lines(alloc, old)?)?;
+    let new = Lines::new(alloc, lines(alloc, new)?)?;
     Primitive::hunk(path, line, old, new).ok_or(Stop::Wrong("Primitive::hunk"))
 }
 

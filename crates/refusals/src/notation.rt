@@ -1,8 +1,8 @@
 use crate::fixtures;
 use crate::stops::{Stop, expect};
 use camp_notation::{
-    NotationError, label_text, lines_text, list_text, named_text, read_label, read_lines,
-    read_list, read_named, read_tree, read_word, tree_text, word_text,
+    NotationError, label_text, lines_text, list_text, listing, named_text, read_label,
+    read_lines, read_list, read_named, read_tree, read_word, tree_text, word_text,
 };
 use camp_prim::Named;
 use camp_seq::Seq;
@@ -57,6 +57,8 @@ fn write_list(alloc: Global, p: Named) -> Result<(), Stop> {
     let known = list.items();
     let text = list_text(alloc, known, &list)?;
     expect(text.as_str() == "[p]", "list_text")?;
+    let lines = listing(alloc, known, &list)?;
+    expect(lines.as_str() == "p\n", "listing")?;
     let found = read_list(alloc, known, text.as_bytes())?;
     expect(found.is_same(&list), "read_list")
 }

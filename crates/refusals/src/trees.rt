@@ -1,6 +1,6 @@
 use crate::fixtures;
 use crate::stops::{Stop, expect, value_of};
-use camp_base::{Apply, BaseFault, Line, Path, Tree, copy_lines};
+use camp_base::{Apply, BaseFault, Line, Path, Tree};
 use std::alloc::Global;
 
 /// Makes the calls of paths, lines and trees.
@@ -31,13 +31,7 @@ fn make_lines(alloc: Global) -> Result<(), Stop> {
     let answer = line.try_clone();
     let is_kept = line.bytes() == b"one".as_slice();
     let copy = value_of(answer, is_kept, "Line::try_clone")?;
-    expect(copy == line, "Line::try_clone")?;
-
-    let lines = fixtures::lines(alloc, &[b"one"])?;
-    let before = fixtures::lines(alloc, &[b"one"])?;
-    let answer = copy_lines(alloc, &lines);
-    let copies = value_of(answer, lines == before, "copy_lines")?;
-    expect(copies == lines, "copy_lines")
+    expect(copy == line, "Line::try_clone")
 }
 
 fn make_trees(alloc: Global) -> Result<(), Stop> {
@@ -88,7 +82,7 @@ fn change_in_vain(tree: &mut Tree, path: &Path, lines: &[Line]) -> Result<(), St
 /// Whether a tree has a file of these lines.
 pub(crate) fn has_file(tree: &Tree, path: &Path, lines: &[Line]) -> bool {
     match tree.file(path) {
-        Some(found) => found == lines,
+        Some(found) => found.len() == lines.len() && found.has_at(0, lines),
         None => false,
     }
 }

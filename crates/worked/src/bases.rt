@@ -141,7 +141,7 @@ pub(crate) fn is_empty(a: &Arguments) -> Result<String> {
 pub(crate) fn file(a: &Arguments) -> Result<String> {
     let tree = a.tree(0)?;
     match tree.file(&a.path(1)?) {
-        Some(lines) => Ok(lines_text(a.alloc(), lines)?),
+        Some(lines) => Ok(lines_text(a.alloc(), &lines.to_vec()?)?),
         None => results::none(a),
     }
 }
@@ -150,7 +150,7 @@ pub(crate) fn at(a: &Arguments) -> Result<String> {
     let tree = a.tree(0)?;
     match tree.at(a.number(1)? as usize) {
         Some((path, lines)) => {
-            let lines = lines_text(a.alloc(), lines)?;
+            let lines = lines_text(a.alloc(), &lines.to_vec()?)?;
             Ok(format!(in a.alloc(); "{path}: {lines}")?)
         }
         None => results::none(a),

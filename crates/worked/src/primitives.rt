@@ -2,11 +2,13 @@ use crate::arguments::Arguments;
 use crate::results;
 use anyhow::Result;
 use camp_notation::{lines_text, word_text};
-use camp_prim::{Hunk, Named, Primitive, commute, exchange};
+use camp_prim::{Hunk, Lines, Named, Primitive, commute, exchange};
 
 pub(crate) fn hunk(a: &Arguments) -> Result<String> {
     let (path, line) = (a.path(0)?, a.number(1)?);
-    match Primitive::hunk(path, line, a.lines(2)?, a.lines(3)?) {
+    let old = Lines::new(a.alloc(), a.lines(2)?)?;
+    let new = Lines::new(a.alloc(), a.lines(3)?)?;
+    match Primitive::hunk(path, line, old, new) {
         Some(Primitive::Hunk(hunk)) => parts(a, &hunk),
         _ => results::none(a),
     }

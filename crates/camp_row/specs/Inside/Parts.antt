@@ -1,13 +1,13 @@
 -- What one seat knows, as the rule of the table sees it: a view is a list of such parts.
-use Rattle.std.specs.Prelude.{◌≡◌, ℕ, List, [], slice_index_or, refl, map, count_by, ◌==◌}
+use Rattle.std.specs.Prelude.{◌≡◌, ℕ, List, [], slice_index_or, map, count_by, ◌==◌}
 use Rattle.std.specs.List.{range_with_len}
-use Rattle.std.specs.Coded.{Coded, code_by, coded×, coded_ℕ, coded_list}
 use Rattle.atomic_table.specs.Seated.{TableId}
 use Rattle.camp_row.specs.declared.entries.Entry.{Entry}
 use Rattle.camp_row.specs.Chains.{IsFront, own, Fits}
 use Rattle.camp_row.specs.Known.{Known}
 
--- the sizes of the row, the seat's number, what it has seen, the chain that it last found, and the two words of its next cell
+-- the sizes of the row, the seat's number, what it has seen, the chain that it last found, and the two words of its
+-- next cell
 pub record Part : Type 0 where
   pub seats : ℕ
   pub per_seat : ℕ
@@ -17,20 +17,10 @@ pub record Part : Type 0 where
   pub parent : ℕ
   pub place : ℕ
 
-abbrev pub entry_code : Coded Entry
-entry_code = code_by (ℕ × ℕ) (coded× coded_ℕ coded_ℕ) (λ (e : Entry). (e.seat, e.place)) (λ p. record { seat = p.0; place = p.1 }) (λ _. refl)
-
-abbrev pub part_code : Coded Part
-part_code =
-    code_by (ℕ × (ℕ × (ℕ × (List Entry × (List Entry × (ℕ × ℕ))))))
-    (coded× coded_ℕ (coded× coded_ℕ (coded× coded_ℕ (coded× (coded_list entry_code) (coded× (coded_list entry_code) (coded× coded_ℕ coded_ℕ))))))
-    (λ (p : Part). (p.seats, (p.per_seat, (p.number, (p.seen, (p.ahead, (p.parent, p.place)))))))
-    (λ t. record { seats = t.0; per_seat = t.1.0; number = t.1.1.0; seen = t.1.1.1.0; ahead = t.1.1.1.1.0; parent = t.1.1.1.1.1.0; place = t.1.1.1.1.1.1 })
-    (λ _. refl)
-
 -- a seat that has seen nothing
 abbrev pub fresh : ℕ → ℕ → ℕ → Part
-fresh seats per_seat number = record { seats = seats; per_seat = per_seat; number = number; seen = []; ahead = []; parent = 0; place = 0 }
+fresh seats per_seat number =
+    record { seats = seats; per_seat = per_seat; number = number; seen = []; ahead = []; parent = 0; place = 0 }
 
 -- all seats, before one is dealt out
 abbrev pub all_fresh : ℕ → ℕ → List Part

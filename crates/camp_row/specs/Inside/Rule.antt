@@ -21,17 +21,23 @@ pub record Holds (words : List ℕ) (cell parent place : ℕ) : Type 0 where
 
 -- each cell of the chain names the one before, and has its entry's place
 abbrev pub IsLinked : ℕ → List ℕ → List Entry → Type 0
-IsLinked seats words chain = (before : List Entry) (entry : Entry) (after : List Entry) → before ++ entry ∷ after ≡ chain
+IsLinked seats words chain =
+    (before : List Entry) (entry : Entry) (after : List Entry) → before ++ entry ∷ after ≡ chain
     → Holds words (cell_of seats before entry) (head_word seats before) entry.place
 
--- what the rule says of one seat: it has seen its own entries, its next cell holds its draft, and its later ones are empty
+-- what the rule says of one seat: it has seen its own entries, its next cell holds its draft, and its later ones are
+-- empty
 pub record Knows (seats per_seat : ℕ) (words : List ℕ) (chain : List Entry) (part : Part) : Type 0 where
   pub sizes : (part.seats ≡ seats) × (part.per_seat ≡ per_seat) × (part.number < seats)
   pub seen : IsFront part.seen chain
   pub ahead : IsFront part.ahead chain
   pub own_seen : own part.number chain ≡ own part.number part.seen
-  pub draft : turns part.number part.seen < per_seat → Holds words (turns part.number part.seen * seats + part.number) part.parent part.place
-  pub empty : (turn : ℕ) → turns part.number part.seen < turn → turn < per_seat → Holds words (turn * seats + part.number) 0 0
+  pub draft :
+      turns part.number part.seen < per_seat
+      → Holds words (turns part.number part.seen * seats + part.number) part.parent part.place
+  pub empty :
+      (turn : ℕ) → turns part.number part.seen < turn → turn < per_seat
+      → Holds words (turn * seats + part.number) 0 0
 
 -- there is a chain that the head and the cells' words name, and each seat's only part knows of it
 pub record IsRuled (seats per_seat : ℕ) (words : List ℕ) (views : List Knowledge) : Type 0 where
@@ -41,4 +47,6 @@ pub record IsRuled (seats per_seat : ℕ) (words : List ℕ) (views : List Knowl
   pub linked : IsLinked seats words chain
   pub fits : Fits seats per_seat chain
   pub one_each : (number : ℕ) → sum_by (λ (view : Knowledge). parts_of number view.parts) views ≤ 1
-  pub known : (seat : ℕ) (view : Knowledge) → get_elem? views seat ≡ some view → All (Knows seats per_seat words chain) view.parts
+  pub known :
+      (seat : ℕ) (view : Knowledge) → get_elem? views seat ≡ some view
+      → All (Knows seats per_seat words chain) view.parts

@@ -21,7 +21,8 @@ pub record Looked (found : ℕ) (old new : List Part) : Type 0 where
 
 -- the word of a cell that is ahead is what the chain says
 abbrev pub Reads : ℕ → ℕ → Part → Type 0
-Reads word found part = (before : List Entry) (entry : Entry) (after : List Entry) → before ++ entry ∷ after ≡ part.ahead
+Reads word found part =
+    (before : List Entry) (entry : Entry) (after : List Entry) → before ++ entry ∷ after ≡ part.ahead
     → (word ≡ parent_word (cell_of part.seats before entry) → found ≡ head_word part.seats before)
     × (word ≡ place_word (cell_of part.seats before entry) → found ≡ entry.place)
 
@@ -49,7 +50,9 @@ drafted_part part = record { seat = part.number; place = part.place }
 
 -- the part when the drafted cell has become the last of the chain
 abbrev pub won_part : Part → Part
-won_part part = record part { seen = part.seen ++ drafted_part part ∷ []; ahead = part.seen ++ drafted_part part ∷ []; parent = 0; place = 0 }
+won_part part =
+    let entries = part.seen ++ drafted_part part ∷ [] in
+    record part { seen = entries; ahead = entries; parent = 0; place = 0 }
 
 -- the chain was just what the part had seen
 pub record WonPart (part : Part) (new : List Part) : Type 0 where
@@ -65,7 +68,8 @@ pub record LostPart (found : ℕ) (part : Part) (new : List Part) : Type 0 where
 
 -- a compare_exchange of the head, from the last cell that was seen to the seat's next cell
 abbrev pub Tried : ℕ → ℕ → List Part → List Part → Type 0
-Tried expected found old new = MatchBool (found == expected) (WonPart (part_of old) new) (LostPart found (part_of old) new)
+Tried expected found old new =
+    MatchBool (found == expected) (WonPart (part_of old) new) (LostPart found (part_of old) new)
 
 -- a split: the first part goes to a new seat, the others stay
 abbrev pub first_apart : Knowledge → Knowledge

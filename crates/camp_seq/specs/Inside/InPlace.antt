@@ -1,5 +1,5 @@
 -- What moving elements inside a list answers and leaves.
-use Rattle.std.specs.Prelude.{◌≡◌, ◌≢◌, ℕ, List, [], ◌∷◌, ◌++◌, length, take, drop, All}
+use Rattle.std.specs.Prelude.{◌≡◌, ◌≢◌, ℕ, ◌≤◌, List, [], ◌∷◌, ◌++◌, length, take, drop, All}
 use Rattle.camp_prim.specs.Swaps.{Swap}
 use Rattle.camp_prim.specs.Labels.{label_of}
 use Rattle.camp_prim.specs.declared.labels.Label.{Label}
@@ -19,6 +19,19 @@ Precedes (q ∷ s) p p' s' =
 -- the list and the p behind it, each in its own place
 abbrev pub PrecedesInPlace : List Named × Named → List Named × Named → Type 0
 PrecedesInPlace old new = Precedes old.0 old.1 new.1 new.0
+
+-- p does not come to before an element of a and what is behind it
+abbrev pub IsHeld : List Named → List Named → Named → Type 0
+IsHeld [] s p = Unit {0}
+IsHeld (y ∷ a) s p = ((p' : Named) (t : List Named) → ¬ (Precedes (y ∷ (a ++ s)) p p' t)) × IsHeld a s p
+
+-- p0, which stood behind s0, has come forward to a place, each in its own place, and could come no further
+pub record ComesUpTo (s0 : List Named) (p0 : Named) (at : ℕ) (s : List Named) (p : Named) : Type 0 where
+  pub bound : at ≤ length s0
+  pub long : length s ≡ length s0
+  pub waiting : take at s ≡ take at s0
+  pub came : Precedes (drop at s0) p0 p (drop at s)
+  pub held : IsHeld (take at s0) (drop at s0) p0
 
 -- no element has this label
 abbrev pub Lacks : Label → List Named → Type 0

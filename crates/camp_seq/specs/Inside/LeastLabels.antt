@@ -1,5 +1,6 @@
 -- The labels of a list in ascending order, up to the first that comes to its front.
-use Rattle.std.specs.Prelude.{◌≡◌, ◌≢◌, ℕ, Bool, true, if◌then◌else◌, List, [], ◌∷◌, Option, None, Some, IsTrue, suc, All, ◌⊎◌}
+use Rattle.std.specs.Prelude.{◌≡◌, ◌≢◌, ℕ, ◌+◌, Bool, true, if◌then◌else◌, List, []}
+use Rattle.std.specs.Prelude.{◌∷◌, Option, None, Some, IsTrue, All, ◌⊎◌}
 use Rattle.std.specs.Ordering.{is_lt}
 use Rattle.std.specs.declared.cmp.Ordering.TheVariants.{Less}
 use Rattle.camp_prim.specs.Labels.{label_of, label_cmp}
@@ -36,7 +37,7 @@ pub record LeastAbove (tried : Option Label) (s : List Named) (label : Label) : 
 -- how many elements have a label that is yet to be tried
 abbrev pub untried : Option Label → List Named → ℕ
 untried tried [] = 0
-untried tried (p ∷ s) = if is_above tried (label_of p) then suc (untried tried s) else untried tried s
+untried tried (p ∷ s) = (if is_above tried (label_of p) then 1 else 0) + untried tried s
 
 -- t is s with the least label that comes to the front at its front
 pub record Settles (s t : List Named) : Type 0 where

@@ -1,8 +1,8 @@
 use Rattle.std.proofs.Common.{◌≡◌, List, Err, ◌∙◌, subst, arith}
 use Rattle.std.proofs.lemmas.Result.{err_from_is_err_and}
-use Rattle.camp_base.specs.Answers.{Answers}
+use Rattle.camp_base.specs.Answers.{AnswersByTrial}
 use Rattle.camp_prim.specs.declared.named.Named.{Named}
-use Rattle.camp_seq.specs.Running.{Runs}
+use Rattle.camp_seq.specs.Running.{AppliesAll}
 use Rattle.camp_seq.proofs.RunSteps.{run_more, run_stops}
 use Rattle.camp_seq.proofs.runs.apply_all.Goals as goal
 
@@ -13,7 +13,7 @@ returns-in_err-apply c =
     let here : s ≡ c.args.s.now = c.deref-p-items.ensures.value ∙ c.s.view_is in
     let stopped = run_stops s c.loop-p.p-index c.p-item.result c.in_ok-changed.changed c.loop-p.changed c.apply.new.tree fault (omega arith) c.p-item.is c.loop-p.invariant c.in_err-apply.ensures in
     let p = err_from_is_err_and c.from_residual-in_err-apply.result c.from_residual-in_err-apply.ensures.1 in
-    rw (p.1, p.2) (subst (λ x. Answers (Runs x) c.args.tree.now (Err fault) c.args.tree.now) here (subst (λ x. Answers (Runs s) x (Err fault) x) c.in_ok-changed.ensures stopped))
+    rw (p.1, p.2) (subst (λ x. AnswersByTrial (AppliesAll x) c.args.tree.now (Err fault) c.args.tree.now) here (subst (λ x. AnswersByTrial (AppliesAll s) x (Err fault) x) c.in_ok-changed.ensures stopped))
 
 pub loop-p-preserved : goal.loop-p-preserved
 loop-p-preserved c =

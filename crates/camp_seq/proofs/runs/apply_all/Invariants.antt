@@ -1,6 +1,6 @@
 use Rattle.std.proofs.Common.{take}
-use Rattle.camp_seq.specs.Running.{Runs}
+use Rattle.camp_seq.specs.Running.{AppliesAll}
 use Rattle.camp_seq.proofs.runs.apply_all.Given as goal
 
 abbrev pub invariant-loop-p : goal.invariant-loop-p
-invariant-loop-p l = Runs (take l.p-index l.p-items) l.initial.changed l.changed
+invariant-loop-p l = AppliesAll (take l.p-index l.p-items) l.initial.changed l.changed

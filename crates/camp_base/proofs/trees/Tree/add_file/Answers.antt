@@ -1,17 +1,8 @@
-use Rattle.std.proofs.Common.{arith, refl}
-use Rattle.camp_base.proofs.Files.{gap_within, not_added, added}
+use Rattle.camp_base.specs.Trees.{Adds}
+use Rattle.camp_base.proofs.TreeLemmas.{answered, adds_file}
 use Rattle.camp_base.proofs.trees.Tree.add_file.Goals as goal
 
-pub insert-requires : goal.insert-requires
-insert-requires c =
-    let within = gap_within _ _ c.self.view_is c.self.invariant _ _ c.in-Err.ensures.absent in
-    let size = c.self.inside.files.ok.0 in omega arith
-
-pub invariant_of-self-in-Err : goal.invariant_of-self-in-Err
-invariant_of-self-in-Err c = (added _ _ c.self.view_is c.self.invariant _ _ c.in-Err.ensures.absent _ _ c.in_ok-insert-in-Err.ensures.items c.in_ok-path-in-Err.ensures c.new-lines.ensures.items).0
-
-pub returns-in-Ok : goal.returns-in-Ok
-returns-in-Ok c = (not_added _ _ c.self.view_is c.self.invariant _ _ c.in-Ok.ensures.found, refl)
-
-pub returns-in_ok-insert-in-Err : goal.returns-in_ok-insert-in-Err
-returns-in_ok-insert-in-Err c = (added _ _ c.self.view_is c.self.invariant _ _ c.in-Err.ensures.absent _ _ c.in_ok-insert-in-Err.ensures.items c.in_ok-path-in-Err.ensures c.new-lines.ensures.items).1
+pub returns : goal.returns
+returns c =
+    answered (Adds c.args.path.now) _ _ _ _
+    (adds_file c.args.path.now _ _ _ _ c.self.view_is c.contains_key.ensures c.if-contains_key.false c.new-lines.ensures) c.write.ensures

@@ -1,23 +1,15 @@
-use Rattle.std.proofs.Common.{arith, refl}
-use Rattle.camp_base.proofs.Files.{at_within, lines_at, path_at, not_spliced, replaced, splices_from_lines}
+use Rattle.std.proofs.Common.{refl}
+use Rattle.camp_base.specs.Trees.{Splices}
+use Rattle.camp_base.proofs.TreeLemmas.{answered, splices_lines}
 use Rattle.camp_base.proofs.trees.Tree.splice.Goals as goal
-
-pub index_mut-requires : goal.index_mut-requires
-index_mut-requires c =
-    let within = at_within _ _ c.self.view_is c.self.invariant _ _ c.in-Ok.ensures.found in
-    let size = c.self.inside.files.ok.0 in omega arith
-
-pub invariant_of-self : goal.invariant_of-self
-invariant_of-self c =
-    let name = path_at _ _ c.self.view_is c.self.invariant _ _ c.in-Ok.ensures.found _ c.index_mut.ensures.value in
-    (replaced _ _ c.self.view_is c.self.invariant _ _ c.in-Ok.ensures.found _ _ refl name).0
 
 pub returns-in-Ok : goal.returns-in-Ok
 returns-in-Ok c =
-    let name = path_at _ _ c.self.view_is c.self.invariant _ _ c.in-Ok.ensures.found _ c.index_mut.ensures.value in
-    let has = lines_at _ _ c.self.view_is c.self.invariant _ _ c.in-Ok.ensures.found _ c.index_mut.ensures.value in
-    let edit = replaced _ _ c.self.view_is c.self.invariant _ _ c.in-Ok.ensures.found _ _ refl name in
-    splices_from_lines _ _ _ _ _ _ _ _ _ has edit.1 c.splice_lines.ensures
+    let at = c.stands_at.ensures.0 c.if-not-stands_at.false in
+    answered (Splices c.args.path.now c.args.line c.args.old.now c.args.new.now) _ _ _ _
+    (splices_lines c.args.path.now _ _ c.in-Some.ensures c.args.line c.args.old.now c.args.new.now _ c.in-Ok.ensures at) c.write.ensures
 
 pub returns-in-Err : goal.returns-in-Err
-returns-in-Err c = (not_spliced _ _ c.self.view_is c.self.invariant _ _ c.in-Err.ensures.absent _ _ _, refl)
+returns-in-Err c =
+    let at = c.stands_at.ensures.0 c.if-not-stands_at.false in
+    ((_, splices_lines c.args.path.now _ _ c.in-Some.ensures c.args.line c.args.old.now c.args.new.now _ refl at), refl)

@@ -1,0 +1,9 @@
+//! Callers of each crate, proved from its public clauses alone: what the contracts are good for.
+#![tactic(auto)]
+
+pub mod lists;
+pub mod patches;
+pub mod repositories;
+pub mod runs;
+pub mod scripts;
+pub mod trees;

@@ -1,0 +1,71 @@
+//! Callers of `camp_seq`.
+ghost use Rattle.std.specs.Prelude.{◌≡◌, OnOk, IfOk, IfSome};
+ghost use Rattle.camp_seq.specs.Equivalence.{◌~◌};
+ghost use Rattle.camp_seq.specs.Room.{HasRoom};
+ghost use Rattle.camp_seq.specs.Running.{Runs};
+
+use camp_base::{Apply, Tree};
+use camp_prim::applied_is_applies;
+use camp_seq::{
+    Seq, apply_all, clean_merge, clean_merge_closes, inverse_of_a_list_leads_back, invert_all,
+    lists_of_results_are_equivalent, norm, results_of_lists_are_determined,
+};
+use std::alloc::AllocError;
+
+/// A list and then its inverse leave the tree as it was.
+pub fn do_and_undo(list: &Seq, tree: &mut Tree) -> Result<(), Apply>
+    ensures { OnOk result (tree.new ≡ tree.old) }
+{
+    let inverse = invert_all(list)?;
+    apply_all(list, tree)?;
+    inverse_of_a_list_leads_back();
+    applied_is_applies();
+    apply_all(&inverse, tree)
+}
+
+/// The normal orders of two lists that are the same but for swaps of neighbours: with room they are
+/// one list, whichever way led from the one to the other.
+pub fn in_order_either_way(s: &Seq, t: &Seq) -> Result<(Seq, Seq), AllocError>
+    requires room { HasRoom s.now }
+    requires equivalent { s.now ~ t.now }
+    ensures { IfOk result (λ both. both.0 ≡ both.1) }
+{
+    results_of_lists_are_determined();
+    Ok((norm(s)?, norm(t)?))
+}
+
+/// A list in normal order, put in order again: with room it stays as it is.
+pub fn in_order_twice(list: &Seq) -> Result<(Seq, Seq), AllocError>
+    requires { HasRoom list.now }
+    ensures { IfOk result (λ both. both.0 ≡ both.1) }
+{
+    lists_of_results_are_equivalent();
+    results_of_lists_are_determined();
+    let once = norm(list)?;
+    let twice = norm(&once)?;
+    Ok((once, twice))
+}
+
+/// The trees after two lists that merge cleanly, in both orders: it is one tree.
+pub fn merged_in_both_orders(a: &Seq, b: &Seq, tree: &Tree) -> Result<Option<(Tree, Tree)>, Apply>
+    ensures { IfOk result (λ found. IfSome found (λ both. both.0 ≡ both.1)) }
+{
+    let Some((behind_a, behind_b)) = clean_merge(a, b)? else {
+        return Ok(None);
+    };
+    clean_merge_closes();
+    applied_is_applies();
+    let here = after(a, tree)?;
+    let here = after(&behind_a, &here)?;
+    let there = after(b, tree)?;
+    let there = after(&behind_b, &there)?;
+    Ok(Some((here, there)))
+}
+
+fn after(list: &Seq, tree: &Tree) -> Result<Tree, Apply>
+    ensures { IfOk result (Runs list.now tree.now) }
+{
+    let mut changed = tree.try_clone()?;
+    apply_all(list, &mut changed)?;
+    Ok(changed)
+}

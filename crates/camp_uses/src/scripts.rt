@@ -1,0 +1,25 @@
+//! Callers of `camp_script`.
+ghost use Rattle.std.specs.Prelude.{◌≡◌, ◌++◌, ◌∷◌, [], IfOk, IfErr, codes};
+ghost use Rattle.std.specs.Fmt.{decimal};
+ghost use Rattle.camp_script.specs.declared.faults.ScriptFault.TheVariants as fault;
+
+use camp_repo::Reply;
+use camp_script::{Script, ScriptFault, append_reply, read_script};
+use std::alloc::{AllocError, Global};
+
+/// The text of the reply to an accepted call.
+pub fn done(alloc: Global, at: u64) -> Result<Vec<u8>, AllocError>
+    ensures { IfOk result (λ text. text.items ≡ codes "ok " ++ decimal at ++ 10 ∷ []) }
+{
+    let mut text = Vec::new(alloc);
+    append_reply(&mut text, &Reply::Done(at))?;
+    Ok(text)
+}
+
+/// The script without a byte: one section, without a call.
+pub fn empty(alloc: Global) -> Result<Script, ScriptFault>
+    ensures script { IfOk result (λ script. script ≡ [] ∷ []) }
+    ensures fault { IfErr result (λ why. why ≡ fault.Memory) }
+{
+    read_script(alloc, b"")
+}
