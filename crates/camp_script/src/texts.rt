@@ -99,7 +99,8 @@ fn extend_by_tree(text: &mut Vec<u8>, tree: &Tree) -> Result<(), AllocError>
         let Some((path, lines)) = tree.at(index) else {
             unreachable!();
         };
-        extend_by_file(text, path, &lines.to_vec()?)?;
+        let copies = lines.to_vec()?;
+        extend_by_file(text, path, &copies)?;
     }
     Ok(())
 }

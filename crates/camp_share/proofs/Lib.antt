@@ -1,4 +1,4 @@
-mod Entries
+pub mod Entries
 mod Found
 mod MapLemmas
 mod Parted

@@ -108,7 +108,7 @@ fn is_same_branch(branch: &Branch, other: &Branch) -> bool {
     patches.len() == others.len()
         && patches
             .iter()
-            .zip(others)
+            .zip(others.iter())
             .all(|(patch, other)| patch.is_same(other))
         && branch.tree().is_same(other.tree())
 }
