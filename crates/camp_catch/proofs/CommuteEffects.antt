@@ -11,7 +11,7 @@ use Rattle.camp_prim.proofs.Inverses.{leads_back}
 use Rattle.camp_seq.specs.Equivalence.{◌~◌, through}
 use Rattle.camp_seq.specs.NormalOrder.{Norm}
 use Rattle.camp_seq.specs.Passing.{Passes, PassesAll}
-use Rattle.camp_seq.specs.Running.{Runs, inverse_all}
+use Rattle.camp_seq.specs.Running.{AppliesAll, inverse_all}
 use Rattle.camp_seq.proofs.ListEquivalence.{equal_are, before, behind, after_one, swapped, passed, all_passed, fronted, ordered, split, joined}
 use Rattle.camp_seq.proofs.ListRuns.{runs_back}
 use Rattle.camp_ctx.specs.Adding.{Adds, AddsAll, PassesBy, PassesByAll}
@@ -64,9 +64,9 @@ two_conflictors_apart : (r : List Named) (xs : Contexts) (i : InContext) (s : Li
 two_conflictors_apart r xs i s ys l k' j' w old between new f g =
     let runs = places_change r s w.effect w.rr' (effects_pass r s ys w.effect w.rr' w.effects) old between new f.effect g.effect in
     let back = runs_back s between new g.effect in
-    let members = members_valid (AddsAll w.rr') (Runs w.rr') (valid_by_adding_all w.rr') ys w.ys' w.conflicts runs.0 new runs.2 g.seen.0 in
+    let members = members_valid (AddsAll w.rr') (AppliesAll w.rr') (valid_by_adding_all w.rr') ys w.ys' w.conflicts runs.0 new runs.2 g.seen.0 in
     let identity = valid_by_passing_all w.rr' l w.l' w.identity runs.0 new runs.2 g.seen.1 in
-    let own_members = members_valid (AddsAll (inverse_all s)) (Runs (inverse_all s)) (valid_by_adding_all (inverse_all s)) xs w.xs' w.own_conflicts new between back f.seen.0 in
+    let own_members = members_valid (AddsAll (inverse_all s)) (AppliesAll (inverse_all s)) (valid_by_adding_all (inverse_all s)) xs w.xs' w.own_conflicts new between back f.seen.0 in
     let own_identity = valid_by_adding_all (inverse_all s) i w.i' w.own_identity new between back f.seen.1 in
     fit_both_as (Conflictor w.effect w.ys' w.l') (Conflictor w.rr' w.xs' w.i') k' j' old new w.second w.first (runs.0, conflictor_fits w.effect w.ys' w.l' old runs.0 runs.1 members identity, conflictor_fits w.rr' w.xs' w.i' runs.0 new runs.2 own_members own_identity)
 
@@ -75,25 +75,25 @@ one_of_several_conflicts r xs i s ys l k' j' w old between new f g =
     let zs = remove ys (context_key i) in
     let runs = places_change r s w.effect w.rr' (effects_pass r s zs w.effect w.rr' w.effects) old between new f.effect g.effect in
     let back = runs_back s between new g.effect in
-    let members = members_valid (AddsAll w.rr') (Runs w.rr') (valid_by_adding_all w.rr') zs w.zs' w.conflicts runs.0 new runs.2 (without_valid new ys (context_key i) g.seen.0) in
+    let members = members_valid (AddsAll w.rr') (AppliesAll w.rr') (valid_by_adding_all w.rr') zs w.zs' w.conflicts runs.0 new runs.2 (without_valid new ys (context_key i) g.seen.0) in
     let identity = valid_by_adding_all w.rr' l w.l' w.identity runs.0 new runs.2 g.seen.1 in
-    let own_members = members_valid (AddsAll (inverse_all s)) (Runs (inverse_all s)) (valid_by_adding_all (inverse_all s)) xs w.xs' w.own_conflicts new between back f.seen.0 in
+    let own_members = members_valid (AddsAll (inverse_all s)) (AppliesAll (inverse_all s)) (valid_by_adding_all (inverse_all s)) xs w.xs' w.own_conflicts new between back f.seen.0 in
     let own_identity = valid_by_adding_all (inverse_all s) i w.i' w.own_identity new between back f.seen.1 in
     fit_both_as (Conflictor w.effect w.zs' w.l') (Conflictor w.rr' (with_member w.xs' l) w.i') k' j' old new w.second w.first (runs.0, conflictor_fits w.effect w.zs' w.l' old runs.0 runs.1 members identity, conflictor_fits w.rr' (with_member w.xs' l) w.i' runs.0 new runs.2 (with_member_valid new w.xs' l own_members g.seen.1) own_identity)
 
 -- the inverse of a leads back to where a began
-back_to_old : (a : Named) (old between new : Files) → Runs (a ∷ []) old between → Applies (inverse_of a).prim between new → new ≡ old
+back_to_old : (a : Named) (old between new : Files) → AppliesAll (a ∷ []) old between → Applies (inverse_of a).prim between new → new ≡ old
 back_to_old a old between new first back =
     applies_once (inverse_of a).prim between new old back (one_back a old between first)
 
 conflict_dissolves : (a : Named) (s : List Named) (ys : Contexts) (l : InContext) (k' j' : Catch) → ConflictDissolves a s ys l k' j' → (old between new : Files) → Fits (Plain a) old between → Fits (Conflictor s ys l) between new → FitBoth k' j' old new
 conflict_dissolves a s ys l k' j' w old between new f g =
-    let undone = one_applies (inverse_of a) between new (subst (λ t. Runs t between new) w.undoes g.effect) in
+    let undone = one_applies (inverse_of a) between new (subst (λ t. AppliesAll t between new) w.undoes g.effect) in
     let same : new ≡ old = back_to_old a old between new f.effect undone in
     let valid : Valid new (bare w.q) = subst (Valid new) w.is g.seen.1 in
-    let second : Runs (w.q ∷ []) old valid.0 = subst (λ t. Runs (w.q ∷ []) t valid.0) same valid.1 in
-    let back : Runs (inverse_of w.q ∷ []) valid.0 new = one_runs (inverse_of w.q) valid.0 new (one_back w.q new valid.0 valid.1) in
-    let own : Valid new (bare a) = (between, subst (λ t. Runs (a ∷ []) t between) (sym same) f.effect) in
+    let second : AppliesAll (w.q ∷ []) old valid.0 = subst (λ t. AppliesAll (w.q ∷ []) t valid.0) same valid.1 in
+    let back : AppliesAll (inverse_of w.q ∷ []) valid.0 new = one_runs (inverse_of w.q) valid.0 new (one_back w.q new valid.0 valid.1) in
+    let own : Valid new (bare a) = (between, subst (λ t. AppliesAll (a ∷ []) t between) (sym same) f.effect) in
     fit_both_as (Plain w.q) (Conflictor (inverse_of w.q ∷ []) (only (bare w.q)) (bare a)) k' j' old new w.second w.first (valid.0, plain_fits w.q old valid.0 second, conflictor_fits (inverse_of w.q ∷ []) (only (bare w.q)) (bare a) valid.0 new back (only_valid new (bare w.q) valid) own)
 
 plain_leaves_the_set : (a : Named) (s : List Named) (ys : Contexts) (l : InContext) (k' j' : Catch) → PlainLeavesTheSet a s ys l k' j' → (old between new : Files) → Fits (Plain a) old between → Fits (Conflictor s ys l) between new → FitBoth k' j' old new
@@ -101,15 +101,15 @@ plain_leaves_the_set a s ys l k' j' w old between new f g =
     let order : s ~ (inverse_of a ∷ w.s') =
     through (fronted (label_of (inverse_of a)) s (inverse_of a) w.rest w.front) (after_one (inverse_of a) w.rest w.s' (ordered w.rest w.s' w.effect)) in
     let run = along s (inverse_of a ∷ w.s') order between new g.effect in
-    let rest : Runs w.s' old new = subst (λ t. Runs w.s' t new) (back_to_old a old between run.0 f.effect run.1) run.2 in
+    let rest : AppliesAll w.s' old new = subst (λ t. AppliesAll w.s' t new) (back_to_old a old between run.0 f.effect run.1) run.2 in
     fit_both_as (Conflictor w.s' (remove ys (patch_key a)) l) (Conflictor [] (only l) w.z) k' j' old new w.second w.first (new, conflictor_fits w.s' (remove ys (patch_key a)) l old new rest (without_valid new ys (patch_key a) g.seen.0) g.seen.1, conflictor_fits [] (only l) w.z new new refl (only_valid new l g.seen.1) (g.seen.0 (patch_key a) w.z w.member))
 
 only_conflict_goes : (r : List Named) (xs : Contexts) (i : InContext) (s : List Named) (ys : Contexts) (l : InContext) (k' j' : Catch) → OnlyConflictGoes r xs i s ys l k' j' → (old between new : Files) → Fits (Conflictor r xs i) old between → Fits (Conflictor s ys l) between new → FitBoth k' j' old new
 only_conflict_goes r xs i s ys l k' j' w old between new f g =
-    let still : new ≡ between = subst (λ t. Runs t between new) w.undoes g.effect in
-    let first : Runs r old new = subst (Runs r old) (sym still) f.effect in
+    let still : new ≡ between = subst (λ t. AppliesAll t between new) w.no_effect g.effect in
+    let first : AppliesAll r old new = subst (AppliesAll r old) (sym still) f.effect in
     let valid : Valid old (bare w.a) = valid_by_adding_all r l (bare w.a) w.becomes old new first g.seen.1 in
-    let run : Runs (inverse_of w.a ∷ r) valid.0 new = (old, one_back w.a old valid.0 valid.1, first) in
+    let run : AppliesAll (inverse_of w.a ∷ r) valid.0 new = (old, one_back w.a old valid.0 valid.1, first) in
     let back = along (inverse_of w.a ∷ r) w.effect (ordered (inverse_of w.a ∷ r) w.effect w.joined) valid.0 new run in
     let members = subst (λ t. AreValid t xs) (sym still) f.seen.0 in
     let own = subst (λ t. Valid t i) (sym still) f.seen.1 in

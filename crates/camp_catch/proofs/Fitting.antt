@@ -10,7 +10,7 @@ use Rattle.camp_prim.specs.declared.named.Named.{Named}
 use Rattle.camp_prim.proofs.Applied.{applies_once}
 use Rattle.camp_prim.proofs.Inverses.{leads_back}
 use Rattle.camp_seq.specs.Equivalence.{◌~◌}
-use Rattle.camp_seq.specs.Running.{Runs, inverse_all}
+use Rattle.camp_seq.specs.Running.{AppliesAll, inverse_all}
 use Rattle.camp_seq.proofs.ListRuns.{joined_runs, cut_run, equivalent_run}
 use Rattle.camp_ctx.specs.Contexts.{InContext, Contexts, AreValid, Valid, only, with_member, context_key}
 use Rattle.camp_prim.proofs.LabelOrder.{key_total}
@@ -26,36 +26,36 @@ pub fit_both_as : (j k j' k' : Catch) (old new : Files) → j' ≡ j → k' ≡ 
 fit_both_as j k j' k' old new e f both =
     subst (λ x. FitBoth j' x old new) (sym f) (subst (λ x. FitBoth x k old new) (sym e) both)
 
-pub plain_fits : (a : Named) (old new : Files) → Runs (a ∷ []) old new → Fits (Plain a) old new
+pub plain_fits : (a : Named) (old new : Files) → AppliesAll (a ∷ []) old new → Fits (Plain a) old new
 plain_fits a old new run = record { effect = run; seen = tt }
 
-pub conflictor_fits : (r : List Named) (xs : Contexts) (i : InContext) (old new : Files) → Runs r old new → AreValid new xs → Valid new i → Fits (Conflictor r xs i) old new
+pub conflictor_fits : (r : List Named) (xs : Contexts) (i : InContext) (old new : Files) → AppliesAll r old new → AreValid new xs → Valid new i → Fits (Conflictor r xs i) old new
 conflictor_fits r xs i old new run members identity = record { effect = run; seen = (members, identity) }
 
 -- equivalent lists lead from the same trees
-pub along : (s t : List Named) → s ~ t → (old new : Files) → Runs s old new → Runs t old new
+pub along : (s t : List Named) → s ~ t → (old new : Files) → AppliesAll s old new → AppliesAll t old new
 along s t e old new run = (equivalent_run s t e old new).0 run
 
 -- two lists change places and lead to the same tree
-pub places_change : (r s s' r' : List Named) → (r ++ s) ~ (s' ++ r') → (old between new : Files) → Runs r old between → Runs s between new → (other : Files) × Runs s' old other × Runs r' other new
+pub places_change : (r s s' r' : List Named) → (r ++ s) ~ (s' ++ r') → (old between new : Files) → AppliesAll r old between → AppliesAll s between new → (other : Files) × AppliesAll s' old other × AppliesAll r' other new
 places_change r s s' r' e old between new first second =
     cut_run s' r' old new (along (r ++ s) (s' ++ r') e old new (joined_runs r s old between new first second))
 
 -- a list of one is its element
-pub one_runs : (a : Named) (old new : Files) → Applies a.prim old new → Runs (a ∷ []) old new
+pub one_runs : (a : Named) (old new : Files) → Applies a.prim old new → AppliesAll (a ∷ []) old new
 one_runs a old new applies = (new, applies, refl)
 
-pub one_applies : (a : Named) (old new : Files) → Runs (a ∷ []) old new → Applies a.prim old new
+pub one_applies : (a : Named) (old new : Files) → AppliesAll (a ∷ []) old new → Applies a.prim old new
 one_applies a old new run = subst (Applies a.prim old) (sym run.2) run.1
 
-pub one_back : (a : Named) (old new : Files) → Runs (a ∷ []) old new → Applies (inverse_of a).prim new old
+pub one_back : (a : Named) (old new : Files) → AppliesAll (a ∷ []) old new → Applies (inverse_of a).prim new old
 one_back a old new run = leads_back a.prim old new (one_applies a old new run)
 
 -- a list leads to one tree at most
-pub run_once : (s : List Named) (old new other : Files) → Runs s old new → Runs s old other → new ≡ other
+pub run_once : (s : List Named) (old new other : Files) → AppliesAll s old new → AppliesAll s old other → new ≡ other
 run_once [] old new other v w = subst (λ t. new ≡ t) (sym w) v
 run_once (p ∷ s) old new other v w =
-    run_once s w.0 new other (subst (λ t. Runs s t new) (applies_once p.prim old v.0 w.0 v.1 w.1) v.2) w.2
+    run_once s w.0 new other (subst (λ t. AppliesAll s t new) (applies_once p.prim old v.0 w.0 v.1 w.1) v.2) w.2
 
 never : (x : InContext) → None ≡ Some x → ⊥
 never x e = cc

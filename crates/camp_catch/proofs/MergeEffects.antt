@@ -5,7 +5,7 @@ use Rattle.camp_prim.specs.Effect.{Applies, inverse_of}
 use Rattle.camp_prim.specs.declared.named.Named.{Named}
 use Rattle.camp_prim.proofs.Inverses.{leads_back}
 use Rattle.camp_seq.specs.Equivalence.{◌~◌}
-use Rattle.camp_seq.specs.Running.{Runs, inverse_all}
+use Rattle.camp_seq.specs.Running.{AppliesAll, inverse_all}
 use Rattle.camp_seq.proofs.ListEquivalence.{ordered, split}
 use Rattle.camp_seq.proofs.ListRuns.{cut_run, runs_back}
 use Rattle.camp_seq.proofs.MergeGrid.{cell_closes, row_closes, merge_closes, cell_is_symmetric}
@@ -36,7 +36,7 @@ clean a b k' j' w old left right f g =
     meeting_as (Plain w.b') (Plain w.a') k' j' left right w.after w.beside (cell.0, plain_fits w.b' left cell.0 (one_runs w.b' left cell.0 cell.1), plain_fits w.a' right cell.0 (one_runs w.a' right cell.0 cell.2))
 
 -- what undoes one of two patches that conflict leads back to where both began
-undoing_fits : (a b : Named) (old left right : Files) → Runs (a ∷ []) old left → Runs (b ∷ []) old right → Fits (Conflictor (inverse_of a ∷ []) (only (bare a)) (bare b)) left old
+undoing_fits : (a b : Named) (old left right : Files) → AppliesAll (a ∷ []) old left → AppliesAll (b ∷ []) old right → Fits (Conflictor (inverse_of a ∷ []) (only (bare a)) (bare b)) left old
 undoing_fits a b old left right first second =
     conflictor_fits (inverse_of a ∷ []) (only (bare a)) (bare b) left old (one_runs (inverse_of a) left old (one_back a old left first)) (only_valid old (bare a) (left, first)) (right, second)
 
@@ -57,18 +57,18 @@ plain_joins_conflictor : (a : Named) (s : List Named) (ys : Contexts) (l : InCon
 plain_joins_conflictor a s ys l k' j' w old left right f g =
     let back = runs_back s old right g.effect in
     let valid : Valid right w.z = valid_by_adding_all (inverse_all s) (bare a) w.z w.becomes right old back (left, f.effect) in
-    let run : Runs (inverse_of a ∷ s) left right = (old, one_back a old left f.effect, g.effect) in
+    let run : AppliesAll (inverse_of a ∷ s) left right = (old, one_back a old left f.effect, g.effect) in
     let effect = along (inverse_of a ∷ s) w.effect (ordered (inverse_of a ∷ s) w.effect w.joined) left right run in
     meeting_as (Conflictor w.effect (with_member ys w.z) l) (Conflictor [] (only l) w.z) k' j' left right w.after w.beside (right, conflictor_fits w.effect (with_member ys w.z) l left right effect (with_member_valid right ys w.z g.seen.0 valid) g.seen.1, conflictor_fits [] (only l) w.z right right refl (only_valid right l g.seen.1) valid)
 
 -- lists that merge cleanly behind what they have in common close a square of trees
-behind_common_closes : (s t t' s' : List Named) → MergesBehindCommon s t t' s' → (old left right : Files) → Runs s old left → Runs t old right → (new : Files) × Runs t' left new × Runs s' right new
+behind_common_closes : (s t t' s' : List Named) → MergesBehindCommon s t t' s' → (old left right : Files) → AppliesAll s old left → AppliesAll t old right → (new : Files) × AppliesAll t' left new × AppliesAll s' right new
 behind_common_closes s t t' s' w old left right first second =
     let labels = common_labels s t in
     let one = cut_run w.common w.s1 old left (along s (w.common ++ w.s1) (split labels s w.common w.s1 w.first) old left first) in
     let other = cut_run w.common w.t1 old right (along t (w.common ++ w.t1) (split labels t w.common w.t1 w.second) old right second) in
     let same : other.0 ≡ one.0 = run_once w.common old other.0 one.0 other.1 one.1 in
-    merge_closes w.s1 w.t1 t' s' w.merge one.0 left right one.2 (subst (λ tree. Runs w.t1 tree right) same other.2)
+    merge_closes w.s1 w.t1 t' s' w.merge one.0 left right one.2 (subst (λ tree. AppliesAll w.t1 tree right) same other.2)
 
 joins_valid : (tree : Files) (Holds : Type 0) (l : InContext) (xs ys : Contexts) → JoinsWhere Holds l xs ys → AreValid tree xs → Valid tree l → AreValid tree ys
 joins_valid tree Holds l xs ys (inl w) members valid =
@@ -85,8 +85,8 @@ two_conflictors r xs i s ys l k' j' w old left right f g =
     let own_back = runs_back w.s2 left new effect in
     let identity = valid_by_adding_all (inverse_all w.r2) l w.l' w.identity new right back g.seen.1 in
     let own_identity = valid_by_adding_all (inverse_all w.s2) i w.i' w.own_identity new left own_back f.seen.1 in
-    let members = members_valid (AddsAll (inverse_all w.r2)) (Runs (inverse_all w.r2)) (valid_by_adding_all (inverse_all w.r2)) ys w.ys' w.conflicts new right back g.seen.0 in
-    let own_members = members_valid (AddsAll (inverse_all w.s2)) (Runs (inverse_all w.s2)) (valid_by_adding_all (inverse_all w.s2)) xs w.xs' w.own_conflicts new left own_back f.seen.0 in
+    let members = members_valid (AddsAll (inverse_all w.r2)) (AppliesAll (inverse_all w.r2)) (valid_by_adding_all (inverse_all w.r2)) ys w.ys' w.conflicts new right back g.seen.0 in
+    let own_members = members_valid (AddsAll (inverse_all w.s2)) (AppliesAll (inverse_all w.s2)) (valid_by_adding_all (inverse_all w.s2)) xs w.xs' w.own_conflicts new left own_back f.seen.0 in
     meeting_as (Conflictor w.s2 w.after_set w.l') (Conflictor w.r2 w.beside_set w.i') k' j' left right w.after w.beside (new, conflictor_fits w.s2 w.after_set w.l' left new effect (joins_valid new _ w.i' w.ys' w.after_set w.joins members own_identity) identity, conflictor_fits w.r2 w.beside_set w.i' right new own_effect (joins_valid new _ w.l' w.xs' w.beside_set w.own_joins own_members identity) own_identity)
 
 -- the mirror image of a square

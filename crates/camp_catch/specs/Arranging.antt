@@ -16,7 +16,7 @@ ComesBefore (j ∷ list) k k' list' =
 abbrev pub DoNotCommute : Catch → Catch → Type 0
 DoNotCommute j k = (k' j' : Catch) → ¬ (CommuteCatch j k k' j')
 
--- on its way left over a list, k can not pass the catch with this label
+-- on its way left over a list, k can not pass the catch with this absolute label
 abbrev pub StopsAt : List Catch → Catch → Key → Type 0
 StopsAt [] k on = ⊥
 StopsAt (j ∷ list) k on =
@@ -35,7 +35,8 @@ ArrangesBehind names rest (k ∷ list) first others =
     × ComesBefore rest k k' rest' × ArrangesBehind names rest' list t others × (first ≡ k' ∷ t)))
     ⊎ ((¬ (IsOf names k)) × ArrangesBehind names (rest ++ k ∷ []) list first others)
 
--- behind the catches of rest, the catch `patch` is the first of the names that stops, and it stops at the catch `on`
+-- behind the catches of rest, which are of none of the names, `patch` is the absolute label of the first catch of the
+-- names that stops, and `on` that of the catch that it can not pass
 abbrev pub SticksBehind : List (List ℕ) → List Catch → List Catch → Key → Key → Type 0
 SticksBehind names rest [] patch on = ⊥
 SticksBehind names rest (k ∷ list) patch on =
@@ -48,11 +49,11 @@ SticksBehind names rest (k ∷ list) patch on =
 abbrev pub Arrange : List (List ℕ) → List Catch → List Catch → List Catch → Type 0
 Arrange names list first rest = ArrangesBehind names [] list first rest
 
--- the list can not be arranged: the catch `patch`, of the names, can not pass the catch `on`
+-- the list can not be arranged: the catch of the names with the absolute label `patch` can not pass the one with `on`
 abbrev pub ArrangeSticks : List (List ℕ) → List Catch → Key → Key → Type 0
 ArrangeSticks names list patch on = SticksBehind names [] list patch on
 
--- list <-> k' others: the catch with this label is commuted left over all before it
+-- list <-> k' others: the first catch with this absolute label is commuted left over all before it
 abbrev pub ComesFirst : Key → List Catch → Catch → List Catch → Type 0
 ComesFirst key [] k' others = ⊥
 ComesFirst key (j ∷ list) k' others =
@@ -60,7 +61,8 @@ ComesFirst key (j ∷ list) k' others =
     ⊎ ((catch_key j ≢ key) × ((coming : Catch) × (j' : Catch) × (t : List Catch)
     × ComesFirst key list coming t × CommuteCatch j coming k' j' × (others ≡ j' ∷ t)))
 
--- the list in the order of these labels; the catches that it does not name stay behind the others, in their order
+-- the list in the order of these absolute labels; the catches that it does not name stay behind the others, in their
+-- order
 abbrev pub Align : List Key → List Catch → List Catch → Type 0
 Align [] list aligned = aligned ≡ list
 Align (key ∷ order) list aligned =

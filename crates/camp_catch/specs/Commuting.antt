@@ -1,5 +1,6 @@
--- When two catches, one after the other, may change places, and what they become. The cases and their letters: j is
--- [a] or (r, X, i), k is [b] or (s, Y, l); each list that a case makes is in normal order.
+-- When two catches, one after the other, may change places, and what they become. The letters of the cases: j is [a] or
+-- (r, X, i), k is [b] or (s, Y, l); the sets X, Y, Z are xs, ys, zs. Each list that a case makes is put in normal order
+-- as it is made; an inverse s^ is taken as it is. A catch is in a set where its absolute label is.
 use Rattle.std.specs.Prelude.{◌≡◌, ◌≢◌, ◌⊎◌, ◌≤◌, ◌&&◌, List, [], ◌∷◌, ◌++◌, map, filter, Some, None}
 use Rattle.std.specs.List.{All}
 use Rattle.std.specs.FinMap.{get, contains_key, remove, len}
@@ -62,7 +63,8 @@ pub record ConflictorPastPlain (r : List Named) (xs : Contexts) (i : InContext)
 abbrev pub labels_undone : List Named → Contexts → List Label
 labels_undone r ys = map label_of (filter (λ p. p.inverse && contains_key ys (patch_key p)) r)
 
--- two effects change places, but for what r undoes of Y, which stays first
+-- two effects change places, but for what r undoes of Y, which stays first: r is split by the labels undone, and joined
+-- is what is behind the common part
 -- common rr s ~ common s' rr', where r ~ common rr by the labels undone, and rr s ~ s' rr'
 pub record EffectsPass (r s : List Named) (ys : Contexts) (effect rr' : List Named) : Type 0 where
   pub common : List Named
@@ -108,7 +110,7 @@ pub record ConflictDissolves (a : Named)
   pub second : k' ≡ Plain q
   pub first : j' ≡ Conflictor (inverse_of q ∷ []) (only (bare q)) (bare a)
 
--- plain leaves the set: a is in Y, as z, and not alone; s ~ a^ s'
+-- plain leaves the set: a is in Y, as z with its label, and not alone; s ~ a^ s'
 -- [a] (s, Y, l) <-> (s', Y without a, l) ([], {l}, z)
 pub record PlainLeavesTheSet (a : Named)
     (s : List Named) (ys : Contexts) (l : InContext) (k' j' : Catch) : Type 0 where
@@ -129,7 +131,7 @@ pub record OnlyConflictGoes (r : List Named) (xs : Contexts) (i : InContext)
     (s : List Named) (ys : Contexts) (l : InContext) (k' j' : Catch) : Type 0 where
   pub x : InContext
   pub named : context_key x ≡ context_key i
-  pub undoes : s ≡ []
+  pub no_effect : s ≡ []
   pub alone : ys ≡ only x
   pub a : Named
   pub becomes : AddsAll r l (bare a)

@@ -45,7 +45,7 @@ pub record ListsKeepEffects : Type 0 where
       (p q p' q' : List Catch) → MergeLists p q p' q' → (old left right : Files) → FitsAll q old left →
       FitsAll p old right → (new : Files) × FitsAll p' left new × FitsAll q' right new
 
--- the labels of a list
+-- the absolute labels of a list
 abbrev pub keys_of : List Catch → List Key
 keys_of list = map catch_key list
 
@@ -63,7 +63,8 @@ KeysAlign (key ∷ order) keys aligned =
     (before : List Key) × (after : List Key) × (t : List Key)
     × (keys ≡ before ++ key ∷ after) × KeysAlign order (before ++ after) t × (aligned ≡ key ∷ t)
 
--- commuting and merging keep labels; arranging and aligning bring them into their order; what is merged has its own
+-- commuting and merging keep absolute labels; a list that is arranged or aligned has those of the list in their new
+-- order, and a list that is merged has those that it had, in its order
 pub record KeepLabels : Type 0 where
   pub commuted :
       (j k k' j' : Catch) → CommuteCatch j k k' j' → (catch_key k' ≡ catch_key k) × (catch_key j' ≡ catch_key j)

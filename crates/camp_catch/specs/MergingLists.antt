@@ -22,14 +22,15 @@ MergeLists (k ∷ p) q p' q' =
 abbrev pub DoNotMerge : Catch → Catch → Type 0
 DoNotMerge j k = (k' j' : Catch) → ¬ (MergeCatch j k k' j')
 
--- one catch against a list: the labels of the first pair that does not merge
+-- one catch against a list: the absolute labels of the first pair that does not merge, left from the list, right the
+-- one
 abbrev pub SticksWithin : List Catch → Catch → Key → Key → Type 0
 SticksWithin [] k left right = ⊥
 SticksWithin (j ∷ q) k left right =
     (DoNotMerge j k × (left ≡ catch_key j) × (right ≡ catch_key k))
     ⊎ ((next : Catch) × (j' : Catch) × MergeCatch j k next j' × SticksWithin q next left right)
 
--- two lists: the labels of the first pair that does not merge, left from q and right from p
+-- two lists: the absolute labels of the first pair that does not merge, left from q and right from p
 abbrev pub MergeSticks : List Catch → List Catch → Key → Key → Type 0
 MergeSticks [] q left right = ⊥
 MergeSticks (k ∷ p) q left right =
