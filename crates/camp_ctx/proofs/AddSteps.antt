@@ -22,18 +22,18 @@ nothing_cancels a x label s labelled is never y w =
     never (inverse_of a, w.rest) (subst (λ l. Fronts l s (inverse_of a) w.rest) (sym labelled) (subst (λ t. Fronts (label_of (inverse_of a)) t (inverse_of a) w.rest) (sym is) w.front))
 
 -- what came to the front of a context, and its inverse
-module _ (a : Named) (x : InContext) (label : Label) (s : List Named) (first back : Named) (rest : List Named) (labelled : label ≡ label_of (inverse_of a)) (is : s ≡ x.context) (comes : Fronts label s first rest) (inverted : back ≡ inverse_of first) where
+module _ (a : Named) (x : InContext) (label : Label) (s : List Named) (first : Named) (rest : List Named) (labelled : label ≡ label_of (inverse_of a)) (is : s ≡ x.context) (comes : Fronts label s first rest) where
   front : Fronts (label_of (inverse_of a)) x.context first rest
   front = subst (λ t. Fronts (label_of (inverse_of a)) t first rest) is (subst (λ l. Fronts l s first rest) labelled comes)
 
-  pub not_cancelled : ¬ (back ≡ a) → GivesNone (Cancels a) x
+  pub not_cancelled : ¬ (inverse_of first ≡ a) → GivesNone (Cancels a) x
   not_cancelled other y w =
       let firsts = one_front _ x.context rest w.rest first (inverse_of a) front w.front in
-      other (inverted ∙ ap inverse_of firsts.0 ∙ inverse_of-inverse_of a)
+      other (ap inverse_of firsts.0 ∙ inverse_of-inverse_of a)
 
-  pub cancels_from : (y : InContext) (context : List Named) (patch : Named) → back ≡ a → Norm rest context → patch ≡ x.patch → y ≡ record { context = context; patch = patch } → Cancels a x y
+  pub cancels_from : (y : InContext) (context : List Named) (patch : Named) → inverse_of first ≡ a → Norm rest context → patch ≡ x.patch → y ≡ record { context = context; patch = patch } → Cancels a x y
   cancels_from y context patch same order kept made =
-      let it : first ≡ inverse_of a = sym (inverse_of-inverse_of first) ∙ ap inverse_of (sym inverted ∙ same) in
+      let it : first ≡ inverse_of a = sym (inverse_of-inverse_of first) ∙ ap inverse_of same in
       subst (Cancels a x) (sym made) (record {
         rest = rest;
         front = subst (λ z. Fronts (label_of (inverse_of a)) x.context z rest) it front;

@@ -1,4 +1,5 @@
-ghost use Rattle.std.specs.Prelude.{◌≡◌, IfOk};
+ghost use Rattle.std.specs.Prelude.{◌≡◌, ◌↔◌, IfOk, IsTrue};
+ghost use Rattle.camp_prim.specs.Effect.{inverse_of};
 ghost use Rattle.camp_base.specs.Answers.{Finds};
 ghost use Rattle.camp_ctx.specs.Adding.{Adds, AddsAll, Cancels, Keeps, PassesBy, PassesByAll};
 
@@ -88,12 +89,19 @@ fn cancelled(a: &Named, x: &Contexted) -> Result<Option<Contexted>, AllocError>
     let Some((first, rest)) = found else {
         return Ok(None);
     };
-    if !first.invert().is_same(a) {
+    if !undoes(first, a) {
         return Ok(None);
     }
     let left = norm(&rest)?;
     let patch = x.patch().try_clone()?;
     Ok(Some(Contexted::new(x.allocator(), left, patch)?))
+}
+
+/// Whether the first is the inverse of the second, by its label and by its primitive.
+fn undoes(first: Named, a: &Named) -> bool
+    ensures { IsTrue result ↔ (inverse_of first ≡ a.now) }
+{
+    first.invert().is_same(a)
 }
 
 /// The contexted patch with `a` before its context.

@@ -14,13 +14,13 @@ returns-in_default c =
     let never = rw c.in_default.is at c.in_ok-found.ensures.exact in
     record { exact = nothing_cancels c.args.a.now c.args.x.now _ _ (c.opposite-label.ensures ∙ ap opposite c.label.ensures) c.context-context.ensures never }
 
-pub returns-then-not-is_same : goal.returns-then-not-is_same
-returns-then-not-is_same c =
+pub returns-then-not-undoes : goal.returns-then-not-undoes
+returns-then-not-undoes c =
     let front = rw c.in-Some.is at c.in_ok-found.ensures.exact in
-    let no = c.if-not-is_same.true in
-    record { exact = not_cancelled c.args.a.now c.args.x.now _ _ _ _ _ (c.opposite-label.ensures ∙ ap opposite c.label.ensures) c.context-context.ensures front c.invert.ensures (λ same. let yes = c.is_same.ensures.1 same in cc) }
+    let no = c.if-not-undoes.true in
+    record { exact = not_cancelled c.args.a.now c.args.x.now _ _ _ _ (c.opposite-label.ensures ∙ ap opposite c.label.ensures) c.context-context.ensures front (λ same. let yes = c.undoes.ensures.1 same in cc) }
 
 pub returns : goal.returns
 returns c =
     let front = rw c.in-Some.is at c.in_ok-found.ensures.exact in
-    record { exact = cancels_from c.args.a.now c.args.x.now _ _ _ _ _ (c.opposite-label.ensures ∙ ap opposite c.label.ensures) c.context-context.ensures front c.invert.ensures _ _ _ (c.is_same.ensures.0 c.if-not-is_same.false) c.in_ok-left.ensures.order (c.in_ok-patch.ensures ∙ c.patch.ensures) c.in_ok-new.ensures }
+    record { exact = cancels_from c.args.a.now c.args.x.now _ _ _ _ (c.opposite-label.ensures ∙ ap opposite c.label.ensures) c.context-context.ensures front _ _ _ (c.undoes.ensures.0 c.if-not-undoes.false) c.in_ok-left.ensures.order (c.in_ok-patch.ensures ∙ c.patch.ensures) c.in_ok-new.ensures }
