@@ -2,7 +2,7 @@
 use Rattle.std.specs.Prelude.{◌≡◌, List, [], ◌∷◌}
 use Rattle.camp_base.specs.Trees.{Files}
 use Rattle.camp_prim.specs.declared.named.Named.{Named}
-use Rattle.camp_seq.specs.Running.{Runs}
+use Rattle.camp_seq.specs.Running.{AppliesAll}
 use Rattle.camp_ctx.specs.Contexts.{Valid, AreValid, patch_key, context_key}
 use Rattle.camp_prim.specs.declared.labels.Key.{Key}
 use Rattle.camp_catch.specs.declared.catches.Catch.{Catch}
@@ -25,7 +25,7 @@ IsSeenFrom tree (Conflictor r xs i) = AreValid tree xs × Valid tree i
 
 -- a catch fits a tree and leads to another: its effect does, and there its conflicts and its identity are valid
 pub record Fits (j : Catch) (old new : Files) : Type 0 where
-  pub effect : Runs (effect_of j) old new
+  pub effect : AppliesAll (effect_of j) old new
   pub seen : IsSeenFrom new j
 
 -- a catch fits a tree
