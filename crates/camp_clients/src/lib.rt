@@ -3,9 +3,13 @@
 
 mod comparisons;
 mod faults;
+mod heads;
 mod locks;
 mod one_by_one;
 mod sections;
+mod stub;
+#[cfg(test)]
+mod tests;
 
 pub use comparisons::{MAX_SECTIONS, has_exactly};
 pub use faults::LockFault;
