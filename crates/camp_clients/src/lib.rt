@@ -1,4 +1,4 @@
-//! Sections of calls over one object: one after the other, in threads over a lock, in threads over a head.
+//! Sections of calls over one object: one after the other, and in threads over a lock.
 #![tactic(auto)]
 
 mod comparisons;
@@ -6,6 +6,8 @@ mod faults;
 mod locks;
 mod one_by_one;
 mod sections;
+#[cfg(test)]
+mod tests;
 
 pub use comparisons::{MAX_SECTIONS, has_exactly};
 pub use faults::LockFault;
