@@ -1,6 +1,6 @@
 -- Lemmas on lists that go side by side.
 use Rattle.std.proofs.Common.{◌≡◌, ℕ, ◌+◌, ◌<◌, suc, zero, List, [], ◌∷◌, ◌++◌, length, take, get_or, Result, Ok, IfOk, refl, ◌∙◌, ap, subst, add-one, arith}
-use Rattle.std.specs.List.{All, AllZip}
+use Rattle.std.specs.List.{All, AllZip, remove}
 use Rattle.std.specs.Prelude.{OnOk, is_err, false, Err}
 use Rattle.std.proofs.lemmas.List.{take_more, get_or-map}
 use Rattle.std.specs.Prelude.{Vec, vec_items}
@@ -82,3 +82,15 @@ module _ {A B : Type 0} (R : A → B → Type 0) (P : B → Type 0) (each : (x :
   zip_all (a ∷ xs) [] all k d below = absurd all
   zip_all (a ∷ xs) (b ∷ ys) all zero d below = each a b all.0
   zip_all (a ∷ xs) (b ∷ ys) all (suc k) d below = zip_all xs ys all.1 k d (omega arith)
+
+-- a client for each seat but the first: what holds of seat k + 1 holds of client k
+module _ {Seat Client : Type 0} (seat : Client → Seat) (P : ℕ → Seat → Type 0) where
+  pub behind_first : (seats rest : List Seat) (clients : List Client) → rest ≡ remove seats 0 → AllZip (λ s client. seat client ≡ s) rest clients
+      → ((k : ℕ) (d : Seat) → k < length seats → P k (get_or seats k d))
+      → (k : ℕ) (d : Client) → k < length clients → P (k + 1) (seat (get_or clients k d))
+  behind_first [] rest clients is all each k d below =
+      absurd (omega (arith, ap length is, zip_length (λ s client. seat client ≡ s) rest clients all))
+  behind_first (x ∷ xs) rest clients is all each k d below =
+      let here = subst (λ r. AllZip (λ s client. seat client ≡ s) r clients) is all in
+      let same = zip_length (λ s client. seat client ≡ s) xs clients here in
+      rw (add-one k, zip_at (λ s client. seat client ≡ s) xs clients k (seat d) d (omega (arith, same)) here) (each (suc k) (seat d) (omega (arith, same)))

@@ -45,7 +45,10 @@ module _ {State Call Reply : Type 0} (object : Sequential State Call Reply) (sea
       → MatchOption at (IsFront earlier next × IsAnswered object next call reply) (λ at. IsDone seat earlier call at next)
   earlier_reply call None reply next said = (front_trans earlier first next front said.0, said.1)
   earlier_reply call (Some at) reply next said = record {
-    stood = said.stood; since = front_trans earlier first said.stood front said.since; ends = said.ends; position = said.position;
+    stood = said.stood;
+    since = front_trans earlier first said.stood front said.since;
+    ends = said.ends;
+    position = said.position;
   }
 
   says_earlier : (call : Call) (answer : Result Reply Fault) (next : List (ℕ × Call)) → Says object seat tries first call answer next → Says object seat tries earlier call answer next
@@ -92,14 +95,14 @@ module _ {State Call Reply Client : Type 0} (object : Sequential State Call Repl
     client_fronts : HasFronts object (sight.number c0) tries opened (section_of sections (sight.number c0)) (sight.answers c4) history
     client_fronts = subst (λ answers. HasFronts object (sight.number c0) tries opened (section_of sections (sight.number c0)) answers history) same_answers
         (fronts_earlier object (sight.number c0) tries opened (sight.seen c1) m1.knows none_between (section_of sections (sight.number c0)) (sight.answers c2) history
-          (front_trans opened (sight.seen c1) history m1.knows
-            (front_trans (sight.seen c1) (sight.seen c2) history (section_grows object (caller_of tries per_seat (sight.number c0)) (sight.seen c1) _ _ (sight.seen c2) asked) met.known))
-          (record {
-            last = sight.seen c2;
-            fronts = section_map (Asks object (caller_of tries per_seat (sight.number c0))) (Says object (sight.number c0) tries)
-                (says object (caller_of tries per_seat (sight.number c0))) (sight.seen c1) _ _ (sight.seen c2) asked;
-            within = met.known;
-          }))
+        (front_trans opened (sight.seen c1) history m1.knows
+        (front_trans (sight.seen c1) (sight.seen c2) history (section_grows object (caller_of tries per_seat (sight.number c0)) (sight.seen c1) _ _ (sight.seen c2) asked) met.known))
+        (record {
+          last = sight.seen c2;
+          fronts = section_map (Asks object (caller_of tries per_seat (sight.number c0))) (Says object (sight.number c0) tries)
+              (says object (caller_of tries per_seat (sight.number c0))) (sight.seen c1) _ _ (sight.seen c2) asked;
+          within = met.known;
+        }))
 
     all_own : own (sight.number c0) (sight.seen c4) ≡ own (sight.number c0) (sight.seen c2)
     all_own =
@@ -109,7 +112,7 @@ module _ {State Call Reply Client : Type 0} (object : Sequential State Call Repl
     client_own : own_at (sight.number c0) 0 history ≡ done_at (told object) (section_of sections (sight.number c0)) (sight.answers c4)
     client_own =
         own_at_front (sight.number c0) (sight.seen c2) history met.known
-          (own_between (sight.number c0) (sight.seen c2) history (sight.seen c4) met.known m2.knows all_own)
+        (own_between (sight.number c0) (sight.seen c2) history (sight.seen c4) met.known m2.knows all_own)
         ∙ section_own_at object (caller_of tries per_seat (sight.number c0)) (sight.seen c1) (section_of sections (sight.number c0)) (sight.answers c2) (sight.seen c2) asked
         ∙ ap (λ xs. xs ++ done_at (told object) (section_of sections (sight.number c0)) (sight.answers c2)) (own_at_none (sight.number c0) 0 (sight.seen c1) none_own)
         ∙ ap (done_at (told object) (section_of sections (sight.number c0))) same_answers
@@ -144,7 +147,11 @@ module _ {State Call Reply Client : Type 0} (object : Sequential State Call Repl
 pub met_more : {Client Call Answer : Type 0} (sight : Sight Client Call Answer) (h more : List (ℕ × Call)) → IsFront h more
     → (before after : List Client) → AllZip (IsMet sight h) before after → AllZip (IsMet sight more) before after
 met_more sight h more grows = zip_map (IsMet sight h) (IsMet sight more) (λ before after met. record {
-  is_seat = met.is_seat; number = met.number; answers = met.answers; seen = met.seen; known = front_trans (sight.seen before) h more met.known grows;
+  is_seat = met.is_seat;
+  number = met.number;
+  answers = met.answers;
+  seen = met.seen;
+  known = front_trans (sight.seen before) h more met.known grows;
 })
 
 -- the results of calls that were granted
@@ -159,9 +166,10 @@ module _ {X Y E : Type 0} (R : X → Y → Type 0) where
   zip_granted (x ∷ jobs) (r ∷ made) [] long each granted = absurd granted
   zip_granted (x ∷ jobs) (r ∷ made) (y ∷ all) long each granted =
       let first = each 0 r (omega arith) in
-      let holds = subst (λ r. IfOk r (R first.0)) granted.0 first.1.1 in
-      (subst (λ job. R job y) (sym (first.1.0 x)) holds,
-       zip_granted jobs made all (omega arith) (λ i d below. each (suc i) d (omega arith)) granted.1)
+      let holds = subst (λ r. IfOk r (R first.0)) granted.0 first.1.1 in (
+        subst (λ job. R job y) (sym (first.1.0 x)) holds,
+        zip_granted jobs made all (omega arith) (λ i d below. each (suc i) d (omega arith)) granted.1,
+      )
 
 -- a whole run, put together
 module _ {State Call Reply Client : Type 0} (object : Sequential State Call Reply) (sight : Sight Client Call (Result Reply Fault)) (tries per_seat : ℕ)

@@ -7,7 +7,7 @@ ghost use Rattle.camp_clients.specs.Meeting.{AreNew, IsMet, Meets, Ran};
 ghost use Rattle.camp_clients.specs.Runs.{IsShared, lists_of};
 
 use crate::sections::Answers;
-use crate::stub::{Gate, Head};
+use crate::shares::{Gate, SharedHistory};
 use camp_object::{Fault, Object};
 use std::alloc::{AllocError, Global};
 use std::sync::Wait;
@@ -46,7 +46,7 @@ fn new_clients<Seat: Drop, Reply: Drop>(
 }
 
 /// Each client meets a seat, and then knows what it has seen.
-fn each_meets<State: Object, H: Head<State>>(
+fn each_meets<State: Object, H: SharedHistory<State>>(
     alloc: Global,
     head: &H,
     clients: Vec<Client<H::Seat, State::Reply>>,
@@ -75,7 +75,7 @@ fn each_meets<State: Object, H: Head<State>>(
 }
 
 /// A seat meets each client, and then knows what they have seen.
-fn meets_each<State: Object, H: Head<State>>(
+fn meets_each<State: Object, H: SharedHistory<State>>(
     alloc: Global,
     head: &H,
     opener: H::Seat,
@@ -105,7 +105,7 @@ fn meets_each<State: Object, H: Head<State>>(
 }
 
 /// A client asks its section.
-fn run_client<R: Wait, State: Object, H: Head<State>, G: Gate>(
+fn run_client<R: Wait, State: Object, H: SharedHistory<State>, G: Gate>(
     rt: &R,
     alloc: Global,
     head: &H,
@@ -118,14 +118,22 @@ fn run_client<R: Wait, State: Object, H: Head<State>, G: Gate>(
     ensures { IfOk result (λ ran. Ran State.object (sight_by H.numbered H.seen (H.has head.now))
         (H.tried head.now) (H.at_most head.now) (lists_of sections.now) client ran) }
 {
-    let Client { mut seat, answers: _ } = client;
+    let Client {
+        mut seat,
+        answers: _,
+    } = client;
     let calls = &sections[head.number_of(&seat) as usize];
     let answers = head.ask_section(rt, alloc, &mut seat, gate, calls)?;
     Ok(Client { seat, answers })
 }
 
 /// Each client asks its section in a thread of its own.
-fn run_clients<R: Threads + Wait + Sync, State: Object + Send, H: Head<State> + Sync, G: Gate + Sync>(
+fn run_clients<
+    R: Threads + Wait + Sync,
+    State: Object + Send,
+    H: SharedHistory<State> + Sync,
+    G: Gate + Sync,
+>(
     rt: &R,
     alloc: Global,
     head: &H,
@@ -142,20 +150,24 @@ where
     ensures { IfOk result (λ ran. AllZip (Ran State.object (sight_by H.numbered H.seen (H.has head.now))
         (H.tried head.now) (H.at_most head.now) (lists_of sections.now)) clients.items ran.items) }
 {
-    let made = thread::map_vec(rt, clients, &|client: Client<H::Seat, State::Reply>| -> Result<Client<H::Seat, State::Reply>, AllocError>
-        requires { IsSync R.row × IsReady H.numbered H.seen (H.has head.now) (length sections.now) client
-            × All (λ calls. count_by State.object.is_writing calls.items ≤ H.at_most head.now) sections.now }
-        ensures { IfOk result (λ ran. Ran State.object (sight_by H.numbered H.seen (H.has head.entry.now))
-            (H.tried head.entry.now) (H.at_most head.entry.now) (lists_of sections.entry.now) client ran) }
-    { run_client::<R, State, H, G>(rt, alloc, head, gate, sections, client) })?;
+    let made = thread::map_vec(
+        rt,
+        clients,
+        &|client: Client<H::Seat, State::Reply>| -> Result<
+            Client<H::Seat, State::Reply>,
+            AllocError,
+        >
+            requires { IsSync R.row × IsReady H.numbered H.seen (H.has head.now) (length sections.now) client
+                × All (λ calls. count_by State.object.is_writing calls.items ≤ H.at_most head.now) sections.now }
+            ensures { IfOk result (λ ran. Ran State.object (sight_by H.numbered H.seen (H.has head.entry.now))
+                (H.tried head.entry.now) (H.at_most head.entry.now) (lists_of sections.entry.now) client ran) }
+        { run_client::<R, State, H, G>(rt, alloc, head, gate, sections, client) },
+    )?;
     granted(alloc, made)
 }
 
 /// All values, or want of memory where one was not made for it.
-fn granted<X: Drop>(
-    alloc: Global,
-    made: Vec<Result<X, AllocError>>,
-) -> Result<Vec<X>, AllocError>
+fn granted<X: Drop>(alloc: Global, made: Vec<Result<X, AllocError>>) -> Result<Vec<X>, AllocError>
     ensures { IfOk result (λ all. AllZip (λ one own. one ≡ Ok own) made.items all.items) }
 {
     let mut all = Vec::with_capacity(alloc, made.len())?;
@@ -181,9 +193,77 @@ fn answers_of<Seat: Drop, Reply: Drop>(
     Ok(all)
 }
 
+/// The largest number of calls of one section that write, and at least 1.
+fn most_writing<State: Object>(sections: &[Vec<State::Call>]) -> u32
+    requires { All (λ calls. count_by State.object.is_writing calls.items ≤ 65536) sections.now }
+    ensures room { All (λ calls. count_by State.object.is_writing calls.items ≤ result) sections.now }
+    ensures range { (0 < result) × (result ≤ 65536) }
+{
+    let mut most = 1;
+    for calls in sections {
+        most = most.max(writing::<State>(calls));
+    }
+    most
+}
+
+/// How many calls of a section write.
+fn writing<State: Object>(calls: &[State::Call]) -> u32
+    requires { count_by State.object.is_writing calls.now ≤ 65536 }
+    ensures { result ≡ count_by State.object.is_writing calls.now }
+{
+    let mut count = 0;
+    for call in calls {
+        if State::is_writing(call) {
+            count += 1;
+        }
+    }
+    count
+}
+
+/// Asks sections of calls over a head with a seat for each, section k at seat k: the first alone,
+/// and then each further one in a thread of its own, whose seat has met seat 0. Afterwards seat 0
+/// meets every seat, and every seat meets seat 0; what seat 0 has seen is the history.
+pub fn shared<
+    R: Threads + Wait + Sync,
+    State: Object + Send,
+    H: SharedHistory<State> + Sync,
+    G: Gate + Sync,
+>(
+    rt: &R,
+    alloc: Global,
+    sections: &[Vec<State::Call>],
+    tries: u32,
+    gate: &G,
+) -> Result<HeadRun<State>, AllocError>
+where
+    State::Call: Send + Sync,
+    State::Reply: Send,
+    H::Seat: Send,
+    requires sections { (0 < length sections.now) × (length sections.now ≤ 64) }
+    requires writing { All (λ calls. count_by State.object.is_writing calls.items ≤ 65536) sections.now }
+    requires tries { (0 < tries) × (tries ≤ 1000) }
+    ensures { IfOk result (λ run.
+        IsShared State.object tries (lists_of sections.now) (lists_of run.answers.items) run.history.items) }
+{
+    let (head, mut seats) = H::open(
+        alloc,
+        sections.len() as u32,
+        most_writing::<State>(sections),
+        tries,
+    )?;
+    let opener = seats.remove(0);
+    let clients = new_clients(alloc, seats)?;
+    over_head::<R, State, H, G>(rt, alloc, &head, gate, sections, opener, clients)
+}
+
 /// Asks sections of calls over a head, section k at seat k: the first alone, and then each further
 /// one in a thread of its own.
-fn over_head<R: Threads + Wait + Sync, State: Object + Send, H: Head<State> + Sync, G: Gate + Sync>(
+fn over_head<
+    R: Threads + Wait + Sync,
+    State: Object + Send,
+    H: SharedHistory<State> + Sync,
+    G: Gate + Sync,
+>(
     rt: &R,
     alloc: Global,
     head: &H,

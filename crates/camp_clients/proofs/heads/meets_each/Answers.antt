@@ -11,18 +11,18 @@ pub loop-client-preserved : goal.loop-client-preserved
 loop-client-preserved g c =
     let inv = c.loop-client.invariant in
     let m = c.meet-other.ensures in
-    let has = g.H.Head.has c.args.head.now in
-    let knows = ok_holds (IsFront (g.H.Head.seen c.in-Some.client.seat) (g.H.Head.seen c.meet-other.result.0)) c.meet-other.result.2 m.met
-        (sym c.is_err.ensures.value ∙ c.if-is_err.false) in
+    let has = g.H.SharedHistory.has c.args.head.now in
+    let knows = ok_holds (IsFront (g.H.SharedHistory.seen c.in-Some.client.seat) (g.H.SharedHistory.seen c.meet-other.result.0)) c.meet-other.result.2 m.met
+    (sym c.is_err.ensures.value ∙ c.if-is_err.false) in
     record {
       seat = m.seats.0;
       number = m.numbers.0 ∙ inv.number;
       grows = front_trans _ _ _ inv.grows m.grows;
-      own_stays = subst (λ n. own n (g.H.Head.seen c.meet-other.result.0) ≡ own n (g.H.Head.seen c.loop-client.known)) inv.number m.own ∙ inv.own_stays;
+      own_stays = subst (λ n. own n (g.H.SharedHistory.seen c.meet-other.result.0) ≡ own n (g.H.SharedHistory.seen c.loop-client.known)) inv.number m.own ∙ inv.own_stays;
       left = all_rest (λ client. has client.seat) c.loop-client.client-iterator.rest.items c.in-Some.client _ c.in-Some.ensures.steps.0 inv.left;
       clients = rw c.in_ok-push.ensures.items
-          (zip_push (IsMet (sight_by g.H.Head.numbered g.H.Head.seen has) (g.H.Head.seen c.meet-other.result.0)) c.loop-client.yielded c.loop-client.all.items c.in-Some.client _
-            (met_more (sight_by g.H.Head.numbered g.H.Head.seen has) (g.H.Head.seen c.loop-client.known) (g.H.Head.seen c.meet-other.result.0) m.grows
-              c.loop-client.yielded c.loop-client.all.items inv.clients)
-            (record { is_seat = m.seats.1; number = m.numbers.1; answers = refl; seen = m.stays; known = knows }));
+          (zip_push (IsMet (sight_by g.H.SharedHistory.numbered g.H.SharedHistory.seen has) (g.H.SharedHistory.seen c.meet-other.result.0)) c.loop-client.yielded c.loop-client.all.items c.in-Some.client _
+          (met_more (sight_by g.H.SharedHistory.numbered g.H.SharedHistory.seen has) (g.H.SharedHistory.seen c.loop-client.known) (g.H.SharedHistory.seen c.meet-other.result.0) m.grows
+          c.loop-client.yielded c.loop-client.all.items inv.clients)
+          (record { is_seat = m.seats.1; number = m.numbers.1; answers = refl; seen = m.stays; known = knows }));
     }

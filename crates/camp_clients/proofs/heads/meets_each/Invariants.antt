@@ -7,10 +7,10 @@ use Rattle.camp_clients.proofs.heads.meets_each.Given as goal
 
 abbrev pub invariant-loop-client : goal.invariant-loop-client
 invariant-loop-client g l = record {
-  seat : g.H.Head.has l.head l.known;
-  number : g.H.Head.numbered l.known ≡ g.H.Head.numbered l.fn.opener;
-  grows : IsFront (g.H.Head.seen l.fn.opener) (g.H.Head.seen l.known);
-  own_stays : own (g.H.Head.numbered l.fn.opener) (g.H.Head.seen l.known) ≡ own (g.H.Head.numbered l.fn.opener) (g.H.Head.seen l.fn.opener);
-  left : All (λ client. g.H.Head.has l.head client.seat) l.client-iterator.rest.items;
-  clients : AllZip (IsMet (sight_by g.H.Head.numbered g.H.Head.seen (g.H.Head.has l.head)) (g.H.Head.seen l.known)) l.yielded l.all.items
+  seat : g.H.SharedHistory.has l.head l.known;
+  number : g.H.SharedHistory.numbered l.known ≡ g.H.SharedHistory.numbered l.fn.opener;
+  grows : IsFront (g.H.SharedHistory.seen l.fn.opener) (g.H.SharedHistory.seen l.known);
+  own_stays : own (g.H.SharedHistory.numbered l.fn.opener) (g.H.SharedHistory.seen l.known) ≡ own (g.H.SharedHistory.numbered l.fn.opener) (g.H.SharedHistory.seen l.fn.opener);
+  left : All (λ client. g.H.SharedHistory.has l.head client.seat) l.client-iterator.rest.items;
+  clients : AllZip (IsMet (sight_by g.H.SharedHistory.numbered g.H.SharedHistory.seen (g.H.SharedHistory.has l.head)) (g.H.SharedHistory.seen l.known)) l.yielded l.all.items;
 }
