@@ -1,11 +1,12 @@
 -- How an answer is shown to say what it says of the history.
-use Rattle.std.proofs.Common.{◌≡◌, ℕ, zero, suc, ◌<◌, Bool, true, false, List, [], ◌∷◌, ◌++◌, length, Option, Some, None, MatchOption, Ok, Err, refl, sym, ◌∙◌, ap, subst, is_some}
+use Rattle.std.proofs.Common.{◌≡◌, ℕ, zero, suc, ◌<◌, Bool, true, false, List, [], ◌∷◌, ◌++◌, length, Option, Some, None, MatchOption, Result, Ok, Err, refl, sym, ◌∙◌, ap, subst, is_some}
 use Rattle.std.specs.Option.{option_and_then}
 use Rattle.std.proofs.lemmas.Option.{option_and_then_some}
 use Rattle.camp_object.specs.Objects.{Sequential, IsLawful}
 use Rattle.camp_object.specs.Histories.{IsFront, replay, IsLegal, IsAccepted, IsAnswered, own}
-use Rattle.camp_object.specs.Asking.{Caller, alone_at, Accepts, AddsNothing, Loses, Ask}
-use Rattle.camp_object.specs.declared.faults.Fault.TheVariants.{Memory}
+use Rattle.camp_object.specs.Asking.{Caller, alone_at, Accepts, AddsNothing, Loses, Says, Ask}
+use Rattle.camp_object.specs.declared.faults.Fault.TheVariants.{Memory, Busy, Full}
+use Rattle.camp_object.specs.declared.faults.Fault.{Fault}
 use Rattle.camp_object.proofs.Fronts.{front_longer, front_front}
 use Rattle.camp_object.proofs.Replays.{own_mine, replay_more, some_is_some, state_of_legal}
 
@@ -59,6 +60,12 @@ loses_more object call zero seen front now ahead begins accepted further = (fron
 loses_more object call (suc times) seen front now ahead loses accepted further =
     (loses.0, loses.1, loses.2, loses.3, loses_more object call times (loses.0 ++ loses.1 ∷ []) front now ahead loses.4 accepted further)
 
+-- the losses are losses since an earlier moment
+pub loses_since : {State Call Reply : Type 0} (object : Sequential State Call Reply) (call : Call) (times : ℕ) (seen now earlier : List (ℕ × Call))
+    → IsFront earlier seen → Loses object call times seen now → Loses object call times earlier now
+loses_since object call zero seen now earlier since begins = front_front since begins
+loses_since object call (suc times) seen now earlier since loses = (loses.0, loses.1, front_front since loses.2, loses.3, loses.4)
+
 -- the losses stay when more is seen
 pub loses_longer : {State Call Reply : Type 0} (object : Sequential State Call Reply) (call : Call) (times : ℕ) (seen front now : List (ℕ × Call))
     → Loses object call times seen front → IsFront front now → Loses object call times seen now
@@ -78,3 +85,45 @@ pub accepted_writes : {State Call Reply : Type 0} (object : Sequential State Cal
 accepted_writes object lawful history call accepted =
     let next = state_of_legal (option_and_then (λ s. object.after s call) (replay object history)) accepted in
     option_and_then_some (λ s. object.after s call) (replay object history) next.0 next.1 (λ state at gives. lawful.writes state call next.0 gives)
+
+-- what an answer says of a history that was seen, it says of each beginning of it that has the same calls of the caller
+module _ {State Call Reply : Type 0} (object : Sequential State Call Reply) (caller : Caller) (call : Call) (now seen mid : List (ℕ × Call))
+    (not_alone : caller.alone ≡ false) (since : IsFront seen mid) (stays : own caller.seat mid ≡ own caller.seat seen) where
+  adds_nothing_since : AddsNothing caller mid now → AddsNothing caller seen now
+  adds_nothing_since adds = record { own_stays = adds.own_stays ∙ stays; exact = λ alone. cc }
+
+  accepts_since : (at : ℕ) → Accepts caller mid call at now → Accepts caller seen call at now
+  accepts_since at accepts = record {
+    before = accepts.before;
+    since = front_front since accepts.since;
+    ends = accepts.ends;
+    own_grows = accepts.own_grows ∙ ap (λ calls. calls ++ call ∷ []) stays;
+    position = accepts.position;
+    has_room = λ alone. let P : List Call → Type 0 = λ calls. length calls < caller.per_seat in subst P stays (accepts.has_room alone);
+    exact = λ alone. cc;
+  }
+
+  says_since : (answer : Result Reply Fault) → Says object caller mid call answer now → Says object caller seen call answer now
+  says_since (Ok reply) says =
+      (elim (object.done_at reply) as (λ told. MatchOption told (AddsNothing caller mid now × IsAnswered object now call reply) (λ at. Accepts caller mid call at now)
+        → MatchOption told (AddsNothing caller seen now × IsAnswered object now call reply) (λ at. Accepts caller seen call at now)) [
+      | None ↦ λ answered. (adds_nothing_since answered.0, answered.1)
+      | Some at ↦ λ accepts. accepts_since at accepts
+      ]) says
+  says_since (Err Memory) says = adds_nothing_since says
+  says_since (Err (Busy lost)) says = record {
+    adds_nothing = adds_nothing_since says.adds_nothing;
+    not_alone = not_alone;
+    all_lost = says.all_lost;
+    has_room = let P : List Call → Type 0 = λ calls. length calls < caller.per_seat in subst P stays says.has_room;
+    loses = loses_since object call lost mid now seen since says.loses;
+  }
+  says_since (Err Full) says = record {
+    adds_nothing = adds_nothing_since says.adds_nothing;
+    not_alone = not_alone;
+    no_room = let P : List Call → Type 0 = λ calls. length calls ≡ caller.per_seat in subst P stays says.no_room;
+    accepted = says.accepted;
+  }
+
+  pub ask_since : (answer : Result Reply Fault) → Ask object caller mid call answer now → Ask object caller seen call answer now
+  ask_since answer ask = record { grows = front_front since ask.grows; legal = ask.legal; says = says_since answer ask.says }

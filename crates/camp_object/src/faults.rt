@@ -1,7 +1,7 @@
 ghost use Rattle.std.specs.Prelude.{◌≡◌};
 ghost use Rattle.camp_object.specs.declared.faults.Fault.TheVariants as fault;
 
-use std::alloc::AllocError;
+use std::alloc::{AllocError, AllocFailed};
 use thiserror::Error;
 
 /// Why a call got no reply. No call of its caller was then added to the history.
@@ -21,6 +21,14 @@ impl From<AllocError> for Fault {
     ghost from_gives = { λ _ result. result ≡ fault.Memory };
 
     fn from(_error: AllocError) -> Fault {
+        Fault::Memory
+    }
+}
+
+impl<T: Drop> From<AllocFailed<T>> for Fault {
+    ghost from_gives = { λ _ result. result ≡ fault.Memory };
+
+    fn from(_error: AllocFailed<T>) -> Fault {
         Fault::Memory
     }
 }

@@ -1,0 +1,97 @@
+-- Lemmas on the answers to a call at a seat.
+use Rattle.std.proofs.Common.{◌≡◌, ◌≢◌, ℕ, suc, ◌+◌, ◌<◌, ◌≤◌, true, false, List, [], ◌∷◌, ◌++◌, length, map, All, Option, None, Some, Result, Ok, Err, refl, sym, ◌∙◌, ap, subst, arith, add-one}
+use Rattle.std.proofs.lemmas.List.{length-append, append-nil, append_assoc, map-append}
+use Rattle.boxcar.specs.Table.{Where, Shows}
+use Rattle.camp_object.specs.Objects.{Sequential, IsLawful}
+use Rattle.camp_object.specs.Histories.{IsFront, replay, IsLegal, IsAccepted, own}
+use Rattle.camp_object.specs.Deciding.{Decides}
+use Rattle.camp_object.specs.Asking.{Caller, Ask, AddsNothing, Loses}
+use Rattle.camp_object.specs.declared.objects.Decided.TheVariants.{Next, Answer}
+use Rattle.camp_object.specs.declared.faults.Fault.{Fault}
+use Rattle.camp_object.proofs.Fronts.{front_self}
+use Rattle.camp_object.proofs.Replays.{replay_accepted, accepted_at, some_is_some}
+use Rattle.camp_object.proofs.Asks.{ask_done, ask_since, loses_more}
+use Rattle.camp_history.specs.Seats.{HeadId, Seated, asked, history_of, IsSeatOf, caller_at}
+use Rattle.camp_history.specs.Inside.Steps.{entry_of, entries_of, DecidesAt, SeesMore, FindsMore, Publishes, LosesOne}
+use Rattle.camp_history.specs.declared.marks.Mark.{Mark}
+use Rattle.camp_history.proofs.Seeing.{history_more, all_more, history_front}
+
+-- a seat that sees more adds nothing of its own
+pub adds_nothing : {Call : Type 0} (head : HeadId) {old new : Seated Call} → SeesMore old new → AddsNothing (caller_at head old) (history_of old) (history_of new)
+adds_nothing head more = record { own_stays = more.own_stays; exact = λ alone. cc }
+
+-- the same seat and its bounds
+pub same_caller : {Call : Type 0} (head : HeadId) (old new : Seated Call) → new.known.number ≡ old.known.number → caller_at head new ≡ caller_at head old
+same_caller head old new number = ap (λ number. record { seat = number; tries = head.tries; per_seat = head.row.per_seat; alone = false }) number
+
+module _ {State Call Reply : Type 0} (object : Sequential State Call Reply) where
+  -- a call that is decided to be accepted
+  pub decided_next : (history : List (ℕ × Call)) (seat : ℕ) (call : Call) (next : State) → DecidesAt object history call (Next next) → replay object (history ++ (seat, call) ∷ []) ≡ Some next
+  decided_next history seat call next at = replay_accepted object history (seat, call) at.state next at.replays at.decides
+
+  pub decided_accepted : (history : List (ℕ × Call)) (call : Call) (next : State) → DecidesAt object history call (Next next) → IsAccepted object history call
+  decided_accepted history call next at = accepted_at object history call at.state next at.replays at.decides
+
+  -- a call that was published
+  pub ask_published : IsLawful object → (head : HeadId) (old new : Seated Call) (call : Where Call) (at : ℕ) (reply : Reply)
+      → IsAccepted object (history_of old) call.value → length (own old.known.number (history_of old)) < head.row.per_seat → Publishes old call new
+      → at ≡ length (history_of new) → reply ≡ object.done at → Ask object (caller_at head old) (history_of old) call.value (Ok reply) (history_of new)
+  ask_published lawful head old new call at reply accepted room publishes position is =
+      ask_done object lawful (caller_at head old) (history_of old) (history_of old) (history_of new) call.value at reply
+      (front_self (history_of old)) refl accepted (λ _. room) (λ _. refl) (history_more old.marks new.marks (record { seat = old.known.number; call = call }) publishes.marks) position is
+
+-- a seat that published is one of its head
+pub seat_published : {Call : Type 0} (head : HeadId) (old new : Seated Call) (call : Where Call) → IsSeatOf head old → Shows head.store call → Publishes old call new → IsSeatOf head new
+seat_published head old new call of shows publishes = record {
+  row = publishes.row ∙ of.row;
+  stored = all_more old.marks new.marks (record { seat = old.known.number; call = call }) publishes.marks (λ mark. Shows head.store mark.call) of.stored shows;
+}
+
+-- a seat that found more has seen no more
+pub finds_sees : {Call : Type 0} {old new : Seated Call} → FindsMore old new → SeesMore old new
+finds_sees {old = old} {new = new} finds = record {
+  number = finds.number;
+  row = finds.row;
+  more = record { rest = []; makes = append-nil old.marks ∙ sym finds.marks };
+  own_stays = ap (λ marks. own old.known.number (map asked marks)) finds.marks;
+}
+
+-- after a lost exchange the seat sees another call, which went ahead
+pub sees_ahead : {Call : Type 0} {old lost new : Seated Call} → FindsMore old lost → SeesMore lost new → entries_of new ≡ lost.known.ahead
+    → (ahead : Mark Call) × IsFront (history_of old ++ asked ahead ∷ []) (history_of new)
+sees_ahead {Call = Call} {old = old} {lost = lost} {new = new} finds more whole = at more.more.rest more.more.makes
+  where
+    at : (rest : List (Mark Call)) → lost.marks ++ rest ≡ new.marks → (ahead : Mark Call) × IsFront (history_of old ++ asked ahead ∷ []) (history_of new)
+    at [] makes =
+        let same : entries_of new ≡ entries_of lost = ap (map entry_of) (sym makes ∙ append-nil lost.marks) in
+        let longer : entries_of lost ++ finds.longer.next ∷ finds.longer.rest ≡ entries_of lost = finds.longer.is ∙ sym whole ∙ same in
+        let lengths : length (entries_of lost ++ finds.longer.next ∷ finds.longer.rest) ≡ length (entries_of lost) = ap length longer in
+        absurd (omega (arith, length-append (entries_of lost) (finds.longer.next ∷ finds.longer.rest)))
+    at (ahead ∷ rest) makes = (
+      ahead,
+      record {
+        rest = map asked rest;
+        makes =
+            append_assoc (history_of old) (asked ahead ∷ []) (map asked rest)
+            ∙ sym (map-append asked old.marks (ahead ∷ rest))
+            ∙ ap (λ marks. map asked (marks ++ ahead ∷ rest)) (sym finds.marks)
+            ∙ ap (map asked) makes;
+      },
+    )
+
+-- an answer to a seat that has seen more than at first
+pub ask_later : {State Call Reply : Type 0} (object : Sequential State Call Reply) (head : HeadId) (start seat : Seated Call) → SeesMore start seat
+    → (call : Call) (answer : Result Reply Fault) (now : List (ℕ × Call))
+    → Ask object (caller_at head seat) (history_of seat) call answer now → Ask object (caller_at head start) (history_of start) call answer now
+ask_later object head start seat more call answer now ask =
+    let Asks : Caller → Type 0 = λ caller. Ask object caller (history_of seat) call answer now in
+    ask_since object (caller_at head start) call now (history_of start) (history_of seat) refl (history_front more) more.own_stays answer (subst Asks (same_caller head start seat more.number) ask)
+
+-- one more lost exchange
+pub loses_again : {State Call Reply : Type 0} (object : Sequential State Call Reply) (head : HeadId) (call : Call) (times : ℕ) (start old lost new : Seated Call)
+    → Loses object call times (history_of start) (history_of old) → LosesOne object head old call lost → SeesMore lost new → entries_of new ≡ lost.known.ahead
+    → Loses object call (times + 1) (history_of start) (history_of new)
+loses_again object head call times start old lost new loses one more whole =
+    let ahead = sees_ahead one.finds more whole in
+    let again : Loses object call (suc times) (history_of start) (history_of new) = loses_more object call times (history_of start) (history_of old) (history_of new) (asked ahead.0) loses one.accepted ahead.1 in
+    rw add-one again

@@ -1,0 +1,5 @@
+pub mod Marked
+pub mod Seeing
+pub mod Asked
+pub mod Compared
+pub mod Together

@@ -1,0 +1,21 @@
+-- Lemmas on the marks of a seat.
+use Rattle.std.proofs.Common.{◌≡◌, ℕ, ◌+◌, ◌<◌, Bool, true, false, List, [], ◌∷◌, ◌++◌, length, map, filter, cond, suc, refl, sym, ◌∙◌, ap, arith, ◌==◌, if◌then◌else◌}
+use Rattle.std.proofs.lemmas.List.{map-append}
+use Rattle.camp_object.specs.Histories.{own}
+use Rattle.camp_row.specs.Chains.{turns}
+use Rattle.camp_history.specs.Seats.{asked}
+use Rattle.camp_history.specs.Inside.Steps.{entry_of}
+use Rattle.camp_history.specs.declared.marks.Mark.{Mark}
+
+-- a seat has as many calls as it has entries
+pub length-own : {Call : Type 0} (seat : ℕ) (marks : List (Mark Call)) → length (own seat (map asked marks)) ≡ turns seat (map entry_of marks)
+length-own seat [] = refl
+length-own seat (mark ∷ marks) =
+    elim (mark.seat == seat) as (λ b. length (if b then mark.call.value ∷ own seat (map asked marks) else own seat (map asked marks)) ≡ length (cond b (entry_of mark ∷ filter (λ entry. entry.seat == seat) (map entry_of marks)) (filter (λ entry. entry.seat == seat) (map entry_of marks)))) [
+      | true ↦ ap (λ n. suc n) (length-own seat marks)
+      | false ↦ length-own seat marks
+    ]
+
+-- one element more
+pub map_more : {A B : Type 0} (f : A → B) (list : List A) (element : A) → map f (list ++ element ∷ []) ≡ map f list ++ f element ∷ []
+map_more f list element = map-append f list (element ∷ [])

@@ -1,0 +1,106 @@
+-- Lemmas on seats that meet.
+use Rattle.std.proofs.Common.{◌≡◌, ℕ, zero, suc, ◌+◌, ◌≤◌, ◌⊎◌, inl, inr, List, [], ◌∷◌, ◌++◌, length, map, Result, Ok, Err, OnOk, IfErr, refl, sym, ◌∙◌, ap, subst, arith}
+use Rattle.std.proofs.lemmas.List.{length-map, length-append, append-nil, nil_from_length}
+use Rattle.camp_object.specs.Histories.{IsFront, own}
+use Rattle.camp_object.specs.declared.faults.Fault.{Fault}
+use Rattle.camp_object.specs.declared.faults.Fault.TheVariants.{Memory}
+use Rattle.camp_object.proofs.Fronts.{front_front, front_shorter, length-front}
+use Rattle.camp_object.proofs.Replays.{own-append}
+use Rattle.camp_row.specs.Chains as chain
+use Rattle.camp_row.specs.Known.{Finds}
+use Rattle.camp_history.specs.Meeting.{Meets}
+use Rattle.camp_history.specs.Seats.{Seated, asked, history_of}
+use Rattle.camp_history.specs.Inside.Steps.{entry_of, entries_of, SeesMore}
+use Rattle.camp_history.proofs.Marked.{length-own}
+use Rattle.camp_history.proofs.Seeing.{history_front}
+
+-- of two lists one is not longer than the other
+shorter : (m n : ℕ) → (m ≤ n) ⊎ (n ≤ m)
+shorter zero n = inl (omega arith)
+shorter (suc m) zero = inr (omega arith)
+shorter (suc m) (suc n) = elim (shorter m n) [
+  | inl less ↦ inl (omega arith)
+  | inr less ↦ inr (omega arith)
+]
+
+-- a history that has as many calls of a seat as its front has no others
+own_front : {Call : Type 0} (seat : ℕ) (front whole : List (ℕ × Call)) → IsFront front whole → length (own seat whole) ≡ length (own seat front) → own seat whole ≡ own seat front
+own_front seat front whole begins same =
+    let parts : own seat whole ≡ own seat front ++ own seat begins.rest = ap (own seat) (sym begins.makes) ∙ own-append seat front begins.rest in
+    let lengths : length (own seat whole) ≡ length (own seat front ++ own seat begins.rest) = ap length parts in
+    let none : own seat begins.rest ≡ [] = nil_from_length (own seat begins.rest) (omega (arith, length-append (own seat front) (own seat begins.rest))) in
+    parts ∙ ap (λ rest. own seat front ++ rest) none ∙ append-nil (own seat front)
+
+module _ {Call : Type 0} (a b met a' b' : Seated Call) (a_finds : Finds a.known met.known) (a_marks : met.marks ≡ a.marks) (b_finds : Finds b.known b'.known) (b_marks : b'.marks ≡ b.marks)
+    (more : SeesMore met a') (a_shorter : length a'.marks ≤ length b'.marks → IsFront (history_of a') (history_of b'))
+    (b_shorter : length b'.marks ≤ length a'.marks → IsFront (history_of b') (history_of a')) where
+  b_stays : history_of b' ≡ history_of b
+  b_stays = ap (map asked) b_marks
+
+  a_number : met.known.number ≡ a.known.number
+  a_number = ap (λ known. known.number) a_finds.is
+
+  grows : IsFront (history_of a) (history_of a')
+  grows = let Begins : List (ℕ × Call) → Type 0 = λ list. IsFront list (history_of a') in subst Begins (ap (map asked) a_marks) (history_front more)
+
+  one_begins : (IsFront (history_of a) (history_of b)) ⊎ (IsFront (history_of b) (history_of a))
+  one_begins =
+      let Begins : List (ℕ × Call) → Type 0 = λ list. IsFront (history_of a) list in
+      let Ends : List (ℕ × Call) → Type 0 = λ list. IsFront list (history_of a') in
+      elim (shorter (length a'.marks) (length b'.marks)) [
+        | inl short ↦ inl (subst Begins b_stays (front_front grows (a_shorter short)))
+        | inr short ↦
+            let b_begins : IsFront (history_of b) (history_of a') = subst Ends b_stays (b_shorter short) in
+            elim (shorter (length (history_of a)) (length (history_of b))) [
+              | inl less ↦ inl (front_shorter (history_of a) (history_of b) (history_of a') grows b_begins less)
+              | inr less ↦ inr (front_shorter (history_of b) (history_of a) (history_of a') b_begins grows less)
+            ]
+      ]
+
+  -- what holds on either answer
+  pub met_seats : (answer : Result (Unit {0}) Fault) → OnOk answer (IsFront (history_of b) (history_of a')) → OnOk answer (own b.known.number (history_of a') ≡ own b.known.number (history_of b))
+      → IfErr answer (λ fault. fault ≡ Memory) → Meets a b a' b' answer
+  met_seats answer b_front b_own only_memory = record {
+    a_number = more.number ∙ a_number;
+    a_grows = grows;
+    a_own = ap (λ number. own number (history_of a')) (sym a_number) ∙ more.own_stays ∙ ap (λ number. own number (history_of met)) a_number ∙ ap (λ marks. own a.known.number (map asked marks)) a_marks;
+    b_number = ap (λ known. known.number) b_finds.is;
+    b_seen = b_stays;
+    one = one_begins;
+    b_front = b_front;
+    b_own = b_own;
+    only_memory = only_memory;
+  }
+
+  -- where a has seen all of the chain that both found
+  module _ (places : entries_of b ≡ b.known.seen) (one_chain : b'.known.ahead ≡ met.known.ahead) (same : a'.known.ahead ≡ met.known.ahead) (whole : entries_of a' ≡ a'.known.ahead) where
+    seen_all : entries_of a' ≡ b'.known.ahead
+    seen_all = whole ∙ same ∙ sym one_chain
+
+    seen_b : entries_of b ≡ b'.known.seen
+    seen_b = places ∙ sym (ap (λ known. known.seen) b_finds.is)
+
+    pub all_of_b : IsFront (history_of b) (history_of a')
+    all_of_b =
+        let parts : length (b'.known.seen ++ b_finds.sound.front.rest) ≡ length b'.known.ahead = ap length b_finds.sound.front.is in
+        let b_length : length (map entry_of b.marks) ≡ length b'.known.seen = ap length seen_b in
+        let a_length : length (map entry_of a'.marks) ≡ length b'.known.ahead = ap length seen_all in
+        let b_same : length b'.marks ≡ length b.marks = ap length b_marks in
+        let short : length b'.marks ≤ length a'.marks =
+        omega (arith, length-append b'.known.seen b_finds.sound.front.rest, length-map b.marks entry_of, length-map a'.marks entry_of)
+        in
+        let Ends : List (ℕ × Call) → Type 0 = λ list. IsFront list (history_of a') in
+        subst Ends b_stays (b_shorter short)
+
+    pub just_those_of_b : own b.known.number (history_of a') ≡ own b.known.number (history_of b)
+    just_those_of_b =
+        let number : b'.known.number ≡ b.known.number = ap (λ known. known.number) b_finds.is in
+        let turns : chain.turns b.known.number (entries_of a') ≡ chain.turns b.known.number (entries_of b) =
+        ap (chain.turns b.known.number) seen_all
+        ∙ ap (λ number. chain.turns number b'.known.ahead) (sym number)
+        ∙ ap length b_finds.sound.own_seen
+        ∙ ap (λ number. chain.turns number b'.known.seen) number
+        ∙ ap (chain.turns b.known.number) (sym seen_b)
+        in
+        own_front b.known.number (history_of b) (history_of a') all_of_b
+        (length-own b.known.number a'.marks ∙ turns ∙ sym (length-own b.known.number b.marks))

@@ -1,0 +1,43 @@
+use Rattle.std.proofs.Common.{◌≡◌, ℕ, ◌<◌, length, Option, None, Some, Result, Ok, Err, ap, ◌∙◌, subst}
+use Rattle.camp_object.specs.Histories.{own}
+use Rattle.camp_history.specs.Seats.{history_of}
+use Rattle.camp_history.specs.Inside.Steps.{SeesMore, LosesOne, Attempts}
+use Rattle.camp_history.proofs.Seeing.{sees_more_more}
+use Rattle.camp_history.proofs.Asked.{ask_later, finds_sees, loses_again}
+use Rattle.camp_history.proofs.heads.Head.ask_writing.Given.{Over}
+use Rattle.camp_history.proofs.heads.Head.ask_writing.Goals as goal
+
+pub returns-in-Ok-Some-clause-asks : goal.returns-in-Ok-Some-clause-asks
+returns-in-Ok-Some-clause-asks g c =
+    let object = g.State.Object.object in
+    let old = c.loop-lost.seat in
+    let new = c.attempt.new.seat in
+    let asks : Attempts object c.args.self.now old c.args.call.now.value (Ok (Some c.in-Ok-Some.reply)) new = rw c.in-Ok-Some.field-0-is at c.in-Ok-Some.ensures.attempts in
+    ask_later object c.args.self.now c.args.seat.now old c.loop-lost.invariant.more c.args.call.now.value (Ok c.in-Ok-Some.reply) (history_of new) asks
+
+pub returns-in-Err-clause-asks : goal.returns-in-Err-clause-asks
+returns-in-Err-clause-asks g c =
+    ask_later g.State.Object.object c.args.self.now c.args.seat.now c.loop-lost.seat c.loop-lost.invariant.more c.args.call.now.value (Err c.in-Err.fault) (history_of c.attempt.new.seat) c.in-Err.ensures.attempts
+
+pub loop-lost-preserved : goal.loop-lost-preserved
+loop-lost-preserved g c =
+    let object = g.State.Object.object in
+    let head = c.args.self.now in
+    let start = c.args.seat.now in
+    let old = c.loop-lost.seat in
+    let lost = c.attempt.new.seat in
+    let new = c.follow.new.seat in
+    let past = c.loop-lost.invariant in
+    let one : LosesOne object head old c.args.call.now.value lost = rw c.in-Ok-None.field-0-is at c.in-Ok-None.ensures.attempts in
+    let follows = c.in_ok-follow-in-Ok-None.ensures in
+    let more : SeesMore start new = sees_more_more past.more (sees_more_more (finds_sees one.finds) follows.more) in
+    let mine : own old.known.number (history_of old) ≡ own start.known.number (history_of start) =
+    ap (λ number. own number (history_of old)) past.more.number ∙ past.more.own_stays
+    in
+    record {
+      of = follows.of;
+      more = more;
+      legal = follows.legal;
+      loses = loses_again object head c.args.call.now.value c.loop-lost.lost start old lost new past.loses one follows.more (follows.whole ∙ follows.ahead);
+      room = λ _. rw (← mine) one.has_room;
+    }

@@ -1,0 +1,15 @@
+use Rattle.std.proofs.Common.{ℕ, ◌<◌, length}
+use Rattle.camp_object.specs.Histories.{IsLegal, own}
+use Rattle.camp_object.specs.Asking.{Loses}
+use Rattle.camp_history.specs.Seats.{IsSeatOf, history_of}
+use Rattle.camp_history.specs.Inside.Steps.{SeesMore}
+use Rattle.camp_history.proofs.heads.Head.ask_writing.Given as goal
+
+abbrev pub invariant-loop-lost : goal.invariant-loop-lost
+invariant-loop-lost g l = record {
+  of : IsSeatOf l.self l.seat;
+  more : SeesMore l.fn.seat l.seat;
+  legal : IsLegal g.State.Object.object (history_of l.seat);
+  loses : Loses g.State.Object.object l.call.value l.lost (history_of l.fn.seat) (history_of l.seat);
+  room : 0 < l.lost → length (own l.fn.seat.known.number (history_of l.fn.seat)) < l.self.row.per_seat;
+}

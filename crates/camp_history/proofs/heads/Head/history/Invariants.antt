@@ -1,0 +1,6 @@
+use Rattle.std.proofs.Common.{◌≡◌, map, take}
+use Rattle.camp_history.specs.Seats.{asked}
+use Rattle.camp_history.proofs.heads.Head.history.Given as goal
+
+abbrev pub invariant-loop-mark : goal.invariant-loop-mark
+invariant-loop-mark g l = l.history.items ≡ map asked (take l.mark-index l.mark-items)

@@ -1,0 +1,23 @@
+use Rattle.std.proofs.Common.{◌≡◌, [], All, map, refl, sym, ◌∙◌, ap}
+use Rattle.std.specs.List.{range_with_len}
+use Rattle.std.proofs.lemmas.Simd.{map-map}
+use Rattle.std.proofs.lemmas.List.Elements.{All-map, All-same}
+use Rattle.camp_row.specs.Known.{newcomer}
+use Rattle.camp_history.specs.Seats.{unseen}
+use Rattle.camp_history.proofs.heads.Head.new.Goals as goal
+
+pub seats_of-requires : goal.seats_of-requires
+seats_of-requires g c =
+    All-same (λ known. known.seen ≡ []) c.in_ok-row.passes.items (map (newcomer c.in_ok-row.row) (range_with_len 0 c.args.seats)) c.in_ok-row.ensures.passes
+    (All-map (λ known. known.seen ≡ []) (newcomer c.in_ok-row.row) (range_with_len 0 c.args.seats) (λ k d lt. refl))
+
+pub returns : goal.returns
+returns g c = (
+  c.is_in_range.ensures.0 c.if-not-is_in_range.false,
+  record {
+    has_seats = c.in_ok-row.ensures.row.0;
+    has_calls = c.in_ok-row.ensures.row.1;
+    has_tries = refl;
+    all = c.in_ok-all.ensures ∙ ap (map unseen) c.in_ok-row.ensures.passes ∙ map-map unseen (newcomer c.in_ok-row.row) (range_with_len 0 c.args.seats);
+  },
+)

@@ -1,0 +1,20 @@
+use Rattle.std.proofs.Common.{◌≡◌, [], ◌∷◌, ◌++◌, map, All, sym, ap, ◌∙◌}
+use Rattle.std.proofs.lemmas.List.{append_assoc}
+use Rattle.std.proofs.lemmas.List.Elements.{All-rest}
+use Rattle.camp_history.specs.Seats.{unseen}
+use Rattle.camp_history.proofs.Marked.{map_more}
+use Rattle.camp_history.proofs.heads.seats_of.Goals as goal
+
+pub loop-pass-preserved : goal.loop-pass-preserved
+loop-pass-preserved g c =
+    let past = c.loop-pass.invariant in
+    let yielded = c.loop-pass.yielded in
+    record {
+      made =
+          c.in_ok-push.ensures.items
+          ∙ ap (λ list. list ++ c.in_ok-seat_of.field-0 ∷ []) past.made
+          ∙ ap (λ seat. map unseen yielded ++ seat ∷ []) c.in_ok-seat_of.ensures
+          ∙ sym (map_more unseen yielded c.in-Some.pass);
+      whole = append_assoc yielded (c.in-Some.pass ∷ []) c.next.new.self.rest.items ∙ ap (λ list. yielded ++ list) (sym c.in-Some.ensures.steps.0) ∙ past.whole;
+      fresh = All-rest (λ known. known.seen ≡ []) c.in-Some.pass c.next.new.self.rest.items c.loop-pass.pass-iterator.rest.items c.in-Some.ensures.steps.0 past.fresh;
+    }

@@ -1,0 +1,10 @@
+use Rattle.std.proofs.Common.{◌≡◌, [], ◌++◌, map, All}
+use Rattle.camp_history.specs.Seats.{unseen}
+use Rattle.camp_history.proofs.heads.seats_of.Given as goal
+
+abbrev pub invariant-loop-pass : goal.invariant-loop-pass
+invariant-loop-pass g l = record {
+  made : l.seats.items ≡ map unseen l.yielded;
+  whole : l.yielded ++ l.pass-iterator.rest.items ≡ l.fn.passes.items;
+  fresh : All (λ known. known.seen ≡ []) l.pass-iterator.rest.items;
+}

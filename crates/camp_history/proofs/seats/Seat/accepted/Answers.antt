@@ -1,0 +1,10 @@
+use Rattle.std.proofs.Common.{◌≡◌, length, sym, ap, ◌∙◌}
+use Rattle.camp_row.specs.Chains.{turns}
+use Rattle.camp_history.proofs.Marked.{length-own}
+use Rattle.camp_history.proofs.seats.Seat.accepted.Goals as goal
+
+pub returns-clause-accepted : goal.returns-clause-accepted
+returns-clause-accepted g c =
+    rw (← c.self.view_is) (
+    c.turns.ensures.turns ∙ ap (turns c.self.inside.pass.number) (sym c.self.invariant.places) ∙ sym (length-own c.self.inside.pass.number c.self.inside.marks.items)
+    )

@@ -1,0 +1,8 @@
+use Rattle.std.proofs.Common.{◌<◌, map}
+use Rattle.std.proofs.lemmas.List.Elements.{All-map}
+use Rattle.camp_history.specs.Seats.{asked}
+use Rattle.camp_history.proofs.seats.Seat.number.Goals as goal
+
+pub returns-clause-seats_below : goal.returns-clause-seats_below
+returns-clause-seats_below g c =
+    rw (← c.self.view_is) (All-map (λ entry. entry.0 < c.self.inside.pass.row.seats) asked c.self.inside.marks.items c.self.invariant.below)

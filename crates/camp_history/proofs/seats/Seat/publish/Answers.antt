@@ -1,0 +1,74 @@
+use Rattle.std.proofs.Common.{◌≡◌, [], Some, ℕ, ◌<◌, ◌∷◌, ◌++◌, All, length, refl, sym, ◌∙◌, ap, map, arith}
+use Rattle.camp_object.specs.Histories.{replay, own}
+use Rattle.camp_row.specs.Chains.{turns}
+use Rattle.camp_row.specs.Known.{Known, Won, drafted, with_draft}
+use Rattle.camp_history.specs.Seats.{asked, history_of}
+use Rattle.camp_history.specs.Inside.Steps.{entry_of}
+use Rattle.camp_history.specs.declared.marks.Mark.{Mark}
+use Rattle.camp_history.proofs.Marked.{length-own}
+use Rattle.camp_history.proofs.Seeing.{entries_more, history_more, all_more}
+use Rattle.camp_history.proofs.seats.Seat.publish.Given.{Over}
+use Rattle.camp_history.proofs.seats.Seat.publish.Goals as goal
+
+pub draft-requires-clause-room : goal.draft-requires-clause-room
+draft-requires-clause-room g c =
+    let here : turns c.self.inside.pass.number c.self.inside.pass.seen ≡ length (own c.args.self.now.known.number (history_of c.args.self.now)) =
+    ap (turns c.self.inside.pass.number) (sym c.self.invariant.places)
+    ∙ sym (length-own c.self.inside.pass.number c.self.inside.marks.items)
+    ∙ ap (λ seat. length (own seat.known.number (history_of seat))) c.self.view_is
+    in
+    rw here c.requires.room
+
+pub publish-requires-clause-room : goal.publish-requires-clause-room
+publish-requires-clause-room g c =
+    let here : turns c.self.inside.pass.number c.self.inside.pass.seen ≡ length (own c.args.self.now.known.number (history_of c.args.self.now)) =
+    ap (turns c.self.inside.pass.number) (sym c.self.invariant.places)
+    ∙ sym (length-own c.self.inside.pass.number c.self.inside.marks.items)
+    ∙ ap (λ seat. length (own seat.known.number (history_of seat))) c.self.view_is
+    in
+    rw (c.draft.ensures, here) c.requires.room
+
+-- the mark that is pushed
+pushed : (g : Over) (c : goal.After-drop-self-inside g) → Mark g.row.State-Call.Denot
+pushed g c = record { seat = c.self.inside.pass.number; call = c.args.call.now }
+
+stands : (g : Over) (c : goal.After-drop-self-inside g) → c.push_reserved.new.self.items ≡ c.self.inside.marks.items ++ pushed g c ∷ []
+unfolding pushed
+stands g c =
+    let items : c.push_reserved.new.self.items ≡ c.reserve.new.self.items ++ record { seat = c.number-number.result; call = c.again.result } ∷ [] = c.push_reserved.ensures.items in
+    let kept : c.reserve.new.self.items ≡ c.self.inside.marks.items = c.in_ok-reserve.ensures.items in
+    let number : c.number-number.result ≡ c.self.inside.pass.number = c.number-number.ensures.number in
+    let call : c.again.result ≡ c.args.call.now = c.again.ensures in
+    items
+    ∙ ap (λ list. list ++ record { seat = c.number-number.result; call = c.again.result } ∷ []) kept
+    ∙ ap (λ number. c.self.inside.marks.items ++ record { seat = number; call = c.again.result } ∷ []) number
+    ∙ ap (λ call. c.self.inside.marks.items ++ record { seat = c.self.inside.pass.number; call = call } ∷ []) call
+
+-- what a pass knows that won
+abbrev won : Known → Known
+won known = record known { seen = known.seen ++ drafted known ∷ []; ahead = known.seen ++ drafted known ∷ []; parent = 0; place = 0 }
+
+-- the pass won
+passed : (g : Over) (c : goal.After-drop-self-inside g) → c.publish.new.pass ≡ won (with_draft c.self.inside.pass c.args.call.now.index)
+passed g c =
+    let published : Won c.draft.new.pass c.publish.new.pass = c.if-not-publish.ensures in
+    let draft : c.draft.new.pass ≡ with_draft c.self.inside.pass c.index.result = c.draft.ensures in
+    let index : c.index.result ≡ c.args.call.now.index = c.index.ensures in
+    published.is ∙ ap won draft ∙ ap (λ place. won (with_draft c.self.inside.pass place)) index
+
+pub invariant_of-self-2 : goal.invariant_of-self-2
+unfolding pushed
+invariant_of-self-2 g c =
+    rw (passed g c) (
+    record {
+      places = entries_more c.self.inside.marks.items c.push_reserved.new.self.items (pushed g c) (stands g c) c.self.inside.pass.seen (c.self.inside.pass.seen ++ entry_of (pushed g c) ∷ []) c.self.invariant.places refl;
+      below =
+          all_more c.self.inside.marks.items c.push_reserved.new.self.items (pushed g c) (stands g c) (λ mark. mark.seat < c.self.inside.pass.row.seats) c.self.invariant.below (
+          let below = c.number-number.ensures.below in rw (← c.number-number.ensures.number) below
+          );
+      replays =
+          ap (replay g.State.Object.object) (history_more c.self.inside.marks.items c.push_reserved.new.self.items (pushed g c) (stands g c))
+          ∙ ap (λ seat. replay g.State.Object.object (history_of seat ++ (seat.known.number, c.args.call.now.value) ∷ [])) c.self.view_is
+          ∙ c.requires.next;
+    }
+    )

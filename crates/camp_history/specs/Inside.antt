@@ -1,0 +1,4 @@
+pub mod HeadFields
+pub mod KeptFields
+pub mod SeatFields
+pub mod Steps

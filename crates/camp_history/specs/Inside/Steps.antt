@@ -1,0 +1,69 @@
+-- What the steps of a seat do, on the way to an answer.
+use Rattle.std.specs.Prelude.{◌≡◌, ℕ, ◌<◌, List, [], ◌∷◌, ◌++◌, map, length, Option, None, Some, Result, Ok, Err}
+use Rattle.camp_object.specs.Objects.{Sequential}
+use Rattle.camp_object.specs.Histories.{IsFront, replay, IsAccepted, own}
+use Rattle.camp_object.specs.Deciding.{Decides}
+use Rattle.camp_object.specs.Asking.{Ask}
+use Rattle.camp_object.specs.declared.faults.Fault.{Fault}
+use Rattle.camp_object.specs.declared.objects.Decided.{Decided}
+use Rattle.camp_row.specs.Chains.{IsShorter}
+use Rattle.camp_row.specs.declared.entries.Entry.{Entry}
+use Rattle.boxcar.specs.Table.{Where}
+use Rattle.camp_history.specs.Seats.{HeadId, Seated, history_of, caller_at}
+use Rattle.camp_history.specs.declared.marks.Mark.{Mark}
+
+-- the entry of the row that a mark is of
+abbrev pub entry_of : {Call : Type 0} → Mark Call → Entry
+entry_of mark = record { seat = mark.seat; place = mark.call.index }
+
+-- the entries of a seat's marks
+abbrev pub entries_of : {Call : Type 0} → Seated Call → List Entry
+entries_of seat = map entry_of seat.marks
+
+-- what an object decides about a call, at the replay of a history
+pub record DecidesAt {State Call Reply : Type 0} (object : Sequential State Call Reply) (history : List (ℕ × Call)) (call : Call) (decided : Decided State Reply) : Type 0 where
+  pub state : State
+  pub replays : replay object history ≡ Some state
+  pub decides : Decides object state call decided
+
+-- a seat sees the entry that comes next
+pub record SeesNext {Call : Type 0} (old : Seated Call) (entry : Entry) (new : Seated Call) : Type 0 where
+  pub mark : Mark Call
+  pub is : entry_of mark ≡ entry
+  pub marks : new.marks ≡ old.marks ++ mark ∷ []
+  pub known : new.known ≡ record old.known { seen = old.known.seen ++ entry ∷ [] }
+
+-- a seat sees more: its pass is to the same seat of the row, and no call that it sees newly is its own
+pub record SeesMore {Call : Type 0} (old new : Seated Call) : Type 0 where
+  pub number : new.known.number ≡ old.known.number
+  pub row : new.known.row ≡ old.known.row
+  pub more : IsFront old.marks new.marks
+  pub own_stays : own old.known.number (history_of new) ≡ own old.known.number (history_of old)
+
+-- the seat published its call, which is the last that it has seen now
+pub record Publishes {Call : Type 0} (old : Seated Call) (call : Where Call) (new : Seated Call) : Type 0 where
+  pub number : new.known.number ≡ old.known.number
+  pub row : new.known.row ≡ old.known.row
+  pub marks : new.marks ≡ old.marks ++ record { seat = old.known.number; call = call } ∷ []
+
+-- the chain was longer than what the seat has seen, and was found
+pub record FindsMore {Call : Type 0} (old new : Seated Call) : Type 0 where
+  pub number : new.known.number ≡ old.known.number
+  pub row : new.known.row ≡ old.known.row
+  pub marks : new.marks ≡ old.marks
+  pub longer : IsShorter (entries_of new) new.known.ahead
+
+-- the exchange was lost, at a history at which the call is accepted
+pub record LosesOne {State Call Reply : Type 0} (object : Sequential State Call Reply) (head : HeadId) (old : Seated Call) (call : Call) (new : Seated Call) : Type 0 where
+  pub has_room : length (own old.known.number (history_of old)) < head.row.per_seat
+  pub accepted : IsAccepted object (history_of old) call
+  pub finds : FindsMore old new
+
+-- one attempt: an answer, or none where the exchange was lost
+abbrev pub Attempts : {State Call Reply : Type 0} → Sequential State Call Reply → HeadId → Seated Call → Call
+    → Result (Option Reply) Fault → Seated Call → Type 0
+Attempts object head old call (Ok (Some reply)) new =
+    Ask object (caller_at head old) (history_of old) call (Ok reply) (history_of new)
+Attempts object head old call (Ok None) new = LosesOne object head old call new
+Attempts object head old call (Err fault) new =
+    Ask object (caller_at head old) (history_of old) call (Err fault) (history_of new)

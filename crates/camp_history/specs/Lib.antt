@@ -1,0 +1,5 @@
+pub mod Inside
+pub mod Kept
+pub mod Meeting
+pub mod Opening
+pub mod Seats

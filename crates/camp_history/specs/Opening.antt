@@ -1,0 +1,31 @@
+-- What a new head is.
+use Rattle.std.specs.Prelude.{◌≡◌, ℕ, ◌≤◌, List, [], map, Result, Ok, Err}
+use Rattle.std.specs.List.{range_with_len}
+use Rattle.camp_row.specs.Known.{newcomer}
+use Rattle.camp_history.specs.Seats.{HeadId, Seated, unseen}
+use Rattle.camp_history.specs.declared.faults.HeadFault.{HeadFault}
+use Rattle.camp_history.specs.declared.faults.HeadFault.TheVariants.{BadSize, Memory}
+
+-- the numbers that a head can be made of
+pub record IsInRange (seats per_seat tries every : ℕ) : Type 0 where
+  pub some_seats : (1 ≤ seats) × (seats ≤ 64)
+  pub some_calls : (1 ≤ per_seat) × (per_seat ≤ 65536)
+  pub some_tries : (1 ≤ tries) × (tries ≤ 1000)
+  pub versions : every ≤ 4096
+
+-- the seat of a number, which has seen nothing
+abbrev pub seat_at : {Call : Type 0} → HeadId → ℕ → Seated Call
+seat_at head number = unseen (newcomer head.row number)
+
+-- a head of these numbers, with its seats, numbered from 0, none of which has seen anything
+pub record IsOpened {Call : Type 0} (seats per_seat tries : ℕ) (head : HeadId) (made : List (Seated Call)) : Type 0 where
+  pub has_seats : head.row.seats ≡ seats
+  pub has_calls : head.row.per_seat ≡ per_seat
+  pub has_tries : head.tries ≡ tries
+  pub all : made ≡ map (seat_at head) (range_with_len 0 seats)
+
+-- a fault of the numbers comes exactly where one is out of its range
+abbrev pub Opens : {Made Call : Type 0} → (Made → HeadId) → (Made → List (Seated Call)) → ℕ → ℕ → ℕ → ℕ → Result Made HeadFault → Type 0
+Opens head all seats per_seat tries every (Ok made) = IsInRange seats per_seat tries every × IsOpened seats per_seat tries (head made) (all made)
+Opens head all seats per_seat tries every (Err BadSize) = ¬ (IsInRange seats per_seat tries every)
+Opens head all seats per_seat tries every (Err Memory) = IsInRange seats per_seat tries every

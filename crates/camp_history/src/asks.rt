@@ -1,0 +1,116 @@
+//! How a call is answered at a seat.
+ghost use Rattle.std.specs.Prelude.{◌≡◌, false};
+ghost use Rattle.boxcar.specs.Table.{Shows};
+ghost use Rattle.camp_object.specs.Asking.{Ask};
+
+use crate::gates::{Gate, NoGate};
+use crate::heads::Head;
+use crate::kept::{Kept, Place};
+use crate::seats::Seat;
+use boxcar::Pushed;
+use camp_object::{Decided, Fault, Object};
+
+impl<State: Object> Head<State> {
+    ghost use Rattle.camp_history.specs.Kept.{IsKeptBy};
+    ghost use Rattle.camp_history.specs.Seats.{IsSeatOf, history_of, caller_at};
+    ghost use Rattle.camp_history.specs.Inside.Steps.{Attempts};
+
+    /// Asks a kept call at a seat. It takes part in the history if it is accepted.
+    pub fn ask(&self, seat: &mut Seat<State>, kept: Kept<State>) -> Result<State::Reply, Fault>
+        requires seat { IsSeatOf self.now seat.old }
+        requires kept { IsKeptBy self.now kept }
+        ensures seat { IsSeatOf self.now seat.new }
+        ensures caller { caller_at self.now seat.new ≡ caller_at self.now seat.old }
+        ensures asks { Ask State.object (caller_at self.now seat.old) (history_of seat.old) kept.call result (history_of seat.new) }
+    {
+        self.ask_at(seat, kept, &NoGate)
+    }
+
+    /// The same. The gate is told of each exchange.
+    pub fn ask_at<G: Gate>(
+        &self,
+        seat: &mut Seat<State>,
+        kept: Kept<State>,
+        gate: &G,
+    ) -> Result<State::Reply, Fault>
+        requires seat { IsSeatOf self.now seat.old }
+        requires kept { IsKeptBy self.now kept }
+        ensures seat { IsSeatOf self.now seat.new }
+        ensures caller { caller_at self.now seat.new ≡ caller_at self.now seat.old }
+        ensures asks { Ask State.object (caller_at self.now seat.old) (history_of seat.old) kept.call result (history_of seat.new) }
+    {
+        match kept.place {
+            Place::Here(call) => self.ask_question(seat, &call),
+            Place::Stored(call) => self.ask_writing(seat, &call, gate),
+        }
+    }
+
+    fn ask_question(
+        &self,
+        seat: &mut Seat<State>,
+        call: &State::Call,
+    ) -> Result<State::Reply, Fault>
+        requires seat { IsSeatOf self.now seat.old }
+        requires question { State.object.is_writing call.now ≡ false }
+        ensures seat { IsSeatOf self.now seat.new }
+        ensures caller { caller_at self.now seat.new ≡ caller_at self.now seat.old }
+        ensures asks { Ask State.object (caller_at self.now seat.old) (history_of seat.old) call.now result (history_of seat.new) }
+    {
+        self.catch_up(seat)?;
+        match seat.decide(call)? {
+            Decided::Answer(reply) => Ok(reply),
+            Decided::Next(_) => unreachable!(),
+        }
+    }
+
+    fn ask_writing<G: Gate>(
+        &self,
+        seat: &mut Seat<State>,
+        call: &Pushed<State::Call>,
+        gate: &G,
+    ) -> Result<State::Reply, Fault>
+        requires seat { IsSeatOf self.now seat.old }
+        requires call { Shows self.now.store call.now }
+        ensures seat { IsSeatOf self.now seat.new }
+        ensures caller { caller_at self.now seat.new ≡ caller_at self.now seat.old }
+        ensures asks { Ask State.object (caller_at self.now seat.old) (history_of seat.old) call.now.value result (history_of seat.new) }
+    {
+        self.catch_up(seat)?;
+        for lost in 0..self.tries {
+            match self.attempt(seat, call, gate, lost) {
+                Ok(Some(reply)) => return Ok(reply),
+                Ok(None) => self.follow(seat)?,
+                Err(fault) => return Err(fault),
+            }
+        }
+        Err(Fault::Busy { lost: self.tries })
+    }
+
+    /// Decides the call at what was seen, and publishes it if it is accepted.
+    fn attempt<G: Gate>(
+        &self,
+        seat: &mut Seat<State>,
+        call: &Pushed<State::Call>,
+        gate: &G,
+        lost: u32,
+    ) -> Result<Option<State::Reply>, Fault>
+        requires seat { IsSeatOf self.now seat.old }
+        requires call { Shows self.now.store call.now }
+        ensures seat { IsSeatOf self.now seat.new }
+        ensures caller { caller_at self.now seat.new ≡ caller_at self.now seat.old }
+        ensures attempts { Attempts State.object self.now seat.old call.now.value result seat.new }
+    {
+        seat.is_whole();
+        let next = match seat.decide(self.calls.value(call))? {
+            Decided::Answer(reply) => return Ok(Some(reply)),
+            Decided::Next(next) => next,
+        };
+        if seat.accepted() == self.row.per_seat() {
+            return Err(Fault::Full);
+        }
+        if !seat.publish(&self.row, call, next, gate, lost)? {
+            return Ok(None);
+        }
+        Ok(Some(State::done(seat.position())))
+    }
+}

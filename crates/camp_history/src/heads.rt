@@ -1,0 +1,127 @@
+ghost use Rattle.std.specs.Prelude.{◌≡◌, ◌↔◌, [], map, All, IfOk, IfErr, IsOk, IsTrue};
+ghost use Rattle.camp_history.specs.Opening.{IsInRange};
+ghost use Rattle.camp_history.specs.Seats.{unseen};
+ghost use Rattle.camp_object.specs.declared.faults.Fault.TheVariants.{Memory};
+
+use crate::faults::HeadFault;
+use crate::kept::{Kept, Place};
+use crate::seats::Seat;
+use camp_object::{Fault, Object};
+use camp_row::{Pass, Row};
+use std::alloc::{AllocError, Global};
+use std::marker::Model;
+use std::sync::Wait;
+
+/// One growing history that many seats share. Contracts see it as `HeadId`.
+#[derive(Drop)]
+pub struct Head<State: Object> {
+    pub(crate) row: Row,
+    pub(crate) calls: boxcar::Vec<State::Call>,
+    pub(crate) tries: u32,
+}
+
+impl<State: Object> Model for Head<State> {
+    ghost use Rattle.camp_history.specs.Seats.{HeadId};
+
+    ghost Value = { HeadId };
+
+    ghost use Rattle.camp_history.specs.Inside.HeadFields.{head_id, IsHead};
+
+    ghost view = { head_id };
+
+    ghost invariant = { IsHead };
+}
+
+fn is_in_range(seats: u32, per_seat: u32, tries: u32, every: u32) -> bool
+    ensures { IsTrue result ↔ IsInRange seats per_seat tries every }
+{
+    (1..=64).contains(&seats)
+        && (1..=65_536).contains(&per_seat)
+        && (1..=1_000).contains(&tries)
+        && every <= 4_096
+}
+
+/// A seat for each pass, which has seen nothing.
+fn seats_of<State: Object>(alloc: Global, passes: Vec<Pass>) -> Result<Vec<Seat<State>>, AllocError>
+    requires { All (λ known. known.seen ≡ []) passes.items }
+    ensures { IfOk result (λ seats. seats.items ≡ map unseen passes.items) }
+{
+    let mut seats = Vec::with_capacity(alloc, passes.len())?;
+    for pass in passes {
+        seats.push(seat_of(alloc, pass)?)?;
+    }
+    Ok(seats)
+}
+
+fn seat_of<State: Object>(alloc: Global, pass: Pass) -> Result<Seat<State>, AllocError>
+    requires { pass.seen ≡ [] }
+    ensures { IfOk result (λ seat. seat ≡ unseen pass) }
+{
+    Ok(Seat {
+        pass,
+        marks: Vec::new(alloc),
+        state: State::initial(alloc)?,
+    })
+}
+
+impl<State: Object> Head<State> {
+    ghost use Rattle.camp_history.specs.Kept.{IsKeptBy};
+    ghost use Rattle.camp_history.specs.Opening.{Opens};
+    ghost use Rattle.camp_history.specs.Seats.{IsSeatOf, history_of};
+
+    /// A head for so many seats, each of which has at most `per_seat` accepted calls, and the seats,
+    /// numbered from 0. A call that writes gives up after `tries` lost exchanges. The numbers are 1
+    /// to 64, 1 to 65,536, 1 to 1,000 and 0 to 4,096. No versions are kept yet, whatever `every` is.
+    pub fn new(
+        alloc: Global,
+        seats: u32,
+        per_seat: u32,
+        tries: u32,
+        every: u32,
+    ) -> Result<(Head<State>, Vec<Seat<State>>), HeadFault>
+        ensures { Opens (λ made. made.0) (λ made. made.1.items) seats per_seat tries every result }
+    {
+        if !is_in_range(seats, per_seat, tries, every) {
+            return Err(HeadFault::BadSize);
+        }
+        let (row, passes) = Row::new(alloc, seats, per_seat)?;
+        let all = seats_of(alloc, passes)?;
+        let calls = boxcar::Vec::new(alloc)?;
+        Ok((Head { row, calls, tries }, all))
+    }
+
+    /// A copy of a call, which may then be asked at any seat. The only fault is want of memory.
+    pub fn keep(&self, rt: &impl Wait, call: &State::Call) -> Result<Kept<State>, Fault>
+        ensures kept { IfOk result (λ kept. IsKeptBy self.now kept) }
+        ensures call { IfOk result (λ kept. kept.call ≡ call.now) }
+        ensures only_memory { IfErr result (λ fault. fault ≡ Memory) }
+    {
+        let copy = State::copy(call)?;
+        if !State::is_writing(&copy) {
+            return Ok(Kept {
+                place: Place::Here(copy),
+            });
+        }
+        match self.calls.push_shown(rt, copy) {
+            Ok(token) => Ok(Kept {
+                place: Place::Stored(token),
+            }),
+            Err(_) => Err(Fault::Memory),
+        }
+    }
+
+    /// What a seat has seen, call by call. The only fault is want of memory.
+    pub fn history(&self, seat: &Seat<State>) -> Result<Vec<(u32, State::Call)>, Fault>
+        requires { IsSeatOf self.now seat.now }
+        ensures history { IfOk result (λ history. history.items ≡ history_of seat.now) }
+        ensures empty { history_of seat.now ≡ [] → IsOk result }
+        ensures only_memory { IfErr result (λ fault. fault ≡ Memory) }
+    {
+        let mut history = Vec::new(*seat.marks.allocator());
+        for mark in &seat.marks {
+            let call = State::copy(self.calls.value(&mark.call))?;
+            history.push((mark.seat, call))?;
+        }
+        Ok(history)
+    }
+}

@@ -1,0 +1,20 @@
+//! One growing history for many threads: a head, and seats at which they ask.
+#![tactic(auto)]
+
+mod asks;
+mod desks;
+mod faults;
+mod gates;
+mod heads;
+mod kept;
+mod marks;
+mod meets;
+mod seats;
+mod walks;
+
+pub use desks::HeadDesk;
+pub use faults::HeadFault;
+pub use gates::{Gate, NoGate};
+pub use heads::Head;
+pub use kept::Kept;
+pub use seats::Seat;

@@ -1,0 +1,49 @@
+//! How two seats meet.
+ghost use Rattle.std.specs.Prelude.{◌≡◌, ◌≤◌, length};
+ghost use Rattle.camp_object.specs.Histories.{IsFront};
+
+use crate::heads::Head;
+use crate::seats::Seat;
+use camp_object::{Fault, Object};
+
+impl<State: Object> Head<State> {
+    ghost use Rattle.camp_history.specs.Meeting.{Meets};
+    ghost use Rattle.camp_history.specs.Seats.{IsSeatOf, history_of};
+
+    /// Brings two seats together, and lets the first see all that the second has seen.
+    pub fn meet(
+        &self,
+        a: Seat<State>,
+        b: Seat<State>,
+    ) -> (Seat<State>, Seat<State>, Result<(), Fault>)
+        requires { IsSeatOf self.now a × IsSeatOf self.now b }
+        ensures seats { IsSeatOf self.now result.0 × IsSeatOf self.now result.1 }
+        ensures meets { Meets a b result.0 result.1 result.2 }
+    {
+        let mut a = a;
+        a.is_whole();
+        b.is_whole();
+        let b = a.meet(&self.row, b);
+        let answer = self.follow(&mut a);
+        self.compare(&a, &b);
+        match answer {
+            Ok(()) => (a, b, Ok(())),
+            Err(_) => (a, b, Err(Fault::Memory)),
+        }
+    }
+
+    /// Of two seats that found one chain, the calls agree as far as both have seen it.
+    fn compare(&self, a: &Seat<State>, b: &Seat<State>)
+        requires seats { IsSeatOf self.now a.now × IsSeatOf self.now b.now }
+        requires chain { a.now.known.ahead ≡ b.now.known.ahead }
+        ensures a_shorter { length a.now.marks ≤ length b.now.marks → IsFront (history_of a.now) (history_of b.now) }
+        ensures b_shorter { length b.now.marks ≤ length a.now.marks → IsFront (history_of b.now) (history_of a.now) }
+    {
+        a.is_whole();
+        b.is_whole();
+        let len = a.position().min(b.position()) as usize;
+        for i in 0..len {
+            self.calls.agrees(&a.mark(i).call, &b.mark(i).call);
+        }
+    }
+}

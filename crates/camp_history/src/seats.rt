@@ -1,0 +1,56 @@
+ghost use Rattle.std.specs.Prelude.{◌≡◌, ◌<◌, ◌≤◌, length, All};
+
+use crate::marks::Mark;
+use camp_object::Object;
+use camp_row::Pass;
+use std::marker::Model;
+
+/// Where one caller asks a head. It can go to another thread. Contracts see it as `Seated`.
+#[derive(Drop)]
+pub struct Seat<State: Object> {
+    pub(crate) pass: Pass,
+    pub(crate) marks: Vec<Mark<State::Call>>,
+    pub(crate) state: State,
+}
+
+impl<State: Object> Model for Seat<State> {
+    ghost use Rattle.camp_history.specs.Seats.{Seated};
+
+    ghost Value = { Seated State.Call };
+
+    ghost use Rattle.camp_history.specs.Inside.SeatFields.{seated, IsSeat};
+
+    ghost view = { seated };
+
+    ghost invariant = { IsSeat State.object };
+}
+
+impl<State: Object> Seat<State> {
+    ghost use Rattle.camp_object.specs.Histories.{IsLegal, own};
+    ghost use Rattle.camp_history.specs.Seats.{history_of};
+
+    /// Its number.
+    pub fn number(&self) -> u32
+        ensures number { result ≡ self.now.known.number }
+        ensures below { result < self.now.known.row.seats }
+        ensures legal { IsLegal State.object (history_of self.now) }
+        ensures seats_below { All (λ entry. entry.0 < self.now.known.row.seats) (history_of self.now) }
+    {
+        self.pass.number()
+    }
+
+    /// How many calls it has seen.
+    pub fn position(&self) -> u64
+        ensures { result ≡ length (history_of self.now) }
+    {
+        self.marks.len() as u64
+    }
+
+    /// How many calls of its own were accepted.
+    pub fn accepted(&self) -> u32
+        ensures accepted { result ≡ length (own self.now.known.number (history_of self.now)) }
+        ensures within { result ≤ self.now.known.row.per_seat }
+    {
+        self.pass.turns()
+    }
+}

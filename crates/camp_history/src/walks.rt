@@ -1,0 +1,178 @@
+//! How a seat moves along the row.
+ghost use Rattle.std.specs.Prelude.{◌≡◌, ◌<◌, ◌+◌, ◌++◌, [], ◌∷◌, length, slice_get, Some, IfOk, OnOk, OnErr, MatchOption, MatchResult, MatchBool};
+ghost use Rattle.boxcar.specs.Table.{Shows};
+
+use crate::gates::Gate;
+use crate::heads::Head;
+use crate::marks::Mark;
+use crate::seats::Seat;
+use boxcar::Pushed;
+use camp_object::{Decided, Fault, Object};
+use camp_row::{Next, Row, Trail};
+use std::alloc::AllocError;
+
+impl<State: Object> Seat<State> {
+    ghost use Rattle.camp_object.specs.Histories.{replay, IsLegal, own};
+    ghost use Rattle.camp_row.specs.Known.{Finds, Leads, ComesNext, IsSound};
+    ghost use Rattle.camp_history.specs.Seats.{history_of};
+    ghost use Rattle.camp_history.specs.Inside.Steps.{entries_of, DecidesAt, Publishes, FindsMore};
+
+    /// What holds of every seat.
+    pub(crate) fn is_whole(&self)
+        ensures places { entries_of self.now ≡ self.now.known.seen }
+        ensures legal { IsLegal State.object (history_of self.now) }
+        ensures sound { IsSound self.now.known }
+    {
+        let _number = self.pass.number();
+    }
+
+    /// Finds the chain as it is now.
+    pub(crate) fn look(&mut self, row: &Row)
+        requires { self.old.known.row ≡ row.now }
+        ensures { self.new ≡ record self.old { known = record self.old.known { ahead = self.new.known.ahead } } }
+    {
+        row.look(&mut self.pass);
+    }
+
+    /// Both seats find one chain, which begins with what either has seen.
+    pub(crate) fn meet(&mut self, row: &Row, other: Seat<State>) -> Seat<State>
+        requires { (self.old.known.row ≡ row.now) × (other.known.row ≡ row.now) }
+        ensures self_finds { Finds self.old.known self.new.known }
+        ensures self_marks { self.new.marks ≡ self.old.marks }
+        ensures other_finds { Finds other.known result.known }
+        ensures other_marks { result.marks ≡ other.marks }
+        ensures one_chain { result.known.ahead ≡ self.new.known.ahead }
+    {
+        let Seat { pass, marks, state } = other;
+        let pass = row.meet(&mut self.pass, pass);
+        Seat { pass, marks, state }
+    }
+
+    /// What it has seen at a place of the history.
+    pub(crate) fn mark(&self, index: usize) -> &Mark<State::Call>
+        requires { index < length self.now.marks }
+        ensures { slice_get self.now.marks index ≡ Some result.now }
+    {
+        &self.marks[index]
+    }
+
+    pub(crate) fn walk(&mut self, row: &Row) -> Result<Trail, AllocError>
+        requires { self.old.known.row ≡ row.now }
+        ensures same { self.new ≡ self.old }
+        ensures leads { IfOk result (λ trail. Leads self.old.known self.old.known.seen trail) }
+    {
+        row.walk(*self.marks.allocator(), &mut self.pass)
+    }
+
+    pub(crate) fn next(&mut self, row: &Row, trail: &mut Trail) -> Option<Next>
+        requires row { self.old.known.row ≡ row.now }
+        requires leads { Leads self.old.known self.old.known.seen trail.old }
+        ensures same { self.new ≡ self.old }
+        ensures next { MatchOption result (self.old.known.seen ≡ self.old.known.ahead) (λ next. ComesNext self.old.known next) }
+        ensures leads { MatchOption result (trail.new ≡ trail.old) (λ next. Leads self.old.known (self.old.known.seen ++ next.entry ∷ []) trail.new) }
+        ensures shorter { MatchOption result (trail.new ≡ trail.old) (λ next. length trail.old ≡ length trail.new + 1) }
+    {
+        row.next(&mut self.pass, trail)
+    }
+
+    /// What the object decides about a call, at what was seen.
+    pub(crate) fn decide(
+        &self,
+        call: &State::Call,
+    ) -> Result<Decided<State, State::Reply>, AllocError>
+        ensures { IfOk result (DecidesAt State.object (history_of self.now) call.now) }
+    {
+        let _len = self.marks.len();
+        self.state.decide(call)
+    }
+
+    /// Drafts the call's cell and exchanges. All that grows does so before.
+    pub(crate) fn publish<G: Gate>(
+        &mut self,
+        row: &Row,
+        call: &Pushed<State::Call>,
+        next: State,
+        gate: &G,
+        lost: u32,
+    ) -> Result<bool, AllocError>
+        requires row { self.old.known.row ≡ row.now }
+        requires room { length (own self.old.known.number (history_of self.old)) < row.now.per_seat }
+        requires next { replay State.object (history_of self.old ++ (self.old.known.number, call.now.value) ∷ []) ≡ Some next }
+        ensures { MatchResult result (λ won. MatchBool won (Publishes self.old call.now self.new) (FindsMore self.old self.new)) (λ _. self.new ≡ self.old) }
+    {
+        self.marks.reserve(1)?;
+        let number = self.pass.number();
+        row.draft(&mut self.pass, call.index());
+        gate.exchange(number, lost);
+        if !row.publish(&mut self.pass) {
+            return Ok(false);
+        }
+        self.marks.push_reserved(Mark {
+            seat: number,
+            call: call.again(),
+        });
+        self.state = next;
+        Ok(true)
+    }
+}
+
+impl<State: Object> Head<State> {
+    ghost use Rattle.camp_object.specs.Histories.{IsLegal};
+    ghost use Rattle.camp_row.specs.Known.{ComesNext};
+    ghost use Rattle.camp_history.specs.Seats.{IsSeatOf, history_of};
+    ghost use Rattle.camp_history.specs.Inside.Steps.{entries_of, SeesNext, SeesMore};
+
+    /// Sees the entry that comes next. A published call is found, and accepted in its turn.
+    fn see(&self, seat: &mut Seat<State>, next: Next) -> Result<(), AllocError>
+        requires of { IsSeatOf self.now seat.old }
+        requires next { ComesNext seat.old.known next }
+        ensures of { IsSeatOf self.now seat.new }
+        ensures ok { OnOk result (SeesNext seat.old next.entry seat.new) }
+        ensures err { OnErr result (seat.new ≡ seat.old) }
+        ensures legal { OnOk result (IsLegal State.object (history_of seat.new)) }
+    {
+        seat.marks.reserve(1)?;
+        let entry = next.entry;
+        let Some(call) = self.calls.witness(entry.place) else {
+            return Err(AllocError);
+        };
+        let Decided::Next(state) = seat.state.decide(self.calls.value(&call))? else {
+            return Err(AllocError);
+        };
+        self.row.advance(&mut seat.pass, next);
+        seat.marks.push_reserved(Mark {
+            seat: entry.seat,
+            call,
+        });
+        seat.state = state;
+        Ok(())
+    }
+
+    /// Sees all of the chain that was found.
+    pub(crate) fn follow(&self, seat: &mut Seat<State>) -> Result<(), AllocError>
+        requires { IsSeatOf self.now seat.old }
+        ensures of { IsSeatOf self.now seat.new }
+        ensures more { SeesMore seat.old seat.new }
+        ensures ahead { seat.new.known.ahead ≡ seat.old.known.ahead }
+        ensures whole { OnOk result (entries_of seat.new ≡ seat.new.known.ahead) }
+        ensures legal { IsLegal State.object (history_of seat.new) }
+    {
+        seat.is_whole();
+        let mut trail = seat.walk(&self.row)?;
+        while let Some(next) = seat.next(&self.row, &mut trail) {
+            self.see(seat, next)?;
+        }
+        Ok(())
+    }
+
+    /// Sees all of the chain as it is now.
+    pub(crate) fn catch_up(&self, seat: &mut Seat<State>) -> Result<(), AllocError>
+        requires { IsSeatOf self.now seat.old }
+        ensures of { IsSeatOf self.now seat.new }
+        ensures more { SeesMore seat.old seat.new }
+        ensures legal { IsLegal State.object (history_of seat.new) }
+    {
+        seat.look(&self.row);
+        self.follow(seat)
+    }
+}

@@ -1,0 +1,134 @@
+-- The cells of a chain: no two entries have one, and the word that names the last tells the chain among its fronts.
+use Rattle.std.proofs.Common.{◌≡◌, ◌≢◌, ℕ, suc, ◌+◌, ◌<◌, ◌≤◌, ◌⊎◌, inl, inr, List, [], ◌∷◌, ◌++◌, length, ◌==◌, sym, refl, ap, ◌∙◌, subst, arith, length-append}
+use Rattle.std.proofs.lemmas.List.{append-nil, append_assoc, append_cancel_left}
+use Rattle.std.proofs.lemmas.List.Elements.{filter-append}
+use Rattle.std.proofs.lemmas.Bool.{eq-eqb, ne_eqb, cond-true, cond-false}
+use Rattle.std.proofs.lemmas.Nat.{same_from_place}
+use Rattle.camp_row.specs.declared.entries.Entry.{Entry}
+use Rattle.camp_row.specs.Chains.{IsFront, own, turns, cell_of, head_after, head_word, Fits}
+use Rattle.camp_row.proofs.Fronts.{front_cases, cut_longer, cut_push, fronts_meet, next_is}
+
+pub own-append : (seat : ℕ) (xs ys : List Entry) → own seat (xs ++ ys) ≡ own seat xs ++ own seat ys
+own-append seat xs ys = filter-append (λ (e : Entry). e.seat == seat) xs ys
+
+pub own-self : (e : Entry) (later : List Entry) → own e.seat (e ∷ later) ≡ e ∷ own e.seat later
+own-self e later = cond-true (e.seat == e.seat) (e ∷ own e.seat later) (own e.seat later) (eq-eqb e.seat e.seat refl)
+
+pub own-other : (seat : ℕ) (e : Entry) (later : List Entry) → e.seat ≢ seat → own seat (e ∷ later) ≡ own seat later
+own-other seat e later ne = cond-false (e.seat == seat) (e ∷ own seat later) (own seat later) (ne_eqb e.seat seat ne)
+
+pub turns-append : (seat : ℕ) (xs ys : List Entry) → turns seat (xs ++ ys) ≡ turns seat xs + turns seat ys
+turns-append seat xs ys = ap length (own-append seat xs ys) ∙ length-append (own seat xs) (own seat ys)
+
+pub turns-self : (e : Entry) (later : List Entry) → turns e.seat (e ∷ later) ≡ suc (turns e.seat later)
+turns-self e later = ap length (own-self e later)
+
+-- an entry at which a chain is cut is one more of its seat
+pub turns_cut : (before : List Entry) (e : Entry) (after chain : List Entry) → before ++ e ∷ after ≡ chain → turns e.seat before < turns e.seat chain
+turns_cut before e after chain cut =
+    let at : turns e.seat (before ++ e ∷ after) ≡ turns e.seat chain = ap (turns e.seat) cut in
+    let sum = turns-append e.seat before (e ∷ after) in
+    let one = turns-self e after in
+    omega arith
+
+pub turns_front : (seat : ℕ) (xs ys : List Entry) → IsFront xs ys → turns seat xs ≤ turns seat ys
+turns_front seat xs ys f =
+    let at : turns seat (xs ++ f.rest) ≡ turns seat ys = ap (turns seat) f.is in
+    let sum = turns-append seat xs f.rest in
+    omega arith
+
+-- where a seat has no entry that was not seen, what comes next is another seat's
+module _ (seat : ℕ) (seen : List Entry) (e : Entry) (later ahead : List Entry) (cut : seen ++ e ∷ later ≡ ahead) (same : own seat ahead ≡ own seat seen) where
+  rest_is_nil : own seat (e ∷ later) ≡ []
+  rest_is_nil = append_cancel_left (own seat seen) (own seat (e ∷ later)) [] (sym (own-append seat seen (e ∷ later)) ∙ (ap (own seat) cut ∙ (same ∙ sym (append-nil (own seat seen)))))
+
+  pub next_is_others : e.seat ≢ seat
+  next_is_others is = let h : own e.seat (e ∷ later) ≡ [] = subst (λ s. own s (e ∷ later) ≡ []) (sym is) rest_is_nil in let k : e ∷ own e.seat later ≡ [] = sym (own-self e later) ∙ h in absurd cc
+
+  pub own_of_next : own seat (seen ++ e ∷ []) ≡ own seat seen
+  own_of_next = own-append seat seen (e ∷ []) ∙ (ap (λ l. own seat seen ++ l) (own-other seat e [] next_is_others) ∙ append-nil (own seat seen))
+
+pub own_push_other : (seat : ℕ) (chain : List Entry) (e : Entry) → e.seat ≢ seat → own seat (chain ++ e ∷ []) ≡ own seat chain
+own_push_other seat chain e ne = own-append seat chain (e ∷ []) ∙ (ap (λ l. own seat chain ++ l) (own-other seat e [] ne) ∙ append-nil (own seat chain))
+
+head_after-push : (seats : ℕ) (before : List Entry) (word : ℕ) (chain : List Entry) (e : Entry) → head_after seats before word (chain ++ e ∷ []) ≡ cell_of seats (before ++ chain) e + 1
+head_after-push seats before word [] e = ap (λ l. cell_of seats l e + 1) (sym (append-nil before))
+head_after-push seats before word (x ∷ chain) e =
+    head_after-push seats (before ++ x ∷ []) (cell_of seats before x + 1) chain e ∙ ap (λ l. cell_of seats l e + 1) (append_assoc before (x ∷ []) chain)
+
+pub head_word-push : (seats : ℕ) (chain : List Entry) (e : Entry) → head_word seats (chain ++ e ∷ []) ≡ cell_of seats chain e + 1
+head_word-push seats chain e = head_after-push seats [] 0 chain e
+
+-- a list is empty, or has a last element
+pub record HasLast (chain : List Entry) : Type 0 where
+  pub before : List Entry
+  pub last : Entry
+  pub is : before ++ last ∷ [] ≡ chain
+
+pub last_cases : (chain : List Entry) → (chain ≡ []) ⊎ (HasLast chain)
+last_cases [] = inl refl
+last_cases (x ∷ xs) = inr (elim (last_cases xs) [
+  | inl none ↦ record { before = []; last = x; is = λ k. x ∷ sym none k }
+  | inr some ↦ record { before = x ∷ some.before; last = some.last; is = λ k. x ∷ some.is k }
+])
+
+module _ (seats per_seat : ℕ) (chain : List Entry) (fits : Fits seats per_seat chain) where
+  -- two entries of one cell stand at one place of the chain
+  pub one_place : (b : List Entry) (e : Entry) (a : List Entry) (c : List Entry) (f : Entry) (d : List Entry) → b ++ e ∷ a ≡ chain → c ++ f ∷ d ≡ chain → cell_of seats b e ≡ cell_of seats c f → b ≡ c
+  one_place b e a c f d at_e at_f same =
+      let apart = same_from_place (turns e.seat b) e.seat (turns f.seat c) f.seat seats (fits b e a at_e).0 (fits c f d at_f).0 same in
+      let front_b : IsFront b chain = record { rest = e ∷ a; is = at_e } in
+      let front_c : IsFront c chain = record { rest = f ∷ d; is = at_f } in
+      let seat_is : e.seat ≡ f.seat = apart.1 in
+      elim (fronts_meet b c chain front_b front_c) [
+        | inl b_first ↦ elim (front_cases b c b_first) [
+          | inl is ↦ is
+          | inr shorter ↦
+              let next : shorter.next ≡ e = next_is b shorter.next e (shorter.rest ++ f ∷ d) a chain (cut_longer b shorter.next shorter.rest c (f ∷ d) chain shorter.is at_f) at_e in
+              let more : turns shorter.next.seat b < turns shorter.next.seat c = turns_cut b shorter.next shorter.rest c shorter.is in
+              let more' : turns e.seat b < turns e.seat c = subst (λ (x : Entry). turns x.seat b < turns x.seat c) next more in
+              let same' : turns e.seat b ≡ turns e.seat c = apart.0 ∙ ap (λ s. turns s c) (sym seat_is) in
+              absurd (omega arith)
+        ]
+        | inr c_shorter ↦
+            let next : c_shorter.next ≡ f = next_is c c_shorter.next f (c_shorter.rest ++ e ∷ a) d chain (cut_longer c c_shorter.next c_shorter.rest b (e ∷ a) chain c_shorter.is at_e) at_f in
+            let more : turns c_shorter.next.seat c < turns c_shorter.next.seat b = turns_cut c c_shorter.next c_shorter.rest b c_shorter.is in
+            let more' : turns f.seat c < turns f.seat b = subst (λ (x : Entry). turns x.seat c < turns x.seat b) next more in
+            let same' : turns f.seat b ≡ turns f.seat c = ap (λ s. turns s b) (sym seat_is) ∙ apart.0 in
+            absurd (omega arith)
+      ]
+
+  -- two fronts of the chain whose last cell has one name are one
+  pub same_front : (xs ys : List Entry) → IsFront xs chain → IsFront ys chain → head_word seats xs ≡ head_word seats ys → xs ≡ ys
+  same_front xs ys f g same = at (last_cases xs) (last_cases ys) where
+    named : (zs : List Entry) (l : HasLast zs) → head_word seats zs ≡ cell_of seats l.before l.last + 1
+    named zs l = ap (head_word seats) (sym l.is) ∙ head_word-push seats l.before l.last
+
+    at : (xs ≡ []) ⊎ (HasLast xs) → (ys ≡ []) ⊎ (HasLast ys) → xs ≡ ys
+    at (inl x) (inl y) = x ∙ sym y
+    at (inl x) (inr l) = let zero_is : head_word seats xs ≡ 0 = ap (head_word seats) x in let n = named ys l in absurd (omega arith)
+    at (inr l) (inl y) = let zero_is : head_word seats ys ≡ 0 = ap (head_word seats) y in let n = named xs l in absurd (omega arith)
+    at (inr l) (inr m) =
+        let cut_x : l.before ++ l.last ∷ ([] ++ f.rest) ≡ chain = cut_longer l.before l.last [] xs f.rest chain l.is f.is in
+        let cut_y : m.before ++ m.last ∷ ([] ++ g.rest) ≡ chain = cut_longer m.before m.last [] ys g.rest chain m.is g.is in
+        let n = named xs l in
+        let o = named ys m in
+        let cells : cell_of seats l.before l.last ≡ cell_of seats m.before m.last = omega arith in
+        let before : l.before ≡ m.before = one_place l.before l.last ([] ++ f.rest) m.before m.last ([] ++ g.rest) cut_x cut_y cells in
+        let cut_y' : l.before ++ m.last ∷ g.rest ≡ chain = subst (λ b. b ++ m.last ∷ g.rest ≡ chain) (sym before) cut_y in
+        let last : l.last ≡ m.last = next_is l.before l.last m.last f.rest g.rest chain cut_x cut_y' in
+        sym l.is ∙ ((λ k. before k ++ last k ∷ []) ∙ m.is)
+
+pub fits_front : (seats per_seat : ℕ) (xs ys : List Entry) → IsFront xs ys → Fits seats per_seat ys → Fits seats per_seat xs
+fits_front seats per_seat xs ys f fits before e after cut = fits before e (after ++ f.rest) (cut_longer before e after xs f.rest ys cut f.is)
+
+pub fits_push : (seats per_seat : ℕ) (chain : List Entry) (e : Entry) → Fits seats per_seat chain → e.seat < seats → turns e.seat chain < per_seat → Fits seats per_seat (chain ++ e ∷ [])
+fits_push seats per_seat chain e fits below room before f after cut = elim (cut_push before f after chain e cut) [
+  | inl last ↦
+      subst (λ b. (f.seat < seats) × (turns f.seat b < per_seat)) (sym last.0)
+      (subst (λ (x : Entry). (x.seat < seats) × (turns x.seat chain < per_seat)) (sym last.1) (below, room))
+  | inr older ↦ fits before f older.0 older.1
+]
+
+pub turns_push : (e : Entry) (chain : List Entry) → turns e.seat (chain ++ e ∷ []) ≡ turns e.seat chain + 1
+turns_push e chain = turns-append e.seat chain (e ∷ []) ∙ ap (λ n. turns e.seat chain + n) (turns-self e [])

@@ -1,0 +1,91 @@
+-- Loads keep the rule, and tell what `specs/Inside/Steps` says.
+use Rattle.std.proofs.Common.{◌≡◌, ℕ, ◌+◌, ◌*◌, ◌<◌, List, [], ◌∷◌, ◌++◌, length, cond, ◌==◌, sym, refl, ap, ◌∙◌, subst, arith, set, slice_index, All, map}
+use Rattle.std.proofs.lemmas.List.Elements.{All-weaker, All-map}
+use Rattle.camp_row.specs.declared.entries.Entry.{Entry}
+use Rattle.camp_row.specs.declared.knowledge.Knowledge.{Knowledge}
+use Rattle.camp_row.specs.Chains.{IsShorter, own, turns, cell_of, head_word, Fits}
+use Rattle.camp_row.specs.Inside.Parts.{Part, parts_of, finds, IsSoundPart}
+use Rattle.camp_row.specs.Inside.Rule.{place_word, Holds, Knows, IsRuled}
+use Rattle.camp_row.specs.Inside.Steps.{Sees, Looked, Walked, Advanced}
+use Rattle.camp_row.proofs.Fronts.{front_refl, cut_longer, cut_pushed}
+use Rattle.camp_row.proofs.Cells.{own_of_next}
+use Rattle.camp_row.proofs.Ruling.{Owes, only, one_at, parts_of-cons, keep, word_same, knows, keep_words}
+
+parts_of-finds : (chain : List Entry) (number : ℕ) (ps : List Part) → parts_of number (map (finds chain) ps) ≡ parts_of number ps
+parts_of-finds chain number [] = refl
+parts_of-finds chain number (p ∷ ps) =
+    parts_of-cons number (finds chain p) (map (finds chain) ps) ∙ (ap (λ n. cond (p.number == number) 1 0 + n) (parts_of-finds chain number ps) ∙ sym (parts_of-cons number p ps))
+
+module _ (seats per_seat : ℕ) (words : List ℕ) (chain : List Entry) (fits : Fits seats per_seat chain) where
+  sound_of : (p : Part) → Knows seats per_seat words chain p → IsSoundPart (finds chain p)
+  sound_of p k = record {
+    front = k.seen;
+    own_seen = k.own_seen;
+    fits = subst (λ s. Fits s p.per_seat chain) (sym k.sizes.0) (subst (λ t. Fits seats t chain) (sym k.sizes.1) fits);
+  }
+
+  pub finds_knows : (p : Part) → Knows seats per_seat words chain p → Knows seats per_seat words chain (finds chain p)
+  finds_knows p k = record { sizes = k.sizes; seen = k.seen; ahead = front_refl chain; own_seen = k.own_seen; draft = k.draft; empty = k.empty }
+
+  pub sees : (found : ℕ) → found ≡ head_word seats chain → (p : Part) → Knows seats per_seat words chain p → Sees found chain p
+  sees found named p k = record { named = named ∙ ap (λ s. head_word s chain) (sym k.sizes.0); grows = k.ahead; sound = sound_of p k }
+
+-- a load of the head
+pub looks : (seats per_seat id : ℕ) (v : Knowledge) → Owes seats per_seat id v 0 (λ n. n) (λ found w. Looked found v.parts w.parts)
+looks seats per_seat id v words views ruled at =
+    let K : Part → Type 0 = Knows seats per_seat words ruled.chain in
+    let known : All K v.parts = ruled.known id v at in
+    let w : Knowledge = record { parts = map (finds ruled.chain) v.parts } in
+    let mine : All K w.parts = All-map K (finds ruled.chain) v.parts (All-weaker K (λ p. K (finds ruled.chain p)) (finds_knows seats per_seat words ruled.chain ruled.fits) v.parts known) in (
+      w,
+      subst (λ ws. IsRuled seats per_seat ws (set views id w)) (sym (word_same words 0))
+          (keep seats per_seat words views ruled id v at words ruled.chain w refl ruled.head ruled.linked ruled.fits (λ n. parts_of-finds ruled.chain n v.parts) mine (λ q _ k. k)),
+      record {
+        chain = ruled.chain;
+        one_each = λ n. let one = one_at (λ (u : Knowledge). parts_of n u.parts) views id v at in let all = ruled.one_each n in omega arith;
+        each = All-weaker K (Sees (slice_index words 0) ruled.chain) (sees seats per_seat words ruled.chain ruled.fits (slice_index words 0) ruled.head) v.parts known;
+        is = refl;
+      },
+    )
+
+module _ (seats per_seat id : ℕ) (p : Part) (i : ℕ) where
+  -- a load of a parent or place word
+  pub walks : Owes seats per_seat id (only p) i (λ n. n) (λ found w. Walked i found (p ∷ []) w.parts)
+  walks words views ruled at =
+      let k = knows seats per_seat words views ruled id p at in (
+        only p,
+        keep_words seats per_seat words views ruled id p at i p refl k,
+        (
+          refl,
+          λ before e after cut.
+              let held : Holds words (cell_of p.seats before e) (head_word p.seats before) e.place =
+              subst (λ s. Holds words (cell_of s before e) (head_word s before) e.place) (sym k.sizes.0) (ruled.linked before e (after ++ k.ahead.rest) (cut_longer before e after p.ahead k.ahead.rest ruled.chain cut k.ahead.is)) in (
+                (λ is. ap (slice_index words) is ∙ held.names),
+                (λ is. ap (slice_index words) is ∙ held.places),
+              ),
+        ),
+      )
+
+  -- a load of the place word of the next cell
+  pub advances : (next : IsShorter p.seen p.ahead) → i ≡ place_word (cell_of p.seats p.seen next.next) → Owes seats per_seat id (only p) i (λ n. n) (λ found w. Advanced found (p ∷ []) w.parts)
+  advances next word_is words views ruled at =
+      let k = knows seats per_seat words views ruled id p at in
+      let e : Entry = next.next in
+      let later : List Entry = next.rest ++ k.ahead.rest in
+      let cut : p.seen ++ e ∷ later ≡ ruled.chain = cut_longer p.seen e next.rest p.ahead k.ahead.rest ruled.chain next.is k.ahead.is in
+      let q : Part = record p { seen = p.seen ++ e ∷ [] } in
+      let own_is : own p.number q.seen ≡ own p.number p.seen = own_of_next p.number p.seen e later ruled.chain cut k.own_seen in
+      let turns_is : turns p.number q.seen ≡ turns p.number p.seen = ap length own_is in
+      let held : Holds words (cell_of p.seats p.seen e) (head_word p.seats p.seen) e.place =
+      subst (λ s. Holds words (cell_of s p.seen e) (head_word s p.seen) e.place) (sym k.sizes.0) (ruled.linked p.seen e later cut) in (
+        only q,
+        keep_words seats per_seat words views ruled id p at i q refl (record {
+          sizes = k.sizes;
+          seen = record { rest = later; is = cut_pushed p.seen later e ∙ cut };
+          ahead = k.ahead;
+          own_seen = k.own_seen ∙ sym own_is;
+          draft = subst (λ t. t < per_seat → Holds words (t * seats + p.number) p.parent p.place) (sym turns_is) k.draft;
+          empty = subst (λ t. (turn : ℕ) → t < turn → turn < per_seat → Holds words (turn * seats + p.number) 0 0) (sym turns_is) k.empty;
+        }),
+        record { next = next; place = ap (slice_index words) word_is ∙ held.places; is = refl },
+      )

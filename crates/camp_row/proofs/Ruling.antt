@@ -1,0 +1,138 @@
+-- The rule of the row, when a step changes one view and perhaps one word.
+use Rattle.std.proofs.Common.{◌≡◌, ◌≢◌, ℕ, zero, suc, ◌+◌, ◌≤◌, inl, inr, List, [], ◌∷◌, length, cond, ◌==◌, sym, refl, ap, ◌∙◌, subst, arith, zero-add, set, get_or, slice_index, sum_by, All}
+use Rattle.std.proofs.lemmas.List.{get_or-set_other, set-get_or}
+use Rattle.std.proofs.lemmas.List.Sums.{sum_by-cons}
+use Rattle.std.proofs.lemmas.List.Elements.{All-head, All-cons, All-nil}
+use Rattle.std.proofs.lemmas.Bool.{eq-eqb, ne_eqb, cond-true, cond-false}
+use mathlib.Core.Option.{some, some-injective, some-ne-none}
+use lib.ListN.{get_elem?}
+use Rattle.atomic_table.specs.Table.{State, Me, keeps, Allows}
+use Rattle.atomic_table.proofs.Lists.{at_set}
+use Rattle.camp_row.specs.declared.entries.Entry.{Entry}
+use Rattle.camp_row.specs.declared.knowledge.Knowledge.{Knowledge}
+use Rattle.camp_row.specs.Chains.{head_word, Fits}
+use Rattle.camp_row.specs.Inside.Parts.{Part, parts_of}
+use Rattle.camp_row.specs.Inside.Rule.{parent_word, place_word, Holds, IsLinked, Knows, IsRuled}
+
+-- what a step owes that takes no slot: whatever the words and the views are, there is a view that keeps the rule
+abbrev pub Owes : ℕ → ℕ → ℕ → Knowledge → ℕ → (ℕ → ℕ) → (ℕ → Knowledge → Type 0) → Type 0
+Owes seats per_seat id v i f then = (words : List ℕ) (views : List Knowledge) → IsRuled seats per_seat words views → get_elem? views id ≡ some v
+    → (w : Knowledge) × IsRuled seats per_seat (set words i (f (slice_index words i))) (set views id w) × then (slice_index words i) w
+
+abbrev pub Ruled : ℕ → ℕ → State (Unit {0}) Knowledge → Type 0
+Ruled seats per_seat s = IsRuled seats per_seat s.words s.views
+
+pub allows : (seats per_seat slots id : ℕ) (me : Me (Unit {0}) Knowledge) (i : ℕ) (f : ℕ → ℕ) (then : ℕ → Knowledge → Type 0)
+    → Owes seats per_seat id me.0 i f then → Allows (Ruled seats per_seat) slots id me i f (λ n m. (m.1 ≡ me.1) × then n m.0)
+allows seats per_seat slots id me i f then owes s ruled homes at fits = let o = owes s.words s.views ruled at in (o.0, keeps, tt, o.1, (refl, o.2))
+
+-- a view with one part, and the same of it
+abbrev pub only : Part → Knowledge
+only p = record { parts = p ∷ [] }
+
+pub allows_one : (seats per_seat slots id : ℕ) (me : Me (Unit {0}) Knowledge) (i : ℕ) (f : ℕ → ℕ) (then : ℕ → List Part → List Part → Type 0) (p : Part) → me.0.parts ≡ p ∷ []
+    → Owes seats per_seat id (only p) i f (λ n w. then n (p ∷ []) w.parts) → Allows (Ruled seats per_seat) slots id me i f (λ n m. (m.1 ≡ me.1) × then n me.0.parts m.0.parts)
+allows_one seats per_seat slots id me i f then p alone owes =
+    allows seats per_seat slots id me i f (λ n w. then n me.0.parts w.parts)
+    (subst (λ ps. Owes seats per_seat id (record { parts = ps }) i f (λ n w. then n ps w.parts)) (sym alone) owes)
+
+-- sums over views
+module _ (f : Knowledge → ℕ) where
+  pub sum_set : (views : List Knowledge) (id : ℕ) (v w : Knowledge) → get_elem? views id ≡ some v → sum_by f (set views id w) + f v ≡ sum_by f views + f w
+  sum_set [] id v w at = absurd (some-ne-none v (sym at))
+  sum_set (x ∷ xs) zero v w at = let e : f x ≡ f v = ap f (some-injective x v at) in let l : sum_by f (set (x ∷ xs) 0 w) ≡ f w + sum_by f xs = sum_by-cons f w xs in omega (arith, sum_by-cons f x xs)
+  sum_set (x ∷ xs) (suc id) v w at =
+      let h = sum_set xs id v w at in let l : sum_by f (set (x ∷ xs) (suc id) w) ≡ f x + sum_by f (set xs id w) = sum_by-cons f x (set xs id w) in omega (arith, sum_by-cons f x xs)
+
+  pub one_at : (views : List Knowledge) (id : ℕ) (v : Knowledge) → get_elem? views id ≡ some v → f v ≤ sum_by f views
+  one_at [] id v at = absurd (some-ne-none v (sym at))
+  one_at (x ∷ xs) zero v at = let e : f x ≡ f v = ap f (some-injective x v at) in omega (arith, sum_by-cons f x xs)
+  one_at (x ∷ xs) (suc id) v at = let h = one_at xs id v at in omega (arith, sum_by-cons f x xs)
+
+  pub two_at : (views : List Knowledge) (id j : ℕ) (v u : Knowledge) → j ≢ id → get_elem? views id ≡ some v → get_elem? views j ≡ some u → f v + f u ≤ sum_by f views
+  two_at [] id j v u ne at other = absurd (some-ne-none v (sym at))
+  two_at (x ∷ xs) zero zero v u ne at other = absurd (ne refl)
+  two_at (x ∷ xs) zero (suc j) v u ne at other = let e : f x ≡ f v = ap f (some-injective x v at) in let h = one_at xs j u other in omega (arith, sum_by-cons f x xs)
+  two_at (x ∷ xs) (suc id) zero v u ne at other = let e : f x ≡ f u = ap f (some-injective x u other) in let h = one_at xs id v at in omega (arith, sum_by-cons f x xs)
+  two_at (x ∷ xs) (suc id) (suc j) v u ne at other = let h = two_at xs id j v u (λ e. ne (ap suc e)) at other in omega (arith, sum_by-cons f x xs)
+
+pub parts_of-cons : (number : ℕ) (p : Part) (ps : List Part) → parts_of number (p ∷ ps) ≡ cond (p.number == number) 1 0 + parts_of number ps
+parts_of-cons number p ps = sum_by-cons (λ (part : Part). cond (part.number == number) 1 0) p ps
+
+pub parts_of-self : (p : Part) (ps : List Part) → parts_of p.number (p ∷ ps) ≡ 1 + parts_of p.number ps
+parts_of-self p ps = parts_of-cons p.number p ps ∙ ap (λ n. n + parts_of p.number ps) (cond-true (p.number == p.number) 1 0 (eq-eqb p.number p.number refl))
+
+pub parts_of-other : (number : ℕ) (p : Part) (ps : List Part) → p.number ≢ number → parts_of number (p ∷ ps) ≡ parts_of number ps
+parts_of-other number p ps differs = parts_of-cons number p ps ∙ (ap (λ n. n + parts_of number ps) (cond-false (p.number == number) 1 0 (ne_eqb p.number number differs)) ∙ zero-add (parts_of number ps))
+
+all_apart : (qs ps : List Part) → ((n : ℕ) → parts_of n ps + parts_of n qs ≤ 1) → All (λ (q : Part). parts_of q.number ps ≡ 0) qs
+all_apart [] ps few = All-nil (λ (q : Part). parts_of q.number ps ≡ 0)
+all_apart (q ∷ qs) ps few =
+    All-cons (λ (q : Part). parts_of q.number ps ≡ 0) q qs
+    (let h = few q.number in omega (arith, parts_of-self q qs))
+    (all_apart qs ps (λ n. let h = few n in omega (arith, parts_of-cons n q qs)))
+
+all_both : (P Q R : Part → Type 0) → ((q : Part) → P q → Q q → R q) → (qs : List Part) → All P qs → All Q qs → All R qs
+all_both P Q R both qs p q = λ k d h. both (get_or qs k d) (p k d h) (q k d h)
+
+module _ (seats per_seat : ℕ) (words : List ℕ) (views : List Knowledge) (ruled : IsRuled seats per_seat words views) (id : ℕ) (v : Knowledge) (at : get_elem? views id ≡ some v) where
+  pub others_apart : (j : ℕ) (u : Knowledge) → j ≢ id → get_elem? views j ≡ some u → All (λ (q : Part). parts_of q.number v.parts ≡ 0) u.parts
+  others_apart j u ne other = all_apart u.parts v.parts (λ n. let two = two_at (λ (u : Knowledge). parts_of n u.parts) views id j v u ne at other in let one = ruled.one_each n in omega arith)
+
+  -- the rule after a step
+  pub keep : (words' : List ℕ) (chain' : List Entry) (w : Knowledge)
+      → length words' ≡ length words → slice_index words' 0 ≡ head_word seats chain' → IsLinked seats words' chain' → Fits seats per_seat chain'
+      → ((number : ℕ) → parts_of number w.parts ≡ parts_of number v.parts)
+      → All (Knows seats per_seat words' chain') w.parts
+      → ((q : Part) → parts_of q.number v.parts ≡ 0 → Knows seats per_seat words ruled.chain q → Knows seats per_seat words' chain' q)
+      → IsRuled seats per_seat words' (set views id w)
+  keep words' chain' w long head linked fits count mine theirs = record {
+    chain = chain';
+    sized = long ∙ ruled.sized;
+    head = head;
+    linked = linked;
+    fits = fits;
+    one_each = λ n. let s = sum_set (λ (u : Knowledge). parts_of n u.parts) views id v w at in let c = count n in let one = ruled.one_each n in omega arith;
+    known = λ j u here. elim (at_set views id j w u here) [
+      | inl same ↦ subst (λ (x : Knowledge). All (Knows seats per_seat words' chain') x.parts) same.1 mine
+      | inr other ↦ all_both (λ q. parts_of q.number v.parts ≡ 0) (Knows seats per_seat words ruled.chain) (Knows seats per_seat words' chain') theirs u.parts (others_apart j u other.0 other.1) (ruled.known j u other.1)
+    ];
+  }
+
+-- the words of cells, when one word changes
+pub word_same : (words : List ℕ) (i : ℕ) → set words i (slice_index words i) ≡ words
+word_same words i = set-get_or words i 0
+
+pub holds_other : (words : List ℕ) (i x cell parent place : ℕ) → i ≢ parent_word cell → i ≢ place_word cell → Holds words cell parent place → Holds (set words i x) cell parent place
+holds_other words i x cell parent place apart apart' h = record {
+  names = get_or-set_other words i (parent_word cell) x 0 (λ e. apart (sym e)) ∙ h.names;
+  places = get_or-set_other words i (place_word cell) x 0 (λ e. apart' (sym e)) ∙ h.places;
+}
+
+-- the rule after a step by a seat with one part
+module _ (seats per_seat : ℕ) (words : List ℕ) (views : List Knowledge) (ruled : IsRuled seats per_seat words views) (id : ℕ) (p : Part) (at : get_elem? views id ≡ some (only p)) where
+  pub knows : Knows seats per_seat words ruled.chain p
+  knows = All-head (Knows seats per_seat words ruled.chain) p [] (ruled.known id (only p) at)
+
+  same_count : (number : ℕ) (q : Part) → q.number ≡ p.number → parts_of number (q ∷ []) ≡ parts_of number (p ∷ [])
+  same_count number q same = parts_of-cons number q [] ∙ (ap (λ n. cond (n == number) 1 0 + parts_of number []) same ∙ sym (parts_of-cons number p []))
+
+  other_number : (o : Part) → parts_of o.number (p ∷ []) ≡ 0 → o.number ≢ p.number
+  other_number o none same = let one = parts_of-self p [] in let here : parts_of o.number (p ∷ []) ≡ parts_of p.number (p ∷ []) = ap (λ n. parts_of n (p ∷ [])) same in absurd (omega arith)
+
+  pub keep_one : (words' : List ℕ) (chain' : List Entry) (q : Part)
+      → length words' ≡ length words → slice_index words' 0 ≡ head_word seats chain' → IsLinked seats words' chain' → Fits seats per_seat chain'
+      → q.number ≡ p.number
+      → Knows seats per_seat words' chain' q
+      → ((o : Part) → o.number ≢ p.number → Knows seats per_seat words ruled.chain o → Knows seats per_seat words' chain' o)
+      → IsRuled seats per_seat words' (set views id (only q))
+  keep_one words' chain' q long head linked fits same mine theirs =
+      keep seats per_seat words views ruled id (only p) at words' chain' (only q) long head linked fits (λ n. same_count n q same)
+      (All-cons (Knows seats per_seat words' chain') q [] mine (All-nil (Knows seats per_seat words' chain')))
+      (λ o none. theirs o (other_number o none))
+
+  -- no word changes
+  pub keep_words : (i : ℕ) (q : Part) → q.number ≡ p.number → Knows seats per_seat words ruled.chain q → IsRuled seats per_seat (set words i (slice_index words i)) (set views id (only q))
+  keep_words i q same mine =
+      subst (λ ws. IsRuled seats per_seat ws (set views id (only q))) (sym (word_same words i))
+      (keep_one words ruled.chain q refl ruled.head ruled.linked ruled.fits same mine (λ o _ known. known))

@@ -1,0 +1,75 @@
+use Rattle.std.proofs.Common.{arith, ◌≡◌, ◌+◌, ◌∷◌, [], ◌++◌, sym, ap, ◌∙◌, length}
+use Rattle.camp_row.specs.declared.entries.Entry.{Entry}
+use Rattle.camp_row.specs.Chains.{own, cell_of}
+use Rattle.camp_row.specs.Known.{Known}
+use Rattle.camp_row.specs.Inside.Parts.{Part, known_of}
+use Rattle.camp_row.specs.Inside.PassFields.{part, known}
+use Rattle.camp_row.specs.Inside.Rule.{place_word}
+use Rattle.camp_row.specs.Inside.Steps.{Advanced}
+use Rattle.camp_row.proofs.Fronts.{next_is, cut_pushed}
+use Rattle.camp_row.proofs.Cells.{own_of_next, head_word-push}
+use Rattle.camp_row.proofs.Ruling.{allows_one}
+use Rattle.camp_row.proofs.Loading.{advances}
+use Rattle.camp_row.proofs.PassOfRow.{is_of, next_of, at_part, known_at, few_cells}
+use Rattle.camp_row.proofs.rows.Row.advance.Goals as goal
+
+pub place_word-requires : goal.place_word-requires
+place_word-requires c =
+    let of = is_of c.pass.inside c.self.inside c.args.pass.now c.args.self.now c.pass.view_is c.self.view_is c.requires.row in
+    let n = next_of c.pass.inside c.self.inside c.args.pass.now c.args.next c.pass.invariant.sound of c.pass.view_is c.requires.next in
+    let inside = n.in_row in
+    let few = few_cells c.self.inside.seats c.self.inside.per_seat c.self.invariant.seats.1 c.self.invariant.per_seat.1 in
+    omega arith
+
+pub load-requires : goal.load-requires
+load-requires c =
+    let of = is_of c.pass.inside c.self.inside c.args.pass.now c.args.self.now c.pass.view_is c.self.view_is c.requires.row in
+    let n = next_of c.pass.inside c.self.inside c.args.pass.now c.args.next c.pass.invariant.sound of c.pass.view_is c.requires.next in
+    let shared = c.self.inside.table.shared in
+    let seat = c.pass.inside.seat in
+    let word = c.place_word.result in
+    let word_is : word ≡ place_word c.args.next.cell = c.place_word.ensures in
+    let cell_is : word ≡ place_word (cell_of (part c.pass.inside).seats (part c.pass.inside).seen n.shorter.next) =
+    word_is ∙ ap place_word (n.cell ∙ ap (λ (e : Entry). cell_of (part c.pass.inside).seats (part c.pass.inside).seen e) (sym n.entry)) in
+    let inside = n.in_row in
+    let words = c.self.invariant.words in (
+      of.table,
+      omega arith,
+      allows_one shared.key.seats shared.key.per_seat shared.table_id.slots seat.id seat.me word (λ n. n) Advanced (part c.pass.inside) c.pass.invariant.alone
+          (advances shared.key.seats shared.key.per_seat seat.id (part c.pass.inside) word n.shorter cell_is),
+    )
+
+pub invariant_of-pass : goal.invariant_of-pass
+invariant_of-pass c =
+    let of = is_of c.pass.inside c.self.inside c.args.pass.now c.args.self.now c.pass.view_is c.self.view_is c.requires.row in
+    let n = next_of c.pass.inside c.self.inside c.args.pass.now c.args.next c.pass.invariant.sound of c.pass.view_is c.requires.next in
+    let p : Part = part c.pass.inside in
+    let step : Advanced c.load.result c.pass.inside.seat.me.0.parts c.load.new.seat.me.0.parts = c.load.ensures.2.1 in
+    let e : Entry = step.next.next in
+    let e_is : e ≡ c.args.next.entry = next_is p.seen e n.shorter.next step.next.rest n.shorter.rest p.ahead step.next.is n.shorter.is ∙ n.entry in
+    let q : Part = record p { seen = p.seen ++ e ∷ [] } in
+    let was = c.pass.invariant in
+    let own_is : own p.number q.seen ≡ own p.number p.seen = own_of_next p.number p.seen e step.next.rest p.ahead step.next.is was.sound.own_seen in
+    at_part _ q (record {
+      alone = step.is;
+      no_slot = c.load.ensures.2.0 ∙ was.no_slot;
+      number = was.number;
+      turn = was.turn ∙ ap length (sym own_is);
+      last = ap (λ k. k + 1) (n.cell ∙ ap (cell_of p.seats p.seen) (sym e_is)) ∙ sym (head_word-push p.seats p.seen e);
+      head = was.head;
+      number_below = was.number_below;
+      turn_within = was.turn_within;
+      sound = record { front = record { rest = step.next.rest; is = cut_pushed p.seen step.next.rest e ∙ step.next.is }; own_seen = was.sound.own_seen ∙ sym own_is; fits = was.sound.fits };
+    })
+
+pub returns : goal.returns
+returns c =
+    let of = is_of c.pass.inside c.self.inside c.args.pass.now c.args.self.now c.pass.view_is c.self.view_is c.requires.row in
+    let n = next_of c.pass.inside c.self.inside c.args.pass.now c.args.next c.pass.invariant.sound of c.pass.view_is c.requires.next in
+    let p : Part = part c.pass.inside in
+    let step : Advanced c.load.result c.pass.inside.seat.me.0.parts c.load.new.seat.me.0.parts = c.load.ensures.2.1 in
+    let e_is : step.next.next ≡ c.args.next.entry = next_is p.seen step.next.next n.shorter.next step.next.rest n.shorter.rest p.ahead step.next.is n.shorter.is ∙ n.entry in
+    let was : known c.pass.inside ≡ c.args.pass.now = c.pass.view_is in
+    let table : c.load.new.seat.table_id ≡ c.pass.inside.seat.table_id = c.load.ensures.0 in
+    known_at c.load.new.seat.table_id c.load.new.seat.me.0.parts (record p { seen = p.seen ++ step.next.next ∷ [] }) step.is
+    ∙ ((λ k. known_of (table k) (record p { seen = p.seen ++ e_is k ∷ [] })) ∙ ap (λ (x : Known). record x { seen = x.seen ++ c.args.next.entry ∷ [] }) was)

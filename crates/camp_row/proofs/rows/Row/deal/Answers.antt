@@ -1,0 +1,54 @@
+use Rattle.std.proofs.Common.{arith, ◌≡◌, ◌<◌, ◌+◌, ◌*◌, ◌∷◌, [], ◌++◌, refl, sym, ap, subst, ◌∙◌, zero-add}
+use Rattle.std.proofs.lemmas.List.FromFn.{map-range_with_len_more}
+use Rattle.camp_row.specs.Known.{RowId, newcomer}
+use Rattle.camp_row.specs.Inside.Parts.{part_of, known_of, fresh}
+use Rattle.camp_row.proofs.Fronts.{front_nil, no_cut}
+use Rattle.camp_row.proofs.Dealing.{splits, first_left}
+use Rattle.camp_row.proofs.PassOfRow.{at_part}
+use Rattle.camp_row.proofs.rows.Row.deal.Goals as goal
+
+pub split_seat-seat-requires : goal.split_seat-seat-requires
+split_seat-seat-requires c =
+    let shared = c.self.inside.table.shared in
+    let words : shared.table_id.words ≡ 1 + 2 * (c.self.inside.per_seat * c.self.inside.seats) = c.self.invariant.words in
+    let some_words : 0 < shared.table_id.words = omega arith in (
+      c.loop-number.invariant.table ∙ ap (λ (r : RowId). r.table) (sym c.self.view_is),
+      some_words,
+      splits shared.key.seats shared.key.per_seat c.loop-number.all.id c.loop-number.all.me.0,
+    )
+
+pub invariant_of-push : goal.invariant_of-push
+invariant_of-push c =
+    let seats = c.args.self.now.seats in
+    let per_seat = c.args.self.now.per_seat in
+    let n = c.loop-number.number in
+    let row_seats : c.self.inside.seats ≡ seats = ap (λ (r : RowId). r.seats) c.self.view_is in
+    let below : n < seats = subst (λ s. n < s) row_seats c.loop-number-test.true in
+    let first = (first_left seats per_seat n c.loop-number.all.me.0.parts below c.loop-number.invariant.parts).0 in
+    let me = c.split_seat-seat.ensures.4 in
+    at_part _ (fresh seats per_seat n) (record {
+      alone = ap (λ m. m.0.parts) me ∙ first;
+      no_slot = ap (λ m. m.1) me;
+      number = refl;
+      turn = refl;
+      last = refl;
+      head = refl;
+      number_below = below;
+      turn_within = omega arith;
+      sound = record { front = front_nil []; own_seen = refl; fits = λ before e after cut. absurd (no_cut before e after cut) };
+    })
+
+pub loop-number-preserved : goal.loop-number-preserved
+loop-number-preserved c =
+    let row = c.args.self.now in
+    let n = c.loop-number.number in
+    let row_seats : c.self.inside.seats ≡ row.seats = ap (λ (r : RowId). r.seats) c.self.view_is in
+    let below : n < row.seats = subst (λ s. n < s) row_seats c.loop-number-test.true in
+    let left = first_left row.seats row.per_seat n c.loop-number.all.me.0.parts below c.loop-number.invariant.parts in
+    let split = c.split_seat-seat.ensures in
+    let pass_is : known_of c.split_seat-seat.result.table_id (part_of c.split_seat-seat.result.me.0.parts) ≡ newcomer row n =
+    (λ k. known_of ((split.3 ∙ c.loop-number.invariant.table) k) (part_of ((ap (λ m. m.0.parts) split.4 ∙ left.0) k))) in record {
+      table = split.0 ∙ c.loop-number.invariant.table;
+      parts = ap (λ m. m.0.parts) split.2 ∙ left.1;
+      dealt = c.in_ok-push.ensures.items ∙ ((λ k. c.loop-number.invariant.dealt k ++ pass_is k ∷ []) ∙ sym (map-range_with_len_more (newcomer row) 0 n n (zero-add n)));
+    }

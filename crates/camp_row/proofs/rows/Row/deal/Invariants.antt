@@ -1,0 +1,12 @@
+use Rattle.std.proofs.Common.{◌≡◌, ◌-◌, map}
+use Rattle.std.specs.List.{range_with_len}
+use Rattle.camp_row.specs.Known.{newcomer}
+use Rattle.camp_row.specs.Inside.Parts.{fresh}
+use Rattle.camp_row.proofs.rows.Row.deal.Given as goal
+
+abbrev pub invariant-loop-number : goal.invariant-loop-number
+invariant-loop-number l = record {
+  table : l.all.table_id ≡ l.self.table;
+  parts : l.all.me.0.parts ≡ map (fresh l.self.seats l.self.per_seat) (range_with_len l.number (l.self.seats - l.number));
+  dealt : l.passes.items ≡ map (newcomer l.self) (range_with_len 0 l.number);
+}

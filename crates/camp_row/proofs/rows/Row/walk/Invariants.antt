@@ -1,0 +1,14 @@
+use Rattle.std.proofs.Common.{◌≡◌, ◌-◌, length}
+use Rattle.camp_row.specs.Inside.PassFields.{part, known, IsPass}
+use Rattle.camp_row.proofs.TrailSteps.{Climbs}
+use Rattle.camp_row.proofs.rows.Row.walk.Given as goal
+
+abbrev pub invariant-loop-word : goal.invariant-loop-word
+invariant-loop-word l = record {
+  pass : IsPass l.pass-inside (part l.pass-inside);
+  same : known l.pass-inside ≡ l.fn.pass;
+  climbs : Climbs (part l.pass-inside) l.word l.cells.items;
+}
+
+abbrev pub decreases-loop-word : goal.decreases-loop-word
+decreases-loop-word l = length (part l.pass-inside).ahead - length l.cells.items

@@ -1,0 +1,39 @@
+-- The chain of cells as a list of entries, oldest first, and the words of the row that stand for it.
+use Rattle.std.specs.Prelude.{◌≡◌, ℕ, ◌+◌, ◌*◌, ◌<◌, ◌==◌, List, [], ◌∷◌, ◌++◌, length, filter}
+use Rattle.camp_row.specs.declared.entries.Entry.{Entry}
+
+-- one list begins another
+pub record IsFront {A : Type 0} (front whole : List A) : Type 0 where
+  pub rest : List A
+  pub is : front ++ rest ≡ whole
+
+-- one list begins another, which goes on
+pub record IsShorter {A : Type 0} (front whole : List A) : Type 0 where
+  pub next : A
+  pub rest : List A
+  pub is : front ++ next ∷ rest ≡ whole
+
+-- the entries that a seat has in a chain
+abbrev pub own : ℕ → List Entry → List Entry
+own seat chain = filter (λ entry. entry.seat == seat) chain
+
+-- how many they are
+abbrev pub turns : ℕ → List Entry → ℕ
+turns seat chain = length (own seat chain)
+
+-- the cell of an entry: the n-th entry of seat s, n from 0, has cell n * seats + s
+abbrev pub cell_of : ℕ → List Entry → Entry → ℕ
+cell_of seats before entry = turns entry.seat before * seats + entry.seat
+
+-- the word that names the last cell: 0 where there is none, else its number and 1
+abbrev pub head_after : ℕ → List Entry → ℕ → List Entry → ℕ
+head_after seats before word [] = word
+head_after seats before word (entry ∷ later) = head_after seats (before ++ entry ∷ []) (cell_of seats before entry + 1) later
+
+abbrev pub head_word : ℕ → List Entry → ℕ
+head_word seats chain = head_after seats [] 0 chain
+
+-- each entry is of a seat of the row, which has cells enough
+abbrev pub Fits : ℕ → ℕ → List Entry → Type 0
+Fits seats per_seat chain = (before : List Entry) (entry : Entry) (after : List Entry) → before ++ entry ∷ after ≡ chain
+    → (entry.seat < seats) × (turns entry.seat before < per_seat)

@@ -1,0 +1,5 @@
+pub mod Parts
+pub mod PassFields
+pub mod RowFields
+pub mod Rule
+pub mod Steps

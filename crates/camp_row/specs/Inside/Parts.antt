@@ -1,0 +1,66 @@
+-- What one seat knows, as the rule of the table sees it: a view is a list of such parts.
+use Rattle.std.specs.Prelude.{◌≡◌, ℕ, List, [], slice_index_or, refl, map, count_by, ◌==◌}
+use Rattle.std.specs.List.{range_with_len}
+use Rattle.std.specs.Coded.{Coded, code_by, coded×, coded_ℕ, coded_list}
+use Rattle.atomic_table.specs.Seated.{TableId}
+use Rattle.camp_row.specs.declared.entries.Entry.{Entry}
+use Rattle.camp_row.specs.Chains.{IsFront, own, Fits}
+use Rattle.camp_row.specs.Known.{Known}
+
+-- the sizes of the row, the seat's number, what it has seen, the chain that it last found, and the two words of its next cell
+pub record Part : Type 0 where
+  pub seats : ℕ
+  pub per_seat : ℕ
+  pub number : ℕ
+  pub seen : List Entry
+  pub ahead : List Entry
+  pub parent : ℕ
+  pub place : ℕ
+
+abbrev pub entry_code : Coded Entry
+entry_code = code_by (ℕ × ℕ) (coded× coded_ℕ coded_ℕ) (λ (e : Entry). (e.seat, e.place)) (λ p. record { seat = p.0; place = p.1 }) (λ _. refl)
+
+abbrev pub part_code : Coded Part
+part_code =
+    code_by (ℕ × (ℕ × (ℕ × (List Entry × (List Entry × (ℕ × ℕ))))))
+    (coded× coded_ℕ (coded× coded_ℕ (coded× coded_ℕ (coded× (coded_list entry_code) (coded× (coded_list entry_code) (coded× coded_ℕ coded_ℕ))))))
+    (λ (p : Part). (p.seats, (p.per_seat, (p.number, (p.seen, (p.ahead, (p.parent, p.place)))))))
+    (λ t. record { seats = t.0; per_seat = t.1.0; number = t.1.1.0; seen = t.1.1.1.0; ahead = t.1.1.1.1.0; parent = t.1.1.1.1.1.0; place = t.1.1.1.1.1.1 })
+    (λ _. refl)
+
+-- a seat that has seen nothing
+abbrev pub fresh : ℕ → ℕ → ℕ → Part
+fresh seats per_seat number = record { seats = seats; per_seat = per_seat; number = number; seen = []; ahead = []; parent = 0; place = 0 }
+
+-- all seats, before one is dealt out
+abbrev pub all_fresh : ℕ → ℕ → List Part
+all_fresh seats per_seat = map (fresh seats per_seat) (range_with_len 0 seats)
+
+-- the only part of a view
+abbrev pub part_of : List Part → Part
+part_of parts = slice_index_or parts 0 (fresh 0 0 0)
+
+-- how many parts of a list are of a seat
+abbrev pub parts_of : ℕ → List Part → ℕ
+parts_of number parts = count_by (λ (part : Part). part.number == number) parts
+
+-- a part as a pass to that table
+abbrev pub known_of : TableId → Part → Known
+known_of table part = record {
+  row = record { table = table; seats = part.seats; per_seat = part.per_seat };
+  number = part.number;
+  seen = part.seen;
+  ahead = part.ahead;
+  parent = part.parent;
+  place = part.place;
+}
+
+-- the part when the chain was found
+abbrev pub finds : List Entry → Part → Part
+finds chain part = record part { ahead = chain }
+
+-- what was seen begins the chain that was found, which has no other entry of this seat and fits the row
+pub record IsSoundPart (part : Part) : Type 0 where
+  pub front : IsFront part.seen part.ahead
+  pub own_seen : own part.number part.ahead ≡ own part.number part.seen
+  pub fits : Fits part.seats part.per_seat part.ahead

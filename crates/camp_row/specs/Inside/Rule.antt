@@ -1,0 +1,44 @@
+-- The rule of the row: whatever step comes next, this holds of its words and of what all seats know.
+use Rattle.std.specs.Prelude.{◌≡◌, ℕ, ◌+◌, ◌*◌, ◌<◌, ◌≤◌, List, ◌∷◌, ◌++◌, length, slice_index, sum_by, All}
+use mathlib.Core.Option.{some}
+use lib.ListN.{get_elem?}
+use Rattle.camp_row.specs.declared.entries.Entry.{Entry}
+use Rattle.camp_row.specs.declared.knowledge.Knowledge.{Knowledge}
+use Rattle.camp_row.specs.Chains.{IsFront, own, turns, cell_of, head_word, Fits}
+use Rattle.camp_row.specs.Inside.Parts.{Part, parts_of}
+
+-- word 0 is the head; of a cell the first word names the cell before, and the second is the place
+abbrev pub parent_word : ℕ → ℕ
+parent_word cell = 1 + 2 * cell
+
+abbrev pub place_word : ℕ → ℕ
+place_word cell = 2 + 2 * cell
+
+-- the two words of a cell
+pub record Holds (words : List ℕ) (cell parent place : ℕ) : Type 0 where
+  pub names : slice_index words (parent_word cell) ≡ parent
+  pub places : slice_index words (place_word cell) ≡ place
+
+-- each cell of the chain names the one before, and has its entry's place
+abbrev pub IsLinked : ℕ → List ℕ → List Entry → Type 0
+IsLinked seats words chain = (before : List Entry) (entry : Entry) (after : List Entry) → before ++ entry ∷ after ≡ chain
+    → Holds words (cell_of seats before entry) (head_word seats before) entry.place
+
+-- what the rule says of one seat: it has seen its own entries, its next cell holds its draft, and its later ones are empty
+pub record Knows (seats per_seat : ℕ) (words : List ℕ) (chain : List Entry) (part : Part) : Type 0 where
+  pub sizes : (part.seats ≡ seats) × (part.per_seat ≡ per_seat) × (part.number < seats)
+  pub seen : IsFront part.seen chain
+  pub ahead : IsFront part.ahead chain
+  pub own_seen : own part.number chain ≡ own part.number part.seen
+  pub draft : turns part.number part.seen < per_seat → Holds words (turns part.number part.seen * seats + part.number) part.parent part.place
+  pub empty : (turn : ℕ) → turns part.number part.seen < turn → turn < per_seat → Holds words (turn * seats + part.number) 0 0
+
+-- there is a chain that the head and the cells' words name, and each seat's only part knows of it
+pub record IsRuled (seats per_seat : ℕ) (words : List ℕ) (views : List Knowledge) : Type 0 where
+  pub chain : List Entry
+  pub sized : length words ≡ 1 + 2 * (per_seat * seats)
+  pub head : slice_index words 0 ≡ head_word seats chain
+  pub linked : IsLinked seats words chain
+  pub fits : Fits seats per_seat chain
+  pub one_each : (number : ℕ) → sum_by (λ (view : Knowledge). parts_of number view.parts) views ≤ 1
+  pub known : (seat : ℕ) (view : Knowledge) → get_elem? views seat ≡ some view → All (Knows seats per_seat words chain) view.parts

@@ -1,0 +1,82 @@
+-- The six kinds of atomic step: what each tells the seats that take it.
+use Rattle.std.specs.Prelude.{◌≡◌, ℕ, ◌==◌, List, [], ◌∷◌, ◌++◌, map, take, drop, All, MatchBool, ◌≤◌}
+use Rattle.camp_row.specs.declared.entries.Entry.{Entry}
+use Rattle.camp_row.specs.declared.knowledge.Knowledge.{Knowledge}
+use Rattle.camp_row.specs.Chains.{IsFront, IsShorter, cell_of, head_word}
+use Rattle.camp_row.specs.Inside.Parts.{Part, part_of, parts_of, finds, IsSoundPart}
+use Rattle.camp_row.specs.Inside.Rule.{parent_word, place_word}
+
+-- the chain was found: its last cell is the one that the head names, it has only grown, and a part stays sound
+pub record Sees (found : ℕ) (chain : List Entry) (part : Part) : Type 0 where
+  pub named : found ≡ head_word part.seats chain
+  pub grows : IsFront part.ahead chain
+  pub sound : IsSoundPart (finds chain part)
+
+-- a load of the head: what is ahead of each part becomes the chain. No two parts are of one seat
+pub record Looked (found : ℕ) (old new : List Part) : Type 0 where
+  pub chain : List Entry
+  pub one_each : (number : ℕ) → parts_of number old ≤ 1
+  pub each : All (Sees found chain) old
+  pub is : new ≡ map (finds chain) old
+
+-- the word of a cell that is ahead is what the chain says
+abbrev pub Reads : ℕ → ℕ → Part → Type 0
+Reads word found part = (before : List Entry) (entry : Entry) (after : List Entry) → before ++ entry ∷ after ≡ part.ahead
+    → (word ≡ parent_word (cell_of part.seats before entry) → found ≡ head_word part.seats before)
+    × (word ≡ place_word (cell_of part.seats before entry) → found ≡ entry.place)
+
+-- a load of a parent or place word: nothing changes
+abbrev pub Walked : ℕ → ℕ → List Part → List Part → Type 0
+Walked word found old new = (new ≡ old) × Reads word found (part_of old)
+
+-- a load of the place word of the cell after the last that was seen: one more entry is seen
+pub record Advanced (found : ℕ) (old new : List Part) : Type 0 where
+  pub next : IsShorter (part_of old).seen (part_of old).ahead
+  pub place : found ≡ next.next.place
+  pub is : new ≡ (record (part_of old) { seen = (part_of old).seen ++ next.next ∷ [] }) ∷ []
+
+-- a store to the parent word of the seat's next cell, which is not in the chain
+abbrev pub StoredParent : ℕ → List Part → List Part → Type 0
+StoredParent stored old new = new ≡ (record (part_of old) { parent = stored }) ∷ []
+
+-- a store to its place word
+abbrev pub StoredPlace : ℕ → List Part → List Part → Type 0
+StoredPlace stored old new = new ≡ (record (part_of old) { place = stored }) ∷ []
+
+-- the seat's entry with the drafted place
+abbrev pub drafted_part : Part → Entry
+drafted_part part = record { seat = part.number; place = part.place }
+
+-- the part when the drafted cell has become the last of the chain
+abbrev pub won_part : Part → Part
+won_part part = record part { seen = part.seen ++ drafted_part part ∷ []; ahead = part.seen ++ drafted_part part ∷ []; parent = 0; place = 0 }
+
+-- the chain was just what the part had seen
+pub record WonPart (part : Part) (new : List Part) : Type 0 where
+  pub whole : part.ahead ≡ part.seen
+  pub is : new ≡ won_part part ∷ []
+
+-- the chain was longer than what the part had seen, and was found
+pub record LostPart (found : ℕ) (part : Part) (new : List Part) : Type 0 where
+  pub chain : List Entry
+  pub longer : IsShorter part.seen chain
+  pub sees : Sees found chain part
+  pub is : new ≡ finds chain part ∷ []
+
+-- a compare_exchange of the head, from the last cell that was seen to the seat's next cell
+abbrev pub Tried : ℕ → ℕ → List Part → List Part → Type 0
+Tried expected found old new = MatchBool (found == expected) (WonPart (part_of old) new) (LostPart found (part_of old) new)
+
+-- a split: the first part goes to a new seat, the others stay
+abbrev pub first_apart : Knowledge → Knowledge
+first_apart view = record { parts = take 1 view.parts }
+
+abbrev pub without_first : Knowledge → Knowledge
+without_first view = record { parts = drop 1 view.parts }
+
+-- a join: the parts of both, those of the joined seat first; that one is spent
+abbrev pub joined : Knowledge → Knowledge → Knowledge
+joined view other = record { parts = other.parts ++ view.parts }
+
+abbrev pub spent : Knowledge
+spent = record { parts = [] }

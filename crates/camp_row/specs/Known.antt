@@ -1,0 +1,81 @@
+-- What contracts see of a row, of a pass to it, and of a walk back along its chain.
+use Rattle.std.specs.Prelude.{◌≡◌, ◌≢◌, ◌⊎◌, ℕ, ◌<◌, List, [], ◌∷◌, ◌++◌}
+use Rattle.atomic_table.specs.Seated.{TableId}
+use Rattle.camp_row.specs.declared.entries.Entry.{Entry}
+use Rattle.camp_row.specs.declared.trails.Next.{Next}
+use Rattle.camp_row.specs.Chains.{IsFront, IsShorter, own, cell_of, head_word}
+
+-- which row it is, how many seats it has, and how many cells each of them has
+pub record RowId : Type 0 where
+  pub table : TableId
+  pub seats : ℕ
+  pub per_seat : ℕ
+
+-- what a pass knows: its row and its seat's number, the entries that it has seen, the chain that it last found, and the two words of its seat's next cell
+pub record Known : Type 0 where
+  pub row : RowId
+  pub number : ℕ
+  pub seen : List Entry
+  pub ahead : List Entry
+  pub parent : ℕ
+  pub place : ℕ
+
+-- a pass that has seen nothing
+abbrev pub newcomer : RowId → ℕ → Known
+newcomer row number = record { row = row; number = number; seen = []; ahead = []; parent = 0; place = 0 }
+
+-- what was seen begins the chain that was found, in which the seat has no entry that its pass has not seen
+pub record IsSound (known : Known) : Type 0 where
+  pub front : IsFront known.seen known.ahead
+  pub own_seen : own known.number known.ahead ≡ own known.number known.seen
+
+-- the chain was found as it is now: it has only grown, and the seat has no new entry in it
+pub record Finds (old new : Known) : Type 0 where
+  pub is : new ≡ record old { ahead = new.ahead }
+  pub grows : IsFront old.ahead new.ahead
+  pub sound : IsSound new
+
+-- the cells from `before` on, newest first
+abbrev pub cells_back : ℕ → List Entry → List Entry → List ℕ
+cells_back seats before [] = []
+cells_back seats before (entry ∷ later) = cells_back seats (before ++ entry ∷ []) later ++ cell_of seats before entry ∷ []
+
+-- the trail leads from what was seen to the end of the chain that was found: it has the cells between, the oldest on top
+pub record Leads (known : Known) (seen : List Entry) (trail : List ℕ) : Type 0 where
+  pub left : List Entry
+  pub is : seen ++ left ≡ known.ahead
+  pub cells : trail ≡ cells_back known.row.seats seen left
+
+-- the entry comes next in the chain that was found; another seat of the row made it
+pub record ComesNext (known : Known) (next : Next) : Type 0 where
+  pub later : List Entry
+  pub is : known.seen ++ next.entry ∷ later ≡ known.ahead
+  pub cell : next.cell ≡ cell_of known.row.seats known.seen next.entry
+  pub other : next.entry.seat ≢ known.number
+  pub seat_below : next.entry.seat < known.row.seats
+
+-- the draft names the last cell that was seen as the one before
+abbrev pub IsDrafted : Known → Type 0
+IsDrafted known = known.parent ≡ head_word known.row.seats known.seen
+
+-- the next cell is drafted, with this place
+abbrev pub with_draft : Known → ℕ → Known
+with_draft known place = record known { parent = head_word known.row.seats known.seen; place = place }
+
+-- the seat's entry with the drafted place
+abbrev pub drafted : Known → Entry
+drafted known = record { seat = known.number; place = known.place }
+
+-- the chain was just what was seen; the drafted cell is its last now, and was seen
+pub record Won (old new : Known) : Type 0 where
+  pub whole : old.ahead ≡ old.seen
+  pub is : new ≡ record old { seen = old.seen ++ drafted old ∷ []; ahead = old.seen ++ drafted old ∷ []; parent = 0; place = 0 }
+
+-- the chain was longer than what was seen, and was found
+pub record Lost (old new : Known) : Type 0 where
+  pub finds : Finds old new
+  pub longer : IsShorter old.seen new.ahead
+
+-- of two passes, what one has seen begins what the other has seen
+abbrev pub OneBegins : Known → Known → Type 0
+OneBegins a b = (IsFront a.seen b.seen) ⊎ (IsFront b.seen a.seen)

@@ -1,0 +1,53 @@
+ghost use Rattle.std.specs.Prelude.{◌≡◌, ◌≤◌, ◌<◌};
+
+use crate::knowledge::Knowledge;
+use atomic_table::Seat;
+use std::marker::Model;
+
+/// The right to publish the cells of one seat, and what its holder has seen. It can go to another
+/// thread. Contracts see it as `Known`.
+#[derive(Drop)]
+pub struct Pass {
+    pub(crate) seat: Seat<(), Knowledge>,
+    pub(crate) number: u32,
+    /// How many entries the seat has.
+    pub(crate) turn: u32,
+    /// The word that names the last cell that was seen.
+    pub(crate) last: u64,
+    /// The word that names the last cell that was found.
+    pub(crate) head: u64,
+}
+
+impl Model for Pass {
+    ghost use Rattle.camp_row.specs.Known.{Known};
+
+    ghost Value = { Known };
+
+    ghost use Rattle.camp_row.specs.Inside.PassFields.{part, known, IsPass};
+
+    ghost view = { known };
+
+    ghost invariant = { λ pass. IsPass pass (part pass) };
+}
+
+impl Pass {
+    ghost use Rattle.camp_row.specs.Chains.{turns};
+    ghost use Rattle.camp_row.specs.Known.{IsSound};
+
+    /// The number of its seat.
+    pub fn number(&self) -> u32
+        ensures number { result ≡ self.now.number }
+        ensures below { result < self.now.row.seats }
+        ensures sound { IsSound self.now }
+    {
+        self.number
+    }
+
+    /// How many entries its seat has.
+    pub fn turns(&self) -> u32
+        ensures turns { result ≡ turns self.now.number self.now.seen }
+        ensures within { result ≤ self.now.row.per_seat }
+    {
+        self.turn
+    }
+}

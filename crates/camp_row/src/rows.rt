@@ -1,0 +1,246 @@
+ghost use Rattle.std.specs.Prelude.{◌≡◌, ◌≢◌, ◌+◌, ◌*◌, ◌<◌, ◌≤◌, [], ◌∷◌, ◌++◌, length, map, IfOk, MatchOption, MatchBool};
+ghost use Rattle.std.specs.List.{range_with_len};
+ghost use Rattle.camp_row.specs.Inside.Rule.{parent_word, place_word};
+
+use crate::entries::Entry;
+use crate::knowledge::{Knowledge, Sizes};
+use crate::passes::Pass;
+use crate::steps::{Advance, Cut, DraftParent, DraftPlace, Glue, Law, Look, Publish, Walk};
+use crate::trails::{Next, Trail};
+use atomic_table::{Seat, Table};
+use std::alloc::{AllocError, Global};
+use std::marker::Model;
+
+/// The words. Contracts see it as `RowId`.
+#[derive(Drop)]
+pub struct Row {
+    table: Table<(), Knowledge, Sizes, Law, Global>,
+    seats: u32,
+    per_seat: u32,
+}
+
+impl Model for Row {
+    ghost use Rattle.camp_row.specs.Known.{RowId};
+
+    ghost Value = { RowId };
+
+    ghost use Rattle.camp_row.specs.Inside.RowFields.{id_of, IsRow};
+
+    ghost view = { id_of };
+
+    ghost invariant = { IsRow };
+}
+
+// There are no more cells than 64 * 65,536.
+fn parent_word(cell: usize) -> usize
+    requires { cell < 4194304 }
+    ensures { result ≡ parent_word cell }
+{
+    1 + 2 * cell
+}
+
+fn place_word(cell: usize) -> usize
+    requires { cell < 4194304 }
+    ensures { result ≡ place_word cell }
+{
+    2 + 2 * cell
+}
+
+impl Row {
+    ghost use Rattle.camp_row.specs.Chains.{turns};
+    ghost use Rattle.camp_row.specs.Inside.Parts.{all_fresh};
+    ghost use Rattle.camp_row.specs.Known.{newcomer, Finds, Leads, ComesNext, IsDrafted, with_draft, Won, Lost, OneBegins};
+
+    /// A row with nothing published, and a pass for each of its seats, in their order.
+    pub fn new(alloc: Global, seats: u32, per_seat: u32) -> Result<(Row, Vec<Pass>), AllocError>
+        requires seats { (0 < seats) × (seats ≤ 64) }
+        requires per_seat { (0 < per_seat) × (per_seat ≤ 65536) }
+        ensures row { IfOk result (λ made. (made.0.seats ≡ seats) × (made.0.per_seat ≡ per_seat)) }
+        ensures passes { IfOk result (λ made. made.1.items ≡ map (newcomer made.0) (range_with_len 0 seats)) }
+    {
+        let words = vec![in alloc; 0u64; 1 + 2 * (per_seat as usize * seats as usize)]?;
+        let (table, all) = Table::of_words(alloc, words.as_slice(), &Sizes { seats, per_seat })?;
+        let row = Row {
+            table,
+            seats,
+            per_seat,
+        };
+        let passes = row.deal(alloc, all)?;
+        Ok((row, passes))
+    }
+
+    // Splits the seat that has all parts.
+    fn deal(&self, alloc: Global, mut all: Seat<(), Knowledge>) -> Result<Vec<Pass>, AllocError>
+        requires table { all.table_id ≡ self.now.table }
+        requires parts { all.me.0.parts ≡ all_fresh self.now.seats self.now.per_seat }
+        ensures { IfOk result (λ passes. passes.items ≡ map (newcomer self.now) (range_with_len 0 self.now.seats)) }
+    {
+        let mut passes = Vec::with_capacity(alloc, self.seats as usize)?;
+        for number in 0..self.seats {
+            let seat = self.table.shared.split_seat::<Cut>(&mut all);
+            passes.push(Pass {
+                seat,
+                number,
+                turn: 0,
+                last: 0,
+                head: 0,
+            })?;
+        }
+        Ok(passes)
+    }
+
+    /// The number of seats, 1 to 64.
+    pub fn seats(&self) -> u32
+        ensures seats { result ≡ self.now.seats }
+        ensures range { (0 < result) × (result ≤ 64) }
+    {
+        self.seats
+    }
+
+    /// How many cells each seat has, 1 to 65,536.
+    pub fn per_seat(&self) -> u32
+        ensures per_seat { result ≡ self.now.per_seat }
+        ensures range { (0 < result) × (result ≤ 65536) }
+    {
+        self.per_seat
+    }
+
+    /// Finds the chain as it is now.
+    pub fn look(&self, pass: &mut Pass)
+        requires { pass.old.row ≡ self.now }
+        ensures { Finds pass.old pass.new }
+    {
+        pass.head = self.table.shared.load::<Look>(&mut pass.seat, 0);
+    }
+
+    /// Goes back along the chain that was found, to what the pass has seen.
+    pub fn walk(&self, alloc: Global, pass: &mut Pass) -> Result<Trail, AllocError>
+        requires { pass.old.row ≡ self.now }
+        ensures same { pass.new ≡ pass.old }
+        ensures leads { IfOk result (λ trail. Leads pass.old pass.old.seen trail) }
+    {
+        let mut cells = Vec::new(alloc);
+        let mut word = pass.head;
+        while word != pass.last {
+            let cell = word as usize - 1;
+            cells.push(cell)?;
+            word = self
+                .table
+                .shared
+                .load::<Walk>(&mut pass.seat, parent_word(cell));
+        }
+        Ok(Trail { cells })
+    }
+
+    /// Takes the entry that comes next off the trail. The pass has not seen it yet.
+    pub fn next(&self, pass: &mut Pass, trail: &mut Trail) -> Option<Next>
+        requires row { pass.old.row ≡ self.now }
+        requires leads { Leads pass.old pass.old.seen trail.old }
+        ensures same { pass.new ≡ pass.old }
+        ensures next { MatchOption result (pass.old.seen ≡ pass.old.ahead) (λ next. ComesNext pass.old next) }
+        ensures leads { MatchOption result (trail.new ≡ trail.old) (λ next. Leads pass.old (pass.old.seen ++ next.entry ∷ []) trail.new) }
+        ensures shorter { MatchOption result (trail.new ≡ trail.old) (λ next. length trail.old ≡ length trail.new + 1) }
+    {
+        let cell = trail.cells.pop()?;
+        let place = self
+            .table
+            .shared
+            .load::<Walk>(&mut pass.seat, place_word(cell)) as usize;
+        let seat = (cell % self.seats as usize) as u32;
+        Some(Next {
+            entry: Entry { seat, place },
+            cell,
+        })
+    }
+
+    /// Sees one entry more.
+    pub fn advance(&self, pass: &mut Pass, next: Next)
+        requires row { pass.old.row ≡ self.now }
+        requires next { ComesNext pass.old next }
+        ensures { pass.new ≡ record pass.old { seen = pass.old.seen ++ next.entry ∷ [] } }
+    {
+        self.table
+            .shared
+            .load::<Advance>(&mut pass.seat, place_word(next.cell));
+        pass.last = next.cell as u64 + 1;
+    }
+
+    // The seat's next cell.
+    fn own_cell(&self, pass: &Pass) -> usize
+        requires row { pass.now.row ≡ self.now }
+        requires room { turns pass.now.number pass.now.seen < self.now.per_seat }
+        ensures cell { result ≡ turns pass.now.number pass.now.seen * self.now.seats + pass.now.number }
+        ensures in_row { result < self.now.per_seat * self.now.seats }
+        ensures few { result < 4194304 }
+    {
+        pass.turn as usize * self.seats as usize + pass.number as usize
+    }
+
+    /// Writes the seat's next cell: the last cell that was seen as the one before it, and its place.
+    pub fn draft(&self, pass: &mut Pass, place: usize)
+        requires row { pass.old.row ≡ self.now }
+        requires room { turns pass.old.number pass.old.seen < self.now.per_seat }
+        ensures { pass.new ≡ with_draft pass.old place }
+    {
+        let cell = self.own_cell(pass);
+        let shared = &self.table.shared;
+        shared.store::<DraftParent>(&mut pass.seat, parent_word(cell), pass.last);
+        shared.store::<DraftPlace>(&mut pass.seat, place_word(cell), place as u64);
+    }
+
+    /// Makes the drafted cell the last of the chain, and says whether it did. It does where the
+    /// chain is just what the pass has seen. Else the pass has found the longer chain.
+    pub fn publish(&self, pass: &mut Pass) -> bool
+        requires row { pass.old.row ≡ self.now }
+        requires room { turns pass.old.number pass.old.seen < self.now.per_seat }
+        requires drafted { IsDrafted pass.old }
+        ensures { MatchBool result (Won pass.old pass.new) (Lost pass.old pass.new) }
+    {
+        let own = self.own_cell(pass) as u64 + 1;
+        let found = self
+            .table
+            .shared
+            .compare_exchange::<Publish>(&mut pass.seat, 0, pass.last, own);
+        if found != pass.last {
+            pass.head = found;
+            return false;
+        }
+        pass.turn += 1;
+        pass.last = own;
+        pass.head = own;
+        true
+    }
+
+    /// Both passes find one chain, which begins with what either has seen.
+    pub fn meet(&self, a: &mut Pass, b: Pass) -> Pass
+        requires { (a.old.row ≡ self.now) × (b.row ≡ self.now) }
+        ensures a { Finds a.old a.new }
+        ensures b { Finds b result }
+        ensures one_chain { result.ahead ≡ a.new.ahead }
+        ensures one_begins { OneBegins a.old b }
+        ensures apart { a.old.number ≢ b.number }
+    {
+        let Pass {
+            seat,
+            number,
+            turn,
+            last,
+            head: _,
+        } = b;
+        let shared = &self.table.shared;
+        shared.join_seat::<Glue>(&mut a.seat, seat);
+        let head = shared.load::<Look>(&mut a.seat, 0);
+        a.head = head;
+        let seat = shared.split_seat::<Cut>(&mut a.seat);
+        Pass {
+            seat,
+            number,
+            turn,
+            last,
+            head,
+        }
+    }
+}
+
+#[cfg(test)]
+mod tests;

@@ -1,0 +1,76 @@
+//! The rule of the table, and its six kinds of atomic step. There is no seventh.
+ghost use Rattle.camp_row.specs.Inside.Parts.{all_fresh};
+ghost use Rattle.camp_row.specs.Inside.Rule.{IsRuled};
+ghost use Rattle.std.specs.Prelude.{◌≡◌};
+ghost use Rattle.camp_row.specs.Inside.Steps.{Looked, Walked, Advanced, StoredParent, StoredPlace, Tried, first_apart, without_first, joined, spent};
+
+use crate::knowledge::{Knowledge, Sizes};
+use atomic_table::{Join, Play, Split, TableRule};
+
+pub struct Law;
+
+impl TableRule<(), Knowledge, Sizes> for Law {
+    ghost holds = { λ sizes table. IsRuled sizes.seats sizes.per_seat table.words table.views };
+
+    ghost first = { λ sizes. record { parts = all_fresh sizes.seats sizes.per_seat } };
+}
+
+/// A load of the head.
+pub struct Look;
+
+impl Play<(), Knowledge> for Look {
+    ghost then = { λ step old found new. (new.1 ≡ old.1) × Looked found old.0.parts new.0.parts };
+}
+
+/// A load of a parent or place word, by which nothing more is seen.
+pub struct Walk;
+
+impl Play<(), Knowledge> for Walk {
+    ghost then = { λ step old found new. (new.1 ≡ old.1) × Walked step.word found old.0.parts new.0.parts };
+}
+
+/// A load of a place word, by which one more entry is seen.
+pub struct Advance;
+
+impl Play<(), Knowledge> for Advance {
+    ghost then = { λ step old found new. (new.1 ≡ old.1) × Advanced found old.0.parts new.0.parts };
+}
+
+/// A store to the parent word of the seat's next cell.
+pub struct DraftParent;
+
+impl Play<(), Knowledge> for DraftParent {
+    ghost then = { λ step old stored new. (new.1 ≡ old.1) × StoredParent stored old.0.parts new.0.parts };
+}
+
+/// A store to the place word of the seat's next cell.
+pub struct DraftPlace;
+
+impl Play<(), Knowledge> for DraftPlace {
+    ghost then = { λ step old stored new. (new.1 ≡ old.1) × StoredPlace stored old.0.parts new.0.parts };
+}
+
+/// A compare_exchange of the head.
+pub struct Publish;
+
+impl Play<(), Knowledge> for Publish {
+    ghost then = { λ step old found new. (new.1 ≡ old.1) × Tried step.first found old.0.parts new.0.parts };
+}
+
+/// A split of a seat.
+pub struct Cut;
+
+impl Split<Knowledge> for Cut {
+    ghost left = { without_first };
+
+    ghost right = { first_apart };
+}
+
+/// A join of two seats.
+pub struct Glue;
+
+impl Join<Knowledge> for Glue {
+    ghost both = { joined };
+
+    ghost spent = { spent };
+}

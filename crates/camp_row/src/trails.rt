@@ -1,0 +1,24 @@
+use crate::entries::Entry;
+use std::marker::Model;
+
+/// The cells between what a pass has seen and the chain that it last found. Contracts see it as
+/// their numbers, the oldest last.
+#[derive(Drop)]
+pub struct Trail {
+    pub(crate) cells: Vec<usize>,
+}
+
+impl Model for Trail {
+    ghost use Rattle.std.specs.Prelude.{List, ℕ};
+
+    ghost Value = { List ℕ };
+
+    ghost view = { λ trail. trail.cells.items };
+}
+
+/// The entry that comes next, and its cell.
+#[derive(Clone, Copy)]
+pub struct Next {
+    pub entry: Entry,
+    pub(crate) cell: usize,
+}
