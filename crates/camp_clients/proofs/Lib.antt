@@ -4,5 +4,6 @@ pub mod Fronts
 pub mod Gathering
 pub mod Histories
 pub mod Meeting
+pub mod Opening
 pub mod Positions
 pub mod Vectors

@@ -7,7 +7,6 @@ mod heads;
 mod locks;
 mod one_by_one;
 mod sections;
-mod shares;
 #[cfg(test)]
 mod tests;
 
@@ -17,4 +16,3 @@ pub use heads::{HeadRun, shared};
 pub use locks::locked;
 pub use one_by_one::{BookRun, serial};
 pub use sections::{Answers, ask_all};
-pub use shares::{Gate, SharedHistory};
