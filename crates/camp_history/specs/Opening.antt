@@ -1,8 +1,8 @@
 -- What a new head is.
-use Rattle.std.specs.Prelude.{◌≡◌, ℕ, ◌≤◌, List, [], map, Result, Ok, Err}
+use Rattle.std.specs.Prelude.{◌≡◌, ℕ, ◌≤◌, List, map, All, Result, Ok, Err}
 use Rattle.std.specs.List.{range_with_len}
 use Rattle.camp_row.specs.Known.{newcomer}
-use Rattle.camp_history.specs.Seats.{HeadId, Seated, unseen}
+use Rattle.camp_history.specs.Seats.{HeadId, Seated, unseen, IsSeatOf}
 use Rattle.camp_history.specs.declared.faults.HeadFault.{HeadFault}
 use Rattle.camp_history.specs.declared.faults.HeadFault.TheVariants.{BadSize, Memory}
 
@@ -23,6 +23,7 @@ pub record IsOpened {Call : Type 0} (seats per_seat tries : ℕ) (head : HeadId)
   pub has_calls : head.row.per_seat ≡ per_seat
   pub has_tries : head.tries ≡ tries
   pub all : made ≡ map (seat_at head) (range_with_len 0 seats)
+  pub are_seats : All (IsSeatOf head) made
 
 -- a fault of the numbers comes exactly where one is out of its range
 abbrev pub Opens : {Made Call : Type 0} → (Made → HeadId) → (Made → List (Seated Call)) → ℕ → ℕ → ℕ → ℕ → Result Made HeadFault → Type 0

@@ -1,5 +1,6 @@
 ghost use Rattle.std.specs.Prelude.{◌≡◌};
 ghost use Rattle.std.proofs.Common.{refl, ◌∙◌};
+ghost use Rattle.camp_object.specs.Asking.{Ask};
 ghost use Rattle.camp_history.specs.Seats.{IsSeatOf, history_of, caller_at};
 
 use crate::gates::Gate;
@@ -40,8 +41,37 @@ impl<'r, 'h, 's, 'g, R: Wait, State: Object, G: Gate> HeadDesk<'r, 'h, 's, 'g, R
         }
     }
 
-    fn ask_here(&mut self, call: &State::Call) -> Result<State::Reply, Fault> {
+    fn ask_kept(&mut self, call: &State::Call) -> Result<State::Reply, Fault>
+        ensures head { self.new.head.now ≡ self.old.head.now }
+        ensures lends { self.new.seat.ghost_name ≡ self.old.seat.ghost_name }
+        ensures caller { caller_at self.new.head.now self.new.seat.now ≡ caller_at self.old.head.now self.old.seat.now }
+        ensures asks { Ask State.object (caller_at self.old.head.now self.old.seat.now) (history_of self.old.seat.now) call.now result (history_of self.new.seat.now) }
+    {
+        self.seat.is_whole();
         let kept = self.head.keep(self.rt, call)?;
         self.head.ask_at(self.seat, kept, self.gate)
     }
+}
+
+impl<'r, 'h, 's, 'g, R: Wait, State: Object, G: Gate> Desk<State>
+    for HeadDesk<'r, 'h, 's, 'g, R, State, G> {
+    ghost caller = { λ desk. caller_at desk.head.now desk.seat.now };
+
+    ghost seen = { λ desk. history_of desk.seat.now };
+
+    ghost keeps = { λ desk later. (later.head.now ≡ desk.head.now) × (later.seat.ghost_name ≡ desk.seat.ghost_name) };
+
+    fn ask(&mut self, call: &State::Call) -> Result<State::Reply, Fault> {
+        let number = self.asked;
+        self.asked = number.saturating_add(1);
+        let seat = self.seat.number();
+        self.gate.before(seat, number);
+        let answer = self.ask_kept(call);
+        self.gate.after(seat, number);
+        answer
+    }
+
+    ghost reflexive = { λ desk. (refl, refl) };
+
+    ghost transitive = { λ one two three earlier later. (later.0 ∙ earlier.0, later.1 ∙ earlier.1) };
 }

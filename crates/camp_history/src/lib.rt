@@ -10,6 +10,8 @@ mod kept;
 mod marks;
 mod meets;
 mod seats;
+#[cfg(test)]
+mod tests;
 mod walks;
 
 pub use desks::HeadDesk;

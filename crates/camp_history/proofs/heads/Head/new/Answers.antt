@@ -1,9 +1,10 @@
-use Rattle.std.proofs.Common.{◌≡◌, [], All, map, refl, sym, ◌∙◌, ap}
+use Rattle.std.proofs.Common.{◌≡◌, [], All, map, refl, ◌∙◌, ap, arith}
 use Rattle.std.specs.List.{range_with_len}
 use Rattle.std.proofs.lemmas.Simd.{map-map}
 use Rattle.std.proofs.lemmas.List.Elements.{All-map, All-same}
 use Rattle.camp_row.specs.Known.{newcomer}
-use Rattle.camp_history.specs.Seats.{unseen}
+use Rattle.camp_history.specs.Seats.{HeadId, unseen, IsSeatOf}
+use Rattle.camp_history.proofs.heads.Head.new.Given.{Over}
 use Rattle.camp_history.proofs.heads.Head.new.Goals as goal
 
 pub seats_of-requires : goal.seats_of-requires
@@ -11,13 +12,23 @@ seats_of-requires g c =
     All-same (λ known. known.seen ≡ []) c.in_ok-row.passes.items (map (newcomer c.in_ok-row.row) (range_with_len 0 c.args.seats)) c.in_ok-row.ensures.passes
     (All-map (λ known. known.seen ≡ []) (newcomer c.in_ok-row.row) (range_with_len 0 c.args.seats) (λ k d lt. refl))
 
+-- the seats are those of their numbers
+numbered : (g : Over) (c : goal.In_ok-calls g) → c.in_ok-all.all.items ≡ map (λ number. unseen (newcomer c.in_ok-row.row number)) (range_with_len 0 c.args.seats)
+numbered g c =
+    c.in_ok-all.ensures ∙ ap (map unseen) c.in_ok-row.ensures.passes ∙ map-map unseen (newcomer c.in_ok-row.row) (range_with_len 0 c.args.seats)
+
 pub returns : goal.returns
-returns g c = (
-  c.is_in_range.ensures.0 c.if-not-is_in_range.false,
-  record {
-    has_seats = c.in_ok-row.ensures.row.0;
-    has_calls = c.in_ok-row.ensures.row.1;
-    has_tries = refl;
-    all = c.in_ok-all.ensures ∙ ap (map unseen) c.in_ok-row.ensures.passes ∙ map-map unseen (newcomer c.in_ok-row.row) (range_with_len 0 c.args.seats);
-  },
-)
+returns g c =
+    let head : HeadId = record { row = c.in_ok-row.row; store = c.in_ok-calls.calls; tries = c.args.tries } in (
+      c.is_in_range.ensures.0 c.if-not-is_in_range.false,
+      record {
+        has_seats = c.in_ok-row.ensures.row.0;
+        has_calls = c.in_ok-row.ensures.row.1;
+        has_tries = refl;
+        all = numbered g c;
+        are_seats =
+            All-same (IsSeatOf head) c.in_ok-all.all.items (map (λ number. unseen (newcomer c.in_ok-row.row number)) (range_with_len 0 c.args.seats)) (numbered g c) (
+            All-map (IsSeatOf head) (λ number. unseen (newcomer c.in_ok-row.row number)) (range_with_len 0 c.args.seats) (λ k d below. record { row = refl; stored = λ i mark none. absurd (omega arith) })
+            );
+      },
+    )
