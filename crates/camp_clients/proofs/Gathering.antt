@@ -1,6 +1,7 @@
 -- Lemmas on lists that go side by side.
 use Rattle.std.proofs.Common.{◌≡◌, ℕ, ◌+◌, ◌<◌, suc, zero, List, [], ◌∷◌, ◌++◌, length, take, get_or, Result, Ok, IfOk, refl, ◌∙◌, ap, subst, add-one, arith}
-use Rattle.std.specs.List.{AllZip}
+use Rattle.std.specs.List.{All, AllZip, remove}
+use Rattle.std.specs.Prelude.{OnOk, is_err, false, Err}
 use Rattle.std.proofs.lemmas.List.{take_more, get_or-map}
 use Rattle.std.specs.Prelude.{Vec, vec_items}
 use Rattle.camp_clients.specs.Gathering.{Gathers}
@@ -55,3 +56,41 @@ module _ {X Z Fault : Type 0} (first : Vec X Z) (made : List (Result (Vec X Z) F
       let is = zip_at (λ one own. one ≡ Ok own) made gathers.others k (Ok first) first in_made gathers.brought in
       let holds = subst (λ r. IfOk r (λ own. P (k + 1) own.items)) is (each k (Ok first) in_made) in
       rw (gathers.begins, get_or-map vec_items gathers.others k first [] in_others, ← add-one k) holds
+
+-- what holds of all elements holds of the first, and of the others
+module _ {X : Type 0} (P : X → Type 0) where
+  pub all_first : (xs : List X) (x : X) (rest : List X) → xs ≡ x ∷ rest → All P xs → P x
+  all_first xs x rest is all = let here : All P (x ∷ rest) = subst (All P) is all in here 0 x (omega arith)
+
+  pub all_rest : (xs : List X) (x : X) (rest : List X) → xs ≡ x ∷ rest → All P xs → All P rest
+  all_rest xs x rest is all k d below = let here : All P (x ∷ rest) = subst (All P) is all in here (suc k) d (omega arith)
+
+-- what an Ok promises
+pub ok_holds : {T E : Type 0} (P : Type 0) (r : Result T E) → OnOk r P → is_err r ≡ false → P
+ok_holds P (Ok x) holds none = holds
+ok_holds P (Err e) holds none = absurd (cc none)
+
+pub ok_map : {T E : Type 0} (P Q : T → Type 0) → ((x : T) → P x → Q x) → (r : Result T E) → IfOk r P → IfOk r Q
+ok_map P Q each (Ok x) holds = each x holds
+ok_map P Q each (Err e) holds = tt
+
+-- what each of the second list has by its neighbour in the first
+module _ {A B : Type 0} (R : A → B → Type 0) (P : B → Type 0) (each : (x : A) (y : B) → R x y → P y) where
+  pub zip_all : (xs : List A) (ys : List B) → AllZip R xs ys → All P ys
+  zip_all [] [] all k d below = absurd (omega arith)
+  zip_all [] (b ∷ ys) all k d below = absurd all
+  zip_all (a ∷ xs) [] all k d below = absurd all
+  zip_all (a ∷ xs) (b ∷ ys) all zero d below = each a b all.0
+  zip_all (a ∷ xs) (b ∷ ys) all (suc k) d below = zip_all xs ys all.1 k d (omega arith)
+
+-- a client for each seat but the first: what holds of seat k + 1 holds of client k
+module _ {Seat Client : Type 0} (seat : Client → Seat) (P : ℕ → Seat → Type 0) where
+  pub behind_first : (seats rest : List Seat) (clients : List Client) → rest ≡ remove seats 0 → AllZip (λ s client. seat client ≡ s) rest clients
+      → ((k : ℕ) (d : Seat) → k < length seats → P k (get_or seats k d))
+      → (k : ℕ) (d : Client) → k < length clients → P (k + 1) (seat (get_or clients k d))
+  behind_first [] rest clients is all each k d below =
+      absurd (omega (arith, ap length is, zip_length (λ s client. seat client ≡ s) rest clients all))
+  behind_first (x ∷ xs) rest clients is all each k d below =
+      let here = subst (λ r. AllZip (λ s client. seat client ≡ s) r clients) is all in
+      let same = zip_length (λ s client. seat client ≡ s) xs clients here in
+      rw (add-one k, zip_at (λ s client. seat client ≡ s) xs clients k (seat d) d (omega (arith, same)) here) (each (suc k) (seat d) (omega (arith, same)))

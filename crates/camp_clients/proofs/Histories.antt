@@ -52,3 +52,19 @@ run-append object state (entry ∷ h) more = run-append object (option_and_then 
 pub last_accepted : {State Call Reply : Type 0} (object : Sequential State Call Reply) (h : List (ℕ × Call)) (entry : ℕ × Call)
     → IsLegal object (h ++ entry ∷ []) → IsAccepted object h entry.1
 last_accepted object h entry legal = subst IsSome (run-append object (Some object.initial) h (entry ∷ [])) legal
+
+pub append_nil_right : {X : Type 0} (xs ys : List X) → xs ++ ys ≡ [] → ys ≡ []
+append_nil_right [] ys e = e
+append_nil_right (x ∷ xs) ys e = absurd (cc e)
+
+pub append_nil_left : {X : Type 0} (xs ys : List X) → xs ++ ys ≡ [] → xs ≡ []
+append_nil_left [] ys e = refl
+append_nil_left (x ∷ xs) ys e = absurd (cc e)
+
+-- what stands between a front and a whole that have the same calls of a seat has the same
+pub own_between : {Call : Type 0} (seat : ℕ) (f h w : List (ℕ × Call)) → IsFront f h → IsFront h w → own seat w ≡ own seat f → own seat h ≡ own seat f
+unfolding front_trans
+own_between seat f h w one two same =
+    let none = own_rest seat f w (front_trans f h w one two) same in
+    let first = append_nil_left (own seat one.rest) (own seat two.rest) (sym (own-append seat one.rest two.rest) ∙ none) in
+    sym (ap (own seat) one.makes) ∙ own-append seat f one.rest ∙ ap (λ xs. own seat f ++ xs) first ∙ append-nil (own seat f)

@@ -3,5 +3,7 @@ pub mod Comparing
 pub mod Fronts
 pub mod Gathering
 pub mod Histories
+pub mod Meeting
+pub mod Opening
 pub mod Positions
 pub mod Vectors

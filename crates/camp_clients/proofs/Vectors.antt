@@ -1,5 +1,5 @@
 -- Lemmas on vectors of vectors as lists of lists.
-use Rattle.std.proofs.Common.{◌≡◌, ℕ, ◌+◌, ◌<◌, List, [], ◌∷◌, ◌++◌, length, take, get_or, sym, ◌∙◌, ap}
+use Rattle.std.proofs.Common.{◌≡◌, ℕ, ◌+◌, ◌<◌, List, [], ◌∷◌, ◌++◌, length, take, get_or, map, refl, sym, ◌∙◌, ap}
 use Rattle.std.proofs.lemmas.List.{take_more, map_push, get_or-map, length-map}
 use Rattle.std.specs.Prelude.{Vec, vec_items}
 use Rattle.camp_clients.specs.Runs.{lists_of, section_of}
@@ -18,3 +18,7 @@ module _ {X Z : Type 0} where
   pub lists_more : (vectors : List (Vec X Z)) (i : ℕ) (v : Vec X Z) → i < length vectors → v ≡ get_or vectors i v
       → lists_of (take (i + 1) vectors) ≡ lists_of (take i vectors) ++ v.items ∷ []
   lists_more vectors i v below at = ap lists_of (take_more vectors i v below ∙ ap (λ x. take i vectors ++ x ∷ []) (sym at)) ∙ lists_push (take i vectors) v
+
+pub lists_map : {A X Z : Type 0} (f : A → Vec X Z) (xs : List A) → lists_of (map f xs) ≡ map (λ x. vec_items (f x)) xs
+lists_map f [] = refl
+lists_map f (x ∷ xs) = ap (λ rest. vec_items (f x) ∷ rest) (lists_map f xs)

@@ -3,12 +3,16 @@
 
 mod comparisons;
 mod faults;
+mod heads;
 mod locks;
 mod one_by_one;
 mod sections;
+#[cfg(test)]
+mod tests;
 
 pub use comparisons::{MAX_SECTIONS, has_exactly};
 pub use faults::LockFault;
+pub use heads::{HeadRun, shared};
 pub use locks::locked;
 pub use one_by_one::{BookRun, serial};
 pub use sections::{Answers, ask_all};

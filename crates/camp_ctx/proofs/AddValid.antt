@@ -8,7 +8,7 @@ use Rattle.camp_prim.specs.declared.named.Named.{Named}
 use Rattle.camp_prim.proofs.Applied.{applies_once}
 use Rattle.camp_prim.proofs.Inverses.{leads_back}
 use Rattle.camp_seq.specs.Equivalence.{◌~◌, through}
-use Rattle.camp_seq.specs.Running.{Runs}
+use Rattle.camp_seq.specs.Running.{AppliesAll}
 use Rattle.camp_seq.proofs.ListEquivalence.{equal_are, before, behind, after_one, swapped, passed, fronted, ordered}
 use Rattle.camp_seq.proofs.ListRuns.{cut_run, equivalent_run}
 use Rattle.camp_ctx.specs.Adding.{Cancels, PassesBy, Keeps, Adds, cancel, commute, keep, FromLast, AddsAll, PassesByAll}
@@ -16,7 +16,7 @@ use Rattle.camp_ctx.specs.Contexts.{InContext, whole, Valid}
 use Rattle.camp_ctx.specs.Laws.{KeepsValid}
 
 -- lists that are equivalent lead from the same trees
-pub run_along : (s t : List Named) → s ~ t → (old new : Files) → Runs s old new → Runs t old new
+pub run_along : (s t : List Named) → s ~ t → (old new : Files) → AppliesAll s old new → AppliesAll t old new
 run_along s t e old new r = (equivalent_run s t e old new).0 r
 
 valid_by_cancel : (a : Named) → KeepsValid (Cancels a) (Applies a.prim)
@@ -25,7 +25,7 @@ valid_by_cancel a x y w old new applies valid =
     through (fronted (label_of (inverse_of a)) x.context (inverse_of a) w.rest w.front) (after_one (inverse_of a) w.rest y.context (ordered w.rest y.context w.context)) in
     let run = run_along (whole x) (inverse_of a ∷ y.context ++ x.patch ∷ []) (before x.context (inverse_of a ∷ y.context) (x.patch ∷ []) back) new valid.0 valid.1 in
     let same : run.0 ≡ old = applies_once (inverse_of a).prim new run.0 old run.1 (leads_back a.prim old new applies) in
-    (valid.0, subst (λ p. Runs (y.context ++ p ∷ []) old valid.0) (sym w.patch) (subst (λ t. Runs (y.context ++ x.patch ∷ []) t valid.0) same run.2))
+    (valid.0, subst (λ p. AppliesAll (y.context ++ p ∷ []) old valid.0) (sym w.patch) (subst (λ t. AppliesAll (y.context ++ x.patch ∷ []) t valid.0) same run.2))
 
 pub valid_by_passing : (a : Named) → KeepsValid (PassesBy a) (Applies a.prim)
 valid_by_passing a x y w old new applies valid =
@@ -42,7 +42,7 @@ valid_by_passing a x y w old new applies valid =
 valid_by_keeping : (a : Named) → KeepsValid (Keeps a) (Applies a.prim)
 valid_by_keeping a x y w old new applies valid =
     let run = run_along (a ∷ whole x) (y.context ++ x.patch ∷ []) (before (a ∷ x.context) y.context (x.patch ∷ []) (ordered (a ∷ x.context) y.context w.context)) old valid.0 (new, applies, valid.1) in
-    (valid.0, subst (λ p. Runs (y.context ++ p ∷ []) old valid.0) (sym w.patch) run)
+    (valid.0, subst (λ p. AppliesAll (y.context ++ p ∷ []) old valid.0) (sym w.patch) run)
 
 pub valid_by_adding : (a : Named) → KeepsValid (Adds a) (Applies a.prim)
 valid_by_adding a x y (cancel w) = valid_by_cancel a x y w
@@ -50,13 +50,13 @@ valid_by_adding a x y (commute never w) = valid_by_passing a x y w
 valid_by_adding a x y (keep never none w) = valid_by_keeping a x y w
 
 -- a change that keeps validity, by lists
-valid_from_last : (Change : Named → InContext → InContext → Type 0) → ((a : Named) → KeepsValid (Change a) (Applies a.prim)) → (r : List Named) → KeepsValid (FromLast Change r) (Runs r)
+valid_from_last : (Change : Named → InContext → InContext → Type 0) → ((a : Named) → KeepsValid (Change a) (Applies a.prim)) → (r : List Named) → KeepsValid (FromLast Change r) (AppliesAll r)
 valid_from_last Change keeps [] x y w old new run valid = subst (λ t. Valid t y) run (subst (Valid new) (sym w) valid)
 valid_from_last Change keeps (a ∷ r) x y w old new run valid =
     keeps a w.0 y w.2 old run.0 run.1 (valid_from_last Change keeps r x w.0 w.1 run.0 new run.2 valid)
 
-pub valid_by_adding_all : (r : List Named) → KeepsValid (AddsAll r) (Runs r)
+pub valid_by_adding_all : (r : List Named) → KeepsValid (AddsAll r) (AppliesAll r)
 valid_by_adding_all = valid_from_last Adds valid_by_adding
 
-pub valid_by_passing_all : (r : List Named) → KeepsValid (PassesByAll r) (Runs r)
+pub valid_by_passing_all : (r : List Named) → KeepsValid (PassesByAll r) (AppliesAll r)
 valid_by_passing_all = valid_from_last PassesBy valid_by_passing

@@ -7,7 +7,7 @@ use Rattle.std.specs.Cmp.{IsTotalOrder, tied_itself}
 use Rattle.std.specs.declared.cmp.Ordering.{Ordering}
 use Rattle.std.specs.declared.cmp.Ordering.TheVariants.{Less}
 use Rattle.std.specs.FinMap.Entries.{find, below_all, is_sorted}
-use Rattle.camp_base.proofs.Entries.{first, second, is_less, above}
+use Rattle.camp_share.proofs.Entries.{first, second, is_less, above}
 
 -- the elements up to the one at i, with it
 pub take_push : {X : Type 0} (xs : List X) (i : ℕ) (x : X) → slice_get xs i ≡ Some x → take (i + 1) xs ≡ take i xs ++ x ∷ []

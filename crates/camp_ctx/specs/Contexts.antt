@@ -4,7 +4,7 @@ use Rattle.std.specs.FinMap.{FinMap, empty, get, contains_key, insert}
 use Rattle.camp_base.specs.Trees.{Files}
 use Rattle.camp_prim.specs.Labels.{label_of, key_of, key_cmp}
 use Rattle.camp_prim.specs.declared.named.Named.{Named}
-use Rattle.camp_seq.specs.Running.{Runs}
+use Rattle.camp_seq.specs.Running.{AppliesAll}
 use Rattle.camp_prim.specs.declared.labels.Key.{Key}
 
 -- c:p, a patch p with a list c that leads to it from the state where it is seen
@@ -30,7 +30,7 @@ context_key x = patch_key x.patch
 
 -- the context and then the patch apply to a tree
 abbrev pub Valid : Files → InContext → Type 0
-Valid tree x = (after : Files) × Runs (whole x) tree after
+Valid tree x = (after : Files) × AppliesAll (whole x) tree after
 
 -- a set of contexted patches: a finite map from their absolute labels
 abbrev pub Contexts : Type 0

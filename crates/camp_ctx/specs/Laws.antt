@@ -3,7 +3,7 @@ use Rattle.std.specs.Prelude.{◌≡◌, List, []}
 use Rattle.camp_base.specs.Trees.{Files}
 use Rattle.camp_prim.specs.Effect.{Applies}
 use Rattle.camp_prim.specs.declared.named.Named.{Named}
-use Rattle.camp_seq.specs.Running.{Runs}
+use Rattle.camp_seq.specs.Running.{AppliesAll}
 use Rattle.camp_ctx.specs.Adding.{Adds, AddsAll, PassesBy, PassesByAll}
 use Rattle.camp_ctx.specs.Conflicts.{MergesBehindCommon, Conflict}
 use Rattle.camp_ctx.specs.Contexts.{InContext, Valid, Contexts, AreValid, EachMember}
@@ -47,11 +47,11 @@ KeepsMembersValid Change Step =
 -- adding and passing by keep what is valid
 pub record KeepValid : Type 0 where
   pub adds : (a : Named) → KeepsValid (Adds a) (Applies a.prim)
-  pub adds_all : (r : List Named) → KeepsValid (AddsAll r) (Runs r)
+  pub adds_all : (r : List Named) → KeepsValid (AddsAll r) (AppliesAll r)
   pub adds_to_members : (a : Named) → KeepsMembersValid (Adds a) (Applies a.prim)
-  pub adds_all_to_members : (r : List Named) → KeepsMembersValid (AddsAll r) (Runs r)
+  pub adds_all_to_members : (r : List Named) → KeepsMembersValid (AddsAll r) (AppliesAll r)
   pub passes_by : (a : Named) → KeepsValid (PassesBy a) (Applies a.prim)
-  pub passes_by_all : (r : List Named) → KeepsValid (PassesByAll r) (Runs r)
+  pub passes_by_all : (r : List Named) → KeepsValid (PassesByAll r) (AppliesAll r)
 
 -- adding the empty list changes nothing, of a contexted patch and of a set
 pub record EmptyChangesNothing : Type 0 where

@@ -3,6 +3,7 @@ ghost use Rattle.camp_notation.specs.Trees.{file_text, tree_text};
 
 use crate::words::{append_lines, append_separator, append_word};
 use camp_base::{Line, Path, Tree};
+use camp_share::SharedList;
 use std::alloc::{AllocError, Global};
 
 /// A tree, as `{d/e: [], f: [one, two]}`.
@@ -16,16 +17,17 @@ pub fn tree_text(alloc: Global, tree: &Tree) -> Result<String, AllocError>
             unreachable!();
         };
         append_separator(&mut text, at)?;
-        append_file(&mut text, path, &lines.to_vec()?)?;
+        append_file(&mut text, path, lines)?;
     }
     text.push('}')?;
     Ok(text)
 }
 
-fn append_file(text: &mut String, path: &Path, lines: &[Line]) -> Result<(), AllocError>
+fn append_file(text: &mut String, path: &Path, lines: &SharedList<Line>) -> Result<(), AllocError>
     ensures { OnOk result (string_bytes text.new ≡ string_bytes text.old ++ file_text (path.now, lines.now)) }
 {
     append_word(text, path.bytes())?;
     text.push_str(": ")?;
-    append_lines(text, lines)
+    let copies = lines.to_vec()?;
+    append_lines(text, &copies)
 }

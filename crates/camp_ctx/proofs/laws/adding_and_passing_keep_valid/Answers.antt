@@ -1,5 +1,5 @@
 use Rattle.camp_prim.specs.Effect.{Applies}
-use Rattle.camp_seq.specs.Running.{Runs}
+use Rattle.camp_seq.specs.Running.{AppliesAll}
 use Rattle.camp_ctx.specs.Adding.{Adds, AddsAll}
 use Rattle.camp_ctx.proofs.AddValid.{valid_by_adding, valid_by_adding_all, valid_by_passing, valid_by_passing_all}
 use Rattle.camp_ctx.proofs.SetChanges.{members_valid}
@@ -10,7 +10,7 @@ returns c = record {
   adds = valid_by_adding;
   adds_all = valid_by_adding_all;
   adds_to_members = λ a. members_valid (Adds a) (Applies a.prim) (valid_by_adding a);
-  adds_all_to_members = λ r. members_valid (AddsAll r) (Runs r) (valid_by_adding_all r);
+  adds_all_to_members = λ r. members_valid (AddsAll r) (AppliesAll r) (valid_by_adding_all r);
   passes_by = valid_by_passing;
   passes_by_all = valid_by_passing_all;
 }

@@ -1,0 +1,228 @@
+-- Lemmas on clients that meet the opening's seat, before and after their threads.
+use Rattle.std.proofs.Common.{◌≡◌, ℕ, ◌+◌, ◌<◌, ◌≤◌, suc, zero, IfOk, Bool, true, false, List, [], ◌∷◌, ◌++◌, length, take, get_or, map, Option, None, Some, MatchOption, append_assoc, Result, Ok, Err, refl, sym, ◌∙◌, ap, subst, add-one, arith}
+use Rattle.std.proofs.lemmas.List.{append-nil, length-append, length-map, get_or-map}
+use Rattle.std.specs.List.{AllZip}
+use Rattle.camp_object.specs.Asking.{Caller}
+use Rattle.camp_object.specs.Histories.{IsFront, IsAnswered, IsLegal, own}
+use Rattle.camp_object.specs.Objects.{Sequential}
+use Rattle.camp_object.specs.declared.faults.Fault.{Fault}
+use Rattle.camp_object.specs.declared.faults.Fault.TheVariants.{Memory, Busy, Full}
+use Rattle.camp_clients.specs.Answers.{Asks, Says, IsDone, IsOvertaken, told}
+use Rattle.camp_clients.specs.Meeting.{Sight, AreNew, Meets, IsMet, Ran, caller_of}
+use Rattle.camp_clients.specs.Positions.{own_at, done_at}
+use Rattle.camp_clients.specs.Runs.{HasFronts, IsShared, OwnDone, section_of}
+use Rattle.camp_clients.specs.Sections.{Section}
+use Rattle.camp_clients.proofs.Fronts.{section_grows, section_map, section_own_at, says}
+use Rattle.camp_clients.proofs.Gathering.{zip_push, zip_at, zip_length}
+use Rattle.camp_clients.proofs.Histories.{front_trans, own-append, own_between, append_nil_right}
+use Rattle.camp_clients.proofs.Positions.{own_at_front, own_at_none}
+
+module _ {A B : Type 0} (R S : A → B → Type 0) (each : (x : A) (y : B) → R x y → S x y) where
+  pub zip_map : (xs : List A) (ys : List B) → AllZip R xs ys → AllZip S xs ys
+  zip_map [] [] all = tt
+  zip_map [] (b ∷ ys) all = absurd all
+  zip_map (a ∷ xs) [] all = absurd all
+  zip_map (a ∷ xs) (b ∷ ys) all = (each a b all.0, zip_map xs ys all.1)
+
+-- first this, and then that
+abbrev pub Then : {A B C : Type 0} → (A → B → Type 0) → (B → C → Type 0) → A → C → Type 0
+Then {B = B} R S x z = (y : B) × R x y × S y z
+
+module _ {A B C : Type 0} (R : A → B → Type 0) (S : B → C → Type 0) where
+  pub zip_then : (xs : List A) (ys : List B) (zs : List C) → AllZip R xs ys → AllZip S ys zs → AllZip (Then R S) xs zs
+  zip_then [] [] [] one two = tt
+  zip_then [] [] (c ∷ zs) one two = absurd two
+  zip_then [] (b ∷ ys) zs one two = absurd one
+  zip_then (a ∷ xs) [] zs one two = absurd one
+  zip_then (a ∷ xs) (b ∷ ys) [] one two = absurd two
+  zip_then (a ∷ xs) (b ∷ ys) (c ∷ zs) one two = ((b, one.0, two.0), zip_then xs ys zs one.1 two.1)
+
+-- a section's first front can be moved back over calls of others
+module _ {State Call Reply : Type 0} (object : Sequential State Call Reply) (seat tries : ℕ)
+    (earlier first : List (ℕ × Call)) (front : IsFront earlier first) (none : own seat front.rest ≡ []) where
+  earlier_reply : (call : Call) (at : Option ℕ) (reply : Reply) (next : List (ℕ × Call))
+      → MatchOption at (IsFront first next × IsAnswered object next call reply) (λ at. IsDone seat first call at next)
+      → MatchOption at (IsFront earlier next × IsAnswered object next call reply) (λ at. IsDone seat earlier call at next)
+  earlier_reply call None reply next said = (front_trans earlier first next front said.0, said.1)
+  earlier_reply call (Some at) reply next said = record {
+    stood = said.stood;
+    since = front_trans earlier first said.stood front said.since;
+    ends = said.ends;
+    position = said.position;
+  }
+
+  says_earlier : (call : Call) (answer : Result Reply Fault) (next : List (ℕ × Call)) → Says object seat tries first call answer next → Says object seat tries earlier call answer next
+  says_earlier call (Ok reply) next said = earlier_reply call (object.done_at reply) reply next said
+  says_earlier call (Err Memory) next said = said
+  says_earlier call (Err (Busy lost)) next said = record {
+    others = front.rest ++ said.others;
+    makes = sym (append_assoc earlier front.rest said.others) ∙ ap (λ h. h ++ said.others) front.makes ∙ said.makes;
+    none_own = own-append seat front.rest said.others ∙ ap (λ xs. xs ++ own seat said.others) none ∙ said.none_own;
+    enough = omega (arith, said.enough, length-append front.rest said.others);
+    all_lost = said.all_lost;
+  }
+  says_earlier call (Err Full) next said = said
+
+  pub fronts_earlier : (calls : List Call) (answers : List (Result Reply Fault)) (history : List (ℕ × Call)) → IsFront earlier history
+      → HasFronts object seat tries first calls answers history → HasFronts object seat tries earlier calls answers history
+  fronts_earlier [] [] history within fronts = record { last = earlier; fronts = refl; within = within }
+  fronts_earlier [] (a ∷ answers) history within fronts = absurd fronts.fronts
+  fronts_earlier (c ∷ calls) [] history within fronts = absurd fronts.fronts
+  fronts_earlier (c ∷ calls) (a ∷ answers) history within fronts = record {
+    last = fronts.last;
+    fronts = (fronts.fronts.0, says_earlier c a fronts.fronts.0 fronts.fronts.1, fronts.fronts.2);
+    within = fronts.within;
+  }
+
+-- from a new client to the end of the run
+module _ {State Call Reply Client : Type 0} (object : Sequential State Call Reply) (sight : Sight Client Call (Result Reply Fault)) (tries per_seat : ℕ)
+    (sections : List (List Call)) (opened history : List (ℕ × Call)) where
+  module _ (c0 c1 c2 c3 c4 : Client) (fresh : sight.seen c0 ≡ []) (m1 : Meets sight opened c0 c1) (ran : Ran object sight tries per_seat sections c1 c2)
+      (met : IsMet sight history c2 c3) (m2 : Meets sight history c3 c4) where
+    asked : Section (Asks object (caller_of tries per_seat (sight.number c0))) (sight.seen c1) (section_of sections (sight.number c0)) (sight.answers c2) (sight.seen c2)
+    asked = subst (λ n. Section (Asks object (caller_of tries per_seat n)) (sight.seen c1) (section_of sections n) (sight.answers c2) (sight.seen c2)) m1.number ran.section
+
+    same_answers : sight.answers c2 ≡ sight.answers c4
+    same_answers = sym met.answers ∙ sym m2.answers
+
+    none_own : own (sight.number c0) (sight.seen c1) ≡ []
+    none_own = m1.own_stays ∙ ap (own (sight.number c0)) fresh
+
+    none_between : own (sight.number c0) m1.knows.rest ≡ []
+    none_between = append_nil_right (own (sight.number c0) opened) (own (sight.number c0) m1.knows.rest)
+        (sym (own-append (sight.number c0) opened m1.knows.rest) ∙ ap (own (sight.number c0)) m1.knows.makes ∙ none_own)
+
+    client_fronts : HasFronts object (sight.number c0) tries opened (section_of sections (sight.number c0)) (sight.answers c4) history
+    client_fronts = subst (λ answers. HasFronts object (sight.number c0) tries opened (section_of sections (sight.number c0)) answers history) same_answers
+        (fronts_earlier object (sight.number c0) tries opened (sight.seen c1) m1.knows none_between (section_of sections (sight.number c0)) (sight.answers c2) history
+        (front_trans opened (sight.seen c1) history m1.knows
+        (front_trans (sight.seen c1) (sight.seen c2) history (section_grows object (caller_of tries per_seat (sight.number c0)) (sight.seen c1) _ _ (sight.seen c2) asked) met.known))
+        (record {
+          last = sight.seen c2;
+          fronts = section_map (Asks object (caller_of tries per_seat (sight.number c0))) (Says object (sight.number c0) tries)
+              (says object (caller_of tries per_seat (sight.number c0))) (sight.seen c1) _ _ (sight.seen c2) asked;
+          within = met.known;
+        }))
+
+    all_own : own (sight.number c0) (sight.seen c4) ≡ own (sight.number c0) (sight.seen c2)
+    all_own =
+        let e : sight.number c3 ≡ sight.number c0 = met.number ∙ ran.number ∙ m1.number in
+        subst (λ n. own n (sight.seen c4) ≡ own n (sight.seen c3)) e m2.own_stays ∙ ap (own (sight.number c0)) met.seen
+
+    client_own : own_at (sight.number c0) 0 history ≡ done_at (told object) (section_of sections (sight.number c0)) (sight.answers c4)
+    client_own =
+        own_at_front (sight.number c0) (sight.seen c2) history met.known
+        (own_between (sight.number c0) (sight.seen c2) history (sight.seen c4) met.known m2.knows all_own)
+        ∙ section_own_at object (caller_of tries per_seat (sight.number c0)) (sight.seen c1) (section_of sections (sight.number c0)) (sight.answers c2) (sight.seen c2) asked
+        ∙ ap (λ xs. xs ++ done_at (told object) (section_of sections (sight.number c0)) (sight.answers c2)) (own_at_none (sight.number c0) 0 (sight.seen c1) none_own)
+        ∙ ap (done_at (told object) (section_of sections (sight.number c0))) same_answers
+
+  -- what the run says of a client's seat
+  pub record Holds (seat : ℕ) (answers : List (Result Reply Fault)) : Type 0 where
+    pub fronts : HasFronts object seat tries opened (section_of sections seat) answers history
+    pub own_done : own_at seat 0 history ≡ done_at (told object) (section_of sections seat) answers
+
+  pub clients_hold : (l0 l1 l2 l3 l4 : List Client) → AreNew sight l0 → AllZip (Meets sight opened) l0 l1 → AllZip (Ran object sight tries per_seat sections) l1 l2
+      → AllZip (IsMet sight history) l2 l3 → AllZip (Meets sight history) l3 l4
+      → (k : ℕ) (d : Client) → k < length l0 → Holds (k + 1) (sight.answers (get_or l4 k d))
+  clients_hold l0 l1 l2 l3 l4 fresh one two three four k d below =
+      let R3 : Client → Client → Type 0 = Then (IsMet sight history) (Meets sight history) in
+      let R2 : Client → Client → Type 0 = Then (Ran object sight tries per_seat sections) R3 in
+      let R1 : Client → Client → Type 0 = Then (Meets sight opened) R2 in
+      let z3 = zip_then (IsMet sight history) (Meets sight history) l2 l3 l4 three four in
+      let z2 = zip_then (Ran object sight tries per_seat sections) R3 l1 l2 l4 two z3 in
+      let z1 = zip_then (Meets sight opened) R2 l0 l1 l4 one z2 in
+      let at = zip_at R1 l0 l4 k d d below z1 in
+      let new = fresh k d below in
+      let c0 = get_or l0 k d in
+      let c4 = get_or l4 k d in
+      let fronts = client_fronts c0 at.0 at.2.0 at.2.2.0 c4 new.2 at.1 at.2.1 at.2.2.1 at.2.2.2 in
+      let own_done = client_own c0 at.0 at.2.0 at.2.2.0 c4 new.2 at.1 at.2.1 at.2.2.1 at.2.2.2 in
+      record {
+        fronts = subst (λ n. HasFronts object n tries opened (section_of sections n) (sight.answers c4) history) new.1 fronts;
+        own_done = subst (λ n. own_at n 0 history ≡ done_at (told object) (section_of sections n) (sight.answers c4)) new.1 own_done;
+      }
+
+-- clients that were met stay so as the history grows
+pub met_more : {Client Call Answer : Type 0} (sight : Sight Client Call Answer) (h more : List (ℕ × Call)) → IsFront h more
+    → (before after : List Client) → AllZip (IsMet sight h) before after → AllZip (IsMet sight more) before after
+met_more sight h more grows = zip_map (IsMet sight h) (IsMet sight more) (λ before after met. record {
+  is_seat = met.is_seat;
+  number = met.number;
+  answers = met.answers;
+  seen = met.seen;
+  known = front_trans (sight.seen before) h more met.known grows;
+})
+
+-- the results of calls that were granted
+module _ {X Y E : Type 0} (R : X → Y → Type 0) where
+  pub zip_granted : (jobs : List X) (made : List (Result Y E)) (all : List Y) → length made ≡ length jobs
+      → ((i : ℕ) (d : Result Y E) → i < length jobs → (job : X) × (((e : X) → get_or jobs i e ≡ job) × IfOk (get_or made i d) (R job)))
+      → AllZip (λ one own. one ≡ Ok own) made all → AllZip R jobs all
+  zip_granted [] [] [] long each granted = tt
+  zip_granted [] [] (y ∷ all) long each granted = absurd granted
+  zip_granted [] (r ∷ made) all long each granted = absurd (omega arith)
+  zip_granted (x ∷ jobs) [] all long each granted = absurd (omega arith)
+  zip_granted (x ∷ jobs) (r ∷ made) [] long each granted = absurd granted
+  zip_granted (x ∷ jobs) (r ∷ made) (y ∷ all) long each granted =
+      let first = each 0 r (omega arith) in
+      let holds = subst (λ r. IfOk r (R first.0)) granted.0 first.1.1 in (
+        subst (λ job. R job y) (sym (first.1.0 x)) holds,
+        zip_granted jobs made all (omega arith) (λ i d below. each (suc i) d (omega arith)) granted.1,
+      )
+
+-- a whole run, put together
+module _ {State Call Reply Client : Type 0} (object : Sequential State Call Reply) (sight : Sight Client Call (Result Reply Fault)) (tries per_seat : ℕ)
+    (sections : List (List Call)) (opened history : List (ℕ × Call)) (opening : List (Result Reply Fault)) (clients : List Client) (d : Client)
+    (as_many : length clients + 1 ≡ length sections)
+    (holds : (k : ℕ) (d : Client) → k < length clients → Holds object sight tries per_seat sections opened history (k + 1) (sight.answers (get_or clients k d)))
+    (ran : Section (Asks object (caller_of tries per_seat 0)) [] (section_of sections 0) opening opened)
+    (front : IsFront opened history) (same : own 0 history ≡ own 0 opened) where
+  all : List (List (Result Reply Fault))
+  all = opening ∷ map sight.answers clients
+
+  at_client : (k : ℕ) → k < length clients → Holds object sight tries per_seat sections opened history (suc k) (section_of all (suc k))
+  unfolding all
+  at_client k below = rw (get_or-map sight.answers clients k d [] below, ← add-one k) (holds k d below)
+
+  own_done : OwnDone (told object) sections all history
+  unfolding all
+  own_done zero below = own_at_front 0 opened history front same
+      ∙ section_own_at object (caller_of tries per_seat 0) [] (section_of sections 0) opening opened ran
+  own_done (suc k) below = (at_client k (omega arith)).own_done
+
+  at_clients : (seat : ℕ) → 0 < seat → seat < length sections → HasFronts object seat tries opened (section_of sections seat) (section_of all seat) history
+  at_clients zero some below = absurd (omega arith)
+  at_clients (suc k) some below = (at_client k (omega arith)).fronts
+
+  pub shared_run : IsLegal object history → IsShared object tries sections (opening ∷ map sight.answers clients) history
+  unfolding all
+  shared_run legal = record {
+    legal = legal;
+    as_many = omega (arith, length-map clients sight.answers);
+    own_done = own_done;
+    opening = record {
+      last = opened;
+      fronts = section_map (Asks object (caller_of tries per_seat 0)) (Says object 0 tries) (says object (caller_of tries per_seat 0)) [] _ _ opened ran;
+      within = front;
+    };
+    clients = at_clients;
+  }
+
+-- a new client that met the opening's seat can begin
+pub record CanBegin {Client Call Answer : Type 0} (sight : Sight Client Call Answer) (k : ℕ) (client : Client) : Type 0 where
+  pub is_seat : sight.is_seat client
+  pub number : sight.number client ≡ k + 1
+  pub none_own : own (sight.number client) (sight.seen client) ≡ []
+
+pub can_begin : {Client Call Answer : Type 0} (sight : Sight Client Call Answer) (opened : List (ℕ × Call)) (l0 l1 : List Client)
+    → AreNew sight l0 → AllZip (Meets sight opened) l0 l1 → (k : ℕ) (d : Client) → k < length l1 → CanBegin sight k (get_or l1 k d)
+can_begin sight opened l0 l1 fresh met k d below =
+    let short : k < length l0 = omega (arith, zip_length (Meets sight opened) l0 l1 met) in
+    let m = zip_at (Meets sight opened) l0 l1 k d d short met in
+    let new = fresh k d short in
+    record {
+      is_seat = m.is_seat;
+      number = m.number ∙ new.1;
+      none_own = rw m.number (m.own_stays ∙ ap (own (sight.number (get_or l0 k d))) new.2);
+    }

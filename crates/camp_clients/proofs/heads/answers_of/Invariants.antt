@@ -1,0 +1,5 @@
+use Rattle.std.proofs.Common.{◌≡◌, ◌∷◌, map}
+use Rattle.camp_clients.proofs.heads.answers_of.Given as goal
+
+abbrev pub invariant-loop-client : goal.invariant-loop-client
+invariant-loop-client g l = l.all.items ≡ l.fn.opening ∷ map (λ client. client.answers) l.yielded

@@ -1,0 +1,75 @@
+use Rattle.std.proofs.Common.{◌≡◌, ℕ, ◌<◌, ◌∷◌, [], length, map, sym, ◌∙◌, ap, subst, refl, arith}
+use Rattle.camp_object.specs.Histories.{IsFront, IsLegal, own}
+use Rattle.camp_clients.specs.Answers.{Asks}
+use Rattle.camp_history.specs.Seats.{IsSeatOf, history_of}
+use Rattle.camp_clients.specs.Clients.{sight_of}
+use Rattle.camp_clients.specs.Meeting.{Ran, IsMet, Meets, caller_of}
+use Rattle.camp_clients.specs.Runs.{IsShared, lists_of, section_of}
+use Rattle.camp_clients.specs.Sections.{Section}
+use Rattle.camp_clients.proofs.Gathering.{zip_all, zip_length}
+use Rattle.camp_clients.proofs.Meeting.{can_begin, clients_hold, shared_run}
+use Rattle.camp_clients.proofs.Vectors.{lists_map, section_at, length-lists_of}
+use Rattle.camp_clients.proofs.heads.over_head.Goals as goal
+
+pub run_clients-requires-clause-ready : goal.run_clients-requires-clause-ready
+run_clients-requires-clause-ready g c _ _ k d below =
+    let sight = sight_of c.args.head.now in
+    let opened = history_of c.at_seat.new.seat in
+    let b = can_begin sight opened c.args.clients.items c.in_ok-clients.clients.items c.requires.clients c.in_ok-clients.ensures.clients k d below in
+    record {
+      is_seat = b.is_seat;
+      has_section = rw b.number (omega (arith, c.requires.as_many, zip_length (Meets sight opened) c.args.clients.items c.in_ok-clients.clients.items c.in_ok-clients.ensures.clients));
+      none_own = b.none_own;
+    }
+
+pub meets_each-requires-clause-clients : goal.meets_each-requires-clause-clients
+meets_each-requires-clause-clients g c =
+    zip_all (Ran g.State.Object.object (sight_of c.args.head.now) (c.args.head.now.tries)
+    (c.args.head.now.row.per_seat) (lists_of c.args.sections.now))
+    (λ client. IsSeatOf c.args.head.now client.seat) (λ before after ran. ran.is_seat)
+    c.in_ok-clients.clients.items c.in_ok-clients-2.clients.items c.in_ok-clients-2.ensures
+
+pub each_meets-requires-2-clause-clients : goal.each_meets-requires-2-clause-clients
+each_meets-requires-2-clause-clients g c =
+    zip_all (IsMet (sight_of c.args.head.now) (history_of c.in_ok-opener.opener))
+    (λ client. IsSeatOf c.args.head.now client.seat) (λ before after met. met.is_seat)
+    c.in_ok-clients-2.clients.items c.in_ok-opener.clients.items c.in_ok-opener.ensures.clients
+
+pub returns : goal.returns
+returns g c =
+    let object = g.State.Object.object in
+    let sight = sight_of c.args.head.now in
+    let tries = c.args.head.now.tries in
+    let per_seat = c.args.head.now.row.per_seat in
+    let sections = lists_of c.args.sections.now in
+    let opened = history_of c.at_seat.new.seat in
+    let history = history_of c.in_ok-opener.opener in
+    let l0 = c.args.clients.items in
+    let l1 = c.in_ok-clients.clients.items in
+    let l2 = c.in_ok-clients-2.clients.items in
+    let l3 = c.in_ok-opener.clients.items in
+    let l4 = c.in_ok-clients-3.clients.items in
+    let long : length l4 ≡ length l0 =
+    sym (zip_length (Meets sight opened) l0 l1 c.in_ok-clients.ensures.clients
+    ∙ zip_length (Ran object sight tries per_seat sections) l1 l2 c.in_ok-clients-2.ensures
+    ∙ zip_length (IsMet sight history) l2 l3 c.in_ok-opener.ensures.clients
+    ∙ zip_length (Meets sight history) l3 l4 c.in_ok-clients-3.ensures.clients) in
+    let holds = λ (k : ℕ) (d : _) (below : k < length l4).
+    clients_hold object sight tries per_seat sections opened history l0 l1 l2 l3 l4 c.requires.clients c.in_ok-clients.ensures.clients c.in_ok-clients-2.ensures
+    c.in_ok-opener.ensures.clients c.in_ok-clients-3.ensures.clients k d (omega (arith, long)) in
+    let opener = c.args.opener in
+    let opening = c.in_ok-opening.opening in
+    let calls = c.deref.ensures.value ∙ sym (section_at c.args.sections.now 0 c.index-sections-0.result (omega arith) c.index-sections-0.is) in
+    let section = subst (λ calls. Section (Asks object (caller_of tries per_seat (opener.known.number))) (history_of opener) calls opening.items opened)
+    calls c.in_ok-opening.ensures.section in
+    let from_start = subst (λ first. Section (Asks object (caller_of tries per_seat (opener.known.number))) first (section_of sections 0) opening.items opened)
+    c.requires.opener.2 section in
+    let ran = subst (λ n. Section (Asks object (caller_of tries per_seat n)) [] (section_of sections 0) opening.items opened) c.requires.opener.1 from_start in
+    let front = subst (λ h. IsFront h history) c.in_ok-clients.ensures.seen c.in_ok-opener.ensures.grows in
+    let number = c.in_ok-clients.ensures.number ∙ c.in_ok-opening.ensures.number ∙ c.requires.opener.1 in
+    let same = subst (λ n. own n history ≡ own n (history_of c.in_ok-clients.opener)) number c.in_ok-opener.ensures.own
+    ∙ ap (own 0) c.in_ok-clients.ensures.seen in
+    let legal = subst (IsLegal object) c.in_ok-clients-3.ensures.seen c.number-number.ensures.legal in
+    let run = shared_run object sight tries per_seat sections opened history opening.items l4 (record { seat = opener; answers = opening })
+    (omega (arith, long, c.requires.as_many, length-lists_of c.args.sections.now)) holds ran front same legal in
+    rw (c.in_ok-answers.ensures, lists_map, c.in-Ok.ensures.history, c.in_ok-clients-3.ensures.seen) run

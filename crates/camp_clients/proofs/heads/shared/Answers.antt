@@ -1,0 +1,35 @@
+use Rattle.std.proofs.Common.{◌≡◌, ◌+◌, ◌≤◌, [], ◌∙◌, sym, subst, arith, rules, count_by}
+use Rattle.std.specs.List.{All}
+use Rattle.camp_history.specs.Seats.{IsSeatOf, history_of}
+use Rattle.camp_clients.proofs.Gathering.{behind_first, zip_length}
+use Rattle.camp_clients.proofs.Opening.{opened_length, opened_seat}
+use Rattle.camp_clients.proofs.heads.shared.Goals as goal
+
+pub remove-opener-requires : goal.remove-opener-requires
+remove-opener-requires g c = omega (arith, opened_length _ _ _ _ _ c.in_ok-head.ensures, c.in_ok-head.seats.ok.0)
+
+pub over_head-requires-clause-opener : goal.over_head-requires-clause-opener
+over_head-requires-clause-opener g c _ _ =
+    let new = opened_seat _ _ _ _ _ c.in_ok-head.ensures 0 c.remove-opener.result (omega (arith, opened_length _ _ _ _ _ c.in_ok-head.ensures)) in
+    rw c.remove-opener.ensures.value (new.is_seat, new.number_is, new.unseen)
+
+pub over_head-requires-clause-room : goal.over_head-requires-clause-room
+over_head-requires-clause-room g c _ _ =
+    subst (λ most. All (λ calls. count_by g.State.Object.object.is_writing calls.items ≤ most) c.args.sections.now) (sym c.in_ok-head.ensures.has_calls) c.most_writing-per_seat.ensures.room
+
+pub over_head-requires-clause-clients : goal.over_head-requires-clause-clients
+over_head-requires-clause-clients g c _ _ =
+    behind_first (λ client. client.seat)
+    (λ k seat. IsSeatOf c.in_ok-head.head seat × (seat.known.number ≡ k) × (history_of seat ≡ []))
+    c.in_ok-head.seats.items c.remove-opener.new.self.items c.in_ok-clients.clients.items c.remove-opener.ensures.items c.in_ok-clients.ensures
+    (λ k d below. let new = opened_seat _ _ _ _ _ c.in_ok-head.ensures k d below in (new.is_seat, new.number_is, new.unseen))
+
+pub over_head-requires-clause-as_many : goal.over_head-requires-clause-as_many
+over_head-requires-clause-as_many g c _ _ = omega (
+  arith,
+  zip_length (λ seat client. client.seat ≡ seat) c.remove-opener.new.self.items c.in_ok-clients.clients.items c.in_ok-clients.ensures,
+  c.remove-opener.ensures.len,
+  c.remove-opener.new.self.ok.0,
+  c.in_ok-head.seats.ok.0,
+  opened_length _ _ _ _ _ c.in_ok-head.ensures,
+)

@@ -1,0 +1,22 @@
+-- What proofs see of a client: its seat, and the answers to its section.
+use Rattle.std.specs.Prelude.{◌≡◌, ℕ, ◌<◌, List, [], Result}
+use Rattle.camp_object.specs.Histories.{own}
+use Rattle.camp_object.specs.declared.faults.Fault.{Fault}
+use Rattle.camp_history.specs.Seats.{HeadId, Seated, IsSeatOf, history_of}
+use Rattle.camp_clients.specs.Meeting.{Sight}
+use Rattle.camp_clients.specs.declared.heads.Client.{Client}
+
+-- a client at a seat of a head
+abbrev pub sight_of : {Call Reply : Type 0} → HeadId → Sight (Client (Seated Call) Reply) Call (Result Reply Fault)
+sight_of head = record {
+  number = λ client. client.seat.known.number;
+  seen = λ client. history_of client.seat;
+  is_seat = λ client. IsSeatOf head client.seat;
+  answers = λ client. client.answers.items;
+}
+
+-- a client that can begin: its seat is one of the head, there is a section for it, and it has no calls yet
+pub record IsReady {Call Reply : Type 0} (head : HeadId) (sections : ℕ) (client : Client (Seated Call) Reply) : Type 0 where
+  pub is_seat : IsSeatOf head client.seat
+  pub has_section : client.seat.known.number < sections
+  pub none_own : own client.seat.known.number (history_of client.seat) ≡ []

@@ -1,0 +1,334 @@
+ghost use Rattle.std.specs.Prelude.{◌≡◌, ℕ, [], ◌∷◌, ◌+◌, ◌<◌, ◌≤◌, Ok, length, count_by, map, vec_items, IfOk, slice_index_or};
+ghost use Rattle.std.specs.List.{All, AllZip};
+ghost use Rattle.std.specs.Thread.{IsSync};
+ghost use Rattle.camp_object.specs.Histories.{IsFront, IsLegal, own};
+ghost use Rattle.camp_history.specs.Opening.{IsInRange, IsOpened};
+ghost use Rattle.camp_history.specs.Seats.{IsSeatOf, history_of, caller_at};
+ghost use Rattle.camp_clients.specs.Answers.{Asks};
+ghost use Rattle.camp_clients.specs.Clients.{sight_of, IsReady};
+ghost use Rattle.camp_clients.specs.Meeting.{AreNew, IsMet, Meets, Ran};
+ghost use Rattle.camp_clients.specs.Runs.{IsShared, lists_of};
+ghost use Rattle.camp_clients.specs.Sections.{Section};
+
+use crate::sections::{Answers, ask_all};
+use camp_history::{Gate, Head, HeadDesk, Seat};
+use camp_object::{Fault, Object};
+use std::alloc::{AllocError, Global};
+use std::sync::Wait;
+use std::thread;
+use std::thread::Threads;
+
+/// What sections over one head came to: the answers of each, and the history.
+#[derive(Drop)]
+pub struct HeadRun<State: Object> {
+    pub answers: Vec<Answers<State>>,
+    pub history: Vec<(u32, State::Call)>,
+}
+
+/// A client's seat, and the answers to its section.
+#[derive(Drop)]
+struct Client<Seat, Reply> {
+    seat: Seat,
+    answers: Vec<Result<Reply, Fault>>,
+}
+
+/// A client for each seat.
+fn new_clients<Seat: Drop, Reply: Drop>(
+    alloc: Global,
+    seats: Vec<Seat>,
+) -> Result<Vec<Client<Seat, Reply>>, AllocError>
+    ensures { IfOk result (λ clients. AllZip (λ seat client. client.seat ≡ seat) seats.items clients.items) }
+{
+    let mut clients = Vec::with_capacity(alloc, seats.len())?;
+    for seat in seats {
+        clients.push(Client {
+            seat,
+            answers: Vec::new(alloc),
+        })?;
+    }
+    Ok(clients)
+}
+
+/// Each client meets a seat, and then knows what it has seen.
+fn each_meets<State: Object>(
+    alloc: Global,
+    head: &Head<State>,
+    clients: Vec<Client<Seat<State>, State::Reply>>,
+    opener: Seat<State>,
+) -> Result<(Vec<Client<Seat<State>, State::Reply>>, Seat<State>), AllocError>
+    requires opener { IsSeatOf head.now opener }
+    requires clients { All (λ client. IsSeatOf head.now client.seat) clients.items }
+    ensures seat { IfOk result (λ met. IsSeatOf head.now met.1) }
+    ensures number { IfOk result (λ met. met.1.known.number ≡ opener.known.number) }
+    ensures seen { IfOk result (λ met. history_of met.1 ≡ history_of opener) }
+    ensures clients { IfOk result (λ met. AllZip
+        (Meets (sight_of head.now) (history_of opener)) clients.items met.0.items) }
+{
+    let mut all = Vec::with_capacity(alloc, clients.len())?;
+    let mut known = opener;
+    for client in clients {
+        let Client { seat, answers } = client;
+        let (seat, other, met) = head.meet(seat, known);
+        known = other;
+        if met.is_err() {
+            return Err(AllocError);
+        }
+        all.push(Client { seat, answers })?;
+    }
+    Ok((all, known))
+}
+
+/// A seat meets each client, and then knows what they have seen.
+fn meets_each<State: Object>(
+    alloc: Global,
+    head: &Head<State>,
+    opener: Seat<State>,
+    clients: Vec<Client<Seat<State>, State::Reply>>,
+) -> Result<(Seat<State>, Vec<Client<Seat<State>, State::Reply>>), AllocError>
+    requires opener { IsSeatOf head.now opener }
+    requires clients { All (λ client. IsSeatOf head.now client.seat) clients.items }
+    ensures seat { IfOk result (λ met. IsSeatOf head.now met.0) }
+    ensures number { IfOk result (λ met. met.0.known.number ≡ opener.known.number) }
+    ensures grows { IfOk result (λ met. IsFront (history_of opener) (history_of met.0)) }
+    ensures own { IfOk result (λ met. own (opener.known.number) (history_of met.0) ≡ own (opener.known.number) (history_of opener)) }
+    ensures clients { IfOk result (λ met. AllZip
+        (IsMet (sight_of head.now) (history_of met.0)) clients.items met.1.items) }
+{
+    let mut all = Vec::with_capacity(alloc, clients.len())?;
+    let mut known = opener;
+    for client in clients {
+        let Client { seat, answers } = client;
+        let (other, seat, met) = head.meet(known, seat);
+        known = other;
+        if met.is_err() {
+            return Err(AllocError);
+        }
+        all.push(Client { seat, answers })?;
+    }
+    Ok((known, all))
+}
+
+/// Asks a section of calls at a seat of a head, with a gate round each.
+fn at_seat<R: Wait, State: Object, G: Gate>(
+    rt: &R,
+    alloc: Global,
+    head: &Head<State>,
+    seat: &mut Seat<State>,
+    gate: &G,
+    calls: &[State::Call],
+) -> Result<Answers<State>, AllocError>
+    requires seat { IsSeatOf head.now seat.old }
+    requires room { length (own seat.old.known.number (history_of seat.old)) + count_by State.object.is_writing calls.now
+        ≤ head.now.row.per_seat }
+    ensures seat { IsSeatOf head.now seat.new }
+    ensures number { seat.new.known.number ≡ seat.old.known.number }
+    ensures section { IfOk result (λ answers. Section (Asks State.object (caller_at head.now seat.old))
+        (history_of seat.old) calls.now answers.items (history_of seat.new)) }
+{
+    let mut desk = HeadDesk::new(rt, head, seat, gate);
+    at_desk(alloc, &mut desk, calls)
+}
+
+/// Asks a section of calls at the desk of a head.
+fn at_desk<'r, 'h, 's, 'g, R: Wait, State: Object, G: Gate>(
+    alloc: Global,
+    desk: &mut HeadDesk<'r, 'h, 's, 'g, R, State, G>,
+    calls: &[State::Call],
+) -> Result<Answers<State>, AllocError>
+    requires room { length (own desk.old.seat.now.known.number (history_of desk.old.seat.now)) + count_by State.object.is_writing calls.now
+        ≤ desk.old.head.now.row.per_seat }
+    ensures head { desk.new.head.now ≡ desk.old.head.now }
+    ensures lends { desk.new.seat.ghost_name ≡ desk.old.seat.ghost_name }
+    ensures seat { IsSeatOf desk.new.head.now desk.new.seat.now }
+    ensures number { desk.new.seat.now.known.number ≡ desk.old.seat.now.known.number }
+    ensures section { IfOk result (λ answers. Section (Asks State.object (caller_at desk.old.head.now desk.old.seat.now))
+        (history_of desk.old.seat.now) calls.now answers.items (history_of desk.new.seat.now)) }
+{
+    ask_all(alloc, desk, calls)
+}
+
+/// A client asks its section.
+fn run_client<R: Wait, State: Object, G: Gate>(
+    rt: &R,
+    alloc: Global,
+    head: &Head<State>,
+    gate: &G,
+    sections: &[Vec<State::Call>],
+    client: Client<Seat<State>, State::Reply>,
+) -> Result<Client<Seat<State>, State::Reply>, AllocError>
+    requires ready { IsReady head.now (length sections.now) client }
+    requires room { All (λ calls. count_by State.object.is_writing calls.items ≤ head.now.row.per_seat) sections.now }
+    ensures { IfOk result (λ ran. Ran State.object (sight_of head.now)
+        (head.now.tries) (head.now.row.per_seat) (lists_of sections.now) client ran) }
+{
+    let Client {
+        mut seat,
+        answers: _,
+    } = client;
+    let calls = &sections[seat.number() as usize];
+    let answers = at_seat::<R, State, G>(rt, alloc, head, &mut seat, gate, calls)?;
+    Ok(Client { seat, answers })
+}
+
+/// Each client asks its section in a thread of its own.
+fn run_clients<R: Threads + Wait + Sync, State: Object + Send, G: Gate + Sync>(
+    rt: &R,
+    alloc: Global,
+    head: &Head<State>,
+    gate: &G,
+    sections: &[Vec<State::Call>],
+    clients: Vec<Client<Seat<State>, State::Reply>>,
+) -> Result<Vec<Client<Seat<State>, State::Reply>>, AllocError>
+where
+    State::Call: Send + Sync,
+    State::Reply: Send,
+    requires ready { All (IsReady head.now (length sections.now)) clients.items }
+    requires room { All (λ calls. count_by State.object.is_writing calls.items ≤ head.now.row.per_seat) sections.now }
+    ensures { IfOk result (λ ran. AllZip (Ran State.object (sight_of head.now)
+        (head.now.tries) (head.now.row.per_seat) (lists_of sections.now)) clients.items ran.items) }
+{
+    let made = thread::map_vec(
+        rt,
+        clients,
+        &|client: Client<Seat<State>, State::Reply>| -> Result<
+            Client<Seat<State>, State::Reply>,
+            AllocError,
+        >
+            requires { IsSync R.row × IsReady head.now (length sections.now) client
+                × All (λ calls. count_by State.object.is_writing calls.items ≤ head.now.row.per_seat) sections.now }
+            ensures { IfOk result (λ ran. Ran State.object (sight_of head.entry.now)
+                (head.entry.now.tries) (head.entry.now.row.per_seat) (lists_of sections.entry.now) client ran) }
+        { run_client::<R, State, G>(rt, alloc, head, gate, sections, client) },
+    )?;
+    granted(alloc, made)
+}
+
+/// All values, or want of memory where one was not made for it.
+fn granted<X: Drop>(alloc: Global, made: Vec<Result<X, AllocError>>) -> Result<Vec<X>, AllocError>
+    ensures { IfOk result (λ all. AllZip (λ one own. one ≡ Ok own) made.items all.items) }
+{
+    let mut all = Vec::with_capacity(alloc, made.len())?;
+    for one in made {
+        all.push(one?)?;
+    }
+    Ok(all)
+}
+
+/// The answers to all sections.
+fn answers_of<Seat: Drop, Reply: Drop>(
+    alloc: Global,
+    opening: Vec<Result<Reply, Fault>>,
+    clients: Vec<Client<Seat, Reply>>,
+) -> Result<Vec<Vec<Result<Reply, Fault>>>, AllocError>
+    ensures { IfOk result (λ all. all.items ≡ opening ∷ map (λ client. client.answers) clients.items) }
+{
+    let mut all = Vec::with_capacity(alloc, clients.len() + 1)?;
+    all.push(opening)?;
+    for client in clients {
+        all.push(client.answers)?;
+    }
+    Ok(all)
+}
+
+/// The largest number of calls of one section that write, and at least 1.
+fn most_writing<State: Object>(sections: &[Vec<State::Call>]) -> u32
+    requires { All (λ calls. count_by State.object.is_writing calls.items ≤ 65536) sections.now }
+    ensures room { All (λ calls. count_by State.object.is_writing calls.items ≤ result) sections.now }
+    ensures range { (0 < result) × (result ≤ 65536) }
+{
+    let mut most = 1;
+    for calls in sections {
+        most = most.max(writing::<State>(calls));
+    }
+    most
+}
+
+/// How many calls of a section write.
+fn writing<State: Object>(calls: &[State::Call]) -> u32
+    requires { count_by State.object.is_writing calls.now ≤ 65536 }
+    ensures { result ≡ count_by State.object.is_writing calls.now }
+{
+    let mut count = 0;
+    for call in calls {
+        if State::is_writing(call) {
+            count += 1;
+        }
+    }
+    count
+}
+
+/// A head and its seats.
+fn open<State: Object>(
+    alloc: Global,
+    seats: u32,
+    per_seat: u32,
+    tries: u32,
+) -> Result<(Head<State>, Vec<Seat<State>>), AllocError>
+    requires { IsInRange seats per_seat tries 0 }
+    ensures { IfOk result (λ made. IsOpened seats per_seat tries made.0 made.1.items) }
+{
+    match Head::new(alloc, seats, per_seat, tries, 0) {
+        Ok(made) => Ok(made),
+        Err(_) => Err(AllocError),
+    }
+}
+
+/// Asks sections of calls over a head with a seat for each, section k at seat k: the first alone,
+/// and then each further one in a thread of its own, whose seat has met seat 0. Afterwards seat 0
+/// meets every seat, and every seat meets seat 0; what seat 0 has seen is the history.
+pub fn shared<R: Threads + Wait + Sync, State: Object + Send, G: Gate + Sync>(
+    rt: &R,
+    alloc: Global,
+    sections: &[Vec<State::Call>],
+    tries: u32,
+    gate: &G,
+) -> Result<HeadRun<State>, AllocError>
+where
+    State::Call: Send + Sync,
+    State::Reply: Send,
+    requires sections { (0 < length sections.now) × (length sections.now ≤ 64) }
+    requires writing { All (λ calls. count_by State.object.is_writing calls.items ≤ 65536) sections.now }
+    requires tries { (0 < tries) × (tries ≤ 1000) }
+    ensures { IfOk result (λ run.
+        IsShared State.object tries (lists_of sections.now) (lists_of run.answers.items) run.history.items) }
+{
+    let per_seat = most_writing::<State>(sections);
+    let (head, mut seats) = open::<State>(alloc, sections.len() as u32, per_seat, tries)?;
+    let opener = seats.remove(0);
+    let clients = new_clients(alloc, seats)?;
+    over_head::<R, State, G>(rt, alloc, &head, gate, sections, opener, clients)
+}
+
+/// Asks sections of calls over a head, section k at seat k: the first alone, and then each further
+/// one in a thread of its own.
+fn over_head<R: Threads + Wait + Sync, State: Object + Send, G: Gate + Sync>(
+    rt: &R,
+    alloc: Global,
+    head: &Head<State>,
+    gate: &G,
+    sections: &[Vec<State::Call>],
+    opener: Seat<State>,
+    clients: Vec<Client<Seat<State>, State::Reply>>,
+) -> Result<HeadRun<State>, AllocError>
+where
+    State::Call: Send + Sync,
+    State::Reply: Send,
+    requires opener { (IsSeatOf head.now opener) × (opener.known.number ≡ 0) × (history_of opener ≡ []) }
+    requires clients { AreNew (sight_of {Reply = State.Reply} head.now) clients.items }
+    requires as_many { length clients.items + 1 ≡ length sections.now }
+    requires room { All (λ calls. count_by State.object.is_writing calls.items ≤ head.now.row.per_seat) sections.now }
+    ensures { IfOk result (λ run. IsShared State.object (head.now.tries) (lists_of sections.now) (lists_of run.answers.items) run.history.items) }
+{
+    let mut opener = opener;
+    let opening = at_seat::<R, State, G>(rt, alloc, head, &mut opener, gate, &sections[0])?;
+    let (clients, opener) = each_meets::<State>(alloc, head, clients, opener)?;
+    let clients = run_clients::<R, State, G>(rt, alloc, head, gate, sections, clients)?;
+    let (opener, clients) = meets_each::<State>(alloc, head, opener, clients)?;
+    let (clients, opener) = each_meets::<State>(alloc, head, clients, opener)?;
+    let _number = opener.number();
+    let Ok(history) = head.history(&opener) else {
+        return Err(AllocError);
+    };
+    let answers = answers_of(alloc, opening, clients)?;
+    Ok(HeadRun { answers, history })
+}
