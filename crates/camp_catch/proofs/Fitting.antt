@@ -8,10 +8,13 @@ use Rattle.camp_prim.specs.Labels.{key_cmp}
 use Rattle.camp_prim.specs.declared.labels.Key.{Key}
 use Rattle.camp_prim.specs.declared.named.Named.{Named}
 use Rattle.camp_prim.proofs.Applied.{applies_once}
-use Rattle.camp_prim.proofs.Inverses.{leads_back}
+use Rattle.camp_prim.proofs.Inverses.{leads_back, inverse_of-inverse_of}
 use Rattle.camp_seq.specs.Equivalence.{◌~◌}
 use Rattle.camp_seq.specs.Running.{AppliesAll, inverse_all}
+use Rattle.camp_seq.specs.Merging.{MergesOne}
+use Rattle.camp_seq.proofs.ListEquivalence.{passed}
 use Rattle.camp_seq.proofs.ListRuns.{joined_runs, cut_run, equivalent_run}
+use Rattle.camp_seq.proofs.MergeGrid.{row_passes}
 use Rattle.camp_ctx.specs.Contexts.{InContext, Contexts, AreValid, Valid, only, with_member, context_key}
 use Rattle.camp_prim.proofs.LabelOrder.{key_total}
 use Rattle.camp_catch.specs.Catches.{Fits, effect_of, IsSeenFrom}
@@ -50,6 +53,15 @@ one_applies a old new run = subst (Applies a.prim old) (sym run.2) run.1
 
 pub one_back : (a : Named) (old new : Files) → AppliesAll (a ∷ []) old new → Applies (inverse_of a).prim new old
 one_back a old new run = leads_back a.prim old new (one_applies a old new run)
+
+-- a primitive that merges cleanly with a list closes a square of trees
+pub row_closes : (a : Named) (s s' : List Named) (a' : Named) → MergesOne a s s' a' → (old left right : Files) → AppliesAll (a ∷ []) old left → AppliesAll s old right → (new : Files) × AppliesAll s' left new × AppliesAll (a' ∷ []) right new
+row_closes a s s' a' m old left right first second =
+    let back = one_runs (inverse_of a) left old (one_back a old left first) in
+    let order = passed (inverse_of a) s s' (inverse_of a') (row_passes a s s' a' m) in
+    let runs = places_change (inverse_of a ∷ []) s s' (inverse_of a' ∷ []) order left old right back second in
+    let beside = one_back (inverse_of a') runs.0 right runs.2 in
+    (runs.0, runs.1, one_runs a' right runs.0 (subst (λ p. Applies p.prim right runs.0) (inverse_of-inverse_of a') beside))
 
 -- a list leads to one tree at most
 pub run_once : (s : List Named) (old new other : Files) → AppliesAll s old new → AppliesAll s old other → new ≡ other

@@ -21,13 +21,13 @@ use Rattle.camp_catch.specs.declared.catches.Catch.TheVariants.{Plain, Conflicto
 
 passed_key : (p : Named) (s s' : List Named) (p' : Named) → Passes p s s' p' → patch_key p' ≡ patch_key p
 passed_key p [] s' p' w = ap patch_key w.1
-passed_key p (q ∷ s) s' p' w = passed_key w.1 s w.2 p' w.4 ∙ ap key_of w.3.first
+passed_key p (q ∷ s) s' p' w = passed_key w.1 s w.2 p' w.4 ∙ ap key_of w.3.anywhere.first
 
 passed_labels : (p : Named) (s s' : List Named) (p' : Named) → Passes p s s' p' → map label_of s' ≡ map label_of s
 passed_labels p [] s' p' w = ap (map label_of) w.0
 passed_labels p (q ∷ s) s' p' w =
     let rest = passed_labels w.1 s w.2 p' w.4 in
-    ap (map label_of) w.5 ∙ (λ t. w.3.second t ∷ rest t)
+    ap (map label_of) w.5 ∙ (λ t. w.3.anywhere.second t ∷ rest t)
 
 all_passed_labels : (r s s' r' : List Named) → PassesAll r s s' r' → map label_of s' ≡ map label_of s
 all_passed_labels [] s s' r' w = ap (map label_of) w.0
@@ -42,15 +42,15 @@ passed_by_all_key r b b' left w =
 
 merged_key : (a : Named) (s s' : List Named) (a' : Named) → MergesOne a s s' a' → patch_key a' ≡ patch_key a
 merged_key a [] s' a' w = ap patch_key w.1
-merged_key a (b ∷ s) s' a' w = merged_key w.1 s w.2 a' w.4 ∙ ap key_of w.3.first
+merged_key a (b ∷ s) s' a' w = merged_key w.1 s w.2 a' w.4 ∙ ap key_of w.3.anywhere.first
 
 pub added_key : (a : Named) (x y : InContext) → Adds a x y → context_key y ≡ context_key x
 added_key a x y (cancel w) = ap patch_key w.patch
-added_key a x y (commute never w) = ap key_of w.past_patch.second
+added_key a x y (commute never w) = ap key_of w.past_patch.anywhere.second
 added_key a x y (keep never none w) = ap patch_key w.patch
 
 passed_context_key : (a : Named) (x y : InContext) → PassesBy a x y → context_key y ≡ context_key x
-passed_context_key a x y w = ap key_of w.past_patch.second
+passed_context_key a x y w = ap key_of w.past_patch.anywhere.second
 
 key_from_last : (Change : Named → InContext → InContext → Type 0) → ((a : Named) (x y : InContext) → Change a x y → context_key y ≡ context_key x) → (r : List Named) (x y : InContext) → FromLast Change r x y → context_key y ≡ context_key x
 key_from_last Change keeps [] x y w = ap context_key w
@@ -68,7 +68,7 @@ KeepKeys j k k' j' = (catch_key k' ≡ catch_key k) × (catch_key j' ≡ catch_k
 
 pub commuted_keys : (j k k' j' : Catch) → CommuteCatch j k k' j' → KeepKeys j k k' j'
 commuted_keys (Plain a) (Plain b) k' j' w =
-    (ap catch_key w.second ∙ ap key_of w.swap.second, ap catch_key w.first ∙ ap key_of w.swap.first)
+    (ap catch_key w.second ∙ ap key_of w.swap.anywhere.second, ap catch_key w.first ∙ ap key_of w.swap.anywhere.first)
 commuted_keys (Plain a) (Conflictor s ys l) k' j' (inl w) =
     (ap catch_key w.second ∙ passed_context_key w.a' l w.l' w.identity, ap catch_key w.first ∙ passed_key a s w.passed w.a' w.passes)
 commuted_keys (Plain a) (Conflictor s ys l) k' j' (inr (inl w)) =
@@ -92,7 +92,7 @@ beside_or_joined a s ys l k' j' (inr w) =
 
 pub merged_keys : (j k k' j' : Catch) → MergeCatch j k k' j' → KeepKeys j k k' j'
 merged_keys (Plain a) (Plain b) k' j' (inl w) =
-    (ap catch_key w.after ∙ ap key_of w.merge.second, ap catch_key w.beside ∙ ap key_of w.merge.first)
+    (ap catch_key w.after ∙ ap key_of w.merge.anywhere.second, ap catch_key w.beside ∙ ap key_of w.merge.anywhere.first)
 merged_keys (Plain a) (Plain b) k' j' (inr w) = (ap catch_key w.after, ap catch_key w.beside)
 merged_keys (Plain a) (Conflictor s ys l) k' j' w = beside_or_joined a s ys l k' j' w
 merged_keys (Conflictor r xs i) (Plain b) k' j' w =

@@ -3,12 +3,11 @@ use Rattle.std.proofs.Common.{◌≡◌, inl, inr, List, [], ◌∷◌, ◌++◌
 use Rattle.camp_base.specs.Trees.{Files}
 use Rattle.camp_prim.specs.Effect.{Applies, inverse_of}
 use Rattle.camp_prim.specs.declared.named.Named.{Named}
-use Rattle.camp_prim.proofs.Inverses.{leads_back}
 use Rattle.camp_seq.specs.Equivalence.{◌~◌}
 use Rattle.camp_seq.specs.Running.{AppliesAll, inverse_all}
 use Rattle.camp_seq.proofs.ListEquivalence.{ordered, split}
 use Rattle.camp_seq.proofs.ListRuns.{cut_run, runs_back}
-use Rattle.camp_seq.proofs.MergeGrid.{cell_closes, row_closes, merge_closes, cell_is_symmetric}
+use Rattle.camp_seq.proofs.MergeGrid.{merge_closes, cell_is_symmetric}
 use Rattle.camp_ctx.specs.Adding.{Adds, AddsAll}
 use Rattle.camp_ctx.specs.Conflicts.{MergesBehindCommon, Conflict, common_labels}
 use Rattle.camp_ctx.specs.Contexts.{InContext, Contexts, AreValid, Valid, bare, only, with_member}
@@ -20,7 +19,7 @@ use Rattle.camp_catch.specs.Merging.{Clean, FirstConflict, PlainBesideConflictor
 use Rattle.camp_catch.specs.Laws.{MergeKeepsEffects, MergeIsSymmetric}
 use Rattle.camp_catch.specs.declared.catches.Catch.{Catch}
 use Rattle.camp_catch.specs.declared.catches.Catch.TheVariants.{Plain, Conflictor}
-use Rattle.camp_catch.proofs.Fitting.{plain_fits, conflictor_fits, along, one_runs, one_applies, one_back, run_once, only_valid, with_member_valid}
+use Rattle.camp_catch.proofs.Fitting.{plain_fits, conflictor_fits, along, one_runs, one_back, row_closes, run_once, only_valid, with_member_valid}
 
 -- two catches that fit, each from a tree of its own, and end in one
 abbrev pub FitMeeting : Catch → Catch → Files → Files → Type 0
@@ -32,8 +31,8 @@ meeting_as k j k' j' left right e f both =
 
 clean : (a b : Named) (k' j' : Catch) → Clean a b k' j' → (old left right : Files) → Fits (Plain a) old left → Fits (Plain b) old right → FitMeeting k' j' left right
 clean a b k' j' w old left right f g =
-    let cell = cell_closes a b w.b' w.a' w.merge old left right (one_applies a old left f.effect) (one_applies b old right g.effect) in
-    meeting_as (Plain w.b') (Plain w.a') k' j' left right w.after w.beside (cell.0, plain_fits w.b' left cell.0 (one_runs w.b' left cell.0 cell.1), plain_fits w.a' right cell.0 (one_runs w.a' right cell.0 cell.2))
+    let cell = row_closes a (b ∷ []) (w.b' ∷ []) w.a' (w.b', w.a', [], w.merge, (refl, refl), refl) old left right f.effect g.effect in
+    meeting_as (Plain w.b') (Plain w.a') k' j' left right w.after w.beside (cell.0, plain_fits w.b' left cell.0 cell.1, plain_fits w.a' right cell.0 cell.2)
 
 -- what undoes one of two patches that conflict leads back to where both began
 undoing_fits : (a b : Named) (old left right : Files) → AppliesAll (a ∷ []) old left → AppliesAll (b ∷ []) old right → Fits (Conflictor (inverse_of a ∷ []) (only (bare a)) (bare b)) left old
@@ -46,12 +45,12 @@ first_conflict a b k' j' w old left right f g =
 
 plain_beside_conflictor : (a : Named) (s : List Named) (ys : Contexts) (l : InContext) (k' j' : Catch) → PlainBesideConflictor a s ys l k' j' → (old left right : Files) → Fits (Plain a) old left → Fits (Conflictor s ys l) old right → FitMeeting k' j' left right
 plain_beside_conflictor a s ys l k' j' w old left right f g =
-    let row = row_closes a s w.merged w.a' w.merge old left right (one_applies a old left f.effect) g.effect in
-    let back = leads_back w.a'.prim right row.0 row.2 in
+    let row = row_closes a s w.merged w.a' w.merge old left right f.effect g.effect in
+    let back = one_back w.a' right row.0 row.2 in
     let effect = along w.merged w.s' (ordered w.merged w.s' w.effect) left row.0 row.1 in
     let members = members_valid (Adds (inverse_of w.a')) (Applies (inverse_of w.a').prim) (valid_by_adding (inverse_of w.a')) ys w.ys' w.conflicts row.0 right back g.seen.0 in
     let identity = valid_by_adding (inverse_of w.a') l w.l' w.identity row.0 right back g.seen.1 in
-    meeting_as (Conflictor w.s' w.ys' w.l') (Plain w.a') k' j' left right w.after w.beside (row.0, conflictor_fits w.s' w.ys' w.l' left row.0 effect members identity, plain_fits w.a' right row.0 (one_runs w.a' right row.0 row.2))
+    meeting_as (Conflictor w.s' w.ys' w.l') (Plain w.a') k' j' left right w.after w.beside (row.0, conflictor_fits w.s' w.ys' w.l' left row.0 effect members identity, plain_fits w.a' right row.0 row.2)
 
 plain_joins_conflictor : (a : Named) (s : List Named) (ys : Contexts) (l : InContext) (k' j' : Catch) → PlainJoinsConflictor a s ys l k' j' → (old left right : Files) → Fits (Plain a) old left → Fits (Conflictor s ys l) old right → FitMeeting k' j' left right
 plain_joins_conflictor a s ys l k' j' w old left right f g =

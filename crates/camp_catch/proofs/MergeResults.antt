@@ -4,7 +4,10 @@ use Rattle.camp_prim.specs.Effect.{inverse_of}
 use Rattle.camp_prim.specs.declared.named.Named.{Named}
 use Rattle.camp_prim.proofs.SwapUnique.{swap_unique}
 use Rattle.camp_seq.specs.Running.{inverse_all}
-use Rattle.camp_seq.proofs.ListResults.{one_merge_of_one, same_inverse}
+use Rattle.camp_prim.proofs.Inverses.{inverse_of-inverse_of}
+use Rattle.camp_seq.specs.Merging.{MergesOne}
+use Rattle.camp_seq.proofs.ListResults.{one_pass}
+use Rattle.camp_seq.proofs.MergeGrid.{row_passes}
 use Rattle.camp_ctx.specs.Adding.{Adds, AddsAll}
 use Rattle.camp_ctx.specs.Conflicts.{Conflict}
 use Rattle.camp_ctx.specs.Contexts.{InContext, Contexts, EachMember, bare, only, with_member}
@@ -17,6 +20,14 @@ use Rattle.camp_catch.specs.declared.catches.Catch.{Catch}
 use Rattle.camp_catch.specs.declared.catches.Catch.TheVariants.{Plain, Conflictor}
 use Rattle.camp_catch.proofs.CommuteResults.{AreSame, same_conflictor, same_order}
 
+same_inverse : (p q : Named) → inverse_of p ≡ inverse_of q → p ≡ q
+same_inverse p q e = sym (inverse_of-inverse_of p) ∙ ap inverse_of e ∙ inverse_of-inverse_of q
+
+one_row : (a : Named) (s s' t : List Named) (a' b : Named) → MergesOne a s s' a' → MergesOne a s t b → (s' ≡ t) × (a' ≡ b)
+one_row a s s' t a' b v w =
+    let pass = one_pass (inverse_of a) s s' t (inverse_of a') (inverse_of b) (row_passes a s s' a' v) (row_passes a s t b w) in
+    (pass.0, same_inverse a' b pass.1)
+
 clean : (a b : Named) (k' j' k j : Catch) → Clean a b k' j' → Clean a b k j → AreSame k' j' k j
 clean a b k' j' k j v w =
     let pair = swap_unique (inverse_of a) b v.b' (inverse_of v.a') w.b' (inverse_of w.a') v.merge w.merge in
@@ -24,7 +35,7 @@ clean a b k' j' k j v w =
 
 plain_beside_conflictor : (a : Named) (s : List Named) (ys : Contexts) (l : InContext) (k' j' k j : Catch) → PlainBesideConflictor a s ys l k' j' → PlainBesideConflictor a s ys l k j → AreSame k' j' k j
 plain_beside_conflictor a s ys l k' j' k j v w =
-    let row = one_merge_of_one a s v.merged w.merged v.a' w.a' v.merge w.merge in
+    let row = one_row a s v.merged w.merged v.a' w.a' v.merge w.merge in
     let effects = same_order v.merged w.merged v.s' w.s' row.0 v.effect w.effect in
     let undo = inverse_of w.a' in
     let sets = one_change_of_members (Adds undo) (one_add undo) ys v.ys' w.ys' (subst (λ b. EachMember (Adds (inverse_of b)) ys v.ys') row.1 v.conflicts) w.conflicts in
