@@ -1,6 +1,6 @@
 use crate::{Contexted, CtxSet, conflict};
 use camp_base::{Line, Name, Path};
-use camp_prim::{Named, Primitive};
+use camp_prim::{Lines, Named, Primitive};
 use camp_seq::Seq;
 use std::alloc::Global;
 use std::test::Fail;
@@ -106,10 +106,10 @@ fn edit(alloc: Global, (name, inverse, line, old, new): Edit) -> Result<Named, F
     })
 }
 
-fn lines(alloc: Global, text: &str) -> Result<Vec<Line>, Fail> {
+fn lines(alloc: Global, text: &str) -> Result<Lines, Fail> {
     let mut made = Vec::new(alloc);
     for byte in text.as_bytes() {
         made.push(Line::new(alloc, &[*byte])?)?;
     }
-    Ok(made)
+    Ok(Lines::new(alloc, made)?)
 }
