@@ -23,7 +23,7 @@ fn last_two(head: Head<Numbers>, mut seats: Vec<Seat<Numbers>>) -> Option<Number
 }
 
 /// A head with two seats: the head, seat 1 and seat 0.
-fn two_seats(alloc: Global, per_seat: u32, tries: u32) -> Result<Numbered, Fail>
+pub(crate) fn two_seats(alloc: Global, per_seat: u32, tries: u32) -> Result<Numbered, Fail>
     ensures { IfOk result (λ r. IsSeatOf r.0 r.1 × IsSeatOf r.0 r.2) }
 {
     let (head, seats) = Head::<Numbers>::new(alloc, 2, per_seat, tries, 0)?;
@@ -33,7 +33,7 @@ fn two_seats(alloc: Global, per_seat: u32, tries: u32) -> Result<Numbered, Fail>
     }
 }
 
-fn ask(
+pub(crate) fn ask(
     rt: &impl Wait,
     head: &Head<Numbers>,
     seat: &mut Seat<Numbers>,
@@ -118,4 +118,45 @@ fn numbers_out_of_range_are_refused(rt: HostRuntime) {
         let made = Head::<Numbers>::new(rt.alloc(), seats, per_seat, tries, every);
         assert!(rt; matches!(made, Err(HeadFault::BadSize)));
     }
+}
+
+/// Asks again where memory was refused, which left what was accepted as it was.
+fn ask_again<R: Abort + Wait>(
+    rt: &R,
+    head: &Head<Numbers>,
+    seat: &mut Seat<Numbers>,
+    call: NumberCall,
+) -> Result<NumberReply, Fault>
+    requires { IsSeatOf head.now seat.old }
+    ensures { IsSeatOf head.now seat.new }
+{
+    let accepted = seat.accepted();
+    let position = seat.position();
+    let answer = ask(rt, head, seat, call);
+    if answer != Err(Fault::Memory) {
+        return answer;
+    }
+    assert!(rt; seat.accepted() == accepted && seat.position() >= position);
+    ask(rt, head, seat, call)
+}
+
+#[test]
+fn a_call_whose_memory_was_refused_is_asked_again(rt: HostRuntime) -> Result<(), Fail> {
+    let Ok((head, seats)) = Head::<Numbers>::new(rt.alloc(), 2, 4, 3, 0) else {
+        return Ok(());
+    };
+    let (head, mut one, mut zero) = last_two(head, seats).ok_or("fewer than two seats")?;
+    assert_eq!(rt; ask_again(&rt, &head, &mut zero, Insert(5)), Ok(Done(1)));
+    assert_eq!(rt; ask_again(&rt, &head, &mut one, Insert(3)), Ok(Done(2)));
+    assert_eq!(rt; ask_again(&rt, &head, &mut zero, Insert(4)), Ok(Done(3)));
+    assert_eq!(rt; ask_again(&rt, &head, &mut one, Insert(5)), Ok(Present));
+    let (one, zero, _met) = head.meet(one, zero);
+    let (one, _zero, met) = head.meet(one, zero);
+    let history = match head.history(&one) {
+        Ok(history) => history,
+        Err(_) => head.history(&one)?,
+    };
+    let expected = [(0, Insert(5)), (1, Insert(3)), (0, Insert(4))];
+    assert!(rt; met.is_ok() && history.as_slice() == expected.as_slice());
+    Ok(())
 }
