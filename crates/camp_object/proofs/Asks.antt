@@ -106,9 +106,9 @@ module _ {State Call Reply : Type 0} (object : Sequential State Call Reply) (cal
   says_since : (answer : Result Reply Fault) → Says object caller mid call answer now → Says object caller seen call answer now
   says_since (Ok reply) says =
       (elim (object.done_at reply) as (λ told. MatchOption told (AddsNothing caller mid now × IsAnswered object now call reply) (λ at. Accepts caller mid call at now)
-        → MatchOption told (AddsNothing caller seen now × IsAnswered object now call reply) (λ at. Accepts caller seen call at now)) [
-      | None ↦ λ answered. (adds_nothing_since answered.0, answered.1)
-      | Some at ↦ λ accepts. accepts_since at accepts
+      → MatchOption told (AddsNothing caller seen now × IsAnswered object now call reply) (λ at. Accepts caller seen call at now)) [
+        | None ↦ λ answered. (adds_nothing_since answered.0, answered.1)
+        | Some at ↦ λ accepts. accepts_since at accepts
       ]) says
   says_since (Err Memory) says = adds_nothing_since says
   says_since (Err (Busy lost)) says = record {

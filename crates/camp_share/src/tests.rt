@@ -49,6 +49,7 @@ fn every_cut_of_a_list_is_spliced(rt: HostRuntime) -> Result<(), Fail> {
     for to in 0..items.len() {
         for from in 0..to {
             let mut want = numbers(alloc, 130)?;
+            assert!(rt; from <= to && to <= want.len(), "{from} {to}");
             want.splice(from..to, numbers(alloc, 2)?)?;
             let spliced = list.spliced(from, to, &numbers(alloc, 2)?)?;
             assert!(rt; spliced.to_vec()? == want, "{from} {to}");
@@ -69,11 +70,11 @@ fn keys_come_in_any_order_and_stand_in_theirs(rt: HostRuntime) -> Result<(), Fai
     for step in [1, 77, 199] {
         let mut map = SharedMap::new(alloc);
         for turn in 0..200 {
-            map = map.inserted(turn * step % 200, turn)?;
+            map = map.inserted(turn.wrapping_mul(step) % 200, turn)?;
         }
         for at in 0..200 {
             let turn = map.get(&at).ok_or("no value")?;
-            assert!(rt; *turn * step % 200 == at, "{step} {at}");
+            assert!(rt; turn.wrapping_mul(step) % 200 == at, "{step} {at}");
             assert!(rt;
                 map.at(at as usize).is_some_and(|entry| entry.0 == at),
                 "{step} {at}"
@@ -85,7 +86,7 @@ fn keys_come_in_any_order_and_stand_in_theirs(rt: HostRuntime) -> Result<(), Fai
             "{step}"
         );
         for at in 0..200 {
-            map = map.without(&(at * 3 % 200))?;
+            map = map.without(&(at.wrapping_mul(3) % 200))?;
         }
         assert!(rt; map.is_empty(), "{step}");
     }

@@ -1,9 +1,9 @@
 -- What is done to a tree leads to one tree.
 use Rattle.std.proofs.Common.{◌≡◌, ℕ, List, [], ◌∷◌, refl, sym, ◌∙◌, subst, Option, None, Some, IsSome, Result, Ok, Err}
 use Rattle.std.specs.FinMap.{get, insert}
-use Rattle.std.specs.Result.{IfErr, OnOk}
+use Rattle.std.specs.Result.{OnOk}
 use Rattle.std.proofs.lemmas.Option.{same_Some}
-use Rattle.camp_base.specs.Answers.{Answers}
+use Rattle.camp_base.specs.Answers.{Answers, AnswersByTrial}
 use Rattle.camp_base.specs.Trees.{Files, Lines, Adds, Removes}
 use Rattle.camp_base.specs.declared.faults.Apply.{Apply}
 use Rattle.camp_base.specs.declared.faults.Apply.TheVariants.{DoesNotApply, Memory}
@@ -15,7 +15,7 @@ use Rattle.camp_prim.specs.declared.primitives.Primitive.TheVariants.{Add, Remov
 use Rattle.camp_seq.specs.Laws as lists
 use Rattle.camp_seq.specs.Laws.{MergeCloses}
 use Rattle.camp_seq.specs.Merging.{CleanMerge}
-use Rattle.camp_seq.specs.Running.{Runs, inverse_all}
+use Rattle.camp_seq.specs.Running.{AppliesAll, inverse_all}
 
 pub applies_once : AppliedIsApplies → (p : Primitive) (old a b : Files) → Applies p old a → Applies p old b → a ≡ b
 applies_once is p old a b x y = same_Some a b (sym ((is p old a).1 x) ∙ (is p old b).1 y)
@@ -25,16 +25,18 @@ leads_once is p q old a b x y =
     let between = applies_once is p old x.between y.between x.first y.first in
     applies_once is q y.between a b (subst (λ tree. Applies q tree a) between x.second) y.second
 
-pub runs_once : AppliedIsApplies → (s : List Named) (old a b : Files) → Runs s old a → Runs s old b → a ≡ b
+pub runs_once : AppliedIsApplies → (s : List Named) (old a b : Files) → AppliesAll s old a → AppliesAll s old b → a ≡ b
 runs_once is [] old a b x y = x ∙ sym y
 runs_once is (p ∷ s) old a b (m, first, rest) (n, other, others) =
-    runs_once is s n a b (subst (λ tree. Runs s tree a) (applies_once is p.prim old m n first other) rest) others
+    runs_once is s n a b (subst (λ tree. AppliesAll s tree a) (applies_once is p.prim old m n first other) rest) others
 
--- what was added can be taken away again
-pub taken_away : AppliedIsApplies → InverseLeadsBack → (path : List ℕ) (old between new : Files) (result : Result (Unit {0}) Apply) → Adds path old between → Answers (Removes path) between result new → IfErr result (λ fault. fault ≡ DoesNotApply) → (new ≡ old) × ¬ (result ≡ Err DoesNotApply)
-taken_away is back path old between new (Ok done) adds removes told = (applies_once is (Remove path) between new old removes ((back (Add path) old between).0 adds), λ e. cc)
-taken_away is back path old between new (Err DoesNotApply) adds (none, kept) told = absurd (none old ((back (Add path) old between).0 adds))
-taken_away is back path old between new (Err Memory) adds kept told = cc
+-- what was added can be taken away again, if memory does not run out
+pub taken_away : AppliedIsApplies → InverseLeadsBack → (path : List ℕ) (old between new : Files) (result : Result (Unit {0}) Apply) → Adds path old between → Answers (Removes path) between result new → OnOk result (new ≡ old) × ¬ (result ≡ Err DoesNotApply)
+taken_away is back path old between new (Ok done) adds removes =
+    (applies_once is (Remove path) between new old removes ((back (Add path) old between).0 adds), λ e. cc)
+taken_away is back path old between new (Err DoesNotApply) adds (none, kept) =
+    absurd (none old ((back (Add path) old between).0 adds))
+taken_away is back path old between new (Err Memory) adds kept = (tt, λ e. cc)
 
 -- a file that cannot be added is there
 there : (path : List ℕ) (old : Files) (o : Option Lines) → ((new : Files) → ¬ (Adds path old new)) → get old path ≡ o → IsSome o
@@ -46,13 +48,13 @@ present path old new DoesNotApply (none, kept) e = there path old (get old path)
 present path old new Memory kept e = cc
 
 -- what a list did is undone by its inverse
-pub undone : AppliedIsApplies → lists.InverseLeadsBack → (s t : List Named) (old between new : Files) (result : Result (Unit {0}) Apply) → t ≡ inverse_all s → Runs s old between → Answers (Runs t) between result new → OnOk result (new ≡ old)
-undone is back s t old between new (Ok done) same runs again = runs_once is (inverse_all s) between new old (subst (λ u. Runs u between new) same again) ((back s old between).0 runs)
+pub undone : AppliedIsApplies → lists.InverseOfListLeadsBack → (s t : List Named) (old between new : Files) (result : Result (Unit {0}) Apply) → t ≡ inverse_all s → AppliesAll s old between → AnswersByTrial (AppliesAll t) between result new → OnOk result (new ≡ old)
+undone is back s t old between new (Ok done) same runs again = runs_once is (inverse_all s) between new old (subst (λ u. AppliesAll u between new) same again) ((back s old between).0 runs)
 undone is back s t old between new (Err DoesNotApply) same runs again = tt
 undone is back s t old between new (Err Memory) same runs again = tt
 
 -- two lists that merge lead to one tree
-pub one_tree : AppliedIsApplies → MergeCloses → (a b b' a' : List Named) (old left right here other : Files) → CleanMerge a b b' a' → Runs a old left → Runs b' left here → Runs b old right → Runs a' right other → here ≡ other
+pub one_tree : AppliedIsApplies → MergeCloses → (a b b' a' : List Named) (old left right here other : Files) → CleanMerge a b b' a' → AppliesAll a old left → AppliesAll b' left here → AppliesAll b old right → AppliesAll a' right other → here ≡ other
 one_tree is closes a b b' a' old left right here other merge first behind second beside =
     let (new, l, r) = closes a b b' a' merge old left right first second in
     runs_once is b' left here new behind l ∙ sym (runs_once is a' right other new beside r)

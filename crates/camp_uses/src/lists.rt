@@ -2,7 +2,7 @@
 ghost use Rattle.std.specs.Prelude.{◌≡◌, OnOk, IfOk, IfSome};
 ghost use Rattle.camp_seq.specs.Equivalence.{◌~◌};
 ghost use Rattle.camp_seq.specs.Room.{HasRoom};
-ghost use Rattle.camp_seq.specs.Running.{Runs};
+ghost use Rattle.camp_seq.specs.Running.{AppliesAll};
 
 use camp_base::{Apply, Tree};
 use camp_prim::applied_is_applies;
@@ -63,7 +63,7 @@ pub fn merged_in_both_orders(a: &Seq, b: &Seq, tree: &Tree) -> Result<Option<(Tr
 }
 
 fn after(list: &Seq, tree: &Tree) -> Result<Tree, Apply>
-    ensures { IfOk result (Runs list.now tree.now) }
+    ensures { IfOk result (AppliesAll list.now tree.now) }
 {
     let mut changed = tree.try_clone()?;
     apply_all(list, &mut changed)?;

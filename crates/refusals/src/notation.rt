@@ -1,8 +1,8 @@
 use crate::fixtures;
 use crate::stops::{Stop, expect};
 use camp_notation::{
-    NotationError, label_text, lines_text, list_text, listing, named_text, read_label,
-    read_lines, read_list, read_named, read_tree, read_word, tree_text, word_text,
+    NotationError, label_text, lines_text, list_text, listing, named_text, read_label, read_lines,
+    read_list, read_named, read_tree, read_word, tree_text, word_text,
 };
 use camp_prim::Named;
 use camp_seq::Seq;
