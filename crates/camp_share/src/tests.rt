@@ -67,12 +67,12 @@ fn every_cut_of_a_list_is_spliced(rt: HostRuntime) -> Result<(), Fail> {
 #[test]
 fn keys_come_in_any_order_and_stand_in_theirs(rt: HostRuntime) -> Result<(), Fail> {
     let alloc = rt.alloc();
-    for step in [1, 77, 199] {
+    for step in [1u32, 77, 199] {
         let mut map = SharedMap::new(alloc);
-        for turn in 0..200 {
+        for turn in 0u32..200 {
             map = map.inserted(turn.wrapping_mul(step) % 200, turn)?;
         }
-        for at in 0..200 {
+        for at in 0u32..200 {
             let turn = map.get(&at).ok_or("no value")?;
             assert!(rt; turn.wrapping_mul(step) % 200 == at, "{step} {at}");
             assert!(rt;
@@ -85,7 +85,7 @@ fn keys_come_in_any_order_and_stand_in_theirs(rt: HostRuntime) -> Result<(), Fai
             map.get(&200).is_none() && map.inserted_if_absent(3, 0)? == map,
             "{step}"
         );
-        for at in 0..200 {
+        for at in 0u32..200 {
             map = map.without(&(at.wrapping_mul(3) % 200))?;
         }
         assert!(rt; map.is_empty(), "{step}");
