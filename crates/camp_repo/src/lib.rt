@@ -5,8 +5,6 @@ mod branches;
 mod calls;
 mod laws;
 mod states;
-#[cfg(test)]
-mod tests;
 
 pub use branches::Branch;
 pub use calls::{Call, Refusal, Reply};
