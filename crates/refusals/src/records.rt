@@ -7,18 +7,40 @@ use std::alloc::Global;
 /// Makes the calls of repositories.
 pub(crate) fn make_calls(alloc: Global) -> Result<(), Stop> {
     let state = record_line(alloc)?;
-    copy_state(&state)?;
-    ask_in_vain(alloc, &state)?;
-    ask_for_tree(alloc, &state)
+    ask_all(alloc, &state)
+}
+
+fn ask_all(alloc: Global, state: &State) -> Result<(), Stop> {
+    copy_state(state)?;
+    ask_in_vain(alloc, state)?;
+    ask_for_tree(alloc, state)
 }
 
 fn record_line(alloc: Global) -> Result<State, Stop> {
-    let addition = fixtures::record(b"a", fixtures::addition(alloc)?)?;
-    let state = accept(&State::new(alloc), &addition)?;
-    let edit = fixtures::edit(alloc, 1, &[], &[b"one"])?;
-    let edit = fixtures::record(b"b", edit)?;
+    let first = State::new(alloc);
+    let added = record_addition(alloc, &first)?;
+    record_edit(alloc, &added)
+}
+
+fn record_addition(alloc: Global, state: &State) -> Result<State, Stop> {
+    let addition = addition_of(alloc, b"a")?;
+    accept(state, &addition)
+}
+
+fn record_edit(alloc: Global, state: &State) -> Result<State, Stop> {
+    let edit = edit_of(alloc, b"b")?;
     copy_call(&edit)?;
-    accept(&state, &edit)
+    accept(state, &edit)
+}
+
+fn addition_of(alloc: Global, name: &[u8]) -> Result<Call, Stop> {
+    let addition = fixtures::addition(alloc)?;
+    fixtures::record(name, addition)
+}
+
+fn edit_of(alloc: Global, name: &[u8]) -> Result<Call, Stop> {
+    let edit = fixtures::edit(alloc, 1, &[], &[b"one"])?;
+    fixtures::record(name, edit)
 }
 
 fn copy_call(call: &Call) -> Result<(), Stop> {
@@ -44,10 +66,10 @@ fn copy_state(state: &State) -> Result<(), Stop> {
 // A name that is taken is refused before memory is asked for, and a change that does not apply
 // behind that.
 fn ask_in_vain(alloc: Global, state: &State) -> Result<(), Stop> {
-    let taken = fixtures::record(b"a", fixtures::addition(alloc)?)?;
+    let taken = addition_of(alloc, b"a")?;
     let name = Name::new(b"a")?;
     expect_refusal(state, &taken, Refusal::PatchExists(name))?;
-    let doubled = fixtures::record(b"c", fixtures::addition(alloc)?)?;
+    let doubled = addition_of(alloc, b"c")?;
     expect_refusal(state, &doubled, Refusal::DoesNotApply)
 }
 
