@@ -65,16 +65,32 @@ fn make_calls(alloc: Global, part: Option<u8>) -> Result<(), Stop> {
 }
 
 fn make_calls_of(alloc: Global, part: u8) -> Result<(), Stop> {
-    match part {
-        b't' => trees::make_calls(alloc),
-        b'p' => patches::make_calls(alloc),
-        b'l' => lists::make_calls(alloc),
-        b'n' => notation::make_calls(alloc),
-        b'r' => records::make_calls(alloc),
-        b's' => texts::make_calls(alloc),
-        b'u' => runs::make_calls(alloc),
-        _ => Err(Stop::Wrong("no such part")),
+    if part == b't' {
+        return trees::make_calls(alloc);
     }
+    if part == b'p' {
+        return patches::make_calls(alloc);
+    }
+    if part == b'l' {
+        return lists::make_calls(alloc);
+    }
+    make_further_calls_of(alloc, part)
+}
+
+fn make_further_calls_of(alloc: Global, part: u8) -> Result<(), Stop> {
+    if part == b'n' {
+        return notation::make_calls(alloc);
+    }
+    if part == b'r' {
+        return records::make_calls(alloc);
+    }
+    if part == b's' {
+        return texts::make_calls(alloc);
+    }
+    if part == b'u' {
+        return runs::make_calls(alloc);
+    }
+    Err(Stop::Wrong("no such part"))
 }
 
 fn make_all_calls(alloc: Global) -> Result<(), Stop> {

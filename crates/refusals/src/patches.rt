@@ -14,17 +14,36 @@ pub(crate) fn make_calls(alloc: Global) -> Result<(), Stop> {
 
 fn copy_patches(alloc: Global) -> Result<(), Stop> {
     let patch = fixtures::patch(alloc, b"a", 1, &[b"x"], &[b"y"])?;
+    copy_patch(&patch)?;
+    copy_addition(alloc)
+}
+
+fn copy_patch(patch: &Named) -> Result<(), Stop> {
+    copy_named(patch)?;
+    copy_hunk(&patch.prim)?;
+    copy_primitive(&patch.prim)
+}
+
+fn copy_addition(alloc: Global) -> Result<(), Stop> {
+    let addition = fixtures::addition(alloc)?;
+    copy_primitive(&addition)
+}
+
+fn copy_named(patch: &Named) -> Result<(), Stop> {
     let before = patch.try_clone()?;
     let answer = patch.try_clone();
     let copy = value_of(answer, patch.is_same(&before), "Named::try_clone")?;
-    expect(copy.is_same(&patch), "Named::try_clone")?;
-    if let Primitive::Hunk(hunk) = &patch.prim {
-        let answer = hunk.try_clone();
-        let copy = value_of(answer, patch.is_same(&before), "Hunk::try_clone")?;
-        expect(copy.is_same(hunk), "Hunk::try_clone")?;
-    }
-    copy_primitive(&patch.prim)?;
-    copy_primitive(&fixtures::addition(alloc)?)
+    expect(copy.is_same(patch), "Named::try_clone")
+}
+
+fn copy_hunk(prim: &Primitive) -> Result<(), Stop> {
+    let Primitive::Hunk(hunk) = prim else {
+        return Err(Stop::Wrong("Hunk::try_clone"));
+    };
+    let before = hunk.try_clone()?;
+    let answer = hunk.try_clone();
+    let copy = value_of(answer, hunk.is_same(&before), "Hunk::try_clone")?;
+    expect(copy.is_same(hunk), "Hunk::try_clone")
 }
 
 fn copy_primitive(prim: &Primitive) -> Result<(), Stop> {
