@@ -82,7 +82,7 @@ conflictor_past_plain r xs i b k' j' k j v w =
     let identities = one_passing_by (inverse_of b) i v.i' w.i' v.identity w.identity in
     (v.second ∙ ap Plain (same_head v.b' w.b' pass.0) ∙ sym w.second, v.first ∙ same_conflictor v.r' w.r' v.xs' w.xs' v.i' w.i' effects sets identities ∙ sym w.first)
 
-one_pass_of_effects : (r s : List Named) (ys : Contexts) (effect rr' other ss' : List Named) → EffectsPass r s ys effect rr' → EffectsPass r s ys other ss' → (effect ≡ other) × (rr' ≡ ss')
+pub one_pass_of_effects : (r s : List Named) (ys : Contexts) (effect rr' other ss' : List Named) → EffectsPass r s ys effect rr' → EffectsPass r s ys other ss' → (effect ≡ other) × (rr' ≡ ss')
 one_pass_of_effects r s ys effect rr' other ss' v w =
     let parts = one_split (labels_undone r ys) r v.common v.rr w.common w.rr v.split w.split in
     let pass = one_pass_of_all w.rr s v.passed w.passed v.left w.left (subst (λ x. PassesAll x s v.passed v.left) parts.1 v.passes) w.passes in

@@ -1,7 +1,10 @@
+pub mod CommuteDecided
 pub mod CommuteEffects
 pub mod CommuteResults
 pub mod Fitting
 pub mod KeptLabels
 pub mod ListEffects
+pub mod ListsDecided
+pub mod MergeDecided
 pub mod MergeEffects
 pub mod MergeResults

@@ -8,6 +8,7 @@ use Rattle.camp_prim.proofs.SwapUnique.{swap_unique}
 use Rattle.camp_seq.specs.NormalOrder.{Norm}
 use Rattle.camp_seq.specs.Passing.{Passes, Fronts}
 use Rattle.camp_seq.proofs.ListResults.{one_pass, one_front, one_order}
+use Rattle.camp_seq.proofs.ListsDecided.{passes_or_not}
 use Rattle.camp_seq.proofs.NormalOrders.{front_or_not, has_normal_order}
 use Rattle.camp_prim.proofs.SwapDecided.{Decided, decided_by, swap_or_not}
 use Rattle.camp_ctx.specs.Adding.{Cancels, PassesBy, Keeps, Adds, cancel, commute, keep, FromLast, AddsAll, PassesByAll}
@@ -60,10 +61,10 @@ pub one_passing_of_all : (r : List Named) → GivesOne (PassesByAll r)
 one_passing_of_all = one_from_last PassesBy one_passing_by
 
 -- a label comes to the front as a given primitive, or not
-abbrev FrontAs : Named → List Named → Type 0
+abbrev pub FrontAs : Named → List Named → Type 0
 FrontAs y s = (rest : List Named) × Fronts (label_of y) s y rest
 
-front_as_or_not : (y : Named) (s : List Named) → Decided (FrontAs y s)
+pub front_as_or_not : (y : Named) (s : List Named) → Decided (FrontAs y s)
 front_as_or_not y s = elim (front_or_not (label_of y) s) [
   | inl f ↦ decided_by (λ e. (f.1, subst (λ z. Fronts (label_of y) s z f.1) e f.2)) (λ g. (one_front (label_of y) s f.1 g.0 f.0 y f.2 g.1).0) (named_or_not f.0 y)
   | inr never ↦ inr (λ g. never (y, g.0, g.1))
@@ -73,19 +74,6 @@ cancel_or_not : (a : Named) (x : InContext) → Decided ((y : InContext) × Canc
 cancel_or_not a x =
     decided_by (λ f. let order = has_normal_order f.0 in (record { context = order.0; patch = x.patch }, record { rest = f.0; front = f.1; context = order.1; patch = refl })) (λ c. (c.1.rest, c.1.front)) (front_as_or_not (inverse_of a) x.context)
 
-passes_with : (p q : Named) (s : List Named) → (w : (q' : Named) × (p' : Named) × Swap p q q' p') → Decided ((s' : List Named) × (p' : Named) × Passes w.1 s s' p') → Decided ((s' : List Named) × (p' : Named) × Passes p (q ∷ s) s' p')
-passes_with p q s w rest =
-    decided_by (λ r. (w.0 ∷ r.0, r.1, (w.0, w.1, r.0, w.2, r.2, refl))) (λ r.
-    let pair = swap_unique p q r.2.0 r.2.1 w.0 w.1 r.2.3 w.2 in
-    (r.2.2, r.1, subst (λ x. Passes x s r.2.2 r.1) pair.1 r.2.4)) rest
-
-pub passes_or_not : (p : Named) (s : List Named) → Decided ((s' : List Named) × (p' : Named) × Passes p s s' p')
-passes_or_not p [] = inl ([], p, (refl, refl))
-passes_or_not p (q ∷ s) = elim (swap_or_not p q) [
-  | inl w ↦ passes_with p q s w (passes_or_not w.1 s)
-  | inr never ↦ inr (λ r. never (r.2.0, r.2.1, r.2.3))
-]
-
 pass_patch_or_not : (a : Named) (x : InContext) → ((s' : List Named) × (p' : Named) × Passes a x.context s' p') → Decided ((y : InContext) × PassesBy a x y)
 pass_patch_or_not a x w =
     decided_by (λ v.
@@ -94,7 +82,7 @@ pass_patch_or_not a x w =
     let pass = one_pass a x.context c.1.passed w.0 c.1.a' w.1 c.1.past_context w.2 in
     (c.0.patch, c.1.a'', subst (λ b. Swap b x.patch c.0.patch c.1.a'') pass.1 c.1.past_patch)) (swap_or_not w.1 x.patch)
 
-passing_by_or_not : (a : Named) (x : InContext) → Decided ((y : InContext) × PassesBy a x y)
+pub passing_by_or_not : (a : Named) (x : InContext) → Decided ((y : InContext) × PassesBy a x y)
 passing_by_or_not a x = elim (passes_or_not a x.context) [
   | inl w ↦ pass_patch_or_not a x w
   | inr never ↦ inr (λ c. never (c.1.passed, c.1.a', c.1.past_context))

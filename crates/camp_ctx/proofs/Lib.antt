@@ -4,6 +4,7 @@ pub mod AddValid
 pub mod CommonLabels
 pub mod ConflictLaws
 pub mod ConflictSteps
+pub mod ContextsDecided
 pub mod EntrySteps
 pub mod NamedDecided
 pub mod SetChanges

@@ -18,7 +18,7 @@ use Rattle.camp_prim.proofs.SwapDecided.{Decided, decided_by, same_or_not}
 bytes_tie : IsAntisymmetric (slice_cmp nat_cmp)
 bytes_tie = slice_cmp-IsAntisymmetric nat_cmp-IsAntisymmetric
 
-bytes_or_not : (a b : List ℕ) → Decided (a ≡ b)
+pub bytes_or_not : (a b : List ℕ) → Decided (a ≡ b)
 bytes_or_not = same_or_not (slice_cmp nat_cmp) nat_list_cmp_total bytes_tie
 
 lines_or_not : (a b : Lines) → Decided (a ≡ b)

@@ -100,7 +100,7 @@ no_length [] is = refl
 no_length (x ∷ xs) is = absurd (omega arith)
 
 -- what one member's entries are
-entries-only : (x : InContext) → entries (only x) ≡ entry_of x ∷ []
+pub entries-only : (x : InContext) → entries (only x) ≡ entry_of x ∷ []
 entries-only x =
     entries-insert key_total empty (context_key x) x ∙ ap (put key_cmp (context_key x) x) (no_length (entries empty) (sym (len-entries empty) ∙ len-empty key_cmp InContext))
 

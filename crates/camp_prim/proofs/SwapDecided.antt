@@ -37,7 +37,7 @@ four_or_not : {A B C D : Type 0} → Decided A → Decided B → Decided C → D
 four_or_not a b c d =
     decided_by (λ x. (x.0.0, x.0.1, x.1.0, x.1.1)) (λ x. ((x.0, x.1), (x.2, x.3))) (both_or_not (both_or_not a b) (both_or_not c d))
 
-le_or_not : (m n : ℕ) → Decided (m ≤ n)
+pub le_or_not : (m n : ℕ) → Decided (m ≤ n)
 le_or_not m n = elim (cases_lt n m) [ inl lt ↦ inr (λ le. omega arith) | inr le ↦ inl le ]
 
 tie_or_not : (r : Ordering) → Decided (r ≡ Equal)

@@ -10,6 +10,7 @@ pub mod ListEquivalence
 pub mod ListResults
 pub mod ListRuns
 pub mod ListSteps
+pub mod ListsDecided
 pub mod MergeGrid
 pub mod MergeSteps
 pub mod NormalForms

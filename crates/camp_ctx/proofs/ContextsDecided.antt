@@ -1,0 +1,84 @@
+-- Whether contexted patches pass and conflict, and whether a set has one member, is decided.
+use Rattle.std.proofs.Common.{◌≡◌, Option, None, Some, List, [], ◌∷◌, refl, sym, ap, ◌∙◌, subst, inl, inr}
+use Rattle.std.specs.FinMap.{entries, same_entries_map}
+use Rattle.camp_base.specs.Answers.{FindsPair}
+use Rattle.camp_prim.specs.declared.labels.Key.{Key}
+use Rattle.camp_prim.specs.Labels.{key_cmp}
+use Rattle.camp_prim.specs.declared.named.Named.{Named}
+use Rattle.camp_prim.proofs.LabelOrder.{key_total, key_ties}
+use Rattle.camp_prim.proofs.SwapDecided.{Decided, decided_by, same_or_not}
+use Rattle.camp_seq.specs.NormalOrder.{Splits}
+use Rattle.camp_seq.proofs.ListsDecided.{TwoOrNone, clean_merge_or_not, splits_or_not}
+use Rattle.camp_ctx.specs.Adding.{PassesBy, PassesByAll}
+use Rattle.camp_ctx.specs.Conflicts.{common_labels, MergesBehindCommon, Conflict}
+use Rattle.camp_ctx.specs.Contexts.{InContext, Contexts, context_key, only, whole}
+use Rattle.camp_ctx.proofs.AddResults.{one_passing_of_all, passing_by_or_not, same_in_context}
+use Rattle.camp_ctx.proofs.ConflictSteps.{no_first, no_second, other_fronts, merges_as_the_rests}
+use Rattle.camp_ctx.proofs.NamedDecided.{both_or_not, named_or_not}
+use Rattle.camp_ctx.proofs.SetSteps.{entries-only}
+
+-- two lists are the same, or they are not
+pub lists_or_not : (s t : List Named) → Decided (s ≡ t)
+lists_or_not [] [] = inl refl
+lists_or_not [] (q ∷ t) = inr (λ e. cc)
+lists_or_not (p ∷ s) [] = inr (λ e. cc)
+lists_or_not (p ∷ s) (q ∷ t) =
+    decided_by (λ e i. e.0 i ∷ e.1 i) (λ e. (cc, cc)) (both_or_not (named_or_not p q) (lists_or_not s t))
+
+pub in_context_or_not : (x y : InContext) → Decided (x ≡ y)
+in_context_or_not x y =
+    decided_by (λ e. same_in_context x y e.0 e.1) (λ e. (ap (λ z. z.context) e, ap (λ z. z.patch) e)) (both_or_not (lists_or_not x.context y.context) (named_or_not x.patch y.patch))
+
+pub keys_or_not : (k l : Key) → Decided (k ≡ l)
+keys_or_not = same_or_not key_cmp key_total key_ties
+
+pub list_passes_by_or_not : (r : List Named) (x : InContext) → Decided ((y : InContext) × PassesByAll r x y)
+list_passes_by_or_not [] x = inl (x, refl)
+list_passes_by_or_not (a ∷ r) x = elim (list_passes_by_or_not r x) [
+  | inl w ↦ decided_by (λ v. (v.0, (w.0, w.1, v.1))) (λ v. (v.0, subst (λ u. PassesBy a u v.0) (one_passing_of_all r x v.1.0 w.0 v.1.1 w.1) v.1.2)) (passing_by_or_not a w.0)
+  | inr never ↦ inr (λ v. never (v.1.0, v.1.1))
+]
+
+-- lists merge behind what they have in common as their rests merge
+merge_of_rests : (s t : List Named) → (v : (f : List Named) × (r : List Named) × Splits (common_labels s t) s f r) → (w : (f : List Named) × (r : List Named) × Splits (common_labels s t) t f r) → Decided (v.0 ≡ w.0) → TwoOrNone (MergesBehindCommon s t)
+merge_of_rests s t v w (inl same) = elim (clean_merge_or_not v.1 w.1) [
+  | inl m ↦ inl (m.0, m.1, merges_as_the_rests s t (common_labels s t) refl v.0 w.0 v.1 w.1 v.2 w.2 same (Some (m.0, m.1)) m.2)
+  | inr never ↦ inr (λ u. merges_as_the_rests s t (common_labels s t) refl v.0 w.0 v.1 w.1 v.2 w.2 same None (λ pair m. never (pair.0, pair.1, m)) (u.0, u.1) u.2)
+]
+merge_of_rests s t v w (inr apart) = inr (λ u. other_fronts s t (common_labels s t) refl v.0 w.0 v.1 w.1 v.2 w.2 apart (u.0, u.1) u.2)
+
+pub merge_behind_or_not : (s t : List Named) → TwoOrNone (MergesBehindCommon s t)
+merge_behind_or_not s t = elim (splits_or_not (common_labels s t) s) [
+  | inl v ↦ elim (splits_or_not (common_labels s t) t) [
+    | inl w ↦ merge_of_rests s t v w (lists_or_not v.0 w.0)
+    | inr never ↦ inr (λ u. no_second s t (common_labels s t) refl (λ pair w. never (pair.0, pair.1, w)) (u.0, u.1) u.2)
+  ]
+  | inr never ↦ inr (λ u. no_first s t (common_labels s t) refl (λ pair w. never (pair.0, pair.1, w)) (u.0, u.1) u.2)
+]
+
+pub conflict_or_not : (x y : InContext) → Decided (Conflict x y)
+conflict_or_not x y = elim (merge_behind_or_not (whole x) (whole y)) [
+  | inl m ↦ inr (λ never. never m.0 m.1 m.2)
+  | inr never ↦ inl (λ t' s' m. never (t', s', m))
+]
+
+pub same_alone : {X : Type 0} (x y : X) → x ∷ [] ≡ y ∷ [] → x ≡ y
+same_alone x y e = cc
+
+one_entry_or_not : (xs : Contexts) (k : Key) (x : InContext) → entries xs ≡ (k, x) ∷ [] → Decided (k ≡ context_key x) → Decided ((y : InContext) × (xs ≡ only y))
+one_entry_or_not xs k x is (inl own) =
+    inl (x, same_entries_map xs (only x) (is ∙ ap (λ l. (l, x) ∷ []) own ∙ sym (entries-only x)))
+one_entry_or_not xs k x is (inr other) = inr (λ y.
+    let same = same_alone (k, x) (context_key y.0, y.0) (sym is ∙ ap entries y.1 ∙ entries-only y.0) in
+    other (ap (λ (e : Key × InContext). e.0) same ∙ ap (λ (e : Key × InContext). context_key e.1) (sym same)))
+
+entries_or_not : (xs : Contexts) (es : List (Key × InContext)) → entries xs ≡ es → Decided ((y : InContext) × (xs ≡ only y))
+entries_or_not xs [] is = inr (λ y.
+    let e : [] ≡ (context_key y.0, y.0) ∷ [] = sym is ∙ ap entries y.1 ∙ entries-only y.0 in cc)
+entries_or_not xs ((k, x) ∷ []) is = one_entry_or_not xs k x is (keys_or_not k (context_key x))
+entries_or_not xs (e ∷ f ∷ es) is = inr (λ y.
+    let same : e ∷ f ∷ es ≡ (context_key y.0, y.0) ∷ [] = sym is ∙ ap entries y.1 ∙ entries-only y.0 in cc)
+
+-- a set has one member, which stands under its own label, or it is another
+pub only_or_not : (xs : Contexts) → Decided ((x : InContext) × (xs ≡ only x))
+only_or_not xs = entries_or_not xs (entries xs) refl
