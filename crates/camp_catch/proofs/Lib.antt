@@ -8,3 +8,4 @@ pub mod ListsDecided
 pub mod MergeDecided
 pub mod MergeEffects
 pub mod MergeResults
+pub mod ValueSteps

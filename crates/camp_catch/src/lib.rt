@@ -5,6 +5,7 @@
 
 mod catches;
 mod laws;
+mod values;
 
 pub use catches::Catch;
 pub use laws::{

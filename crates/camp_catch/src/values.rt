@@ -1,0 +1,69 @@
+ghost use Rattle.std.specs.Prelude.{◌≡◌, ◌≢◌, ◌↔◌, ◌&&◌, [], ◌∷◌, All, IfOk, IsTrue};
+ghost use Rattle.std.specs.FinMap.{contains_key};
+ghost use Rattle.camp_prim.specs.Effect.{inverse_of};
+ghost use Rattle.camp_ctx.specs.Contexts.{bare, context_key, only, patch_key};
+
+use camp_ctx::{Contexted, CtxSet, join};
+use camp_prim::Named;
+use camp_seq::Seq;
+use std::alloc::{AllocError, Global};
+use std::slice;
+
+/// The list of one primitive.
+pub(crate) fn one(alloc: Global, p: &Named) -> Result<Seq, AllocError>
+    ensures { IfOk result (λ list. list ≡ p.now ∷ []) }
+{
+    join(alloc, slice::from_ref(p), &[])
+}
+
+/// `:p`
+pub(crate) fn bare(alloc: Global, p: &Named) -> Result<Contexted, AllocError>
+    ensures { IfOk result (λ x. x ≡ bare p.now) }
+{
+    let p = p.try_clone()?;
+    Contexted::new(alloc, Seq::empty(alloc), p)
+}
+
+/// `{x}`
+pub(crate) fn alone(alloc: Global, x: &Contexted) -> Result<CtxSet, AllocError>
+    ensures { IfOk result (λ set. set ≡ only x.now) }
+{
+    CtxSet::empty(alloc).insert(x)
+}
+
+/// Whether a list is the inverse of `a` and no more.
+pub(crate) fn undoes(s: &Seq, a: &Named) -> Result<bool, AllocError>
+    ensures { IfOk result (λ found. IsTrue found ↔ (s.now ≡ inverse_of a.now ∷ [])) }
+{
+    let items = s.items();
+    if items.len() != 1 {
+        return Ok(false);
+    }
+    let back = items[0].try_clone()?;
+    Ok(back.invert().is_same(a))
+}
+
+/// Whether a contexted patch is `:p`.
+pub(crate) fn is_bare(x: &Contexted, p: &Named) -> bool
+    ensures { IsTrue result ↔ (x.now ≡ bare p.now) }
+{
+    if !x.context().items().is_empty() {
+        return false;
+    }
+    x.patch().is_same(p)
+}
+
+/// Whether a list has an element with the absolute label of a contexted patch.
+pub(crate) fn has_key(s: &[Named], x: &Contexted) -> bool
+    ensures { IsTrue result ↔ ¬ (All (λ p. patch_key p ≢ context_key x.now) s.now) }
+{
+    let key = x.key();
+    s.iter().any(|p| p.label().key() == key)
+}
+
+/// Whether an element is an inverse whose absolute label stands in a set.
+pub(crate) fn is_undone(p: &Named, ys: &CtxSet) -> bool
+    ensures { result ≡ (p.now.inverse && contains_key ys.now (patch_key p.now)) }
+{
+    p.inverse && ys.get(&p.label().key()).is_some()
+}
