@@ -2,6 +2,8 @@ pub mod CommuteEffects
 pub mod CommuteResults
 pub mod Fitting
 pub mod KeptLabels
+pub mod ListChoices
 pub mod ListEffects
+pub mod ListResults
 pub mod MergeEffects
 pub mod MergeResults
