@@ -3,8 +3,9 @@ pub mod CommuteEffects
 pub mod CommuteResults
 pub mod Fitting
 pub mod KeptLabels
+pub mod ListChoices
 pub mod ListEffects
-pub mod ListsDecided
+pub mod ListResults
 pub mod MergeDecided
 pub mod MergeEffects
 pub mod MergeResults
