@@ -9,4 +9,5 @@ pub mod ListResults
 pub mod MergeDecided
 pub mod MergeEffects
 pub mod MergeResults
+pub mod MergeSteps
 pub mod ValueSteps
