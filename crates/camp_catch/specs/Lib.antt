@@ -1,7 +1,9 @@
 pub mod Arranging
 pub mod Catches
 pub mod Commuting
+pub mod Inside
 pub mod Laws
 pub mod ListLaws
+pub mod MergeCases
 pub mod Merging
 pub mod MergingLists

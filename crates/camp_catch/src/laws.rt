@@ -1,5 +1,6 @@
 ghost use Rattle.camp_catch.specs.Laws.{CommuteIsUnique, CommuteKeepsEffects, KeepLabels, ListsKeepEffects, MergeIsSymmetric, MergeIsUnique, MergeKeepsEffects};
 ghost use Rattle.camp_catch.specs.ListLaws.{ArrangeByMembers, CatchesAreDecided, ListsAreUnique, ListsSucceedOrStick};
+ghost use Rattle.camp_catch.specs.MergeCases.{MergeCasesExclude};
 
 /// Where two catches fit a tree one after the other, so do those that they become, and both orders
 /// end in one tree.
@@ -21,6 +22,11 @@ pub fn merge_is_symmetric()
 /// The cases of commuting exclude one another, and what two catches become is determined.
 pub fn commute_is_unique()
     ensures { CommuteIsUnique }
+{}
+
+/// The cases of merging exclude one another.
+pub fn merge_cases_exclude()
+    ensures { MergeCasesExclude }
 {}
 
 /// The cases of merging exclude one another, and what two catches become is determined.

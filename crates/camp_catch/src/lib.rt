@@ -5,11 +5,13 @@
 
 mod catches;
 mod laws;
+mod merging;
 mod values;
 
 pub use catches::Catch;
 pub use laws::{
     arrange_goes_by_members, catches_are_decided, commute_is_unique, commute_keeps_effects,
     labels_are_kept, lists_are_unique, lists_keep_effects, lists_succeed_or_stick,
-    merge_is_symmetric, merge_is_unique, merge_keeps_effects,
+    merge_cases_exclude, merge_is_symmetric, merge_is_unique, merge_keeps_effects,
 };
+pub use merging::merge;
