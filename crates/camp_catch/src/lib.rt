@@ -4,11 +4,15 @@
 #![tactic(auto)]
 
 mod catches;
+mod commuting;
+mod conflictors;
 mod laws;
+mod seen;
 mod values;
 
 pub use catches::Catch;
+pub use commuting::commute;
 pub use laws::{
-    commute_is_unique, commute_keeps_effects, labels_are_kept, lists_keep_effects,
-    merge_is_symmetric, merge_is_unique, merge_keeps_effects,
+    cases_exclude_one_another, commute_is_unique, commute_keeps_effects, labels_are_kept,
+    lists_keep_effects, merge_is_symmetric, merge_is_unique, merge_keeps_effects,
 };
