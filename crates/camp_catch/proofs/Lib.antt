@@ -4,8 +4,9 @@ pub mod CommuteResults
 pub mod CommuteSteps
 pub mod Fitting
 pub mod KeptLabels
+pub mod ListChoices
 pub mod ListEffects
-pub mod ListsDecided
+pub mod ListResults
 pub mod MergeDecided
 pub mod MergeEffects
 pub mod MergeResults

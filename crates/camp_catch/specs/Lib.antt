@@ -4,5 +4,6 @@ pub mod Catches
 pub mod Commuting
 pub mod Inside
 pub mod Laws
+pub mod ListLaws
 pub mod Merging
 pub mod MergingLists

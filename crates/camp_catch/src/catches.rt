@@ -1,6 +1,13 @@
+ghost use Rattle.std.specs.Prelude.{◌≡◌, ◌↔◌, IfOk, IsTrue};
+ghost use Rattle.camp_catch.specs.Catches.{catch_key, effect_of};
+
+use camp_base::Name;
 use camp_ctx::{Contexted, CtxSet};
-use camp_prim::Named;
+use camp_prim::{Key, Named};
 use camp_seq::Seq;
+use camp_share::Share;
+use std::alloc::AllocError;
+use std::slice;
 
 /// A patch of a branch: plain, or in conflict with others.
 #[derive(Drop)]
@@ -13,4 +20,100 @@ pub enum Catch {
         conflicts: CtxSet,
         identity: Contexted,
     },
+}
+
+impl Catch {
+    /// The name of its patch.
+    pub fn name(&self) -> &Name
+        ensures { result.now ≡ (catch_key self.now).name }
+    {
+        match self {
+            Catch::Plain(patch) => &patch.name,
+            Catch::Conflictor { identity, .. } => identity.name(),
+        }
+    }
+
+    /// The place in its patch.
+    pub fn place(&self) -> u8
+        ensures { result ≡ (catch_key self.now).place }
+    {
+        match self {
+            Catch::Plain(patch) => patch.place,
+            Catch::Conflictor { identity, .. } => identity.place(),
+        }
+    }
+
+    /// The absolute label: that of its patch, or of its identity.
+    pub fn key(&self) -> Key
+        ensures { result ≡ catch_key self.now }
+    {
+        match self {
+            Catch::Plain(patch) => patch.label().key(),
+            Catch::Conflictor { identity, .. } => identity.key(),
+        }
+    }
+
+    /// What it does to a tree, primitive by primitive.
+    pub fn effect(&self) -> &[Named]
+        ensures { result.now ≡ effect_of self.now }
+    {
+        match self {
+            Catch::Plain(patch) => slice::from_ref(patch),
+            Catch::Conflictor { effect, .. } => effect.items(),
+        }
+    }
+
+    pub fn try_clone(&self) -> Result<Catch, AllocError>
+        ensures { IfOk result (λ copy. copy ≡ self.now) }
+    {
+        match self {
+            Catch::Plain(patch) => Ok(Catch::Plain(patch.try_clone()?)),
+            Catch::Conflictor {
+                effect,
+                conflicts,
+                identity,
+            } => Ok(Catch::Conflictor {
+                effect: effect.try_clone()?,
+                conflicts: conflicts.try_clone()?,
+                identity: identity.try_clone()?,
+            }),
+        }
+    }
+
+    /// Whether the two are plain with the same patch, or conflictors with the same parts. It takes
+    /// no memory.
+    pub fn is_same(&self, other: &Catch) -> bool
+        ensures { IsTrue result ↔ (self.now ≡ other.now) }
+    {
+        match (self, other) {
+            (Catch::Plain(a), Catch::Plain(b)) => a.is_same(b),
+            (
+                Catch::Conflictor {
+                    effect: r,
+                    conflicts: xs,
+                    identity: i,
+                },
+                Catch::Conflictor {
+                    effect: s,
+                    conflicts: ys,
+                    identity: l,
+                },
+            ) => {
+                if !i.is_same(l) {
+                    return false;
+                }
+                if !r.is_same(s) {
+                    return false;
+                }
+                xs.is_same(ys)
+            }
+            _ => false,
+        }
+    }
+}
+
+impl Share for Catch {
+    fn share(&self) -> Result<Catch, AllocError> {
+        self.try_clone()
+    }
 }

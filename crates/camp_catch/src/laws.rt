@@ -1,5 +1,6 @@
 ghost use Rattle.camp_catch.specs.Cases.{CasesExclude};
 ghost use Rattle.camp_catch.specs.Laws.{CommuteIsUnique, CommuteKeepsEffects, KeepLabels, ListsKeepEffects, MergeIsSymmetric, MergeIsUnique, MergeKeepsEffects};
+ghost use Rattle.camp_catch.specs.ListLaws.{ArrangeByMembers, CatchesAreDecided, ListsAreUnique, ListsSucceedOrStick};
 
 /// Where two catches fit a tree one after the other, so do those that they become, and both orders
 /// end in one tree.
@@ -41,4 +42,26 @@ pub fn lists_keep_effects()
 /// Commuting and merging keep labels, and so do arranging, aligning and merging lists.
 pub fn labels_are_kept()
     ensures { KeepLabels }
+{}
+
+/// What a list becomes by arranging, aligning and merging is determined, and so are the labels where
+/// there is nothing that it becomes.
+pub fn lists_are_unique()
+    ensures { ListsAreUnique }
+{}
+
+/// Any two catches commute, or they do not, and so with merging.
+pub fn catches_are_decided()
+    ensures { CatchesAreDecided }
+{}
+
+/// Exactly one of two facts holds of a list: it is arranged, aligned or merged, or there are the
+/// labels where it sticks.
+pub fn lists_succeed_or_stick()
+    ensures { ListsSucceedOrStick }
+{}
+
+/// What is arranged by names depends on which names there are, and not on their order.
+pub fn arrange_goes_by_members()
+    ensures { ArrangeByMembers }
 {}

@@ -1,0 +1,5 @@
+use Rattle.camp_catch.proofs.ListChoices.{are_decided}
+use Rattle.camp_catch.proofs.laws.catches_are_decided.Goals as goal
+
+pub returns : goal.returns
+returns c = are_decided

@@ -1,0 +1,82 @@
+-- The results of arranging, aligning and merging lists of catches: at most one, and exactly one of a result and the
+-- labels where there is none.
+use Rattle.std.specs.Prelude.{◌≡◌, ◌↔◌, ◌⊎◌, ℕ, List, Contains}
+use Rattle.camp_prim.specs.declared.labels.Key.{Key}
+use Rattle.camp_catch.specs.Arranging.{ComesBefore, StopsAt, DoNotCommute, Arrange, ArrangeSticks, ComesFirst, Align, AlignSticks}
+use Rattle.camp_catch.specs.Commuting.{CommuteCatch}
+use Rattle.camp_catch.specs.Merging.{MergeCatch}
+use Rattle.camp_catch.specs.MergingLists.{MergesWithAll, SticksWithin, MergeLists, MergeSticks, DoNotMerge}
+use Rattle.camp_catch.specs.declared.catches.Catch.{Catch}
+
+-- two results that are determined are equal
+abbrev pub AreEqual : {X Y : Type 0} → X → Y → X → Y → Type 0
+AreEqual x y z w = (x ≡ z) × (y ≡ w)
+
+-- a relation of two results has at most one pair of them
+abbrev pub GivesOnePair : {X Y : Type 0} → (X → Y → Type 0) → Type 0
+GivesOnePair {X} {Y} Result = (x z : X) (y w : Y) → Result x y → Result z w → AreEqual x y z w
+
+-- each relation on lists of catches has at most one result, and each failure one pair of labels
+pub record ListsAreUnique : Type 0 where
+  pub comes_before : (list : List Catch) (k : Catch) → GivesOnePair (ComesBefore list k)
+  pub stops_at : (list : List Catch) (k : Catch) (on other : Key) → StopsAt list k on → StopsAt list k other → on ≡ other
+  pub arranged : (names : List (List ℕ)) (list : List Catch) → GivesOnePair (Arrange names list)
+  pub arrange_sticks : (names : List (List ℕ)) (list : List Catch) → GivesOnePair (ArrangeSticks names list)
+  pub comes_first : (key : Key) (list : List Catch) → GivesOnePair (ComesFirst key list)
+  pub aligned :
+      (order : List Key) (list aligned other : List Catch) → Align order list aligned → Align order list other →
+      aligned ≡ other
+  pub align_sticks :
+      (order : List Key) (list : List Catch) (stuck other : Key) → AlignSticks order list stuck →
+      AlignSticks order list other → stuck ≡ other
+  pub merged_with_all : (q : List Catch) (k : Catch) → GivesOnePair (MergesWithAll q k)
+  pub sticks_within : (q : List Catch) (k : Catch) → GivesOnePair (SticksWithin q k)
+  pub merged : (p q : List Catch) → GivesOnePair (MergeLists p q)
+  pub merge_sticks : (p q : List Catch) → GivesOnePair (MergeSticks p q)
+
+-- a relation of two results has one
+abbrev pub HasPair : {X Y : Type 0} → (X → Y → Type 0) → Type 0
+HasPair {X} {Y} Result = (x : X) × (y : Y) × Result x y
+
+-- exactly one of two facts holds
+abbrev pub OneOf : Type 0 → Type 0 → Type 0
+OneOf Fact Other = (Fact ⊎ Other) × (Fact → Other → ⊥)
+
+-- any two catches commute, or they do not
+abbrev pub CommuteIsDecided : Type 0
+CommuteIsDecided = (j k : Catch) → HasPair (CommuteCatch j k) ⊎ DoNotCommute j k
+
+-- any two catches merge, or they do not
+abbrev pub MergeIsDecided : Type 0
+MergeIsDecided = (j k : Catch) → HasPair (MergeCatch j k) ⊎ DoNotMerge j k
+
+-- commuting and merging are decided
+pub record CatchesAreDecided : Type 0 where
+  pub commute : CommuteIsDecided
+  pub merge : MergeIsDecided
+
+-- a list either becomes what it is to become, or sticks
+pub record ListsSucceedOrStick : Type 0 where
+  pub comes_before :
+      (list : List Catch) (k : Catch) →
+      OneOf (HasPair (ComesBefore list k)) ((on : Key) × StopsAt list k on)
+  pub arranges :
+      (names : List (List ℕ)) (list : List Catch) →
+      OneOf (HasPair (Arrange names list)) (HasPair (ArrangeSticks names list))
+  pub aligns :
+      (order : List Key) (list : List Catch) →
+      OneOf ((aligned : List Catch) × Align order list aligned) ((stuck : Key) × AlignSticks order list stuck)
+  pub merges_with_all :
+      (q : List Catch) (k : Catch) →
+      OneOf (HasPair (MergesWithAll q k)) (HasPair (SticksWithin q k))
+  pub merges :
+      (p q : List Catch) → OneOf (HasPair (MergeLists p q)) (HasPair (MergeSticks p q))
+
+-- what is arranged by names depends on which names there are, and not on their order or number
+pub record ArrangeByMembers : Type 0 where
+  pub arranged :
+      (names others : List (List ℕ)) → ((name : List ℕ) → Contains names name ↔ Contains others name) →
+      (list first rest : List Catch) → Arrange names list first rest → Arrange others list first rest
+  pub sticks :
+      (names others : List (List ℕ)) → ((name : List ℕ) → Contains names name ↔ Contains others name) →
+      (list : List Catch) (patch on : Key) → ArrangeSticks names list patch on → ArrangeSticks others list patch on
