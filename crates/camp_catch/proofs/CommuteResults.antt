@@ -18,6 +18,7 @@ use Rattle.camp_ctx.proofs.AddResults.{one_add, one_add_of_all, one_passing_by, 
 use Rattle.camp_prim.proofs.LabelOrder.{key_total}
 use Rattle.camp_ctx.proofs.SetChanges.{one_change_of_members}
 use Rattle.camp_catch.specs.Commuting.{BothPlain, PlainPastConflictor, ConflictorPastPlain, EffectsPass, labels_undone, TwoConflictorsApart, ConflictDissolves, PlainLeavesTheSet, OnlyConflictGoes, OneOfSeveralConflicts}
+use Rattle.camp_catch.specs.Cases.{CasesExclude}
 use Rattle.camp_catch.specs.Laws.{CommuteIsUnique}
 use Rattle.camp_catch.specs.declared.catches.Catch.{Catch}
 use Rattle.camp_catch.specs.declared.catches.Catch.TheVariants.{Plain, Conflictor}
@@ -42,13 +43,13 @@ key_itself : (key : Key) → eq_by_cmp key_cmp key key ≡ true
 key_itself key = (Equal-is _).1 (tied_itself key_total key)
 
 -- the set of one has its member
-get_only : (x : InContext) → get (only x) (context_key x) ≡ Some x
+pub get_only : (x : InContext) → get (only x) (context_key x) ≡ Some x
 get_only x =
     let none : Contexts = empty in
     let k = context_key x in
     get-insert key_total none k x k ∙ ap (λ b. cond b (Some x) (get none k)) (key_itself k)
 
-not_none : (x : InContext) (o : Option InContext) → o ≡ Some x → o ≡ None → ⊥
+pub not_none : (x : InContext) (o : Option InContext) → o ≡ Some x → o ≡ None → ⊥
 not_none x o e f = cc
 
 -- and no second one
@@ -128,45 +129,61 @@ only_conflict_goes r xs i s ys l k' j' k j v w =
     (v.second ∙ ap Plain e ∙ sym w.second, v.first ∙ ap (λ t. Conflictor t (with_member xs l) i) effects ∙ sym w.first)
 
 -- a set of one has a member of that label, and it is alone
-only_has : (ys : Contexts) (x : InContext) (key : Key) → ys ≡ only x → context_key x ≡ key → get ys key ≡ Some x
+pub only_has : (ys : Contexts) (x : InContext) (key : Key) → ys ≡ only x → context_key x ≡ key → get ys key ≡ Some x
 only_has ys x key e f = subst (λ s. get s key ≡ Some x) (sym e) (subst (λ q. get (only x) q ≡ Some x) f (get_only x))
 
-only_is_one : (ys : Contexts) (x : InContext) → ys ≡ only x → 2 ≤ len ys → ⊥
+pub only_is_one : (ys : Contexts) (x : InContext) → ys ≡ only x → 2 ≤ len ys → ⊥
 only_is_one ys x e several =
     let one : len ys ≡ 1 = ap len e ∙ len_only x in
     absurd (omega (arith, one, several))
+
+-- a case where the set lacks the label of j excludes one where it has a member there
+lacks_or_has : (ys : Contexts) (z : InContext) (key : Key) → get ys key ≡ None → ¬ (get ys key ≡ Some z)
+lacks_or_has ys z key lacks member = not_none z (get ys key) member lacks
+
+pub cases_exclude : CasesExclude
+cases_exclude = record {
+  past_dissolves = λ a s ys l k' j' k j v w. lacks_or_has ys (bare a) (patch_key a) v.apart (only_has ys (bare a) (patch_key a) w.alone refl);
+  past_leaves = λ a s ys l k' j' k j v w. lacks_or_has ys w.z (patch_key a) v.apart w.member;
+  dissolves_leaves = λ a s ys l k' j' k j v w. only_is_one ys (bare a) v.alone w.several;
+  apart_only = λ r xs i s ys l k' j' k j v w. lacks_or_has ys w.x (context_key i) v.apart (only_has ys w.x (context_key i) w.alone w.named);
+  apart_several = λ r xs i s ys l k' j' k j v w. lacks_or_has ys w.z (context_key i) v.apart w.member;
+  only_several = λ r xs i s ys l k' j' k j v w. only_is_one ys v.x v.alone w.several;
+}
 
 pub one_commuting : CommuteIsUnique
 one_commuting (Plain a) (Plain b) k' j' k j v w = both_plain a b k' j' k j v w
 one_commuting (Conflictor r xs i) (Plain b) k' j' k j v w = conflictor_past_plain r xs i b k' j' k j v w
 one_commuting (Plain a) (Conflictor s ys l) k' j' k j (inl v) (inl w) = plain_past_conflictor a s ys l k' j' k j v w
 one_commuting (Plain a) (Conflictor s ys l) k' j' k j (inl v) (inr (inl w)) =
-    absurd (not_none _ _ (only_has ys (bare a) (patch_key a) w.alone refl) v.apart)
-one_commuting (Plain a) (Conflictor s ys l) k' j' k j (inl v) (inr (inr w)) = absurd (not_none w.z _ w.member v.apart)
+    absurd (cases_exclude.past_dissolves a s ys l k' j' k j v w)
+one_commuting (Plain a) (Conflictor s ys l) k' j' k j (inl v) (inr (inr w)) =
+    absurd (cases_exclude.past_leaves a s ys l k' j' k j v w)
 one_commuting (Plain a) (Conflictor s ys l) k' j' k j (inr (inl v)) (inl w) =
-    absurd (not_none _ _ (only_has ys (bare a) (patch_key a) v.alone refl) w.apart)
+    absurd (cases_exclude.past_dissolves a s ys l k j k' j' w v)
 one_commuting (Plain a) (Conflictor s ys l) k' j' k j (inr (inl v)) (inr (inl w)) = conflict_dissolves a s ys l k' j' k j v w
 one_commuting (Plain a) (Conflictor s ys l) k' j' k j (inr (inl v)) (inr (inr w)) =
-    absurd (only_is_one ys (bare a) v.alone w.several)
-one_commuting (Plain a) (Conflictor s ys l) k' j' k j (inr (inr v)) (inl w) = absurd (not_none v.z _ v.member w.apart)
+    absurd (cases_exclude.dissolves_leaves a s ys l k' j' k j v w)
+one_commuting (Plain a) (Conflictor s ys l) k' j' k j (inr (inr v)) (inl w) =
+    absurd (cases_exclude.past_leaves a s ys l k j k' j' w v)
 one_commuting (Plain a) (Conflictor s ys l) k' j' k j (inr (inr v)) (inr (inl w)) =
-    absurd (only_is_one ys (bare a) w.alone v.several)
+    absurd (cases_exclude.dissolves_leaves a s ys l k j k' j' w v)
 one_commuting (Plain a) (Conflictor s ys l) k' j' k j (inr (inr v)) (inr (inr w)) = plain_leaves_the_set a s ys l k' j' k j v w
 one_commuting (Conflictor r xs i) (Conflictor s ys l) k' j' k j (inl v) (inl w) =
     two_conflictors_apart r xs i s ys l k' j' k j v w
 one_commuting (Conflictor r xs i) (Conflictor s ys l) k' j' k j (inl v) (inr (inl w)) =
-    absurd (not_none _ _ (only_has ys w.x (context_key i) w.alone w.named) v.apart)
+    absurd (cases_exclude.apart_only r xs i s ys l k' j' k j v w)
 one_commuting (Conflictor r xs i) (Conflictor s ys l) k' j' k j (inl v) (inr (inr w)) =
-    absurd (not_none w.z _ w.member v.apart)
+    absurd (cases_exclude.apart_several r xs i s ys l k' j' k j v w)
 one_commuting (Conflictor r xs i) (Conflictor s ys l) k' j' k j (inr (inl v)) (inl w) =
-    absurd (not_none _ _ (only_has ys v.x (context_key i) v.alone v.named) w.apart)
+    absurd (cases_exclude.apart_only r xs i s ys l k j k' j' w v)
 one_commuting (Conflictor r xs i) (Conflictor s ys l) k' j' k j (inr (inl v)) (inr (inl w)) =
     only_conflict_goes r xs i s ys l k' j' k j v w
 one_commuting (Conflictor r xs i) (Conflictor s ys l) k' j' k j (inr (inl v)) (inr (inr w)) =
-    absurd (only_is_one ys v.x v.alone w.several)
+    absurd (cases_exclude.only_several r xs i s ys l k' j' k j v w)
 one_commuting (Conflictor r xs i) (Conflictor s ys l) k' j' k j (inr (inr v)) (inl w) =
-    absurd (not_none v.z _ v.member w.apart)
+    absurd (cases_exclude.apart_several r xs i s ys l k j k' j' w v)
 one_commuting (Conflictor r xs i) (Conflictor s ys l) k' j' k j (inr (inr v)) (inr (inl w)) =
-    absurd (only_is_one ys w.x w.alone v.several)
+    absurd (cases_exclude.only_several r xs i s ys l k j k' j' w v)
 one_commuting (Conflictor r xs i) (Conflictor s ys l) k' j' k j (inr (inr v)) (inr (inr w)) =
     one_of_several_conflicts r xs i s ys l k' j' k j v w

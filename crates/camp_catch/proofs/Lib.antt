@@ -1,6 +1,7 @@
 pub mod CommuteDecided
 pub mod CommuteEffects
 pub mod CommuteResults
+pub mod CommuteSteps
 pub mod Fitting
 pub mod KeptLabels
 pub mod ListChoices

@@ -1,4 +1,5 @@
 pub mod Arranging
+pub mod Cases
 pub mod Catches
 pub mod Commuting
 pub mod Inside

@@ -1,3 +1,4 @@
+ghost use Rattle.camp_catch.specs.Cases.{CasesExclude};
 ghost use Rattle.camp_catch.specs.Laws.{CommuteIsUnique, CommuteKeepsEffects, KeepLabels, ListsKeepEffects, MergeIsSymmetric, MergeIsUnique, MergeKeepsEffects};
 ghost use Rattle.camp_catch.specs.ListLaws.{ArrangeByMembers, CatchesAreDecided, ListsAreUnique, ListsSucceedOrStick};
 ghost use Rattle.camp_catch.specs.MergeCases.{MergeCasesExclude};
@@ -19,7 +20,12 @@ pub fn merge_is_symmetric()
     ensures { MergeIsSymmetric }
 {}
 
-/// The cases of commuting exclude one another, and what two catches become is determined.
+/// The cases of commuting exclude one another.
+pub fn cases_exclude_one_another()
+    ensures { CasesExclude }
+{}
+
+/// What two catches become by changing places is determined, whichever of the cases gives it.
 pub fn commute_is_unique()
     ensures { CommuteIsUnique }
 {}

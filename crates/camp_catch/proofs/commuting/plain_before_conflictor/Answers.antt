@@ -1,0 +1,11 @@
+use Rattle.std.proofs.Common.{sym, ap, ◌∙◌}
+use Rattle.std.specs.FinMap.{get}
+use Rattle.std.proofs.lemmas.Result.{IfOk-weaker}
+use Rattle.camp_prim.specs.Labels.{key_of}
+use Rattle.camp_catch.proofs.CommuteSteps.{plain_passes}
+use Rattle.camp_catch.proofs.commuting.plain_before_conflictor.Goals as goal
+
+pub returns-in-None : goal.returns-in-None
+returns-in-None c =
+    let lacks = ap (get c.args.ys.now) (sym (c.key.ensures ∙ ap key_of c.label.ensures)) ∙ c.in-None.ensures in
+    IfOk-weaker c.plain_past_conflictor.result _ _ (plain_passes c.args.a.now c.args.s.now c.args.ys.now c.args.l.now lacks) c.plain_past_conflictor.ensures

@@ -1,0 +1,19 @@
+use Rattle.camp_catch.proofs.CommuteSteps.{no_identity, plain_past_from}
+use Rattle.camp_catch.proofs.commuting.plain_past_conflictor.Goals as goal
+
+pub returns-in_default : goal.returns-in_default
+returns-in_default c =
+    let never = rw c.in_default.is at c.in_ok-behind.ensures.exact in
+    λ pair w. never (w.passed, w.a') w.passes
+
+pub returns-in_default-moved : goal.returns-in_default-moved
+returns-in_default-moved c =
+    let past = rw c.in-Some.is at c.in_ok-behind.ensures.exact in
+    let never = rw c.in_default-moved.is at c.in_ok-moved.ensures.exact in
+    no_identity c.args.a.now c.args.s.now c.args.ys.now c.args.l.now _ _ past never
+
+pub returns : goal.returns
+returns c =
+    let past = rw c.in-Some.is at c.in_ok-behind.ensures.exact in
+    let identity = rw c.in-Some-moved.is at c.in_ok-moved.ensures.exact in
+    plain_past_from c.args.a.now c.args.s.now c.args.ys.now c.args.l.now _ _ past c.requires _ _ identity c.in_ok-second.ensures

@@ -1,0 +1,5 @@
+use Rattle.camp_catch.proofs.CommuteResults.{cases_exclude}
+use Rattle.camp_catch.proofs.laws.cases_exclude_one_another.Goals as goal
+
+pub returns : goal.returns
+returns c = cases_exclude

@@ -1,0 +1,206 @@
+ghost use Rattle.std.specs.Prelude.{◌≡◌, ◌≢◌, ◌≤◌, ◌↔◌, All, IfOk, IsTrue, None, Some};
+ghost use Rattle.std.specs.FinMap.{get, len};
+ghost use Rattle.camp_base.specs.Answers.{FindsPair};
+ghost use Rattle.camp_seq.specs.NormalOrder.{Splits};
+ghost use Rattle.camp_ctx.specs.Contexts.{context_key, patch_key, InContext};
+ghost use Rattle.camp_catch.specs.Commuting.{CommuteConflictors, EffectsPass, OneOfSeveralConflicts, OnlyConflictGoes, TwoConflictorsApart, labels_undone};
+ghost use Rattle.camp_catch.specs.Inside.Seen.{JoinsInOrder};
+
+use crate::Catch;
+use crate::seen::{both_before, has_no_context, joined_before, takes_back};
+use crate::values::is_undone;
+use camp_ctx::{Contexted, CtxSet, join};
+use camp_prim::{Key, Label, Named};
+use camp_seq::{Seq, invert_all, norm, past_all, split};
+use std::alloc::{AllocError, Global};
+
+/// Two conflictors: the first is not in the second's set, or it is.
+pub(crate) fn commute_conflictors(
+    alloc: Global,
+    r: &Seq,
+    xs: &CtxSet,
+    i: &Contexted,
+    s: &Seq,
+    ys: &CtxSet,
+    l: &Contexted,
+) -> Result<Option<(Catch, Catch)>, AllocError>
+    ensures { IfOk result (FindsPair (CommuteConflictors r.now xs.now i.now s.now ys.now l.now)) }
+{
+    match ys.get(&i.key()) {
+        None => two_conflictors_apart(alloc, r, xs, i, s, ys, l),
+        Some(_) => conflictor_in_the_set(alloc, r, xs, i, s, ys, l),
+    }
+}
+
+/// Two conflictors, the first of which is in the second's set, alone or as one of several.
+fn conflictor_in_the_set(
+    alloc: Global,
+    r: &Seq,
+    xs: &CtxSet,
+    i: &Contexted,
+    s: &Seq,
+    ys: &CtxSet,
+    l: &Contexted,
+) -> Result<Option<(Catch, Catch)>, AllocError>
+    requires { (z : InContext) × (get ys.now (context_key i.now) ≡ Some z) }
+    ensures { IfOk result (FindsPair (CommuteConflictors r.now xs.now i.now s.now ys.now l.now)) }
+{
+    if ys.len() == 1 {
+        only_conflict_goes(alloc, r, xs, i, s, ys, l)
+    } else {
+        one_of_several_conflicts(alloc, r, xs, i, s, ys, l)
+    }
+}
+
+/// `(common rr, X, i) (s, Y, l) <-> (common s', Y', l') (rr', X', i')`
+fn two_conflictors_apart(
+    alloc: Global,
+    r: &Seq,
+    xs: &CtxSet,
+    i: &Contexted,
+    s: &Seq,
+    ys: &CtxSet,
+    l: &Contexted,
+) -> Result<Option<(Catch, Catch)>, AllocError>
+    requires { get ys.now (context_key i.now) ≡ None }
+    ensures { IfOk result (FindsPair (TwoConflictorsApart r.now xs.now i.now s.now ys.now l.now)) }
+{
+    if !lacks_key(l.context().items(), &i.key()) {
+        return Ok(None);
+    }
+    let passed = effects_pass(alloc, r, s, ys)?;
+    let Some((effect, rest)) = passed else {
+        return Ok(None);
+    };
+    let moved = Contexted::past(&rest, l)?;
+    let Some(identity) = moved else {
+        return Ok(None);
+    };
+    let conflicts = CtxSet::add(&rest, ys)?;
+    let first = both_before(&invert_all(s)?, rest, xs, i)?;
+    let second = Catch::Conflictor {
+        effect,
+        conflicts,
+        identity,
+    };
+    Ok(Some((second, first)))
+}
+
+/// `(r, X, i) ([], {x}, l) <-> [a] (a^ r, X and l, i)`, where `r` added to `l` gives `:a`
+fn only_conflict_goes(
+    alloc: Global,
+    r: &Seq,
+    xs: &CtxSet,
+    i: &Contexted,
+    s: &Seq,
+    ys: &CtxSet,
+    l: &Contexted,
+) -> Result<Option<(Catch, Catch)>, AllocError>
+    ensures { IfOk result (FindsPair (OnlyConflictGoes r.now xs.now i.now s.now ys.now l.now)) }
+{
+    let Some(x) = ys.sole() else {
+        return Ok(None);
+    };
+    if !has_key(x.patch(), &i.key()) {
+        return Ok(None);
+    }
+    if !s.items().is_empty() {
+        return Ok(None);
+    }
+    let seen = Contexted::add(r, l)?;
+    if !has_no_context(&seen) {
+        return Ok(None);
+    }
+    let second = Catch::Plain(seen.patch().try_clone()?);
+    let first = takes_back(alloc, seen.patch(), r, xs, l, i)?;
+    Ok(Some((second, first)))
+}
+
+/// `(common rr, X, i) (s, Y, l) <-> (common s', Z', l') (rr', X' and l, i')`, where `Z` is `Y`
+/// without `j`
+fn one_of_several_conflicts(
+    alloc: Global,
+    r: &Seq,
+    xs: &CtxSet,
+    i: &Contexted,
+    s: &Seq,
+    ys: &CtxSet,
+    l: &Contexted,
+) -> Result<Option<(Catch, Catch)>, AllocError>
+    requires member { (z : InContext) × (get ys.now (context_key i.now) ≡ Some z) }
+    requires several { 2 ≤ len ys.now }
+    ensures { IfOk result (FindsPair (OneOfSeveralConflicts r.now xs.now i.now s.now ys.now l.now)) }
+{
+    let others = ys.without(&i.key())?;
+    let passed = effects_pass(alloc, r, s, &others)?;
+    let Some((effect, rest)) = passed else {
+        return Ok(None);
+    };
+    let second = both_before(&rest, effect, &others, l)?;
+    let first = joined_before(&invert_all(s)?, rest, xs, i, l)?;
+    Ok(Some((second, first)))
+}
+
+/// Two effects change places, but for what the first undoes of a set, which stays first.
+fn effects_pass(
+    alloc: Global,
+    r: &Seq,
+    s: &Seq,
+    ys: &CtxSet,
+) -> Result<Option<(Seq, Seq)>, AllocError>
+    ensures { IfOk result (FindsPair (EffectsPass r.now s.now ys.now)) }
+{
+    let parts = parted(alloc, r, ys)?;
+    let Some((common, rest)) = parts else {
+        return Ok(None);
+    };
+    let passed = past_all(&rest, s)?;
+    let Some((second, first)) = passed else {
+        return Ok(None);
+    };
+    let effect = joined(alloc, &common, &second)?;
+    let left = norm(&first)?;
+    Ok(Some((effect, left)))
+}
+
+/// What a list undoes of a set, and the rest.
+fn parted(alloc: Global, r: &Seq, ys: &CtxSet) -> Result<Option<(Seq, Seq)>, AllocError>
+    ensures { IfOk result (FindsPair (Splits (labels_undone r.now ys.now) r.now)) }
+{
+    let labels = labels_undone(alloc, r.items(), ys)?;
+    let parts = split(r, labels.as_slice())?;
+    Ok(parts)
+}
+
+/// A list and the normal order of another, in normal order.
+fn joined(alloc: Global, common: &Seq, s: &Seq) -> Result<Seq, AllocError>
+    ensures { IfOk result (JoinsInOrder common.now s.now) }
+{
+    let rest = norm(s)?;
+    let whole = join(alloc, common.items(), rest.items())?;
+    let ordered = norm(&whole)?;
+    Ok(ordered)
+}
+
+/// The labels of the inverses in a list whose absolute labels stand in a set.
+fn labels_undone(alloc: Global, r: &[Named], ys: &CtxSet) -> Result<Vec<Label>, AllocError>
+    ensures { IfOk result (λ labels. labels.items ≡ labels_undone r.now ys.now) }
+{
+    r.iter()
+        .filter(|p| is_undone(p, ys))
+        .map(|p| p.label())
+        .collect(alloc)
+}
+
+/// Whether no element of a list has an absolute label.
+fn lacks_key(s: &[Named], key: &Key) -> bool
+    ensures { IsTrue result ↔ All (λ p. patch_key p ≢ key.now) s.now }
+{
+    s.iter().all(|p| !has_key(p, key))
+}
+
+fn has_key(p: &Named, key: &Key) -> bool
+    ensures { IsTrue result ↔ (patch_key p.now ≡ key.now) }
+{
+    p.label().key() == *key
+}

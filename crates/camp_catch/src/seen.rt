@@ -1,0 +1,123 @@
+ghost use Rattle.std.specs.Prelude.{◌≡◌, ◌↔◌, [], IfOk, IsTrue};
+ghost use Rattle.camp_ctx.specs.Contexts.{bare, only};
+ghost use Rattle.camp_catch.specs.Inside.Seen.{BothBefore, JoinedBefore, LeavesSet, SetBefore, TakesBack};
+
+use crate::Catch;
+use crate::values::alone;
+use camp_ctx::{Contexted, CtxSet, join};
+use camp_prim::{Key, Named};
+use camp_seq::{Seq, norm};
+use std::alloc::{AllocError, Global};
+use std::slice;
+
+/// `(s', X', i)`, where `s'` is `s` in normal order, and `a` added to `X` gives `X'`
+pub(crate) fn set_before(a: &Named, s: &Seq, xs: &CtxSet, i: Contexted) -> Result<Catch, AllocError>
+    ensures { IfOk result (SetBefore a.now s.now xs.now i) }
+{
+    let effect = norm(s)?;
+    let conflicts = CtxSet::add_one(a, xs)?;
+    Ok(Catch::Conflictor {
+        effect,
+        conflicts,
+        identity: i,
+    })
+}
+
+/// `(s, X', i')`, where `r` added to `X` and `i` gives `X'` and `i'`
+pub(crate) fn both_before(r: &Seq, s: Seq, xs: &CtxSet, i: &Contexted) -> Result<Catch, AllocError>
+    ensures { IfOk result (BothBefore r.now s xs.now i.now) }
+{
+    let conflicts = CtxSet::add(r, xs)?;
+    let identity = Contexted::add(r, i)?;
+    Ok(Catch::Conflictor {
+        effect: s,
+        conflicts,
+        identity,
+    })
+}
+
+/// `(s, X' and l, i')`, where `r` added to `X` and `i` gives `X'` and `i'`
+pub(crate) fn joined_before(
+    r: &Seq,
+    s: Seq,
+    xs: &CtxSet,
+    i: &Contexted,
+    l: &Contexted,
+) -> Result<Catch, AllocError>
+    ensures { IfOk result (JoinedBefore r.now s xs.now i.now l.now) }
+{
+    let others = CtxSet::add(r, xs)?;
+    let conflicts = others.insert(l)?;
+    let identity = Contexted::add(r, i)?;
+    Ok(Catch::Conflictor {
+        effect: s,
+        conflicts,
+        identity,
+    })
+}
+
+/// `(s', X and l, i)`, where `s'` is `a^ s` in normal order
+pub(crate) fn takes_back(
+    alloc: Global,
+    a: &Named,
+    s: &Seq,
+    xs: &CtxSet,
+    l: &Contexted,
+    i: &Contexted,
+) -> Result<Catch, AllocError>
+    ensures { IfOk result (TakesBack a.now s.now xs.now l.now i.now) }
+{
+    let back = a.try_clone()?.invert();
+    let joined = join(alloc, slice::from_ref(&back), s.items())?;
+    let effect = norm(&joined)?;
+    let conflicts = xs.insert(l)?;
+    let identity = i.try_clone()?;
+    Ok(Catch::Conflictor {
+        effect,
+        conflicts,
+        identity,
+    })
+}
+
+/// `(s', X without a label, i)`, where `s'` is `s` in normal order
+pub(crate) fn without_member(
+    key: &Key,
+    s: &Seq,
+    xs: &CtxSet,
+    i: &Contexted,
+) -> Result<Catch, AllocError>
+    ensures { IfOk result (LeavesSet key.now s.now xs.now i.now) }
+{
+    let effect = norm(s)?;
+    let conflicts = xs.without(key)?;
+    let identity = i.try_clone()?;
+    Ok(Catch::Conflictor {
+        effect,
+        conflicts,
+        identity,
+    })
+}
+
+/// `([], {l}, i)`
+pub(crate) fn in_conflict_with(
+    alloc: Global,
+    l: &Contexted,
+    i: &Contexted,
+) -> Result<Catch, AllocError>
+    ensures { IfOk result (λ k. k ≡ Catch.Conflictor [] (only l.now) i.now) }
+{
+    let conflicts = alone(alloc, l)?;
+    let identity = i.try_clone()?;
+    Ok(Catch::Conflictor {
+        effect: Seq::empty(alloc),
+        conflicts,
+        identity,
+    })
+}
+
+/// Whether a contexted patch is seen from the state where it stands.
+pub(crate) fn has_no_context(x: &Contexted) -> bool
+    ensures { IsTrue result ↔ (x.now ≡ bare x.now.patch) }
+{
+    x.context().items().is_empty()
+}
