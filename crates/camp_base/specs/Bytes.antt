@@ -13,7 +13,9 @@ is_name_byte byte = is_between 97 122 byte || (is_between 48 57 byte || byte == 
 
 -- whether bytes are a name: 1 to 40 of those, the first not `-`
 abbrev pub is_name : List ℕ → Bool
-is_name bytes = not (length bytes == 0) && (not (slice_index bytes 0 == 45) && (nat_le (length bytes) 40 && list_all is_name_byte bytes))
+is_name bytes =
+    not (length bytes == 0) && (not (slice_index bytes 0 == 45)
+    && (nat_le (length bytes) 40 && list_all is_name_byte bytes))
 
 -- whether a byte is a printing character of ASCII, and no space
 abbrev pub is_graphic : ℕ → Bool
@@ -21,7 +23,9 @@ is_graphic byte = is_between 0x21 0x7e byte
 
 -- whether bytes may be one part of a path: not empty, not `.` and not `..`
 abbrev pub is_path_part : List ℕ → Bool
-is_path_part part = not (length part == 0) && (not (pointwise ◌==◌ part (46 ∷ [])) && not (pointwise ◌==◌ part (46 ∷ 46 ∷ [])))
+is_path_part part =
+    not (length part == 0) && (not (pointwise ◌==◌ part (46 ∷ []))
+    && not (pointwise ◌==◌ part (46 ∷ 46 ∷ [])))
 
 -- the parts of a path
 abbrev pub path_parts : List ℕ → List (List ℕ)

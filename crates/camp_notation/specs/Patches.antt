@@ -25,7 +25,9 @@ label_text label = label.name ++ place_text label.place ++ sign_text label.inver
 
 -- PATH LINE [OLD, ..] -> [NEW, ..]
 abbrev pub hunk_text : Edit → List ℕ
-hunk_text hunk = word_text hunk.path ++ 32 ∷ decimal hunk.line ++ 32 ∷ lines_text hunk.old ++ codes " -> " ++ lines_text hunk.new
+hunk_text hunk =
+    word_text hunk.path ++ 32 ∷ decimal hunk.line ++ 32 ∷ lines_text hunk.old
+    ++ codes " -> " ++ lines_text hunk.new
 
 -- add PATH; remove PATH; or a hunk
 abbrev pub change_text : Primitive → List ℕ

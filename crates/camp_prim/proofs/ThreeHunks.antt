@@ -21,6 +21,12 @@ pub record MovesAbove (a b c d p q q' p' : ℕ) : Type 0 where
   pub second : q' ≡ q
   pub first : p' ≡ q + d + gap
 
+below : (a b c d p q q' p' : ℕ) (u : MovesBelow a b c d p q q' p') → (q ≡ p + b + u.gap) × (q' ≡ p + a + u.gap) × (p' ≡ p)
+below a b c d p q q' p' u = (u.stands, u.second, u.first)
+
+above : (a b c d p q q' p' : ℕ) (u : MovesAbove a b c d p q q' p') → (p ≡ q + c + u.gap) × (q' ≡ q) × (p' ≡ q + d + u.gap)
+above a b c d p q q' p' u = (u.stands, u.second, u.first)
+
 -- hunks at p and q, of the sides a, b and c, d, move to q' and p' as they change places
 abbrev pub Moves : ℕ → ℕ → ℕ → ℕ → ℕ → ℕ → ℕ → ℕ → Type 0
 Moves a b c d p q q' p' = MovesBelow a b c d p q q' p' ⊎ MovesAbove a b c d p q q' p'
@@ -34,181 +40,145 @@ pub record MovesInOrder (a b c d e f p' q' r p1 q1 y : ℕ) : Type 0 where
   pub past_second : Moves c d e f q' r2 y q2
   pub others : Moves a b c d p1 q1 q2 p2
 
--- the six arrangements in the file, each named from top to bottom
-first_second_third : (a b c d e f p q q' p' r r1 q1 y p1 : ℕ) → MovesBelow a b c d p q q' p' → MovesBelow c d e f q r r1 q1 → MovesBelow a b e f p r1 y p1 → MovesInOrder a b c d e f p' q' r p1 q1 y
-first_second_third a b c d e f p q q' p' r r1 q1 y p1 u v w =
-    let g = u.gap in
-    let h = v.gap in
-    let k = w.gap in
-    let u1 : q ≡ p + b + g = u.stands in
-    let u2 : q' ≡ p + a + g = u.second in
-    let u3 : p' ≡ p = u.first in
-    let v1 : r ≡ q + d + h = v.stands in
-    let v2 : r1 ≡ q + c + h = v.second in
-    let v3 : q1 ≡ q = v.first in
-    let w1 : r1 ≡ p + b + k = w.stands in
-    let w2 : y ≡ p + a + k = w.second in
-    let w3 : p1 ≡ p = w.first in
-    let apart : 0 < g + d + h = elim u.passes [ inl some ↦ omega arith | inr full ↦ let side : 0 < d = full.3 in omega arith ] in
-    record {
-      r2 = p + a + (g + d + h);
-      p2 = p;
-      q2 = q';
-      past_first = inl (record { gap = g + d + h; stands = omega arith; passes = inl apart; second = omega arith; first = omega arith });
-      past_second = inl (record { gap = h; stands = omega arith; passes = v.passes; second = omega arith; first = refl });
-      others = inl (record { gap = g; stands = omega arith; passes = u.passes; second = omega arith; first = omega arith });
-    }
+module _ (a b c d e f p q q' p' r r1 q1 y p1 : ℕ) where
+  -- the six arrangements in the file, each named from top to bottom
+  first_second_third : MovesBelow a b c d p q q' p' → MovesBelow c d e f q r r1 q1 → MovesBelow a b e f p r1 y p1 → MovesInOrder a b c d e f p' q' r p1 q1 y
+  first_second_third u v w =
+      let g = u.gap in
+      let h = v.gap in
+      let k = w.gap in
+      let us = below a b c d p q q' p' u in
+      let vs = below c d e f q r r1 q1 v in
+      let ws = below a b e f p r1 y p1 w in
+      let apart : 0 < g + d + h = elim u.passes [ inl some ↦ omega (arith, us, vs, ws) | inr full ↦ let side : 0 < d = full.3 in omega (arith, us, vs, ws) ] in
+      record {
+        r2 = p + a + (g + d + h);
+        p2 = p;
+        q2 = q';
+        past_first = inl (record { gap = g + d + h; stands = omega (arith, us, vs, ws); passes = inl apart; second = omega (arith, us, vs, ws); first = omega (arith, us, vs, ws) });
+        past_second = inl (record { gap = h; stands = omega (arith, us, vs, ws); passes = v.passes; second = omega (arith, us, vs, ws); first = refl });
+        others = inl (record { gap = g; stands = omega (arith, us, vs, ws); passes = u.passes; second = omega (arith, us, vs, ws); first = omega (arith, us, vs, ws) });
+      }
 
-first_third_second : (a b c d e f p q q' p' r r1 q1 y p1 : ℕ) → MovesBelow a b c d p q q' p' → MovesAbove c d e f q r r1 q1 → MovesBelow a b e f p r1 y p1 → MovesInOrder a b c d e f p' q' r p1 q1 y
-first_third_second a b c d e f p q q' p' r r1 q1 y p1 u v w =
-    let g = u.gap in
-    let h = v.gap in
-    let k = w.gap in
-    let u1 : q ≡ p + b + g = u.stands in
-    let u2 : q' ≡ p + a + g = u.second in
-    let u3 : p' ≡ p = u.first in
-    let v1 : q ≡ r + e + h = v.stands in
-    let v2 : r1 ≡ r = v.second in
-    let v3 : q1 ≡ r + f + h = v.first in
-    let w1 : r1 ≡ p + b + k = w.stands in
-    let w2 : y ≡ p + a + k = w.second in
-    let w3 : p1 ≡ p = w.first in
-    let apart : 0 < k + f + h = elim w.passes [ inl some ↦ omega arith | inr full ↦ let side : 0 < f = full.3 in omega arith ] in
-    record {
-      r2 = p + a + k;
-      p2 = p;
-      q2 = p + a + (k + f + h);
-      past_first = inl (record { gap = k; stands = omega arith; passes = w.passes; second = omega arith; first = omega arith });
-      past_second = inr (record { gap = h; stands = omega arith; passes = v.passes; second = omega arith; first = omega arith });
-      others = inl (record { gap = k + f + h; stands = omega arith; passes = inl apart; second = omega arith; first = omega arith });
-    }
+  first_third_second : MovesBelow a b c d p q q' p' → MovesAbove c d e f q r r1 q1 → MovesBelow a b e f p r1 y p1 → MovesInOrder a b c d e f p' q' r p1 q1 y
+  first_third_second u v w =
+      let g = u.gap in
+      let h = v.gap in
+      let k = w.gap in
+      let us = below a b c d p q q' p' u in
+      let vs = above c d e f q r r1 q1 v in
+      let ws = below a b e f p r1 y p1 w in
+      let apart : 0 < k + f + h = elim w.passes [ inl some ↦ omega (arith, us, vs, ws) | inr full ↦ let side : 0 < f = full.3 in omega (arith, us, vs, ws) ] in
+      record {
+        r2 = p + a + k;
+        p2 = p;
+        q2 = p + a + (k + f + h);
+        past_first = inl (record { gap = k; stands = omega (arith, us, vs, ws); passes = w.passes; second = omega (arith, us, vs, ws); first = omega (arith, us, vs, ws) });
+        past_second = inr (record { gap = h; stands = omega (arith, us, vs, ws); passes = v.passes; second = omega (arith, us, vs, ws); first = omega (arith, us, vs, ws) });
+        others = inl (record { gap = k + f + h; stands = omega (arith, us, vs, ws); passes = inl apart; second = omega (arith, us, vs, ws); first = omega (arith, us, vs, ws) });
+      }
 
-third_first_second : (a b c d e f p q q' p' r r1 q1 y p1 : ℕ) → MovesBelow a b c d p q q' p' → MovesAbove c d e f q r r1 q1 → MovesAbove a b e f p r1 y p1 → MovesInOrder a b c d e f p' q' r p1 q1 y
-third_first_second a b c d e f p q q' p' r r1 q1 y p1 u v w =
-    let g = u.gap in
-    let h = v.gap in
-    let k = w.gap in
-    let u1 : q ≡ p + b + g = u.stands in
-    let u2 : q' ≡ p + a + g = u.second in
-    let u3 : p' ≡ p = u.first in
-    let v1 : q ≡ r + e + h = v.stands in
-    let v2 : r1 ≡ r = v.second in
-    let v3 : q1 ≡ r + f + h = v.first in
-    let w1 : p ≡ r1 + e + k = w.stands in
-    let w2 : y ≡ r1 = w.second in
-    let w3 : p1 ≡ r1 + f + k = w.first in
-    let apart : 0 < k + a + g = elim w.passes [ inl some ↦ omega arith | inr full ↦ let side : 0 < a = full.0 in omega arith ] in
-    record {
-      r2 = r;
-      p2 = p1;
-      q2 = r + f + (k + a + g);
-      past_first = inr (record { gap = k; stands = omega arith; passes = w.passes; second = omega arith; first = omega arith });
-      past_second = inr (record { gap = k + a + g; stands = omega arith; passes = inl apart; second = omega arith; first = omega arith });
-      others = inl (record { gap = g; stands = omega arith; passes = u.passes; second = omega arith; first = refl });
-    }
+  third_first_second : MovesBelow a b c d p q q' p' → MovesAbove c d e f q r r1 q1 → MovesAbove a b e f p r1 y p1 → MovesInOrder a b c d e f p' q' r p1 q1 y
+  third_first_second u v w =
+      let g = u.gap in
+      let h = v.gap in
+      let k = w.gap in
+      let us = below a b c d p q q' p' u in
+      let vs = above c d e f q r r1 q1 v in
+      let ws = above a b e f p r1 y p1 w in
+      let apart : 0 < k + a + g = elim w.passes [ inl some ↦ omega (arith, us, vs, ws) | inr full ↦ let side : 0 < a = full.0 in omega (arith, us, vs, ws) ] in
+      record {
+        r2 = r;
+        p2 = p1;
+        q2 = r + f + (k + a + g);
+        past_first = inr (record { gap = k; stands = omega (arith, us, vs, ws); passes = w.passes; second = omega (arith, us, vs, ws); first = omega (arith, us, vs, ws) });
+        past_second = inr (record { gap = k + a + g; stands = omega (arith, us, vs, ws); passes = inl apart; second = omega (arith, us, vs, ws); first = omega (arith, us, vs, ws) });
+        others = inl (record { gap = g; stands = omega (arith, us, vs, ws); passes = u.passes; second = omega (arith, us, vs, ws); first = refl });
+      }
 
-second_first_third : (a b c d e f p q q' p' r r1 q1 y p1 : ℕ) → MovesAbove a b c d p q q' p' → MovesBelow c d e f q r r1 q1 → MovesBelow a b e f p r1 y p1 → MovesInOrder a b c d e f p' q' r p1 q1 y
-second_first_third a b c d e f p q q' p' r r1 q1 y p1 u v w =
-    let g = u.gap in
-    let h = v.gap in
-    let k = w.gap in
-    let u1 : p ≡ q + c + g = u.stands in
-    let u2 : q' ≡ q = u.second in
-    let u3 : p' ≡ q + d + g = u.first in
-    let v1 : r ≡ q + d + h = v.stands in
-    let v2 : r1 ≡ q + c + h = v.second in
-    let v3 : q1 ≡ q = v.first in
-    let w1 : r1 ≡ p + b + k = w.stands in
-    let w2 : y ≡ p + a + k = w.second in
-    let w3 : p1 ≡ p = w.first in
-    let apart : 0 < g + a + k = elim u.passes [ inl some ↦ omega arith | inr full ↦ let side : 0 < a = full.0 in omega arith ] in
-    record {
-      r2 = p' + a + k;
-      p2 = p';
-      q2 = q;
-      past_first = inl (record { gap = k; stands = omega arith; passes = w.passes; second = refl; first = refl });
-      past_second = inl (record { gap = g + a + k; stands = omega arith; passes = inl apart; second = omega arith; first = omega arith });
-      others = inr (record { gap = g; stands = omega arith; passes = u.passes; second = omega arith; first = omega arith });
-    }
+  second_first_third : MovesAbove a b c d p q q' p' → MovesBelow c d e f q r r1 q1 → MovesBelow a b e f p r1 y p1 → MovesInOrder a b c d e f p' q' r p1 q1 y
+  second_first_third u v w =
+      let g = u.gap in
+      let h = v.gap in
+      let k = w.gap in
+      let us = above a b c d p q q' p' u in
+      let vs = below c d e f q r r1 q1 v in
+      let ws = below a b e f p r1 y p1 w in
+      let apart : 0 < g + a + k = elim u.passes [ inl some ↦ omega (arith, us, vs, ws) | inr full ↦ let side : 0 < a = full.0 in omega (arith, us, vs, ws) ] in
+      record {
+        r2 = p' + a + k;
+        p2 = p';
+        q2 = q;
+        past_first = inl (record { gap = k; stands = omega (arith, us, vs, ws); passes = w.passes; second = refl; first = refl });
+        past_second = inl (record { gap = g + a + k; stands = omega (arith, us, vs, ws); passes = inl apart; second = omega (arith, us, vs, ws); first = omega (arith, us, vs, ws) });
+        others = inr (record { gap = g; stands = omega (arith, us, vs, ws); passes = u.passes; second = omega (arith, us, vs, ws); first = omega (arith, us, vs, ws) });
+      }
 
-second_third_first : (a b c d e f p q q' p' r r1 q1 y p1 : ℕ) → MovesAbove a b c d p q q' p' → MovesBelow c d e f q r r1 q1 → MovesAbove a b e f p r1 y p1 → MovesInOrder a b c d e f p' q' r p1 q1 y
-second_third_first a b c d e f p q q' p' r r1 q1 y p1 u v w =
-    let g = u.gap in
-    let h = v.gap in
-    let k = w.gap in
-    let u1 : p ≡ q + c + g = u.stands in
-    let u2 : q' ≡ q = u.second in
-    let u3 : p' ≡ q + d + g = u.first in
-    let v1 : r ≡ q + d + h = v.stands in
-    let v2 : r1 ≡ q + c + h = v.second in
-    let v3 : q1 ≡ q = v.first in
-    let w1 : p ≡ r1 + e + k = w.stands in
-    let w2 : y ≡ r1 = w.second in
-    let w3 : p1 ≡ r1 + f + k = w.first in
-    let apart : 0 < h + f + k = elim v.passes [ inl some ↦ omega arith | inr full ↦ let side : 0 < f = full.3 in omega arith ] in
-    record {
-      r2 = r;
-      p2 = r + f + k;
-      q2 = q;
-      past_first = inr (record { gap = k; stands = omega arith; passes = w.passes; second = refl; first = refl });
-      past_second = inl (record { gap = h; stands = omega arith; passes = v.passes; second = omega arith; first = omega arith });
-      others = inr (record { gap = h + f + k; stands = omega arith; passes = inl apart; second = omega arith; first = omega arith });
-    }
+  second_third_first : MovesAbove a b c d p q q' p' → MovesBelow c d e f q r r1 q1 → MovesAbove a b e f p r1 y p1 → MovesInOrder a b c d e f p' q' r p1 q1 y
+  second_third_first u v w =
+      let g = u.gap in
+      let h = v.gap in
+      let k = w.gap in
+      let us = above a b c d p q q' p' u in
+      let vs = below c d e f q r r1 q1 v in
+      let ws = above a b e f p r1 y p1 w in
+      let apart : 0 < h + f + k = elim v.passes [ inl some ↦ omega (arith, us, vs, ws) | inr full ↦ let side : 0 < f = full.3 in omega (arith, us, vs, ws) ] in
+      record {
+        r2 = r;
+        p2 = r + f + k;
+        q2 = q;
+        past_first = inr (record { gap = k; stands = omega (arith, us, vs, ws); passes = w.passes; second = refl; first = refl });
+        past_second = inl (record { gap = h; stands = omega (arith, us, vs, ws); passes = v.passes; second = omega (arith, us, vs, ws); first = omega (arith, us, vs, ws) });
+        others = inr (record { gap = h + f + k; stands = omega (arith, us, vs, ws); passes = inl apart; second = omega (arith, us, vs, ws); first = omega (arith, us, vs, ws) });
+      }
 
-third_second_first : (a b c d e f p q q' p' r r1 q1 y p1 : ℕ) → MovesAbove a b c d p q q' p' → MovesAbove c d e f q r r1 q1 → MovesAbove a b e f p r1 y p1 → MovesInOrder a b c d e f p' q' r p1 q1 y
-third_second_first a b c d e f p q q' p' r r1 q1 y p1 u v w =
-    let g = u.gap in
-    let h = v.gap in
-    let k = w.gap in
-    let u1 : p ≡ q + c + g = u.stands in
-    let u2 : q' ≡ q = u.second in
-    let u3 : p' ≡ q + d + g = u.first in
-    let v1 : q ≡ r + e + h = v.stands in
-    let v2 : r1 ≡ r = v.second in
-    let v3 : q1 ≡ r + f + h = v.first in
-    let w1 : p ≡ r1 + e + k = w.stands in
-    let w2 : y ≡ r1 = w.second in
-    let w3 : p1 ≡ r1 + f + k = w.first in
-    let apart : 0 < h + d + g = elim v.passes [ inl some ↦ omega arith | inr full ↦ let side : 0 < d = full.1 in omega arith ] in
-    record {
-      r2 = r;
-      p2 = r + f + (h + d + g);
-      q2 = q1;
-      past_first = inr (record { gap = h + d + g; stands = omega arith; passes = inl apart; second = refl; first = refl });
-      past_second = inr (record { gap = h; stands = omega arith; passes = v.passes; second = omega arith; first = omega arith });
-      others = inr (record { gap = g; stands = omega arith; passes = u.passes; second = refl; first = omega arith });
-    }
+  third_second_first : MovesAbove a b c d p q q' p' → MovesAbove c d e f q r r1 q1 → MovesAbove a b e f p r1 y p1 → MovesInOrder a b c d e f p' q' r p1 q1 y
+  third_second_first u v w =
+      let g = u.gap in
+      let h = v.gap in
+      let k = w.gap in
+      let us = above a b c d p q q' p' u in
+      let vs = above c d e f q r r1 q1 v in
+      let ws = above a b e f p r1 y p1 w in
+      let apart : 0 < h + d + g = elim v.passes [ inl some ↦ omega (arith, us, vs, ws) | inr full ↦ let side : 0 < d = full.1 in omega (arith, us, vs, ws) ] in
+      record {
+        r2 = r;
+        p2 = r + f + (h + d + g);
+        q2 = q1;
+        past_first = inr (record { gap = h + d + g; stands = omega (arith, us, vs, ws); passes = inl apart; second = refl; first = refl });
+        past_second = inr (record { gap = h; stands = omega (arith, us, vs, ws); passes = v.passes; second = omega (arith, us, vs, ws); first = omega (arith, us, vs, ws) });
+        others = inr (record { gap = g; stands = omega (arith, us, vs, ws); passes = u.passes; second = refl; first = omega (arith, us, vs, ws) });
+      }
 
--- the other two can't be: the first stands above the second, the second above the third, and the third above the first
-never_round : (a b c d e f p q q' p' r r1 q1 y p1 : ℕ) → MovesBelow a b c d p q q' p' → MovesBelow c d e f q r r1 q1 → MovesAbove a b e f p r1 y p1 → ⊥
-never_round a b c d e f p q q' p' r r1 q1 y p1 u v w =
-    let g = u.gap in
-    let h = v.gap in
-    let k = w.gap in
-    let u1 : q ≡ p + b + g = u.stands in
-    let v2 : r1 ≡ q + c + h = v.second in
-    let w1 : p ≡ r1 + e + k = w.stands in
-    elim w.passes [ inl some ↦ omega arith | inr full ↦ let side : 0 < b = full.1 in omega arith ]
+  -- the other two can't be: the first stands above the second, the second above the third, and the third above the first
+  never_round : MovesBelow a b c d p q q' p' → MovesBelow c d e f q r r1 q1 → MovesAbove a b e f p r1 y p1 → ⊥
+  never_round u v w =
+      let g = u.gap in
+      let h = v.gap in
+      let k = w.gap in
+      let us = below a b c d p q q' p' u in
+      let vs = below c d e f q r r1 q1 v in
+      let ws = above a b e f p r1 y p1 w in
+      elim w.passes [ inl some ↦ omega (arith, us, vs, ws) | inr full ↦ let side : 0 < b = full.1 in omega (arith, us, vs, ws) ]
 
--- and the same in the other direction
-never_round_back : (a b c d e f p q q' p' r r1 q1 y p1 : ℕ) → MovesAbove a b c d p q q' p' → MovesAbove c d e f q r r1 q1 → MovesBelow a b e f p r1 y p1 → ⊥
-never_round_back a b c d e f p q q' p' r r1 q1 y p1 u v w =
-    let g = u.gap in
-    let h = v.gap in
-    let k = w.gap in
-    let u1 : p ≡ q + c + g = u.stands in
-    let v1 : q ≡ r + e + h = v.stands in
-    let v2 : r1 ≡ r = v.second in
-    let w1 : r1 ≡ p + b + k = w.stands in
-    elim w.passes [ inl some ↦ omega arith | inr full ↦ let side : 0 < b = full.1 in omega arith ]
+  -- and the same in the other direction
+  never_round_back : MovesAbove a b c d p q q' p' → MovesAbove c d e f q r r1 q1 → MovesBelow a b e f p r1 y p1 → ⊥
+  never_round_back u v w =
+      let g = u.gap in
+      let h = v.gap in
+      let k = w.gap in
+      let us = above a b c d p q q' p' u in
+      let vs = above c d e f q r r1 q1 v in
+      let ws = below a b e f p r1 y p1 w in
+      elim w.passes [ inl some ↦ omega (arith, us, vs, ws) | inr full ↦ let side : 0 < b = full.1 in omega (arith, us, vs, ws) ]
 
--- where two hunks can change places and a third passes the second and then the first, it passes them in their other order too, and comes to the same line
-pub three_move : (a b c d e f p q q' p' r r1 q1 y p1 : ℕ) → Moves a b c d p q q' p' → Moves c d e f q r r1 q1 → Moves a b e f p r1 y p1 → MovesInOrder a b c d e f p' q' r p1 q1 y
-three_move a b c d e f p q q' p' r r1 q1 y p1 (inl u) (inl v) (inl w) = first_second_third a b c d e f p q q' p' r r1 q1 y p1 u v w
-three_move a b c d e f p q q' p' r r1 q1 y p1 (inl u) (inl v) (inr w) = absurd (never_round a b c d e f p q q' p' r r1 q1 y p1 u v w)
-three_move a b c d e f p q q' p' r r1 q1 y p1 (inl u) (inr v) (inl w) = first_third_second a b c d e f p q q' p' r r1 q1 y p1 u v w
-three_move a b c d e f p q q' p' r r1 q1 y p1 (inl u) (inr v) (inr w) = third_first_second a b c d e f p q q' p' r r1 q1 y p1 u v w
-three_move a b c d e f p q q' p' r r1 q1 y p1 (inr u) (inl v) (inl w) = second_first_third a b c d e f p q q' p' r r1 q1 y p1 u v w
-three_move a b c d e f p q q' p' r r1 q1 y p1 (inr u) (inl v) (inr w) = second_third_first a b c d e f p q q' p' r r1 q1 y p1 u v w
-three_move a b c d e f p q q' p' r r1 q1 y p1 (inr u) (inr v) (inl w) = absurd (never_round_back a b c d e f p q q' p' r r1 q1 y p1 u v w)
-three_move a b c d e f p q q' p' r r1 q1 y p1 (inr u) (inr v) (inr w) = third_second_first a b c d e f p q q' p' r r1 q1 y p1 u v w
+  -- where two hunks can change places and a third passes the second and then the first, it passes them in their other order too, and comes to the same line
+  pub three_move : Moves a b c d p q q' p' → Moves c d e f q r r1 q1 → Moves a b e f p r1 y p1 → MovesInOrder a b c d e f p' q' r p1 q1 y
+  three_move (inl u) (inl v) (inl w) = first_second_third u v w
+  three_move (inl u) (inl v) (inr w) = absurd (never_round u v w)
+  three_move (inl u) (inr v) (inl w) = first_third_second u v w
+  three_move (inl u) (inr v) (inr w) = third_first_second u v w
+  three_move (inr u) (inl v) (inl w) = second_first_third u v w
+  three_move (inr u) (inl v) (inr w) = second_third_first u v w
+  three_move (inr u) (inr v) (inl w) = absurd (never_round_back u v w)
+  three_move (inr u) (inr v) (inr w) = third_second_first u v w

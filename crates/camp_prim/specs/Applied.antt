@@ -1,6 +1,7 @@
 -- The tree that a primitive leads to, as a function, and that inverses lead back.
 use Rattle.std.specs.Prelude.{◌≡◌, ◌↔◌, ℕ, ◌+◌, ◌-◌, Bool, true, false, ◌&&◌, ◌==◌, if◌then◌else◌}
-use Rattle.std.specs.Prelude.{Option, None, Some, option_map, option_and_then, [], ◌∷◌, ◌++◌, length, take, drop, bytes_eq}
+use Rattle.std.specs.Prelude.{Option, None, Some, option_map, option_and_then}
+use Rattle.std.specs.Prelude.{[], ◌∷◌, ◌++◌, length, take, drop, bytes_eq}
 use Rattle.std.specs.Cmp.Lexicographic.{pointwise}
 use Rattle.std.specs.FinMap.{get, contains_key, insert, remove}
 use Rattle.camp_base.specs.Trees.{Lines, Files}

@@ -27,12 +27,14 @@ state_after_all state (call ∷ calls) = state_after_all (state_after state (ste
 -- the texts of the answers to calls, one after the other
 abbrev pub answers_from : Contents → List Call → List ℕ
 answers_from state [] = []
-answers_from state (call ∷ calls) = reply_text (reply_of (step state call)) ++ answers_from (state_after state (step state call)) calls
+answers_from state (call ∷ calls) =
+    reply_text (reply_of (step state call)) ++ answers_from (state_after state (step state call)) calls
 
 -- the texts of the answers to sections, one after the other; for now a script has one
 abbrev pub sections_from : Contents → List (List Call) → List ℕ
 sections_from state [] = []
-sections_from state (section ∷ sections) = answers_from state section ++ sections_from (state_after_all state section) sections
+sections_from state (section ∷ sections) =
+    answers_from state section ++ sections_from (state_after_all state section) sections
 
 -- the output of a script: its answers from a new repository on
 abbrev pub serial_output : List (List Call) → List ℕ

@@ -1,5 +1,5 @@
 -- Texts that grow part by part.
-use Rattle.std.proofs.Common.{◌≡◌, ℕ, ◌+◌, ◌-◌, ◌<◌, ◌≤◌, List, [], ◌∷◌, ◌++◌, length, take, drop, map, codes, sym, ap, ◌∙◌, append_assoc, append-nil, take-append-drop, None, Some, Result, Ok, Err, arith, lit<, lit≤}
+use Rattle.std.proofs.Common.{◌≡◌, ℕ, ◌+◌, ◌-◌, ◌<◌, ◌≤◌, List, [], ◌∷◌, ◌++◌, length, take, drop, map, codes, refl, sym, ap, ◌∙◌, append_assoc, append-nil, take-append-drop, None, Some, Result, Ok, Err, arith, lit<, lit≤}
 use Rattle.std.proofs.lemmas.List.{take_more, take_rest, take_all}
 use Rattle.std.proofs.lemmas.Grind.{flat_map-append}
 use Rattle.std.proofs.lemmas.List.Concat.{flat_map-cons}
@@ -49,6 +49,25 @@ no_file tree n i is within none =
       | [] ↦ λ h e. omega arith
       | file ∷ files ↦ λ h e. none-some _ (sym e ∙ slice_get-get_or (file ∷ files) i file h)
     ] inside none
+
+-- a text that is to grow by all of a list grows by the front of it that is done, and the rest is left
+pub record GrowsBy {X : Type 0} (f : X → List ℕ) (old now : List ℕ) (xs rest : List X) : Type 0 where
+  pub done : List ℕ
+  pub grown : now ≡ old ++ done
+  pub left : flat_map f xs ≡ done ++ flat_map f rest
+
+pub nothing_done : {X : Type 0} (f : X → List ℕ) (old : List ℕ) (xs : List X) → GrowsBy f old old xs xs
+nothing_done f old xs = record { done = []; grown = sym (append-nil old); left = refl }
+
+pub one_done : {X : Type 0} (f : X → List ℕ) (old now new : List ℕ) (xs : List X) (x : X) (rest : List X) → GrowsBy f old now xs (x ∷ rest) → new ≡ now ++ f x → GrowsBy f old new xs rest
+one_done f old now new xs x rest w is = record {
+  done = w.done ++ f x;
+  grown = is ∙ ap (λ t. t ++ f x) w.grown ∙ append_assoc old w.done (f x);
+  left = w.left ∙ ap (λ t. w.done ++ t) (flat_map-cons f x rest) ∙ sym (append_assoc w.done (f x) (flat_map f rest));
+}
+
+pub all_done : {X : Type 0} (f : X → List ℕ) (old now : List ℕ) (xs : List X) → GrowsBy f old now xs [] → now ≡ old ++ flat_map f xs
+all_done f old now xs w = w.grown ∙ ap (λ t. old ++ t) (sym (append-nil w.done) ∙ sym w.left)
 
 -- all files of a tree
 pub tree_done : (tree : Files) (old count begun now : List ℕ) (n i : ℕ) → count ≡ decimal (len tree) → begun ≡ old ++ line_text (codes "tree" ∷ count ∷ []) → now ≡ begun ++ flat_map file_text (take i (entries tree)) → n ≡ len tree → n ≤ i → now ≡ old ++ tree_text tree

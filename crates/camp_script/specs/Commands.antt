@@ -1,15 +1,19 @@
 -- What the words of a line ask for, or the first thing that is wrong with them.
-use Rattle.std.specs.Prelude.{◌≤◌, ℕ, ◌+◌, ◌*◌, ◌-◌, Bool, ◌&&◌, if◌then◌else◌, List, [], ◌∷◌, length, fold, Result, Ok, Err, bytes_eq, codes}
+use Rattle.std.specs.Prelude.{◌≤◌, ℕ, ◌+◌, ◌*◌, ◌-◌, Bool, ◌&&◌, if◌then◌else◌}
+use Rattle.std.specs.Prelude.{List, [], ◌∷◌, length, fold, Result, Ok, Err, bytes_eq, codes}
 use Rattle.std.specs.List.{list_all}
 use Rattle.camp_base.specs.Bytes.{is_between, is_name, is_path}
 use Rattle.camp_prim.specs.declared.primitives.Primitive.{Primitive}
 use Rattle.camp_prim.specs.declared.primitives.Primitive.TheVariants.{Add, Remove}
 use Rattle.camp_repo.specs.declared.calls.Call.TheVariants as call
 use Rattle.camp_script.specs.Faults.{fault_at}
+use Rattle.camp_script.specs.declared.commands.WholeFile.{WholeFile}
+use Rattle.camp_script.specs.declared.commands.WholeFile.TheVariants as file
 use Rattle.camp_script.specs.declared.commands.Command.{Command}
 use Rattle.camp_script.specs.declared.commands.Command.TheVariants.{Whole, Edit as edit}
 use Rattle.camp_script.specs.declared.faults.FaultKind.{FaultKind}
-use Rattle.camp_script.specs.declared.faults.FaultKind.TheVariants.{UnknownCommand, WrongNumberOfWords, BadName, BadPath, BadNumber}
+use Rattle.camp_script.specs.declared.faults.FaultKind.TheVariants.{UnknownCommand, WrongNumberOfWords}
+use Rattle.camp_script.specs.declared.faults.FaultKind.TheVariants.{BadName, BadPath, BadNumber}
 use Rattle.camp_script.specs.declared.faults.LineFault.{LineFault}
 
 -- what follows a good answer; the first fault stays
@@ -36,7 +40,9 @@ value_of digits = fold (λ value digit. value * 10 + (digit - 48)) 0 digits
 
 -- whether a word is the number of a line: 1 to 10 decimal digits, with a value of 1 to 1,073,741,823
 abbrev pub is_line_number : List ℕ → Bool
-is_line_number word = is_between 1 10 (length word) && (list_all (is_between 48 57) word && is_between 1 1_073_741_823 (value_of word))
+is_line_number word =
+    is_between 1 10 (length word)
+    && (list_all (is_between 48 57) word && is_between 1 1_073_741_823 (value_of word))
 
 -- a word that is the number of a line
 abbrev pub number_at : ℕ → List ℕ → Result ℕ LineFault
@@ -45,11 +51,18 @@ number_at line word = if is_line_number word then Ok (value_of word) else fault_
 -- `BRANCH`, `NAME` and `PATH`
 abbrev pub file_at : ℕ → List ℕ → List ℕ → List ℕ → Result (List ℕ × List ℕ × List ℕ) LineFault
 file_at line branch name path =
-    name_at line branch >>= λ branch. name_at line name >>= λ name. path_at line path >>= λ path. Ok (branch, name, path)
+    name_at line branch >>= λ branch. name_at line name >>= λ name.
+    path_at line path >>= λ path. Ok (branch, name, path)
+
+-- the change that puts an empty file at a path, or takes it away
+abbrev pub change_at : WholeFile → List ℕ → Primitive
+change_at file.Add = Add
+change_at file.Remove = Remove
 
 -- `record BRANCH NAME add PATH`, and the same with `remove`: the words from `PATH` on
 abbrev pub whole_record : (List ℕ → Primitive) → ℕ → List ℕ → List ℕ → List (List ℕ) → Result Command LineFault
-whole_record change line branch name (path ∷ []) = file_at line branch name path >>= λ file. Ok (Whole (call.Record file.0 file.1 (change file.2)))
+whole_record change line branch name (path ∷ []) =
+    file_at line branch name path >>= λ file. Ok (Whole (call.Record file.0 file.1 (change file.2)))
 whole_record change line branch name others = fault_at line WrongNumberOfWords
 
 -- `record BRANCH NAME edit PATH LINE`: the words from `PATH` on

@@ -1,5 +1,6 @@
 -- The lines of a script, and the words of a line.
-use Rattle.std.specs.Prelude.{ℕ, Bool, true, ◌==◌, ◌||◌, ◌-◌, nat_lt, if◌then◌else◌, List, [], ◌∷◌, length, take, filter, slice_index}
+use Rattle.std.specs.Prelude.{ℕ, ◌-◌, Bool, true, ◌==◌, ◌||◌, nat_lt, if◌then◌else◌}
+use Rattle.std.specs.Prelude.{List, [], ◌∷◌, length, take, filter, slice_index}
 use Rattle.std.specs.List.{slice_split}
 
 -- pieces without the last one, where that is empty

@@ -15,14 +15,14 @@ open_of body = record { head = body.head; opened = body.opened; old = body.old.i
 abbrev pub progress_of : Inside → Progress
 progress_of reading = record { calls = reading.calls.items; open_edit = option_map open_of reading.body }
 
--- there is room for one more writing call
-abbrev pub HasRoom : List Call → Type 0
-HasRoom calls = count_by is_writing calls < 65_536
+-- the section may have one more writing call
+abbrev pub MayGrow : List Call → Type 0
+MayGrow calls = count_by is_writing calls < 65_536
 
 -- an open edit has a line, counted from 1, and room for its call
 abbrev pub IsAwaited : List Call → Option Body → Type 0
 IsAwaited calls None = Unit {0}
-IsAwaited calls (Some body) = (1 ≤ body.head.line) × HasRoom calls
+IsAwaited calls (Some body) = (1 ≤ body.head.line) × MayGrow calls
 
 -- the number of writing calls is kept and within the limit
 pub record IsKept (reading : Inside) : Type 0 where

@@ -16,9 +16,11 @@ ExtendsOrKeeps old bytes (Err error) new = new ≡ old
 
 -- known bytes grow by a front of a text, and not by all of it
 abbrev pub AppendsFront : Option (List ℕ) → Option (List ℕ) → List ℕ → Type 0
-AppendsFront old new text = (done : List ℕ) × (rest : List ℕ) × (text ≡ done ++ rest) × (0 < length rest) × Appends old new done
+AppendsFront old new text =
+    (done : List ℕ) × (rest : List ℕ) × (text ≡ done ++ rest) × (0 < length rest) × Appends old new done
 
--- Ok: known bytes grow by the text. Out of memory: by nothing. After a fault of the writer: by a front of the text. Nothing is read.
+-- Ok: known bytes grow by the text. Out of memory: by nothing. After a fault of the writer: by a front of the text.
+-- Nothing is read.
 abbrev pub Writes : Option (List ℕ) → List ℕ → Result (Unit {0}) ScriptFault → Option (List ℕ) → Type 0
 Writes old text (Ok done) new = Appends old new text
 Writes old text (Err (Line fault)) new = ⊥

@@ -1,7 +1,7 @@
-ghost use Rattle.std.specs.Prelude.{◌≡◌, ◌≤◌, [], ◌∷◌, IfOk, length, map};
+ghost use Rattle.std.specs.Prelude.{◌≡◌, ◌≢◌, ◌≤◌, [], ◌∷◌, IfErr, IfOk, IsTrue, length, map};
 ghost use Rattle.std.specs.List.{list_all};
-ghost use Rattle.camp_base.specs.Bytes.{is_between};
-ghost use Rattle.camp_script.specs.Commands.{name_at, path_at, number_at, value_of, is_line_number, file_at, whole_record, edit_record, record_command, tree_command, command_of, IsPlaced};
+ghost use Rattle.camp_base.specs.Bytes.{is_between, is_path};
+ghost use Rattle.camp_script.specs.Commands.{name_at, path_at, change_at, number_at, value_of, is_line_number, file_at, whole_record, edit_record, record_command, tree_command, command_of, IsPlaced};
 ghost use Rattle.camp_script.specs.Gives.{Gives};
 
 use crate::faults::{FaultKind, ScriptFault, at_line};
@@ -34,6 +34,24 @@ pub(crate) struct EditHead {
     pub line: u32,
 }
 
+/// What a record does to a whole file.
+#[derive(Clone, Copy)]
+enum WholeFile {
+    Add,
+    Remove,
+}
+
+impl WholeFile {
+    fn at(self, path: Path) -> Primitive
+        ensures { result ≡ change_at self path }
+    {
+        match self {
+            WholeFile::Add => Primitive::Add(path),
+            WholeFile::Remove => Primitive::Remove(path),
+        }
+    }
+}
+
 /// What the line of a number asks for by its words.
 pub(crate) fn command_of(
     alloc: Global,
@@ -58,16 +76,10 @@ fn record_command(alloc: Global, number: u64, words: &[&[u8]]) -> Result<Command
         return Err(at_line(number, FaultKind::WrongNumberOfWords));
     };
     if *change == b"add".as_slice() {
-        return match rest {
-            [path] => add_record(alloc, number, branch, name, path),
-            _ => Err(at_line(number, FaultKind::WrongNumberOfWords)),
-        };
+        return whole_record(alloc, number, WholeFile::Add, branch, name, rest);
     }
     if *change == b"remove".as_slice() {
-        return match rest {
-            [path] => remove_record(alloc, number, branch, name, path),
-            _ => Err(at_line(number, FaultKind::WrongNumberOfWords)),
-        };
+        return whole_record(alloc, number, WholeFile::Remove, branch, name, rest);
     }
     if *change == b"edit".as_slice() {
         return match rest {
@@ -78,37 +90,22 @@ fn record_command(alloc: Global, number: u64, words: &[&[u8]]) -> Result<Command
     Err(at_line(number, FaultKind::UnknownCommand))
 }
 
-fn add_record(
+fn whole_record(
     alloc: Global,
     number: u64,
+    file: WholeFile,
     branch: &[u8],
     name: &[u8],
-    path: &[u8],
+    rest: &[&[u8]],
 ) -> Result<Command, ScriptFault>
-    ensures given { Gives result (whole_record Primitive.Add number branch.now name.now (path.now ∷ [])) }
+    ensures given { Gives result (whole_record (change_at file) number branch.now name.now (map (λ word. word.now) rest.now)) }
     ensures placed { IfOk result IsPlaced }
 {
+    let [path] = rest else {
+        return Err(at_line(number, FaultKind::WrongNumberOfWords));
+    };
     let (branch, name, path) = file_at(alloc, number, branch, name, path)?;
-    let change = Primitive::Add(path);
-    Ok(Command::Whole(Call::Record {
-        branch,
-        name,
-        change,
-    }))
-}
-
-fn remove_record(
-    alloc: Global,
-    number: u64,
-    branch: &[u8],
-    name: &[u8],
-    path: &[u8],
-) -> Result<Command, ScriptFault>
-    ensures given { Gives result (whole_record Primitive.Remove number branch.now name.now (path.now ∷ [])) }
-    ensures placed { IfOk result IsPlaced }
-{
-    let (branch, name, path) = file_at(alloc, number, branch, name, path)?;
-    let change = Primitive::Remove(path);
+    let change = file.at(path);
     Ok(Command::Whole(Call::Record {
         branch,
         name,
@@ -165,7 +162,8 @@ fn tree_command(number: u64, words: &[&[u8]]) -> Result<Command, ScriptFault>
 }
 
 fn name_at(number: u64, word: &[u8]) -> Result<Name, ScriptFault>
-    ensures { Gives result (name_at number word.now) }
+    ensures given { Gives result (name_at number word.now) }
+    ensures told { IfErr result (λ fault. fault ≢ ScriptFault.Memory) }
 {
     match Name::new(word) {
         Ok(name) => Ok(name),
@@ -174,7 +172,8 @@ fn name_at(number: u64, word: &[u8]) -> Result<Name, ScriptFault>
 }
 
 fn path_at(alloc: Global, number: u64, word: &[u8]) -> Result<Path, ScriptFault>
-    ensures { Gives result (path_at number word.now) }
+    ensures given { Gives result (path_at number word.now) }
+    ensures wanted { IfErr result (λ fault. fault ≡ ScriptFault.Memory → IsTrue (is_path word.now)) }
 {
     match Path::new(alloc, word) {
         Ok(path) => Ok(path),
@@ -187,6 +186,7 @@ fn path_at(alloc: Global, number: u64, word: &[u8]) -> Result<Path, ScriptFault>
 fn number_at(number: u64, word: &[u8]) -> Result<u32, ScriptFault>
     ensures value { Gives result (number_at number word.now) }
     ensures counted { IfOk result (λ line. 1 ≤ line) }
+    ensures told { IfErr result (λ fault. fault ≢ ScriptFault.Memory) }
 {
     if !is_line_number(word) {
         return Err(at_line(number, FaultKind::BadNumber));

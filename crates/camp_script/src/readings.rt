@@ -1,4 +1,4 @@
-ghost use Rattle.std.specs.Prelude.{◌≡◌, if◌then◌else◌, true, Some};
+ghost use Rattle.std.specs.Prelude.{◌≡◌, if◌then◌else◌, true, IfErr, IsTrue, Some};
 ghost use Rattle.camp_base.specs.Bytes.{is_line};
 ghost use Rattle.camp_script.specs.declared.faults.FaultKind.TheVariants as kind;
 ghost use Rattle.camp_repo.specs.Calls.{is_writing};
@@ -49,7 +49,7 @@ impl Model for Reading {
 }
 
 impl Reading {
-    ghost use Rattle.camp_script.specs.ReadingFields.{open_of, HasRoom, IsAwaited};
+    ghost use Rattle.camp_script.specs.ReadingFields.{open_of, MayGrow, IsAwaited};
 
     /// Before the first line.
     pub(crate) fn new(alloc: Global) -> Reading
@@ -137,7 +137,7 @@ impl Reading {
     }
 
     fn with_call(mut self, call: Call) -> Result<Reading, ScriptFault>
-        requires { is_writing call ≡ true → HasRoom self.calls }
+        requires { is_writing call ≡ true → MayGrow self.calls }
         ensures { Gives result (Ok (with_call self call)) }
     {
         let writing = call.is_writing();
@@ -229,7 +229,8 @@ impl Reading {
 
 // The bytes behind the sign of a line of a side.
 fn line_at(alloc: Global, number: u64, bytes: &[u8]) -> Result<Line, ScriptFault>
-    ensures { Gives result (if is_line bytes.now then Ok bytes.now else fault_at number kind.BadLine) }
+    ensures given { Gives result (if is_line bytes.now then Ok bytes.now else fault_at number kind.BadLine) }
+    ensures wanted { IfErr result (λ fault. fault ≡ ScriptFault.Memory → IsTrue (is_line bytes.now)) }
 {
     match Line::new(alloc, bytes) {
         Ok(line) => Ok(line),

@@ -1,12 +1,14 @@
 //! The texts of answers, appended to bytes and written to a writer.
 ghost use Rattle.std.specs.Prelude.{◌∷◌, map, codes, MatchResult};
+ghost use Rattle.std.specs.List.{flat_map};
 ghost use Rattle.std.specs.Io.KnownBytes.{Appends};
-ghost use Rattle.camp_script.specs.Texts.{line_text, refusal_words, file_text, tree_text, reply_text};
+ghost use Rattle.camp_script.specs.Texts.{line_text, refusal_words, signed_line, file_text, tree_text, reply_text};
 ghost use Rattle.camp_script.specs.Writing.{Extends, ExtendsOrKeeps, AppendsFront, Writes};
 
 use crate::ScriptFault;
 use camp_base::{Line, Path, Tree};
 use camp_repo::{Refusal, Reply};
+use camp_share::SharedList;
 use itoa::Buffer;
 use std::alloc::{AllocError, Global};
 use std::io;
@@ -99,24 +101,39 @@ fn extend_by_tree(text: &mut Vec<u8>, tree: &Tree) -> Result<(), AllocError>
         let Some((path, lines)) = tree.at(index) else {
             unreachable!();
         };
-        let copies = lines.to_vec()?;
-        extend_by_file(text, path, &copies)?;
+        extend_by_file(text, path, lines)?;
     }
     Ok(())
 }
 
-fn extend_by_file(text: &mut Vec<u8>, path: &Path, lines: &[Line]) -> Result<(), AllocError>
+fn extend_by_file(
+    text: &mut Vec<u8>,
+    path: &Path,
+    lines: &SharedList<Line>,
+) -> Result<(), AllocError>
     ensures { Extends text.old.items (file_text (path.now, lines.now)) result text.new.items }
 {
     let mut count = Buffer::new();
     let words = [path.bytes(), count.format(lines.len()).as_bytes()];
     extend_by_line(text, b"file", &words)?;
-    for line in lines {
-        text.push(b'=')?;
-        text.extend_from_slice(line.bytes())?;
-        text.push(b'\n')?;
+    extend_by_lines(text, lines)
+}
+
+fn extend_by_lines(text: &mut Vec<u8>, lines: &SharedList<Line>) -> Result<(), AllocError>
+    ensures { Extends text.old.items (flat_map (signed_line 61) lines.now) result text.new.items }
+{
+    for line in lines.iter() {
+        extend_by_signed_line(text, line)?;
     }
     Ok(())
+}
+
+fn extend_by_signed_line(text: &mut Vec<u8>, line: &Line) -> Result<(), AllocError>
+    ensures { Extends text.old.items (signed_line 61 line.now) result text.new.items }
+{
+    text.push(b'=')?;
+    text.extend_from_slice(line.bytes())?;
+    Ok(text.push(b'\n')?)
 }
 
 // A line of words, one space between each two.

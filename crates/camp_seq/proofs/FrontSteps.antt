@@ -1,9 +1,11 @@
 -- The first element with a label, and what comes of it at the front.
-use Rattle.std.proofs.Common.{◌≡◌, ◌≢◌, List, [], ◌∷◌, ◌++◌, refl, ap, inl, inr, suc, arith}
+use Rattle.std.proofs.Common.{◌≡◌, ◌≢◌, ℕ, List, [], ◌∷◌, ◌++◌, map, Contains, refl, sym, ap, ◌∙◌, inl, inr, suc, arith}
+use Rattle.std.proofs.lemmas.List.{map-append}
+use Rattle.std.proofs.lemmas.List.Elements.{Contains-append_right, Contains-get_or}
 use Rattle.camp_prim.specs.Labels.{label_of}
 use Rattle.camp_prim.specs.declared.labels.Label.{Label}
 use Rattle.camp_prim.specs.declared.named.Named.{Named}
-use Rattle.camp_seq.specs.Inside.InPlace.{Lacks, Precedes}
+use Rattle.camp_seq.specs.Inside.InPlace.{FirstWith, Lacks, Precedes}
 use Rattle.camp_seq.specs.Passing.{Fronts}
 
 lacks_first : (label : Label) (p : Named) (s : List Named) → Lacks label (p ∷ s) → label_of p ≢ label
@@ -19,6 +21,12 @@ none_fronts label (p ∷ s) y t lacks (inl w) = lacks_first label p s lacks w.0
 none_fronts label (p ∷ s) y t lacks (inr w) =
     let found = w.1 in
     none_fronts label s found.0 found.2 (lacks_rest label p s lacks) found.3
+
+-- an element with a label is among those of the list
+pub first_contained : (label : Label) (s : List Named) (at : ℕ) → FirstWith label s at → Contains (map label_of s) label
+first_contained label s at w =
+    let labels : map label_of s ≡ map label_of w.before ++ label_of w.first ∷ map label_of w.after = ap (map label_of) w.is ∙ map-append label_of w.before (w.first ∷ w.after) in
+    rw (labels, sym w.labelled) (Contains-append_right (map label_of w.before) (label_of w.first ∷ map label_of w.after) (label_of w.first) (Contains-get_or (label_of w.first ∷ map label_of w.after) 0 (label_of w.first) (omega arith)))
 
 -- the first element with a label, swapped to before those before it
 pub fronts_from : (label : Label) (before : List Named) (first : Named) (after : List Named) (y : Named) (moved : List Named) → Lacks label before → label_of first ≡ label → Precedes before first y moved → Fronts label (before ++ first ∷ after) y (moved ++ after)

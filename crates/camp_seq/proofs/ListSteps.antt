@@ -1,6 +1,7 @@
 -- A loop that goes over a list in place, from its first element to its last, or back.
-use Rattle.std.proofs.Common.{◌≡◌, ℕ, ◌+◌, ◌-◌, ◌<◌, List, [], ◌∷◌, ◌++◌, length, take, drop, get_or, set, sym, ap, ◌∙◌, arith}
-use Rattle.std.proofs.lemmas.List.{append_assoc, length_push, take_at, drop_at, drop_more, take_more, take-append-drop, drop-set-lt, take-set, take-take, get_or-take}
+use Rattle.std.proofs.Common.{◌≡◌, ℕ, ◌+◌, ◌-◌, ◌<◌, List, [], ◌∷◌, ◌++◌, length, take, drop, get_or, set, refl, sym, ap, subst, ◌∙◌, arith}
+use Rattle.std.proofs.lemmas.List.{append_assoc, length_push, take_at, drop_at, drop_all, drop_more, take_more, take-append-drop, drop-set, drop-set-lt, take-set, take-take, get_or-take}
+use Rattle.camp_prim.specs.declared.named.Named.{Named}
 
 -- the element at i and what is behind it, in a list that is unchanged from i on
 pub at_next : {X : Type 0} (s0 s : List X) (i : ℕ) (d : X) → i < length s → length s ≡ length s0 → drop i s ≡ drop i s0 → drop i s0 ≡ get_or s i d ∷ drop (i + 1) s0
@@ -42,6 +43,22 @@ at_last s0 s i d within waiting =
 pub take_last : {X : Type 0} (s0 s : List X) (i : ℕ) (y : X) → take (i + 1) s ≡ take (i + 1) s0 → take i (set s i y) ≡ take i s0
 take_last s0 s i y waiting =
     take-set s i y ∙ sym (take-take i (i + 1) s (omega arith)) ∙ ap (λ t. take i t) waiting ∙ take-take i (i + 1) s0 (omega arith)
+
+-- backwards: from a place on the elements have become others, and those before it are as they were
+pub record DoneFrom (Done : List Named → List Named → Type 0) (s0 s : List Named) (at : ℕ) : Type 0 where
+  pub done : Done (drop at s0) (drop at s)
+  pub waiting : take at s ≡ take at s0
+
+pub none_done : (Done : List Named → List Named → Type 0) (s : List Named) → Done [] [] → DoneFrom Done s s (length s)
+none_done Done s empty = record { done = rw (drop_all (length s) s (omega arith)) empty; waiting = refl }
+
+pub one_more_done : (Was Done : List Named → List Named → Type 0) (s0 s : List Named) (at i : ℕ) (d y : Named) → at ≡ i + 1 → i < length s → length s ≡ length s0 → DoneFrom Was s0 s at → (Was (drop (i + 1) s0) (drop (i + 1) s) → Done (get_or s i d ∷ drop (i + 1) s0) (y ∷ drop (i + 1) s)) → DoneFrom Done s0 (set s i y) i
+one_more_done Was Done s0 s at i d y e within long w step =
+    let v = subst (DoneFrom Was s0 s) e w in
+    record {
+      done = rw (at_last s0 s i d (omega arith) v.waiting, drop-set s i y within) (step v.done);
+      waiting = take_last s0 s i y v.waiting;
+    }
 
 -- a list that ends with y, turned so that y comes first
 pub turned : {X : Type 0} (s : List X) (y : X) (part : List X) → part ≡ s ++ y ∷ [] → drop (length part - 1) part ++ take (length part - 1) part ≡ y ∷ s

@@ -10,6 +10,7 @@ use Rattle.camp_prim.proofs.SwapLaws.{own_inverse}
 use Rattle.camp_seq.specs.Inside.InPlace.{Precedes, IsHeld, ComesUpTo}
 use Rattle.camp_seq.specs.Passing.{Passes, PassesAll}
 use Rattle.camp_seq.proofs.ListResults.{one_pass, one_pass_of_all}
+use Rattle.camp_seq.proofs.ListSteps.{DoneFrom, at_last, whole}
 
 pub passes_push : (p : Named) (s s' : List Named) (r q q' r' : Named) → Passes p s s' r → Swap r q q' r' → Passes p (s ++ q ∷ []) (s' ++ q' ∷ []) r'
 passes_push p [] s' r q q' r' m w =
@@ -28,6 +29,13 @@ all_stop [] p r s s' r' t z m never v =
     let rest = one_pass_of_all r s s' v.0 r' v.2 m v.3 in
     never t v.1 (subst (λ y. Passes p y t v.1) (sym rest.0) v.4)
 all_stop (x ∷ before) p r s s' r' t z m never v = all_stop before p r s s' r' v.0 v.2 m never v.3
+
+-- an element that stops leaves no way for the whole list
+pub stops_all : (r0 r s0 s : List Named) (at i : ℕ) (d : Named) → at ≡ i + 1 → i < length r → length r ≡ length r0 → DoneFrom (λ t u. PassesAll t s0 s u) r0 r at → ((x : List Named) (y : Named) → ¬ (Passes (get_or r i d) s x y)) → (t u : List Named) → ¬ (PassesAll r0 s0 t u)
+stops_all r0 r s0 s at i d e within long w never t u m =
+    let v = subst (DoneFrom (λ t u. PassesAll t s0 s u) r0 r) e w in
+    let next = at_last r0 r i d (omega arith) v.waiting in
+    all_stop (take i r0) (get_or r i d) (drop (i + 1) r0) s0 s (drop (i + 1) r) t u v.done never (subst (λ x. PassesAll x s0 t u) (whole r0 i (get_or r i d ∷ drop (i + 1) r0) next) m)
 
 pub one_precedes : (s : List Named) (p a b : Named) (t u : List Named) → Precedes s p a t → Precedes s p b u → (a ≡ b) × (t ≡ u)
 one_precedes [] p a b t u v w = (v.0 ∙ sym w.0, v.1 ∙ sym w.1)
@@ -58,14 +66,16 @@ all_hold [] q s x r t m never = ((λ p u. precedes_stop [] q s x r p t u m never
 all_hold (y ∷ a) q s x r t m never =
     ((λ p u. subst (λ z. ¬ (Precedes (y ∷ z) x p u)) (sym (append_assoc a (q ∷ []) s)) (precedes_stop (y ∷ a) q s x r p t u m never)), all_hold a q s x r t m never)
 
-pub comes_up_to : (s0 s : List Named) (x0 x : Named) (i : ℕ) (d : Named) → i < length s → length s ≡ length s0 → take (i + 1) s ≡ take (i + 1) s0 → Precedes (drop (i + 1) s0) x0 x (drop (i + 1) s) → ((a b : Named) → ¬ (Swap (get_or s i d) x a b)) → ComesUpTo s0 x0 (i + 1) s x
-comes_up_to s0 s x0 x i d within long waiting came never = record {
-  bound = omega arith;
-  long = long;
-  waiting = waiting;
-  came = came;
-  held = subst (λ a. IsHeld a (drop (i + 1) s0) x0) (sym (take_more s i d within) ∙ waiting) (all_hold (take i s) (get_or s i d) (drop (i + 1) s0) x0 x (drop (i + 1) s) came never);
-}
+pub comes_up_to : (s0 s : List Named) (x0 x : Named) (at i : ℕ) (d : Named) → at ≡ i + 1 → i < length s → length s ≡ length s0 → DoneFrom (λ t u. Precedes t x0 x u) s0 s at → ((a b : Named) → ¬ (Swap (get_or s i d) x a b)) → ComesUpTo s0 x0 (i + 1) s x
+comes_up_to s0 s x0 x at i d e within long w never =
+    let v = subst (DoneFrom (λ t u. Precedes t x0 x u) s0 s) e w in
+    record {
+      bound = omega arith;
+      long = long;
+      waiting = v.waiting;
+      came = v.done;
+      held = subst (λ a. IsHeld a (drop (i + 1) s0) x0) (sym (take_more s i d within) ∙ v.waiting) (all_hold (take i s) (get_or s i d) (drop (i + 1) s0) x0 x (drop (i + 1) s) v.done never);
+    }
 
 -- what is held does not come to before the whole list
 pub never_first : (s0 : List Named) (at : ℕ) (x : Named) → 0 < at → at ≤ length s0 → IsHeld (take at s0) (drop at s0) x → (y : Named) (t : List Named) → ¬ (Precedes s0 x y t)

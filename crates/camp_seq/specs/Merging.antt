@@ -12,10 +12,12 @@ Merges a b b' a' = Swap (inverse_of a) b b' (inverse_of a')
 abbrev pub MergesOne : Named → List Named → List Named → Named → Type 0
 MergesOne a [] b' a' = (b' ≡ []) × (a' ≡ a)
 MergesOne a (b ∷ bs) b' a' =
-    (first : Named) × (beside : Named) × (t : List Named) × Merges a b first beside × MergesOne beside bs t a' × (b' ≡ first ∷ t)
+    (first : Named) × (beside : Named) × (t : List Named)
+    × Merges a b first beside × MergesOne beside bs t a' × (b' ≡ first ∷ t)
 
 -- two lists: every cell of the grid merges cleanly, each pair as its neighbours left it
 abbrev pub CleanMerge : List Named → List Named → List Named → List Named → Type 0
 CleanMerge [] b b' a' = (b' ≡ b) × (a' ≡ [])
 CleanMerge (p ∷ a) b b' a' =
-    (beside : List Named) × (p' : Named) × (t : List Named) × MergesOne p b beside p' × CleanMerge a beside b' t × (a' ≡ p' ∷ t)
+    (beside : List Named) × (p' : Named) × (t : List Named)
+    × MergesOne p b beside p' × CleanMerge a beside b' t × (a' ≡ p' ∷ t)

@@ -1,4 +1,4 @@
-ghost use Rattle.std.specs.Prelude.{◌≡◌, ◌↔◌, IfOk, IsTrue, MatchOption};
+ghost use Rattle.std.specs.Prelude.{◌≡◌, ◌↔◌, Contains, IfErr, IfOk, IsTrue, MatchOption, map};
 ghost use Rattle.camp_base.specs.Answers.{Changes, FindsPair};
 ghost use Rattle.camp_prim.specs.Labels.{label_of};
 ghost use Rattle.camp_seq.specs.Inside.InPlace.{FirstWith, FrontsInPlace, Lacks};
@@ -11,9 +11,15 @@ use std::alloc::AllocError;
 
 /// `Some((y, t))` where `s` is the same as `y` and then `t`: the first primitive of `s` with this
 /// label is swapped to the front, where it is `y`. None where it can't come there, or there is none.
+/// That there is none is answered whatever memory does.
+#[tactic(auto, using(crate::proofs::FrontSteps::first_contained))]
 pub fn front(s: &Seq, label: &Label) -> Result<Option<(Named, Seq)>, AllocError>
     ensures exact { IfOk result (FindsPair (Fronts label.now s.now)) }
+    ensures wanted { IfErr result (λ error. Contains (map label_of s.now) label.now) }
 {
+    let Some(_) = place_of(&s.items, label) else {
+        return Ok(None);
+    };
     let mut rest = s.try_clone()?;
     if !bring(&mut rest.items, label) {
         return Ok(None);

@@ -26,7 +26,8 @@ IsAbove order (entry ∷ rest) key = (order entry.0 key ≡ Less) × IsAbove ord
 -- the entry at a place of a part has the key
 abbrev pub IsInPart : {K X Z : Type 0} → List (Vec (K × X) Z) → K → ℕ → ℕ → Type 0
 IsInPart {K} {X} {Z} parts key index place =
-    (index < length parts) × ((part : Vec (K × X) Z) → part ≡ slice_index_or parts index part → IsAt part.items key place)
+    (index < length parts)
+    × ((part : Vec (K × X) Z) → part ≡ slice_index_or parts index part → IsAt part.items key place)
     × IsAt (joined parts) key (length (joined (take index parts)) + place)
 
 -- a key would stand at a place of a part

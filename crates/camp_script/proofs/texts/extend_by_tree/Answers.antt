@@ -1,9 +1,9 @@
-use Rattle.std.proofs.Common.{◌≡◌, subst, ◌∷◌, [], ◌++◌, take, codes, ap, ◌∙◌, append_assoc, refl}
+use Rattle.std.proofs.Common.{◌∷◌, [], ◌++◌, take, codes, ap, ◌∙◌, append_assoc, refl}
 use Rattle.std.specs.FinMap.{entries}
 use Rattle.std.specs.List.{flat_map}
 use Rattle.std.specs.Fmt.{decimal}
 use Rattle.camp_script.specs.Texts.{file_text, line_text}
-use Rattle.camp_script.proofs.TextLemmas.{one_more, no_file, tree_done, kept, kept_further}
+use Rattle.camp_script.proofs.TextLemmas.{one_more, no_file, tree_done, kept_further}
 use Rattle.camp_script.proofs.texts.extend_by_tree.Goals as goal
 
 pub unreachable-requires : goal.unreachable-requires
@@ -19,16 +19,9 @@ returns-in_err-extend_by_file c =
 pub loop-index-preserved : goal.loop-index-preserved
 loop-index-preserved c =
     one_more file_text c.extend_by_line.new.text.items c.loop-index.text.items c.extend_by_file.new.text.items (entries c.args.tree.now) c.loop-index.index _ c.loop-index.invariant c.in-Some.ensures
-    (subst (λ ls. c.extend_by_file.new.text.items ≡ c.loop-index.text.items ++ file_text (c.in-Some.path.now, ls)) (c.deref.ensures.value ∙ c.in_ok-copies.ensures) c.in_ok-extend_by_file.ensures)
+    c.in_ok-extend_by_file.ensures
 
 pub returns : goal.returns
 returns c =
     tree_done c.args.tree.now c.args.text.now.items c.as_bytes.result.now c.extend_by_line.new.text.items c.loop-index.text.items c.len-index-end.result c.loop-index.index
     (c.as_bytes.ensures.value ∙ c.format.ensures.text ∙ ap decimal c.len.ensures) c.in_ok-extend_by_line.ensures c.loop-index.invariant c.len-index-end.ensures c.loop-index-test.false
-
-pub returns-in_err-copies : goal.returns-in_err-copies
-returns-in_err-copies c =
-    let more = flat_map file_text (take c.loop-index.index (entries c.args.tree.now)) in
-    let begun = line_text (codes "tree" ∷ c.as_bytes.result.now ∷ []) in
-    kept c.args.text.now.items _ (begun ++ more) c.loop-index.text.items c.loop-index.text.items c.from_residual-in_err-copies.result c.from_residual-in_err-copies.ensures.0
-    (c.loop-index.invariant ∙ ap (λ t. t ++ more) c.in_ok-extend_by_line.ensures ∙ append_assoc c.args.text.now.items begun more) refl

@@ -1,50 +1,32 @@
-use Rattle.std.proofs.Common.{◌≡◌, ◌+◌, ◌-◌, List, length, take, drop, set, refl, sym, ap, subst, ◌∙◌, arith}
-use Rattle.std.proofs.lemmas.List.{drop-set, drop_all, set-get_or}
+use Rattle.std.proofs.Common.{◌≡◌, ◌+◌, ◌-◌, List, drop, set, refl, sym, ap, subst, ◌∙◌, arith}
+use Rattle.std.proofs.lemmas.List.{set-get_or}
 use Rattle.camp_prim.specs.declared.named.Named.{Named}
 use Rattle.camp_seq.specs.Inside.InPlace.{Precedes, ComesUpTo}
-use Rattle.camp_seq.proofs.ListSteps.{at_last, take_last}
+use Rattle.camp_seq.proofs.ListSteps.{DoneFrom, none_done, one_more_done}
 use Rattle.camp_seq.proofs.PassingSteps.{comes_up_to}
 use Rattle.camp_seq.proofs.passes.come_forward.Goals as goal
 
 pub loop-at-init : goal.loop-at-init
-loop-at-init c =
-    let s : List Named = c.args.s.now in
-    record { passed = rw (drop_all (length s) s (omega arith)) (refl, refl); waiting = refl }
+loop-at-init c = none_done (λ t u. Precedes t c.args.p.now c.args.p.now u) c.args.s.now (refl, refl)
 
 pub returns-then-not-pass_one : goal.returns-then-not-pass_one
 returns-then-not-pass_one c =
     let s0 : List Named = c.args.s.now in
     let s : List Named = c.loop-at.s in
     let i = c.loop-at.at - 1 in
-    let e : c.loop-at.at ≡ i + 1 = omega arith in
-    let waiting = subst (λ n. take n s ≡ take n s0) e c.loop-at.invariant.waiting in
-    let passed = subst (λ n. Precedes (drop n s0) c.args.p.now c.loop-at.p (drop n s)) e c.loop-at.invariant.passed in
     let stopped = c.if-not-pass_one.ensures.exact in
     let kept : set s i c.pass_one.new.p ≡ s = ap (λ y. set s i y.0) stopped.1 ∙ set-get_or s i c.index-s-at.result in
-    let stands = comes_up_to s0 s c.args.p.now c.loop-at.p i c.index-s-at.result (omega arith) (omega arith) waiting passed (λ a b. stopped.0 (b, a)) in
+    let stands = comes_up_to s0 s c.args.p.now c.loop-at.p c.loop-at.at i c.index-s-at.result (omega arith) (omega arith) (omega arith) c.loop-at.invariant (λ a b. stopped.0 (b, a)) in
     subst (λ t. ComesUpTo s0 c.args.p.now (i + 1) t c.pass_one.new.q) (sym kept) (subst (λ y. ComesUpTo s0 c.args.p.now (i + 1) s y) (sym (ap (λ y. y.1) stopped.1)) stands)
 
 pub loop-at-preserved : goal.loop-at-preserved
 loop-at-preserved c =
-    let s0 : List Named = c.args.s.now in
     let s : List Named = c.loop-at.s in
     let i = c.loop-at.at - 1 in
-    let e : c.loop-at.at ≡ i + 1 = omega arith in
-    let waiting = subst (λ n. take n s ≡ take n s0) e c.loop-at.invariant.waiting in
-    let passed = subst (λ n. Precedes (drop n s0) c.args.p.now c.loop-at.p (drop n s)) e c.loop-at.invariant.passed in
-    let next = at_last s0 s i c.index-s-at.result (omega arith) waiting in
-    record {
-      passed = rw (next, drop-set s i c.pass_one.new.p (omega arith)) (c.loop-at.p, c.pass_one.new.p, drop (i + 1) s, passed, c.if-not-pass_one.ensures.exact, refl);
-      waiting = take_last s0 s i c.pass_one.new.p waiting;
-    }
+    one_more_done (λ t u. Precedes t c.args.p.now c.loop-at.p u) (λ t u. Precedes t c.args.p.now c.pass_one.new.q u) c.args.s.now s c.loop-at.at i c.index-s-at.result c.pass_one.new.p (omega arith) (omega arith) (omega arith) c.loop-at.invariant (λ passed. (c.loop-at.p, c.pass_one.new.p, drop (i + 1) s, passed, c.if-not-pass_one.ensures.exact, refl))
 
 pub returns : goal.returns
 returns c =
     let e : c.loop-at.at ≡ 0 = omega arith in
-    record {
-      bound = omega arith;
-      long = omega arith;
-      waiting = refl;
-      came = subst (λ n. Precedes (drop n c.args.s.now) c.args.p.now c.loop-at.p (drop n c.loop-at.s)) e c.loop-at.invariant.passed;
-      held = tt;
-    }
+    let w = subst (DoneFrom (λ t u. Precedes t c.args.p.now c.loop-at.p u) c.args.s.now c.loop-at.s) e c.loop-at.invariant in
+    record { bound = omega arith; long = omega arith; waiting = refl; came = w.done; held = tt }

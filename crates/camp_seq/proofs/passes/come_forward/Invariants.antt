@@ -1,9 +1,6 @@
-use Rattle.std.proofs.Common.{◌≡◌, take, drop}
 use Rattle.camp_seq.specs.Inside.InPlace.{Precedes}
+use Rattle.camp_seq.proofs.ListSteps.{DoneFrom}
 use Rattle.camp_seq.proofs.passes.come_forward.Given as goal
 
 abbrev pub invariant-loop-at : goal.invariant-loop-at
-invariant-loop-at l = record {
-  passed : Precedes (drop l.at l.initial.s) l.initial.p l.p (drop l.at l.s);
-  waiting : take l.at l.s ≡ take l.at l.initial.s;
-}
+invariant-loop-at l = DoneFrom (λ t u. Precedes t l.initial.p l.p u) l.initial.s l.s l.at

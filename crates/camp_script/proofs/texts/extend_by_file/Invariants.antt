@@ -1,7 +1,0 @@
-use Rattle.std.proofs.Common.{◌≡◌, ◌++◌, take}
-use Rattle.std.specs.List.{flat_map}
-use Rattle.camp_script.specs.Texts.{signed_line}
-use Rattle.camp_script.proofs.texts.extend_by_file.Given as goal
-
-abbrev pub invariant-loop-line : goal.invariant-loop-line
-invariant-loop-line l = l.text.items ≡ l.initial.text.items ++ flat_map (signed_line 61) (take l.line-index l.lines)

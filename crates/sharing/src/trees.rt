@@ -1,0 +1,67 @@
+use crate::operations::Operation;
+use anyhow::{Result, bail};
+use camp_base::{Line, Path, Tree};
+use std::alloc::Global;
+
+/// Takes an operation on a tree of so many files.
+pub(crate) fn operate(alloc: Global, size: u32, operation: Operation) -> Result<()> {
+    let mut tree = tree_of(alloc, size)?;
+    let path = path_of(alloc, size / 2)?;
+    let new = Path::new(alloc, b"g")?;
+    match operation {
+        Operation::Nothing => Ok(()),
+        Operation::Copy => copy(&tree),
+        Operation::Add => Ok(tree.add_file(&new)?),
+        Operation::Remove => Ok(tree.remove_file(&path)?),
+        _ => bail!("no such operation on trees"),
+    }
+}
+
+fn tree_of(alloc: Global, size: u32) -> Result<Tree> {
+    let mut tree = Tree::empty(alloc);
+    for number in 0..size {
+        tree.add_file(&path_of(alloc, number)?)?;
+    }
+    Ok(tree)
+}
+
+fn path_of(alloc: Global, number: u32) -> Result<Path> {
+    let text = format!(in alloc; "f{number:06}")?;
+    Ok(Path::new(alloc, text.as_bytes())?)
+}
+
+fn copy(tree: &Tree) -> Result<()> {
+    let _copy = tree.try_clone()?;
+    Ok(())
+}
+
+/// Takes an operation on a tree of one file of so many lines.
+pub(crate) fn operate_on_lines(alloc: Global, size: u32, operation: Operation) -> Result<()> {
+    let path = Path::new(alloc, b"f")?;
+    let mut tree = file_of(alloc, &path, size)?;
+    let old = lines_of(alloc, 1)?;
+    match operation {
+        Operation::Nothing => Ok(()),
+        Operation::Copy => copy(&tree),
+        Operation::Edit => Ok(tree.splice(&path, size / 2 + 1, &old, &old)?),
+        _ => bail!("no such operation on files"),
+    }
+}
+
+fn file_of(alloc: Global, path: &Path, size: u32) -> Result<Tree> {
+    let mut tree = Tree::empty(alloc);
+    tree.add_file(path)?;
+    let lines = lines_of(alloc, size)?;
+    tree.splice(path, 1, &[], &lines)?;
+    Ok(tree)
+}
+
+/// So many lines, each a copy of one.
+pub(crate) fn lines_of(alloc: Global, size: u32) -> Result<Vec<Line>> {
+    let line = Line::new(alloc, b"line")?;
+    let mut lines = Vec::new(alloc);
+    for _ in 0..size {
+        lines.push(line.try_clone()?)?;
+    }
+    Ok(lines)
+}
