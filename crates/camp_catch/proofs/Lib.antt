@@ -9,6 +9,8 @@ pub mod ListEffects
 pub mod ListResults
 pub mod MergeDecided
 pub mod MergeEffects
+pub mod MergeListSteps
 pub mod MergeResults
 pub mod MergeSteps
+pub mod MoveSteps
 pub mod ValueSteps
