@@ -9,7 +9,9 @@ pub mod ListEffects
 pub mod ListResults
 pub mod MergeDecided
 pub mod MergeEffects
+pub mod MergeListSteps
 pub mod MergeResults
 pub mod MergeSteps
+pub mod MoveSteps
 pub mod SameCatches
 pub mod ValueSteps

@@ -1,3 +1,4 @@
 -- Words that serve only private functions.
+pub mod InPlace
 pub mod Seen
 pub mod TwoConflictors

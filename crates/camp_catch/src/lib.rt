@@ -3,14 +3,20 @@
 //! `Darcs.Patch.V3.Core`; the cases are this project's own choice.
 #![tactic(auto)]
 
+mod aligning;
+mod arranging;
 mod catches;
 mod commuting;
 mod conflictors;
 mod laws;
 mod merging;
+mod merging_lists;
+mod moves;
 mod seen;
 mod values;
 
+pub use aligning::align;
+pub use arranging::{Arranged, Stuck, arrange};
 pub use catches::Catch;
 pub use commuting::commute;
 pub use laws::{
@@ -20,3 +26,4 @@ pub use laws::{
     merge_keeps_effects,
 };
 pub use merging::merge;
+pub use merging_lists::{NoMerge, merge_lists};

@@ -1,0 +1,28 @@
+use Rattle.std.proofs.Common.{◌+◌, List, ◌∷◌, take, drop, refl, sym, ap, ◌∙◌, subst, arith}
+use Rattle.std.proofs.lemmas.List.{length-take-le, take_all}
+use Rattle.camp_seq.proofs.ListSteps.{whole}
+use Rattle.camp_catch.specs.Catches.{catch_key}
+use Rattle.camp_catch.specs.Inside.InPlace.{Lacks}
+use Rattle.camp_catch.specs.declared.catches.Catch.{Catch}
+use Rattle.camp_catch.proofs.MoveSteps.{stands_at}
+use Rattle.camp_catch.proofs.aligning.place_of.Goals as goal
+
+pub returns-then-has_key : goal.returns-then-has_key
+returns-then-has_key c =
+    let s : List Catch = c.args.list.now in
+    let at = c.loop-at.at in
+    let j = c.index-list-at.result in
+    record {
+      before = take at s;
+      first = j;
+      after = drop (at + 1) s;
+      is = whole s at (j ∷ drop (at + 1) s) (stands_at s at j j (omega arith) c.index-list-at.is);
+      stands = length-take-le at s (omega arith);
+      labelled = ap catch_key (sym c.deref.ensures) ∙ c.if-has_key.ensures.0 refl;
+      lacks = c.loop-at.invariant;
+    }
+
+pub returns : goal.returns
+returns c =
+    let s : List Catch = c.args.list.now in
+    subst (λ x. Lacks c.args.key.now x) (take_all c.loop-at.at s (omega arith)) c.loop-at.invariant

@@ -1,0 +1,6 @@
+use Rattle.std.proofs.Common.{take}
+use Rattle.camp_catch.specs.Inside.InPlace.{Lacks}
+use Rattle.camp_catch.proofs.aligning.place_of.Given as goal
+
+abbrev pub invariant-loop-at : goal.invariant-loop-at
+invariant-loop-at l = Lacks l.key (take l.at l.list)

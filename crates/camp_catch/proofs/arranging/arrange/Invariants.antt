@@ -1,0 +1,11 @@
+use Rattle.std.proofs.Common.{drop}
+use Rattle.std.specs.Cmp.Lexicographic.{slice_cmp}
+use Rattle.std.specs.FinMap.{keys}
+use Rattle.std.specs.Ordering.{nat_cmp}
+use Rattle.camp_share.specs.Maps.{map_of}
+use Rattle.camp_catch.proofs.MoveSteps.{IsArrangedUpTo}
+use Rattle.camp_catch.proofs.arranging.arrange.Given as goal
+
+abbrev pub invariant-loop-catch : goal.invariant-loop-catch
+invariant-loop-catch g l =
+    IsArrangedUpTo (keys (map_of (slice_cmp nat_cmp) l.names)) l.list l.first.items l.rest.items (drop l.catch-index l.list)

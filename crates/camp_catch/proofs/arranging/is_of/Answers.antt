@@ -1,0 +1,14 @@
+use Rattle.std.proofs.Common.{◌∙◌, sym, subst, Contains}
+use Rattle.std.specs.Cmp.Lexicographic.{slice_cmp}
+use Rattle.std.specs.FinMap.{keys}
+use Rattle.std.specs.Ordering.{nat_cmp}
+use Rattle.camp_share.specs.Maps.{map_of}
+use Rattle.camp_catch.proofs.MoveSteps.{names_decide}
+use Rattle.camp_catch.proofs.arranging.is_of.Goals as goal
+
+pub returns : goal.returns
+returns g c =
+    let m = map_of (slice_cmp nat_cmp) c.args.names.now in
+    let seen = names_decide m c.name.result.now in
+    let named = c.name.ensures in
+    (λ yes. subst (Contains (keys m)) named (seen.0 (sym c.contains_key.ensures ∙ yes)), λ is. c.contains_key.ensures ∙ seen.1 (subst (Contains (keys m)) (sym named) is))

@@ -1,0 +1,49 @@
+use Rattle.std.proofs.Common.{◌≡◌, ◌+◌, ◌∷◌, ◌++◌, List, [], drop, refl, sym, ap, subst, ◌∙◌, inl, arith}
+use Rattle.std.proofs.lemmas.List.{drop_all}
+use Rattle.camp_catch.specs.Catches.{catch_key}
+use Rattle.camp_catch.specs.Merging.{MergeCatch}
+use Rattle.camp_catch.specs.MergingLists.{SticksWithin}
+use Rattle.camp_catch.specs.declared.catches.Catch.{Catch}
+use Rattle.camp_catch.specs.declared.merging_lists.NoMerge.{NoMerge}
+use Rattle.camp_catch.proofs.MoveSteps.{stands_at}
+use Rattle.camp_catch.proofs.MergeListSteps.{IsBehind, behind_nothing, behind_one_more}
+use Rattle.camp_catch.proofs.merging_lists.merge_behind_all.Goals as goal
+
+pub loop-j-init : goal.loop-j-init
+loop-j-init c =
+    let s : List Catch = c.args.q.now in
+    let is : c.in_ok-after.after ≡ c.args.k.now = c.in_ok-after.ensures in
+    ([], subst (λ x. IsBehind s c.args.k.now [] x s) (sym is) (behind_nothing s c.args.k.now))
+
+pub returns-in_default : goal.returns-in_default
+returns-in_default c =
+    let s : List Catch = c.args.q.now in
+    let i = c.loop-j.j-index in
+    let j = c.j-item.result in
+    let next : drop i s ≡ j ∷ drop (i + 1) s = stands_at s i j j (omega arith) c.j-item.is in
+    let never = rw (c.in_default.is, c.deref.ensures, c.deref-in-loop-j.ensures) at c.in_ok-merged.ensures.exact in
+    let told = c.no_merge.ensures in
+    let left = ap (λ (x : NoMerge). x.left) told ∙ ap catch_key c.deref-in_default.ensures in
+    let right = ap (λ (x : NoMerge). x.right) told ∙ ap catch_key c.deref-in_default-2.ensures in
+    record {
+      exact = c.loop-j.invariant.1.sticks _ _ (subst (λ x. SticksWithin x c.loop-j.after c.no_merge.result.left c.no_merge.result.right) (sym next) (inl ((λ k' j'. never (k', j')), left, right)));
+    }
+
+pub loop-j-preserved : goal.loop-j-preserved
+loop-j-preserved c =
+    let s : List Catch = c.args.q.now in
+    let i = c.loop-j.j-index in
+    let j = c.j-item.result in
+    let done = c.loop-j.invariant.0 in
+    let next : drop i s ≡ j ∷ drop (i + 1) s = stands_at s i j j (omega arith) c.j-item.is in
+    let merged = rw (c.in-Some.is, c.deref.ensures, c.deref-in-loop-j.ensures) at c.in_ok-merged.ensures.exact in
+    let beside = c.in-Some.field-0-1 in
+    let after : c.in_ok-after-2.after ≡ c.in-Some.next = c.in_ok-after-2.ensures in
+    (done ++ beside ∷ [], behind_one_more s c.args.k.now done c.loop-j.after j (drop (i + 1) s) c.in_ok-after-2.after beside (subst (IsBehind s c.args.k.now done c.loop-j.after) next c.loop-j.invariant.1) (subst (λ x. MergeCatch j c.loop-j.after x beside) (sym after) merged))
+
+pub returns : goal.returns
+returns c =
+    let s : List Catch = c.args.q.now in
+    let i = c.loop-j.j-index in
+    let end : drop i s ≡ [] = drop_all i s (omega arith) in
+    record { exact = (c.loop-j.invariant.0 ++ [], c.loop-j.invariant.1.goes c.loop-j.after [] (rw end (refl, refl))) }

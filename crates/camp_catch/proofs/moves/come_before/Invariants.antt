@@ -1,0 +1,9 @@
+use Rattle.std.proofs.Common.{◌≡◌, take, drop}
+use Rattle.camp_catch.specs.Arranging.{ComesBefore}
+use Rattle.camp_catch.proofs.moves.come_before.Given as goal
+
+abbrev pub invariant-loop-at : goal.invariant-loop-at
+invariant-loop-at l = record {
+  came : ComesBefore (drop l.at l.initial.list) l.initial.coming l.coming (drop l.at l.list);
+  waiting : take l.at l.list ≡ take l.at l.initial.list;
+}

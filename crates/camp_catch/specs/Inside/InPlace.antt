@@ -1,0 +1,34 @@
+-- What moving catches inside a list answers and leaves.
+use Rattle.std.specs.Prelude.{◌≡◌, ◌≢◌, ℕ, List, ◌∷◌, ◌++◌, length, All}
+use Rattle.camp_prim.specs.declared.labels.Key.{Key}
+use Rattle.camp_catch.specs.Arranging.{ComesFirst}
+use Rattle.camp_catch.specs.Catches.{catch_key}
+use Rattle.camp_catch.specs.Commuting.{CommuteCatch}
+use Rattle.camp_catch.specs.Merging.{MergeCatch}
+use Rattle.camp_catch.specs.declared.catches.Catch.{Catch}
+
+-- j and the k behind it commute, each in its own place: j becomes j', and k becomes k'
+abbrev pub CommutesInPlace : Catch × Catch → Catch × Catch → Type 0
+CommutesInPlace old new = CommuteCatch old.0 old.1 new.1 new.0
+
+-- j and the k of the same state merge, each in its own place
+abbrev pub MergesInPlace : Catch × Catch → Catch × Catch → Type 0
+MergesInPlace old new = MergeCatch old.0 old.1 new.1 new.0
+
+-- no catch has this absolute label
+abbrev pub Lacks : Key → List Catch → Type 0
+Lacks key list = All (λ j. catch_key j ≢ key) list
+
+-- the first catch with this absolute label
+pub record FirstWith (key : Key) (list : List Catch) (at : ℕ) : Type 0 where
+  pub before : List Catch
+  pub first : Catch
+  pub after : List Catch
+  pub is : list ≡ before ++ first ∷ after
+  pub stands : length before ≡ at
+  pub labelled : catch_key first ≡ key
+  pub lacks : Lacks key before
+
+-- the first catch with this absolute label comes to the front
+abbrev pub ComesFirstInPlace : Key → List Catch → List Catch → Type 0
+ComesFirstInPlace key list t = (k' : Catch) × (others : List Catch) × ComesFirst key list k' others × (t ≡ k' ∷ others)

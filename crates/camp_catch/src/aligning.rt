@@ -1,0 +1,89 @@
+ghost use Rattle.std.specs.Prelude.{◌≡◌, ◌↔◌, IfOk, IsTrue, MatchOption};
+ghost use Rattle.std.specs.Bool.{then_some};
+ghost use Rattle.std.specs.Result.{MatchResult};
+ghost use Rattle.camp_base.specs.Answers.{Finds};
+ghost use Rattle.camp_catch.specs.Arranging.{Align, AlignSticks};
+ghost use Rattle.camp_catch.specs.Catches.{catch_key};
+ghost use Rattle.camp_catch.specs.Inside.InPlace.{ComesFirstInPlace, FirstWith, Lacks};
+
+use crate::Catch;
+use crate::moves::{come_before, copies};
+use camp_prim::Key;
+use camp_share::Shared;
+use std::alloc::{AllocError, Global};
+
+/// The list in the order of these absolute labels; catches that the order does not name stay behind
+/// the others, in their order. `Err` with the first label whose catch can't come to its place, or is
+/// not there. A catch that stands in its place is only looked at.
+pub fn align(
+    alloc: Global,
+    list: &[Shared<Catch>],
+    order: &[Key],
+) -> Result<Result<Vec<Shared<Catch>>, Key>, AllocError>
+    ensures exact { IfOk result (λ answer. MatchResult answer
+        (λ aligned. Align order.now list.now aligned.items)
+        (λ stuck. AlignSticks order.now list.now stuck)) }
+{
+    let mut aligned = copies(alloc, list)?;
+    let ordered = put_in_order(alloc, &mut aligned, order)?;
+    match ordered {
+        Ok(()) => Ok(Ok(aligned)),
+        Err(stuck) => Ok(Err(stuck)),
+    }
+}
+
+/// Puts a list in the order in its place in memory. Where a label stops that, the list is left as it
+/// is then.
+fn put_in_order(
+    alloc: Global,
+    list: &mut [Shared<Catch>],
+    order: &[Key],
+) -> Result<Result<(), Key>, AllocError>
+    ensures exact { IfOk result (λ answer. MatchResult answer
+        (λ _. Align order.now list.old list.new)
+        (λ stuck. AlignSticks order.now list.old stuck)) }
+{
+    for (at, key) in order.iter().enumerate() {
+        if !come_first(alloc, &mut list[at..], key)? {
+            return Ok(Err(*key));
+        }
+    }
+    Ok(Ok(()))
+}
+
+/// Brings the first catch with a label to the front. Where it can't come there, or there is none, the
+/// list is left as it is then.
+fn come_first(alloc: Global, list: &mut [Shared<Catch>], key: &Key) -> Result<bool, AllocError>
+    ensures exact { IfOk result (λ found. Finds (ComesFirstInPlace key.now list.old) (then_some found list.new)) }
+{
+    let Some(at) = place_of(list, key) else {
+        return Ok(false);
+    };
+    let (before, from) = list.split_at_mut(at);
+    let moved = come_before(alloc, before, &mut from[0])?;
+    match moved {
+        Err(_) => Ok(false),
+        Ok(()) => {
+            list[..at + 1].rotate_right(1);
+            Ok(true)
+        }
+    }
+}
+
+/// The place of the first catch with a label.
+fn place_of(list: &[Shared<Catch>], key: &Key) -> Option<usize>
+    ensures { MatchOption result (Lacks key.now list.now) (FirstWith key.now list.now) }
+{
+    for (at, catch) in list.iter().enumerate() {
+        if has_key(catch, key) {
+            return Some(at);
+        }
+    }
+    None
+}
+
+fn has_key(catch: &Catch, key: &Key) -> bool
+    ensures { IsTrue result ↔ (catch_key catch.now ≡ key.now) }
+{
+    catch.key() == *key
+}

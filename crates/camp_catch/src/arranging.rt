@@ -1,0 +1,65 @@
+ghost use Rattle.std.specs.Prelude.{◌↔◌, IfOk, IsTrue};
+ghost use Rattle.std.specs.FinMap.{keys};
+ghost use Rattle.std.specs.Ordering.{nat_cmp};
+ghost use Rattle.std.specs.Cmp.Lexicographic.{slice_cmp};
+ghost use Rattle.std.specs.Result.{MatchResult};
+ghost use Rattle.camp_share.specs.Maps.{map_of};
+ghost use Rattle.camp_catch.specs.Arranging.{Arrange, ArrangeSticks, IsOf};
+
+use crate::Catch;
+use crate::moves::come_before;
+use camp_base::Name;
+use camp_prim::Key;
+use camp_share::{Share, Shared, SharedMap};
+use std::alloc::{AllocError, Global};
+
+/// The catches of some patches, and behind them the others.
+#[derive(Drop)]
+pub struct Arranged {
+    pub first: Vec<Shared<Catch>>,
+    pub rest: Vec<Shared<Catch>>,
+}
+
+/// A catch that is to come to the front, and the one that it can't pass.
+#[derive(Clone, Copy, Debug, PartialEq, Eq)]
+pub struct Stuck {
+    pub patch: Key,
+    pub on: Key,
+}
+
+/// The catches of the patches whose names are keys of the map, commuted left over the others, and
+/// the others. `Err` with the first of them that can't pass another. A catch that nothing passes and
+/// that passes nothing is shared.
+pub fn arrange<V>(
+    alloc: Global,
+    list: &[Shared<Catch>],
+    names: &SharedMap<Name, V>,
+) -> Result<Result<Arranged, Stuck>, AllocError>
+    ensures exact { IfOk result (λ answer. MatchResult answer
+        (λ arranged. Arrange (keys (map_of (slice_cmp nat_cmp) names.now)) list.now arranged.first.items arranged.rest.items)
+        (λ stuck. ArrangeSticks (keys (map_of (slice_cmp nat_cmp) names.now)) list.now stuck.patch stuck.on)) }
+{
+    let mut first = Vec::new(alloc);
+    let mut rest = Vec::new(alloc);
+    for catch in list {
+        let mut catch = catch.share()?;
+        if !is_of(names, &catch) {
+            rest.push(catch)?;
+            continue;
+        }
+        let patch = catch.key();
+        let moved = come_before(alloc, &mut rest, &mut catch)?;
+        match moved {
+            Ok(()) => first.push(catch)?,
+            Err(on) => return Ok(Err(Stuck { patch, on })),
+        }
+    }
+    Ok(Ok(Arranged { first, rest }))
+}
+
+/// Whether a catch belongs to one of the patches.
+fn is_of<V>(names: &SharedMap<Name, V>, catch: &Catch) -> bool
+    ensures { IsTrue result ↔ IsOf (keys (map_of (slice_cmp nat_cmp) names.now)) catch.now }
+{
+    names.contains_key(catch.name())
+}

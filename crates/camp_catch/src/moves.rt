@@ -1,0 +1,71 @@
+ghost use Rattle.std.specs.Prelude.{◌≡◌, IfOk};
+ghost use Rattle.std.specs.Result.{MatchResult};
+ghost use Rattle.camp_base.specs.Answers.{Changes};
+ghost use Rattle.camp_catch.specs.Arranging.{ComesBefore, StopsAt};
+ghost use Rattle.camp_catch.specs.Inside.InPlace.{CommutesInPlace};
+
+use crate::{Catch, commute};
+use camp_prim::Key;
+use camp_share::{Share, Shared};
+use std::alloc::{AllocError, Global};
+
+/// Commutes a catch, which stands behind a list, to before all of the list. `Err` with the absolute
+/// label of the one that it can't pass; both are then left as they are.
+pub(crate) fn come_before(
+    alloc: Global,
+    list: &mut [Shared<Catch>],
+    coming: &mut Shared<Catch>,
+) -> Result<Result<(), Key>, AllocError>
+    ensures exact { IfOk result (λ answer. MatchResult answer
+        (λ _. ComesBefore list.old coming.old coming.new list.new)
+        (λ on. StopsAt list.old coming.old on)) }
+{
+    for at in (0..list.len()).rev() {
+        if !exchange(alloc, &mut list[at], coming)? {
+            return Ok(Err(list[at].key()));
+        }
+    }
+    Ok(Ok(()))
+}
+
+/// Commutes `j` and the `k` behind it, where each stays in its place in memory.
+fn exchange(alloc: Global, j: &mut Shared<Catch>, k: &mut Shared<Catch>) -> Result<bool, AllocError>
+    ensures exact { IfOk result (λ done. Changes CommutesInPlace (j.old, k.old) done (j.new, k.new)) }
+{
+    let commuted = commute(alloc, j, k)?;
+    let Some((before, behind)) = commuted else {
+        return Ok(false);
+    };
+    let behind = renewed(alloc, j, behind)?;
+    *k = renewed(alloc, k, before)?;
+    *j = behind;
+    Ok(true)
+}
+
+/// A catch that may still be as it was: then the old one is shared.
+pub(crate) fn renewed(
+    alloc: Global,
+    old: &Shared<Catch>,
+    new: Catch,
+) -> Result<Shared<Catch>, AllocError>
+    ensures { IfOk result (λ catch. catch ≡ new) }
+{
+    if old.is_same(&new) {
+        return old.share();
+    }
+    Shared::new(alloc, new)
+}
+
+/// A copy of a list, which shares its catches.
+pub(crate) fn copies(
+    alloc: Global,
+    list: &[Shared<Catch>],
+) -> Result<Vec<Shared<Catch>>, AllocError>
+    ensures { IfOk result (λ copy. copy.items ≡ list.now) }
+{
+    let mut copy = Vec::with_capacity(alloc, list.len())?;
+    for catch in list {
+        copy.push(catch.share()?)?;
+    }
+    Ok(copy)
+}
