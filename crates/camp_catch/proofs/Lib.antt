@@ -10,4 +10,5 @@ pub mod MergeDecided
 pub mod MergeEffects
 pub mod MergeResults
 pub mod MergeSteps
+pub mod SameCatches
 pub mod ValueSteps
