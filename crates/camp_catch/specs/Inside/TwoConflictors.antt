@@ -25,7 +25,8 @@ pub record TellsConflict (r : List Named) (i : InContext) (s : List Named) (l : 
   pub tells : IsTrue found ↔ Conflict x y
 
 -- the members of a set, seen before a list, as they are seen behind it, and one more where the two are in conflict
-pub record JoinsBehind (list : List Named) (xs : Contexts) (in_conflict : Bool) (l : InContext) (ys : Contexts) : Type 0 where
+pub record JoinsBehind (list : List Named) (xs : Contexts) (in_conflict : Bool) (l : InContext)
+    (ys : Contexts) : Type 0 where
   pub seen : Contexts
   pub members : EachMember (AddsAll (inverse_all list)) xs seen
   pub joins : JoinsWhere (IsTrue in_conflict) l seen ys
