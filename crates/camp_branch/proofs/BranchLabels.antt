@@ -1,7 +1,8 @@
 -- The labels and the names of branches, by their patches.
-use Rattle.std.proofs.Common.{◌≡◌, ◌≤◌, ℕ, zero, suc, ◌+◌, Bool, true, false, true≢false, not, ◌||◌, cond, List, [], ◌∷◌, ◌++◌, map, filter, length, bytes_eq, Ok, refl, sym, ap, ◌∙◌, subst, inl, inr, arith}
+use Rattle.std.proofs.Common.{◌≡◌, ◌≤◌, ◌==◌, ℕ, zero, suc, ◌+◌, Bool, true, false, true≢false, not, ◌||◌, cond, List, [], ◌∷◌, ◌++◌, map, filter, length, bytes_eq, Ok, refl, sym, ap, ◌∙◌, subst, inl, inr, arith}
 use Rattle.std.specs.List.{AllByRecursion}
 use Rattle.std.proofs.lemmas.List.{append-nil, append_assoc, map-append}
+use Rattle.std.proofs.lemmas.Bool.{eqb-true}
 use Rattle.std.proofs.lemmas.List.Elements.{filter-append}
 use Rattle.camp_prim.specs.declared.labels.Key.{Key}
 use Rattle.camp_prim.specs.declared.primitives.Primitive.{Primitive}
@@ -220,3 +221,51 @@ recorded_patches branch patches name changes has new some few =
       sized = all_append IsSized patches (patch ∷ []) has.sized ((some, few), tt);
       labels = map-append catch_key branch (recorded name 1 changes) ∙ (λ i. has.labels i ++ (recorded_labels name 1 changes ∙ sym (append-nil (labels_from name 1 (length changes)))) i) ∙ sym (labels_of-append patches (patch ∷ []));
     }
+
+-- the names of the labels at place 1
+abbrev pub starts_of : List Key → List (List ℕ)
+starts_of keys = key_names (filter (λ k. k.place == 1) keys)
+
+not_first : (place : ℕ) → 2 ≤ place → (place == 1) ≡ false
+not_first place le = elim (place == 1) as (λ b. (place == 1) ≡ b → b ≡ false) [
+  | true ↦ λ e. let is = eqb-true place 1 e in absurd (omega (is, arith))
+  | false ↦ λ e. refl
+] refl
+
+later_places : (name : List ℕ) (place changes : ℕ) (keys : List Key) → 2 ≤ place → starts_of (labels_from name place changes ++ keys) ≡ starts_of keys
+later_places name place zero keys le = refl
+later_places name place (suc changes) keys le =
+    let other : (place == 1) ≡ false = not_first place le in
+    ap (λ b. key_names (cond b (record { name = name; place = place } ∷ filter (λ k. k.place == 1) (labels_from name (place + 1) changes ++ keys)) (filter (λ k. k.place == 1) (labels_from name (place + 1) changes ++ keys)))) other ∙ later_places name (place + 1) changes keys (omega arith)
+
+starts_of_patch : (name : List ℕ) (changes : ℕ) (keys : List Key) → 1 ≤ changes → starts_of (labels_from name 1 changes ++ keys) ≡ name ∷ starts_of keys
+starts_of_patch name zero keys le = absurd (omega arith)
+starts_of_patch name (suc changes) keys le = ap (λ t. name ∷ t) (later_places name 2 changes keys (omega arith))
+
+starts_of_patches : (patches : List Patch) → AllByRecursion IsSized patches → starts_of (labels_of patches) ≡ patch_names patches
+starts_of_patches [] sized = refl
+starts_of_patches (p ∷ patches) sized =
+    starts_of_patch p.name p.changes (labels_of patches) sized.0.0 ∙ ap (λ t. p.name ∷ t) (starts_of_patches patches sized.1)
+
+-- the names of the catches at place 1
+abbrev pub starts : List Catch → List (List ℕ)
+starts branch = map name_of (filter (λ k. (catch_key k).place == 1) branch)
+
+starts_step : (k : Catch) (rest : List Catch) (b : Bool) → map name_of (cond b (k ∷ rest) rest) ≡ cond b (name_of k ∷ map name_of rest) (map name_of rest)
+starts_step k rest true = refl
+starts_step k rest false = refl
+
+key_step : (key : Key) (rest : List Key) (b : Bool) → key_names (cond b (key ∷ rest) rest) ≡ cond b (key.name ∷ key_names rest) (key_names rest)
+key_step key rest true = refl
+key_step key rest false = refl
+
+starts_by_keys : (branch : List Catch) → starts branch ≡ starts_of (keys_of branch)
+starts_by_keys [] = refl
+starts_by_keys (k ∷ branch) =
+    let test = (catch_key k).place == 1 in
+    starts_step k (filter (λ j. (catch_key j).place == 1) branch) test ∙ ap (λ t. cond test (name_of k ∷ t) t) (starts_by_keys branch) ∙ sym (key_step (catch_key k) (filter (λ key. key.place == 1) (keys_of branch)) test)
+
+-- a lawful branch has a catch at place 1 for each of its names
+pub starts_are_names : (branch : List Catch) (patches : List Patch) → HasPatches branch patches → starts branch ≡ names_of branch
+starts_are_names branch patches has =
+    starts_by_keys branch ∙ ap starts_of has.labels ∙ starts_of_patches patches has.sized ∙ sym (names_of_patches branch patches has)

@@ -1,3 +1,4 @@
+pub mod BranchFields
 pub mod BranchLabels
 pub mod BranchTrees
 pub mod KeepLawful

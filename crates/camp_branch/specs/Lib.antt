@@ -1,5 +1,6 @@
 pub mod Branches
 pub mod Conflicting
+pub mod Fields
 pub mod Laws
 pub mod Obliterating
 pub mod Pulling

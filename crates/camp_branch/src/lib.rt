@@ -2,9 +2,11 @@
 //! comes of pulling patches from one into another and of taking patches out.
 #![tactic(auto)]
 
+mod branches;
 mod faults;
 mod laws;
 
+pub use branches::Branch;
 pub use faults::Blocked;
 pub use laws::{
     names_are_of_patches, obliterates_keep_lawful, outcomes_are_determined, pulls_keep_lawful,

@@ -1,0 +1,93 @@
+-- The fields of a branch: its list grown by what is recorded, and its index.
+use Rattle.std.proofs.Common.{◌≡◌, ◌≤◌, ◌<◌, ℕ, suc, ◌+◌, Bool, true, false, cond, ◌||◌, Option, None, Some, List, [], ◌∷◌, ◌++◌, map, take, length, slice_index_or, is_some, bytes_eq, refl, sym, ap, ◌∙◌, subst, arith}
+use Rattle.std.proofs.lemmas.List.{append_assoc, length-take-le, map-append, take_more}
+use Rattle.std.proofs.lemmas.List.Folds.{list_any-append}
+use Rattle.std.proofs.lemmas.Map.Text.{is_eq-slice_cmp}
+use Rattle.std.specs.Ordering.{nat_cmp, eq_by_cmp}
+use Rattle.std.specs.Cmp.Lexicographic.{slice_cmp, nat_list_cmp_total}
+use Rattle.std.specs.FinMap.{FinMap, contains_key, get, empty, get-empty, get-insert, insert}
+use Rattle.camp_prim.specs.declared.primitives.Primitive.{Primitive}
+use Rattle.camp_catch.specs.declared.catches.Catch.{Catch}
+use Rattle.camp_catch.specs.declared.catches.Catch.TheVariants.{Plain}
+use Rattle.camp_base.specs.Trees.{Files}
+use Rattle.camp_branch.specs.Branches.{IsLawful, LeadsTo, has_patch, is_among, name_of, recorded}
+use Rattle.camp_branch.specs.Laws.{AppliesEach}
+use Rattle.camp_branch.proofs.BranchLabels.{recorded_patches}
+use Rattle.camp_branch.proofs.BranchTrees.{recorded_tree}
+
+-- a set of names
+abbrev pub Names : Type 0
+Names = FinMap (slice_cmp nat_cmp) (Unit {0})
+
+-- the names are those of the patches
+abbrev pub Indexes : Names → List Catch → Type 0
+Indexes names branch = (name : List ℕ) → contains_key names name ≡ has_patch branch name
+
+pub none_indexed : (names : Names) → names ≡ empty → Indexes names []
+none_indexed names is name = ap (λ m. contains_key m name) is ∙ ap is_some (get-empty (slice_cmp nat_cmp) name)
+
+is_some_of : {X : Type 0} (b : Bool) (x : X) (o : Option X) → is_some (cond b (Some x) o) ≡ (is_some o || b)
+is_some_of true x None = refl
+is_some_of true x (Some y) = refl
+is_some_of false x None = refl
+is_some_of false x (Some y) = refl
+
+-- a name more
+pub contains_more : (names : Names) (added name : List ℕ) → contains_key (insert names added tt) name ≡ (contains_key names name || bytes_eq name added)
+contains_more names added name =
+    ap is_some (get-insert nat_list_cmp_total names added tt name) ∙ is_some_of (eq_by_cmp (slice_cmp nat_cmp) name added) tt (get names name) ∙ ap (λ b. contains_key names name || b) (is_eq-slice_cmp name added)
+
+or_itself : (b c : Bool) → (c ≡ b) → (b || c) ≡ b
+or_itself true c e = refl
+or_itself false c e = e
+
+or_none : (b : Bool) → (b || false) ≡ b
+or_none true = refl
+or_none false = refl
+
+-- what is recorded has one name
+among_recorded : (name added : List ℕ) (place : ℕ) (changes : List Primitive) → 1 ≤ length changes → is_among (map name_of (recorded added place changes)) name ≡ bytes_eq name added
+among_recorded name added place [] some = absurd (omega arith)
+among_recorded name added place (change ∷ []) some = or_none (bytes_eq name added)
+among_recorded name added place (change ∷ more ∷ changes) some =
+    or_itself (bytes_eq name added) _ (among_recorded name added (place + 1) (more ∷ changes) (omega arith))
+
+pub recorded_indexed : (names more : Names) (branch grown : List Catch) (added : List ℕ) (changes : List Primitive) → Indexes names branch → more ≡ insert names added tt → grown ≡ branch ++ recorded added 1 changes → 1 ≤ length changes → Indexes more grown
+recorded_indexed names more branch grown added changes indexed becomes pushed some name =
+    ap (λ m. contains_key m name) becomes ∙ contains_more names added name ∙ (λ i. indexed name i || sym (among_recorded name added 1 changes some) i) ∙ sym (ap (λ l. has_patch l name) pushed ∙ ap (λ l. is_among l name) (map-append name_of branch (recorded added 1 changes)) ∙ list_any-append (bytes_eq name) (map name_of branch) (map name_of (recorded added 1 changes)))
+
+-- one more change is recorded
+recorded_push : (name : List ℕ) (place : ℕ) (changes : List Primitive) (change : Primitive) → recorded name place (changes ++ change ∷ []) ≡ recorded name place changes ++ Plain (record { name = name; place = place + length changes; inverse = false; prim = change }) ∷ []
+recorded_push name place [] change =
+    ap (λ (p : ℕ). Plain (record { name = name; place = p; inverse = false; prim = change }) ∷ []) (let e : place ≡ place + 0 = omega arith in e)
+recorded_push name place (first ∷ changes) change =
+    ap (λ t. Plain (record { name = name; place = place; inverse = false; prim = first }) ∷ t) (recorded_push name (place + 1) changes change ∙ ap (λ (p : ℕ). recorded name (place + 1) changes ++ Plain (record { name = name; place = p; inverse = false; prim = change }) ∷ []) (let e : place + 1 + length changes ≡ place + suc (length changes) = omega arith in e))
+
+pub one_more_recorded : (catches list next : List Catch) (name : List ℕ) (place : ℕ) (done more : List Primitive) (change : Primitive) (k : Catch) → list ≡ catches ++ recorded name 1 done → place ≡ length done + 1 → more ≡ done ++ change ∷ [] → k ≡ Plain (record { name = name; place = place; inverse = false; prim = change }) → next ≡ list ++ k ∷ [] → next ≡ catches ++ recorded name 1 more
+one_more_recorded catches list next name place done more change k was at longer is pushed =
+    let here : place ≡ 1 + length done = omega (at, arith) in
+    pushed ∙ (λ i. was i ++ (is ∙ ap (λ (p : ℕ). Plain (record { name = name; place = p; inverse = false; prim = change })) here) i ∷ []) ∙ append_assoc catches (recorded name 1 done) _ ∙ ap (λ t. catches ++ t) (sym (recorded_push name 1 done change)) ∙ ap (λ t. catches ++ recorded name 1 t) (sym longer)
+
+pub lawful_none : IsLawful []
+lawful_none =
+    record { patches = []; has = record { distinct = tt; sized = tt; labels = refl }; tree = empty; leads = refl }
+
+-- what a record leaves
+pub record Grown (branch : List Catch) (tree : Files) : Type 0 where
+  pub lawful : IsLawful branch
+  pub kept : LeadsTo branch tree
+
+pub grown : (branch more : List Catch) (name : List ℕ) (changes : List Primitive) (old new : Files) → IsLawful branch → LeadsTo branch old → has_patch branch name ≡ false → 1 ≤ length changes → length changes ≤ 64 → AppliesEach changes old new → more ≡ branch ++ recorded name 1 changes → Grown more new
+grown branch more name changes old new lawful leads new_name some few applies is =
+    let has = recorded_patches branch lawful.patches name changes lawful.has new_name some few in
+    let tree = recorded_tree branch name changes old new leads applies in
+    record {
+      lawful = subst IsLawful (sym is) (record { patches = lawful.patches ++ record { name = name; changes = length changes } ∷ []; has = has; tree = new; leads = tree });
+      kept = subst (λ l. LeadsTo l new) (sym is) tree;
+    }
+
+-- the next change of a list of changes is recorded
+pub recorded_step : (catches list next : List Catch) (name : List ℕ) (place i : ℕ) (changes : List Primitive) (change d : Primitive) (k : Catch) → i < length changes → list ≡ catches ++ recorded name 1 (take i changes) → place ≡ i + 1 → change ≡ slice_index_or changes i d → k ≡ Plain (record { name = name; place = place; inverse = false; prim = change }) → next ≡ list ++ k ∷ [] → next ≡ catches ++ recorded name 1 (take (i + 1) changes)
+recorded_step catches list next name place i changes change d k within was at item is pushed =
+    let long : length (take i changes) ≡ i = length-take-le i changes (omega arith) in
+    one_more_recorded catches list next name place (take i changes) (take (i + 1) changes) change k was (at ∙ ap (λ n. n + 1) (sym long)) (take_more changes i d within ∙ ap (λ x. take i changes ++ x ∷ []) (sym item)) is pushed

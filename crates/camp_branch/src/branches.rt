@@ -1,0 +1,158 @@
+ghost use Rattle.std.specs.Prelude.{◌≡◌, ◌≤◌, ◌++◌, [], false, length, IfOk};
+ghost use Rattle.std.specs.FinMap.{empty as no_files};
+ghost use Rattle.camp_base.specs.Trees.{Files};
+ghost use Rattle.camp_branch.specs.Branches.{IsLawful, LeadsTo, has_patch, names_of, recorded};
+ghost use Rattle.camp_branch.specs.Laws.{AppliesEach};
+
+use camp_base::{Name, Tree};
+use camp_catch::Catch;
+use camp_prim::{Named, Primitive};
+use camp_share::{Share, Shared, SharedList, SharedMap};
+use std::alloc::{AllocError, Global};
+use std::marker::Model;
+
+/// A branch: its catches in the order in which they came, and the tree that they lead to. A branch
+/// shares its catches and its files with those that it was made from.
+#[derive(Drop)]
+pub struct Branch {
+    catches: SharedList<Shared<Catch>>,
+    names: SharedMap<Name, ()>,
+    tree: Tree,
+}
+
+impl Model for Branch {
+    ghost use Rattle.std.specs.Prelude.{List};
+    ghost use Rattle.std.specs.Coded.{codes};
+    ghost use Rattle.camp_ctx.specs.declared.sets.CtxSet.{the_code as code_of_sets};
+    ghost use Rattle.camp_catch.specs.declared.catches.Catch.{Catch};
+
+    ghost Value = { List Catch };
+
+    ghost coded = { Prim.hlevel (codes, code_of_sets) };
+
+    ghost use Rattle.camp_branch.specs.Fields.{IsBranch};
+
+    ghost view = { λ branch. branch.catches };
+
+    ghost invariant = { IsBranch };
+}
+
+impl Branch {
+    /// The branch without a patch. It takes no memory.
+    pub fn empty(alloc: Global) -> Branch
+        ensures { result ≡ [] }
+    {
+        Branch {
+            catches: SharedList::new(alloc),
+            names: SharedMap::new(alloc),
+            tree: Tree::empty(alloc),
+        }
+    }
+
+    /// The catches, in the order in which they came.
+    pub fn catches(&self) -> &SharedList<Shared<Catch>>
+        ensures value { result.now ≡ self.now }
+        ensures lawful { IsLawful self.now }
+    {
+        &self.catches
+    }
+
+    /// The tree that the catches lead to from the empty tree.
+    pub fn tree(&self) -> &Tree
+        ensures { LeadsTo self.now result.now }
+    {
+        &self.tree
+    }
+
+    pub fn try_clone(&self) -> Result<Branch, AllocError>
+        ensures { IfOk result (λ copy. copy ≡ self.now) }
+    {
+        let catches = self.catches.share()?;
+        let names = self.names.share()?;
+        let tree = self.tree.try_clone()?;
+        Ok(Branch {
+            catches,
+            names,
+            tree,
+        })
+    }
+
+    /// Whether a patch of this name is in the branch.
+    pub fn has_patch(&self, name: &Name) -> bool
+        ensures { result ≡ has_patch self.now name.now }
+    {
+        self.names.contains_key(name)
+    }
+
+    /// The names of the patches, each once, in the order of their first catches.
+    pub fn names(&self) -> Result<Vec<Name>, AllocError>
+        ensures { IfOk result (λ names. names.items ≡ names_of self.now) }
+    {
+        let mut names = Vec::new(self.catches.allocator());
+        for catch in self.catches.iter() {
+            if catch.place() == 1 {
+                names.push(*catch.name())?;
+            }
+        }
+        Ok(names)
+    }
+
+    /// The branch with a further patch at its end, of these changes, which lead to this tree.
+    pub fn recorded(
+        &self,
+        name: &Name,
+        changes: &[Primitive],
+        tree: Tree,
+    ) -> Result<Branch, AllocError>
+        requires is_new { has_patch self.now name.now ≡ false }
+        requires some { 1 ≤ length changes.now }
+        requires few { length changes.now ≤ 64 }
+        requires leads { (old : Files) → LeadsTo self.now old → AppliesEach changes.now old tree }
+        ensures { IfOk result (λ branch. branch ≡ self.now ++ recorded name.now 1 changes.now) }
+    {
+        let catches = with_recorded(&self.catches, name, changes)?;
+        let names = self.names.inserted(*name, ())?;
+        Ok(Branch {
+            catches,
+            names,
+            tree,
+        })
+    }
+}
+
+/// The list with a plain catch behind it for each change, at places from 1.
+fn with_recorded(
+    catches: &SharedList<Shared<Catch>>,
+    name: &Name,
+    changes: &[Primitive],
+) -> Result<SharedList<Shared<Catch>>, AllocError>
+    requires { length changes.now ≤ 64 }
+    ensures { IfOk result (λ list. list ≡ catches.now ++ recorded name.now 1 changes.now) }
+{
+    let mut list = catches.share()?;
+    let mut place = 1;
+    for change in changes {
+        let catch = plain(list.allocator(), name, place, change)?;
+        list = list.pushed(catch)?;
+        place += 1;
+    }
+    Ok(list)
+}
+
+fn plain(
+    alloc: Global,
+    name: &Name,
+    place: u8,
+    change: &Primitive,
+) -> Result<Shared<Catch>, AllocError>
+    ensures { IfOk result (λ catch. catch ≡ Catch.Plain (record { name = name.now; place = place; inverse = false; prim = change.now })) }
+{
+    let prim = change.try_clone()?;
+    let patch = Named {
+        name: *name,
+        place,
+        inverse: false,
+        prim,
+    };
+    Shared::new(alloc, Catch::Plain(patch))
+}
