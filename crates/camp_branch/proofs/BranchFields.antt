@@ -1,6 +1,6 @@
 -- The fields of a branch: its list grown by what is recorded, and its index.
-use Rattle.std.proofs.Common.{◌≡◌, ◌≤◌, ℕ, suc, ◌+◌, Bool, true, false, cond, ◌||◌, Option, None, Some, List, [], ◌∷◌, ◌++◌, map, length, is_some, bytes_eq, refl, sym, ap, ◌∙◌, subst, arith}
-use Rattle.std.proofs.lemmas.List.{append_assoc, map-append}
+use Rattle.std.proofs.Common.{◌≡◌, ◌≤◌, ◌<◌, ℕ, suc, ◌+◌, Bool, true, false, cond, ◌||◌, Option, None, Some, List, [], ◌∷◌, ◌++◌, map, take, length, slice_index_or, is_some, bytes_eq, refl, sym, ap, ◌∙◌, subst, arith}
+use Rattle.std.proofs.lemmas.List.{append_assoc, length-take-le, map-append, take_more}
 use Rattle.std.proofs.lemmas.List.Folds.{list_any-append}
 use Rattle.std.proofs.lemmas.Map.Text.{is_eq-slice_cmp}
 use Rattle.std.specs.Ordering.{nat_cmp, eq_by_cmp}
@@ -85,3 +85,9 @@ grown branch more name changes old new lawful leads new_name some few applies is
       lawful = subst IsLawful (sym is) (record { patches = lawful.patches ++ record { name = name; changes = length changes } ∷ []; has = has; tree = new; leads = tree });
       kept = subst (λ l. LeadsTo l new) (sym is) tree;
     }
+
+-- the next change of a list of changes is recorded
+pub recorded_step : (catches list next : List Catch) (name : List ℕ) (place i : ℕ) (changes : List Primitive) (change d : Primitive) (k : Catch) → i < length changes → list ≡ catches ++ recorded name 1 (take i changes) → place ≡ i + 1 → change ≡ slice_index_or changes i d → k ≡ Plain (record { name = name; place = place; inverse = false; prim = change }) → next ≡ list ++ k ∷ [] → next ≡ catches ++ recorded name 1 (take (i + 1) changes)
+recorded_step catches list next name place i changes change d k within was at item is pushed =
+    let long : length (take i changes) ≡ i = length-take-le i changes (omega arith) in
+    one_more_recorded catches list next name place (take i changes) (take (i + 1) changes) change k was (at ∙ ap (λ n. n + 1) (sym long)) (take_more changes i d within ∙ ap (λ x. take i changes ++ x ∷ []) (sym item)) is pushed

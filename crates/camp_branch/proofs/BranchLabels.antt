@@ -2,6 +2,7 @@
 use Rattle.std.proofs.Common.{◌≡◌, ◌≤◌, ◌==◌, ℕ, zero, suc, ◌+◌, Bool, true, false, true≢false, not, ◌||◌, cond, List, [], ◌∷◌, ◌++◌, map, filter, length, bytes_eq, Ok, refl, sym, ap, ◌∙◌, subst, inl, inr, arith}
 use Rattle.std.specs.List.{AllByRecursion}
 use Rattle.std.proofs.lemmas.List.{append-nil, append_assoc, map-append}
+use Rattle.std.proofs.lemmas.Bool.{eqb-true}
 use Rattle.std.proofs.lemmas.List.Elements.{filter-append}
 use Rattle.camp_prim.specs.declared.labels.Key.{Key}
 use Rattle.camp_prim.specs.declared.primitives.Primitive.{Primitive}
@@ -225,15 +226,16 @@ recorded_patches branch patches name changes has new some few =
 abbrev pub starts_of : List Key → List (List ℕ)
 starts_of keys = key_names (filter (λ k. k.place == 1) keys)
 
-not_equal : (place : ℕ) → 2 ≤ place → (place == 1) ≡ false
-not_equal zero le = absurd (omega arith)
-not_equal (suc zero) le = absurd (omega arith)
-not_equal (suc (suc place)) le = refl
+not_first : (place : ℕ) → 2 ≤ place → (place == 1) ≡ false
+not_first place le = elim (place == 1) as (λ b. (place == 1) ≡ b → b ≡ false) [
+  | true ↦ λ e. let is = eqb-true place 1 e in absurd (omega (is, arith))
+  | false ↦ λ e. refl
+] refl
 
 later_places : (name : List ℕ) (place changes : ℕ) (keys : List Key) → 2 ≤ place → starts_of (labels_from name place changes ++ keys) ≡ starts_of keys
 later_places name place zero keys le = refl
 later_places name place (suc changes) keys le =
-    let other : (place == 1) ≡ false = not_equal place le in
+    let other : (place == 1) ≡ false = not_first place le in
     ap (λ b. key_names (cond b (record { name = name; place = place } ∷ filter (λ k. k.place == 1) (labels_from name (place + 1) changes ++ keys)) (filter (λ k. k.place == 1) (labels_from name (place + 1) changes ++ keys)))) other ∙ later_places name (place + 1) changes keys (omega arith)
 
 starts_of_patch : (name : List ℕ) (changes : ℕ) (keys : List Key) → 1 ≤ changes → starts_of (labels_from name 1 changes ++ keys) ≡ name ∷ starts_of keys

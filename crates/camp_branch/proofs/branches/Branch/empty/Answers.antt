@@ -8,5 +8,5 @@ invariant_of-result c =
     record {
       lawful = subst IsLawful (sym c.new.ensures) lawful_none;
       named = subst (Indexes _) (sym c.new.ensures) (none_indexed _ c.new-2.ensures);
-      kept = subst (λ l. LeadsTo l _) (sym c.new.ensures) c.empty.ensures;
+      kept = subst (λ l. LeadsTo l c.empty.result) (sym c.new.ensures) c.empty.ensures;
     }
