@@ -1,55 +1,122 @@
-//! Measures what putting a list in normal order costs: `costs N` makes a list of N hunks of one
-//! file, the least label last, and tells the microseconds that `norm` takes. Without a word it
-//! measures nothing.
+//! Measures what calls on lists cost, in microseconds. `costs norm N` puts N hunks of one file in
+//! normal order, the least label last. `costs chain N` merges one patch with N patches that change
+//! the same line one after the other. `costs lists N` merges two lists of N patches, of which each
+//! conflicts with one of the other list. Without words it measures nothing.
 #![tactic(auto)]
 
 ghost use Rattle.std.specs.Prelude.{◌≤◌};
 
 use anyhow::{Result, bail, ensure};
 use camp_base::{Line, Name, Path};
+use camp_catch::{Catch, merge_lists};
 use camp_prim::{Lines, Named, Primitive};
 use camp_seq::{Seq, norm};
+use camp_share::Shared;
 use std::alloc::Global;
 use std::env;
 use std::time::Instant;
 
 fn main(rt: HostRuntime) -> Result<()> {
+    let alloc = rt.alloc();
     let mut words = env::args(&rt)?;
     let _program = words.next();
-    let Some(word) = words.next() else {
+    let Some(measure) = words.next() else {
         return Ok(());
     };
+    let Some(word) = words.next() else {
+        bail!("how many?");
+    };
     let count = word.as_str().parse::<u32>()?;
-    ensure!(count <= 1_000_000, "at most 1000000 hunks");
-    let list = falling_list(rt.alloc(), count)?;
-    let start = Instant::now(&rt)?;
-    let ordered = norm(&list)?;
-    let time = start.elapsed(&rt)?.as_micros();
-    let count = ordered.items().len();
-    println!(rt; "{count} hunks: {time} microseconds")?;
+    ensure!(count <= 100_000, "at most 100000");
+    match measure.as_str() {
+        "norm" => {
+            let list = falling_list(alloc, count)?;
+            let start = Instant::now(&rt)?;
+            norm(&list)?;
+            let time = start.elapsed(&rt)?.as_micros();
+            println!(rt; "norm of {count} hunks: {time} microseconds")?;
+        }
+        "chain" => {
+            let one = patches(alloc, "one", 1, Change::Line)?;
+            let chain = patches(alloc, "chain", count, Change::Chain)?;
+            let start = Instant::now(&rt)?;
+            let merged = merges(alloc, one.as_slice(), chain.as_slice())?;
+            let time = start.elapsed(&rt)?.as_micros();
+            println!(rt; "one with a chain of {count}: {merged} merged, {time} microseconds")?;
+        }
+        "lists" => {
+            let ours = patches(alloc, "ours", count, Change::Line)?;
+            let theirs = patches(alloc, "theirs", count, Change::Line)?;
+            let start = Instant::now(&rt)?;
+            let merged = merges(alloc, ours.as_slice(), theirs.as_slice())?;
+            let time = start.elapsed(&rt)?.as_micros();
+            println!(rt; "two lists of {count}: {merged} merged, {time} microseconds")?;
+        }
+        _ => bail!("norm, chain or lists"),
+    }
     Ok(())
 }
 
-/// Hunks of one file, far apart, whose labels fall.
-fn falling_list(alloc: Global, count: u32) -> Result<Seq>
-    requires { count ≤ 1_000_000 }
+/// How many catches of a list are merged with another.
+fn merges(alloc: Global, p: &[Shared<Catch>], q: &[Shared<Catch>]) -> Result<usize> {
+    let merged = merge_lists(alloc, p, q)?;
+    let Ok(catches) = merged else {
+        bail!("they do not merge");
+    };
+    Ok(catches.len())
+}
+
+/// What the patches of a list change: each a line of its own, or all the first line, one after the
+/// other.
+#[derive(Clone, Copy)]
+enum Change {
+    Line,
+    Chain,
+}
+
+/// Plain patches under a name and a number.
+fn patches(alloc: Global, name: &str, count: u32, change: Change) -> Result<Vec<Shared<Catch>>>
+    requires { count ≤ 100_000 }
 {
-    let mut list = Seq::empty(alloc);
+    let mut list = Vec::new(alloc);
     for at in 0..count {
-        list.push(hunk(alloc, 1_000_000 - at, 1 + 10 * at)?)?;
+        let patch = match change {
+            Change::Line => hunk(alloc, name, at, 1 + 2 * at, "old", name)?,
+            Change::Chain => changed(alloc, name, at)?,
+        };
+        list.push(Shared::new(alloc, Catch::Plain(patch))?)?;
     }
     Ok(list)
 }
 
-/// A hunk of a line for a line, under the name of a number.
-fn hunk(alloc: Global, number: u32, line: u32) -> Result<Named> {
-    let name = Name::new(format!(in alloc; "p{number:07}")?.as_bytes())?;
-    let mut old = Vec::new(alloc);
-    old.push(Line::new(alloc, b"old")?)?;
-    let mut new = Vec::new(alloc);
-    new.push(Line::new(alloc, b"new")?)?;
+/// A hunk that changes the first line from what the one before has left.
+fn changed(alloc: Global, name: &str, at: u32) -> Result<Named>
+    requires { at ≤ 100_000 }
+{
+    let new = format!(in alloc; "line {}", at + 1)?;
+    if at == 0 {
+        return hunk(alloc, name, at, 1, "old", new.as_str());
+    }
+    let old = format!(in alloc; "line {at}")?;
+    hunk(alloc, name, at, 1, old.as_str(), new.as_str())
+}
+
+/// Hunks of one file, far apart, whose labels fall.
+fn falling_list(alloc: Global, count: u32) -> Result<Seq>
+    requires { count ≤ 100_000 }
+{
+    let mut list = Seq::empty(alloc);
+    for at in 0..count {
+        list.push(hunk(alloc, "p", 1_000_000 - at, 1 + 10 * at, "old", "new")?)?;
+    }
+    Ok(list)
+}
+
+/// A hunk of a line for a line, under a name and a number.
+fn hunk(alloc: Global, name: &str, number: u32, line: u32, old: &str, new: &str) -> Result<Named> {
+    let name = Name::new(format!(in alloc; "{name}-{number:07}")?.as_bytes())?;
     let path = Path::new(alloc, b"f")?;
-    let (old, new) = (Lines::new(alloc, old)?, Lines::new(alloc, new)?);
+    let (old, new) = (side(alloc, old)?, side(alloc, new)?);
     let Some(prim) = Primitive::hunk(path, line, old, new) else {
         bail!("no hunk at line {line}");
     };
@@ -59,4 +126,11 @@ fn hunk(alloc: Global, number: u32, line: u32) -> Result<Named> {
         inverse: false,
         prim,
     })
+}
+
+/// A side of one line.
+fn side(alloc: Global, text: &str) -> Result<Lines> {
+    let mut lines = Vec::new(alloc);
+    lines.push(Line::new(alloc, text.as_bytes())?)?;
+    Ok(Lines::new(alloc, lines)?)
 }
