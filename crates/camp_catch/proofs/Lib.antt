@@ -10,4 +10,6 @@ pub mod ListResults
 pub mod MergeDecided
 pub mod MergeEffects
 pub mod MergeResults
+pub mod MergeSteps
+pub mod SameCatches
 pub mod ValueSteps

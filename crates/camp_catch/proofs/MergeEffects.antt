@@ -3,7 +3,6 @@ use Rattle.std.proofs.Common.{◌≡◌, inl, inr, List, [], ◌∷◌, ◌++◌
 use Rattle.camp_base.specs.Trees.{Files}
 use Rattle.camp_prim.specs.Effect.{Applies, inverse_of}
 use Rattle.camp_prim.specs.declared.named.Named.{Named}
-use Rattle.camp_seq.specs.Equivalence.{◌~◌}
 use Rattle.camp_seq.specs.Running.{AppliesAll, inverse_all}
 use Rattle.camp_seq.proofs.ListEquivalence.{ordered, split}
 use Rattle.camp_seq.proofs.ListRuns.{cut_run, runs_back}
@@ -106,7 +105,7 @@ merge_keeps_effects (Conflictor r xs i) (Plain b) k' j' (inr w) old left right f
 merge_keeps_effects (Conflictor r xs i) (Conflictor s ys l) k' j' w old left right f g =
     two_conflictors r xs i s ys l k' j' w old left right f g
 
-joins_alike : (One Other : Type 0) (l : InContext) (xs ys : Contexts) → (One → Other) → (Other → One) → JoinsWhere One l xs ys → JoinsWhere Other l xs ys
+pub joins_alike : (One Other : Type 0) (l : InContext) (xs ys : Contexts) → (One → Other) → (Other → One) → JoinsWhere One l xs ys → JoinsWhere Other l xs ys
 joins_alike One Other l xs ys to from (inl w) = inl (to w.0, w.1)
 joins_alike One Other l xs ys to from (inr w) = inr ((λ h. w.0 (from h)), w.1)
 

@@ -1,5 +1,5 @@
 -- The cases of merging exclude one another, and each has at most one result.
-use Rattle.std.proofs.Common.{◌≡◌, ◌⊎◌, inl, inr, List, [], ◌∷◌, ◌++◌, refl, sym, ap, ◌∙◌, subst}
+use Rattle.std.proofs.Common.{◌≡◌, ◌⊎◌, inl, inr, List, [], ◌∷◌, refl, sym, ap, ◌∙◌, subst}
 use Rattle.camp_prim.specs.Effect.{inverse_of}
 use Rattle.camp_prim.specs.declared.named.Named.{Named}
 use Rattle.camp_prim.proofs.SwapUnique.{swap_unique}
@@ -14,8 +14,9 @@ use Rattle.camp_ctx.specs.Contexts.{InContext, Contexts, EachMember, bare, only,
 use Rattle.camp_ctx.proofs.AddResults.{one_add, one_add_of_all}
 use Rattle.camp_ctx.proofs.ConflictLaws.{one_merge_behind}
 use Rattle.camp_ctx.proofs.SetChanges.{one_change_of_members}
-use Rattle.camp_catch.specs.Merging.{Clean, FirstConflict, PlainBesideConflictor, PlainJoinsConflictor, JoinsWhere, TwoConflictors}
+use Rattle.camp_catch.specs.Merging.{Clean, PlainBesideConflictor, PlainJoinsConflictor, JoinsWhere, TwoConflictors}
 use Rattle.camp_catch.specs.Laws.{MergeIsUnique}
+use Rattle.camp_catch.specs.Cases.{MergeCasesExclude}
 use Rattle.camp_catch.specs.declared.catches.Catch.{Catch}
 use Rattle.camp_catch.specs.declared.catches.Catch.TheVariants.{Plain, Conflictor}
 use Rattle.camp_catch.proofs.CommuteResults.{AreSame, same_conflictor, same_order}
@@ -94,3 +95,9 @@ one_merging (Plain a) (Conflictor s ys l) k' j' k j v w = one_beside_or_joined a
 one_merging (Conflictor r xs i) (Plain b) k' j' k j v w =
     turned k' j' k j (one_beside_or_joined b r xs i j' k' j k v w)
 one_merging (Conflictor r xs i) (Conflictor s ys l) k' j' k j v w = two_conflictors r xs i s ys l k' j' k j v w
+
+pub cases_exclude : MergeCasesExclude
+cases_exclude = record {
+  both_plain = λ a b k' j' k j v w. w.conflict v.b' v.a' v.merge;
+  plain_and_conflictor = not_both;
+}

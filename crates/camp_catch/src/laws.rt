@@ -1,4 +1,4 @@
-ghost use Rattle.camp_catch.specs.Cases.{CasesExclude};
+ghost use Rattle.camp_catch.specs.Cases.{CasesExclude, MergeCasesExclude};
 ghost use Rattle.camp_catch.specs.Laws.{CommuteIsUnique, CommuteKeepsEffects, KeepLabels, ListsKeepEffects, MergeIsSymmetric, MergeIsUnique, MergeKeepsEffects};
 ghost use Rattle.camp_catch.specs.ListLaws.{ArrangeByMembers, CatchesAreDecided, ListsAreUnique, ListsSucceedOrStick};
 
@@ -29,7 +29,12 @@ pub fn commute_is_unique()
     ensures { CommuteIsUnique }
 {}
 
-/// The cases of merging exclude one another, and what two catches become is determined.
+/// The cases of merging exclude one another.
+pub fn merge_cases_exclude()
+    ensures { MergeCasesExclude }
+{}
+
+/// What two catches become by merging is determined, whichever of the cases gives it.
 pub fn merge_is_unique()
     ensures { MergeIsUnique }
 {}

@@ -7,6 +7,7 @@ mod catches;
 mod commuting;
 mod conflictors;
 mod laws;
+mod merging;
 mod seen;
 mod values;
 
@@ -15,5 +16,7 @@ pub use commuting::commute;
 pub use laws::{
     arrange_goes_by_members, cases_exclude_one_another, catches_are_decided, commute_is_unique,
     commute_keeps_effects, labels_are_kept, lists_are_unique, lists_keep_effects,
-    lists_succeed_or_stick, merge_is_symmetric, merge_is_unique, merge_keeps_effects,
+    lists_succeed_or_stick, merge_cases_exclude, merge_is_symmetric, merge_is_unique,
+    merge_keeps_effects,
 };
+pub use merging::merge;

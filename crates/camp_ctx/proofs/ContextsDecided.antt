@@ -82,3 +82,23 @@ entries_or_not xs (e ∷ f ∷ es) is = inr (λ y.
 -- a set has one member, which stands under its own label, or it is another
 pub only_or_not : (xs : Contexts) → Decided ((x : InContext) × (xs ≡ only x))
 only_or_not xs = entries_or_not xs (entries xs) refl
+
+first_entry : (e f : Key × InContext) (es fs : List (Key × InContext)) → e ∷ es ≡ f ∷ fs → e ≡ f
+first_entry e f es fs same = cc
+
+rest_entries : (e f : Key × InContext) (es fs : List (Key × InContext)) → e ∷ es ≡ f ∷ fs → es ≡ fs
+rest_entries e f es fs same = cc
+
+entry_lists_or_not : (es fs : List (Key × InContext)) → Decided (es ≡ fs)
+entry_lists_or_not [] [] = inl refl
+entry_lists_or_not [] (f ∷ fs) = inr (λ e. cc)
+entry_lists_or_not (e ∷ es) [] = inr (λ e. cc)
+entry_lists_or_not ((k, x) ∷ es) ((l, y) ∷ fs) =
+    decided_by (λ e i. (e.0.0 i, e.0.1 i) ∷ e.1 i) (λ e.
+    let head = first_entry (k, x) (l, y) es fs e in
+    ((ap (λ (p : Key × InContext). p.0) head, ap (λ (p : Key × InContext). p.1) head), rest_entries (k, x) (l, y) es fs e)) (both_or_not (both_or_not (keys_or_not k l) (in_context_or_not x y)) (entry_lists_or_not es fs))
+
+-- two sets are the same, or they are not
+pub contexts_or_not : (xs ys : Contexts) → Decided (xs ≡ ys)
+contexts_or_not xs ys =
+    decided_by (same_entries_map xs ys) (ap entries) (entry_lists_or_not (entries xs) (entries ys))

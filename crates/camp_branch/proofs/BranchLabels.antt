@@ -1,0 +1,222 @@
+-- The labels and the names of branches, by their patches.
+use Rattle.std.proofs.Common.{◌≡◌, ◌≤◌, ℕ, zero, suc, ◌+◌, Bool, true, false, true≢false, not, ◌||◌, cond, List, [], ◌∷◌, ◌++◌, map, filter, length, bytes_eq, Ok, refl, sym, ap, ◌∙◌, subst, inl, inr, arith}
+use Rattle.std.specs.List.{AllByRecursion}
+use Rattle.std.proofs.lemmas.List.{append-nil, append_assoc, map-append}
+use Rattle.std.proofs.lemmas.List.Elements.{filter-append}
+use Rattle.camp_prim.specs.declared.labels.Key.{Key}
+use Rattle.camp_prim.specs.declared.primitives.Primitive.{Primitive}
+use Rattle.camp_catch.specs.Catches.{catch_key}
+use Rattle.camp_catch.specs.Laws.{KeysPart, keys_of}
+use Rattle.camp_catch.specs.declared.catches.Catch.{Catch}
+use Rattle.camp_catch.proofs.KeptLabels.{keep_labels}
+use Rattle.camp_branch.specs.Branches.{AreDistinct, HasPatches, IsSized, Patch, each_once, has_patch, is_among, labels_from, labels_of, name_of, names_of, patch_names, recorded}
+use Rattle.camp_branch.specs.Laws.{others_of, those_of}
+use Rattle.camp_branch.specs.Obliterating.{ObliterateGives, other_names}
+use Rattle.camp_branch.specs.Pulling.{PullGives, common_names}
+use Rattle.camp_branch.proofs.Names.{all_append, all_filter, distinct_append, distinct_filter, filter_within, is_among_is, name_itself, not_among, not_kept, or_parts, or_true, other_way, passes_is_kept, without_other}
+use Rattle.camp_branch.proofs.Steps.{left_by, pulled_by}
+
+-- the names of labels
+abbrev pub key_names : List Key → List (List ℕ)
+key_names keys = map (λ k. k.name) keys
+
+named_by_keys : (branch : List Catch) → map name_of branch ≡ key_names (keys_of branch)
+named_by_keys [] = refl
+named_by_keys (k ∷ branch) = ap (λ t. name_of k ∷ t) (named_by_keys branch)
+
+-- the names but for one
+abbrev but_for : List ℕ → List (List ℕ) → List (List ℕ)
+but_for name names = filter (λ other. not (bytes_eq name other)) names
+
+not_itself : (name : List ℕ) (names : List (List ℕ)) → but_for name (name ∷ names) ≡ but_for name names
+not_itself name names = ap (λ b. cond (not b) (name ∷ but_for name names) (but_for name names)) (name_itself name)
+
+-- the labels of one patch have one name
+once_of_patch : (name : List ℕ) (place changes : ℕ) (keys : List Key) → each_once (key_names (labels_from name place (suc changes) ++ keys)) ≡ name ∷ but_for name (each_once (key_names keys))
+once_of_patch name place zero keys = refl
+once_of_patch name place (suc changes) keys =
+    ap (λ t. name ∷ but_for name t) (once_of_patch name (place + 1) changes keys) ∙ ap (λ t. name ∷ t) (not_itself name _ ∙ filter_within (λ other. not (bytes_eq name other)) (λ other. not (bytes_eq name other)) (λ x e. e) _)
+
+once_of_sized : (name : List ℕ) (place changes : ℕ) (keys : List Key) → 1 ≤ changes → each_once (key_names (labels_from name place changes ++ keys)) ≡ name ∷ but_for name (each_once (key_names keys))
+once_of_sized name place zero keys le = absurd (omega arith)
+once_of_sized name place (suc changes) keys le = once_of_patch name place changes keys
+
+once_of_patches : (patches : List Patch) → AreDistinct (patch_names patches) → AllByRecursion IsSized patches → each_once (key_names (labels_of patches)) ≡ patch_names patches
+once_of_patches [] distinct sized = refl
+once_of_patches (p ∷ patches) distinct sized =
+    once_of_sized p.name 1 p.changes (labels_of patches) sized.0.0 ∙ ap (λ t. p.name ∷ but_for p.name t) (once_of_patches patches distinct.1 sized.1) ∙ ap (λ t. p.name ∷ t) (without_other p.name (patch_names patches) distinct.0)
+
+pub names_of_patches : (branch : List Catch) (patches : List Patch) → HasPatches branch patches → names_of branch ≡ patch_names patches
+names_of_patches branch patches has =
+    ap each_once (named_by_keys branch ∙ ap key_names has.labels) ∙ once_of_patches patches has.distinct has.sized
+
+module _ (passes : List ℕ → Bool) where
+  labels_chosen : (name : List ℕ) (place changes : ℕ) (b : Bool) → passes name ≡ b → filter (λ k. passes k.name) (labels_from name place changes) ≡ cond b (labels_from name place changes) []
+  labels_chosen name place zero true e = refl
+  labels_chosen name place zero false e = refl
+  labels_chosen name place (suc changes) true e =
+      ap (λ b. cond b (record { name = name; place = place } ∷ filter (λ k. passes k.name) (labels_from name (place + 1) changes)) (filter (λ k. passes k.name) (labels_from name (place + 1) changes))) e ∙ ap (λ t. record { name = name; place = place } ∷ t) (labels_chosen name (place + 1) changes true e)
+  labels_chosen name place (suc changes) false e =
+      ap (λ b. cond b (record { name = name; place = place } ∷ filter (λ k. passes k.name) (labels_from name (place + 1) changes)) (filter (λ k. passes k.name) (labels_from name (place + 1) changes))) e ∙ labels_chosen name (place + 1) changes false e
+
+  labels_joined : (p : Patch) (rest : List Patch) (b : Bool) → cond b (labels_from p.name 1 p.changes) [] ++ labels_of rest ≡ labels_of (cond b (p ∷ rest) rest)
+  labels_joined p rest true = refl
+  labels_joined p rest false = refl
+
+  -- the labels with some names are those of the patches with these names
+  pub labels_of_chosen : (patches : List Patch) → filter (λ k. passes k.name) (labels_of patches) ≡ labels_of (filter (λ p. passes p.name) patches)
+  labels_of_chosen [] = refl
+  labels_of_chosen (p ∷ patches) =
+      filter-append (λ (k : Key). passes k.name) (labels_from p.name 1 p.changes) (labels_of patches) ∙ (λ i. labels_chosen p.name 1 p.changes (passes p.name) refl i ++ labels_of_chosen patches i) ∙ labels_joined p (filter (λ q. passes q.name) patches) (passes p.name)
+
+pub labels_of-append : (ps qs : List Patch) → labels_of (ps ++ qs) ≡ labels_of ps ++ labels_of qs
+labels_of-append [] qs = refl
+labels_of-append (p ∷ ps) qs =
+    ap (λ t. labels_from p.name 1 p.changes ++ t) (labels_of-append ps qs) ∙ sym (append_assoc (labels_from p.name 1 p.changes) (labels_of ps) (labels_of qs))
+
+-- what is arranged by names is what passes their test, and the rest
+abbrev Chosen : List (List ℕ) → List Key → List Key → List Key → Type 0
+Chosen names keys first rest =
+    (first ≡ filter (λ k. is_among names k.name) keys) × (rest ≡ filter (λ k. not (is_among names k.name)) keys)
+
+chosen_with : (names : List (List ℕ)) (key : Key) (keys first rest t : List Key) → is_among names key.name ≡ true → Chosen names keys t rest → first ≡ key ∷ t → Chosen names (key ∷ keys) first rest
+chosen_with names key keys first rest t e w is =
+    (is ∙ ap (λ s. key ∷ s) w.0 ∙ sym (ap (λ c. cond c (key ∷ filter (λ k. is_among names k.name) keys) (filter (λ k. is_among names k.name) keys)) e), w.1 ∙ sym (ap (λ c. cond (not c) (key ∷ filter (λ k. not (is_among names k.name)) keys) (filter (λ k. not (is_among names k.name)) keys)) e))
+
+chosen_without : (names : List (List ℕ)) (key : Key) (keys first rest t : List Key) → is_among names key.name ≡ false → Chosen names keys first t → rest ≡ key ∷ t → Chosen names (key ∷ keys) first rest
+chosen_without names key keys first rest t e w is =
+    (w.0 ∙ sym (ap (λ c. cond c (key ∷ filter (λ k. is_among names k.name) keys) (filter (λ k. is_among names k.name) keys)) e), is ∙ ap (λ s. key ∷ s) w.1 ∙ sym (ap (λ c. cond (not c) (key ∷ filter (λ k. not (is_among names k.name)) keys) (filter (λ k. not (is_among names k.name)) keys)) e))
+
+chosen_by : (names : List (List ℕ)) (keys first rest : List Key) → KeysPart names keys first rest → Chosen names keys first rest
+chosen_by names [] first rest w = w
+chosen_by names (key ∷ keys) first rest (inl w) =
+    let v = w.1 in
+    chosen_with names key keys first rest v.0 ((is_among_is names key.name).0 w.0) (chosen_by names keys v.0 rest v.1) v.2
+chosen_by names (key ∷ keys) first rest (inr w) =
+    let v = w.1 in
+    chosen_without names key keys first rest v.0 (not_among names key.name w.0) (chosen_by names keys first v.0 v.1) v.2
+
+-- names of a patch are the names of its labels
+among_labels : (name : List ℕ) (p : Patch) (place changes : ℕ) (rest : List Key) → 1 ≤ changes → is_among (key_names (labels_from p.name place changes ++ rest)) name ≡ false → bytes_eq name p.name ≡ false
+among_labels name p place zero rest le e = absurd (omega arith)
+among_labels name p place (suc changes) rest le e =
+    (or_parts (bytes_eq name p.name) (is_among (key_names (labels_from p.name (place + 1) changes ++ rest)) name) e).0
+
+among_rest : (name other : List ℕ) (place changes : ℕ) (rest : List Key) → is_among (key_names (labels_from other place changes ++ rest)) name ≡ false → is_among (key_names rest) name ≡ false
+among_rest name other place zero rest e = e
+among_rest name other place (suc changes) rest e =
+    among_rest name other (place + 1) changes rest (or_parts (bytes_eq name other) (is_among (key_names (labels_from other (place + 1) changes ++ rest)) name) e).1
+
+-- a name that no label has is no patch's
+among_patches : (name : List ℕ) (patches : List Patch) → AllByRecursion IsSized patches → is_among (key_names (labels_of patches)) name ≡ false → is_among (patch_names patches) name ≡ false
+among_patches name [] sized e = refl
+among_patches name (p ∷ patches) sized e =
+    ap (λ b. b || is_among (patch_names patches) name) (among_labels name p 1 p.changes (labels_of patches) sized.0.0 e) ∙ among_patches name patches sized.1 (among_rest name p.name 1 p.changes (labels_of patches) e)
+
+pub not_a_patch : (branch : List Catch) (patches : List Patch) (name : List ℕ) → HasPatches branch patches → has_patch branch name ≡ false → is_among (patch_names patches) name ≡ false
+not_a_patch branch patches name has e =
+    among_patches name patches has.sized (sym (ap (λ names. is_among names name) (named_by_keys branch ∙ ap key_names has.labels)) ∙ e)
+
+differs_kept : (names : List (List ℕ)) (name : List ℕ) (p : Patch) (rest : List Patch) (b : Bool) → is_among names p.name ≡ b → (is_among names p.name ≡ true → bytes_eq p.name name ≡ false) → is_among (patch_names rest) name ≡ false → is_among (patch_names (cond b (p ∷ rest) rest)) name ≡ false
+differs_kept names name p rest true e apart more =
+    ap (λ b. b || is_among (patch_names rest) name) (other_way p.name name (apart e)) ∙ more
+differs_kept names name p rest false e apart more = more
+
+none_of : (names : List (List ℕ)) (patches : List Patch) (name : List ℕ) (ours : List (List ℕ)) → ((other : List ℕ) → is_among names other ≡ true → is_among (name ∷ ours) other ≡ false) → is_among (patch_names (those_of names patches)) name ≡ false
+none_of names [] name ours apart = refl
+none_of names (p ∷ patches) name ours apart =
+    differs_kept names name p (those_of names patches) _ refl (λ e. (or_parts (bytes_eq p.name name) (is_among ours p.name) (apart p.name e)).0) (none_of names patches name ours apart)
+
+-- patches whose names pass a test, where no name of some others does
+apart_from : (names : List (List ℕ)) (patches : List Patch) (ours : List (List ℕ)) → ((name : List ℕ) → is_among names name ≡ true → is_among ours name ≡ false) → AllByRecursion (λ name. is_among (patch_names (those_of names patches)) name ≡ false) ours
+apart_from names patches [] apart = tt
+apart_from names patches (name ∷ ours) apart =
+    (none_of names patches name ours apart, apart_from names patches ours (λ other e. (or_parts (bytes_eq other name) (is_among ours other) (apart other e)).1))
+
+-- a name that is not in `to` is not common
+not_common : (from to : List Catch) (name : List ℕ) → has_patch to name ≡ false → not (is_among (common_names from to) name) ≡ true
+not_common from to name e = ap not (not_kept (has_patch to) (names_of from) name e)
+
+chosen_keys : (from to : List Catch) (wanted : List (List ℕ)) (theirs : List Patch) (behind chosen left ours : List Key) → keys_of from ≡ labels_of theirs → Chosen (common_names from to) (keys_of from) ours behind → Chosen wanted behind chosen left → ((name : List ℕ) → is_among wanted name ≡ true → has_patch to name ≡ false) → chosen ≡ labels_of (those_of wanted theirs)
+chosen_keys from to wanted theirs behind chosen left ours are v w lacked =
+    w.0 ∙ ap (filter (λ k. is_among wanted k.name)) v.1 ∙ filter_within (λ (k : Key). is_among wanted k.name) (λ k. not (is_among (common_names from to) k.name)) (λ k e. not_common from to k.name (lacked k.name e)) (keys_of from) ∙ ap (filter (λ k. is_among wanted k.name)) are ∙ labels_of_chosen (is_among wanted) theirs
+
+pub pulled_patches : (from to pulled : List Catch) (wanted : List (List ℕ)) (theirs ours : List Patch) → PullGives from to wanted (Ok pulled) → HasPatches from theirs → HasPatches to ours → ((name : List ℕ) → is_among wanted name ≡ true → has_patch to name ≡ false) → HasPatches pulled (ours ++ those_of wanted theirs)
+pulled_patches from to pulled wanted theirs ours gives v w lacked =
+    let p = pulled_by from to wanted pulled gives in
+    let common = common_names from to in
+    let front = chosen_by common (keys_of from) (keys_of p.ours) (keys_of p.behind) (keep_labels.arranged common from p.ours p.behind p.own_front) in
+    let choice = chosen_by wanted (keys_of p.behind) (keys_of p.chosen) (keys_of p.left) (keep_labels.arranged wanted p.behind p.chosen p.left p.choice) in
+    let taken = (keep_labels.merged_lists p.chosen p.others p.taken p.beside p.merge).0 ∙ chosen_keys from to wanted theirs _ _ _ _ v.labels front choice lacked in
+    let theirs_apart = apart_from wanted theirs (patch_names ours) (λ name e. not_a_patch to ours name w (lacked name e)) in
+    record {
+      distinct = subst AreDistinct (sym (map-append (λ (q : Patch). q.name) ours (those_of wanted theirs))) (distinct_append (patch_names ours) (patch_names (those_of wanted theirs)) w.distinct (distinct_filter (λ (q : Patch). q.name) (λ q. is_among wanted q.name) theirs v.distinct) theirs_apart);
+      sized = all_append IsSized ours (those_of wanted theirs) w.sized (all_filter (λ (q : Patch). q.name) (λ q. is_among wanted q.name) IsSized theirs v.sized);
+      labels = ap keys_of p.becomes ∙ map-append catch_key to p.taken ∙ (λ i. w.labels i ++ taken i) ∙ sym (labels_of-append ours (those_of wanted theirs));
+    }
+
+among_more : (n : List ℕ) (names : List (List ℕ)) (patches : List Patch) → AllByRecursion (λ p. is_among names p.name ≡ true) patches → AllByRecursion (λ p. is_among (n ∷ names) p.name ≡ true) patches
+among_more n names [] w = tt
+among_more n names (p ∷ patches) w = (or_true (bytes_eq p.name n) _ w.0, among_more n names patches w.1)
+
+own_names : (patches : List Patch) → AllByRecursion (λ p. is_among (patch_names patches) p.name ≡ true) patches
+own_names [] = tt
+own_names (p ∷ patches) =
+    (ap (λ b. b || is_among (patch_names patches) p.name) (name_itself p.name), among_more p.name (patch_names patches) patches (own_names patches))
+
+same_chosen : (passes : List ℕ → Bool) (names : List (List ℕ)) (patches : List Patch) → AllByRecursion (λ p. is_among names p.name ≡ true) patches → filter (λ p. is_among (filter passes names) p.name) patches ≡ filter (λ p. passes p.name) patches
+same_chosen passes names [] w = refl
+same_chosen passes names (p ∷ patches) w =
+    (λ i. cond (passes_is_kept passes names p.name w.0 i) (p ∷ same_chosen passes names patches w.1 i) (same_chosen passes names patches w.1 i))
+
+pub left_patches : (branch left : List Catch) (names : List (List ℕ)) (own : List Patch) → ObliterateGives branch names (Ok left) → HasPatches branch own → HasPatches left (others_of names own)
+left_patches branch left names own gives has =
+    let a = left_by branch names left gives in
+    let passes : List ℕ → Bool = λ name. not (is_among names name) in
+    let first = chosen_by (other_names branch names) (keys_of branch) (keys_of left) (keys_of a.0) (keep_labels.arranged (other_names branch names) branch left a.0 a.1) in
+    let those : filter (λ p. is_among (other_names branch names) p.name) own ≡ others_of names own =
+    ap (λ (all : List (List ℕ)). filter (λ (p : Patch). is_among (filter passes all) p.name) own) (names_of_patches branch own has) ∙ same_chosen passes (patch_names own) own (own_names own) in
+    record {
+      distinct = distinct_filter (λ (q : Patch). q.name) (λ q. passes q.name) own has.distinct;
+      sized = all_filter (λ (q : Patch). q.name) (λ q. passes q.name) IsSized own has.sized;
+      labels = first.0 ∙ ap (filter (λ k. is_among (other_names branch names) k.name)) has.labels ∙ labels_of_chosen (is_among (other_names branch names)) own ∙ ap labels_of those;
+    }
+
+names_step : (b : Bool) (p : Patch) (rest : List Patch) → patch_names (cond b (p ∷ rest) rest) ≡ cond b (p.name ∷ patch_names rest) (patch_names rest)
+names_step true p rest = refl
+names_step false p rest = refl
+
+names_chosen : (passes : List ℕ → Bool) (patches : List Patch) → patch_names (filter (λ p. passes p.name) patches) ≡ filter passes (patch_names patches)
+names_chosen passes [] = refl
+names_chosen passes (p ∷ patches) =
+    names_step (passes p.name) p (filter (λ q. passes q.name) patches) ∙ ap (λ t. cond (passes p.name) (p.name ∷ t) t) (names_chosen passes patches)
+
+pub names_of_pulled : (from to pulled : List Catch) (wanted : List (List ℕ)) (theirs ours : List Patch) → HasPatches from theirs → HasPatches to ours → HasPatches pulled (ours ++ those_of wanted theirs) → names_of pulled ≡ names_of to ++ filter (is_among wanted) (names_of from)
+names_of_pulled from to pulled wanted theirs ours v w has =
+    names_of_patches pulled (ours ++ those_of wanted theirs) has ∙ map-append (λ (p : Patch). p.name) ours (those_of wanted theirs) ∙ (λ i. sym (names_of_patches to ours w) i ++ (names_chosen (is_among wanted) theirs ∙ ap (filter (is_among wanted)) (sym (names_of_patches from theirs v))) i)
+
+pub names_of_left : (branch left : List Catch) (names : List (List ℕ)) (own : List Patch) → HasPatches branch own → HasPatches left (others_of names own) → names_of left ≡ other_names branch names
+names_of_left branch left names own v has =
+    names_of_patches left (others_of names own) has ∙ names_chosen (λ name. not (is_among names name)) own ∙ ap (filter (λ name. not (is_among names name))) (sym (names_of_patches branch own v))
+
+-- the labels of what is recorded
+recorded_labels : (name : List ℕ) (place : ℕ) (changes : List Primitive) → keys_of (recorded name place changes) ≡ labels_from name place (length changes)
+recorded_labels name place [] = refl
+recorded_labels name place (change ∷ changes) =
+    ap (λ t. record { name = name; place = place } ∷ t) (recorded_labels name (place + 1) changes)
+
+none_else : (name : List ℕ) (names : List (List ℕ)) → is_among names name ≡ false → AllByRecursion (λ other. is_among (name ∷ []) other ≡ false) names
+none_else name [] e = tt
+none_else name (n ∷ names) e =
+    let parts = or_parts (bytes_eq name n) (is_among names name) e in
+    (ap (λ b. b || false) (other_way name n parts.0), none_else name names parts.1)
+
+pub recorded_patches : (branch : List Catch) (patches : List Patch) (name : List ℕ) (changes : List Primitive) → HasPatches branch patches → has_patch branch name ≡ false → 1 ≤ length changes → length changes ≤ 64 → HasPatches (branch ++ recorded name 1 changes) (patches ++ record { name = name; changes = length changes } ∷ [])
+recorded_patches branch patches name changes has new some few =
+    let patch : Patch = record { name = name; changes = length changes } in
+    let lacks = not_a_patch branch patches name has new in
+    record {
+      distinct = subst AreDistinct (sym (map-append (λ (q : Patch). q.name) patches (patch ∷ []))) (distinct_append (patch_names patches) (name ∷ []) has.distinct (refl, tt) (none_else name (patch_names patches) lacks));
+      sized = all_append IsSized patches (patch ∷ []) has.sized ((some, few), tt);
+      labels = map-append catch_key branch (recorded name 1 changes) ∙ (λ i. has.labels i ++ (recorded_labels name 1 changes ∙ sym (append-nil (labels_from name 1 (length changes)))) i) ∙ sym (labels_of-append patches (patch ∷ []));
+    }

@@ -1,0 +1,149 @@
+-- A pull comes to one outcome, and so does an obliteration.
+use Rattle.std.proofs.Common.{◌≡◌, ◌⊎◌, ℕ, List, [], ◌∷◌, ◌++◌, Ok, Err, refl, sym, ap, ◌∙◌, subst, inl, inr}
+use Rattle.camp_prim.specs.declared.labels.Key.{Key}
+use Rattle.camp_catch.specs.Arranging.{Arrange, ArrangeSticks, Align, AlignSticks}
+use Rattle.camp_catch.specs.Laws.{keys_of}
+use Rattle.camp_catch.specs.ListLaws.{GivesOnePair, HasPair, OneOf}
+use Rattle.camp_catch.specs.MergingLists.{MergeLists, MergeSticks}
+use Rattle.camp_catch.specs.declared.catches.Catch.{Catch}
+use Rattle.camp_catch.proofs.ListChoices.{lists_succeed_or_stick}
+use Rattle.camp_catch.proofs.ListResults.{lists_are_unique}
+use Rattle.camp_catch.proofs.SameCatches.{catch_or_not}
+use Rattle.camp_branch.specs.Branches.{name_of}
+use Rattle.camp_branch.specs.Laws.{GivesExactlyOne, OutcomesAreDetermined}
+use Rattle.camp_branch.specs.Obliterating.{other_names}
+use Rattle.camp_branch.specs.Pulling.{Outcome, StepThen, SameThen, DiffersAt, common_names}
+use Rattle.camp_branch.specs.declared.faults.Blocked.{Blocked}
+use Rattle.camp_branch.specs.declared.faults.Blocked.TheVariants.{Diverged}
+
+module _ (Gives : List Catch → List Catch → Type 0) (Sticks : Key → Key → Type 0) (why : Key → Key → Blocked) (Next : List Catch → List Catch → Outcome → Type 0) where
+  goes_on : GivesOnePair Gives → (x y : List Catch) → Gives x y → (HasPair Sticks → ⊥) → GivesExactlyOne (Next x y) → GivesExactlyOne (StepThen Gives Sticks why Next)
+  goes_on one x y gives never next = (
+    next.0,
+    inl (x, y, gives, next.1),
+    λ other o. elim o [
+      | inl v ↦
+          let same = one v.0 x v.1 y v.2 gives in
+          next.2 other (subst (λ t. Next t y other) same.0 (subst (λ t. Next v.0 t other) same.1 v.3))
+      | inr s ↦ absurd (never (s.0, s.1, s.2))
+    ],
+  )
+
+  stops : GivesOnePair Sticks → (k l : Key) → Sticks k l → (HasPair Gives → ⊥) → GivesExactlyOne (StepThen Gives Sticks why Next)
+  stops one k l sticks never = (
+    Err (why k l),
+    inr (k, l, sticks, refl),
+    λ other o. elim o [
+      | inl v ↦ absurd (never (v.0, v.1, v.2))
+      | inr s ↦
+          let same = one s.0 k s.1 l s.2 sticks in
+          s.3 ∙ (λ i. Err (why (same.0 i) (same.1 i)))
+    ],
+  )
+
+  -- a step that is determined, before what is
+  pub step : GivesOnePair Gives → GivesOnePair Sticks → OneOf (HasPair Gives) (HasPair Sticks) → ((x y : List Catch) → GivesExactlyOne (Next x y)) → GivesExactlyOne (StepThen Gives Sticks why Next)
+  step one only choice next = elim choice.0 [
+    | inl w ↦ goes_on one w.0 w.1 w.2 (choice.1 w) (next w.0 w.1)
+    | inr s ↦ stops only s.0 s.1 s.2 (λ w. choice.1 w s)
+  ]
+
+arranged : (names : List (List ℕ)) (list : List Catch) (why : Key → Key → Blocked) (Next : List Catch → List Catch → Outcome → Type 0) → ((x y : List Catch) → GivesExactlyOne (Next x y)) → GivesExactlyOne (StepThen (Arrange names list) (ArrangeSticks names list) why Next)
+arranged names list why Next =
+    step (Arrange names list) (ArrangeSticks names list) why Next (lists_are_unique.arranged names list) (lists_are_unique.arrange_sticks names list) (lists_succeed_or_stick.arranges names list)
+
+-- a list does not differ from itself
+not_from_itself : (list : List Catch) (name : List ℕ) → ¬ (DiffersAt list list name)
+not_from_itself [] name w = w
+not_from_itself (k ∷ list) name (inl w) = w.0 refl
+not_from_itself (k ∷ list) name (inr w) = not_from_itself list name w.1
+
+-- two lists are the same, or differ first at some name
+abbrev Compared : List Catch → List Catch → Type 0
+Compared s t = (s ≡ t) ⊎ ((name : List ℕ) × DiffersAt s t name)
+
+compared_behind : (j k : Catch) (s t : List Catch) → j ≡ k → Compared s t → Compared (j ∷ s) (k ∷ t)
+compared_behind j k s t e (inl f) = inl (λ i. e i ∷ f i)
+compared_behind j k s t e (inr w) = inr (w.0, inr (e, w.1))
+
+compared : (s t : List Catch) → Compared s t
+compared [] [] = inl refl
+compared [] (k ∷ t) = inr (name_of k, refl)
+compared (j ∷ s) [] = inr (name_of j, refl)
+compared (j ∷ s) (k ∷ t) = elim (catch_or_not j k) [
+  | inl e ↦ compared_behind j k s t e (compared s t)
+  | inr other ↦ inr (name_of j, inl (other, refl))
+]
+
+one_difference : (s t : List Catch) (name other : List ℕ) → DiffersAt s t name → DiffersAt s t other → name ≡ other
+one_difference [] [] name other v w = absurd v
+one_difference [] (k ∷ t) name other v w = v ∙ sym w
+one_difference (j ∷ s) [] name other v w = v ∙ sym w
+one_difference (j ∷ s) (k ∷ t) name other (inl v) (inl w) = v.1 ∙ sym w.1
+one_difference (j ∷ s) (k ∷ t) name other (inl v) (inr w) = absurd (v.0 w.0)
+one_difference (j ∷ s) (k ∷ t) name other (inr v) (inl w) = absurd (w.0 v.0)
+one_difference (j ∷ s) (k ∷ t) name other (inr v) (inr w) = one_difference s t name other v.1 w.1
+
+module _ (ours theirs : List Catch) (Next : Outcome → Type 0) where
+  same_fronts : Align (keys_of theirs) ours theirs → GivesExactlyOne Next → GivesExactlyOne (SameThen ours theirs Next)
+  same_fronts align next = (
+    next.0,
+    inl (align, next.1),
+    λ other o. elim o [
+      | inl v ↦ next.2 other v.1
+      | inr v ↦ elim v [
+        | inl s ↦ absurd ((lists_succeed_or_stick.aligns (keys_of theirs) ours).1 (theirs, align) (s.0, s.1))
+        | inr d ↦ absurd (not_from_itself theirs d.1 (subst (λ l. DiffersAt l theirs d.1) (lists_are_unique.aligned (keys_of theirs) ours d.0 theirs d.2 align) d.3))
+      ]
+    ],
+  )
+
+  other_fronts : (aligned : List Catch) (name : List ℕ) → Align (keys_of theirs) ours aligned → DiffersAt aligned theirs name → GivesExactlyOne (SameThen ours theirs Next)
+  other_fronts aligned name align differs = (
+    Err (Diverged name),
+    inr (inr (aligned, name, align, differs, refl)),
+    λ other o. elim o [
+      | inl v ↦ absurd (not_from_itself theirs name (subst (λ l. DiffersAt l theirs name) (lists_are_unique.aligned (keys_of theirs) ours aligned theirs align v.0) differs))
+      | inr v ↦ elim v [
+        | inl s ↦ absurd ((lists_succeed_or_stick.aligns (keys_of theirs) ours).1 (aligned, align) (s.0, s.1))
+        | inr d ↦
+            let same = lists_are_unique.aligned (keys_of theirs) ours d.0 aligned d.2 align in
+            d.4 ∙ ap (λ n. Err (Diverged n)) (one_difference aligned theirs d.1 name (subst (λ l. DiffersAt l theirs d.1) same d.3) differs)
+      ]
+    ],
+  )
+
+  order_sticks : (stuck : Key) → AlignSticks (keys_of theirs) ours stuck → GivesExactlyOne (SameThen ours theirs Next)
+  order_sticks stuck sticks =
+      let never = (lists_succeed_or_stick.aligns (keys_of theirs) ours).1 in (
+        Err (Diverged stuck.name),
+        inr (inl (stuck, sticks, refl)),
+        λ other o. elim o [
+          | inl v ↦ absurd (never (theirs, v.0) (stuck, sticks))
+          | inr v ↦ elim v [
+            | inl s ↦ s.2 ∙ ap (λ (k : Key). Err (Diverged k.name)) (lists_are_unique.align_sticks (keys_of theirs) ours s.0 stuck s.1 sticks)
+            | inr d ↦ absurd (never (d.0, d.2) (stuck, sticks))
+          ]
+        ],
+      )
+
+  same_then : GivesExactlyOne Next → GivesExactlyOne (SameThen ours theirs Next)
+  same_then next = elim (lists_succeed_or_stick.aligns (keys_of theirs) ours).0 [
+    | inl a ↦ elim (compared a.0 theirs) [
+      | inl e ↦ same_fronts (subst (λ l. Align (keys_of theirs) ours l) e a.1) next
+      | inr d ↦ other_fronts a.0 d.0 a.1 d.1
+    ]
+    | inr s ↦ order_sticks s.0 s.1
+  ]
+
+pub outcomes_are_determined : OutcomesAreDetermined
+outcomes_are_determined = record {
+  pulls = λ from to wanted.
+      arranged (common_names from to) from _ _ (λ ours behind.
+      arranged wanted behind _ _ (λ chosen left.
+      arranged (common_names from to) to _ _ (λ theirs others.
+      same_then ours theirs _ (
+      step (MergeLists chosen others) (MergeSticks chosen others) _ _ (lists_are_unique.merged chosen others) (lists_are_unique.merge_sticks chosen others) (lists_succeed_or_stick.merges chosen others) (λ taken beside.
+      (Ok (to ++ taken), refl, λ other is. is))))));
+  obliterates = λ branch names. arranged (other_names branch names) branch _ _ (λ staying gone. (Ok staying, refl, λ other is. is));
+}

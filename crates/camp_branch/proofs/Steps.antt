@@ -1,0 +1,75 @@
+-- The steps of a pull, and of an obliteration, that went through.
+use Rattle.std.proofs.Common.{◌≡◌, ℕ, List, ◌++◌, Ok, Err, refl, sym, subst, inl, inr}
+use Rattle.camp_catch.specs.Arranging.{Arrange, Align}
+use Rattle.camp_catch.specs.Laws.{keys_of}
+use Rattle.camp_catch.specs.MergingLists.{MergeLists}
+use Rattle.camp_catch.specs.declared.catches.Catch.{Catch}
+use Rattle.camp_branch.specs.Obliterating.{ObliterateGives, other_names}
+use Rattle.camp_branch.specs.Pulling.{Outcome, PullGives, common_names}
+use Rattle.camp_branch.specs.declared.faults.Blocked.{Blocked}
+
+-- a pull that goes through
+pub record Pulled (from to : List Catch) (wanted : List (List ℕ)) (pulled : List Catch) : Type 0 where
+  pub ours : List Catch
+  pub behind : List Catch
+  pub own_front : Arrange (common_names from to) from ours behind
+  pub chosen : List Catch
+  pub left : List Catch
+  pub choice : Arrange wanted behind chosen left
+  pub theirs : List Catch
+  pub others : List Catch
+  pub their_front : Arrange (common_names from to) to theirs others
+  pub same : Align (keys_of theirs) ours theirs
+  pub taken : List Catch
+  pub beside : List Catch
+  pub merge : MergeLists chosen others taken beside
+  pub becomes : pulled ≡ to ++ taken
+
+apart : {A : Type 0} (branch : List Catch) (blocked : Blocked) → Ok branch ≡ Err blocked → A
+apart branch blocked e = cc
+
+same_branch : (branch other : List Catch) (outcome : Outcome) → outcome ≡ Ok branch → outcome ≡ Ok other → branch ≡ other
+same_branch branch other outcome e f = cc
+
+pub pulled_by : (from to : List Catch) (wanted : List (List ℕ)) (pulled : List Catch) → PullGives from to wanted (Ok pulled) → Pulled from to wanted pulled
+pulled_by from to wanted pulled gives = elim gives [
+  | inr s ↦ apart pulled _ s.3
+  | inl a ↦ elim a.3 [
+    | inr s ↦ apart pulled _ s.3
+    | inl b ↦ elim b.3 [
+      | inr s ↦ apart pulled _ s.3
+      | inl c ↦ elim c.3 [
+        | inr s ↦ elim s [
+          | inl t ↦ apart pulled _ t.2
+          | inr t ↦ apart pulled _ t.4
+        ]
+        | inl d ↦ elim d.1 [
+          | inr s ↦ apart pulled _ s.3
+          | inl m ↦ record {
+            ours = a.0;
+            behind = a.1;
+            own_front = a.2;
+            chosen = b.0;
+            left = b.1;
+            choice = b.2;
+            theirs = c.0;
+            others = c.1;
+            their_front = c.2;
+            same = d.0;
+            taken = m.0;
+            beside = m.1;
+            merge = m.2;
+            becomes = same_branch pulled (to ++ m.0) (Ok pulled) refl m.3;
+          }
+        ]
+      ]
+    ]
+  ]
+]
+
+-- what an obliteration that goes through leaves
+pub left_by : (branch : List Catch) (names : List (List ℕ)) (left : List Catch) → ObliterateGives branch names (Ok left) → (gone : List Catch) × Arrange (other_names branch names) branch left gone
+left_by branch names left gives = elim gives [
+  | inl a ↦ (a.1, subst (λ l. Arrange (other_names branch names) branch l a.1) (sym (same_branch left a.0 (Ok left) refl a.3)) a.2)
+  | inr s ↦ apart left _ s.3
+]

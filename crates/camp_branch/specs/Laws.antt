@@ -1,0 +1,87 @@
+-- The laws of branches.
+use Rattle.std.specs.Prelude.{◌≡◌, ◌≤◌, ℕ, true, false, not, List, [], ◌∷◌, ◌++◌, filter, length, Ok}
+use Rattle.std.specs.FinMap.{empty as no_files}
+use Rattle.camp_base.specs.Trees.{Files}
+use Rattle.camp_prim.specs.Effect.{Applies}
+use Rattle.camp_prim.specs.declared.primitives.Primitive.{Primitive}
+use Rattle.camp_catch.specs.declared.catches.Catch.{Catch}
+use Rattle.camp_branch.specs.Branches.{HasPatches, IsLawful, IsTreeOf, LeadsTo, Patch, has_patch, is_among, names_of, patch_names, recorded}
+use Rattle.camp_branch.specs.Obliterating.{ObliterateGives, other_names}
+use Rattle.camp_branch.specs.Pulling.{Outcome, PullGives}
+
+-- a branch leads to one tree at most, which is the tree of its effects
+pub record TreesAreDetermined : Type 0 where
+  pub one : (branch : List Catch) (tree other : Files) → LeadsTo branch tree → LeadsTo branch other → tree ≡ other
+  pub effects : (branch : List Catch) (tree : Files) → LeadsTo branch tree → IsTreeOf branch tree
+
+-- the names of a branch are those of its patches, in their order
+abbrev pub NamesAreOfPatches : Type 0
+NamesAreOfPatches =
+    (branch : List Catch) (patches : List Patch) → HasPatches branch patches → names_of branch ≡ patch_names patches
+
+-- exactly one outcome is given
+abbrev pub GivesExactlyOne : (Outcome → Type 0) → Type 0
+GivesExactlyOne Gives = (outcome : Outcome) × Gives outcome × ((other : Outcome) → Gives other → other ≡ outcome)
+
+-- a pull comes to one outcome, and so does an obliteration
+pub record OutcomesAreDetermined : Type 0 where
+  pub pulls : (from to : List Catch) (wanted : List (List ℕ)) → GivesExactlyOne (PullGives from to wanted)
+  pub obliterates : (branch : List Catch) (names : List (List ℕ)) → GivesExactlyOne (ObliterateGives branch names)
+
+-- the patches with these names
+abbrev pub those_of : List (List ℕ) → List Patch → List Patch
+those_of names patches = filter (λ p. is_among names p.name) patches
+
+-- the patches with other names
+abbrev pub others_of : List (List ℕ) → List Patch → List Patch
+others_of names patches = filter (λ p. not (is_among names p.name)) patches
+
+-- a branch has no patch of these names
+abbrev pub AreLacked : List Catch → List (List ℕ) → Type 0
+AreLacked to wanted = (name : List ℕ) → is_among wanted name ≡ true → has_patch to name ≡ false
+
+-- what a pull gives has the patches of `to`, and then the wanted ones of `from`, in their order there; it is lawful
+-- where both branches are
+pub record PullsKeepLawful : Type 0 where
+  pub patches :
+      (from to pulled : List Catch) (wanted : List (List ℕ)) (theirs ours : List Patch) →
+      PullGives from to wanted (Ok pulled) → HasPatches from theirs → HasPatches to ours → AreLacked to wanted →
+      HasPatches pulled (ours ++ those_of wanted theirs)
+  pub names :
+      (from to pulled : List Catch) (wanted : List (List ℕ)) → PullGives from to wanted (Ok pulled) →
+      IsLawful from → IsLawful to → AreLacked to wanted →
+      names_of pulled ≡ names_of to ++ filter (is_among wanted) (names_of from)
+  pub lawful :
+      (from to pulled : List Catch) (wanted : List (List ℕ)) → PullGives from to wanted (Ok pulled) →
+      IsLawful from → IsLawful to → AreLacked to wanted → IsLawful pulled
+
+-- what an obliteration leaves has the other patches, in their order; it is lawful where the branch is
+pub record ObliteratesKeepLawful : Type 0 where
+  pub patches :
+      (branch left : List Catch) (names : List (List ℕ)) (own : List Patch) →
+      ObliterateGives branch names (Ok left) → HasPatches branch own → HasPatches left (others_of names own)
+  pub names :
+      (branch left : List Catch) (names : List (List ℕ)) → ObliterateGives branch names (Ok left) → IsLawful branch →
+      names_of left ≡ other_names branch names
+  pub lawful :
+      (branch left : List Catch) (names : List (List ℕ)) → ObliterateGives branch names (Ok left) → IsLawful branch →
+      IsLawful left
+
+-- changes lead, one after the other, from one tree to another
+abbrev pub AppliesEach : List Primitive → Files → Files → Type 0
+AppliesEach [] old new = new ≡ old
+AppliesEach (change ∷ changes) old new =
+    (between : Files) × Applies change old between × AppliesEach changes between new
+
+-- the branch of a new repository is lawful, and stays so where 1 to 64 changes are recorded under a new name that lead
+-- from its tree to another
+pub record RecordsKeepLawful : Type 0 where
+  pub empty : HasPatches [] [] × LeadsTo [] no_files
+  pub patches :
+      (branch : List Catch) (patches : List Patch) (name : List ℕ) (changes : List Primitive) →
+      HasPatches branch patches → has_patch branch name ≡ false → 1 ≤ length changes → length changes ≤ 64 →
+      HasPatches (branch ++ recorded name 1 changes)
+      (patches ++ record { name = name; changes = length changes } ∷ [])
+  pub tree :
+      (branch : List Catch) (name : List ℕ) (changes : List Primitive) (old new : Files) →
+      LeadsTo branch old → AppliesEach changes old new → LeadsTo (branch ++ recorded name 1 changes) new

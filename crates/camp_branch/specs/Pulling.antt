@@ -1,0 +1,73 @@
+-- Pulling patches from one branch into another: what both have is brought to the front of both, and into one order; what
+-- is wanted comes behind it, and is merged with what the other branch has alone.
+use Rattle.std.specs.Prelude.{◌≡◌, ◌≢◌, ◌⊎◌, ℕ, List, [], ◌∷◌, ◌++◌, filter, Result, Ok, Err}
+use Rattle.camp_prim.specs.declared.labels.Key.{Key}
+use Rattle.camp_catch.specs.Arranging.{Arrange, ArrangeSticks, Align, AlignSticks}
+use Rattle.camp_catch.specs.Laws.{keys_of}
+use Rattle.camp_catch.specs.MergingLists.{MergeLists, MergeSticks}
+use Rattle.camp_catch.specs.declared.catches.Catch.{Catch}
+use Rattle.camp_branch.specs.Branches.{has_patch, name_of, names_of}
+use Rattle.camp_branch.specs.declared.faults.Blocked.{Blocked}
+use Rattle.camp_branch.specs.declared.faults.Blocked.TheVariants.{Depends, Diverged, NoMerge}
+
+-- what a change of a branch comes to: the branch that it makes, or why it can't be made
+abbrev pub Outcome : Type 0
+Outcome = Result (List Catch) Blocked
+
+-- a step that gives two lists, with which it goes on, or sticks at two labels, which tell why all of it is blocked
+abbrev pub StepThen :
+    (List Catch → List Catch → Type 0) → (Key → Key → Type 0) → (Key → Key → Blocked)
+    → (List Catch → List Catch → Outcome → Type 0) → Outcome → Type 0
+StepThen Gives Sticks why Next outcome =
+    ((x : List Catch) × (y : List Catch) × Gives x y × Next x y outcome)
+    ⊎ ((stuck : Key) × (on : Key) × Sticks stuck on × (outcome ≡ Err (why stuck on)))
+
+-- two lists of catches differ first at a catch of this name: that of the first list, where both have a catch there
+abbrev pub DiffersAt : List Catch → List Catch → List ℕ → Type 0
+DiffersAt [] [] name = ⊥
+DiffersAt [] (k ∷ list) name = name ≡ name_of k
+DiffersAt (j ∷ list) [] name = name ≡ name_of j
+DiffersAt (j ∷ list) (k ∷ others) name =
+    ((j ≢ k) × (name ≡ name_of j)) ⊎ ((j ≡ k) × DiffersAt list others name)
+
+-- the common patches in the order of those of `to` are the same, and it goes on; or else the branches have diverged, at
+-- the one that does not come into this order, or at the first one that is not the same
+abbrev pub SameThen : List Catch → List Catch → (Outcome → Type 0) → Outcome → Type 0
+SameThen ours theirs Next outcome =
+    (Align (keys_of theirs) ours theirs × Next outcome)
+    ⊎ (((stuck : Key) × AlignSticks (keys_of theirs) ours stuck × (outcome ≡ Err (Diverged stuck.name)))
+    ⊎ ((aligned : List Catch) × (name : List ℕ)
+    × Align (keys_of theirs) ours aligned × DiffersAt aligned theirs name × (outcome ≡ Err (Diverged name))))
+
+-- the names of the patches that both branches have
+abbrev pub common_names : List Catch → List Catch → List (List ℕ)
+common_names from to = filter (has_patch to) (names_of from)
+
+-- the common patches come to the front of a branch, or the branches have diverged at one
+-- branch <-> common others
+abbrev pub CommonFirst :
+    List (List ℕ) → List Catch → (List Catch → List Catch → Outcome → Type 0) → Outcome → Type 0
+CommonFirst names branch = StepThen (Arrange names branch) (ArrangeSticks names branch) (λ stuck on. Diverged stuck.name)
+
+-- the wanted patches come before those that are not, or one depends on another
+-- list <-> wanted others
+abbrev pub WantedNext :
+    List (List ℕ) → List Catch → (List Catch → List Catch → Outcome → Type 0) → Outcome → Type 0
+WantedNext names list =
+    StepThen (Arrange names list) (ArrangeSticks names list) (λ stuck on. Depends stuck.name on.name)
+
+-- the wanted patches merge with the others, or two do not
+abbrev pub MergedLast :
+    List Catch → List Catch → (List Catch → List Catch → Outcome → Type 0) → Outcome → Type 0
+MergedLast wanted others =
+    StepThen (MergeLists wanted others) (MergeSticks wanted others) (λ left right. NoMerge left.name right.name)
+
+-- a pull comes to this: its steps in order, of which the first that fails decides; the new branch is `to`, and behind
+-- it what the wanted patches of `from` become
+abbrev pub PullGives : List Catch → List Catch → List (List ℕ) → Outcome → Type 0
+PullGives from to wanted =
+    CommonFirst (common_names from to) from (λ ours behind.
+    WantedNext wanted behind (λ chosen left.
+    CommonFirst (common_names from to) to (λ theirs others.
+    SameThen ours theirs (
+    MergedLast chosen others (λ taken beside outcome. outcome ≡ Ok (to ++ taken))))))

@@ -1,0 +1,32 @@
+ghost use Rattle.camp_branch.specs.Laws.{NamesAreOfPatches, ObliteratesKeepLawful, OutcomesAreDetermined, PullsKeepLawful, RecordsKeepLawful, TreesAreDetermined};
+
+/// A branch leads to one tree at most, which is the tree of its effects.
+pub fn trees_are_determined()
+    ensures { TreesAreDetermined }
+{}
+
+/// The names of a branch are those of its patches, in their order.
+pub fn names_are_of_patches()
+    ensures { NamesAreOfPatches }
+{}
+
+/// A pull comes to one outcome, and so does an obliteration.
+pub fn outcomes_are_determined()
+    ensures { OutcomesAreDetermined }
+{}
+
+/// A pulled branch has its own patches and then the wanted ones, in the order of the other branch, and
+/// is lawful.
+pub fn pulls_keep_lawful()
+    ensures { PullsKeepLawful }
+{}
+
+/// What an obliteration leaves has the other patches, in their order, and is lawful.
+pub fn obliterates_keep_lawful()
+    ensures { ObliteratesKeepLawful }
+{}
+
+/// A new branch is lawful, and a record under a new name keeps it so.
+pub fn records_keep_lawful()
+    ensures { RecordsKeepLawful }
+{}

@@ -1,0 +1,12 @@
+//! Branches as lists of catches: the patches that they have, the trees that they lead to, and what
+//! comes of pulling patches from one into another and of taking patches out.
+#![tactic(auto)]
+
+mod faults;
+mod laws;
+
+pub use faults::Blocked;
+pub use laws::{
+    names_are_of_patches, obliterates_keep_lawful, outcomes_are_determined, pulls_keep_lawful,
+    records_keep_lawful, trees_are_determined,
+};

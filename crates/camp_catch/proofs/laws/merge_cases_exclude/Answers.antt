@@ -1,0 +1,5 @@
+use Rattle.camp_catch.proofs.MergeResults.{cases_exclude}
+use Rattle.camp_catch.proofs.laws.merge_cases_exclude.Goals as goal
+
+pub returns : goal.returns
+returns c = cases_exclude
