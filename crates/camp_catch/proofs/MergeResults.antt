@@ -16,7 +16,7 @@ use Rattle.camp_ctx.proofs.ConflictLaws.{one_merge_behind}
 use Rattle.camp_ctx.proofs.SetChanges.{one_change_of_members}
 use Rattle.camp_catch.specs.Merging.{Clean, PlainBesideConflictor, PlainJoinsConflictor, JoinsWhere, TwoConflictors}
 use Rattle.camp_catch.specs.Laws.{MergeIsUnique}
-use Rattle.camp_catch.specs.MergeCases.{MergeCasesExclude}
+use Rattle.camp_catch.specs.Cases.{MergeCasesExclude}
 use Rattle.camp_catch.specs.declared.catches.Catch.{Catch}
 use Rattle.camp_catch.specs.declared.catches.Catch.TheVariants.{Plain, Conflictor}
 use Rattle.camp_catch.proofs.CommuteResults.{AreSame, same_conflictor, same_order}

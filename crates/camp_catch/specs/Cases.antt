@@ -1,34 +1,41 @@
--- The cases of commuting exclude one another.
+-- The cases of commuting exclude one another, and so do those of merging.
 use Rattle.std.specs.Prelude.{List}
 use Rattle.camp_prim.specs.declared.named.Named.{Named}
 use Rattle.camp_ctx.specs.Contexts.{InContext, Contexts}
 use Rattle.camp_catch.specs.Commuting.{PlainPastConflictor, TwoConflictorsApart, ConflictDissolves, PlainLeavesTheSet, OnlyConflictGoes, OneOfSeveralConflicts}
+use Rattle.camp_catch.specs.Merging.{Clean, FirstConflict, PlainBesideConflictor, PlainJoinsConflictor}
 use Rattle.camp_catch.specs.declared.catches.Catch.{Catch}
 
--- where one case has a result, the other has none
-abbrev pub Excludes : (Catch → Catch → Type 0) → (Catch → Catch → Type 0) → Type 0
-Excludes One Other = (k' j' k j : Catch) → One k' j' → ¬ (Other k j)
+-- where the one case has a result, the other has none
+abbrev pub Exclude : (Catch → Catch → Type 0) → (Catch → Catch → Type 0) → Type 0
+Exclude One Other = (k' j' k j : Catch) → One k' j' → ¬ (Other k j)
 
--- two cases of a plain catch before a conflictor
-abbrev pub PlainExcludes :
+-- the same of two cases of a plain catch and a conflictor
+abbrev pub PlainExclude :
     (Named → List Named → Contexts → InContext → Catch → Catch → Type 0) →
     (Named → List Named → Contexts → InContext → Catch → Catch → Type 0) → Type 0
-PlainExcludes One Other =
-    (a : Named) (s : List Named) (ys : Contexts) (l : InContext) → Excludes (One a s ys l) (Other a s ys l)
+PlainExclude One Other =
+    (a : Named) (s : List Named) (ys : Contexts) (l : InContext) → Exclude (One a s ys l) (Other a s ys l)
 
--- two cases of two conflictors
+-- the same of two cases of two conflictors
 abbrev pub ConflictorsExclude :
     (List Named → Contexts → InContext → List Named → Contexts → InContext → Catch → Catch → Type 0) →
     (List Named → Contexts → InContext → List Named → Contexts → InContext → Catch → Catch → Type 0) → Type 0
 ConflictorsExclude One Other =
     (r : List Named) (xs : Contexts) (i : InContext) (s : List Named) (ys : Contexts) (l : InContext) →
-    Excludes (One r xs i s ys l) (Other r xs i s ys l)
+    Exclude (One r xs i s ys l) (Other r xs i s ys l)
 
--- any two cases of catches of the same kinds; other pairs of cases are of catches of other kinds
+-- of two cases of commuting that begin with catches of the same kinds, at most one has a result
 pub record CasesExclude : Type 0 where
-  pub past_dissolves : PlainExcludes PlainPastConflictor ConflictDissolves
-  pub past_leaves : PlainExcludes PlainPastConflictor PlainLeavesTheSet
-  pub dissolves_leaves : PlainExcludes ConflictDissolves PlainLeavesTheSet
+  pub past_dissolves : PlainExclude PlainPastConflictor ConflictDissolves
+  pub past_leaves : PlainExclude PlainPastConflictor PlainLeavesTheSet
+  pub dissolves_leaves : PlainExclude ConflictDissolves PlainLeavesTheSet
   pub apart_only : ConflictorsExclude TwoConflictorsApart OnlyConflictGoes
   pub apart_several : ConflictorsExclude TwoConflictorsApart OneOfSeveralConflicts
   pub only_several : ConflictorsExclude OnlyConflictGoes OneOfSeveralConflicts
+
+-- the same of merging; the mirror is the cases of a plain catch and a conflictor, seen from the other side, and two
+-- conflictors have one case
+pub record MergeCasesExclude : Type 0 where
+  pub both_plain : (a b : Named) → Exclude (Clean a b) (FirstConflict a b)
+  pub plain_and_conflictor : PlainExclude PlainBesideConflictor PlainJoinsConflictor

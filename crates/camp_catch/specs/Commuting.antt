@@ -168,7 +168,8 @@ CommutePlainConflictor a s ys l k' j' =
     PlainPastConflictor a s ys l k' j' ⊎ (ConflictDissolves a s ys l k' j' ⊎ PlainLeavesTheSet a s ys l k' j')
 
 -- a conflictor before a conflictor
-abbrev pub CommuteConflictors : List Named → Contexts → InContext → List Named → Contexts → InContext → Catch → Catch → Type 0
+abbrev pub CommuteConflictors :
+    List Named → Contexts → InContext → List Named → Contexts → InContext → Catch → Catch → Type 0
 CommuteConflictors r xs i s ys l k' j' =
     TwoConflictorsApart r xs i s ys l k' j'
     ⊎ (OnlyConflictGoes r xs i s ys l k' j' ⊎ OneOfSeveralConflicts r xs i s ys l k' j')

@@ -5,6 +5,5 @@ pub mod Commuting
 pub mod Inside
 pub mod Laws
 pub mod ListLaws
-pub mod MergeCases
 pub mod Merging
 pub mod MergingLists

@@ -1,7 +1,6 @@
-ghost use Rattle.camp_catch.specs.Cases.{CasesExclude};
+ghost use Rattle.camp_catch.specs.Cases.{CasesExclude, MergeCasesExclude};
 ghost use Rattle.camp_catch.specs.Laws.{CommuteIsUnique, CommuteKeepsEffects, KeepLabels, ListsKeepEffects, MergeIsSymmetric, MergeIsUnique, MergeKeepsEffects};
 ghost use Rattle.camp_catch.specs.ListLaws.{ArrangeByMembers, CatchesAreDecided, ListsAreUnique, ListsSucceedOrStick};
-ghost use Rattle.camp_catch.specs.MergeCases.{MergeCasesExclude};
 
 /// Where two catches fit a tree one after the other, so do those that they become, and both orders
 /// end in one tree.
@@ -35,7 +34,7 @@ pub fn merge_cases_exclude()
     ensures { MergeCasesExclude }
 {}
 
-/// The cases of merging exclude one another, and what two catches become is determined.
+/// What two catches become by merging is determined, whichever of the cases gives it.
 pub fn merge_is_unique()
     ensures { MergeIsUnique }
 {}
