@@ -2,7 +2,8 @@
 -- labels where there is none.
 use Rattle.std.specs.Prelude.{◌≡◌, ◌↔◌, ◌⊎◌, ℕ, List, Contains}
 use Rattle.camp_prim.specs.declared.labels.Key.{Key}
-use Rattle.camp_catch.specs.Arranging.{ComesBefore, StopsAt, DoNotCommute, Arrange, ArrangeSticks, ComesFirst, Align, AlignSticks}
+use Rattle.camp_catch.specs.Arranging.{ComesBefore, StopsAt, DoNotCommute, Arrange}
+use Rattle.camp_catch.specs.Arranging.{ArrangeSticks, ComesFirst, Align, AlignSticks}
 use Rattle.camp_catch.specs.Commuting.{CommuteCatch}
 use Rattle.camp_catch.specs.Merging.{MergeCatch}
 use Rattle.camp_catch.specs.MergingLists.{MergesWithAll, SticksWithin, MergeLists, MergeSticks, DoNotMerge}
@@ -19,7 +20,8 @@ GivesOnePair {X} {Y} Result = (x z : X) (y w : Y) → Result x y → Result z w 
 -- each relation on lists of catches has at most one result, and each failure one pair of labels
 pub record ListsAreUnique : Type 0 where
   pub comes_before : (list : List Catch) (k : Catch) → GivesOnePair (ComesBefore list k)
-  pub stops_at : (list : List Catch) (k : Catch) (on other : Key) → StopsAt list k on → StopsAt list k other → on ≡ other
+  pub stops_at :
+      (list : List Catch) (k : Catch) (on other : Key) → StopsAt list k on → StopsAt list k other → on ≡ other
   pub arranged : (names : List (List ℕ)) (list : List Catch) → GivesOnePair (Arrange names list)
   pub arrange_sticks : (names : List (List ℕ)) (list : List Catch) → GivesOnePair (ArrangeSticks names list)
   pub comes_first : (key : Key) (list : List Catch) → GivesOnePair (ComesFirst key list)
