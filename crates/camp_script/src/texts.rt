@@ -133,7 +133,8 @@ fn extend_by_signed_line(text: &mut Vec<u8>, line: &Line) -> Result<(), AllocErr
 {
     text.push(b'=')?;
     text.extend_from_slice(line.bytes())?;
-    Ok(text.push(b'\n')?)
+    text.push(b'\n')?;
+    Ok(())
 }
 
 // A line of words, one space between each two.

@@ -34,27 +34,21 @@ one_front label (p ∷ s) t u y z (inl v) (inl w) = (v.1 ∙ sym w.1, v.2 ∙ sy
 one_front label (p ∷ s) t u y z (inl v) (inr w) = absurd (w.0 v.0)
 one_front label (p ∷ s) t u y z (inr v) (inl w) = absurd (v.0 w.0)
 one_front label (p ∷ s) t u y z (inr v) (inr w) =
-    let a = v.1 in
-    let b = w.1 in
-    let rest = one_front label s a.2 b.2 a.0 b.0 a.3 b.3 in
-    let pair = swap_unique p b.0 y a.1 z b.1 (subst (λ x. Swap p x y a.1) rest.0 a.4) b.4 in
-    (pair.0, a.5 ∙ ap (λ x. x ∷ a.2) pair.1 ∙ ap (λ x. b.1 ∷ x) rest.1 ∙ sym b.5)
+    let rest = one_front label s v.1.2 w.1.2 v.1.0 w.1.0 v.1.3 w.1.3 in
+    let pair = swap_unique p w.1.0 y v.1.1 z w.1.1 (subst (λ x. Swap p x y v.1.1) rest.0 v.1.4) w.1.4 in
+    (pair.0, v.1.5 ∙ ap (λ x. x ∷ v.1.2) pair.1 ∙ ap (λ x. w.1.1 ∷ x) rest.1 ∙ sym w.1.5)
 
 pub one_parting : (labels : List Label) (s f t g u : List Named) → Parts labels s f t → Parts labels s g u → (f ≡ g) × (t ≡ u)
 one_parting labels [] f t g u v w = (v.0 ∙ sym w.0, v.1 ∙ sym w.1)
 one_parting labels (p ∷ s) f t g u (inl v) (inl w) =
-    let a = v.1 in
-    let b = w.1 in
-    let rest = one_parting labels s a.0 t b.0 u a.1 b.1 in
-    (a.2 ∙ ap (λ x. p ∷ x) rest.0 ∙ sym b.2, rest.1)
+    let rest = one_parting labels s v.1.0 t w.1.0 u v.1.1 w.1.1 in
+    (v.1.2 ∙ ap (λ x. p ∷ x) rest.0 ∙ sym w.1.2, rest.1)
 one_parting labels (p ∷ s) f t g u (inl v) (inr w) = absurd (w.0 v.0)
 one_parting labels (p ∷ s) f t g u (inr v) (inl w) = absurd (v.0 w.0)
 one_parting labels (p ∷ s) f t g u (inr v) (inr w) =
-    let a = v.1 in
-    let b = w.1 in
-    let rest = one_parting labels s a.0 a.1 b.0 b.1 a.3 b.3 in
-    let pass = one_pass p b.0 f g a.2 b.2 (subst (λ x. Passes p x f a.2) rest.0 a.4) b.4 in
-    (pass.0, a.5 ∙ ap (λ x. x ∷ a.1) pass.1 ∙ ap (λ x. b.2 ∷ x) rest.1 ∙ sym b.5)
+    let rest = one_parting labels s v.1.0 v.1.1 w.1.0 w.1.1 v.1.3 w.1.3 in
+    let pass = one_pass p w.1.0 f g v.1.2 w.1.2 (subst (λ x. Passes p x f v.1.2) rest.0 v.1.4) w.1.4 in
+    (pass.0, v.1.5 ∙ ap (λ x. x ∷ v.1.1) pass.1 ∙ ap (λ x. w.1.2 ∷ x) rest.1 ∙ sym w.1.5)
 
 -- the first element of a list with this label has it at the front too
 pub label-front : (label : Label) (s : List Named) (y : Named) (t : List Named) → Fronts label s y t → label_of y ≡ label

@@ -5,12 +5,14 @@
 //! the name of a call otherwise.
 #![tactic(auto)]
 
+mod contexts;
 mod fixtures;
 mod lists;
 mod notation;
 mod patches;
 mod records;
 mod runs;
+mod shares;
 mod stops;
 mod texts;
 mod trees;
@@ -65,22 +67,32 @@ fn make_calls(alloc: Global, part: Option<u8>) -> Result<(), Stop> {
 }
 
 fn make_calls_of(alloc: Global, part: u8) -> Result<(), Stop> {
+    if part == b'c' {
+        return shares::make_calls(alloc);
+    }
     if part == b't' {
         return trees::make_calls(alloc);
     }
     if part == b'p' {
         return patches::make_calls(alloc);
     }
+    make_calls_of_lists(alloc, part)
+}
+
+fn make_calls_of_lists(alloc: Global, part: u8) -> Result<(), Stop> {
     if part == b'l' {
         return lists::make_calls(alloc);
     }
-    make_further_calls_of(alloc, part)
-}
-
-fn make_further_calls_of(alloc: Global, part: u8) -> Result<(), Stop> {
+    if part == b'x' {
+        return contexts::make_calls(alloc);
+    }
     if part == b'n' {
         return notation::make_calls(alloc);
     }
+    make_calls_of_runs(alloc, part)
+}
+
+fn make_calls_of_runs(alloc: Global, part: u8) -> Result<(), Stop> {
     if part == b'r' {
         return records::make_calls(alloc);
     }
@@ -94,7 +106,7 @@ fn make_further_calls_of(alloc: Global, part: u8) -> Result<(), Stop> {
 }
 
 fn make_all_calls(alloc: Global) -> Result<(), Stop> {
-    for part in b"tplnrsu" {
+    for part in b"ctplxnrsu" {
         make_calls_of(alloc, *part)?;
     }
     Ok(())
