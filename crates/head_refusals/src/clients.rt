@@ -28,8 +28,8 @@ fn four_sections(alloc: Global) -> Result<Sections, AllocError> {
     let mut sections = Vec::with_capacity(alloc, 4)?;
     sections.push(section(alloc, &[Insert(5), Insert(3)])?)?;
     sections.push(Vec::new(alloc))?;
-    sections.push(section(alloc, &[Insert(5), Insert(4), Show])?)?;
-    sections.push(section(alloc, &[Insert(6), Insert(7)])?)?;
+    sections.push(section(alloc, &[Insert(4)])?)?;
+    sections.push(section(alloc, &[Insert(5), Show, Insert(6)])?)?;
     Ok(sections)
 }
 
@@ -38,17 +38,17 @@ fn are_in_turn(answers: &[Answers<Numbers>]) -> bool {
     let [opening, none, first, second] = answers else {
         return false;
     };
-    let [refused, done, shown] = first.as_slice() else {
+    let [refused, shown, done] = second.as_slice() else {
         return false;
     };
     let is_shown =
         matches!(shown, Ok(Shown(numbers)) if numbers.as_slice() == [5, 3, 4].as_slice());
     opening.as_slice() == [Ok(Done(1)), Ok(Done(2))].as_slice()
         && none.is_empty()
+        && first.as_slice() == [Ok(Done(3))].as_slice()
         && *refused == Ok(Present)
-        && *done == Ok(Done(3))
         && is_shown
-        && second.as_slice() == [Ok(Done(4)), Ok(Done(5))].as_slice()
+        && *done == Ok(Done(4))
 }
 
 /// Sections one after the other.
@@ -80,7 +80,7 @@ pub(crate) fn run_locked<R: Threads + Wait + Sync>(
             lock_once(rt, alloc, &sections)?.ok_or(Stop::Wrong("locked"))?
         }
     };
-    expect(run.book.history().len() == 5, "locked")?;
+    expect(run.book.history().len() == 4, "locked")?;
     expect(run.answers.len() == 4, "locked")
 }
 
@@ -98,19 +98,19 @@ fn lock_once<R: Threads + Wait + Sync>(
     }
 }
 
-/// Lets seat 3 begin when seat 2 has ended its three calls.
+/// Lets seat 3 begin when seat 2 has ended its call.
 #[derive(Drop)]
 struct InTurn {
     has_ended: AtomicU64,
 }
 
 impl Gate for InTurn {
-    // It gives up after a while: seat 2 ends before its third call where it wants memory.
+    // It gives up after a while: seat 2 never begins where its thread wants memory before.
     fn before(&self, seat: u32, call: u32) {
         if seat != 3 || call > 0 {
             return;
         }
-        for _ in 0..100_000u32 {
+        for _ in 0..2_000_000u32 {
             if self.has_ended.load(Ordering::SeqCst) == 1 {
                 return;
             }
@@ -120,8 +120,8 @@ impl Gate for InTurn {
 
     fn exchange(&self, _seat: u32, _lost: u32) {}
 
-    fn after(&self, seat: u32, call: u32) {
-        if seat == 2 && call == 2 {
+    fn after(&self, seat: u32, _call: u32) {
+        if seat == 2 {
             self.has_ended.store(1, Ordering::SeqCst);
         }
     }
@@ -141,7 +141,7 @@ pub(crate) fn run_shared<R: Threads + Wait + Sync>(
             share_once(rt, alloc, &sections)?.ok_or(Stop::Wrong("shared"))?
         }
     };
-    expect(run.history.len() == 5, "shared")?;
+    expect(run.history.len() == 4, "shared")?;
     expect(are_in_turn(&run.answers), "shared")
 }
 
