@@ -1,8 +1,8 @@
 -- Lemmas on lists that go side by side.
-use Rattle.std.proofs.Common.{◌≡◌, ℕ, ◌+◌, ◌<◌, suc, zero, List, [], ◌∷◌, ◌++◌, length, take, get_or, Result, Ok, IfOk, refl, ◌∙◌, ap, subst, add-one, arith}
+use Rattle.std.proofs.Common.{◌≡◌, ℕ, ◌+◌, ◌<◌, suc, zero, List, [], ◌∷◌, ◌++◌, length, take, get_or, Result, Ok, IfOk, refl, sym, ◌∙◌, ap, subst, add-one, arith}
 use Rattle.std.specs.List.{All, AllZip, remove}
 use Rattle.std.specs.Prelude.{OnOk, is_err, false, Err}
-use Rattle.std.proofs.lemmas.List.{take_more, get_or-map}
+use Rattle.std.proofs.lemmas.List.{take_more, get_or-map, append_assoc, append-nil}
 use Rattle.std.specs.Prelude.{Vec, vec_items}
 use Rattle.camp_clients.specs.Gathering.{Gathers}
 use Rattle.camp_clients.specs.Runs.{lists_of, section_of}
@@ -31,17 +31,33 @@ module _ {A B : Type 0} (R : A → B → Type 0) where
   zip_at (a ∷ xs) (b ∷ ys) zero d e below all = all.0
   zip_at (a ∷ xs) (b ∷ ys) (suc i) d e below all = zip_at xs ys i d e (omega arith) all.1
 
+-- nothing was brought yet
+pub gathers_none : {Own Fault : Type 0} (first : List Own) → Gathers {Fault = Fault} first [] first
+gathers_none first = record { others = []; begins = sym (append-nil first); brought = tt }
+
+-- what was there first, by another name
+pub gathers_here : {Own Fault : Type 0} {here first : List Own} {made : List (Result Own Fault)} {all : List Own}
+    → here ≡ first → Gathers here made all → Gathers first made all
+gathers_here {made = made} {all = all} is gathers = subst (λ list. Gathers list made all) is gathers
+
+-- what threads brought, where nothing was there first
+pub gathered_alone : {Own Fault : Type 0} (first : List Own) (made : List (Result Own Fault)) (all : List Own)
+    → first ≡ [] → Gathers first made all → AllZip (λ one own. one ≡ Ok own) made all
+gathered_alone first made all none gathers =
+    let is : all ≡ gathers.others = gathers.begins ∙ ap (λ list. list ++ gathers.others) none in
+    subst (λ list. AllZip (λ one own. one ≡ Ok own) made list) (sym is) gathers.brought
+
 -- one thread more
-pub gathers_push : {Own Fault : Type 0} (first : Own) (made : List (Result Own Fault)) (all : List Own) (one : Result Own Fault) (own : Own)
+pub gathers_push : {Own Fault : Type 0} (first : List Own) (made : List (Result Own Fault)) (all : List Own) (one : Result Own Fault) (own : Own)
     → Gathers first made all → one ≡ Ok own → Gathers first (made ++ one ∷ []) (all ++ own ∷ [])
 gathers_push first made all one own so_far is = record {
   others = so_far.others ++ own ∷ [];
-  begins = ap (λ x. x ++ own ∷ []) so_far.begins;
+  begins = ap (λ x. x ++ own ∷ []) so_far.begins ∙ append_assoc first so_far.others (own ∷ []);
   brought = zip_push (λ one own. one ≡ Ok own) made so_far.others one own so_far.brought is;
 }
 
 -- what holds of the first answers, and of each that a thread brought, holds of all
-module _ {X Z Fault : Type 0} (first : Vec X Z) (made : List (Result (Vec X Z) Fault)) (all : List (Vec X Z)) (gathers : Gathers first made all) where
+module _ {X Z Fault : Type 0} (first : Vec X Z) (made : List (Result (Vec X Z) Fault)) (all : List (Vec X Z)) (gathers : Gathers (first ∷ []) made all) where
   pub gathered_length : length all ≡ length made + 1
   gathered_length = ap length gathers.begins ∙ omega (arith, zip_length (λ one own. one ≡ Ok own) made gathers.others gathers.brought)
 

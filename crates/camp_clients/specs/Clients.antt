@@ -16,7 +16,8 @@ sight_of head = record {
 }
 
 -- a client that can begin: its seat is one of the head, there is a section for it, and it has no calls yet
-pub record IsReady {Call Reply : Type 0} (head : HeadId) (sections : ℕ) (client : Client (Seated Call) Reply) : Type 0 where
+pub record IsReady {Call Reply : Type 0} (head : HeadId) (sections : ℕ) (client : Client (Seated Call) Reply)
+    : Type 0 where
   pub is_seat : IsSeatOf head client.seat
   pub has_section : client.seat.known.number < sections
   pub none_own : own client.seat.known.number (history_of client.seat) ≡ []

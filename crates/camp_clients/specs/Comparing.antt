@@ -1,4 +1,5 @@
--- Words for comparing a history with answers, entry by entry: a place in each section, up to which its calls were found.
+-- Words for comparing a history with answers, entry by entry: a place in each section, up to which its calls were
+-- found.
 use Rattle.std.specs.Prelude.{◌≡◌, ℕ, ◌<◌, List, ◌∷◌, ◌++◌, length, drop, slice_index_or, slice_set, Option}
 use Rattle.camp_clients.specs.Positions.{own_at, done_at}
 use Rattle.camp_clients.specs.Runs.{section_of}

@@ -8,7 +8,8 @@ use Rattle.camp_clients.specs.Answers.{Asks}
 use Rattle.camp_clients.specs.Sections.{Section}
 use Rattle.camp_clients.specs.Runs.{section_of}
 
--- what proofs see of a client: the number of its seat, what that has seen, whether it is one of the head, and its answers
+-- what proofs see of a client: the number of its seat, what that has seen, whether it is one of the head, and its
+-- answers
 pub record Sight (Client Call Answer : Type 0) : Type 1 where
   pub number : Client → ℕ
   pub seen : Client → List (ℕ × Call)
@@ -43,9 +44,9 @@ abbrev pub caller_of : (tries per_seat number : ℕ) → Caller
 caller_of tries per_seat number = record { seat = number; tries = tries; per_seat = per_seat; alone = false }
 
 -- a client asked its section
-pub record Ran {State Call Reply Client : Type 0} (object : Sequential State Call Reply) (sight : Sight Client Call (Result Reply Fault))
-    (tries per_seat : ℕ) (sections : List (List Call)) (before after : Client) : Type 0 where
+pub record Ran {State Call Reply Client : Type 0} (object : Sequential State Call Reply)
+    (sight : Sight Client Call (Result Reply Fault)) (tries per_seat : ℕ) (sections : List (List Call)) (before after : Client) : Type 0 where
   pub is_seat : sight.is_seat after
   pub number : sight.number after ≡ sight.number before
-  pub section : Section (Asks object (caller_of tries per_seat (sight.number before))) (sight.seen before) (section_of sections (sight.number before))
-      (sight.answers after) (sight.seen after)
+  pub section : Section (Asks object (caller_of tries per_seat (sight.number before))) (sight.seen before)
+      (section_of sections (sight.number before)) (sight.answers after) (sight.seen after)

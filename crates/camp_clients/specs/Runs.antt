@@ -1,5 +1,6 @@
 -- Runs of several sections of calls over one object, section k for seat k.
-use Rattle.std.specs.Prelude.{◌≡◌, ℕ, ◌+◌, ◌<◌, List, [], ◌∷◌, length, map, slice_index_or, Option, Result, Ok, Err, MatchOption, Vec, vec_items}
+use Rattle.std.specs.Prelude.{◌≡◌, ℕ, ◌+◌, ◌<◌, List, [], ◌∷◌, length, map, slice_index_or, Option}
+use Rattle.std.specs.Prelude.{Result, Ok, Err, MatchOption, Vec, vec_items}
 use Rattle.std.specs.List.{All, AllZip}
 use Rattle.camp_object.specs.Histories.{IsFront, IsAnswered, IsLegal}
 use Rattle.camp_object.specs.Objects.{Sequential}
@@ -39,7 +40,8 @@ OneByOne {State} {Call} object seat first (calls ∷ sections) (answers ∷ othe
     × OneByOne object (seat + 1) next sections others last
 
 -- an answer under a lock: done, or the object's at some legal history
-abbrev pub SaysSomewhere : {State Call Reply : Type 0} → Sequential State Call Reply → Call → Result Reply Fault → Type 0
+abbrev pub SaysSomewhere : {State Call Reply : Type 0} → Sequential State Call Reply → Call → Result Reply Fault
+    → Type 0
 SaysSomewhere {State} {Call} object call (Ok reply) =
     MatchOption (object.done_at reply) ((front : List (ℕ × Call)) × IsAnswered object front call reply) (λ at. Unit {0})
 SaysSomewhere object call (Err fault) = ⊥

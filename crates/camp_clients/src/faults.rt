@@ -1,7 +1,7 @@
 ghost use Rattle.std.specs.Prelude.{◌≡◌};
 ghost use Rattle.camp_clients.specs.declared.faults.LockFault.TheVariants as fault;
 
-use std::alloc::AllocError;
+use std::alloc::{AllocError, AllocFailed};
 use thiserror::Error;
 
 /// Why a run over a lock came to nothing.
@@ -18,6 +18,14 @@ impl From<AllocError> for LockFault {
     ghost from_gives = { λ _ result. result ≡ fault.Memory };
 
     fn from(_error: AllocError) -> LockFault {
+        LockFault::Memory
+    }
+}
+
+impl<T: Drop> From<AllocFailed<T>> for LockFault {
+    ghost from_gives = { λ _ result. result ≡ fault.Memory };
+
+    fn from(_error: AllocFailed<T>) -> LockFault {
         LockFault::Memory
     }
 }

@@ -10,7 +10,7 @@ ghost use Rattle.camp_clients.specs.Meeting.{AreNew, IsMet, Meets, Ran};
 ghost use Rattle.camp_clients.specs.Runs.{IsShared, lists_of};
 ghost use Rattle.camp_clients.specs.Sections.{Section};
 
-use crate::sections::{Answers, ask_all};
+use crate::sections::{Answers, ask_all, gather};
 use camp_history::{Gate, Head, HeadDesk, Seat};
 use camp_object::{Fault, Object};
 use std::alloc::{AllocError, Global};
@@ -200,18 +200,7 @@ where
                 (head.entry.now.tries) (head.entry.now.row.per_seat) (lists_of sections.entry.now) client ran) }
         { run_client::<R, State, G>(rt, alloc, head, gate, sections, client) },
     )?;
-    granted(alloc, made)
-}
-
-/// All values, or want of memory where one was not made for it.
-fn granted<X: Drop>(alloc: Global, made: Vec<Result<X, AllocError>>) -> Result<Vec<X>, AllocError>
-    ensures { IfOk result (λ all. AllZip (λ one own. one ≡ Ok own) made.items all.items) }
-{
-    let mut all = Vec::with_capacity(alloc, made.len())?;
-    for one in made {
-        all.push(one?)?;
-    }
-    Ok(all)
+    gather(Vec::new(alloc), made)
 }
 
 /// The answers to all sections.

@@ -2,13 +2,12 @@ ghost use Rattle.std.specs.Prelude.{◌≡◌, ℕ, ◌+◌, ◌<◌, ◌≤◌,
 ghost use Rattle.std.specs.List.{AllZip};
 ghost use Rattle.std.specs.Thread.{IsSync};
 ghost use Rattle.camp_clients.specs.Answers.{HasMemory};
-ghost use Rattle.camp_clients.specs.Gathering.{Gathers};
 ghost use Rattle.camp_clients.specs.Runs.{IsLocked, SaysSomewhere, lists_of, section_of};
 
 use crate::comparisons::has_exactly;
 use crate::faults::LockFault;
 use crate::one_by_one::BookRun;
-use crate::sections::{Answers, unless_memory};
+use crate::sections::{Answers, gather, unless_memory};
 use camp_object::{Book, Fault, Object};
 use std::alloc::{AllocError, Global};
 use std::sync::{Mutex, Wait};
@@ -31,8 +30,9 @@ where
 {
     let lock = Mutex::new(Book::<State>::new(alloc)?);
     let opening = ask_locked::<R, State>(rt, alloc, &lock, 0, &sections[0])?;
+    let first = vec![in alloc; opening]?;
     let clients = in_threads::<R, State>(rt, alloc, &lock, sections)?;
-    let answers = gather::<State>(alloc, opening, clients)?;
+    let answers = gather(first, clients)?;
     let book = lock.into_inner();
     if !has_exactly::<State>(book.history(), sections, &answers) {
         return Err(LockFault::Foreign);
@@ -66,22 +66,6 @@ where
                 AllZip (SaysSomewhere State.object) (section_of (lists_of sections.entry.now) (k + 1)) answers.items) }
         { ask_locked::<R, State>(rt, alloc, lock, k as u32 + 1, &sections[k + 1]) },
     )
-}
-
-/// The answers of all sections, or want of memory where one of them wanted it.
-fn gather<State: Object>(
-    alloc: Global,
-    opening: Answers<State>,
-    made: Vec<Result<Answers<State>, AllocError>>,
-) -> Result<Vec<Answers<State>>, AllocError>
-    ensures { IfOk result (λ all. Gathers opening made.items all.items) }
-{
-    let mut all = Vec::with_capacity(alloc, made.len() + 1)?;
-    all.push(opening)?;
-    for own in made {
-        all.push(own?)?;
-    }
-    Ok(all)
 }
 
 /// Asks a section of calls, each under the lock.

@@ -2,6 +2,7 @@ ghost use Rattle.std.specs.Prelude.{◌≡◌, ◌+◌, ◌≤◌, false, length
 ghost use Rattle.camp_object.specs.declared.faults.Fault.TheVariants as fault;
 ghost use Rattle.camp_object.specs.Histories.{IsFront, own};
 ghost use Rattle.camp_clients.specs.Answers.{Asks, HasMemory};
+ghost use Rattle.camp_clients.specs.Gathering.{Gathers};
 ghost use Rattle.camp_clients.specs.Sections.{Section};
 
 use camp_object::{Desk, Fault, Object};
@@ -42,4 +43,19 @@ pub(crate) fn unless_memory<Reply>(
         Err(Fault::Memory) => Err(AllocError),
         other => Ok(other),
     }
+}
+
+/// What was there first, and behind it what each thread brought; or want of memory where one wanted it.
+pub(crate) fn gather<X: Drop>(
+    first: Vec<X>,
+    made: Vec<Result<X, AllocError>>,
+) -> Result<Vec<X>, AllocError>
+    ensures { IfOk result (λ all. Gathers first.items made.items all.items) }
+{
+    let mut all = first;
+    all.reserve(made.len())?;
+    for own in made {
+        all.push(own?)?;
+    }
+    Ok(all)
 }

@@ -5,12 +5,12 @@ use Rattle.boxcar.specs.Table.{Where, Shows}
 use Rattle.camp_object.specs.Objects.{Sequential, IsLawful}
 use Rattle.camp_object.specs.Histories.{IsFront, replay, IsLegal, IsAccepted, own}
 use Rattle.camp_object.specs.Deciding.{Decides}
-use Rattle.camp_object.specs.Asking.{Caller, Ask, AddsNothing, Loses}
+use Rattle.camp_object.specs.Asking.{Caller, Ask, AddsNothing, Loses, IsNotBusy}
 use Rattle.camp_object.specs.declared.objects.Decided.TheVariants.{Next, Answer}
 use Rattle.camp_object.specs.declared.faults.Fault.{Fault}
 use Rattle.camp_object.proofs.Fronts.{front_self}
 use Rattle.camp_object.proofs.Replays.{replay_accepted, accepted_at, some_is_some}
-use Rattle.camp_object.proofs.Asks.{ask_done, ask_since, loses_more}
+use Rattle.camp_object.proofs.Asks.{ask_done, ask_since, loses_more, never_busy_among_own}
 use Rattle.camp_history.specs.Seats.{HeadId, Seated, asked, history_of, IsSeatOf, caller_at}
 use Rattle.camp_history.specs.Inside.Steps.{entry_of, entries_of, DecidesAt, SeesMore, FindsMore, Publishes, LosesOne}
 use Rattle.camp_history.specs.declared.marks.Mark.{Mark}
@@ -95,3 +95,14 @@ loses_again object head call times start old lost new loses one more whole =
     let ahead = sees_ahead one.finds more whole in
     let again : Loses object call (suc times) (history_of start) (history_of new) = loses_more object call times (history_of start) (history_of old) (history_of new) (asked ahead.0) loses one.accepted ahead.1 in
     rw add-one again
+
+-- at a head of one seat nobody else asks
+pub one_seat_not_busy : {State Call Reply : Type 0} (object : Sequential State Call Reply) (head : HeadId) (old new : Seated Call) (call : Call) (answer : Result Reply Fault)
+    → 0 < head.tries → IsSeatOf head new → caller_at head new ≡ caller_at head old
+    → new.known.number < new.known.row.seats → All (λ entry. entry.0 < new.known.row.seats) (history_of new)
+    → Ask object (caller_at head old) (history_of old) call answer (history_of new) → head.row.seats ≡ 1 → IsNotBusy answer
+one_seat_not_busy object head old new call answer tries of same below all_below ask one =
+    let row : new.known.row.seats ≡ 1 = ap (λ row. row.seats) of.row ∙ one in
+    let number : new.known.number ≡ old.known.number = ap (λ caller. caller.seat) same in
+    never_busy_among_own object (caller_at head old) (history_of old) call answer (history_of new) tries
+    (λ k d within. let one_below = all_below k d within in omega arith) ask

@@ -18,7 +18,8 @@ abbrev pub seat_at : {Call : Type 0} → HeadId → ℕ → Seated Call
 seat_at head number = unseen (newcomer head.row number)
 
 -- a head of these numbers, with its seats, numbered from 0, none of which has seen anything
-pub record IsOpened {Call : Type 0} (seats per_seat tries : ℕ) (head : HeadId) (made : List (Seated Call)) : Type 0 where
+pub record IsOpened {Call : Type 0} (seats per_seat tries : ℕ) (head : HeadId) (made : List (Seated Call))
+    : Type 0 where
   pub has_seats : head.row.seats ≡ seats
   pub has_calls : head.row.per_seat ≡ per_seat
   pub has_tries : head.tries ≡ tries
@@ -26,7 +27,9 @@ pub record IsOpened {Call : Type 0} (seats per_seat tries : ℕ) (head : HeadId)
   pub are_seats : All (IsSeatOf head) made
 
 -- a fault of the numbers comes exactly where one is out of its range
-abbrev pub Opens : {Made Call : Type 0} → (Made → HeadId) → (Made → List (Seated Call)) → ℕ → ℕ → ℕ → ℕ → Result Made HeadFault → Type 0
-Opens head all seats per_seat tries every (Ok made) = IsInRange seats per_seat tries every × IsOpened seats per_seat tries (head made) (all made)
+abbrev pub Opens : {Made Call : Type 0} → (Made → HeadId) → (Made → List (Seated Call)) → (seats per_seat tries every : ℕ)
+    → Result Made HeadFault → Type 0
+Opens head all seats per_seat tries every (Ok made) =
+    IsInRange seats per_seat tries every × IsOpened seats per_seat tries (head made) (all made)
 Opens head all seats per_seat tries every (Err BadSize) = ¬ (IsInRange seats per_seat tries every)
 Opens head all seats per_seat tries every (Err Memory) = IsInRange seats per_seat tries every

@@ -36,4 +36,5 @@ pub record IsSeatOf {Call : Type 0} (head : HeadId) (seat : Seated Call) : Type 
 
 -- who asks at a seat of a head, and under which bounds; others may add to the history
 abbrev pub caller_at : {Call : Type 0} → HeadId → Seated Call → Caller
-caller_at head seat = record { seat = seat.known.number; tries = head.tries; per_seat = head.row.per_seat; alone = false }
+caller_at head seat =
+    record { seat = seat.known.number; tries = head.tries; per_seat = head.row.per_seat; alone = false }

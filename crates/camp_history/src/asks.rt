@@ -1,7 +1,7 @@
 //! How a call is answered at a seat.
 ghost use Rattle.std.specs.Prelude.{◌≡◌, false};
 ghost use Rattle.boxcar.specs.Table.{Shows};
-ghost use Rattle.camp_object.specs.Asking.{Ask};
+ghost use Rattle.camp_object.specs.Asking.{Ask, IsNotBusy};
 
 use crate::gates::{Gate, NoGate};
 use crate::heads::Head;
@@ -22,6 +22,7 @@ impl<State: Object> Head<State> {
         ensures seat { IsSeatOf self.now seat.new }
         ensures caller { caller_at self.now seat.new ≡ caller_at self.now seat.old }
         ensures asks { Ask State.object (caller_at self.now seat.old) (history_of seat.old) kept.call result (history_of seat.new) }
+        ensures one_seat { self.now.row.seats ≡ 1 → IsNotBusy result }
     {
         self.ask_at(seat, kept, &NoGate)
     }
@@ -38,11 +39,15 @@ impl<State: Object> Head<State> {
         ensures seat { IsSeatOf self.now seat.new }
         ensures caller { caller_at self.now seat.new ≡ caller_at self.now seat.old }
         ensures asks { Ask State.object (caller_at self.now seat.old) (history_of seat.old) kept.call result (history_of seat.new) }
+        ensures one_seat { self.now.row.seats ≡ 1 → IsNotBusy result }
     {
-        match kept.place {
+        let _tries = self.tries;
+        let answer = match kept.place {
             Place::Here(call) => self.ask_question(seat, &call),
             Place::Stored(call) => self.ask_writing(seat, &call, gate),
-        }
+        };
+        seat.is_whole();
+        answer
     }
 
     fn ask_question(

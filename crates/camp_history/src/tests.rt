@@ -12,6 +12,8 @@ use std::test::Fail;
 
 type Numbered = (Head<Numbers>, Seat<Numbers>, Seat<Numbers>);
 
+type Seated = (Head<Numbers>, Seat<Numbers>, Seat<Numbers>, Seat<Numbers>);
+
 /// The last two seats of a head, the last one first.
 fn last_two(head: Head<Numbers>, mut seats: Vec<Seat<Numbers>>) -> Option<Numbered>
     requires { All (IsSeatOf head) seats.items }
@@ -81,6 +83,45 @@ fn a_seat_that_met_another_has_seen_its_calls(rt: HostRuntime) -> Result<(), Fai
     assert!(rt; shows(&rt, &head, &mut one, &[5]));
     ask_each(&rt, &head, &mut one, &[(Insert(5), Ok(Present))]);
     assert!(rt; one.accepted() == 0 && zero.number() == 0 && one.number() == 1);
+    Ok(())
+}
+
+/// The seats of a head, from number 0 on.
+fn three_of(head: Head<Numbers>, mut seats: Vec<Seat<Numbers>>) -> Option<Seated>
+    requires { All (IsSeatOf head) seats.items }
+    ensures { IfSome result (λ r. IsSeatOf r.0 r.1 × IsSeatOf r.0 r.2 × IsSeatOf r.0 r.3) }
+{
+    let two = seats.pop()?;
+    let one = seats.pop()?;
+    let zero = seats.pop()?;
+    Some((head, zero, one, two))
+}
+
+/// A head with three seats.
+fn three_seats(alloc: Global) -> Result<Seated, Fail>
+    ensures { IfOk result (λ r. IsSeatOf r.0 r.1 × IsSeatOf r.0 r.2 × IsSeatOf r.0 r.3) }
+{
+    let (head, seats) = Head::<Numbers>::new(alloc, 3, 2, 5, 0)?;
+    match three_of(head, seats) {
+        Some(made) => Ok(made),
+        None => Err("fewer than three seats")?,
+    }
+}
+
+#[test]
+fn three_seats_share_one_history(rt: HostRuntime) -> Result<(), Fail> {
+    let (head, mut zero, mut one, mut two) = three_seats(rt.alloc())?;
+    ask_each(&rt, &head, &mut zero, &[(Insert(5), Ok(Done(1)))]);
+    ask_each(&rt, &head, &mut one, &[(Insert(3), Ok(Done(2)))]);
+    assert!(rt; one.position() == 2 && one.accepted() == 1);
+    let told = head.history(&one)?;
+    assert!(rt; told.as_slice() == [(0, Insert(5)), (1, Insert(3))].as_slice());
+    assert!(rt; two.position() == 0 && head.history(&two)?.is_empty());
+    assert!(rt; shows(&rt, &head, &mut two, &[5, 3]) && two.position() == 2);
+    let (zero, one, met) = head.meet(zero, one);
+    assert!(rt; met.is_ok() && zero.position() == 2);
+    let (one, _zero, met) = head.meet(one, zero);
+    assert!(rt; met.is_ok() && one.position() == 2);
     Ok(())
 }
 

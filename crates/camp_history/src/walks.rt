@@ -1,5 +1,5 @@
 //! How a seat moves along the row.
-ghost use Rattle.std.specs.Prelude.{◌≡◌, ◌<◌, ◌+◌, ◌++◌, [], ◌∷◌, length, slice_get, Some, IfOk, OnOk, OnErr, MatchOption, MatchResult, MatchBool};
+ghost use Rattle.std.specs.Prelude.{◌≡◌, ◌<◌, ◌+◌, ◌++◌, [], ◌∷◌, length, slice_get, All, Some, IfOk, OnOk, OnErr, MatchOption, MatchResult, MatchBool};
 ghost use Rattle.boxcar.specs.Table.{Shows};
 
 use crate::gates::Gate;
@@ -22,8 +22,11 @@ impl<State: Object> Seat<State> {
         ensures places { entries_of self.now ≡ self.now.known.seen }
         ensures legal { IsLegal State.object (history_of self.now) }
         ensures sound { IsSound self.now.known }
+        ensures below { self.now.known.number < self.now.known.row.seats }
+        ensures seats_below { All (λ entry. entry.0 < self.now.known.row.seats) (history_of self.now) }
     {
-        let _number = self.pass.number();
+        let _pass_number = self.pass.number();
+        let _number = self.number();
     }
 
     /// Finds the chain as it is now.

@@ -1,14 +1,15 @@
 -- How an answer is shown to say what it says of the history.
-use Rattle.std.proofs.Common.{◌≡◌, ℕ, zero, suc, ◌<◌, Bool, true, false, List, [], ◌∷◌, ◌++◌, length, Option, Some, None, MatchOption, Result, Ok, Err, refl, sym, ◌∙◌, ap, subst, is_some}
+use Rattle.std.proofs.Common.{◌≡◌, ℕ, zero, suc, ◌+◌, ◌<◌, ◌≤◌, All, arith, Bool, true, false, List, [], ◌∷◌, ◌++◌, length, Option, Some, None, MatchOption, Result, Ok, Err, refl, sym, ◌∙◌, ap, subst, is_some}
 use Rattle.std.specs.Option.{option_and_then}
 use Rattle.std.proofs.lemmas.Option.{option_and_then_some}
 use Rattle.camp_object.specs.Objects.{Sequential, IsLawful}
 use Rattle.camp_object.specs.Histories.{IsFront, replay, IsLegal, IsAccepted, IsAnswered, own}
-use Rattle.camp_object.specs.Asking.{Caller, alone_at, Accepts, AddsNothing, Loses, Says, Ask}
+use Rattle.camp_object.specs.Asking.{Caller, alone_at, Accepts, AddsNothing, Loses, Says, Ask, IsNotBusy}
 use Rattle.camp_object.specs.declared.faults.Fault.TheVariants.{Memory, Busy, Full}
 use Rattle.camp_object.specs.declared.faults.Fault.{Fault}
-use Rattle.camp_object.proofs.Fronts.{front_longer, front_front}
-use Rattle.camp_object.proofs.Replays.{own_mine, replay_more, some_is_some, state_of_legal}
+use Rattle.std.proofs.lemmas.List.{length_push}
+use Rattle.camp_object.proofs.Fronts.{front_longer, front_front, length-front}
+use Rattle.camp_object.proofs.Replays.{own_mine, length-own-within, length-own-all, replay_more, some_is_some, state_of_legal}
 
 -- a call that was accepted after what stands before it
 pub ask_done : {State Call Reply : Type 0} (object : Sequential State Call Reply) → IsLawful object → (caller : Caller) (seen before now : List (ℕ × Call)) (call : Call) (at : ℕ) (reply : Reply)
@@ -127,3 +128,27 @@ module _ {State Call Reply : Type 0} (object : Sequential State Call Reply) (cal
 
   pub ask_since : (answer : Result Reply Fault) → Ask object caller mid call answer now → Ask object caller seen call answer now
   ask_since answer ask = record { grows = front_front since ask.grows; legal = ask.legal; says = says_since answer ask.says }
+
+-- each lost exchange lengthened the history
+pub loses_length : {State Call Reply : Type 0} (object : Sequential State Call Reply) (call : Call) (times : ℕ) (seen now : List (ℕ × Call))
+    → Loses object call times seen now → length seen + times ≤ length now
+loses_length object call zero seen now begins = let within = length-front begins in omega arith
+loses_length object call (suc times) seen now loses =
+    let within = length-front loses.2 in
+    let longer = length_push loses.0 loses.1 in
+    let further = loses_length object call times (loses.0 ++ loses.1 ∷ []) now loses.4 in
+    omega arith
+
+-- where every call is the caller's own, no exchange is lost
+pub never_busy_among_own : {State Call Reply : Type 0} (object : Sequential State Call Reply) (caller : Caller) (seen : List (ℕ × Call)) (call : Call) (answer : Result Reply Fault) (now : List (ℕ × Call))
+    → 0 < caller.tries → All (λ entry. entry.0 ≡ caller.seat) now → Ask object caller seen call answer now → IsNotBusy answer
+never_busy_among_own object caller seen call (Ok reply) now tries all ask = tt
+never_busy_among_own object caller seen call (Err Memory) now tries all ask = tt
+never_busy_among_own object caller seen call (Err (Busy lost)) now tries all ask =
+    let stays = ap length ask.says.adds_nothing.own_stays in
+    let lengthened = loses_length object call lost seen now ask.says.loses in
+    let mine = length-own-all caller.seat now all in
+    let within = length-own-within caller.seat seen in
+    let all_lost = ask.says.all_lost in
+    absurd (omega arith)
+never_busy_among_own object caller seen call (Err Full) now tries all ask = tt

@@ -1,9 +1,10 @@
 -- Lemmas on histories: their replay, and the calls of one seat in them.
-use Rattle.std.proofs.Common.{◌≡◌, ℕ, ◌+◌, Bool, true, false, List, [], ◌∷◌, ◌++◌, length, Option, None, Some, refl, sym, ◌∙◌, ap, arith, IsSome, is_some, ◌==◌, ◌≢◌, eq-eqb, if◌then◌else◌}
+use Rattle.std.proofs.Common.{◌≡◌, ℕ, ◌+◌, Bool, true, false, List, [], ◌∷◌, ◌++◌, length, All, suc, ◌≤◌, Option, None, Some, refl, sym, ◌∙◌, ap, arith, IsSome, is_some, ◌==◌, ◌≢◌, eq-eqb, if◌then◌else◌}
 use Rattle.std.specs.Option.{option_and_then}
 use Rattle.std.proofs.lemmas.Bool.{ne_eqb}
 use Rattle.std.proofs.lemmas.Option.{option_and_then_some, same_Some}
 use Rattle.std.proofs.lemmas.List.{append-nil}
+use Rattle.std.proofs.lemmas.List.Elements.{All-tail}
 use Rattle.camp_object.specs.Objects.{Sequential, IsLawful}
 use Rattle.camp_object.specs.Histories.{IsFront, run, replay, IsLegal, IsAccepted, own}
 
@@ -79,3 +80,21 @@ own_mine seat history call =
 pub own_other : {Call : Type 0} (seat other : ℕ) (history : List (ℕ × Call)) (call : Call) → other ≢ seat → own seat (history ++ (other, call) ∷ []) ≡ own seat history
 own_other seat other history call differ =
     own-append seat history ((other, call) ∷ []) ∙ ap (λ (b : Bool). own seat history ++ (if b then call ∷ [] else [])) (ne_eqb other seat differ) ∙ append-nil (own seat history)
+
+-- a seat has no more calls than there are
+pub length-own-within : {Call : Type 0} (seat : ℕ) (history : List (ℕ × Call)) → length (own seat history) ≤ length history
+length-own-within seat [] = omega arith
+length-own-within seat (entry ∷ history) =
+    let further = length-own-within seat history in
+    elim (entry.0 == seat) as (λ b. length (if b then entry.1 ∷ own seat history else own seat history) ≤ length (entry ∷ history)) [
+      | true ↦ omega arith
+      | false ↦ omega arith
+    ]
+
+-- and as many where no other seat has one
+pub length-own-all : {Call : Type 0} (seat : ℕ) (history : List (ℕ × Call)) → All (λ entry. entry.0 ≡ seat) history → length (own seat history) ≡ length history
+length-own-all seat [] all = refl
+length-own-all seat (entry ∷ history) all =
+    let here : entry.0 ≡ seat = all 0 entry (omega arith) in
+    let further = length-own-all seat history (All-tail (λ entry. entry.0 ≡ seat) entry history all) in
+    ap (λ (b : Bool). length (if b then entry.1 ∷ own seat history else own seat history)) (eq-eqb entry.0 seat here) ∙ ap suc further

@@ -78,3 +78,10 @@ module _ {State Call Reply : Type 0} (object : Sequential State Call Reply)
     pub grows : IsFront seen now
     pub legal : IsLegal object now
     pub says : Says answer now
+
+-- the caller is not told that the object is busy
+abbrev pub IsNotBusy : {Reply : Type 0} → Result Reply Fault → Type 0
+IsNotBusy (Ok reply) = Unit {0}
+IsNotBusy (Err Memory) = Unit {0}
+IsNotBusy (Err (Busy lost)) = ⊥
+IsNotBusy (Err Full) = Unit {0}

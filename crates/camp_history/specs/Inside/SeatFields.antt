@@ -11,7 +11,8 @@ abbrev pub seated : {State Call Reply : Type 0} → Inside State Call Reply → 
 seated seat = record { known = seat.pass; marks = seat.marks.items }
 
 -- the marks are of the entries that the pass has seen, each of a seat of the row, and the state is their calls' replay
-pub record IsSeat {State Call Reply : Type 0} (object : Sequential State Call Reply) (seat : Inside State Call Reply) : Type 0 where
+pub record IsSeat {State Call Reply : Type 0} (object : Sequential State Call Reply) (seat : Inside State Call Reply)
+    : Type 0 where
   pub places : map entry_of seat.marks.items ≡ seat.pass.seen
   pub below : All (λ mark. mark.seat < seat.pass.row.seats) seat.marks.items
   pub replays : replay object (map asked seat.marks.items) ≡ Some seat.state

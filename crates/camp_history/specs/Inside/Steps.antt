@@ -21,7 +21,8 @@ abbrev pub entries_of : {Call : Type 0} → Seated Call → List Entry
 entries_of seat = map entry_of seat.marks
 
 -- what an object decides about a call, at the replay of a history
-pub record DecidesAt {State Call Reply : Type 0} (object : Sequential State Call Reply) (history : List (ℕ × Call)) (call : Call) (decided : Decided State Reply) : Type 0 where
+pub record DecidesAt {State Call Reply : Type 0} (object : Sequential State Call Reply) (history : List (ℕ × Call))
+    (call : Call) (decided : Decided State Reply) : Type 0 where
   pub state : State
   pub replays : replay object history ≡ Some state
   pub decides : Decides object state call decided
@@ -54,7 +55,8 @@ pub record FindsMore {Call : Type 0} (old new : Seated Call) : Type 0 where
   pub longer : IsShorter (entries_of new) new.known.ahead
 
 -- the exchange was lost, at a history at which the call is accepted
-pub record LosesOne {State Call Reply : Type 0} (object : Sequential State Call Reply) (head : HeadId) (old : Seated Call) (call : Call) (new : Seated Call) : Type 0 where
+pub record LosesOne {State Call Reply : Type 0} (object : Sequential State Call Reply) (head : HeadId) (old : Seated Call)
+    (call : Call) (new : Seated Call) : Type 0 where
   pub has_room : length (own old.known.number (history_of old)) < head.row.per_seat
   pub accepted : IsAccepted object (history_of old) call
   pub finds : FindsMore old new

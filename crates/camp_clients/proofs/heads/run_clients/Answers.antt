@@ -4,7 +4,7 @@ use Rattle.camp_history.specs.Seats.{IsSeatOf, history_of}
 use Rattle.camp_clients.specs.Clients.{sight_of}
 use Rattle.camp_clients.specs.Meeting.{Ran}
 use Rattle.camp_clients.specs.Runs.{lists_of}
-use Rattle.camp_clients.proofs.Gathering.{ok_map}
+use Rattle.camp_clients.proofs.Gathering.{ok_map, gathered_alone}
 use Rattle.camp_clients.proofs.Meeting.{zip_granted}
 use Rattle.camp_clients.proofs.heads.run_clients.Goals as goal
 
@@ -14,4 +14,4 @@ returns g c = ok_map _ _ (λ all granted.
     (c.args.head.now.row.per_seat) (lists_of c.args.sections.now))
     c.args.clients.items c.in_ok-made.made.items all.items (sym c.in_ok-made.made.ok.0 ∙ c.in_ok-made.ensures.len ∙ c.args.clients.ok.0)
     (λ i d below. let each = (c.in_ok-made.ensures.each i d below).1 in (each.job, (each.job_is, each.call.met)))
-    granted) c.granted.result c.granted.ensures
+    (gathered_alone c.new.result.items c.in_ok-made.made.items all.items c.new.ensures.items granted)) c.gather.result c.gather.ensures

@@ -1,5 +1,0 @@
-use Rattle.camp_clients.specs.Gathering.{Gathers}
-use Rattle.camp_clients.proofs.locks.gather.Given as goal
-
-abbrev pub invariant-loop-own : goal.invariant-loop-own
-invariant-loop-own g l = Gathers l.fn.opening l.yielded l.all.items

@@ -1,0 +1,10 @@
+use Rattle.std.proofs.Common.{Some}
+use Rattle.std.proofs.lemmas.List.Elements.{All-pop}
+use Rattle.camp_history.specs.Seats.{IsSeatOf}
+use Rattle.head_refusals.proofs.heads.two_of.Goals as goal
+
+pub returns : goal.returns
+returns c =
+    let one = All-pop (IsSeatOf c.args.head) c.args.seats.items c.pop.new.self.items (Some c.in_ok-one.one) c.in_ok-one.ensures.items c.requires in
+    let zero = All-pop (IsSeatOf c.args.head) c.pop.new.self.items c.pop-2.new.self.items (Some c.in_ok-zero.zero) c.in_ok-zero.ensures.items one.0 in
+    (zero.1, one.1)
