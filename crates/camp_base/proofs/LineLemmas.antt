@@ -6,7 +6,7 @@ use Rattle.std.proofs.lemmas.Slice.Eq.{slice_eq-Decides}
 use Rattle.std.specs.Cmp.Lexicographic.{pointwise}
 use Rattle.std.specs.List.{splice}
 use Rattle.camp_base.specs.Trees.{Lines, SplicesLines}
-use Rattle.camp_base.specs.Steps.{StandsAt}
+use Rattle.camp_base.specs.Inside.Steps.{StandsAt}
 
 pub lines_told : (line : ℕ) (front lines : Lines) (told : Bool) → 0 < line → line - 1 ≤ length lines → told ≡ pointwise (pointwise eqb) (take (length front) (drop (line - 1) lines)) front → IsTrue told ↔ StandsAt line front lines
 lines_told line front lines told positive within answers =

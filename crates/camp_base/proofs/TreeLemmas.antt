@@ -16,7 +16,7 @@ use Rattle.std.specs.List.{splice}
 use Rattle.camp_base.specs.declared.faults.Apply.{Apply}
 use Rattle.camp_base.specs.declared.faults.Apply.TheVariants.{DoesNotApply, Memory}
 use Rattle.camp_base.specs.Answers.{Answers}
-use Rattle.camp_base.specs.Steps.{Steps, StandsAt}
+use Rattle.camp_base.specs.Inside.Steps.{Steps, StandsAt}
 use Rattle.camp_base.specs.Trees.{Lines, Files, Adds, Removes, Splices, SplicesLines}
 use Rattle.camp_base.proofs.LineLemmas.{spliced, stands}
 

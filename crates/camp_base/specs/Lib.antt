@@ -1,6 +1,5 @@
 pub mod Answers
 pub mod Bytes
+pub mod Inside
 pub mod Made
-pub mod NameFields
-pub mod Steps
 pub mod Trees

@@ -28,7 +28,7 @@ impl Model for Name {
 
     ghost Value = { List ℕ };
 
-    ghost use Rattle.camp_base.specs.NameFields.{IsPadded, padded};
+    ghost use Rattle.camp_base.specs.Inside.NameFields.{IsPadded, padded};
 
     ghost view = { λ name. take name.len name.buffer };
 

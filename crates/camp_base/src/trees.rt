@@ -2,7 +2,7 @@ ghost use Rattle.std.specs.Prelude.{◌≡◌, ◌==◌, ◌↔◌, IfOk, IsTrue
 ghost use Rattle.std.specs.FinMap as map;
 ghost use Rattle.camp_base.specs.Trees.{Adds, Removes, Splices};
 ghost use Rattle.camp_base.specs.Answers.{Answers};
-ghost use Rattle.camp_base.specs.Steps.{Steps, StandsAt};
+ghost use Rattle.camp_base.specs.Inside.Steps.{Steps, StandsAt};
 
 use crate::{Apply, Line, Path};
 use camp_share::{Share, Shared, SharedList, SharedMap};

@@ -2,7 +2,8 @@
 use Rattle.std.specs.Prelude.{List}
 use Rattle.camp_prim.specs.declared.named.Named.{Named}
 use Rattle.camp_ctx.specs.Contexts.{InContext, Contexts}
-use Rattle.camp_catch.specs.Commuting.{PlainPastConflictor, TwoConflictorsApart, ConflictDissolves, PlainLeavesTheSet, OnlyConflictGoes, OneOfSeveralConflicts}
+use Rattle.camp_catch.specs.Commuting.{PlainPastConflictor, TwoConflictorsApart, ConflictDissolves, PlainLeavesTheSet}
+use Rattle.camp_catch.specs.Commuting.{OnlyConflictGoes, OneOfSeveralConflicts}
 use Rattle.camp_catch.specs.Merging.{Clean, FirstConflict, PlainBesideConflictor, PlainJoinsConflictor}
 use Rattle.camp_catch.specs.declared.catches.Catch.{Catch}
 

@@ -9,7 +9,8 @@ use Rattle.camp_catch.specs.declared.catches.Catch.{Catch}
 abbrev pub MergesWithAll : List Catch → Catch → Catch → List Catch → Type 0
 MergesWithAll [] k k' q' = (k' ≡ k) × (q' ≡ [])
 MergesWithAll (j ∷ q) k k' q' =
-    (next : Catch) × (j' : Catch) × (t : List Catch) × MergeCatch j k next j' × MergesWithAll q next k' t × (q' ≡ j' ∷ t)
+    (next : Catch) × (j' : Catch) × (t : List Catch) × MergeCatch j k next j' × MergesWithAll q next k' t
+    × (q' ≡ j' ∷ t)
 
 -- two lists: p' after q, and q' after p; each pair as its neighbours left it
 abbrev pub MergeLists : List Catch → List Catch → List Catch → List Catch → Type 0

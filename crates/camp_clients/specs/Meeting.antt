@@ -45,7 +45,8 @@ caller_of tries per_seat number = record { seat = number; tries = tries; per_sea
 
 -- a client asked its section
 pub record Ran {State Call Reply Client : Type 0} (object : Sequential State Call Reply)
-    (sight : Sight Client Call (Result Reply Fault)) (tries per_seat : ℕ) (sections : List (List Call)) (before after : Client) : Type 0 where
+    (sight : Sight Client Call (Result Reply Fault)) (tries per_seat : ℕ) (sections : List (List Call))
+    (before after : Client) : Type 0 where
   pub is_seat : sight.is_seat after
   pub number : sight.number after ≡ sight.number before
   pub section : Section (Asks object (caller_of tries per_seat (sight.number before))) (sight.seen before)

@@ -27,7 +27,8 @@ pub record IsOpened {Call : Type 0} (seats per_seat tries : ℕ) (head : HeadId)
   pub are_seats : All (IsSeatOf head) made
 
 -- a fault of the numbers comes exactly where one is out of its range
-abbrev pub Opens : {Made Call : Type 0} → (Made → HeadId) → (Made → List (Seated Call)) → (seats per_seat tries every : ℕ)
+abbrev pub Opens : {Made Call : Type 0} → (Made → HeadId) → (Made → List (Seated Call)) →
+    (seats per_seat tries every : ℕ)
     → Result Made HeadFault → Type 0
 Opens head all seats per_seat tries every (Ok made) =
     IsInRange seats per_seat tries every × IsOpened seats per_seat tries (head made) (all made)

@@ -11,5 +11,6 @@ use Rattle.camp_repo.specs.declared.branches.Branch.TheInside.{Inside}
 -- the patches are lawful, the index has their names, and the kept tree is theirs
 pub record IsBranch (branch : Inside) : Type 0 where
   pub lawful : IsLawful branch.patches
-  pub named : (name : List ℕ) → contains_key (map_of (slice_cmp nat_cmp) branch.names) name ≡ list_any (λ p. bytes_eq p.name name) branch.patches
+  pub named : (name : List ℕ) →
+      contains_key (map_of (slice_cmp nat_cmp) branch.names) name ≡ list_any (λ p. bytes_eq p.name name) branch.patches
   pub kept : tree_of branch.patches ≡ Some branch.tree

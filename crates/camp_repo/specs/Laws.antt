@@ -11,7 +11,8 @@ use Rattle.camp_repo.specs.declared.calls.Call.{Call}
 use Rattle.camp_repo.specs.declared.calls.Call.TheVariants as call
 use Rattle.camp_repo.specs.declared.states.Decided.TheVariants.{Next}
 
--- a record adds a patch at the end of its branch, and the change leads from the branch's tree to its next one; no other branch changes, and one more call is counted
+-- a record adds a patch at the end of its branch, and the change leads from the branch's tree to its next one; no
+-- other branch changes, and one more call is counted
 pub record Records (branch name : List ℕ) (change : Primitive) (old new : Contents) : Type 0 where
   pub patches : List Named
   pub tree : Files
@@ -32,7 +33,8 @@ Effect (call.Tree branch) old new = ⊥
 
 -- each accepted call has its effect
 abbrev pub AcceptedCallsHaveEffect : Type 0
-AcceptedCallsHaveEffect = (state : Contents) (call : Call) (next : Contents) → step state call ≡ Next next → Effect call state next
+AcceptedCallsHaveEffect =
+    (state : Contents) (call : Call) (next : Contents) → step state call ≡ Next next → Effect call state next
 
 -- a new repository is lawful
 abbrev pub InitialIsLawful : Type 0
@@ -40,4 +42,5 @@ InitialIsLawful = AreLawful initial
 
 -- from a lawful state each accepted call leads to a lawful one
 abbrev pub StepsKeepLawful : Type 0
-StepsKeepLawful = (state : Contents) (call : Call) (next : Contents) → AreLawful state → step state call ≡ Next next → AreLawful next
+StepsKeepLawful =
+    (state : Contents) (call : Call) (next : Contents) → AreLawful state → step state call ≡ Next next → AreLawful next

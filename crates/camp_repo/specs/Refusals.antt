@@ -44,14 +44,17 @@ LeadsOn patches change tree = (from : Files) × (tree_of patches ≡ Some from) 
 abbrev pub HasShortFile : Primitive → Files → Type 0
 HasShortFile change tree = (lines : Lines) → get tree (path_of change) ≡ Some lines → length lines ≤ 1_000_000
 
--- a record that may be tried in a branch with these patches: the branch is there, the name is free, and nothing is too large
+-- a record that may be tried in a branch with these patches: the branch is there, the name is free, and nothing is
+-- too large
 abbrev pub MayBeTried : Contents → List ℕ → List ℕ → Primitive → List Named → Type 0
-MayBeTried state branch name change patches = HasPatches state branch patches × IsFree state name × IsSmall patches change
+MayBeTried state branch name change patches =
+    HasPatches state branch patches × IsFree state name × IsSmall patches change
 
 -- a record is refused:
 -- no branch: there is none of that name;
 -- patch exists: there is the branch, and a patch of the name stands in some branch;
--- too large: the name is free, and the branch is full or the change too large, or else the change leads to a file that is;
+-- too large: the name is free, and the branch is full or the change too large, or else the change leads to a file
+-- that is;
 -- does not apply: it may be tried, and leads nowhere
 abbrev pub RefusesRecord : Contents → List ℕ → List ℕ → Primitive → Refusal → Type 0
 RefusesRecord state branch name change (NoBranch other) = (other ≡ branch) × (patches_of state.branches branch ≡ None)
@@ -59,9 +62,11 @@ RefusesRecord state branch name change (PatchExists other) =
     (other ≡ name) × (patches : List Named) × HasPatches state branch patches × ¬ (IsFree state name)
 RefusesRecord state branch name change TooLarge = (patches : List Named) × (
     (HasPatches state branch patches × IsFree state name × ¬ (IsSmall patches change))
-    ⊎ (MayBeTried state branch name change patches × (tree : Files) × LeadsOn patches change tree × ¬ (HasShortFile change tree)))
+    ⊎ (MayBeTried state branch name change patches × (tree : Files) × LeadsOn patches change tree
+    × ¬ (HasShortFile change tree)))
 RefusesRecord state branch name change DoesNotApply =
-    (patches : List Named) × MayBeTried state branch name change patches × ((tree : Files) → ¬ (LeadsOn patches change tree))
+    (patches : List Named) × MayBeTried state branch name change patches
+    × ((tree : Files) → ¬ (LeadsOn patches change tree))
 
 -- a question is refused where there is no branch of that name, and for no other reason
 abbrev pub RefusesQuestion : Contents → List ℕ → Refusal → Type 0
@@ -77,12 +82,14 @@ Refuses state (call.Tree branch) refusal = RefusesQuestion state branch refusal
 
 -- each refusal comes exactly under its condition
 abbrev pub RefusalsAreExact : Type 0
-RefusalsAreExact = (state : Contents) (call : Call) (refusal : Refusal) → (step state call ≡ refused refusal) ↔ Refuses state call refusal
+RefusalsAreExact = (state : Contents) (call : Call) (refusal : Refusal) →
+    (step state call ≡ refused refusal) ↔ Refuses state call refusal
 
 -- a record that passes all tests
 abbrev pub Passes : Contents → List ℕ → List ℕ → Primitive → Type 0
 Passes state branch name change =
-    (patches : List Named) × MayBeTried state branch name change patches × (tree : Files) × LeadsOn patches change tree × HasShortFile change tree
+    (patches : List Named) × MayBeTried state branch name change patches × (tree : Files)
+    × LeadsOn patches change tree × HasShortFile change tree
 
 -- a record is accepted exactly where it passes all tests
 abbrev pub AcceptanceIsExact : Type 0
@@ -91,5 +98,6 @@ AcceptanceIsExact = (state : Contents) (branch name : List ℕ) (change : Primit
 
 -- a lawful state answers a question with the tree of the branch
 abbrev pub QuestionsAreAnswered : Type 0
-QuestionsAreAnswered = (state : Contents) (branch : List ℕ) (patches : List Named) → AreLawful state → HasPatches state branch patches →
+QuestionsAreAnswered =
+    (state : Contents) (branch : List ℕ) (patches : List Named) → AreLawful state → HasPatches state branch patches →
     (tree : Files) × (tree_of patches ≡ Some tree) × (step state (call.Tree branch) ≡ Answer (reply.Tree tree))

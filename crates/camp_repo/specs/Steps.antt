@@ -1,5 +1,6 @@
 -- What a call comes to, by the tests of its kind in their order: the first that fails decides.
-use Rattle.std.specs.Prelude.{ℕ, ◌+◌, Bool, false, ◌||◌, nat_le, nat_lt, if◌then◌else◌, List, [], ◌∷◌, ◌++◌, length, Option, None, Some, bytes_eq, unwrap_or, codes}
+use Rattle.std.specs.Prelude.{ℕ, ◌+◌, Bool, false, ◌||◌, nat_le, nat_lt, if◌then◌else◌, List, [], ◌∷◌, ◌++◌, length}
+use Rattle.std.specs.Prelude.{Option, None, Some, bytes_eq, unwrap_or, codes}
 use Rattle.std.specs.Option.{option_and_then, option_map_or}
 use Rattle.std.specs.List.{list_any}
 use Rattle.std.specs.FinMap.{empty, get}
@@ -35,7 +36,8 @@ patches_of (branch ∷ branches) name = if bytes_eq branch.0 name then Some bran
 -- the branches, with other patches in the one of a name
 abbrev pub with_patches : List (List ℕ × List Named) → List ℕ → List Named → List (List ℕ × List Named)
 with_patches [] name patches = []
-with_patches (branch ∷ branches) name patches = if bytes_eq branch.0 name then (branch.0, patches) ∷ branches else branch ∷ with_patches branches name patches
+with_patches (branch ∷ branches) name patches =
+    if bytes_eq branch.0 name then (branch.0, patches) ∷ branches else branch ∷ with_patches branches name patches
 
 -- whether a patch of a name stands in some branch
 abbrev pub has_patch : Contents → List ℕ → Bool
@@ -61,13 +63,15 @@ refused refusal = Answer (reply.Refused refusal)
 
 -- the state after an accepted call that gives a branch these patches
 abbrev pub accepted : Contents → List ℕ → List Named → Decided
-accepted state branch patches = Next (record { branches = with_patches state.branches branch patches; count = state.count + 1 })
+accepted state branch patches =
+    Next (record { branches = with_patches state.branches branch patches; count = state.count + 1 })
 
 -- what a record comes to whose change leads to this tree, or to none
 abbrev pub record_leads : Contents → List ℕ → List Named → List ℕ → Primitive → Option Files → Decided
 record_leads state branch patches name change None = refused DoesNotApply
 record_leads state branch patches name change (Some tree) =
-    if has_long_file (path_of change) tree then refused TooLarge else accepted state branch (patches ++ recorded name change ∷ [])
+    if has_long_file (path_of change) tree then refused TooLarge
+    else accepted state branch (patches ++ recorded name change ∷ [])
 
 -- what a record comes to in a branch with these patches, which has room for 4,096
 abbrev pub record_in : Contents → List ℕ → List ℕ → Primitive → List Named → Decided
@@ -82,5 +86,6 @@ shown patches = Answer (reply.Tree (unwrap_or (tree_of patches) empty))
 
 -- what a call comes to
 abbrev pub step : Contents → Call → Decided
-step state (call.Record branch name change) = option_map_or (record_in state branch name change) (patches_of state.branches branch) (refused (NoBranch branch))
+step state (call.Record branch name change) =
+    option_map_or (record_in state branch name change) (patches_of state.branches branch) (refused (NoBranch branch))
 step state (call.Tree branch) = option_map_or shown (patches_of state.branches branch) (refused (NoBranch branch))

@@ -2,9 +2,9 @@ pub mod Canonical
 pub mod Commands
 pub mod Faults
 pub mod Gives
+pub mod Inside
 pub mod Lines
 pub mod Reading
-pub mod ReadingFields
 pub mod Sections
 pub mod Texts
 pub mod Writing

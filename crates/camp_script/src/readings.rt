@@ -41,7 +41,7 @@ impl Model for Reading {
 
     ghost Value = { Progress };
 
-    ghost use Rattle.camp_script.specs.ReadingFields.{progress_of, IsKept};
+    ghost use Rattle.camp_script.specs.Inside.ReadingFields.{progress_of, IsKept};
 
     ghost view = { progress_of };
 
@@ -49,7 +49,7 @@ impl Model for Reading {
 }
 
 impl Reading {
-    ghost use Rattle.camp_script.specs.ReadingFields.{open_of, MayGrow, IsAwaited};
+    ghost use Rattle.camp_script.specs.Inside.ReadingFields.{open_of, MayGrow, IsAwaited};
 
     /// Before the first line.
     pub(crate) fn new(alloc: Global) -> Reading

@@ -8,7 +8,7 @@ use Rattle.std.specs.Cmp.{IsTotalOrder, tied_itself, tied_back, alike_right, eq_
 use Rattle.std.specs.FinMap as map
 use Rattle.std.specs.FinMap.{from_sorted, IsAntisymmetric, same_map, same_entries_map, entries-from_sorted, entries-insert, get-from_sorted, get-remove, get_tied, len-entries, empty_of_len}
 use Rattle.std.specs.FinMap.Entries.{find, put, is_sorted, below_all, where_key, is_sorted-put, is_sorted-where_key, find-where_key}
-use Rattle.camp_share.specs.Places.{IsAt, WouldBeAt}
+use Rattle.camp_share.specs.Inside.Places.{IsAt, WouldBeAt}
 
 pub first : (a b : Bool) → T (a && b) → T a
 first true b h = tt

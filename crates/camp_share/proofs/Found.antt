@@ -8,7 +8,7 @@ use Rattle.std.specs.Ordering.{ordering_index, ordering_reverse, is_lt}
 use Rattle.std.specs.Cmp.{IsTotalOrder}
 use Rattle.std.specs.FinMap.{IsAntisymmetric}
 use Rattle.std.specs.FinMap.Entries.{is_sorted, below_all}
-use Rattle.camp_share.specs.Places.{IsAt, WouldBeAt, IsAbove}
+use Rattle.camp_share.specs.Inside.Places.{IsAt, WouldBeAt, IsAbove}
 use Rattle.camp_share.proofs.Entries.{first, second, both, is_less, above}
 
 module _ {K X : Type 0} (R : K → K → Ordering) where

@@ -7,7 +7,7 @@ use Rattle.std.specs.FinMap as map
 use Rattle.std.specs.FinMap.{IsAntisymmetric, entries-from_sorted, get-from_sorted, len-entries}
 use Rattle.std.specs.FinMap.Entries.{is_sorted, find}
 use Rattle.camp_share.specs.Maps.{map_of}
-use Rattle.camp_share.specs.Places.{IsAt, WouldBeAt}
+use Rattle.camp_share.specs.Inside.Places.{IsAt, WouldBeAt}
 use Rattle.camp_share.proofs.Entries.{map_inserted, map_replaced, map_removed, map_kept, absent}
 
 module _ {K X : Type 0} (R : K → K → Ordering) (o : IsTotalOrder R) (inside now : List (K × X)) (is : inside ≡ now) (sorted : T (is_sorted R inside)) where

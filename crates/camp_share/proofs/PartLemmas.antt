@@ -5,7 +5,7 @@ use Rattle.std.proofs.lemmas.Option.{slice_get_read}
 use Rattle.std.specs.List.{All, slice_get, slice_range}
 use Rattle.std.proofs.lemmas.Grind.{flat_map-append}
 use Rattle.std.proofs.lemmas.List.Folds.{length-flat_map-take}
-use Rattle.camp_share.specs.Parts.{joined, IsPart}
+use Rattle.camp_share.specs.Inside.Parts.{joined, IsPart}
 use Rattle.std.specs.declared.vec.Vec.{Vec}
 use Rattle.std.specs.Vec.{vec_len}
 

@@ -8,8 +8,8 @@ use Rattle.std.specs.declared.vec.Vec.{Vec}
 use Rattle.std.specs.Ordering.{is_lt}
 use Rattle.std.specs.Cmp.{IsTotalOrder}
 use Rattle.std.specs.FinMap.Entries.{is_sorted, find}
-use Rattle.camp_share.specs.Parts.{joined}
-use Rattle.camp_share.specs.Places.{IsAt, WouldBeAt, IsAbove}
+use Rattle.camp_share.specs.Inside.Parts.{joined}
+use Rattle.camp_share.specs.Inside.Places.{IsAt, WouldBeAt, IsAbove}
 use Rattle.camp_share.proofs.Entries.{is_less, present, at_within}
 use Rattle.camp_share.proofs.Found.{sorted_left, sorted_right, above_last, above_behind, last_above, above_would, would_behind, would_front, at_behind, at_front}
 use Rattle.camp_share.proofs.PartLemmas.{from_here, up_to_here}

@@ -1,6 +1,6 @@
 ghost use Rattle.std.specs.Prelude.{◌≡◌, ◌<◌, ◌≤◌, ◌^◌, List, [], ◌∷◌, ◌++◌, length, slice_range, IfOk, OnOk};
 ghost use Rattle.std.specs.List.{All};
-ghost use Rattle.camp_share.specs.Parts.{joined, IsPart};
+ghost use Rattle.camp_share.specs.Inside.Parts.{joined, IsPart};
 
 use crate::{Share, Shared};
 use std::alloc::{AllocError, Global};
@@ -22,7 +22,7 @@ pub(crate) struct Growing<T> {
 impl<T> Model for Growing<T> {
     ghost use Rattle.std.specs.Prelude.{◌≤◌, List, ◌++◌, length};
     ghost use Rattle.std.specs.List.{All};
-    ghost use Rattle.camp_share.specs.Parts.{joined, IsPart};
+    ghost use Rattle.camp_share.specs.Inside.Parts.{joined, IsPart};
 
     ghost Value = { List T };
 

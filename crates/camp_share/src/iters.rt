@@ -2,7 +2,7 @@ ghost use Rattle.std.specs.Prelude.{◌≡◌, ◌++◌, length};
 ghost use Rattle.std.specs.List.{All};
 ghost use Rattle.std.specs.Iterator.{at_most};
 ghost use Rattle.std.specs.Map.Iter.{TakesFirst, ShowsInOrder, deref};
-ghost use Rattle.camp_share.specs.Parts.{joined, IsPart};
+ghost use Rattle.camp_share.specs.Inside.Parts.{joined, IsPart};
 
 use crate::growing::Part;
 use std::iter::FusedIterator;
@@ -18,7 +18,7 @@ pub struct Iter<'a, T> {
 impl<'a, T> Model for Iter<'a, T> {
     ghost use Rattle.std.specs.Prelude.{List, ◌++◌};
     ghost use Rattle.std.specs.List.{All};
-    ghost use Rattle.camp_share.specs.Parts.{joined, IsPart};
+    ghost use Rattle.camp_share.specs.Inside.Parts.{joined, IsPart};
 
     ghost Value = { List T };
 

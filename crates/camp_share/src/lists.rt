@@ -1,7 +1,7 @@
 ghost use Rattle.std.specs.Prelude.{◌≡◌, ◌+◌, ◌<◌, ◌≤◌, ◌^◌, ◌==◌, List, [], ◌∷◌, ◌++◌, length, take, drop, slice_get, slice_range, slice_set, IfOk};
 ghost use Rattle.std.specs.List.{splice, insert, remove};
 ghost use Rattle.std.specs.List.{All};
-ghost use Rattle.camp_share.specs.Parts.{joined, IsPart};
+ghost use Rattle.camp_share.specs.Inside.Parts.{joined, IsPart};
 ghost use Rattle.std.specs.Option.{option_copied};
 ghost use Rattle.std.specs.Cmp.Lexicographic.{pointwise, lists_per, lists_equiv};
 ghost use Rattle.std.specs.Map.Iter.{ShowsInOrder, deref};
@@ -21,7 +21,7 @@ pub struct SharedList<T> {
 impl<T> Model for SharedList<T> {
     ghost use Rattle.std.specs.Prelude.{◌≡◌, List, length};
     ghost use Rattle.std.specs.List.{All};
-    ghost use Rattle.camp_share.specs.Parts.{joined, IsPart};
+    ghost use Rattle.camp_share.specs.Inside.Parts.{joined, IsPart};
 
     ghost Value = { List T };
 

@@ -6,7 +6,7 @@ ghost use Rattle.std.specs.Map.Iter.{ShowsInOrder, deref};
 ghost use Rattle.std.specs.Cmp.Lexicographic.{pointwise, lists_per};
 ghost use Rattle.std.specs.Cmp.{on_per, and_per};
 ghost use Rattle.camp_share.specs.Maps.{map_of};
-ghost use Rattle.camp_share.specs.Places.{IsAt, WouldBeAt};
+ghost use Rattle.camp_share.specs.Inside.Places.{IsAt, WouldBeAt};
 
 use crate::search::{length_of, search};
 use crate::{Iter, Share, SharedList};

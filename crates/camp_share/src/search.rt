@@ -2,8 +2,8 @@ ghost use Rattle.std.specs.Prelude.{◌≡◌, ◌↔◌, ℕ, ◌<◌, ◌≤�
 ghost use Rattle.std.specs.List.{All};
 ghost use Rattle.std.specs.List.Sorted.{IsSearchInRange};
 ghost use Rattle.std.specs.FinMap.{is_sorted};
-ghost use Rattle.camp_share.specs.Parts.{joined, IsPart};
-ghost use Rattle.camp_share.specs.Places.{IsAt, WouldBeAt, IsAbove, IsInPart, WouldBeInPart};
+ghost use Rattle.camp_share.specs.Inside.Parts.{joined, IsPart};
+ghost use Rattle.camp_share.specs.Inside.Places.{IsAt, WouldBeAt, IsAbove, IsInPart, WouldBeInPart};
 
 use crate::Key;
 use crate::growing::Part;

@@ -55,8 +55,8 @@ pub record FindsMore {Call : Type 0} (old new : Seated Call) : Type 0 where
   pub longer : IsShorter (entries_of new) new.known.ahead
 
 -- the exchange was lost, at a history at which the call is accepted
-pub record LosesOne {State Call Reply : Type 0} (object : Sequential State Call Reply) (head : HeadId) (old : Seated Call)
-    (call : Call) (new : Seated Call) : Type 0 where
+pub record LosesOne {State Call Reply : Type 0} (object : Sequential State Call Reply) (head : HeadId)
+    (old : Seated Call) (call : Call) (new : Seated Call) : Type 0 where
   pub has_room : length (own old.known.number (history_of old)) < head.row.per_seat
   pub accepted : IsAccepted object (history_of old) call
   pub finds : FindsMore old new

@@ -1,6 +1,6 @@
 use Rattle.std.proofs.Common.{T, sym, ap, subst, ◌∙◌, arith, Vec}
 use Rattle.std.specs.FinMap.{is_sorted}
-use Rattle.camp_share.specs.Places.{IsAbove}
+use Rattle.camp_share.specs.Inside.Places.{IsAbove}
 use Rattle.camp_share.proofs.PartLemmas.{part_is}
 use Rattle.camp_share.proofs.Parted.{part_sorted, above_part}
 use Rattle.camp_share.proofs.search.part_for.Goals as goal

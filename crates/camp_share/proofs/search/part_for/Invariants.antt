@@ -1,6 +1,6 @@
 use Rattle.std.proofs.Common.{◌≡◌, ◌<◌, ◌≤◌, ◌-◌, length, take, get_or}
-use Rattle.camp_share.specs.Parts.{joined}
-use Rattle.camp_share.specs.Places.{IsAbove}
+use Rattle.camp_share.specs.Inside.Parts.{joined}
+use Rattle.camp_share.specs.Inside.Places.{IsAbove}
 use Rattle.camp_share.proofs.search.part_for.Given as goal
 
 abbrev pub invariant-loop-low : goal.invariant-loop-low

@@ -1,6 +1,6 @@
 use Rattle.std.proofs.Common.{sym, ap, ◌∙◌}
 use Rattle.std.specs.Option.{option_map}
-use Rattle.camp_script.specs.ReadingFields.{open_of, progress_of}
+use Rattle.camp_script.specs.Inside.ReadingFields.{open_of, progress_of}
 use Rattle.camp_script.proofs.FirstWords.{outside}
 use Rattle.camp_script.proofs.readings.Reading.read_line.Goals as goal
 

@@ -1,7 +1,7 @@
 use Rattle.std.proofs.Common.{◌≡◌, ◌++◌, length, sym, ap, ◌∙◌, arith}
 use Rattle.std.proofs.lemmas.Grind.{common_steps}
 use Rattle.std.proofs.lemmas.List.{append-nil, nil_from_length}
-use Rattle.camp_share.specs.Parts.{joined}
+use Rattle.camp_share.specs.Inside.Parts.{joined}
 use Rattle.camp_share.proofs.PartLemmas.{reopened}
 use Rattle.camp_share.proofs.growing.Growing.reopen.Goals as goal
 

@@ -1,5 +1,5 @@
 use Rattle.std.proofs.Common.{ap, ◌∙◌, arith}
-use Rattle.camp_share.specs.Parts.{joined}
+use Rattle.camp_share.specs.Inside.Parts.{joined}
 use Rattle.camp_share.proofs.PartLemmas.{found, passed, length_told}
 use Rattle.camp_share.proofs.lists.SharedList.get.Goals as goal
 

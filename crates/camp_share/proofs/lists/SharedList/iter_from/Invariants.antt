@@ -1,5 +1,5 @@
 use Rattle.std.proofs.Common.{◌≡◌, drop}
-use Rattle.camp_share.specs.Parts.{joined}
+use Rattle.camp_share.specs.Inside.Parts.{joined}
 use Rattle.camp_share.proofs.lists.SharedList.iter_from.Given as goal
 
 abbrev pub invariant-loop-index : goal.invariant-loop-index

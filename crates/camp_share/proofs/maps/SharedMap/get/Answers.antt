@@ -1,6 +1,6 @@
 use Rattle.std.proofs.Common.{T, length, get_or, Vec, sym, ap, subst, ◌∙◌, arith}
 use Rattle.std.specs.FinMap.{is_sorted, find}
-use Rattle.camp_share.specs.Parts.{joined}
+use Rattle.camp_share.specs.Inside.Parts.{joined}
 use Rattle.camp_share.proofs.Entries.{at_within, absent}
 use Rattle.camp_share.proofs.MapLemmas.{get_is}
 use Rattle.camp_share.proofs.Parted.{value_in_part}

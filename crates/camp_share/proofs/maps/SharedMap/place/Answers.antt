@@ -1,5 +1,5 @@
 use Rattle.std.proofs.Common.{ap, length, arith, take, ◌+◌}
-use Rattle.camp_share.specs.Parts.{joined}
+use Rattle.camp_share.specs.Inside.Parts.{joined}
 use Rattle.camp_share.proofs.Entries.{at_within, would_be_within}
 use Rattle.camp_share.proofs.Parted.{front_within}
 use Rattle.camp_share.proofs.maps.SharedMap.place.Goals as goal

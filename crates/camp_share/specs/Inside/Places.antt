@@ -3,7 +3,7 @@ use Rattle.std.specs.Prelude.{◌≡◌, ℕ, zero, suc, ◌+◌, ◌<◌, ◌�
 use Rattle.std.specs.declared.cmp.Ordering.{Ordering}
 use Rattle.std.specs.declared.cmp.Ordering.TheVariants.{Less}
 use Rattle.std.specs.declared.vec.Vec.{Vec}
-use Rattle.camp_share.specs.Parts.{joined}
+use Rattle.camp_share.specs.Inside.Parts.{joined}
 
 -- the entry at a place has the key
 abbrev pub IsAt : {K X : Type 0} → List (K × X) → K → ℕ → Type 0

@@ -1,0 +1,3 @@
+-- Words that serve only private functions and the model of names.
+pub mod NameFields
+pub mod Steps

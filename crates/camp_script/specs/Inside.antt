@@ -1,0 +1,2 @@
+-- Words that serve only private functions and the model of a reader.
+pub mod ReadingFields

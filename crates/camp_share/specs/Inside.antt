@@ -1,0 +1,3 @@
+-- Words that serve only private functions and the models of lists and maps.
+pub mod Parts
+pub mod Places
