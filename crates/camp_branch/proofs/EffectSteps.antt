@@ -14,18 +14,10 @@ use Rattle.camp_catch.proofs.MoveSteps.{stands_at}
 abbrev pub RunsOn : List Named → Files → List Named → Files → Type 0
 RunsOn s old rest tree = (aim : Files) → AppliesAll s old aim → AppliesAll rest tree aim
 
-pub next_applies : (s : List Named) (i : ℕ) (p d : Named) (old tree aim : Files) → RunsOn s old (drop i s) tree → i < length s → p ≡ get_or s i d → AppliesAll s old aim → (between : Files) × Applies p.prim tree between
-next_applies s i p d old tree aim on within is runs =
-    let rest = subst (λ r. AppliesAll r tree aim) (stands_at s i d p within is) (on aim runs) in (rest.0, rest.1)
-
 pub one_runs_on : (s : List Named) (i : ℕ) (p d : Named) (old tree next : Files) → RunsOn s old (drop i s) tree → i < length s → p ≡ get_or s i d → Applies p.prim tree next → RunsOn s old (drop (i + 1) s) next
 one_runs_on s i p d old tree next on within is applies aim runs =
     let rest = subst (λ r. AppliesAll r tree aim) (stands_at s i d p within is) (on aim runs) in
     subst (λ t. AppliesAll (drop (i + 1) s) t aim) (applies_once p.prim tree rest.0 next rest.1 applies) rest.2
-
-pub all_ran : (s : List Named) (old tree aim : Files) (rest : List Named) → RunsOn s old rest tree → rest ≡ [] → AppliesAll s old aim → AppliesAll s old tree
-all_ran s old tree aim rest on is runs =
-    subst (λ t. AppliesAll s old t) (subst (λ r. AppliesAll r tree aim) is (on aim runs)) runs
 
 -- the same of catches
 abbrev pub FitsOn : List Catch → Files → List Catch → Files → Type 0
@@ -40,10 +32,6 @@ pub one_fits_on : (list : List Catch) (i : ℕ) (k d : Catch) (effect : List Nam
 one_fits_on list i k d effect old tree next on within is of runs aim fits =
     let rest = subst (λ r. FitsAll r tree aim) (stands_at list i d k within is) (on aim fits) in
     subst (λ t. FitsAll (drop (i + 1) list) t aim) (run_once (effect_of k) tree rest.0 next rest.1.effect (subst (λ s. AppliesAll s tree next) of runs)) rest.2
-
-pub all_fitted : (list : List Catch) (old tree aim : Files) (rest : List Catch) → FitsOn list old rest tree → rest ≡ [] → FitsAll list old aim → FitsAll list old tree
-all_fitted list old tree aim rest on is fits =
-    subst (λ t. FitsAll list old t) (subst (λ r. FitsAll r tree aim) is (on aim fits)) fits
 
 -- the second part of catches that fit, where it is known to which tree the first leads
 pub second_fits : (s t : List Catch) (old new : Files) → FitsAll (s ++ t) old new → (between : Files) × FitsAll s old between × FitsAll t between new

@@ -8,7 +8,7 @@ use Rattle.std.specs.FinMap.{contains_key, contains_key-keys, get, get-remove, g
 use Rattle.camp_catch.specs.declared.catches.Catch.{Catch}
 use Rattle.camp_catch.proofs.MoveSteps.{stands_at}
 use Rattle.camp_branch.specs.Branches.{is_among, name_of}
-use Rattle.camp_branch.proofs.BranchFields.{Names, contains_more, or_none}
+use Rattle.camp_branch.proofs.BranchFields.{Names, contains_more}
 use Rattle.camp_branch.proofs.Names.{same_name}
 
 -- what a set lists
@@ -54,10 +54,6 @@ pub one_goes : (left next : Names) (rest more : Entries) (entry : List ℕ × Un
 one_goes left next rest more entry aim inv is becomes name =
     ap (λ m. contains_key m name && not (listed more name)) becomes ∙ ap (λ b. b && not (listed more name)) (contains_less left entry.0 name) ∙ and_not (contains_key left name) (bytes_eq name entry.0) (listed more name) ∙ ap (λ r. contains_key left name && not (listed r name)) (sym is) ∙ inv name
 
-pub all_gone : (left : Names) (rest : Entries) (aim : List ℕ → Bool) → IsLessened left rest aim → rest ≡ [] → (name : List ℕ) → contains_key left name ≡ aim name
-all_gone left rest aim inv is name =
-    sym (and_true (contains_key left name)) ∙ ap (λ r. contains_key left name && not (listed r name)) (sym is) ∙ inv name
-
 -- of two sets, some of the names of the first are still to be looked up in the other
 abbrev pub IsCommon : Names → Entries → Names → (List ℕ → Bool) → Type 0
 IsCommon both rest others aim =
@@ -72,22 +68,9 @@ pub and_false : (c : Bool) → (c && false) ≡ false
 and_false true = refl
 and_false false = refl
 
-left_out : (a b c o : Bool) → (b ≡ true → o ≡ false) → (a || (c && o)) ≡ (a || ((b || c) && o))
-left_out true b c o w = refl
-left_out false true c o w = ap (λ x. c && x) (w refl) ∙ and_false c ∙ sym (w refl)
-left_out false false c o w = refl
-
 pub one_common : (both next : Names) (rest more : Entries) (entry : List ℕ × Unit {0}) (others : Names) (aim : List ℕ → Bool) → IsCommon both rest others aim → rest ≡ entry ∷ more → contains_key others entry.0 ≡ true → next ≡ insert both entry.0 tt → IsCommon next more others aim
 one_common both next rest more entry others aim inv is has becomes name =
     ap (λ m. contains_key m name || (listed more name && contains_key others name)) becomes ∙ ap (λ b. b || (listed more name && contains_key others name)) (contains_more both entry.0 name) ∙ taken_in (contains_key both name) (bytes_eq name entry.0) (listed more name) (contains_key others name) (λ e. ap (contains_key others) (same_name name entry.0 e) ∙ has) ∙ ap (λ r. contains_key both name || (listed r name && contains_key others name)) (sym is) ∙ inv name
-
-pub one_lacked : (both : Names) (rest more : Entries) (entry : List ℕ × Unit {0}) (others : Names) (aim : List ℕ → Bool) → IsCommon both rest others aim → rest ≡ entry ∷ more → contains_key others entry.0 ≡ false → IsCommon both more others aim
-one_lacked both rest more entry others aim inv is lacks name =
-    left_out (contains_key both name) (bytes_eq name entry.0) (listed more name) (contains_key others name) (λ e. ap (contains_key others) (same_name name entry.0 e) ∙ lacks) ∙ ap (λ r. contains_key both name || (listed r name && contains_key others name)) (sym is) ∙ inv name
-
-pub all_common : (both : Names) (rest : Entries) (others : Names) (aim : List ℕ → Bool) → IsCommon both rest others aim → rest ≡ [] → (name : List ℕ) → contains_key both name ≡ aim name
-all_common both rest others aim inv is name =
-    sym (or_none (contains_key both name)) ∙ ap (λ r. contains_key both name || (listed r name && contains_key others name)) (sym is) ∙ inv name
 
 pub none_common : (both : Names) (all : Entries) (others : Names) → both ≡ empty → IsCommon both all others (λ name. listed all name && contains_key others name)
 none_common both all others is name =
@@ -105,7 +88,3 @@ pub one_comes : (all next : Names) (taken : List Catch) (i : ℕ) (k d : Catch) 
 one_comes all next taken i k d named aim inv within is called becomes name =
     let rest = drop (i + 1) taken in
     ap (λ m. contains_key m name || is_among (map name_of rest) name) (becomes ∙ ap (λ n. insert all n tt) called) ∙ ap (λ b. b || is_among (map name_of rest) name) (contains_more all (name_of k) name) ∙ or_assoc (contains_key all name) (bytes_eq name (name_of k)) (is_among (map name_of rest) name) ∙ ap (λ r. contains_key all name || is_among (map name_of r) name) (sym (stands_at taken i d k within is)) ∙ inv name
-
-pub all_came : (all : Names) (rest : List Catch) (aim : List ℕ → Bool) → IsGrown all rest aim → rest ≡ [] → (name : List ℕ) → contains_key all name ≡ aim name
-all_came all rest aim inv is name =
-    sym (or_none (contains_key all name)) ∙ ap (λ r. contains_key all name || is_among (map name_of r) name) (sym is) ∙ inv name

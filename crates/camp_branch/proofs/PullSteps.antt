@@ -6,8 +6,8 @@ use Rattle.camp_catch.specs.Arranging.{Arrange, Align}
 use Rattle.camp_catch.specs.Laws.{keys_of}
 use Rattle.camp_catch.specs.MergingLists.{MergeLists}
 use Rattle.camp_catch.specs.declared.catches.Catch.{Catch}
-use Rattle.camp_branch.specs.Inside.Stages.{DependsIn, DivergesFrom, DivergesIn, DoesNotMerge}
-use Rattle.camp_branch.specs.Pulling.{Outcome, CommonFirst, MergesBehind, PullBy}
+use Rattle.camp_branch.specs.Inside.Stages.{DependsIn, DoesNotMerge}
+use Rattle.camp_branch.specs.Pulling.{Outcome, MergesBehind, PullBy}
 use Rattle.camp_branch.specs.declared.faults.Blocked.{Blocked}
 
 -- what is said of either answer follows from what is said of it before
@@ -16,14 +16,7 @@ either_answer P P' Q Q' goes stops (Ok (Ok x)) w = goes x w
 either_answer P P' Q Q' goes stops (Ok (Err f)) w = stops f w
 either_answer P P' Q Q' goes stops (Err e) w = w
 
-pub diverges : (common : List (List ℕ)) (list : List Catch) (Next : List Catch → List Catch → Outcome → Type 0) (blocked : Blocked) → DivergesIn common list blocked → CommonFirst common list Next (Err blocked)
-diverges common list Next blocked w = inr (w.0, w.1, w.2, ap Err w.3)
-
 module _ (common : List (List ℕ)) (ours chosen to theirs others : List Catch) (front : Arrange common to theirs others) where
-  pub fronts_differ : (blocked : Blocked) → DivergesFrom ours theirs blocked → MergesBehind common ours chosen to (Err blocked)
-  fronts_differ blocked (inl s) = inl (theirs, others, front, inr (inl (s.0, s.1, ap Err s.2)))
-  fronts_differ blocked (inr s) = inl (theirs, others, front, inr (inr (s.0, s.1, s.2, s.3, ap Err s.4)))
-
   pub no_merge : Align (keys_of theirs) ours theirs → (blocked : Blocked) → DoesNotMerge chosen others blocked → MergesBehind common ours chosen to (Err blocked)
   no_merge same blocked w = inl (theirs, others, front, inl (same, inr (w.0, w.1, w.2, ap Err w.3)))
 

@@ -5,7 +5,8 @@ use Rattle.camp_base.specs.Trees.{Files}
 use Rattle.camp_prim.specs.Effect.{Applies}
 use Rattle.camp_prim.specs.declared.primitives.Primitive.{Primitive}
 use Rattle.camp_catch.specs.declared.catches.Catch.{Catch}
-use Rattle.camp_branch.specs.Branches.{HasPatches, IsLawful, IsTreeOf, LeadsTo, Patch, has_patch, is_among, names_of, patch_names, recorded}
+use Rattle.camp_branch.specs.Branches.{HasPatches, IsLawful, IsTreeOf, LeadsTo, Patch, has_patch, is_among, names_of}
+use Rattle.camp_branch.specs.Branches.{patch_names, recorded}
 use Rattle.camp_branch.specs.Obliterating.{ObliterateGives, other_names}
 use Rattle.camp_branch.specs.Pulling.{Outcome, PullGives}
 

@@ -1,5 +1,5 @@
--- Pulling patches from one branch into another: what both have is brought to the front of both, and into one order; what
--- is wanted comes behind it, and is merged with what the other branch has alone.
+-- Pulling patches from one branch into another: what both have is brought to the front of both, and into one order;
+-- what is wanted comes behind it, and is merged with what the other branch has alone.
 use Rattle.std.specs.Prelude.{◌≡◌, ◌≢◌, ◌⊎◌, ℕ, List, [], ◌∷◌, ◌++◌, filter, Result, Ok, Err}
 use Rattle.camp_prim.specs.declared.labels.Key.{Key}
 use Rattle.camp_catch.specs.Arranging.{Arrange, ArrangeSticks, Align, AlignSticks}
@@ -47,7 +47,8 @@ common_names from to = filter (has_patch to) (names_of from)
 -- branch <-> common others
 abbrev pub CommonFirst :
     List (List ℕ) → List Catch → (List Catch → List Catch → Outcome → Type 0) → Outcome → Type 0
-CommonFirst names branch = StepThen (Arrange names branch) (ArrangeSticks names branch) (λ stuck on. Diverged stuck.name)
+CommonFirst names branch =
+    StepThen (Arrange names branch) (ArrangeSticks names branch) (λ stuck on. Diverged stuck.name)
 
 -- the wanted patches come before those that are not, or one depends on another
 -- list <-> wanted others
