@@ -1,19 +1,22 @@
 -- The fields of a branch: its list grown by what is recorded, and its index.
 use Rattle.std.proofs.Common.{◌≡◌, ◌≤◌, ◌<◌, ℕ, suc, ◌+◌, Bool, true, false, cond, ◌||◌, Option, None, Some, List, [], ◌∷◌, ◌++◌, map, take, length, slice_index_or, is_some, bytes_eq, refl, sym, ap, ◌∙◌, subst, arith}
-use Rattle.std.proofs.lemmas.List.{append_assoc, length-take-le, map-append, take_more}
+use Rattle.std.proofs.lemmas.List.{append-nil, append_assoc, drop_all, length-take-le, map-append, take_all, take_more}
 use Rattle.std.proofs.lemmas.List.Folds.{list_any-append}
 use Rattle.std.proofs.lemmas.Map.Text.{is_eq-slice_cmp}
+use Rattle.std.specs.List.{splice}
 use Rattle.std.specs.Ordering.{nat_cmp, eq_by_cmp}
 use Rattle.std.specs.Cmp.Lexicographic.{slice_cmp, nat_list_cmp_total}
 use Rattle.std.specs.FinMap.{FinMap, contains_key, get, empty, get-empty, get-insert, insert}
 use Rattle.camp_prim.specs.declared.primitives.Primitive.{Primitive}
+use Rattle.camp_catch.specs.Catches.{FitsAll}
 use Rattle.camp_catch.specs.declared.catches.Catch.{Catch}
 use Rattle.camp_catch.specs.declared.catches.Catch.TheVariants.{Plain}
 use Rattle.camp_base.specs.Trees.{Files}
 use Rattle.camp_branch.specs.Branches.{IsLawful, LeadsTo, has_patch, is_among, name_of, recorded}
 use Rattle.camp_branch.specs.Laws.{AppliesEach}
 use Rattle.camp_branch.proofs.BranchLabels.{recorded_patches}
-use Rattle.camp_branch.proofs.BranchTrees.{recorded_tree}
+use Rattle.camp_branch.proofs.BranchTrees.{joined_fits, one_end, recorded_tree}
+use Rattle.camp_branch.proofs.EffectSteps.{second_fits}
 
 -- a set of names
 abbrev pub Names : Type 0
@@ -41,7 +44,7 @@ or_itself : (b c : Bool) → (c ≡ b) → (b || c) ≡ b
 or_itself true c e = refl
 or_itself false c e = e
 
-or_none : (b : Bool) → (b || false) ≡ b
+pub or_none : (b : Bool) → (b || false) ≡ b
 or_none true = refl
 or_none false = refl
 
@@ -91,3 +94,26 @@ pub recorded_step : (catches list next : List Catch) (name : List ℕ) (place i 
 recorded_step catches list next name place i changes change d k within was at item is pushed =
     let long : length (take i changes) ≡ i = length-take-le i changes (omega arith) in
     one_more_recorded catches list next name place (take i changes) (take (i + 1) changes) change k was (at ∙ ap (λ n. n + 1) (sym long)) (take_more changes i d within ∙ ap (λ x. take i changes ++ x ∷ []) (sym item)) is pushed
+
+spliced_at_end : (catches taken : List Catch) (n : ℕ) → n ≡ length catches → splice catches n n taken ≡ catches ++ taken
+spliced_at_end catches taken n is =
+    (λ i. take_all n catches (omega (is, arith)) i ++ (taken ++ drop_all n catches (omega (is, arith)) i)) ∙ ap (λ t. catches ++ t) (append-nil taken)
+
+pub appended : (catches own taken next : List Catch) (n : ℕ) → n ≡ length catches → catches ≡ own → next ≡ splice catches n n taken → next ≡ own ++ taken
+appended catches own taken next n is was becomes =
+    becomes ∙ spliced_at_end catches taken n is ∙ ap (λ l. l ++ taken) was
+
+-- what comes behind a branch fits the tree of the branch
+pub taken_fits : (catches own taken : List Catch) (tree : Files) → catches ≡ own → LeadsTo catches tree → IsLawful (own ++ taken) → (after : Files) × FitsAll taken tree after
+taken_fits catches own taken tree was leads lawful =
+    let parts = second_fits own taken empty lawful.tree lawful.leads in
+    let same = one_end own empty parts.0 tree parts.1 (subst (λ l. LeadsTo l tree) was leads) in
+    (lawful.tree, subst (λ t. FitsAll taken t lawful.tree) same parts.2)
+
+pub taken_lead : (catches own taken next : List Catch) (old new : Files) → catches ≡ own → next ≡ own ++ taken → LeadsTo catches old → FitsAll taken old new → LeadsTo next new
+taken_lead catches own taken next old new was becomes leads fits =
+    subst (λ l. LeadsTo l new) (sym becomes) (joined_fits own taken empty old new (subst (λ l. LeadsTo l old) was leads) fits)
+
+pub taken_indexed : (names all : Names) (catches own taken next : List Catch) → Indexes names catches → catches ≡ own → ((name : List ℕ) → contains_key all name ≡ (contains_key names name || is_among (map name_of taken) name)) → next ≡ own ++ taken → Indexes all next
+taken_indexed names all catches own taken next indexed was grown becomes name =
+    grown name ∙ ap (λ b. b || is_among (map name_of taken) name) (indexed name ∙ ap (λ l. has_patch l name) was) ∙ sym (ap (λ l. has_patch l name) becomes ∙ ap (λ l. is_among l name) (map-append name_of own taken) ∙ list_any-append (bytes_eq name) (map name_of own) (map name_of taken))

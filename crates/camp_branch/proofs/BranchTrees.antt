@@ -23,7 +23,7 @@ one_end (j ∷ list) old new other v w =
     let same = run_once (effect_of j) old v.0 w.0 v.1.effect w.1.effect in
     one_end list w.0 new other (subst (λ t. FitsAll list t new) same v.2) w.2
 
-joined_fits : (s t : List Catch) (old between new : Files) → FitsAll s old between → FitsAll t between new → FitsAll (s ++ t) old new
+pub joined_fits : (s t : List Catch) (old between new : Files) → FitsAll s old between → FitsAll t between new → FitsAll (s ++ t) old new
 joined_fits [] t old between new v w = subst (λ x. FitsAll t x new) v w
 joined_fits (j ∷ s) t old between new v w = (v.0, v.1, joined_fits s t v.0 between new v.2 w)
 

@@ -1,7 +1,12 @@
 pub mod BranchFields
 pub mod BranchLabels
 pub mod BranchTrees
+pub mod Differences
+pub mod EffectSteps
 pub mod KeepLawful
+pub mod NameSets
 pub mod Names
+pub mod NamesKept
 pub mod OutcomesDetermined
+pub mod PullSteps
 pub mod Steps

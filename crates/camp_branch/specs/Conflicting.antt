@@ -5,8 +5,7 @@ use Rattle.std.specs.Cmp.Lexicographic.{slice_cmp}
 use Rattle.std.specs.declared.cmp.Ordering.TheVariants.{Less}
 use Rattle.std.specs.FinMap.{get}
 use Rattle.camp_prim.specs.declared.labels.Key.{Key}
-use Rattle.camp_ctx.specs.Contexts.{InContext, Contexts}
-use Rattle.camp_catch.specs.Catches.{catch_key}
+use Rattle.camp_ctx.specs.Contexts.{InContext}
 use Rattle.camp_catch.specs.declared.catches.Catch.{Catch}
 use Rattle.camp_catch.specs.declared.catches.Catch.TheVariants.{Plain, Conflictor}
 use Rattle.camp_branch.specs.Branches.{name_of}

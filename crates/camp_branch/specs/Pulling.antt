@@ -63,12 +63,20 @@ abbrev pub MergedLast :
 MergedLast wanted others =
     StepThen (MergeLists wanted others) (MergeSticks wanted others) (λ left right. NoMerge left.name right.name)
 
--- a pull comes to this: its steps in order, of which the first that fails decides; the new branch is `to`, and behind
--- it what the wanted patches of `from` become
-abbrev pub PullGives : List Catch → List Catch → List (List ℕ) → Outcome → Type 0
-PullGives from to wanted =
-    CommonFirst (common_names from to) from (λ ours behind.
-    WantedNext wanted behind (λ chosen left.
-    CommonFirst (common_names from to) to (λ theirs others.
+-- with the common patches before them, the wanted ones are merged with what the other branch has alone; the new branch
+-- is `to`, and behind it what they become
+abbrev pub MergesBehind : List (List ℕ) → List Catch → List Catch → List Catch → Outcome → Type 0
+MergesBehind common ours chosen to =
+    CommonFirst common to (λ theirs others.
     SameThen ours theirs (
-    MergedLast chosen others (λ taken beside outcome. outcome ≡ Ok (to ++ taken))))))
+    MergedLast chosen others (λ taken beside outcome. outcome ≡ Ok (to ++ taken))))
+
+-- a pull by the names of the common patches: its steps in order, of which the first that fails decides
+abbrev pub PullBy : List (List ℕ) → List Catch → List Catch → List (List ℕ) → Outcome → Type 0
+PullBy common from to wanted =
+    CommonFirst common from (λ ours behind.
+    WantedNext wanted behind (λ chosen left. MergesBehind common ours chosen to))
+
+-- a pull comes to this: the common patches are those of the names that both branches have
+abbrev pub PullGives : List Catch → List Catch → List (List ℕ) → Outcome → Type 0
+PullGives from to wanted = PullBy (common_names from to) from to wanted

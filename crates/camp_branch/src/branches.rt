@@ -1,9 +1,15 @@
-ghost use Rattle.std.specs.Prelude.{◌≡◌, ◌≤◌, ◌++◌, [], false, length, IfOk};
+ghost use Rattle.std.specs.Prelude.{◌≡◌, ◌≤◌, ◌++◌, ℕ, List, [], false, length, IfOk};
 ghost use Rattle.std.specs.FinMap.{empty as no_files};
 ghost use Rattle.camp_base.specs.Trees.{Files};
 ghost use Rattle.camp_branch.specs.Branches.{IsLawful, LeadsTo, has_patch, names_of, recorded};
-ghost use Rattle.camp_branch.specs.Laws.{AppliesEach};
+ghost use Rattle.camp_branch.specs.Fields.{has_name, names_in};
+ghost use Rattle.camp_branch.specs.Laws.{AppliesEach, AreLacked};
+ghost use Rattle.camp_branch.specs.Obliterating.{ObliterateGives};
+ghost use Rattle.camp_branch.specs.Pulling.{PullGives};
 
+use crate::effects::tree_after;
+use crate::pulls::{pull, wanted_next};
+use crate::{Blocked, name_sets};
 use camp_base::{Name, Tree};
 use camp_catch::Catch;
 use camp_prim::{Named, Primitive};
@@ -118,6 +124,76 @@ impl Branch {
             tree,
         })
     }
+
+    /// The branch with what the wanted patches of another one become behind it, or why they can't
+    /// come there.
+    pub fn pulled(
+        &self,
+        from: &Branch,
+        wanted: &SharedMap<Name, ()>,
+    ) -> Result<Result<Branch, Blocked>, AllocError>
+        requires lacked { AreLacked self.now (names_in wanted.now) }
+        ensures exact { IfOk result (λ outcome. PullGives from.now self.now (names_in wanted.now) outcome) }
+    {
+        let alloc = self.catches.allocator();
+        let common = name_sets::common(alloc, &from.names, &self.names)?;
+        let theirs = from.catches.to_vec()?;
+        let ours = self.catches.to_vec()?;
+        let taken = pull(alloc, &theirs, &ours, &common, wanted)?;
+        match taken {
+            Ok(taken) => Ok(Ok(self.with_taken(&taken)?)),
+            Err(blocked) => Ok(Err(blocked)),
+        }
+    }
+
+    /// The branch without the patches of some names, or the first of the others that depends on one
+    /// of them.
+    pub fn without(
+        &self,
+        names: &SharedMap<Name, ()>,
+    ) -> Result<Result<Branch, Blocked>, AllocError>
+        ensures exact { IfOk result (λ outcome. ObliterateGives self.now (names_in names.now) outcome) }
+    {
+        let staying = name_sets::without(&self.names, names)?;
+        let catches = self.catches.to_vec()?;
+        let arranged = wanted_next(self.catches.allocator(), &catches, &staying)?;
+        match arranged {
+            Ok(arranged) => Ok(Ok(of_catches(&arranged.first, staying)?)),
+            Err(blocked) => Ok(Err(blocked)),
+        }
+    }
+
+    /// The branch with further catches behind it.
+    fn with_taken(&self, taken: &[Shared<Catch>]) -> Result<Branch, AllocError>
+        requires { IsLawful (self.now ++ taken.now) }
+        ensures { IfOk result (λ branch. branch ≡ self.now ++ taken.now) }
+    {
+        let end = self.catches.len();
+        let catches = self.catches.spliced(end, end, taken)?;
+        let names = name_sets::with_taken(&self.names, taken)?;
+        let tree = tree_after(&self.tree, taken)?;
+        Ok(Branch {
+            catches,
+            names,
+            tree,
+        })
+    }
+}
+
+/// The branch of catches and the names of their patches. Its tree is made from the empty one.
+fn of_catches(catches: &[Shared<Catch>], names: SharedMap<Name, ()>) -> Result<Branch, AllocError>
+    requires lawful { IsLawful catches.now }
+    requires named { (name : List ℕ) → has_name names name ≡ has_patch catches.now name }
+    ensures { IfOk result (λ branch. branch ≡ catches.now) }
+{
+    let alloc = names.allocator();
+    let tree = tree_after(&Tree::empty(alloc), catches)?;
+    let catches = SharedList::from_items(alloc, catches)?;
+    Ok(Branch {
+        catches,
+        names,
+        tree,
+    })
 }
 
 /// The list with a plain catch behind it for each change, at places from 1.

@@ -3,8 +3,11 @@
 #![tactic(auto)]
 
 mod branches;
+mod effects;
 mod faults;
 mod laws;
+mod name_sets;
+mod pulls;
 
 pub use branches::Branch;
 pub use faults::Blocked;

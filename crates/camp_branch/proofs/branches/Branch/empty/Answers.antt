@@ -1,4 +1,4 @@
-use Rattle.std.proofs.Common.{[], sym, subst}
+use Rattle.std.proofs.Common.{sym, subst}
 use Rattle.camp_branch.specs.Branches.{IsLawful, LeadsTo}
 use Rattle.camp_branch.proofs.BranchFields.{Indexes, lawful_none, none_indexed}
 use Rattle.camp_branch.proofs.branches.Branch.empty.Goals as goal

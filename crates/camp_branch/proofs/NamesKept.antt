@@ -1,0 +1,118 @@
+-- The names that a pull, or an obliteration, goes by, and those of what it gives.
+use Rattle.std.proofs.Common.{◌≡◌, ℕ, Bool, true, false, not, cond, ◌||◌, ◌&&◌, List, [], ◌∷◌, ◌++◌, map, filter, bytes_eq, Ok, Err, refl, sym, ap, ◌∙◌, subst, inl, inr}
+use Rattle.std.specs.Prelude.{◌↔◌, Contains}
+use Rattle.std.specs.FinMap.{contains_key, keys}
+use Rattle.camp_catch.specs.Arranging.{Arrange}
+use Rattle.camp_catch.specs.declared.catches.Catch.{Catch}
+use Rattle.camp_catch.proofs.ListResults.{arrange_by_members}
+use Rattle.camp_catch.proofs.MoveSteps.{names_decide}
+use Rattle.camp_branch.specs.Branches.{IsLawful, each_once, has_patch, is_among, name_of, names_of}
+use Rattle.camp_branch.specs.Inside.Stages.{DependsIn}
+use Rattle.camp_branch.specs.Obliterating.{ObliterateGives, other_names}
+use Rattle.camp_branch.specs.Pulling.{Outcome, MergesBehind, PullBy, PullGives, common_names}
+use Rattle.camp_branch.specs.declared.faults.Blocked.{Blocked}
+use Rattle.camp_branch.proofs.BranchFields.{Names}
+use Rattle.camp_branch.proofs.KeepLawful.{obliterates_keep_lawful}
+use Rattle.camp_branch.proofs.NameSets.{and_false, and_true, has_listed}
+use Rattle.camp_branch.proofs.Names.{is_among_is, other_way, same_name}
+
+kept_step : (p : List ℕ → Bool) (n x : List ℕ) (kept names : List (List ℕ)) (b c : Bool) → bytes_eq n x ≡ b → p x ≡ c → is_among kept n ≡ (is_among names n && p n) → is_among (cond c (x ∷ kept) kept) n ≡ ((b || is_among names n) && p n)
+kept_step p n x kept names true true e f rest =
+    ap (λ t. t || is_among kept n) e ∙ sym (ap p (same_name n x e) ∙ f)
+kept_step p n x kept names true false e f rest =
+    let fails = ap p (same_name n x e) ∙ f in
+    rest ∙ ap (λ t. is_among names n && t) fails ∙ and_false (is_among names n) ∙ sym fails
+kept_step p n x kept names false true e f rest = ap (λ t. t || is_among kept n) e ∙ rest
+kept_step p n x kept names false false e f rest = rest
+
+-- a name is among those that pass a test if it is there and passes it
+pub among_kept : (p : List ℕ → Bool) (names : List (List ℕ)) (n : List ℕ) → is_among (filter p names) n ≡ (is_among names n && p n)
+among_kept p [] n = refl
+among_kept p (x ∷ names) n = kept_step p n x (filter p names) names _ _ refl refl (among_kept p names n)
+
+once_step : (n x : List ℕ) (names once : List (List ℕ)) (b : Bool) → bytes_eq n x ≡ b → is_among once n ≡ is_among names n → (b || is_among (filter (λ other. not (bytes_eq x other)) once) n) ≡ (b || is_among names n)
+once_step n x names once true e rest = refl
+once_step n x names once false e rest =
+    among_kept (λ other. not (bytes_eq x other)) once n ∙ ap (λ t. is_among once n && not t) (other_way n x e) ∙ and_true (is_among once n) ∙ rest
+
+-- each name once, they are the same names
+pub among_once : (names : List (List ℕ)) (n : List ℕ) → is_among (each_once names) n ≡ is_among names n
+among_once [] n = refl
+among_once (x ∷ names) n = once_step n x names (each_once names) _ refl (among_once names n)
+
+pub among_others : (branch : List Catch) (gone : List (List ℕ)) (n : List ℕ) → is_among (other_names branch gone) n ≡ (has_patch branch n && not (is_among gone n))
+among_others branch gone n =
+    among_kept (λ name. not (is_among gone name)) (names_of branch) n ∙ ap (λ t. t && not (is_among gone n)) (among_once (map name_of branch) n)
+
+pub among_common : (from to : List Catch) (n : List ℕ) → is_among (common_names from to) n ≡ (has_patch from n && has_patch to n)
+among_common from to n =
+    among_kept (has_patch to) (names_of from) n ∙ ap (λ t. t && has_patch to n) (among_once (map name_of from) n)
+
+-- a set and a list have the same names
+pub same_members : (set : Names) (names : List (List ℕ)) → ((n : List ℕ) → contains_key set n ≡ is_among names n) → (n : List ℕ) → Contains (keys set) n ↔ Contains names n
+same_members set names same n =
+    (λ c. (is_among_is names n).1 (sym (same n) ∙ (names_decide set n).1 c), λ c. (names_decide set n).0 (same n ∙ (is_among_is names n).0 c))
+
+-- what an obliteration leaves has the names that stay
+pub left_has : (branch left : List Catch) (gone : List (List ℕ)) → IsLawful branch → ObliterateGives branch gone (Ok left) → (n : List ℕ) → has_patch left n ≡ (has_patch branch n && not (is_among gone n))
+left_has branch left gone lawful gives n =
+    sym (among_once (map name_of left) n) ∙ ap (λ names. is_among names n) (obliterates_keep_lawful.names branch left gone gives lawful) ∙ among_others branch gone n
+
+-- which names stay, by the index of a branch
+pub stays_by : (index staying : Names) (branch own : List Catch) (gone : List (List ℕ)) → ((n : List ℕ) → contains_key index n ≡ has_patch branch n) → branch ≡ own → ((n : List ℕ) → contains_key staying n ≡ (contains_key index n && not (is_among gone n))) → (n : List ℕ) → contains_key staying n ≡ (has_patch own n && not (is_among gone n))
+stays_by index staying branch own gone named is stays n =
+    stays n ∙ ap (λ b. b && not (is_among gone n)) (named n ∙ ap (λ l. has_patch l n) is)
+
+module _ (branch : List Catch) (gone : List (List ℕ)) (staying : Names) (stays : (n : List ℕ) → contains_key staying n ≡ (has_patch branch n && not (is_among gone n))) where
+  same_others : (n : List ℕ) → Contains (keys staying) n ↔ Contains (other_names branch gone) n
+  same_others = same_members staying (other_names branch gone) (λ n. stays n ∙ sym (among_others branch gone n))
+
+  pub obliterated : (list left rest : List Catch) → list ≡ branch → Arrange (keys staying) list left rest → ObliterateGives branch gone (Ok left)
+  obliterated list left rest is w =
+      inl (left, rest, arrange_by_members.arranged (keys staying) (other_names branch gone) same_others branch left rest (subst (λ l. Arrange (keys staying) l left rest) is w), refl)
+
+  pub obliterate_depends : (list : List Catch) (blocked : Blocked) → list ≡ branch → DependsIn (keys staying) list blocked → ObliterateGives branch gone (Err blocked)
+  obliterate_depends list blocked is v =
+      let w = subst (λ l. DependsIn (keys staying) l blocked) is v in
+      inr (w.0, w.1, arrange_by_members.sticks (keys staying) (other_names branch gone) same_others branch w.0 w.1 w.2, ap Err w.3)
+
+module _ (common others : List (List ℕ)) (same : (n : List ℕ) → Contains common n ↔ Contains others n) where
+  merges_by_members : (ours chosen to : List Catch) (outcome : Outcome) → MergesBehind common ours chosen to outcome → MergesBehind others ours chosen to outcome
+  merges_by_members ours chosen to outcome (inl w) =
+      inl (w.0, w.1, arrange_by_members.arranged common others same to w.0 w.1 w.2, w.3)
+  merges_by_members ours chosen to outcome (inr w) =
+      inr (w.0, w.1, arrange_by_members.sticks common others same to w.0 w.1 w.2, w.3)
+
+  -- a pull goes by which names are common, and not by their order or number
+  pub pull_by_members : (from to : List Catch) (wanted : List (List ℕ)) (outcome : Outcome) → PullBy common from to wanted outcome → PullBy others from to wanted outcome
+  pull_by_members from to wanted outcome (inl w) =
+      inl (
+        w.0,
+        w.1,
+        arrange_by_members.arranged common others same from w.0 w.1 w.2,
+        elim w.3 [
+          | inl v ↦ inl (v.0, v.1, v.2, merges_by_members w.0 v.0 to outcome v.3)
+          | inr v ↦ inr v
+        ],
+      )
+  pull_by_members from to wanted outcome (inr w) =
+      inr (w.0, w.1, arrange_by_members.sticks common others same from w.0 w.1 w.2, w.3)
+
+-- a pull by a set of the common names
+pub pull_by_set : (from to : List Catch) (wanted : List (List ℕ)) (common : Names) (outcome : Outcome) → ((n : List ℕ) → contains_key common n ≡ (has_patch from n && has_patch to n)) → PullBy (keys common) from to wanted outcome → PullGives from to wanted outcome
+pull_by_set from to wanted common outcome has =
+    pull_by_members (keys common) (common_names from to) (same_members common (common_names from to) (λ n. has n ∙ sym (among_common from to n))) from to wanted outcome
+
+-- which names are common, by the indexes of two branches
+pub common_by : (index other common : Names) (from to theirs ours : List Catch) → ((n : List ℕ) → contains_key index n ≡ has_patch theirs n) → theirs ≡ from → ((n : List ℕ) → contains_key other n ≡ has_patch ours n) → ours ≡ to → ((n : List ℕ) → contains_key common n ≡ (is_among (keys index) n && contains_key other n)) → (n : List ℕ) → contains_key common n ≡ (has_patch from n && has_patch to n)
+common_by index other common from to theirs ours named is named_too is_too has n =
+    has n ∙ (λ i. (sym (has_listed index n) ∙ named n ∙ ap (λ l. has_patch l n) is) i && (named_too n ∙ ap (λ l. has_patch l n) is_too) i)
+
+module _ (from to : List Catch) (wanted : List (List ℕ)) (common : Names) (has : (n : List ℕ) → contains_key common n ≡ (has_patch from n && has_patch to n)) (theirs ours : List Catch) (is : theirs ≡ from) (is_too : ours ≡ to) where
+  pub pull_goes : (taken : List Catch) → PullBy (keys common) theirs ours wanted (Ok (ours ++ taken)) → PullGives from to wanted (Ok (to ++ taken))
+  pull_goes taken w =
+      pull_by_set from to wanted common (Ok (to ++ taken)) has (subst (λ l. PullBy (keys common) from l wanted (Ok (l ++ taken))) is_too (subst (λ l. PullBy (keys common) l ours wanted (Ok (ours ++ taken))) is w))
+
+  pub pull_blocked : (blocked : Blocked) → PullBy (keys common) theirs ours wanted (Err blocked) → PullGives from to wanted (Err blocked)
+  pull_blocked blocked w =
+      pull_by_set from to wanted common (Err blocked) has (subst (λ l. PullBy (keys common) from l wanted (Err blocked)) is_too (subst (λ l. PullBy (keys common) l ours wanted (Err blocked)) is w))

@@ -1,0 +1,31 @@
+-- The stages of a pull, put together.
+use Rattle.std.proofs.Common.{ℕ, List, ◌++◌, Result, Ok, Err, refl, ap, inl, inr}
+use Rattle.std.specs.Prelude.{IfOk}
+use Rattle.std.specs.Result.{MatchResult}
+use Rattle.camp_catch.specs.Arranging.{Arrange, Align}
+use Rattle.camp_catch.specs.Laws.{keys_of}
+use Rattle.camp_catch.specs.MergingLists.{MergeLists}
+use Rattle.camp_catch.specs.declared.catches.Catch.{Catch}
+use Rattle.camp_branch.specs.Inside.Stages.{DependsIn, DoesNotMerge}
+use Rattle.camp_branch.specs.Pulling.{Outcome, MergesBehind, PullBy}
+use Rattle.camp_branch.specs.declared.faults.Blocked.{Blocked}
+
+-- what is said of either answer follows from what is said of it before
+pub either_answer : {X F E : Type 0} (P P' : X → Type 0) (Q Q' : F → Type 0) → ((x : X) → P x → P' x) → ((f : F) → Q f → Q' f) → (answer : Result (Result X F) E) → IfOk answer (λ a. MatchResult a P Q) → IfOk answer (λ a. MatchResult a P' Q')
+either_answer P P' Q Q' goes stops (Ok (Ok x)) w = goes x w
+either_answer P P' Q Q' goes stops (Ok (Err f)) w = stops f w
+either_answer P P' Q Q' goes stops (Err e) w = w
+
+module _ (common : List (List ℕ)) (ours chosen to theirs others : List Catch) (front : Arrange common to theirs others) where
+  pub no_merge : Align (keys_of theirs) ours theirs → (blocked : Blocked) → DoesNotMerge chosen others blocked → MergesBehind common ours chosen to (Err blocked)
+  no_merge same blocked w = inl (theirs, others, front, inl (same, inr (w.0, w.1, w.2, ap Err w.3)))
+
+  pub merges : Align (keys_of theirs) ours theirs → (taken : List Catch) → (beside : List Catch) × MergeLists chosen others taken beside → MergesBehind common ours chosen to (Ok (to ++ taken))
+  merges same taken w = inl (theirs, others, front, inl (same, inl (taken, w.0, w.1, refl)))
+
+module _ (common : List (List ℕ)) (from to : List Catch) (wanted : List (List ℕ)) (ours behind : List Catch) (front : Arrange common from ours behind) where
+  pub depends : (blocked : Blocked) → DependsIn wanted behind blocked → PullBy common from to wanted (Err blocked)
+  depends blocked w = inl (ours, behind, front, inr (w.0, w.1, w.2, ap Err w.3))
+
+  pub goes_behind : (chosen left : List Catch) → Arrange wanted behind chosen left → (outcome : Outcome) → MergesBehind common ours chosen to outcome → PullBy common from to wanted outcome
+  goes_behind chosen left choice outcome w = inl (ours, behind, front, inl (chosen, left, choice, w))

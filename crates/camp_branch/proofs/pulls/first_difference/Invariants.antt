@@ -1,0 +1,6 @@
+use Rattle.std.proofs.Common.{drop}
+use Rattle.camp_branch.proofs.Differences.{DiffersOn}
+use Rattle.camp_branch.proofs.pulls.first_difference.Given as goal
+
+abbrev pub invariant-loop-at : goal.invariant-loop-at
+invariant-loop-at l = DiffersOn l.list l.others (drop l.at l.list) (drop l.at l.others)

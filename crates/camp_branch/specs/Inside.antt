@@ -1,0 +1,2 @@
+-- What only functions that stay within the crate say.
+pub mod Stages

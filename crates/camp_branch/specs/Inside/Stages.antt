@@ -1,0 +1,32 @@
+-- Why a stage of a pull, or of an obliteration, does not go through.
+use Rattle.std.specs.Prelude.{◌≡◌, ◌⊎◌, ℕ, List}
+use Rattle.camp_prim.specs.declared.labels.Key.{Key}
+use Rattle.camp_catch.specs.Arranging.{ArrangeSticks, Align, AlignSticks}
+use Rattle.camp_catch.specs.Laws.{keys_of}
+use Rattle.camp_catch.specs.MergingLists.{MergeSticks}
+use Rattle.camp_catch.specs.declared.catches.Catch.{Catch}
+use Rattle.camp_branch.specs.Pulling.{DiffersAt}
+use Rattle.camp_branch.specs.declared.faults.Blocked.{Blocked}
+use Rattle.camp_branch.specs.declared.faults.Blocked.TheVariants.{Depends, Diverged, NoMerge}
+
+-- a patch of these names depends on another
+abbrev pub DependsIn : List (List ℕ) → List Catch → Blocked → Type 0
+DependsIn names list blocked =
+    (stuck : Key) × (on : Key) × ArrangeSticks names list stuck on × (blocked ≡ Depends stuck.name on.name)
+
+-- a common patch does not come to the front
+abbrev pub DivergesIn : List (List ℕ) → List Catch → Blocked → Type 0
+DivergesIn names list blocked =
+    (stuck : Key) × (on : Key) × ArrangeSticks names list stuck on × (blocked ≡ Diverged stuck.name)
+
+-- the common patches are not the same in the order of those of the other branch
+abbrev pub DivergesFrom : List Catch → List Catch → Blocked → Type 0
+DivergesFrom ours theirs blocked =
+    ((stuck : Key) × AlignSticks (keys_of theirs) ours stuck × (blocked ≡ Diverged stuck.name))
+    ⊎ ((aligned : List Catch) × (name : List ℕ)
+    × Align (keys_of theirs) ours aligned × DiffersAt aligned theirs name × (blocked ≡ Diverged name))
+
+-- two patches do not merge
+abbrev pub DoesNotMerge : List Catch → List Catch → Blocked → Type 0
+DoesNotMerge wanted others blocked =
+    (left : Key) × (right : Key) × MergeSticks wanted others left right × (blocked ≡ NoMerge left.name right.name)

@@ -1,0 +1,56 @@
+ghost use Rattle.std.specs.Prelude.{◌≡◌, ◌&&◌, ◌||◌, ℕ, List, not, map, IfOk};
+ghost use Rattle.camp_branch.specs.Branches.{is_among, name_of};
+ghost use Rattle.camp_branch.specs.Fields.{has_name, names_in};
+
+use camp_base::Name;
+use camp_catch::Catch;
+use camp_share::{Share, Shared, SharedMap};
+use std::alloc::{AllocError, Global};
+
+/// The names but for those that are to go.
+pub(crate) fn without(
+    names: &SharedMap<Name, ()>,
+    gone: &SharedMap<Name, ()>,
+) -> Result<SharedMap<Name, ()>, AllocError>
+    ensures { IfOk result (λ left. (name : List ℕ) →
+        has_name left name ≡ (has_name names.now name && not (is_among (names_in gone.now) name))) }
+{
+    let mut left = names.share()?;
+    for entry in gone.iter() {
+        left = left.without(&entry.0)?;
+    }
+    Ok(left)
+}
+
+/// The names that two sets have.
+pub(crate) fn common(
+    alloc: Global,
+    names: &SharedMap<Name, ()>,
+    others: &SharedMap<Name, ()>,
+) -> Result<SharedMap<Name, ()>, AllocError>
+    ensures { IfOk result (λ both. (name : List ℕ) →
+        has_name both name ≡ (is_among (names_in names.now) name && has_name others.now name)) }
+{
+    let mut both = SharedMap::new(alloc);
+    for entry in names.iter() {
+        if others.contains_key(&entry.0) {
+            both = both.inserted(entry.0, ())?;
+        }
+    }
+    Ok(both)
+}
+
+/// The names, and those of the patches that catches are of.
+pub(crate) fn with_taken(
+    names: &SharedMap<Name, ()>,
+    taken: &[Shared<Catch>],
+) -> Result<SharedMap<Name, ()>, AllocError>
+    ensures { IfOk result (λ all. (name : List ℕ) →
+        has_name all name ≡ (has_name names.now name || is_among (map name_of taken.now) name)) }
+{
+    let mut all = names.share()?;
+    for catch in taken {
+        all = all.inserted(*catch.name(), ())?;
+    }
+    Ok(all)
+}
