@@ -2,9 +2,9 @@
 use Rattle.std.proofs.Common.{◌≡◌, ℕ, ◌+◌, ◌*◌, ◌<◌, ◌≤◌, List, ◌∷◌, ◌++◌, length, get_or, drop, map, count_by, ap, sym, ◌∙◌, append_assoc, arith}
 use Rattle.std.proofs.lemmas.List.{drop-map, drop_more}
 use Rattle.std.specs.List.{AllByRecursion}
-use Rattle.camp_repo.specs.States.{Contents}
-use Rattle.camp_repo.specs.declared.calls.Call.{Call}
-use Rattle.camp_repo.specs.Calls.{is_writing}
+use Rattle.camp_trunk.specs.States.{Contents}
+use Rattle.camp_trunk.specs.declared.calls.Call.{Call}
+use Rattle.camp_trunk.specs.Calls.{is_writing}
 use Rattle.camp_run.specs.Output.{state_after_all, answers_from, sections_from, serial_output}
 
 -- the calls that are left lead from this text and state to where all led from the first

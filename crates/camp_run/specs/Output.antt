@@ -1,12 +1,12 @@
 -- What a script answers, run in one thread.
 use Rattle.std.specs.Prelude.{ℕ, List, [], ◌∷◌, ◌++◌}
-use Rattle.camp_repo.specs.States.{Contents}
-use Rattle.camp_repo.specs.Steps.{initial, step}
-use Rattle.camp_repo.specs.declared.calls.Call.{Call}
-use Rattle.camp_repo.specs.declared.calls.Reply.{Reply}
-use Rattle.camp_repo.specs.declared.calls.Reply.TheVariants.{Done}
-use Rattle.camp_repo.specs.declared.states.Decided.{Decided}
-use Rattle.camp_repo.specs.declared.states.Decided.TheVariants.{Next, Answer}
+use Rattle.camp_trunk.specs.States.{Contents}
+use Rattle.camp_trunk.specs.Steps.{initial, step}
+use Rattle.camp_trunk.specs.declared.calls.Call.{Call}
+use Rattle.camp_trunk.specs.declared.calls.Reply.{Reply}
+use Rattle.camp_trunk.specs.declared.calls.Reply.TheVariants.{Done}
+use Rattle.camp_trunk.specs.declared.states.Decided.{Decided}
+use Rattle.camp_trunk.specs.declared.states.Decided.TheVariants.{Next, Answer}
 use Rattle.camp_script.specs.Texts.{reply_text}
 
 -- the reply to a call: an accepted call is done, as the one of its number

@@ -1,13 +1,13 @@
 ghost use Rattle.std.specs.Prelude.{◌≡◌, ◌<◌, ◌^◌, ◌+◌, ◌-◌, ◌++◌, ◌≤◌, ◌⊎◌, Ok, IfOk, IfErr, OnOk, count_by};
-ghost use Rattle.camp_repo.specs.Steps.{step};
-ghost use Rattle.camp_repo.specs.Calls.{is_writing};
+ghost use Rattle.camp_trunk.specs.Steps.{step};
+ghost use Rattle.camp_trunk.specs.Calls.{is_writing};
 ghost use Rattle.camp_script.specs.Texts.{reply_text};
 ghost use Rattle.camp_run.specs.Output.{reply_of, state_after, state_after_all, answers_from, serial_output};
 ghost use Rattle.camp_run.specs.Runs.{Runs, ReadsAll, IsOutput, HasNoOutput};
 ghost use Rattle.camp_run.specs.declared.faults.RunFault.TheVariants as fault;
 
 use crate::RunFault;
-use camp_repo::{Call, Decided, Reply, State};
+use camp_trunk::{Call, Decided, Reply, State};
 use camp_script::{Script, ScriptFault, append_reply, read_script, write_text};
 use std::alloc::{AllocError, Global};
 use std::io::{ErrorKind, Read, Write};

@@ -11,12 +11,12 @@ use Rattle.camp_base.specs.Bytes.{is_name, is_path, is_line, is_name_byte, is_gr
 use Rattle.camp_base.specs.declared.TheConstants.{MAX_NAME_LENGTH, MAX_PATH_LENGTH}
 use Rattle.camp_prim.specs.declared.primitives.Primitive.{Primitive}
 use Rattle.camp_prim.specs.declared.primitives.Primitive.TheVariants.{Add, Remove, Hunk}
-use Rattle.camp_repo.specs.declared.calls.Call.{Call}
-use Rattle.camp_repo.specs.declared.calls.Call.TheVariants as call
+use Rattle.camp_trunk.specs.declared.calls.Call.{Call}
+use Rattle.camp_trunk.specs.declared.calls.Call.TheVariants as call
 use Rattle.camp_script.specs.Canonical.{ReadsBack, IsCall, IsChange, call_text, section_text}
 use Rattle.camp_script.specs.Commands.{◌>>=◌, command_of, file_at, name_at, path_at, number_at, is_line_number}
 use Rattle.camp_script.specs.Lines.{lines_of, is_skipped}
-use Rattle.camp_repo.specs.Calls.{is_writing}
+use Rattle.camp_trunk.specs.Calls.{is_writing}
 use Rattle.camp_script.specs.Reading.{Progress, is_full, after_command, after_words, read_from}
 use Rattle.camp_script.specs.Texts.{line_text, signed_line}
 use Rattle.camp_script.specs.declared.commands.Command.TheVariants.{Whole}

@@ -7,9 +7,9 @@ use Rattle.camp_base.specs.Trees.{Lines}
 use Rattle.camp_prim.specs.Hunks.{IsInRange}
 use Rattle.camp_prim.specs.declared.primitives.Primitive.{Primitive}
 use Rattle.camp_prim.specs.declared.primitives.Primitive.TheVariants.{Add, Remove, Hunk}
-use Rattle.camp_repo.specs.Calls.{is_writing}
-use Rattle.camp_repo.specs.declared.calls.Call.{Call}
-use Rattle.camp_repo.specs.declared.calls.Call.TheVariants as call
+use Rattle.camp_trunk.specs.Calls.{is_writing}
+use Rattle.camp_trunk.specs.declared.calls.Call.{Call}
+use Rattle.camp_trunk.specs.declared.calls.Call.TheVariants as call
 use Rattle.camp_script.specs.Texts.{line_text, signed_line}
 use Rattle.camp_script.specs.Reading.{script_of}
 

@@ -5,7 +5,7 @@ use Rattle.std.specs.List.{list_all}
 use Rattle.camp_base.specs.Bytes.{is_between, is_name, is_path}
 use Rattle.camp_prim.specs.declared.primitives.Primitive.{Primitive}
 use Rattle.camp_prim.specs.declared.primitives.Primitive.TheVariants.{Add, Remove}
-use Rattle.camp_repo.specs.declared.calls.Call.TheVariants as call
+use Rattle.camp_trunk.specs.declared.calls.Call.TheVariants as call
 use Rattle.camp_script.specs.Faults.{fault_at}
 use Rattle.camp_script.specs.declared.commands.WholeFile.{WholeFile}
 use Rattle.camp_script.specs.declared.commands.WholeFile.TheVariants as file

@@ -5,9 +5,9 @@ use Rattle.camp_base.specs.Bytes.{is_line}
 use Rattle.camp_base.specs.Trees.{Lines}
 use Rattle.camp_prim.specs.Hunks.{Edit}
 use Rattle.camp_prim.specs.declared.primitives.Primitive.TheVariants.{Hunk}
-use Rattle.camp_repo.specs.Calls.{is_writing}
-use Rattle.camp_repo.specs.declared.calls.Call.{Call}
-use Rattle.camp_repo.specs.declared.calls.Call.TheVariants as call
+use Rattle.camp_trunk.specs.Calls.{is_writing}
+use Rattle.camp_trunk.specs.declared.calls.Call.{Call}
+use Rattle.camp_trunk.specs.declared.calls.Call.TheVariants as call
 use Rattle.camp_script.specs.Lines.{lines_of, words_of, is_skipped}
 use Rattle.camp_script.specs.Commands.{◌>>=◌, command_of}
 use Rattle.camp_script.specs.Faults.{fault_at}

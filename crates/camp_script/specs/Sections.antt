@@ -1,8 +1,8 @@
 -- The limits of a script.
 use Rattle.std.specs.Prelude.{◌≤◌, List, length, count_by}
 use Rattle.std.specs.List.{AllByRecursion}
-use Rattle.camp_repo.specs.Calls.{is_writing}
-use Rattle.camp_repo.specs.declared.calls.Call.{Call}
+use Rattle.camp_trunk.specs.Calls.{is_writing}
+use Rattle.camp_trunk.specs.declared.calls.Call.{Call}
 
 -- a script has 64 sections at most, the opening and 63 clients, and each has 65,536 writing calls at most
 pub record AreWithinLimits (sections : List (List Call)) : Type 0 where

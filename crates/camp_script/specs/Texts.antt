@@ -4,10 +4,10 @@ use Rattle.std.specs.List.{flat_map, join_with_byte}
 use Rattle.std.specs.Fmt.{decimal}
 use Rattle.std.specs.FinMap.{entries, len}
 use Rattle.camp_base.specs.Trees.{Lines, Files}
-use Rattle.camp_repo.specs.declared.calls.Refusal.{Refusal}
-use Rattle.camp_repo.specs.declared.calls.Refusal.TheVariants.{NoBranch, PatchExists, TooLarge, DoesNotApply}
-use Rattle.camp_repo.specs.declared.calls.Reply.{Reply}
-use Rattle.camp_repo.specs.declared.calls.Reply.TheVariants.{Done, Refused, Tree}
+use Rattle.camp_trunk.specs.declared.calls.Refusal.{Refusal}
+use Rattle.camp_trunk.specs.declared.calls.Refusal.TheVariants.{NoBranch, PatchExists, TooLarge, DoesNotApply}
+use Rattle.camp_trunk.specs.declared.calls.Reply.{Reply}
+use Rattle.camp_trunk.specs.declared.calls.Reply.TheVariants.{Done, Refused, Tree}
 
 -- words on a line: one space between them, and LF behind
 abbrev pub line_text : List (List ℕ) → List ℕ

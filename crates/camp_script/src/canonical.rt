@@ -1,13 +1,13 @@
 //! The law of the canonical text of calls.
 ghost use Rattle.std.specs.Prelude.{◌≡◌, ◌∷◌, ◌≤◌, [], Ok, count_by};
 ghost use Rattle.std.specs.List.{AllByRecursion};
-ghost use Rattle.camp_repo.specs.Calls.{is_writing};
+ghost use Rattle.camp_trunk.specs.Calls.{is_writing};
 ghost use Rattle.camp_script.specs.Canonical.{AreLines, IsCall, IsChange, ReadsBack, section_text};
 ghost use Rattle.camp_script.specs.Reading.{script_of};
 
 use camp_base::Line;
 use camp_prim::Primitive;
-use camp_repo::Call;
+use camp_trunk::Call;
 
 /// Each section of calls has a canonical text, and reading that text gives the section back.
 pub fn canonical_text_reads_back()

@@ -7,7 +7,7 @@ ghost use Rattle.camp_script.specs.Gives.{Gives};
 use crate::faults::{FaultKind, ScriptFault, at_line};
 use camp_base::{BaseFault, Name, Path};
 use camp_prim::Primitive;
-use camp_repo::Call;
+use camp_trunk::Call;
 use std::alloc::Global;
 
 /// The most digits of the number of a line.

@@ -1,7 +1,7 @@
 ghost use Rattle.std.specs.Prelude.{◌≡◌, if◌then◌else◌, true, IfErr, IsTrue, Some};
 ghost use Rattle.camp_base.specs.Bytes.{is_line};
 ghost use Rattle.camp_script.specs.declared.faults.FaultKind.TheVariants as kind;
-ghost use Rattle.camp_repo.specs.Calls.{is_writing};
+ghost use Rattle.camp_trunk.specs.Calls.{is_writing};
 ghost use Rattle.camp_script.specs.Commands.{IsPlaced};
 ghost use Rattle.camp_script.specs.Faults.{fault_at};
 ghost use Rattle.camp_script.specs.Gives.{Gives};
@@ -15,7 +15,7 @@ use crate::lines::{first_words, is_skipped};
 use crate::scripts::Script;
 use camp_base::{BaseFault, Line};
 use camp_prim::{Lines, Primitive};
-use camp_repo::Call;
+use camp_trunk::Call;
 use std::alloc::Global;
 use std::marker::Model;
 

@@ -1,5 +1,5 @@
 ghost use Rattle.std.specs.Prelude.{◌≡◌, ◌≤◌, ◌∷◌, [], map, count_by};
-ghost use Rattle.camp_repo.specs.Calls.{is_writing};
+ghost use Rattle.camp_trunk.specs.Calls.{is_writing};
 ghost use Rattle.camp_script.specs.Gives.{Gives};
 ghost use Rattle.camp_script.specs.Reading.{script_of};
 ghost use Rattle.camp_script.specs.Sections.{AreWithinLimits};
@@ -8,7 +8,7 @@ use crate::faults::ScriptFault;
 use crate::lines::without_end;
 use crate::readings::Reading;
 use bstr::ByteSlice;
-use camp_repo::Call;
+use camp_trunk::Call;
 use std::alloc::Global;
 use std::marker::Model;
 
@@ -20,7 +20,7 @@ pub struct Script {
 
 impl Model for Script {
     ghost use Rattle.std.specs.Prelude.{List, map};
-    ghost use Rattle.camp_repo.specs.declared.calls.Call.{Call};
+    ghost use Rattle.camp_trunk.specs.declared.calls.Call.{Call};
 
     ghost Value = { List (List Call) };
 

@@ -1,5 +1,5 @@
 use crate::{append_reply, write_reply, write_text};
-use camp_repo::Reply;
+use camp_trunk::Reply;
 use std::alloc::Global;
 use std::io;
 use std::io::{ErrorKind, Write};

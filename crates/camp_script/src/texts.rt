@@ -7,7 +7,7 @@ ghost use Rattle.camp_script.specs.Writing.{Extends, ExtendsOrKeeps, AppendsFron
 
 use crate::ScriptFault;
 use camp_base::{Line, Path, Tree};
-use camp_repo::{Refusal, Reply};
+use camp_trunk::{Refusal, Reply};
 use camp_share::SharedList;
 use itoa::Buffer;
 use std::alloc::{AllocError, Global};

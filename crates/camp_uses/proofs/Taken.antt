@@ -4,17 +4,17 @@ use Rattle.std.specs.List.{AllByRecursion}
 use Rattle.std.proofs.lemmas.Option.{same_Some}
 use Rattle.camp_prim.specs.declared.named.Named.{Named}
 use Rattle.camp_prim.specs.declared.primitives.Primitive.{Primitive}
-use Rattle.camp_repo.specs.Laws.{AcceptedCallsHaveEffect, Records}
-use Rattle.camp_repo.specs.Refusals.{Refuses, RefusalsAreExact}
-use Rattle.camp_repo.specs.States.{Contents}
-use Rattle.camp_repo.specs.Steps.{patches_of, recorded, refused, step}
-use Rattle.camp_repo.specs.declared.calls.Call.TheVariants as call
-use Rattle.camp_repo.specs.declared.calls.Refusal.{Refusal}
-use Rattle.camp_repo.specs.declared.calls.Refusal.TheVariants.{PatchExists}
-use Rattle.camp_repo.specs.declared.calls.Reply.{Reply}
-use Rattle.camp_repo.specs.declared.calls.Reply.TheVariants as reply
-use Rattle.camp_repo.specs.declared.states.Decided.{Decided}
-use Rattle.camp_repo.specs.declared.states.Decided.TheVariants.{Next, Answer}
+use Rattle.camp_trunk.specs.Laws.{AcceptedCallsHaveEffect, Records}
+use Rattle.camp_trunk.specs.Refusals.{Refuses, RefusalsAreExact}
+use Rattle.camp_trunk.specs.States.{Contents}
+use Rattle.camp_trunk.specs.Steps.{patches_of, recorded, refused, step}
+use Rattle.camp_trunk.specs.declared.calls.Call.TheVariants as call
+use Rattle.camp_trunk.specs.declared.calls.Refusal.{Refusal}
+use Rattle.camp_trunk.specs.declared.calls.Refusal.TheVariants.{PatchExists}
+use Rattle.camp_trunk.specs.declared.calls.Reply.{Reply}
+use Rattle.camp_trunk.specs.declared.calls.Reply.TheVariants as reply
+use Rattle.camp_trunk.specs.declared.states.Decided.{Decided}
+use Rattle.camp_trunk.specs.declared.states.Decided.TheVariants.{Next, Answer}
 
 found_at : (P : List Named → Type 0) (t : Bool) (ps found : List Named) (rest : Option (List Named)) → P ps → (rest ≡ Some found → P found) → cond t (Some ps) rest ≡ Some found → P found
 found_at P true ps found rest here behind e = subst P (same_Some _ _ e) here

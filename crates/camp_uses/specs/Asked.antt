@@ -1,9 +1,9 @@
 -- What a caller that keeps a state sees of a call.
 use Rattle.std.specs.Prelude.{◌≡◌, ◌+◌, Result, Ok, Err}
 use Rattle.std.specs.declared.alloc.AllocError.{AllocError}
-use Rattle.camp_repo.specs.States.{Contents}
-use Rattle.camp_repo.specs.declared.calls.Reply.{Reply}
-use Rattle.camp_repo.specs.declared.calls.Reply.TheVariants.{Done, Refused, Tree}
+use Rattle.camp_trunk.specs.States.{Contents}
+use Rattle.camp_trunk.specs.declared.calls.Reply.{Reply}
+use Rattle.camp_trunk.specs.declared.calls.Reply.TheVariants.{Done, Refused, Tree}
 
 -- an accepted call is counted; a refusal, a question and a want of memory leave all as it was
 abbrev pub Leaves : Contents → Result Reply AllocError → Contents → Type 0

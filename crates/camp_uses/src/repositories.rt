@@ -1,15 +1,15 @@
-//! Callers of `camp_repo`.
+//! Callers of `camp_trunk`.
 ghost use Rattle.std.specs.Prelude.{◌≡◌, ◌<◌, ◌-◌, ◌^◌, List, None, Some, IfOk, IfSome, MatchOption};
 ghost use Rattle.camp_prim.specs.declared.named.Named.{Named};
-ghost use Rattle.camp_repo.specs.Steps.{patches_of};
-ghost use Rattle.camp_repo.specs.Trees.{tree_of};
-ghost use Rattle.camp_repo.specs.declared.calls.Refusal.TheVariants as refusal;
-ghost use Rattle.camp_repo.specs.declared.calls.Reply.TheVariants as reply;
+ghost use Rattle.camp_trunk.specs.Steps.{patches_of};
+ghost use Rattle.camp_trunk.specs.Trees.{tree_of};
+ghost use Rattle.camp_trunk.specs.declared.calls.Refusal.TheVariants as refusal;
+ghost use Rattle.camp_trunk.specs.declared.calls.Reply.TheVariants as reply;
 ghost use Rattle.camp_uses.specs.Asked.{Leaves};
 
 use camp_base::{Name, Tree};
 use camp_prim::Primitive;
-use camp_repo::{
+use camp_trunk::{
     Call, Decided, Reply, State, accepted_calls_have_effect, questions_are_answered,
     refusals_are_exact,
 };

@@ -3,7 +3,7 @@ ghost use Rattle.std.specs.Prelude.{◌≡◌, ◌++◌, ◌∷◌, [], IfOk, If
 ghost use Rattle.std.specs.Fmt.{decimal};
 ghost use Rattle.camp_script.specs.declared.faults.ScriptFault.TheVariants as fault;
 
-use camp_repo::Reply;
+use camp_trunk::Reply;
 use camp_script::{Script, ScriptFault, append_reply, read_script};
 use std::alloc::{AllocError, Global};
 

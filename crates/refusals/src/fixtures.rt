@@ -1,7 +1,7 @@
 use crate::stops::Stop;
 use camp_base::{Line, Name, Path, Tree};
 use camp_prim::{Lines, Named, Primitive};
-use camp_repo::Call;
+use camp_trunk::Call;
 use std::alloc::Global;
 
 /// The lines of these texts.

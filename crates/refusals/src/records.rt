@@ -1,7 +1,7 @@
 use crate::fixtures;
 use crate::stops::{Stop, expect, value_of};
 use camp_base::{Name, Tree};
-use camp_repo::{Branch, Call, Decided, Refusal, Reply, State};
+use camp_trunk::{Branch, Call, Decided, Refusal, Reply, State};
 use std::alloc::Global;
 
 /// Makes the calls of repositories.

@@ -1,7 +1,7 @@
 use crate::fixtures;
 use crate::stops::{Stop, expect, value_of};
 use camp_base::Name;
-use camp_repo::{Call, Refusal, Reply};
+use camp_trunk::{Call, Refusal, Reply};
 use camp_script::{FaultKind, LineFault, ScriptFault, append_reply, read_script, write_reply};
 use std::alloc::Global;
 

@@ -2,7 +2,7 @@ use crate::operations::Operation;
 use anyhow::{Result, bail, ensure};
 use camp_base::{Name, Path};
 use camp_prim::Primitive;
-use camp_repo::{Call, Decided, State};
+use camp_trunk::{Call, Decided, State};
 use std::alloc::Global;
 
 /// Takes an operation on a state with a branch of so many patches, each of which adds a file.

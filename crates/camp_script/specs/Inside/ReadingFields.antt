@@ -1,8 +1,8 @@
 -- How the progress of a reader lies in its fields.
 use Rattle.std.specs.Prelude.{◌≡◌, ◌≤◌, ◌<◌, count_by, Option, None, Some, List}
 use Rattle.std.specs.Option.{option_map}
-use Rattle.camp_repo.specs.Calls.{is_writing}
-use Rattle.camp_repo.specs.declared.calls.Call.{Call}
+use Rattle.camp_trunk.specs.Calls.{is_writing}
+use Rattle.camp_trunk.specs.declared.calls.Call.{Call}
 use Rattle.camp_script.specs.Reading.{Open, Progress}
 use Rattle.camp_script.specs.declared.readings.Body.{Body}
 use Rattle.camp_script.specs.declared.readings.Reading.TheInside.{Inside}

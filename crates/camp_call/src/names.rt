@@ -1,0 +1,62 @@
+ghost use Rattle.std.specs.Prelude.{◌≡◌, ◌↔◌, IfOk, IsTrue};
+
+use camp_base::Name;
+use std::alloc::AllocError;
+use std::marker::Model;
+
+/// Names in an order of their own; a name may be there twice.
+#[derive(Debug, Drop)]
+pub struct Names {
+    names: Vec<Name>,
+}
+
+impl Model for Names {
+    ghost use Rattle.std.specs.Prelude.{List, ℕ};
+
+    ghost Value = { List (List ℕ) };
+
+    ghost view = { λ list. list.names.items };
+}
+
+impl Names {
+    /// These names. It takes no memory.
+    pub fn new(names: Vec<Name>) -> Names
+        ensures { result ≡ names.items }
+    {
+        Names { names }
+    }
+
+    pub fn as_slice(&self) -> &[Name]
+        ensures { result.now ≡ self.now }
+    {
+        &self.names
+    }
+
+    pub fn try_clone(&self) -> Result<Names, AllocError>
+        ensures { IfOk result (λ copy. copy ≡ self.now) }
+    {
+        let names = self.names.clone()?;
+        Ok(Names { names })
+    }
+
+    /// Whether the two are the same names in the same order. It takes no memory.
+    pub fn is_same(&self, other: &Names) -> bool
+        ensures { IsTrue result ↔ (self.now ≡ other.now) }
+    {
+        if self.names.len() != other.names.len() {
+            return false;
+        }
+        for (at, name) in self.names.iter().enumerate() {
+            if !is_same_name(name, &other.names[at]) {
+                return false;
+            }
+        }
+        true
+    }
+}
+
+fn is_same_name(name: &Name, other: &Name) -> bool
+    ensures { IsTrue result ↔ (name.now ≡ other.now) }
+{
+    name == other
+}
