@@ -2,6 +2,7 @@
 use Rattle.std.specs.Prelude.{Bool, true, false}
 use Rattle.camp_call.specs.declared.calls.Call.{Call}
 use Rattle.camp_call.specs.declared.calls.Call.TheVariants as call
+use Rattle.camp_call.specs.Patches.{IsPatchSized}
 
 -- whether a call writes: any but a question
 abbrev pub is_writing : Call → Bool
@@ -12,3 +13,13 @@ is_writing (call.Obliterate branch names) = true
 is_writing (call.Tree branch) = false
 is_writing (call.Conflicts branch) = false
 is_writing (call.Names branch) = false
+
+-- a record has as many changes as a patch may have, as each call has that a program holds
+abbrev pub IsCall : Call → Type 0
+IsCall (call.Branch new from) = Unit {0}
+IsCall (call.Record branch name changes) = IsPatchSized changes
+IsCall (call.Pull from to names) = Unit {0}
+IsCall (call.Obliterate branch names) = Unit {0}
+IsCall (call.Tree branch) = Unit {0}
+IsCall (call.Conflicts branch) = Unit {0}
+IsCall (call.Names branch) = Unit {0}

@@ -1,0 +1,105 @@
+-- The laws of what calls come to.
+use Rattle.std.specs.Prelude.{◌≡◌, ◌≢◌, ℕ, ◌+◌, not, List, [], ◌∷◌, ◌++◌, Option, Some, filter}
+use Rattle.camp_base.specs.Trees.{Files}
+use Rattle.camp_prim.specs.declared.primitives.Primitive.{Primitive}
+use Rattle.camp_catch.specs.declared.catches.Catch.{Catch}
+use Rattle.camp_branch.specs.Branches.{LeadsTo, has_patch, is_among, names_of, recorded}
+use Rattle.camp_branch.specs.Laws.{AppliesEach}
+use Rattle.camp_branch.specs.Obliterating.{other_names}
+use Rattle.camp_call.specs.Calls.{IsCall}
+use Rattle.camp_call.specs.declared.calls.Call.{Call}
+use Rattle.camp_call.specs.declared.calls.Call.TheVariants as call
+use Rattle.camp_call.specs.declared.replies.Reply.TheVariants as reply
+use Rattle.camp_object.specs.Objects as object
+use Rattle.camp_object.specs.declared.objects.Decided.TheVariants.{Next, Answer}
+use Rattle.camp_repo.specs.Lawful.{IsLawful, names_of_branches}
+use Rattle.camp_repo.specs.Objects.{repository}
+use Rattle.camp_repo.specs.States.{Contents, catches_of, initial}
+use Rattle.camp_repo.specs.Steps.{listed, step, wanted}
+
+-- a branch has these catches
+abbrev pub Has : Contents → List ℕ → List Catch → Type 0
+Has state branch catches = catches_of state.branches branch ≡ Some catches
+
+-- one more call is counted, and no branch but this one changes, comes or goes
+pub record ChangesOne (branch : List ℕ) (old new : Contents) : Type 0 where
+  pub counted : new.count ≡ old.count + 1
+  pub names : names_of_branches new.branches ≡ names_of_branches old.branches
+  pub others : (other : List ℕ) → other ≢ branch → catches_of new.branches other ≡ catches_of old.branches other
+
+-- a new branch comes last, with the catches of another; one more call is counted
+pub record Copies (new_branch from : List ℕ) (old new : Contents) : Type 0 where
+  pub counted : new.count ≡ old.count + 1
+  pub catches : List Catch
+  pub was : Has old from catches
+  pub becomes : new.branches ≡ old.branches ++ (new_branch, catches) ∷ []
+
+-- a patch of these changes is put at the end of a branch, and they lead, one after the other, from the tree of the branch
+-- to its next one
+pub record Records (branch name : List ℕ) (changes : List Primitive) (old new : Contents) : Type 0 where
+  pub changes_one : ChangesOne branch old new
+  pub catches : List Catch
+  pub was : Has old branch catches
+  pub becomes : Has new branch (catches ++ recorded name 1 changes)
+  pub tree : Files
+  pub next_tree : Files
+  pub leads : LeadsTo catches tree
+  pub applies : AppliesEach changes tree next_tree
+
+-- a branch keeps its catches, and has further ones behind them; its names are its old ones and then, in the order of the
+-- other branch, the wanted ones
+pub record Pulls (from to : List ℕ) (names : Option (List (List ℕ))) (old new : Contents) : Type 0 where
+  pub changes_one : ChangesOne to old new
+  pub theirs : List Catch
+  pub ours : List Catch
+  pub taken : List Catch
+  pub from_has : Has old from theirs
+  pub to_has : Has old to ours
+  pub becomes : Has new to (ours ++ taken)
+  pub named :
+      names_of (ours ++ taken) ≡ names_of ours ++ filter (is_among (wanted ours (listed theirs names))) (names_of theirs)
+
+-- a branch has its other names, in their order
+pub record Obliterates (branch : List ℕ) (names : List (List ℕ)) (old new : Contents) : Type 0 where
+  pub changes_one : ChangesOne branch old new
+  pub catches : List Catch
+  pub left : List Catch
+  pub was : Has old branch catches
+  pub becomes : Has new branch left
+  pub named : names_of left ≡ other_names catches names
+
+-- the effect of an accepted call; a question is never accepted, since it changes nothing
+abbrev pub Effect : Call → Contents → Contents → Type 0
+Effect (call.Branch new_branch from) old new = Copies new_branch from old new
+Effect (call.Record branch name changes) old new = Records branch name changes old new
+Effect (call.Pull from to names) old new = Pulls from to names old new
+Effect (call.Obliterate branch names) old new = Obliterates branch names old new
+Effect (call.Tree branch) old new = ⊥
+Effect (call.Conflicts branch) old new = ⊥
+Effect (call.Names branch) old new = ⊥
+
+-- each accepted call has its effect
+abbrev pub AcceptedCallsHaveEffect : Type 0
+AcceptedCallsHaveEffect =
+    (state : Contents) (call : Call) (next : Contents) → IsLawful state → step state call ≡ Next next →
+    Effect call state next
+
+-- a new repository is lawful
+abbrev pub InitialIsLawful : Type 0
+InitialIsLawful = IsLawful initial
+
+-- from a lawful state each accepted call leads to a lawful one
+abbrev pub StepsKeepLawful : Type 0
+StepsKeepLawful =
+    (state : Contents) (call : Call) (next : Contents) → IsCall call → IsLawful state → step state call ≡ Next next →
+    IsLawful next
+
+-- a lawful state answers the question for the tree of a branch with the tree that its catches lead to
+abbrev pub TreesAreAnswered : Type 0
+TreesAreAnswered =
+    (state : Contents) (branch : List ℕ) (catches : List Catch) → IsLawful state → Has state branch catches →
+    (tree : Files) × LeadsTo catches tree × (step state (call.Tree branch) ≡ Answer (reply.Tree tree))
+
+-- the repository is an object
+abbrev pub RepositoryIsLawful : Type 0
+RepositoryIsLawful = object.IsLawful repository

@@ -1,0 +1,45 @@
+-- The repository as an object that one thread owns.
+use Rattle.std.specs.Prelude.{◌≡◌, ℕ, Option, None, Some}
+use Rattle.camp_call.specs.Calls.{is_writing}
+use Rattle.camp_call.specs.declared.calls.Call.{Call}
+use Rattle.camp_call.specs.declared.replies.Reply.{Reply}
+use Rattle.camp_call.specs.declared.replies.Reply.TheVariants as reply
+use Rattle.camp_object.specs.Objects.{Sequential}
+use Rattle.camp_object.specs.declared.objects.Decided.TheVariants.{Next, Answer}
+use Rattle.camp_repo.specs.States.{Contents, initial}
+use Rattle.camp_repo.specs.Steps.{Decision, step}
+
+-- the state that a decision leads to, if it leads on
+abbrev pub next_of : Decision → Option Contents
+next_of (Next state) = Some state
+next_of (Answer answer) = None
+
+-- the number that a reply tells, if it is one to an accepted call
+abbrev pub number_told : Reply → Option ℕ
+number_told (reply.Done at) = Some at
+number_told (reply.Refused refusal) = None
+number_told (reply.Tree tree) = None
+number_told (reply.Conflicts pairs) = None
+number_told (reply.Names names) = None
+
+-- the repository as an object: a call is accepted where it comes to a next state
+abbrev pub repository : Sequential Contents Call Reply
+repository = record {
+  initial = initial;
+  after = λ state call. next_of (step state call);
+  answers = λ state call answer. step state call ≡ Answer answer;
+  count = λ state. state.count;
+  is_writing = is_writing;
+  done = reply.Done;
+  done_at = number_told;
+}
+
+-- the reply that a decision gives: an accepted call is told its number
+abbrev pub reply_of : Decision → Reply
+reply_of (Next state) = reply.Done state.count
+reply_of (Answer answer) = answer
+
+-- the state behind a decision
+abbrev pub state_behind : Contents → Decision → Contents
+state_behind state (Next next) = next
+state_behind state (Answer answer) = state

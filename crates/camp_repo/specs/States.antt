@@ -1,0 +1,48 @@
+-- The state of a repository as plain data.
+use Rattle.std.specs.Prelude.{ℕ, Bool, List, [], ◌∷◌, ◌++◌, Option, None, Some, bytes_eq, codes, if◌then◌else◌}
+use Rattle.std.specs.List.{flat_map, list_any}
+use Rattle.std.specs.Option.{option_and_then}
+use Rattle.std.specs.FinMap.{empty}
+use Rattle.camp_base.specs.Trees.{Files}
+use Rattle.camp_prim.specs.Applied.{applied}
+use Rattle.camp_prim.specs.declared.named.Named.{Named}
+use Rattle.camp_catch.specs.Catches.{effect_of}
+use Rattle.camp_catch.specs.declared.catches.Catch.{Catch}
+use Rattle.camp_branch.specs.Branches.{has_patch}
+
+-- branches, each a name and its catches
+abbrev pub Branches : Type 0
+Branches = List (List ℕ × List Catch)
+
+-- the branches in order of creation, and how many calls were accepted
+pub record Contents : Type 0 where
+  pub branches : Branches
+  pub count : ℕ
+
+-- a new repository: one branch `main` without a patch, and no call accepted
+abbrev pub initial : Contents
+initial = record { branches = (codes "main", []) ∷ []; count = 0 }
+
+-- the catches of the branch of a name
+abbrev pub catches_of : Branches → List ℕ → Option (List Catch)
+catches_of [] name = None
+catches_of (branch ∷ branches) name = if bytes_eq branch.0 name then Some branch.1 else catches_of branches name
+
+-- the branches, with other catches in the one of a name
+abbrev pub with_catches : Branches → List ℕ → List Catch → Branches
+with_catches [] name catches = []
+with_catches (branch ∷ branches) name catches =
+    if bytes_eq branch.0 name then (branch.0, catches) ∷ branches else branch ∷ with_catches branches name catches
+
+-- whether a patch of a name stands in some branch
+abbrev pub stands : Branches → List ℕ → Bool
+stands branches name = list_any (λ branch. has_patch branch.1 name) branches
+
+-- the tree that primitives, one after the other, lead to from this one, if each applies
+abbrev pub tree_after : Files → List Named → Option Files
+tree_after tree [] = Some tree
+tree_after tree (p ∷ ps) = option_and_then (λ next. tree_after next ps) (applied p.prim tree)
+
+-- the tree of a branch: the effects of its catches, in order, applied to the empty tree
+abbrev pub tree_of : List Catch → Option Files
+tree_of catches = tree_after empty (flat_map effect_of catches)

@@ -1,0 +1,181 @@
+-- What a call comes to, by the tests of its kind in their order: the first that fails decides.
+use Rattle.std.specs.Prelude.{ℕ, ◌+◌, Bool, true, false, not, ◌||◌, nat_le, nat_lt, if◌then◌else◌, List, [], ◌∷◌, ◌++◌}
+use Rattle.std.specs.Prelude.{length, filter, Option, None, Some, Result, Ok, Err, bytes_eq, is_some}
+use Rattle.std.specs.Option.{option_map_or}
+use Rattle.std.specs.List.{list_any}
+use Rattle.std.specs.FinMap.{get}
+use Rattle.camp_base.specs.Trees.{Files}
+use Rattle.camp_prim.specs.Applied.{applied}
+use Rattle.camp_prim.specs.Swaps.{path_of}
+use Rattle.camp_prim.specs.declared.primitives.Primitive.{Primitive}
+use Rattle.camp_prim.specs.declared.primitives.Primitive.TheVariants.{Add, Remove, Hunk}
+use Rattle.camp_catch.specs.declared.catches.Catch.{Catch}
+use Rattle.camp_branch.specs.Branches.{has_patch, is_among, name_of, names_of, recorded}
+use Rattle.camp_branch.specs.Pulling.{Outcome}
+use Rattle.camp_branch.specs.declared.faults.Blocked.{Blocked}
+use Rattle.camp_branch.specs.declared.faults.Blocked.TheVariants as blocked
+use Rattle.camp_call.specs.declared.calls.Call.{Call}
+use Rattle.camp_call.specs.declared.calls.Call.TheVariants as call
+use Rattle.camp_call.specs.declared.replies.Reply.{Reply}
+use Rattle.camp_call.specs.declared.replies.Reply.TheVariants as reply
+use Rattle.camp_call.specs.declared.replies.Refusal.{Refusal}
+use Rattle.camp_call.specs.declared.replies.Refusal.TheVariants.{NoBranch, BranchExists, PatchExists, NoPatch, NothingToDo}
+use Rattle.camp_call.specs.declared.replies.Refusal.TheVariants.{TooLarge, DoesNotApply, Depends, Diverged, NoMerge, SameBranch}
+use Rattle.camp_object.specs.declared.objects.Decided.{Decided}
+use Rattle.camp_object.specs.declared.objects.Decided.TheVariants.{Next, Answer}
+use Rattle.camp_repo.specs.Outcomes.{conflicts_of, obliterated, pulled}
+use Rattle.camp_repo.specs.States.{Branches, Contents, catches_of, stands, tree_of, with_catches}
+
+-- what a call comes to: the next state, or a reply
+abbrev pub Decision : Type 0
+Decision = Decided Contents Reply
+
+-- a refusal, which changes nothing
+abbrev pub refused : Refusal → Decision
+refused refusal = Answer (reply.Refused refusal)
+
+-- one more call is accepted, and the branches become these
+abbrev pub accepted : Contents → Branches → Decision
+accepted state branches = Next (record { branches = branches; count = state.count + 1 })
+
+-- the call goes on with the catches of a branch, and is refused where there is no branch of the name
+abbrev pub with_branch : Contents → List ℕ → (List Catch → Decision) → Decision
+with_branch state name goes_on = option_map_or goes_on (catches_of state.branches name) (refused (NoBranch name))
+
+-- the call is refused so where the test fails, and goes on else
+abbrev pub refused_if : Bool → Refusal → Decision → Decision
+refused_if fails refusal goes_on = if fails then refused refusal else goes_on
+
+-- a branch with further or fewer catches, or why they can't come or go
+abbrev pub refusal_of : Blocked → Refusal
+refusal_of (blocked.Depends patch on) = Depends patch on
+refusal_of (blocked.Diverged name) = Diverged name
+refusal_of (blocked.NoMerge left right) = NoMerge left right
+
+-- the branch of a name becomes what a pull or an obliteration comes to, or the call is refused
+abbrev pub becomes : Contents → List ℕ → Outcome → Decision
+becomes state branch (Ok catches) = accepted state (with_catches state.branches branch catches)
+becomes state branch (Err why) = refused (refusal_of why)
+
+-- a branch is copied; the copy comes last, and there are 256 branches at most
+abbrev pub step_branch : Contents → List ℕ → List ℕ → Decision
+step_branch state new from =
+    with_branch state from (λ catches.
+    refused_if (is_some (catches_of state.branches new)) (BranchExists new) (
+    refused_if (nat_le 256 (length state.branches)) TooLarge (
+    accepted state (state.branches ++ (new, catches) ∷ []))))
+
+-- whether a side of a hunk has more than the 65,535 lines that a record takes
+abbrev pub has_long_side : Primitive → Bool
+has_long_side (Add path) = false
+has_long_side (Remove path) = false
+has_long_side (Hunk hunk) = nat_lt 65_535 (length hunk.old) || nat_lt 65_535 (length hunk.new)
+
+-- whether the file of a path has more than the 1,000,000 lines that a record leaves
+abbrev pub has_long_file : List ℕ → Files → Bool
+has_long_file path tree = option_map_or (λ lines. nat_lt 1_000_000 (length lines)) (get tree path) false
+
+-- what a change leads to: a tree whose file is not too long, or a refusal
+abbrev pub led_to : Primitive → Option Files → Result Files Refusal
+led_to change None = Err DoesNotApply
+led_to change (Some tree) = if has_long_file (path_of change) tree then Err TooLarge else Ok tree
+
+-- then, from the tree that was led to
+abbrev pub then_from : Result Files Refusal → (Files → Result Files Refusal) → Result Files Refusal
+then_from (Ok tree) goes_on = goes_on tree
+then_from (Err refusal) goes_on = Err refusal
+
+-- what changes lead to, each from the tree that those before it leave; the first that fails decides
+abbrev pub changed : List Primitive → Files → Result Files Refusal
+changed [] tree = Ok tree
+changed (change ∷ changes) tree = then_from (led_to change (applied change tree)) (changed changes)
+
+-- what a record comes to whose changes lead to a tree, or to a refusal
+abbrev pub record_leads : Contents → List ℕ → List Catch → Result Files Refusal → Decision
+record_leads state branch catches (Ok tree) = accepted state (with_catches state.branches branch catches)
+record_leads state branch catches (Err refusal) = refused refusal
+
+-- whether a record is too large for a branch: it would have more than 4,096 catches, or a side of a hunk is too long
+abbrev pub is_too_large : List Catch → List Primitive → Bool
+is_too_large catches changes = nat_lt 4_096 (length catches + length changes) || list_any has_long_side changes
+
+-- a patch is appended to a branch, whole or not at all
+abbrev pub step_record : Contents → List ℕ → List ℕ → List Primitive → Decision
+step_record state branch name changes =
+    with_branch state branch (λ catches.
+    refused_if (stands state.branches name) (PatchExists name) (
+    refused_if (is_too_large catches changes) TooLarge (
+    option_map_or
+    (λ tree. record_leads state branch (catches ++ recorded name 1 changes) (changed changes tree))
+    (tree_of catches) (refused DoesNotApply))))
+
+-- the first of some names of which a branch has no patch
+abbrev pub first_lacked : List Catch → List (List ℕ) → Option (List ℕ)
+first_lacked catches [] = None
+first_lacked catches (name ∷ names) = if has_patch catches name then first_lacked catches names else Some name
+
+-- the call goes on where a branch has a patch of each listed name
+abbrev pub with_patches : List Catch → List (List ℕ) → Decision → Decision
+with_patches catches names goes_on = option_map_or (λ name. refused (NoPatch name)) (first_lacked catches names) goes_on
+
+-- the names that are listed: where there is no list, those of all patches
+abbrev pub listed : List Catch → Option (List (List ℕ)) → List (List ℕ)
+listed theirs None = names_of theirs
+listed theirs (Some names) = names
+
+-- the listed names of which `to` has no patch
+abbrev pub wanted : List Catch → List (List ℕ) → List (List ℕ)
+wanted ours names = filter (λ name. not (has_patch ours name)) names
+
+-- whether there is nothing in a list
+abbrev pub is_empty : List (List ℕ) → Bool
+is_empty [] = true
+is_empty (name ∷ names) = false
+
+-- the catches of a branch with these names
+abbrev pub catches_named : List (List ℕ) → List Catch → List Catch
+catches_named names catches = filter (λ k. is_among names (name_of k)) catches
+
+-- whether a branch would have more than 4,096 catches with those of these names of another
+abbrev pub is_full_with : List Catch → List Catch → List (List ℕ) → Bool
+is_full_with ours theirs names = nat_lt 4_096 (length ours + length (catches_named names theirs))
+
+-- patches of these names are pulled into a branch
+abbrev pub pull_wanted : Contents → List ℕ → List Catch → List Catch → List (List ℕ) → Decision
+pull_wanted state to theirs ours names =
+    refused_if (is_empty names) NothingToDo (
+    refused_if (is_full_with ours theirs names) TooLarge (
+    becomes state to (pulled theirs ours names)))
+
+-- patches of one branch are pulled into another: those listed that it lacks, or all that it lacks
+abbrev pub step_pull : Contents → List ℕ → List ℕ → Option (List (List ℕ)) → Decision
+step_pull state from to names =
+    with_branch state from (λ theirs.
+    with_branch state to (λ ours.
+    refused_if (bytes_eq from to) (SameBranch to) (
+    with_patches theirs (listed theirs names) (
+    pull_wanted state to theirs ours (wanted ours (listed theirs names))))))
+
+-- patches are taken out of a branch
+abbrev pub step_obliterate : Contents → List ℕ → List (List ℕ) → Decision
+step_obliterate state branch names =
+    with_branch state branch (λ catches.
+    with_patches catches names (
+    refused_if (is_empty names) NothingToDo (
+    becomes state branch (obliterated catches names))))
+
+-- the tree of a branch, which a lawful state has
+abbrev pub shown : Option Files → Decision
+shown None = refused DoesNotApply
+shown (Some tree) = Answer (reply.Tree tree)
+
+-- what a call comes to
+abbrev pub step : Contents → Call → Decision
+step state (call.Branch new from) = step_branch state new from
+step state (call.Record branch name changes) = step_record state branch name changes
+step state (call.Pull from to names) = step_pull state from to names
+step state (call.Obliterate branch names) = step_obliterate state branch names
+step state (call.Tree branch) = with_branch state branch (λ catches. shown (tree_of catches))
+step state (call.Conflicts branch) =
+    with_branch state branch (λ catches. Answer (reply.Conflicts (conflicts_of catches)))
+step state (call.Names branch) = with_branch state branch (λ catches. Answer (reply.Names (names_of catches)))
