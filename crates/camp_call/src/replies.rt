@@ -36,7 +36,8 @@ pub enum Refusal {
     Depends { patch: Name, on: Name },
     /// The two branches hold this patch in different ways.
     Diverged(Name),
-    /// Two patches do not merge: one of the branch that is pulled from, and one of the other.
+    /// Two patches do not merge: `left` of the branch that is pulled into, and `right` of the one that
+    /// is pulled from.
     NoMerge { left: Name, right: Name },
     /// A branch is pulled into itself.
     SameBranch(Name),

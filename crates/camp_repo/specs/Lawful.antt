@@ -19,8 +19,8 @@ pub record IsLawfulBy (changes_of : List ℕ → ℕ) (catches : List Catch) : T
 abbrev pub names_of_branches : Branches → List (List ℕ)
 names_of_branches branches = map (λ branch. branch.0) branches
 
--- a state is lawful: its branches have distinct names, each branch is lawful, and a patch has the same number of changes
--- in each branch that has it
+-- a state is lawful: its branches have distinct names, each branch is lawful, and a patch has the same number of
+-- changes in each branch that has it
 pub record IsLawful (state : Contents) : Type 0 where
   pub distinct : AreDistinct (names_of_branches state.branches)
   pub changes_of : List ℕ → ℕ

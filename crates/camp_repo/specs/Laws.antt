@@ -1,20 +1,24 @@
 -- The laws of what calls come to.
-use Rattle.std.specs.Prelude.{◌≡◌, ◌≢◌, ℕ, ◌+◌, not, List, [], ◌∷◌, ◌++◌, Option, Some, filter}
+use Rattle.std.specs.Prelude.{◌≡◌, ◌≢◌, ℕ, ◌+◌, List, [], ◌∷◌, ◌++◌, Option, Some, filter}
 use Rattle.camp_base.specs.Trees.{Files}
 use Rattle.camp_prim.specs.declared.primitives.Primitive.{Primitive}
 use Rattle.camp_catch.specs.declared.catches.Catch.{Catch}
-use Rattle.camp_branch.specs.Branches.{LeadsTo, has_patch, is_among, names_of, recorded}
+use Rattle.camp_branch.specs.Branches.{LeadsTo, is_among, names_of, recorded}
 use Rattle.camp_branch.specs.Laws.{AppliesEach}
-use Rattle.camp_branch.specs.Obliterating.{other_names}
+use Rattle.camp_branch.specs.Obliterating.{ObliterateGives, other_names}
+use Rattle.camp_branch.specs.Pulling.{PullGives}
+use Rattle.camp_branch.specs.Conflicting.{AreConflicts}
 use Rattle.camp_call.specs.Calls.{IsCall}
 use Rattle.camp_call.specs.declared.calls.Call.{Call}
 use Rattle.camp_call.specs.declared.calls.Call.TheVariants as call
+use Rattle.camp_call.specs.declared.replies.Reply.{Reply}
 use Rattle.camp_call.specs.declared.replies.Reply.TheVariants as reply
 use Rattle.camp_object.specs.Objects as object
 use Rattle.camp_object.specs.declared.objects.Decided.TheVariants.{Next, Answer}
 use Rattle.camp_repo.specs.Lawful.{IsLawful, names_of_branches}
-use Rattle.camp_repo.specs.Objects.{repository}
-use Rattle.camp_repo.specs.States.{Contents, catches_of, initial}
+use Rattle.camp_repo.specs.Objects.{repository, state_behind}
+use Rattle.camp_repo.specs.Outcomes.{conflicts_of, obliterated, pulled}
+use Rattle.camp_repo.specs.States.{Contents, catches_of, initial, tree_of}
 use Rattle.camp_repo.specs.Steps.{listed, step, wanted}
 
 -- a branch has these catches
@@ -34,8 +38,8 @@ pub record Copies (new_branch from : List ℕ) (old new : Contents) : Type 0 whe
   pub was : Has old from catches
   pub becomes : new.branches ≡ old.branches ++ (new_branch, catches) ∷ []
 
--- a patch of these changes is put at the end of a branch, and they lead, one after the other, from the tree of the branch
--- to its next one
+-- a patch of these changes is put at the end of a branch, and they lead, one after the other, from the tree of the
+-- branch to its next one
 pub record Records (branch name : List ℕ) (changes : List Primitive) (old new : Contents) : Type 0 where
   pub changes_one : ChangesOne branch old new
   pub catches : List Catch
@@ -46,8 +50,8 @@ pub record Records (branch name : List ℕ) (changes : List Primitive) (old new 
   pub leads : LeadsTo catches tree
   pub applies : AppliesEach changes tree next_tree
 
--- a branch keeps its catches, and has further ones behind them; its names are its old ones and then, in the order of the
--- other branch, the wanted ones
+-- a branch keeps its catches, and has further ones behind them; its names are its old ones and then, in the order of
+-- the other branch, the wanted ones
 pub record Pulls (from to : List ℕ) (names : Option (List (List ℕ))) (old new : Contents) : Type 0 where
   pub changes_one : ChangesOne to old new
   pub theirs : List Catch
@@ -57,7 +61,8 @@ pub record Pulls (from to : List ℕ) (names : Option (List (List ℕ))) (old ne
   pub to_has : Has old to ours
   pub becomes : Has new to (ours ++ taken)
   pub named :
-      names_of (ours ++ taken) ≡ names_of ours ++ filter (is_among (wanted ours (listed theirs names))) (names_of theirs)
+      names_of (ours ++ taken) ≡
+      names_of ours ++ filter (is_among (wanted ours (listed theirs names))) (names_of theirs)
 
 -- a branch has its other names, in their order
 pub record Obliterates (branch : List ℕ) (names : List (List ℕ)) (old new : Contents) : Type 0 where
@@ -68,7 +73,7 @@ pub record Obliterates (branch : List ℕ) (names : List (List ℕ)) (old new : 
   pub becomes : Has new branch left
   pub named : names_of left ≡ other_names catches names
 
--- the effect of an accepted call; a question is never accepted, since it changes nothing
+-- the effect of an accepted call; a question is never accepted
 abbrev pub Effect : Call → Contents → Contents → Type 0
 Effect (call.Branch new_branch from) old new = Copies new_branch from old new
 Effect (call.Record branch name changes) old new = Records branch name changes old new
@@ -94,11 +99,25 @@ StepsKeepLawful =
     (state : Contents) (call : Call) (next : Contents) → IsCall call → IsLawful state → step state call ≡ Next next →
     IsLawful next
 
--- a lawful state answers the question for the tree of a branch with the tree that its catches lead to
+-- each branch of a lawful state has a tree: that which its catches lead to, and with which the question for it is
+-- answered; so no record is refused for want of one
 abbrev pub TreesAreAnswered : Type 0
 TreesAreAnswered =
     (state : Contents) (branch : List ℕ) (catches : List Catch) → IsLawful state → Has state branch catches →
-    (tree : Files) × LeadsTo catches tree × (step state (call.Tree branch) ≡ Answer (reply.Tree tree))
+    (tree : Files) × LeadsTo catches tree × (tree_of catches ≡ Some tree)
+    × (step state (call.Tree branch) ≡ Answer (reply.Tree tree))
+
+-- the state behind a refusal, and behind the answer to a question, is the one before it
+abbrev pub AnswersChangeNothing : Type 0
+AnswersChangeNothing =
+    (state : Contents) (call : Call) (answer : Reply) → step state call ≡ Answer answer →
+    state_behind state (step state call) ≡ state
+
+-- a pull, an obliteration and the conflicts of a branch come to what their definitions say
+pub record OutcomesAreDefined : Type 0 where
+  pub pulls : (from to : List Catch) (wanted : List (List ℕ)) → PullGives from to wanted (pulled from to wanted)
+  pub obliterates : (branch : List Catch) (names : List (List ℕ)) → ObliterateGives branch names (obliterated branch names)
+  pub conflicts : (branch : List Catch) → AreConflicts branch (conflicts_of branch)
 
 -- the repository is an object
 abbrev pub RepositoryIsLawful : Type 0

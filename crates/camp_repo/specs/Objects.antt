@@ -1,5 +1,5 @@
 -- The repository as an object that one thread owns.
-use Rattle.std.specs.Prelude.{◌≡◌, ℕ, Option, None, Some}
+use Rattle.std.specs.Prelude.{◌≡◌, ℕ, List, [], ◌∷◌, Option, None, Some}
 use Rattle.camp_call.specs.Calls.{is_writing}
 use Rattle.camp_call.specs.declared.calls.Call.{Call}
 use Rattle.camp_call.specs.declared.replies.Reply.{Reply}
@@ -43,3 +43,13 @@ reply_of (Answer answer) = answer
 abbrev pub state_behind : Contents → Decision → Contents
 state_behind state (Next next) = next
 state_behind state (Answer answer) = state
+
+-- the state after calls one after the other, refused ones among them
+abbrev pub state_after : Contents → List Call → Contents
+state_after state [] = state
+state_after state (call ∷ calls) = state_after (state_behind state (step state call)) calls
+
+-- the replies to calls one after the other
+abbrev pub replies_to : Contents → List Call → List Reply
+replies_to state [] = []
+replies_to state (call ∷ calls) = reply_of (step state call) ∷ replies_to (state_behind state (step state call)) calls

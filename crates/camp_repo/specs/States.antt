@@ -1,5 +1,5 @@
 -- The state of a repository as plain data.
-use Rattle.std.specs.Prelude.{ℕ, Bool, List, [], ◌∷◌, ◌++◌, Option, None, Some, bytes_eq, codes, if◌then◌else◌}
+use Rattle.std.specs.Prelude.{ℕ, Bool, List, [], ◌∷◌, Option, None, Some, bytes_eq, codes, if◌then◌else◌}
 use Rattle.std.specs.List.{flat_map, list_any}
 use Rattle.std.specs.Option.{option_and_then}
 use Rattle.std.specs.FinMap.{empty}
@@ -26,13 +26,13 @@ initial = record { branches = (codes "main", []) ∷ []; count = 0 }
 -- the catches of the branch of a name
 abbrev pub catches_of : Branches → List ℕ → Option (List Catch)
 catches_of [] name = None
-catches_of (branch ∷ branches) name = if bytes_eq branch.0 name then Some branch.1 else catches_of branches name
+catches_of (branch ∷ branches) name = if bytes_eq name branch.0 then Some branch.1 else catches_of branches name
 
--- the branches, with other catches in the one of a name
+-- the branches, where the one of this name has other catches
 abbrev pub with_catches : Branches → List ℕ → List Catch → Branches
 with_catches [] name catches = []
 with_catches (branch ∷ branches) name catches =
-    if bytes_eq branch.0 name then (branch.0, catches) ∷ branches else branch ∷ with_catches branches name catches
+    if bytes_eq name branch.0 then (branch.0, catches) ∷ branches else branch ∷ with_catches branches name catches
 
 -- whether a patch of a name stands in some branch
 abbrev pub stands : Branches → List ℕ → Bool

@@ -19,8 +19,9 @@ use Rattle.camp_call.specs.declared.calls.Call.TheVariants as call
 use Rattle.camp_call.specs.declared.replies.Reply.{Reply}
 use Rattle.camp_call.specs.declared.replies.Reply.TheVariants as reply
 use Rattle.camp_call.specs.declared.replies.Refusal.{Refusal}
-use Rattle.camp_call.specs.declared.replies.Refusal.TheVariants.{NoBranch, BranchExists, PatchExists, NoPatch, NothingToDo}
-use Rattle.camp_call.specs.declared.replies.Refusal.TheVariants.{TooLarge, DoesNotApply, Depends, Diverged, NoMerge, SameBranch}
+use Rattle.camp_call.specs.declared.replies.Refusal.TheVariants.{NoBranch, BranchExists, PatchExists, NoPatch}
+use Rattle.camp_call.specs.declared.replies.Refusal.TheVariants.{NothingToDo, TooLarge, DoesNotApply, Depends}
+use Rattle.camp_call.specs.declared.replies.Refusal.TheVariants.{Diverged, NoMerge, SameBranch}
 use Rattle.camp_object.specs.declared.objects.Decided.{Decided}
 use Rattle.camp_object.specs.declared.objects.Decided.TheVariants.{Next, Answer}
 use Rattle.camp_repo.specs.Outcomes.{conflicts_of, obliterated, pulled}
@@ -42,11 +43,11 @@ accepted state branches = Next (record { branches = branches; count = state.coun
 abbrev pub with_branch : Contents → List ℕ → (List Catch → Decision) → Decision
 with_branch state name goes_on = option_map_or goes_on (catches_of state.branches name) (refused (NoBranch name))
 
--- the call is refused so where the test fails, and goes on else
+-- where a test fails, the call is refused, and else it goes on
 abbrev pub refused_if : Bool → Refusal → Decision → Decision
 refused_if fails refusal goes_on = if fails then refused refusal else goes_on
 
--- a branch with further or fewer catches, or why they can't come or go
+-- the refusal that tells why a branch can't be changed
 abbrev pub refusal_of : Blocked → Refusal
 refusal_of (blocked.Depends patch on) = Depends patch on
 refusal_of (blocked.Diverged name) = Diverged name

@@ -1,0 +1,54 @@
+-- What a call passes on its way to a next state.
+use Rattle.std.proofs.Common.{◌≡◌, ℕ, Bool, true, false, cond, List, [], ◌∷◌, Option, None, Some, Result, Ok, Err, refl}
+use Rattle.std.specs.Option.{option_map_or}
+use Rattle.camp_base.specs.Trees.{Files}
+use Rattle.camp_catch.specs.declared.catches.Catch.{Catch}
+use Rattle.camp_branch.specs.Pulling.{Outcome}
+use Rattle.camp_call.specs.declared.replies.Refusal.{Refusal}
+use Rattle.camp_call.specs.declared.replies.Refusal.TheVariants.{NoBranch, NoPatch}
+use Rattle.camp_object.specs.declared.objects.Decided.TheVariants.{Next}
+use Rattle.camp_repo.specs.Laws.{Has}
+use Rattle.camp_repo.specs.States.{Branches, Contents, catches_of, with_catches}
+use Rattle.camp_repo.specs.Steps.{Decision, accepted, becomes, first_lacked, record_leads, refused, refused_if, with_branch, with_patches}
+
+module _ (state next : Contents) where
+  has_at : (name : List ℕ) (goes_on : List Catch → Decision) (o : Option (List Catch)) → catches_of state.branches name ≡ o → option_map_or goes_on o (refused (NoBranch name)) ≡ Next next → (catches : List Catch) × Has state name catches × (goes_on catches ≡ Next next)
+  has_at name goes_on None is e = cc
+  has_at name goes_on (Some catches) is e = (catches, is, e)
+
+  -- there is the branch
+  pub has_branch : (name : List ℕ) (goes_on : List Catch → Decision) → with_branch state name goes_on ≡ Next next → (catches : List Catch) × Has state name catches × (goes_on catches ≡ Next next)
+  has_branch name goes_on e = has_at name goes_on (catches_of state.branches name) refl e
+
+  -- the test does not fail
+  pub passes : (fails : Bool) (refusal : Refusal) (goes_on : Decision) → refused_if fails refusal goes_on ≡ Next next → (fails ≡ false) × (goes_on ≡ Next next)
+  passes true refusal goes_on e = cc
+  passes false refusal goes_on e = (refl, e)
+
+  lacks_none_at : (o : Option (List ℕ)) (goes_on : Decision) → option_map_or (λ name. refused (NoPatch name)) o goes_on ≡ Next next → goes_on ≡ Next next
+  lacks_none_at None goes_on e = e
+  lacks_none_at (Some name) goes_on e = cc
+
+  -- the branch has all listed patches
+  pub lacks_none : (catches : List Catch) (names : List (List ℕ)) (goes_on : Decision) → with_patches catches names goes_on ≡ Next next → goes_on ≡ Next next
+  lacks_none catches names goes_on e = lacks_none_at (first_lacked catches names) goes_on e
+
+  -- the branch becomes an outcome
+  pub becomes_other : (branch : List ℕ) (outcome : Outcome) → becomes state branch outcome ≡ Next next → (catches : List Catch) × (outcome ≡ Ok catches) × (accepted state (with_catches state.branches branch catches) ≡ Next next)
+  becomes_other branch (Ok catches) e = (catches, refl, e)
+  becomes_other branch (Err why) e = cc
+
+  tree_at : (o : Option Files) (goes_on : Files → Decision) (refusal : Refusal) → option_map_or goes_on o (refused refusal) ≡ Next next → (tree : Files) × (o ≡ Some tree) × (goes_on tree ≡ Next next)
+  tree_at None goes_on refusal e = cc
+  tree_at (Some tree) goes_on refusal e = (tree, refl, e)
+
+  -- there is a tree
+  pub has_tree : (o : Option Files) (goes_on : Files → Decision) (refusal : Refusal) → option_map_or goes_on o (refused refusal) ≡ Next next → (tree : Files) × (o ≡ Some tree) × (goes_on tree ≡ Next next)
+  has_tree o goes_on refusal e = tree_at o goes_on refusal e
+
+  -- the changes lead to a tree
+  pub leads_on : (branch : List ℕ) (catches : List Catch) (led : Result Files Refusal) → record_leads state branch catches led ≡ Next next → (tree : Files) × (led ≡ Ok tree) × (accepted state (with_catches state.branches branch catches) ≡ Next next)
+  leads_on branch catches (Ok tree) e = (tree, refl, e)
+  leads_on branch catches (Err refusal) e = cc
+
+

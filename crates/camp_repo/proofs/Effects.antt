@@ -1,0 +1,164 @@
+-- What each accepted call does.
+use Rattle.std.proofs.Common.{◌≡◌, ◌≢◌, ℕ, ◌+◌, Bool, true, false, not, ◌&&◌, List, [], ◌∷◌, ◌++◌, Option, None, Some, Ok, Err, filter, bytes_eq, refl, sym, ap, ◌∙◌, subst}
+use Rattle.std.proofs.lemmas.Option.{same_Some}
+use Rattle.camp_base.specs.Trees.{Files}
+use Rattle.camp_prim.specs.declared.primitives.Primitive.{Primitive}
+use Rattle.camp_catch.specs.declared.catches.Catch.{Catch}
+use Rattle.camp_branch.specs.Branches.{LeadsTo, has_patch, is_among, names_of, recorded}
+use Rattle.camp_branch.specs.Laws.{AreLacked}
+use Rattle.camp_branch.specs.Obliterating.{ObliterateGives}
+use Rattle.camp_branch.specs.Pulling.{Outcome, PullGives}
+use Rattle.camp_branch.proofs.KeepLawful.{obliterates_keep_lawful, pulls_keep_lawful}
+use Rattle.camp_branch.proofs.NamesKept.{among_kept}
+use Rattle.camp_branch.proofs.OutcomesDetermined.{outcomes_are_determined}
+use Rattle.camp_branch.proofs.Steps.{pulled_by}
+use Rattle.camp_call.specs.declared.calls.Call.TheVariants as call
+use Rattle.camp_object.specs.declared.objects.Decided.TheVariants.{Next}
+use Rattle.camp_repo.specs.Laws.{AcceptedCallsHaveEffect, ChangesOne, Copies, Has, Obliterates, Pulls, Records}
+use Rattle.camp_repo.specs.Lawful.{IsLawful, IsLawfulBy, names_of_branches}
+use Rattle.camp_repo.specs.Outcomes.{obliterated, pulled}
+use Rattle.camp_repo.specs.States.{Branches, Contents, catches_of, tree_of, with_catches}
+use Rattle.camp_repo.specs.Steps.{Decision, accepted, listed, shown, step, wanted}
+use Rattle.camp_repo.proofs.AcceptedSteps.{becomes_other, has_branch, has_tree, lacks_none, leads_on, passes}
+use Rattle.camp_repo.proofs.BranchSteps.{has_other, names_stay, of_one, others_stay}
+use Rattle.camp_repo.proofs.LawfulBranches.{lawful_alone}
+use Rattle.camp_repo.proofs.TreeSteps.{changes_apply, tree_found}
+
+-- what comes of a pull that goes through
+pub pull_gives : (from to pulled_to : List Catch) (names : List (List ℕ)) → pulled from to names ≡ Ok pulled_to → PullGives from to names (Ok pulled_to)
+pull_gives from to pulled_to names e = subst (PullGives from to names) e (outcomes_are_determined.pulls from to names).1
+
+-- and of an obliteration
+pub obliterate_gives : (branch left : List Catch) (names : List (List ℕ)) → obliterated branch names ≡ Ok left → ObliterateGives branch names (Ok left)
+obliterate_gives branch left names e = subst (ObliterateGives branch names) e (outcomes_are_determined.obliterates branch names).1
+
+passes_not : (a b : Bool) → (a && not b) ≡ true → b ≡ false
+passes_not true true e = sym e
+passes_not true false e = refl
+passes_not false b e = cc
+
+-- what is wanted is lacked
+pub wanted_is_lacked : (ours : List Catch) (names : List (List ℕ)) → AreLacked ours (wanted ours names)
+wanted_is_lacked ours names name among =
+    passes_not (is_among names name) (has_patch ours name)
+    (sym (among_kept (λ n. not (has_patch ours n)) names name) ∙ among)
+
+module _ (state next : Contents) (branch : List ℕ) (old new : List Catch) where
+  -- one branch is given other catches
+  pub changes_one : Has state branch old → accepted state (with_catches state.branches branch new) ≡ Next next → ChangesOne branch state next × Has next branch new
+  changes_one was e =
+      let same : record { branches = with_catches state.branches branch new; count = state.count + 1 } ≡ next = cc in
+      (
+        record {
+          counted = ap (λ s. s.count) (sym same);
+          names = ap (λ s. names_of_branches s.branches) (sym same) ∙ names_stay state.branches branch new;
+          others = λ other differs. ap (λ s. catches_of s.branches other) (sym same) ∙ others_stay state.branches branch other new differs;
+        },
+        ap (λ s. catches_of s.branches branch) (sym same) ∙ has_other state.branches branch old new was,
+      )
+
+-- a lawful state has lawful branches
+pub lawful_branch : (state : Contents) (lawful : IsLawful state) (branch : List ℕ) (catches : List Catch) → Has state branch catches → IsLawfulBy lawful.changes_of catches
+lawful_branch state lawful branch catches has =
+    of_one (IsLawfulBy lawful.changes_of) state.branches branch catches lawful.lawful has
+
+copies : (state next : Contents) (new from : List ℕ) → step state (call.Branch new from) ≡ Next next → Copies new from state next
+copies state next new from e =
+    let there = has_branch state next from _ e in
+    let fresh = passes state next _ _ _ there.2 in
+    let few = passes state next _ _ _ fresh.1 in
+    let same : record { branches = state.branches ++ (new, there.0) ∷ []; count = state.count + 1 } ≡ next = cc in
+    record {
+      counted = ap (λ s. s.count) (sym same);
+      catches = there.0;
+      was = there.1;
+      becomes = ap (λ s. s.branches) (sym same);
+    }
+
+same_tree : {o : Option Files} {tree other : Files} → o ≡ Some tree → o ≡ Some other → tree ≡ other
+same_tree e f = same_Some _ _ (sym e ∙ f)
+
+records : (state next : Contents) (branch name : List ℕ) (changes : List Primitive) → IsLawful state → step state (call.Record branch name changes) ≡ Next next → Records branch name changes state next
+records state next branch name changes lawful e =
+    let there = has_branch state next branch _ e in
+    let free = passes state next _ _ _ there.2 in
+    let small = passes state next _ _ _ free.1 in
+    let from = has_tree state next (tree_of there.0) _ _ small.1 in
+    let on = leads_on state next branch (there.0 ++ recorded name 1 changes) _ from.2 in
+    let change = changes_one state next branch there.0 (there.0 ++ recorded name 1 changes) there.1 on.2 in
+    let own = lawful_branch state lawful branch there.0 there.1 in
+    let same : own.tree ≡ from.0 = same_tree (tree_found there.0 own.tree own.leads) from.1 in
+    record {
+      changes_one = change.0;
+      catches = there.0;
+      was = there.1;
+      becomes = change.1;
+      tree = from.0;
+      next_tree = on.0;
+      leads = subst (LeadsTo there.0) same own.leads;
+      applies = changes_apply changes from.0 on.0 on.1;
+    }
+
+pulls : (state next : Contents) (from to : List ℕ) (names : Option (List (List ℕ))) → IsLawful state → step state (call.Pull from to names) ≡ Next next → Pulls from to names state next
+pulls state next from to names lawful e =
+    let theirs = has_branch state next from _ e in
+    let ours = has_branch state next to _ theirs.2 in
+    let two = passes state next _ _ _ ours.2 in
+    let all = lacks_none state next theirs.0 (listed theirs.0 names) _ two.1 in
+    let some = passes state next _ _ _ all in
+    let few = passes state next _ _ _ some.1 in
+    let names_wanted = wanted ours.0 (listed theirs.0 names) in
+    let other = becomes_other state next to (pulled theirs.0 ours.0 names_wanted) few.1 in
+    let gives = pull_gives theirs.0 ours.0 other.0 names_wanted other.1 in
+    let parts = pulled_by theirs.0 ours.0 names_wanted other.0 gives in
+    let change = changes_one state next to ours.0 other.0 ours.1 other.2 in
+    let v = lawful_alone lawful.changes_of theirs.0 (lawful_branch state lawful from theirs.0 theirs.1) in
+    let w = lawful_alone lawful.changes_of ours.0 (lawful_branch state lawful to ours.0 ours.1) in
+    record {
+      changes_one = change.0;
+      theirs = theirs.0;
+      ours = ours.0;
+      taken = parts.taken;
+      from_has = theirs.1;
+      to_has = ours.1;
+      becomes = change.1 ∙ ap Some parts.becomes;
+      named = ap names_of (sym parts.becomes) ∙ pulls_keep_lawful.names theirs.0 ours.0 other.0 names_wanted gives v w (wanted_is_lacked ours.0 (listed theirs.0 names));
+    }
+
+obliterates : (state next : Contents) (branch : List ℕ) (names : List (List ℕ)) → IsLawful state → step state (call.Obliterate branch names) ≡ Next next → Obliterates branch names state next
+obliterates state next branch names lawful e =
+    let there = has_branch state next branch _ e in
+    let all = lacks_none state next there.0 names _ there.2 in
+    let some = passes state next _ _ _ all in
+    let other = becomes_other state next branch (obliterated there.0 names) some.1 in
+    let gives = obliterate_gives there.0 other.0 names other.1 in
+    let change = changes_one state next branch there.0 other.0 there.1 other.2 in
+    let v = lawful_alone lawful.changes_of there.0 (lawful_branch state lawful branch there.0 there.1) in
+    record {
+      changes_one = change.0;
+      catches = there.0;
+      left = other.0;
+      was = there.1;
+      becomes = change.1;
+      named = obliterates_keep_lawful.names there.0 other.0 names gives v;
+    }
+
+not_shown : (next : Contents) (o : Option Files) → shown o ≡ Next next → ⊥
+not_shown next None e = cc
+not_shown next (Some tree) e = cc
+
+tree_is_no_step : (state next : Contents) (branch : List ℕ) → step state (call.Tree branch) ≡ Next next → ⊥
+tree_is_no_step state next branch e =
+    let there = has_branch state next branch _ e in
+    not_shown next (tree_of there.0) there.2
+
+pub accepted_calls : AcceptedCallsHaveEffect
+accepted_calls state (call.Branch new from) next lawful e = copies state next new from e
+accepted_calls state (call.Record branch name changes) next lawful e = records state next branch name changes lawful e
+accepted_calls state (call.Pull from to names) next lawful e = pulls state next from to names lawful e
+accepted_calls state (call.Obliterate branch names) next lawful e = obliterates state next branch names lawful e
+accepted_calls state (call.Tree branch) next lawful e = tree_is_no_step state next branch e
+accepted_calls state (call.Conflicts branch) next lawful e =
+    let there = has_branch state next branch _ e in cc
+accepted_calls state (call.Names branch) next lawful e =
+    let there = has_branch state next branch _ e in cc
