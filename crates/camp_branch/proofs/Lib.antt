@@ -1,6 +1,7 @@
 pub mod BranchFields
 pub mod BranchLabels
 pub mod BranchTrees
+pub mod ConflictsDetermined
 pub mod Differences
 pub mod EffectSteps
 pub mod KeepLawful
@@ -9,4 +10,5 @@ pub mod Names
 pub mod NamesKept
 pub mod OutcomesDetermined
 pub mod PullSteps
+pub mod SortedPairs
 pub mod Steps

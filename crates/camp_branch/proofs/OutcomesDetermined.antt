@@ -10,14 +10,14 @@ use Rattle.camp_catch.proofs.ListChoices.{lists_succeed_or_stick}
 use Rattle.camp_catch.proofs.ListResults.{lists_are_unique}
 use Rattle.camp_catch.proofs.SameCatches.{catch_or_not}
 use Rattle.camp_branch.specs.Branches.{name_of}
-use Rattle.camp_branch.specs.Laws.{GivesExactlyOne, OutcomesAreDetermined}
+use Rattle.camp_branch.specs.Laws.{ExactlyOne, OutcomesAreDetermined}
 use Rattle.camp_branch.specs.Obliterating.{other_names}
 use Rattle.camp_branch.specs.Pulling.{Outcome, StepThen, SameThen, DiffersAt, common_names}
 use Rattle.camp_branch.specs.declared.faults.Blocked.{Blocked}
 use Rattle.camp_branch.specs.declared.faults.Blocked.TheVariants.{Diverged}
 
 module _ (Gives : List Catch → List Catch → Type 0) (Sticks : Key → Key → Type 0) (why : Key → Key → Blocked) (Next : List Catch → List Catch → Outcome → Type 0) where
-  goes_on : GivesOnePair Gives → (x y : List Catch) → Gives x y → (HasPair Sticks → ⊥) → GivesExactlyOne (Next x y) → GivesExactlyOne (StepThen Gives Sticks why Next)
+  goes_on : GivesOnePair Gives → (x y : List Catch) → Gives x y → (HasPair Sticks → ⊥) → ExactlyOne (Next x y) → ExactlyOne (StepThen Gives Sticks why Next)
   goes_on one x y gives never next = (
     next.0,
     inl (x, y, gives, next.1),
@@ -29,7 +29,7 @@ module _ (Gives : List Catch → List Catch → Type 0) (Sticks : Key → Key �
     ],
   )
 
-  stops : GivesOnePair Sticks → (k l : Key) → Sticks k l → (HasPair Gives → ⊥) → GivesExactlyOne (StepThen Gives Sticks why Next)
+  stops : GivesOnePair Sticks → (k l : Key) → Sticks k l → (HasPair Gives → ⊥) → ExactlyOne (StepThen Gives Sticks why Next)
   stops one k l sticks never = (
     Err (why k l),
     inr (k, l, sticks, refl),
@@ -42,13 +42,13 @@ module _ (Gives : List Catch → List Catch → Type 0) (Sticks : Key → Key �
   )
 
   -- a step that is determined, before what is
-  pub step : GivesOnePair Gives → GivesOnePair Sticks → OneOf (HasPair Gives) (HasPair Sticks) → ((x y : List Catch) → GivesExactlyOne (Next x y)) → GivesExactlyOne (StepThen Gives Sticks why Next)
+  pub step : GivesOnePair Gives → GivesOnePair Sticks → OneOf (HasPair Gives) (HasPair Sticks) → ((x y : List Catch) → ExactlyOne (Next x y)) → ExactlyOne (StepThen Gives Sticks why Next)
   step one only choice next = elim choice.0 [
     | inl w ↦ goes_on one w.0 w.1 w.2 (choice.1 w) (next w.0 w.1)
     | inr s ↦ stops only s.0 s.1 s.2 (λ w. choice.1 w s)
   ]
 
-arranged : (names : List (List ℕ)) (list : List Catch) (why : Key → Key → Blocked) (Next : List Catch → List Catch → Outcome → Type 0) → ((x y : List Catch) → GivesExactlyOne (Next x y)) → GivesExactlyOne (StepThen (Arrange names list) (ArrangeSticks names list) why Next)
+arranged : (names : List (List ℕ)) (list : List Catch) (why : Key → Key → Blocked) (Next : List Catch → List Catch → Outcome → Type 0) → ((x y : List Catch) → ExactlyOne (Next x y)) → ExactlyOne (StepThen (Arrange names list) (ArrangeSticks names list) why Next)
 arranged names list why Next =
     step (Arrange names list) (ArrangeSticks names list) why Next (lists_are_unique.arranged names list) (lists_are_unique.arrange_sticks names list) (lists_succeed_or_stick.arranges names list)
 
@@ -85,7 +85,7 @@ one_difference (j ∷ s) (k ∷ t) name other (inr v) (inl w) = absurd (w.0 v.0)
 one_difference (j ∷ s) (k ∷ t) name other (inr v) (inr w) = one_difference s t name other v.1 w.1
 
 module _ (ours theirs : List Catch) (Next : Outcome → Type 0) where
-  same_fronts : Align (keys_of theirs) ours theirs → GivesExactlyOne Next → GivesExactlyOne (SameThen ours theirs Next)
+  same_fronts : Align (keys_of theirs) ours theirs → ExactlyOne Next → ExactlyOne (SameThen ours theirs Next)
   same_fronts align next = (
     next.0,
     inl (align, next.1),
@@ -98,7 +98,7 @@ module _ (ours theirs : List Catch) (Next : Outcome → Type 0) where
     ],
   )
 
-  other_fronts : (aligned : List Catch) (name : List ℕ) → Align (keys_of theirs) ours aligned → DiffersAt aligned theirs name → GivesExactlyOne (SameThen ours theirs Next)
+  other_fronts : (aligned : List Catch) (name : List ℕ) → Align (keys_of theirs) ours aligned → DiffersAt aligned theirs name → ExactlyOne (SameThen ours theirs Next)
   other_fronts aligned name align differs = (
     Err (Diverged name),
     inr (inr (aligned, name, align, differs, refl)),
@@ -113,7 +113,7 @@ module _ (ours theirs : List Catch) (Next : Outcome → Type 0) where
     ],
   )
 
-  order_sticks : (stuck : Key) → AlignSticks (keys_of theirs) ours stuck → GivesExactlyOne (SameThen ours theirs Next)
+  order_sticks : (stuck : Key) → AlignSticks (keys_of theirs) ours stuck → ExactlyOne (SameThen ours theirs Next)
   order_sticks stuck sticks =
       let never = (lists_succeed_or_stick.aligns (keys_of theirs) ours).1 in (
         Err (Diverged stuck.name),
@@ -127,7 +127,7 @@ module _ (ours theirs : List Catch) (Next : Outcome → Type 0) where
         ],
       )
 
-  same_then : GivesExactlyOne Next → GivesExactlyOne (SameThen ours theirs Next)
+  same_then : ExactlyOne Next → ExactlyOne (SameThen ours theirs Next)
   same_then next = elim (lists_succeed_or_stick.aligns (keys_of theirs) ours).0 [
     | inl a ↦ elim (compared a.0 theirs) [
       | inl e ↦ same_fronts (subst (λ l. Align (keys_of theirs) ours l) e a.1) next

@@ -4,6 +4,7 @@ use Rattle.camp_catch.specs.Arranging.{Arrange, Align}
 use Rattle.camp_catch.specs.Laws.{keys_of}
 use Rattle.camp_catch.specs.MergingLists.{MergeLists}
 use Rattle.camp_catch.specs.declared.catches.Catch.{Catch}
+use Rattle.camp_branch.specs.Laws.{PullsBeginWithOwn}
 use Rattle.camp_branch.specs.Obliterating.{ObliterateGives, other_names}
 use Rattle.camp_branch.specs.Pulling.{Outcome, PullGives, common_names}
 use Rattle.camp_branch.specs.declared.faults.Blocked.{Blocked}
@@ -73,3 +74,9 @@ left_by branch names left gives = elim gives [
   | inl a ↦ (a.1, subst (λ l. Arrange (other_names branch names) branch l a.1) (sym (same_branch left a.0 (Ok left) refl a.3)) a.2)
   | inr s ↦ apart left _ s.3
 ]
+
+-- a pull that goes through gives the branch that is pulled into, and behind it what was taken
+pub pulls_begin_with_own : PullsBeginWithOwn
+pulls_begin_with_own from to pulled wanted gives =
+    let steps = pulled_by from to wanted pulled gives in
+    (steps.taken, steps.becomes)

@@ -1,2 +1,3 @@
 -- What only functions that stay within the crate say.
+pub mod Collecting
 pub mod Stages

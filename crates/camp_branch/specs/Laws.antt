@@ -7,8 +7,9 @@ use Rattle.camp_prim.specs.declared.primitives.Primitive.{Primitive}
 use Rattle.camp_catch.specs.declared.catches.Catch.{Catch}
 use Rattle.camp_branch.specs.Branches.{HasPatches, IsLawful, IsTreeOf, LeadsTo, Patch, has_patch, is_among, names_of}
 use Rattle.camp_branch.specs.Branches.{patch_names, recorded}
+use Rattle.camp_branch.specs.Conflicting.{AreConflicts}
 use Rattle.camp_branch.specs.Obliterating.{ObliterateGives, other_names}
-use Rattle.camp_branch.specs.Pulling.{Outcome, PullGives}
+use Rattle.camp_branch.specs.Pulling.{PullGives}
 
 -- a branch leads to one tree at most, which is the tree of its effects
 pub record TreesAreDetermined : Type 0 where
@@ -20,14 +21,18 @@ abbrev pub NamesAreOfPatches : Type 0
 NamesAreOfPatches =
     (branch : List Catch) (patches : List Patch) → HasPatches branch patches → names_of branch ≡ patch_names patches
 
--- exactly one outcome is given
-abbrev pub GivesExactlyOne : (Outcome → Type 0) → Type 0
-GivesExactlyOne Gives = (outcome : Outcome) × Gives outcome × ((other : Outcome) → Gives other → other ≡ outcome)
+-- exactly one value has a property
+abbrev pub ExactlyOne : {A : Type 0} → (A → Type 0) → Type 0
+ExactlyOne {A} Has = (one : A) × Has one × ((other : A) → Has other → other ≡ one)
 
 -- a pull comes to one outcome, and so does an obliteration
 pub record OutcomesAreDetermined : Type 0 where
-  pub pulls : (from to : List Catch) (wanted : List (List ℕ)) → GivesExactlyOne (PullGives from to wanted)
-  pub obliterates : (branch : List Catch) (names : List (List ℕ)) → GivesExactlyOne (ObliterateGives branch names)
+  pub pulls : (from to : List Catch) (wanted : List (List ℕ)) → ExactlyOne (PullGives from to wanted)
+  pub obliterates : (branch : List Catch) (names : List (List ℕ)) → ExactlyOne (ObliterateGives branch names)
+
+-- the conflicts of a branch are one list of pairs
+abbrev pub ConflictsAreDetermined : Type 0
+ConflictsAreDetermined = (branch : List Catch) → ExactlyOne (AreConflicts branch)
 
 -- the patches with these names
 abbrev pub those_of : List (List ℕ) → List Patch → List Patch
@@ -40,6 +45,12 @@ others_of names patches = filter (λ p. not (is_among names p.name)) patches
 -- a branch has no patch of these names
 abbrev pub AreLacked : List Catch → List (List ℕ) → Type 0
 AreLacked to wanted = (name : List ℕ) → is_among wanted name ≡ true → has_patch to name ≡ false
+
+-- what a pull gives begins with `to`
+abbrev pub PullsBeginWithOwn : Type 0
+PullsBeginWithOwn =
+    (from to pulled : List Catch) (wanted : List (List ℕ)) → PullGives from to wanted (Ok pulled) →
+    (taken : List Catch) × (pulled ≡ to ++ taken)
 
 -- what a pull gives has the patches of `to`, and then the wanted ones of `from`, in their order there; it is lawful
 -- where both branches are

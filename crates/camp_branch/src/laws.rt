@@ -1,4 +1,4 @@
-ghost use Rattle.camp_branch.specs.Laws.{NamesAreOfPatches, ObliteratesKeepLawful, OutcomesAreDetermined, PullsKeepLawful, RecordsKeepLawful, TreesAreDetermined};
+ghost use Rattle.camp_branch.specs.Laws.{ConflictsAreDetermined, NamesAreOfPatches, ObliteratesKeepLawful, OutcomesAreDetermined, PullsBeginWithOwn, PullsKeepLawful, RecordsKeepLawful, TreesAreDetermined};
 
 /// A branch leads to one tree at most, which is the tree of its effects.
 pub fn trees_are_determined()
@@ -13,6 +13,16 @@ pub fn names_are_of_patches()
 /// A pull comes to one outcome, and so does an obliteration.
 pub fn outcomes_are_determined()
     ensures { OutcomesAreDetermined }
+{}
+
+/// The conflicts of a branch are exactly one list of pairs.
+pub fn conflicts_are_determined()
+    ensures { ConflictsAreDetermined }
+{}
+
+/// A pulled branch begins with the branch that is pulled into.
+pub fn pulls_begin_with_own()
+    ensures { PullsBeginWithOwn }
 {}
 
 /// A pulled branch has its own patches and then the wanted ones, in the order of the other branch, and

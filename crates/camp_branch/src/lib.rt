@@ -12,6 +12,7 @@ mod pulls;
 pub use branches::Branch;
 pub use faults::Blocked;
 pub use laws::{
-    names_are_of_patches, obliterates_keep_lawful, outcomes_are_determined, pulls_keep_lawful,
-    records_keep_lawful, trees_are_determined,
+    conflicts_are_determined, names_are_of_patches, obliterates_keep_lawful,
+    outcomes_are_determined, pulls_begin_with_own, pulls_keep_lawful, records_keep_lawful,
+    trees_are_determined,
 };

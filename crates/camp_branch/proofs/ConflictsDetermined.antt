@@ -1,0 +1,150 @@
+-- The conflicts of a branch: which they are, and that they are one list.
+use Rattle.std.proofs.Common.{◌≡◌, ◌⊎◌, ◌++◌, ℕ, Bool, true, Option, None, Some, List, [], ◌∷◌, map, is_some, refl, sym, ap, ◌∙◌, subst, inl, inr, arith}
+use Rattle.std.proofs.lemmas.List.Elements.{Contains-append_cases, Contains-append_left, Contains-append_right}
+use Rattle.std.proofs.lemmas.Map.Views.{Contains-from_any, list_any-from_Contains, tells_apart}
+use Rattle.std.specs.Prelude.{Contains, AllPairs}
+use Rattle.std.specs.List.{flat_map}
+use Rattle.std.specs.Ordering.{ordering_reverse}
+use Rattle.std.specs.Cmp.{eq_by_cmp_equiv}
+use Rattle.std.specs.Cmp.Lexicographic.{nat_list_cmp_total}
+use Rattle.std.specs.FinMap.{contains_key-keys, get, keys}
+use Rattle.std.specs.declared.cmp.Ordering.{Ordering}
+use Rattle.std.specs.declared.cmp.Ordering.TheVariants.{Less, Equal, Greater}
+use Rattle.camp_prim.specs.declared.labels.Key.{Key}
+use Rattle.camp_prim.proofs.LabelOrder.{key_total, key_ties}
+use Rattle.camp_ctx.specs.Contexts.{Contexts, InContext}
+use Rattle.camp_catch.specs.declared.catches.Catch.{Catch}
+use Rattle.camp_catch.specs.declared.catches.Catch.TheVariants.{Plain, Conflictor}
+use Rattle.camp_branch.specs.Branches.{name_of}
+use Rattle.camp_branch.specs.Conflicting.{AreConflicts, AreInConflict, ConflictsWith, IsBefore, IsBetween}
+use Rattle.camp_branch.specs.Inside.Collecting.{names_against, names_within, ordered_by, pair_of, pairs_at, pairs_in}
+use Rattle.camp_branch.specs.Laws.{ConflictsAreDetermined}
+use Rattle.camp_branch.proofs.SortedPairs.{Ordered, Pair, Within, ascending_once, by_name, first_or_later, has_first, has_later, names_tie, no_member, ordered}
+
+-- what one of the lists has that the elements of a list make
+has_of_each : {X A : Type 0} (f : X → List A) (list : List X) (x : X) (y : A) → Contains list x → Contains (f x) y → Contains (flat_map f list) y
+has_of_each f [] x y c d = no_member x c
+has_of_each f (z ∷ list) x y c d = elim (first_or_later z x list c) [
+  | inl e ↦ Contains-append_left (f z) _ y (subst (λ w. Contains (f w) y) (sym e) d)
+  | inr later ↦ Contains-append_right (f z) _ y (has_of_each f list x y later d)
+]
+
+one_has : {X A : Type 0} (f : X → List A) (list : List X) (y : A) → Contains (flat_map f list) y → (x : X) × Contains list x × Contains (f x) y
+one_has f [] y c = no_member y c
+one_has f (z ∷ list) y c = elim (Contains-append_cases (f z) (flat_map f list) y c) [
+  | inl d ↦ (z, has_first z list, d)
+  | inr d ↦
+      let rest = one_has f list y d in
+      (rest.0, has_later z rest.0 list rest.1, rest.2)
+]
+
+has_image : {X A : Type 0} (f : X → A) (list : List X) (x : X) → Contains list x → Contains (map f list) (f x)
+has_image f [] x c = no_member x c
+has_image f (z ∷ list) x c = elim (first_or_later z x list c) [
+  | inl e ↦ subst (λ y. Contains (f z ∷ map f list) y) (ap f e) (has_first (f z) (map f list))
+  | inr later ↦ has_later (f z) (f x) (map f list) (has_image f list x later)
+]
+
+is_image : {X A : Type 0} (f : X → A) (list : List X) (y : A) → Contains (map f list) y → (x : X) × Contains list x × (f x ≡ y)
+is_image f [] y c = no_member y c
+is_image f (z ∷ list) y c = elim (first_or_later (f z) y (map f list) c) [
+  | inl e ↦ (z, has_first z list, e)
+  | inr later ↦
+      let rest = is_image f list y later in
+      (rest.0, has_later z rest.0 list rest.1, rest.2)
+]
+
+value_of : {X : Type 0} (o : Option X) → is_some o ≡ true → (x : X) × (o ≡ Some x)
+value_of None e = cc
+value_of (Some x) e = (x, refl)
+
+key_is_listed : (xs : Contexts) (key : Key) (x : InContext) → get xs key ≡ Some x → Contains (keys xs) key
+key_is_listed xs key x is =
+    Contains-from_any (tells_apart key_ties) key (keys xs) (sym (contains_key-keys xs key) ∙ ap is_some is)
+
+listed_has_member : (xs : Contexts) (key : Key) → Contains (keys xs) key → (x : InContext) × (get xs key ≡ Some x)
+listed_has_member xs key c =
+    value_of (get xs key) (contains_key-keys xs key ∙ list_any-from_Contains (eq_by_cmp_equiv key_total) key (keys xs) c)
+
+against : (k : Catch) (name : List ℕ) → Contains (names_against k) name → ConflictsWith k name
+against (Plain a) name c = no_member name c
+against (Conflictor r xs i) name c =
+    let key = is_image (λ (key : Key). key.name) (keys xs) name c in
+    let member = listed_has_member xs key.0 key.1 in
+    (key.0, member.0, member.1, key.2)
+
+is_against : (k : Catch) (name : List ℕ) → ConflictsWith k name → Contains (names_against k) name
+is_against (Plain a) name w = absurd w
+is_against (Conflictor r xs i) name w =
+    subst (λ n. Contains (names_within xs) n) w.3 (has_image (λ (key : Key). key.name) (keys xs) w.0 (key_is_listed xs w.0 w.1 w.2))
+
+-- of two names, the first comes first
+first_is_less : (a b : List ℕ) → by_name a b ≡ Less → Contains (pair_of a b) (a, b)
+first_is_less a b less =
+    subst (λ o. Contains (ordered_by o a b) (a, b)) (sym less) (has_first (a, b) [])
+
+second_is_less : (a b : List ℕ) → by_name b a ≡ Less → Contains (pair_of a b) (b, a)
+second_is_less a b less =
+    subst (λ o. Contains (ordered_by o a b) (b, a)) (sym (nat_list_cmp_total.antisymm a b ∙ ap ordering_reverse less)) (has_first (b, a) [])
+
+-- a pair is of two names, the lesser first
+abbrev IsOfNames : List ℕ → List ℕ → Pair → Type 0
+IsOfNames a b p = (by_name p.0 p.1 ≡ Less) × (((a ≡ p.0) × (b ≡ p.1)) ⊎ ((a ≡ p.1) × (b ≡ p.0)))
+
+alone : {X : Type 0} (x y : X) → Contains (x ∷ []) y → x ≡ y
+alone x y c = elim (first_or_later x y [] c) [ inl e ↦ e | inr d ↦ no_member y d ]
+
+of_names : (a b : List ℕ) (o : Ordering) (p : Pair) → by_name a b ≡ o → Contains (ordered_by o a b) p → IsOfNames a b p
+of_names a b Less p e c =
+    let is = alone (a, b) p c in
+    subst (IsOfNames a b) is (e, inl (refl, refl))
+of_names a b Equal p e c = no_member p c
+of_names a b Greater p e c =
+    let is = alone (b, a) p c in
+    subst (IsOfNames a b) is (nat_list_cmp_total.antisymm b a ∙ ap ordering_reverse e, inr (refl, refl))
+
+-- the pairs that are collected are in conflict
+pub collected_conflict : (branch : List Catch) (p : Pair) → Contains (pairs_in branch) p → (by_name p.0 p.1 ≡ Less) × AreInConflict branch p.0 p.1
+collected_conflict branch p c =
+    let at = one_has pairs_at branch p c in
+    let member = one_has (pair_of (name_of at.0)) (names_against at.0) p at.2 in
+    let with = against at.0 member.0 member.1 in
+    let names = of_names (name_of at.0) member.0 _ p refl member.2 in (
+      names.0,
+      (
+        at.0,
+        at.1,
+        elim names.1 [
+          | inl e ↦ inl (e.0, subst (ConflictsWith at.0) e.1 with)
+          | inr e ↦ inr (e.0, subst (ConflictsWith at.0) e.1 with)
+        ],
+      ),
+    )
+
+at_catch : (k : Catch) (first second : List ℕ) → by_name first second ≡ Less → IsBetween first second k → Contains (pairs_at k) (first, second)
+at_catch k first second less (inl w) =
+    has_of_each (pair_of (name_of k)) (names_against k) second (first, second) (is_against k second w.1) (subst (λ n. Contains (pair_of n second) (first, second)) (sym w.0) (first_is_less first second less))
+at_catch k first second less (inr w) =
+    has_of_each (pair_of (name_of k)) (names_against k) first (first, second) (is_against k first w.1) (subst (λ n. Contains (pair_of n first) (first, second)) (sym w.0) (second_is_less second first less))
+
+-- all that are in conflict are collected
+pub conflict_collected : (branch : List Catch) (first second : List ℕ) → by_name first second ≡ Less → AreInConflict branch first second → Contains (pairs_in branch) (first, second)
+conflict_collected branch first second less w =
+    has_of_each pairs_at branch w.0 (first, second) w.1 (at_catch w.0 first second less w.2)
+
+-- the pairs that are collected, each once, in ascending order
+pub conflicts_by : (branch : List Catch) (pairs : List Pair) → AllPairs IsBefore pairs → Within (pairs_in branch) pairs → Within pairs (pairs_in branch) → AreConflicts branch pairs
+conflicts_by branch pairs ascending has has_no_other = record {
+  ascending = ascending;
+  listed = λ first second. (λ c. collected_conflict branch (first, second) (has_no_other (first, second) c), λ w. has (first, second) (conflict_collected branch first second w.0 w.1));
+}
+
+both_list : (branch : List Catch) (pairs others : List Pair) → AreConflicts branch pairs → AreConflicts branch others → Within pairs others
+both_list branch pairs others are also p c =
+    (also.listed p.0 p.1).1 ((are.listed p.0 p.1).0 c)
+
+pub conflicts_are_determined : ConflictsAreDetermined
+conflicts_are_determined branch =
+    let all = ordered (pairs_in branch) in
+    let are = conflicts_by branch all.list all.ascending all.has all.has_no_other in
+    (all.list, are, λ other also. ascending_once other all.list also.ascending are.ascending (both_list branch other all.list also are) (both_list branch all.list other are also))
