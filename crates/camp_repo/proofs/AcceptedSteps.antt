@@ -50,5 +50,3 @@ module _ (state next : Contents) where
   pub leads_on : (branch : List ℕ) (catches : List Catch) (led : Result Files Refusal) → record_leads state branch catches led ≡ Next next → (tree : Files) × (led ≡ Ok tree) × (accepted state (with_catches state.branches branch catches) ≡ Next next)
   leads_on branch catches (Ok tree) e = (tree, refl, e)
   leads_on branch catches (Err refusal) e = cc
-
-

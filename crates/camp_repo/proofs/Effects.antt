@@ -47,8 +47,7 @@ module _ (state next : Contents) (branch : List ℕ) (old new : List Catch) wher
   -- one branch is given other catches
   pub changes_one : Has state branch old → accepted state (with_catches state.branches branch new) ≡ Next next → ChangesOne branch state next × Has next branch new
   changes_one was e =
-      let same : record { branches = with_catches state.branches branch new; count = state.count + 1 } ≡ next = cc in
-      (
+      let same : record { branches = with_catches state.branches branch new; count = state.count + 1 } ≡ next = cc in (
         record {
           counted = ap (λ s. s.count) (sym same);
           names = ap (λ s. names_of_branches s.branches) (sym same) ∙ names_stay state.branches branch new;

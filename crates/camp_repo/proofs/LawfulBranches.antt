@@ -65,8 +65,7 @@ number_there changes_of name changes = sym (ap (λ b. cond b changes (changes_of
 agree_still : (changes_of : List ℕ → ℕ) (name : List ℕ) (changes : ℕ) (patches : List Patch) → is_among (patch_names patches) name ≡ false → AllByRecursion (λ patch. patch.changes ≡ changes_of patch.name) patches → AllByRecursion (λ patch. patch.changes ≡ with_number changes_of name changes patch.name) patches
 agree_still changes_of name changes [] free agree = tt
 agree_still changes_of name changes (patch ∷ patches) free agree =
-    let parts = or_parts (bytes_eq name patch.name) (is_among (patch_names patches) name) free in
-    (
+    let parts = or_parts (bytes_eq name patch.name) (is_among (patch_names patches) name) free in (
       agree.0 ∙ sym (ap (λ b. cond b changes (changes_of patch.name)) parts.0),
       agree_still changes_of name changes patches parts.1 agree.1,
     )

@@ -128,8 +128,7 @@ steps_lawful state (call.Names branch) next is lawful e = absurd (accepted_calls
 -- a lawful state answers with trees
 pub trees_answered : TreesAreAnswered
 trees_answered state branch catches lawful has =
-    let own = lawful_branch state lawful branch catches has in
-    (
+    let own = lawful_branch state lawful branch catches has in (
       own.tree,
       own.leads,
       ap (λ o. option_map_or (λ catches. shown (tree_of catches)) o (refused (NoBranch branch))) has ∙ ap shown (tree_found catches own.tree own.leads),

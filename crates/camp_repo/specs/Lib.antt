@@ -1,6 +1,9 @@
+pub mod Fields
 pub mod Lawful
 pub mod Laws
+pub mod ObjectLaws
 pub mod Objects
 pub mod Outcomes
+pub mod Placing
 pub mod States
 pub mod Steps

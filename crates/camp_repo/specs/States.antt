@@ -1,5 +1,5 @@
 -- The state of a repository as plain data.
-use Rattle.std.specs.Prelude.{ℕ, Bool, List, [], ◌∷◌, Option, None, Some, bytes_eq, codes, if◌then◌else◌}
+use Rattle.std.specs.Prelude.{ℕ, ◌+◌, Bool, List, [], ◌∷◌, Option, None, Some, bytes_eq, codes, if◌then◌else◌}
 use Rattle.std.specs.List.{flat_map, list_any}
 use Rattle.std.specs.Option.{option_and_then}
 use Rattle.std.specs.FinMap.{empty}
@@ -18,6 +18,10 @@ Branches = List (List ℕ × List Catch)
 pub record Contents : Type 0 where
   pub branches : Branches
   pub count : ℕ
+
+-- the state after one more accepted call, which leaves these branches
+abbrev pub after : Contents → Branches → Contents
+after state branches = record { branches = branches; count = state.count + 1 }
 
 -- a new repository: one branch `main` without a patch, and no call accepted
 abbrev pub initial : Contents

@@ -25,7 +25,7 @@ use Rattle.camp_call.specs.declared.replies.Refusal.TheVariants.{Diverged, NoMer
 use Rattle.camp_object.specs.declared.objects.Decided.{Decided}
 use Rattle.camp_object.specs.declared.objects.Decided.TheVariants.{Next, Answer}
 use Rattle.camp_repo.specs.Outcomes.{conflicts_of, obliterated, pulled}
-use Rattle.camp_repo.specs.States.{Branches, Contents, catches_of, stands, tree_of, with_catches}
+use Rattle.camp_repo.specs.States.{Branches, Contents, after, catches_of, stands, tree_of, with_catches}
 
 -- what a call comes to: the next state, or a reply
 abbrev pub Decision : Type 0
@@ -37,7 +37,7 @@ refused refusal = Answer (reply.Refused refusal)
 
 -- one more call is accepted, and the branches become these
 abbrev pub accepted : Contents → Branches → Decision
-accepted state branches = Next (record { branches = branches; count = state.count + 1 })
+accepted state branches = Next (after state branches)
 
 -- the call goes on with the catches of a branch, and is refused where there is no branch of the name
 abbrev pub with_branch : Contents → List ℕ → (List Catch → Decision) → Decision

@@ -1,0 +1,15 @@
+-- How a state lies in its fields.
+use Rattle.std.specs.Prelude.{◌≡◌, ℕ, zero, suc, List, [], ◌∷◌, length, zip}
+use Rattle.camp_catch.specs.declared.catches.Catch.{Catch}
+use Rattle.camp_repo.specs.Lawful.{IsLawful}
+use Rattle.camp_repo.specs.States.{Branches, Contents}
+use Rattle.camp_repo.specs.declared.states.State.TheInside.{Inside}
+
+-- the names and the branches stand side by side, in order of creation
+abbrev pub contents_of : Inside → Contents
+contents_of state = record { branches = zip state.names.keys state.branches; count = state.count }
+
+-- there are as many names as branches, and the state is lawful
+pub record IsState (state : Inside) : Type 0 where
+  pub as_many : length state.names.keys ≡ length state.branches
+  pub lawful : IsLawful (contents_of state)

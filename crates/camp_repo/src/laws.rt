@@ -1,0 +1,41 @@
+ghost use Rattle.camp_repo.specs.Laws.{AcceptedCallsHaveEffect, AnswersChangeNothing, InitialIsLawful, OutcomesAreDefined};
+ghost use Rattle.camp_repo.specs.Laws.{RepositoryIsLawful, StepsKeepLawful, TreesAreAnswered};
+
+/// A new repository is lawful.
+pub fn initial_is_lawful()
+    ensures { InitialIsLawful }
+{}
+
+/// An accepted call leads from a lawful state to a lawful one.
+pub fn steps_keep_lawful()
+    ensures { StepsKeepLawful }
+{}
+
+/// A branch is copied, and the copy comes last; a record puts its patch at the end of its branch; a
+/// pull puts the wanted patches behind those of its branch; an obliteration leaves the others. No
+/// other branch changes, and one more call is counted.
+pub fn accepted_calls_have_effect()
+    ensures { AcceptedCallsHaveEffect }
+{}
+
+/// A refused call and a question change nothing.
+pub fn answers_change_nothing()
+    ensures { AnswersChangeNothing }
+{}
+
+/// Each branch of a lawful state has a tree, with which the question for it is answered.
+pub fn trees_are_answered()
+    ensures { TreesAreAnswered }
+{}
+
+/// What a pull, an obliteration and the question for conflicts come to is what the definitions of
+/// branches say.
+pub fn outcomes_are_defined()
+    ensures { OutcomesAreDefined }
+{}
+
+/// The repository is an object: it counts its accepted calls, and only calls that write are
+/// accepted.
+pub fn repository_is_lawful()
+    ensures { RepositoryIsLawful }
+{}

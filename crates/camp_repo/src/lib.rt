@@ -1,0 +1,30 @@
+//! The repository that one thread owns: what a call does to its branches, and its book.
+#![tactic(auto)]
+
+mod laws;
+mod name_lists;
+mod objects;
+mod sizes;
+mod states;
+mod steps;
+
+pub use camp_branch::Branch;
+pub use camp_call::{Call, Changes, Conflicts, Names, Refusal, Reply};
+pub use camp_object::{Book, BookDesk, Decided, Desk, Fault, Object};
+pub use laws::{
+    accepted_calls_have_effect, answers_change_nothing, initial_is_lawful, outcomes_are_defined,
+    repository_is_lawful, steps_keep_lawful, trees_are_answered,
+};
+pub use states::State;
+
+/// The most branches of a repository.
+pub const MAX_BRANCHES: usize = 256;
+
+/// The most catches of a branch.
+pub const MAX_CATCHES: usize = 4_096;
+
+/// The most lines of a side of a hunk that is recorded.
+pub const MAX_SIDE_LINES: usize = 65_535;
+
+/// The most lines of a file that a record leaves.
+pub const MAX_FILE_LINES: usize = 1_000_000;

@@ -1,0 +1,90 @@
+ghost use Rattle.std.specs.Prelude.{◌≡◌, ℕ, List, length, IfOk};
+ghost use Rattle.camp_branch.specs.Branches.{is_among};
+ghost use Rattle.camp_branch.specs.Fields.{names_in};
+ghost use Rattle.camp_repo.specs.Steps.{catches_named, first_lacked, is_full_with, listed, wanted};
+
+use crate::{Branch, MAX_CATCHES, Names};
+use camp_base::Name;
+use camp_share::SharedMap;
+use std::alloc::{AllocError, Global};
+
+/// The first listed name of which a branch has no patch; where there is no list, none.
+pub(crate) fn first_lacked(branch: &Branch, names: &Option<Names>) -> Option<Name>
+    ensures { result ≡ first_lacked branch.now (listed branch.now names.now) }
+{
+    match names {
+        Some(names) => first_lacked_of(branch, names.as_slice()),
+        None => None,
+    }
+}
+
+/// The first of some names of which a branch has no patch.
+pub(crate) fn first_lacked_of(branch: &Branch, names: &[Name]) -> Option<Name>
+    ensures { result ≡ first_lacked branch.now names.now }
+{
+    for name in names {
+        if !branch.has_patch(name) {
+            return Some(*name);
+        }
+    }
+    None
+}
+
+/// The names, each once.
+pub(crate) fn set_of(alloc: Global, names: &[Name]) -> Result<SharedMap<Name, ()>, AllocError>
+    ensures { IfOk result (λ set. (name : List ℕ) → is_among (names_in set) name ≡ is_among names.now name) }
+{
+    let mut set = SharedMap::new(alloc);
+    for name in names {
+        set = set.inserted_if_absent(*name, ())?;
+    }
+    Ok(set)
+}
+
+/// The listed names, or all names of the one branch, of which the other has no patch.
+pub(crate) fn wanted(
+    ours: &Branch,
+    theirs: &Branch,
+    names: &Option<Names>,
+) -> Result<SharedMap<Name, ()>, AllocError>
+    ensures { IfOk result (λ set. (name : List ℕ) →
+        is_among (names_in set) name ≡ is_among (wanted ours.now (listed theirs.now names.now)) name) }
+{
+    match names {
+        Some(names) => wanted_of(ours, names.as_slice()),
+        None => {
+            let all = theirs.names()?;
+            wanted_of(ours, &all)
+        }
+    }
+}
+
+/// The names of which a branch has no patch.
+fn wanted_of(branch: &Branch, names: &[Name]) -> Result<SharedMap<Name, ()>, AllocError>
+    ensures { IfOk result (λ set. (name : List ℕ) →
+        is_among (names_in set) name ≡ is_among (wanted branch.now names.now) name) }
+{
+    let mut set = SharedMap::new(branch.catches().allocator());
+    for name in names {
+        if !branch.has_patch(name) {
+            set = set.inserted_if_absent(*name, ())?;
+        }
+    }
+    Ok(set)
+}
+
+/// Whether a branch would be too long with the catches of these names of another.
+pub(crate) fn is_full_with(ours: &Branch, theirs: &Branch, names: &SharedMap<Name, ()>) -> bool
+    ensures { result ≡ is_full_with ours.now theirs.now (names_in names.now) }
+{
+    ours.catches().len() + count_of(theirs, names) > MAX_CATCHES
+}
+
+fn count_of(branch: &Branch, names: &SharedMap<Name, ()>) -> usize
+    ensures { result ≡ length (catches_named (names_in names.now) branch.now) }
+{
+    let catches = branch.catches().iter();
+    catches
+        .filter(|catch| names.contains_key(catch.name()))
+        .count()
+}

@@ -1,0 +1,62 @@
+ghost use Rattle.std.specs.Prelude.{◌≡◌, IfOk};
+ghost use Rattle.std.specs.List.{list_any};
+ghost use Rattle.camp_repo.specs.Steps.{changed, has_long_file, has_long_side, is_too_large};
+
+use crate::{Branch, MAX_CATCHES, MAX_FILE_LINES, MAX_SIDE_LINES, Refusal};
+use camp_base::{Apply, Path, Tree};
+use camp_prim::Primitive;
+use std::alloc::AllocError;
+
+/// Whether a record is too large for a branch.
+pub(crate) fn is_too_large(branch: &Branch, changes: &[Primitive]) -> bool
+    ensures { result ≡ is_too_large branch.now changes.now }
+{
+    branch.catches().len() + changes.len() > MAX_CATCHES || has_long_side(changes)
+}
+
+fn has_long_side(changes: &[Primitive]) -> bool
+    ensures { result ≡ list_any has_long_side changes.now }
+{
+    changes.iter().any(is_long)
+}
+
+fn is_long(change: &Primitive) -> bool
+    ensures { result ≡ has_long_side change.now }
+{
+    match change {
+        Primitive::Add(_) | Primitive::Remove(_) => false,
+        Primitive::Hunk(hunk) => {
+            hunk.old().len() > MAX_SIDE_LINES || hunk.new().len() > MAX_SIDE_LINES
+        }
+    }
+}
+
+/// The tree that changes lead to, each from that which those before it leave, or why they don't.
+pub(crate) fn changed(
+    tree: &Tree,
+    changes: &[Primitive],
+) -> Result<Result<Tree, Refusal>, AllocError>
+    ensures { IfOk result (λ led. led ≡ changed changes.now tree.now) }
+{
+    let mut tree = tree.try_clone()?;
+    for change in changes {
+        match change.apply(&mut tree) {
+            Ok(()) => {}
+            Err(Apply::DoesNotApply) => return Ok(Err(Refusal::DoesNotApply)),
+            Err(Apply::Memory) => return Err(AllocError),
+        }
+        if has_long_file(change.path(), &tree) {
+            return Ok(Err(Refusal::TooLarge));
+        }
+    }
+    Ok(Ok(tree))
+}
+
+fn has_long_file(path: &Path, tree: &Tree) -> bool
+    ensures { result ≡ has_long_file path.now tree.now }
+{
+    match tree.file(path) {
+        Some(lines) => lines.len() > MAX_FILE_LINES,
+        None => false,
+    }
+}

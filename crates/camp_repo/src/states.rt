@@ -1,0 +1,166 @@
+ghost use Rattle.std.specs.Prelude.{◌≡◌, ◌-◌, ◌^◌, ◌<◌, ◌++◌, [], ◌∷◌, List, None, Some, length, codes, IfOk, IfSome, MatchOption};
+ghost use Rattle.camp_catch.specs.declared.catches.Catch.{Catch};
+ghost use Rattle.camp_repo.specs.Lawful.{IsLawful};
+ghost use Rattle.camp_repo.specs.Placing.{placed};
+ghost use Rattle.camp_repo.specs.States.{after, catches_of, initial, stands, with_catches};
+
+use crate::Branch;
+use camp_base::Name;
+use camp_share::{Share, Shared, SharedList};
+use indexmap::IndexSet;
+use std::alloc::{AllocError, Global};
+use std::marker::Model;
+
+/// The branches of a repository in order of creation, and how many calls it has accepted. A state
+/// shares with those that it was made from all that stayed the same.
+#[derive(Drop)]
+pub struct State {
+    names: Shared<IndexSet<Name>>,
+    branches: SharedList<Shared<Branch>>,
+    count: u64,
+}
+
+impl Model for State {
+    ghost use Rattle.std.specs.Coded.{codes};
+    ghost use Rattle.camp_ctx.specs.declared.sets.CtxSet.{the_code as code_of_sets};
+    ghost use Rattle.camp_repo.specs.States.{Contents};
+
+    ghost Value = { Contents };
+
+    ghost coded = { Prim.hlevel (codes, code_of_sets) };
+
+    ghost use Rattle.camp_repo.specs.Fields.{contents_of, IsState};
+
+    ghost view = { contents_of };
+
+    ghost invariant = { IsState };
+}
+
+impl State {
+    /// A new repository: one branch `main` without a patch, and no call accepted.
+    pub fn new(alloc: Global) -> Result<State, AllocError>
+        ensures { IfOk result (λ state. state ≡ initial) }
+    {
+        let mut names = IndexSet::new(alloc);
+        names.insert(main_name())?;
+        let names = Shared::new(alloc, names)?;
+        let main = Shared::new(alloc, Branch::empty(alloc))?;
+        let branches = SharedList::new(alloc).pushed(main)?;
+        Ok(State {
+            names,
+            branches,
+            count: 0,
+        })
+    }
+
+    /// How many calls were accepted.
+    pub fn count(&self) -> u64
+        ensures value { result ≡ self.now.count }
+        ensures lawful { IsLawful self.now }
+    {
+        self.count
+    }
+
+    /// The branch of a name.
+    pub fn branch(&self, name: &Name) -> Option<&Branch>
+        ensures { MatchOption result
+            (catches_of self.now.branches name.now ≡ None)
+            (λ branch. catches_of self.now.branches name.now ≡ Some branch.now) }
+    {
+        match self.find(name) {
+            Some((_, branch)) => Some(branch),
+            None => None,
+        }
+    }
+
+    /// A state that is the same. It shares all with this one.
+    pub fn try_clone(&self) -> Result<State, AllocError>
+        ensures { IfOk result (λ copy. copy ≡ self.now) }
+    {
+        let names = self.names.share()?;
+        let branches = self.branches.share()?;
+        Ok(State {
+            names,
+            branches,
+            count: self.count,
+        })
+    }
+
+    /// How many branches there are.
+    pub(crate) fn len(&self) -> usize
+        ensures { result ≡ length self.now.branches }
+    {
+        self.branches.len()
+    }
+
+    /// The allocator of the state.
+    pub(crate) fn allocator(&self) -> Global {
+        self.branches.allocator()
+    }
+
+    /// Whether a patch of this name stands in some branch.
+    pub(crate) fn stands(&self, name: &Name) -> bool
+        ensures { result ≡ stands self.now.branches name.now }
+    {
+        self.branches.iter().any(|branch| branch.has_patch(name))
+    }
+
+    /// The branch of a name, and its place in the order of creation.
+    pub(crate) fn find(&self, name: &Name) -> Option<(usize, &Branch)>
+        ensures value { MatchOption result
+            (catches_of self.now.branches name.now ≡ None)
+            (λ found. catches_of self.now.branches name.now ≡ Some found.1.now) }
+        ensures within { IfSome result (λ found. found.0 < length self.now.branches) }
+        ensures placed { IfSome result (λ found. (catches : List Catch) →
+            placed self.now.branches found.0 catches ≡ with_catches self.now.branches name.now catches) }
+    {
+        let place = self.names.get_index_of(name)?;
+        let branch = self.branches.get(place)?;
+        Some((place, branch))
+    }
+
+    /// The state after one more accepted call, where the branch at a place becomes this one.
+    pub(crate) fn with_branch_at(&self, place: usize, branch: Branch) -> Result<State, AllocError>
+        requires counts { self.now.count < 2 ^ 64 - 1 }
+        requires within { place < length self.now.branches }
+        requires lawful { IsLawful (after self.now (placed self.now.branches place branch)) }
+        ensures { IfOk result (λ next. next ≡ after self.now (placed self.now.branches place branch)) }
+    {
+        let branch = Shared::new(self.branches.allocator(), branch)?;
+        let branches = self.branches.replaced(place, branch)?;
+        let names = self.names.share()?;
+        Ok(State {
+            names,
+            branches,
+            count: self.count + 1,
+        })
+    }
+
+    /// The state after one more accepted call, with a further branch.
+    pub(crate) fn with_new_branch(&self, name: &Name, branch: &Branch) -> Result<State, AllocError>
+        requires counts { self.now.count < 2 ^ 64 - 1 }
+        requires lawful { IsLawful (after self.now (self.now.branches ++ (name.now, branch.now) ∷ [])) }
+        ensures { IfOk result (λ next. next ≡ after self.now (self.now.branches ++ (name.now, branch.now) ∷ [])) }
+    {
+        let mut names = (*self.names).clone()?;
+        names.insert(*name)?;
+        let alloc = self.branches.allocator();
+        let names = Shared::new(alloc, names)?;
+        let branch = Shared::new(alloc, branch.try_clone()?)?;
+        let branches = self.branches.pushed(branch)?;
+        Ok(State {
+            names,
+            branches,
+            count: self.count + 1,
+        })
+    }
+}
+
+fn main_name() -> Name
+    ensures { result ≡ codes "main" }
+{
+    match Name::new(b"main") {
+        Ok(name) => name,
+        Err(_) => unreachable!(),
+    }
+}

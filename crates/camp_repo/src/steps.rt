@@ -1,0 +1,199 @@
+ghost use Rattle.std.specs.Prelude.{◌≡◌, ◌-◌, ◌^◌, ◌<◌, List, Ok, length, IfOk};
+ghost use Rattle.camp_catch.specs.declared.catches.Catch.{Catch};
+ghost use Rattle.camp_repo.specs.Lawful.{IsLawful};
+ghost use Rattle.camp_repo.specs.Placing.{placed, settled};
+ghost use Rattle.camp_repo.specs.States.{after};
+ghost use Rattle.camp_repo.specs.Steps.{refused, refusal_of, step, step_branch, step_obliterate, step_pull, step_record};
+
+use crate::name_lists::{first_lacked, first_lacked_of, is_full_with, set_of, wanted};
+use crate::sizes::{changed, is_too_large};
+use crate::{
+    Branch, Call, Changes, Conflicts, Decided, MAX_BRANCHES, Names, Refusal, Reply, State,
+};
+use camp_base::Name;
+use camp_branch::Blocked;
+use std::alloc::AllocError;
+
+impl State {
+    /// What a call comes to, by the tests of its kind in their order: the first that fails decides.
+    pub fn decide(&self, call: &Call) -> Result<Decided<State, Reply>, AllocError>
+        requires { self.now.count < 2 ^ 64 - 1 }
+        ensures exact { IfOk result (λ decided. decided ≡ step self.now call.now) }
+    {
+        match call {
+            Call::Branch { new, from } => self.copy_branch(new, from),
+            Call::Record {
+                branch,
+                name,
+                changes,
+            } => self.record(branch, name, changes),
+            Call::Pull { from, to, names } => self.pull(from, to, names),
+            Call::Obliterate { branch, names } => self.obliterate(branch, names),
+            Call::Tree(branch) => self.show_tree(branch),
+            Call::Conflicts(branch) => self.show_conflicts(branch),
+            Call::Names(branch) => self.show_names(branch),
+        }
+    }
+
+    fn copy_branch(&self, new: &Name, from: &Name) -> Result<Decided<State, Reply>, AllocError>
+        requires { self.now.count < 2 ^ 64 - 1 }
+        ensures { IfOk result (λ decided. decided ≡ step_branch self.now new.now from.now) }
+    {
+        let Some(branch) = self.branch(from) else {
+            return Ok(refused(Refusal::NoBranch(*from)));
+        };
+        if self.branch(new).is_some() {
+            return Ok(refused(Refusal::BranchExists(*new)));
+        }
+        if self.len() >= MAX_BRANCHES {
+            return Ok(refused(Refusal::TooLarge));
+        }
+        let next = self.with_new_branch(new, branch)?;
+        Ok(Decided::Next(next))
+    }
+
+    fn record(
+        &self,
+        branch: &Name,
+        name: &Name,
+        changes: &Changes,
+    ) -> Result<Decided<State, Reply>, AllocError>
+        requires { self.now.count < 2 ^ 64 - 1 }
+        ensures { IfOk result (λ decided. decided ≡ step_record self.now branch.now name.now changes.now) }
+    {
+        let Some((place, old)) = self.find(branch) else {
+            return Ok(refused(Refusal::NoBranch(*branch)));
+        };
+        if self.stands(name) {
+            return Ok(refused(Refusal::PatchExists(*name)));
+        }
+        if is_too_large(old, changes.prims()) {
+            return Ok(refused(Refusal::TooLarge));
+        }
+        let tree = match changed(old.tree(), changes.prims())? {
+            Ok(tree) => tree,
+            Err(refusal) => return Ok(refused(refusal)),
+        };
+        let new = old.recorded(name, changes.prims(), tree)?;
+        let next = self.with_branch_at(place, new)?;
+        Ok(Decided::Next(next))
+    }
+
+    fn pull(
+        &self,
+        from: &Name,
+        to: &Name,
+        names: &Option<Names>,
+    ) -> Result<Decided<State, Reply>, AllocError>
+        requires { self.now.count < 2 ^ 64 - 1 }
+        ensures { IfOk result (λ decided. decided ≡ step_pull self.now from.now to.now names.now) }
+    {
+        let Some(theirs) = self.branch(from) else {
+            return Ok(refused(Refusal::NoBranch(*from)));
+        };
+        let Some((place, ours)) = self.find(to) else {
+            return Ok(refused(Refusal::NoBranch(*to)));
+        };
+        if from == to {
+            return Ok(refused(Refusal::SameBranch(*to)));
+        }
+        if let Some(name) = first_lacked(theirs, names) {
+            return Ok(refused(Refusal::NoPatch(name)));
+        }
+        let wanted = wanted(ours, theirs, names)?;
+        if wanted.is_empty() {
+            return Ok(refused(Refusal::NothingToDo));
+        }
+        if is_full_with(ours, theirs, &wanted) {
+            return Ok(refused(Refusal::TooLarge));
+        }
+        let outcome = ours.pulled(theirs, &wanted)?;
+        self.settled(place, outcome)
+    }
+
+    fn obliterate(&self, branch: &Name, names: &Names) -> Result<Decided<State, Reply>, AllocError>
+        requires { self.now.count < 2 ^ 64 - 1 }
+        ensures { IfOk result (λ decided. decided ≡ step_obliterate self.now branch.now names.now) }
+    {
+        let Some((place, old)) = self.find(branch) else {
+            return Ok(refused(Refusal::NoBranch(*branch)));
+        };
+        let names = names.as_slice();
+        if let Some(name) = first_lacked_of(old, names) {
+            return Ok(refused(Refusal::NoPatch(name)));
+        }
+        if names.is_empty() {
+            return Ok(refused(Refusal::NothingToDo));
+        }
+        let gone = set_of(self.allocator(), names)?;
+        let outcome = old.without(&gone)?;
+        self.settled(place, outcome)
+    }
+
+    /// What a call comes to that makes the branch at a place another one, or tells why it can't.
+    fn settled(
+        &self,
+        place: usize,
+        outcome: Result<Branch, Blocked>,
+    ) -> Result<Decided<State, Reply>, AllocError>
+        requires counts { self.now.count < 2 ^ 64 - 1 }
+        requires within { place < length self.now.branches }
+        requires lawful { (catches : List Catch) → outcome ≡ Ok catches → IsLawful (after self.now (placed self.now.branches place catches)) }
+        ensures { IfOk result (λ decided. decided ≡ settled self.now place outcome) }
+    {
+        match outcome {
+            Ok(branch) => {
+                let next = self.with_branch_at(place, branch)?;
+                Ok(Decided::Next(next))
+            }
+            Err(blocked) => Ok(refused(refusal_of(blocked))),
+        }
+    }
+
+    fn show_tree(&self, branch: &Name) -> Result<Decided<State, Reply>, AllocError>
+        ensures { IfOk result (λ decided. decided ≡ step self.now (Call.Tree branch.now)) }
+    {
+        let Some(branch) = self.branch(branch) else {
+            return Ok(refused(Refusal::NoBranch(*branch)));
+        };
+        let tree = branch.tree().try_clone()?;
+        Ok(Decided::Answer(Reply::Tree(tree)))
+    }
+
+    fn show_conflicts(&self, branch: &Name) -> Result<Decided<State, Reply>, AllocError>
+        ensures { IfOk result (λ decided. decided ≡ step self.now (Call.Conflicts branch.now)) }
+    {
+        let Some(branch) = self.branch(branch) else {
+            return Ok(refused(Refusal::NoBranch(*branch)));
+        };
+        let pairs = Vec::new(self.allocator());
+        Ok(Decided::Answer(Reply::Conflicts(Conflicts::new(pairs))))
+    }
+
+    fn show_names(&self, branch: &Name) -> Result<Decided<State, Reply>, AllocError>
+        ensures { IfOk result (λ decided. decided ≡ step self.now (Call.Names branch.now)) }
+    {
+        let Some(branch) = self.branch(branch) else {
+            return Ok(refused(Refusal::NoBranch(*branch)));
+        };
+        let names = branch.names()?;
+        Ok(Decided::Answer(Reply::Names(Names::new(names))))
+    }
+}
+
+fn refused(refusal: Refusal) -> Decided<State, Reply>
+    ensures { result ≡ refused refusal }
+{
+    Decided::Answer(Reply::Refused(refusal))
+}
+
+/// The refusal that tells why a branch can't be changed.
+fn refusal_of(blocked: Blocked) -> Refusal
+    ensures { result ≡ refusal_of blocked }
+{
+    match blocked {
+        Blocked::Depends { patch, on } => Refusal::Depends { patch, on },
+        Blocked::Diverged(name) => Refusal::Diverged(name),
+        Blocked::NoMerge { left, right } => Refusal::NoMerge { left, right },
+    }
+}
