@@ -1,8 +1,8 @@
 -- The conflicts of a branch: which they are, and that they are one list.
-use Rattle.std.proofs.Common.{◌≡◌, ◌⊎◌, ◌++◌, ℕ, Bool, true, Option, None, Some, List, [], ◌∷◌, map, is_some, refl, sym, ap, ◌∙◌, subst, inl, inr, arith}
+use Rattle.std.proofs.Common.{◌≡◌, ◌⊎◌, ℕ, true, Option, None, Some, List, [], ◌∷◌, map, is_some, refl, sym, ap, ◌∙◌, subst, inl, inr}
 use Rattle.std.proofs.lemmas.List.Elements.{Contains-append_cases, Contains-append_left, Contains-append_right}
 use Rattle.std.proofs.lemmas.Map.Views.{Contains-from_any, list_any-from_Contains, tells_apart}
-use Rattle.std.specs.Prelude.{Contains, AllPairs}
+use Rattle.std.specs.Prelude.{Contains}
 use Rattle.std.specs.List.{flat_map}
 use Rattle.std.specs.Ordering.{ordering_reverse}
 use Rattle.std.specs.Cmp.{eq_by_cmp_equiv}
@@ -16,10 +16,10 @@ use Rattle.camp_ctx.specs.Contexts.{Contexts, InContext}
 use Rattle.camp_catch.specs.declared.catches.Catch.{Catch}
 use Rattle.camp_catch.specs.declared.catches.Catch.TheVariants.{Plain, Conflictor}
 use Rattle.camp_branch.specs.Branches.{name_of}
-use Rattle.camp_branch.specs.Conflicting.{AreConflicts, AreInConflict, ConflictsWith, IsBefore, IsBetween}
+use Rattle.camp_branch.specs.Conflicting.{AreConflicts, AreInConflict, ConflictsWith, IsBetween}
 use Rattle.camp_branch.specs.Inside.Collecting.{names_against, names_within, ordered_by, pair_of, pairs_at, pairs_in}
 use Rattle.camp_branch.specs.Laws.{ConflictsAreDetermined}
-use Rattle.camp_branch.proofs.SortedPairs.{Ordered, Pair, Within, ascending_once, by_name, first_or_later, has_first, has_later, names_tie, no_member, ordered}
+use Rattle.camp_branch.proofs.SortedPairs.{IsInOrder, Pair, Within, ascending_once, by_name, first_or_later, has_first, has_later, in_order, no_member}
 
 -- what one of the lists has that the elements of a list make
 has_of_each : {X A : Type 0} (f : X → List A) (list : List X) (x : X) (y : A) → Contains list x → Contains (f x) y → Contains (flat_map f list) y
@@ -133,10 +133,10 @@ conflict_collected branch first second less w =
     has_of_each pairs_at branch w.0 (first, second) w.1 (at_catch w.0 first second less w.2)
 
 -- the pairs that are collected, each once, in ascending order
-pub conflicts_by : (branch : List Catch) (pairs : List Pair) → AllPairs IsBefore pairs → Within (pairs_in branch) pairs → Within pairs (pairs_in branch) → AreConflicts branch pairs
-conflicts_by branch pairs ascending has has_no_other = record {
-  ascending = ascending;
-  listed = λ first second. (λ c. collected_conflict branch (first, second) (has_no_other (first, second) c), λ w. has (first, second) (conflict_collected branch first second w.0 w.1));
+pub conflicts_by : (branch : List Catch) (pairs : List Pair) → IsInOrder (pairs_in branch) pairs → AreConflicts branch pairs
+conflicts_by branch pairs all = record {
+  ascending = all.ascending;
+  listed = λ first second. (λ c. collected_conflict branch (first, second) (all.has_no_other (first, second) c), λ w. all.has (first, second) (conflict_collected branch first second w.0 w.1));
 }
 
 both_list : (branch : List Catch) (pairs others : List Pair) → AreConflicts branch pairs → AreConflicts branch others → Within pairs others
@@ -145,6 +145,6 @@ both_list branch pairs others are also p c =
 
 pub conflicts_are_determined : ConflictsAreDetermined
 conflicts_are_determined branch =
-    let all = ordered (pairs_in branch) in
-    let are = conflicts_by branch all.list all.ascending all.has all.has_no_other in
-    (all.list, are, λ other also. ascending_once other all.list also.ascending are.ascending (both_list branch other all.list also are) (both_list branch all.list other are also))
+    let all = in_order (pairs_in branch) in
+    let are = conflicts_by branch all.0 all.1 in
+    (all.0, are, λ other also. ascending_once other all.0 also.ascending are.ascending (both_list branch other all.0 also are) (both_list branch all.0 other are also))

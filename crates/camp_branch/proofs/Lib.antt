@@ -5,6 +5,7 @@ pub mod ConflictsDetermined
 pub mod Differences
 pub mod EffectSteps
 pub mod KeepLawful
+pub mod MemberNames
 pub mod NameSets
 pub mod Names
 pub mod NamesKept

@@ -1,12 +1,16 @@
 -- Pairs of names in ascending order.
-use Rattle.std.proofs.Common.{◌≡◌, ◌⊎◌, ◌<◌, ℕ, zero, suc, Bool, true, false, ◌&&◌, ◌||◌, List, [], ◌∷◌, map, length, get_or, T, is_some, refl, sym, ap, ◌∙◌, subst, inl, inr, arith}
+use Rattle.std.proofs.Common.{◌≡◌, ◌⊎◌, ◌<◌, ℕ, zero, suc, Bool, ◌&&◌, List, [], ◌∷◌, map, length, get_or, T, is_some, bytes_eq, refl, sym, ap, ◌∙◌, subst, inl, inr, arith}
+use Rattle.std.proofs.lemmas.List.Kept.{Contains-dedup, Contains-from_dedup, IsStrictlySortedBy-dedup}
+use Rattle.std.proofs.lemmas.List.Sorted.{Contains-permutation, IsPermutation-sym}
+use Rattle.std.proofs.lemmas.Map.Keys.{Less-from_sorted}
 use Rattle.std.proofs.lemmas.Map.Views.{Contains-from_any, list_any-from_Contains, tells_apart}
 use Rattle.std.specs.Prelude.{Contains, AllPairs}
-use Rattle.std.specs.List.{list_any}
-use Rattle.std.specs.Ordering.{nat_cmp, ordering_then, eq_by_cmp, is_lt}
-use Rattle.std.specs.Cmp.{IsTotalOrder, tied_itself, eq_by_cmp_equiv, on_total, then_total}
-use Rattle.std.specs.Cmp.Lexicographic.{slice_cmp, nat_list_cmp_total}
-use Rattle.std.specs.FinMap.{FinMap, IsAntisymmetric, contains_key, contains_key-keys, entries, entries_sorted, from_entries, get-from_entries, keys, nat_cmp-IsAntisymmetric, slice_cmp-IsAntisymmetric}
+use Rattle.std.specs.List.{dedup, list_any}
+use Rattle.std.specs.List.Sorted.{IsPermutation, IsSorted}
+use Rattle.std.specs.Ordering.{nat_cmp, ordering_then, eq_by_cmp}
+use Rattle.std.specs.Cmp.{IsTotalOrder, both_tied, tied_itself, eq_by_cmp_equiv, on_total, then_total}
+use Rattle.std.specs.Cmp.Lexicographic.{slice_cmp, nat_list_cmp_total, texts_ties}
+use Rattle.std.specs.FinMap.{FinMap, IsAntisymmetric, contains_key-keys, entries, entries_sorted, from_entries, get-from_entries, keys, nat_cmp-IsAntisymmetric, slice_cmp-IsAntisymmetric}
 use Rattle.std.specs.FinMap.Entries.{below_all, is_sorted, is_some-find}
 use Rattle.std.specs.declared.cmp.Ordering.{Ordering}
 use Rattle.std.specs.declared.cmp.Ordering.TheVariants.{Less, Equal, Greater}
@@ -138,17 +142,37 @@ has_by_test : (s t : List Pair) → ((p : Pair) → list_any (eq_by_cmp by_names
 has_by_test s t same p c =
     Contains-from_any (tells_apart pairs_tie) p t (sym (same p) ∙ list_any-from_Contains (eq_by_cmp_equiv by_names_total) p s c)
 
--- some pairs, each once, in ascending order
-pub record Ordered (pairs : List Pair) : Type 0 where
-  pub list : List Pair
+-- a list has these pairs, each once, in ascending order
+pub record IsInOrder (pairs list : List Pair) : Type 0 where
   pub ascending : AllPairs IsBefore list
   pub has : Within pairs list
   pub has_no_other : Within list pairs
 
-pub ordered : (pairs : List Pair) → Ordered pairs
-ordered pairs = record {
-  list = keys (set_of pairs);
-  ascending = keys_ascend (entries (set_of pairs)) (entries_sorted (set_of pairs));
-  has = has_by_test pairs _ (λ p. sym (among_keys pairs p));
-  has_no_other = has_by_test _ pairs (among_keys pairs);
-}
+pub in_order : (pairs : List Pair) → (list : List Pair) × IsInOrder pairs list
+in_order pairs = (
+  keys (set_of pairs),
+  record {
+    ascending = keys_ascend (entries (set_of pairs)) (entries_sorted (set_of pairs));
+    has = has_by_test pairs _ (λ p. sym (among_keys pairs p));
+    has_no_other = has_by_test _ pairs (among_keys pairs);
+  },
+)
+
+-- pairs are compared name by name
+abbrev pub same_names : Pair → Pair → Bool
+same_names p q = bytes_eq p.0 q.0 && bytes_eq p.1 q.1
+
+sames_tie : same_names ≡ eq_by_cmp by_names
+sames_tie i p q =
+    both_tied _ _ (by_name p.0 q.0) (by_name p.1 q.1) (texts_ties p.0 q.0) (texts_ties p.1 q.1) i
+
+-- sorted pairs without those that stand behind the same
+pub sorted_once : (pairs sorted list : List Pair) → IsPermutation pairs sorted → IsSorted by_names sorted → list ≡ dedup same_names sorted → IsInOrder pairs list
+sorted_once pairs sorted list moved up is =
+    let test = eq_by_cmp by_names in
+    let rises = IsStrictlySortedBy-dedup by_names_total (λ p q. refl) sorted up in
+    subst (IsInOrder pairs) (sym (is ∙ ap (λ same. dedup same sorted) sames_tie)) (record {
+      ascending = λ i j d lt within. before_by_less (get_or (dedup test sorted) i d) (get_or (dedup test sorted) j d) (Less-from_sorted by_names (dedup test sorted) i j d rises lt within);
+      has = λ p c. Contains-dedup (eq_by_cmp_equiv by_names_total) (tells_apart pairs_tie) sorted p (Contains-permutation pairs sorted p moved c);
+      has_no_other = λ p c. Contains-permutation sorted pairs p (IsPermutation-sym pairs sorted moved) (Contains-from_dedup test sorted p c);
+    })

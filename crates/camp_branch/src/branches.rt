@@ -2,11 +2,13 @@ ghost use Rattle.std.specs.Prelude.{◌≡◌, ◌≤◌, ◌++◌, ℕ, List, [
 ghost use Rattle.std.specs.FinMap.{empty as no_files};
 ghost use Rattle.camp_base.specs.Trees.{Files};
 ghost use Rattle.camp_branch.specs.Branches.{IsLawful, LeadsTo, has_patch, names_of, recorded};
+ghost use Rattle.camp_branch.specs.Conflicting.{AreConflicts};
 ghost use Rattle.camp_branch.specs.Fields.{has_name, names_in};
 ghost use Rattle.camp_branch.specs.Laws.{AppliesEach, AreLacked};
 ghost use Rattle.camp_branch.specs.Obliterating.{ObliterateGives};
 ghost use Rattle.camp_branch.specs.Pulling.{PullGives};
 
+use crate::conflicts::conflicts_of;
 use crate::effects::tree_after;
 use crate::pulls::{pull, wanted_next};
 use crate::{Blocked, name_sets};
@@ -36,6 +38,7 @@ impl Model for Branch {
 
     ghost coded = { Prim.hlevel (codes, code_of_sets) };
 
+    ghost use Rattle.camp_branch.specs.Conflicting.{AreConflicts};
     ghost use Rattle.camp_branch.specs.Fields.{IsBranch};
 
     ghost view = { λ branch. branch.catches };
@@ -101,6 +104,14 @@ impl Branch {
             }
         }
         Ok(names)
+    }
+
+    /// The pairs of patches that are in conflict, each once, the lesser name first, in ascending
+    /// order.
+    pub fn conflicts(&self) -> Result<Vec<(Name, Name)>, AllocError>
+        ensures { IfOk result (λ pairs. AreConflicts self.now pairs.items) }
+    {
+        conflicts_of(&self.catches)
     }
 
     /// The branch with a further patch at its end, of these changes, which lead to this tree.

@@ -3,6 +3,7 @@
 #![tactic(auto)]
 
 mod branches;
+mod conflicts;
 mod effects;
 mod faults;
 mod laws;

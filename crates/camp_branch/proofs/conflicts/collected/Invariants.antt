@@ -1,0 +1,6 @@
+use Rattle.std.proofs.Common.{◌≡◌, ◌++◌}
+use Rattle.camp_branch.specs.Inside.Collecting.{pairs_in}
+use Rattle.camp_branch.proofs.conflicts.collected.Given as goal
+
+abbrev pub invariant-loop-catch : goal.invariant-loop-catch
+invariant-loop-catch l = l.pairs.items ++ pairs_in l.catch-iterator ≡ pairs_in l.catches
