@@ -8,7 +8,7 @@ use Rattle.camp_call.specs.declared.replies.Refusal.{Refusal}
 use Rattle.camp_call.specs.declared.replies.Refusal.TheVariants.{NoBranch, NoPatch}
 use Rattle.camp_object.specs.declared.objects.Decided.TheVariants.{Next}
 use Rattle.camp_repo.specs.Laws.{Has}
-use Rattle.camp_repo.specs.States.{Branches, Contents, catches_of, with_catches}
+use Rattle.camp_repo.specs.States.{Branches, Contents, after, catches_of, with_catches}
 use Rattle.camp_repo.specs.Steps.{Decision, accepted, becomes, first_lacked, record_leads, refused, refused_if, with_branch, with_patches}
 
 module _ (state next : Contents) where
@@ -50,3 +50,7 @@ module _ (state next : Contents) where
   pub leads_on : (branch : List ℕ) (catches : List Catch) (led : Result Files Refusal) → record_leads state branch catches led ≡ Next next → (tree : Files) × (led ≡ Ok tree) × (accepted state (with_catches state.branches branch catches) ≡ Next next)
   leads_on branch catches (Ok tree) e = (tree, refl, e)
   leads_on branch catches (Err refusal) e = cc
+
+  -- an accepted call leads to the state after it
+  pub next_is : (branches : Branches) → accepted state branches ≡ Next next → after state branches ≡ next
+  next_is branches e = cc

@@ -1,5 +1,5 @@
 -- What each accepted call does.
-use Rattle.std.proofs.Common.{◌≡◌, ◌≢◌, ℕ, ◌+◌, Bool, true, false, not, ◌&&◌, List, [], ◌∷◌, ◌++◌, Option, None, Some, Ok, Err, filter, bytes_eq, refl, sym, ap, ◌∙◌, subst}
+use Rattle.std.proofs.Common.{◌≡◌, ◌≢◌, ℕ, ◌+◌, Bool, true, false, not, ◌&&◌, List, [], ◌∷◌, ◌++◌, Option, None, Some, Ok, Err, filter, is_some, length, nat_le, bytes_eq, refl, sym, ap, ◌∙◌, subst}
 use Rattle.std.proofs.lemmas.Option.{same_Some}
 use Rattle.camp_base.specs.Trees.{Files}
 use Rattle.camp_prim.specs.declared.primitives.Primitive.{Primitive}
@@ -8,18 +8,21 @@ use Rattle.camp_branch.specs.Branches.{LeadsTo, has_patch, is_among, names_of, r
 use Rattle.camp_branch.specs.Laws.{AreLacked}
 use Rattle.camp_branch.specs.Obliterating.{ObliterateGives}
 use Rattle.camp_branch.specs.Pulling.{Outcome, PullGives}
+use Rattle.camp_branch.proofs.ConflictsDetermined.{conflicts_are_determined}
 use Rattle.camp_branch.proofs.KeepLawful.{obliterates_keep_lawful, pulls_keep_lawful}
 use Rattle.camp_branch.proofs.NamesKept.{among_kept}
 use Rattle.camp_branch.proofs.OutcomesDetermined.{outcomes_are_determined}
 use Rattle.camp_branch.proofs.Steps.{pulled_by}
 use Rattle.camp_call.specs.declared.calls.Call.TheVariants as call
+use Rattle.camp_call.specs.declared.replies.Refusal.TheVariants.{BranchExists, NothingToDo, PatchExists, SameBranch, TooLarge}
 use Rattle.camp_object.specs.declared.objects.Decided.TheVariants.{Next}
-use Rattle.camp_repo.specs.Laws.{AcceptedCallsHaveEffect, ChangesOne, Copies, Has, Obliterates, Pulls, Records}
+use Rattle.camp_repo.specs.Laws.{AcceptedCallsHaveEffect, AnswersChangeNothing, ChangesOne, Copies, Has, Obliterates, OutcomesAreDefined, Pulls, Records}
+use Rattle.camp_repo.specs.Objects.{state_behind}
 use Rattle.camp_repo.specs.Lawful.{IsLawful, IsLawfulBy, names_of_branches}
 use Rattle.camp_repo.specs.Outcomes.{obliterated, pulled}
-use Rattle.camp_repo.specs.States.{Branches, Contents, catches_of, tree_of, with_catches}
-use Rattle.camp_repo.specs.Steps.{Decision, accepted, listed, shown, step, wanted}
-use Rattle.camp_repo.proofs.AcceptedSteps.{becomes_other, has_branch, has_tree, lacks_none, leads_on, passes}
+use Rattle.camp_repo.specs.States.{Branches, Contents, catches_of, stands, tree_of, with_catches}
+use Rattle.camp_repo.specs.Steps.{Decision, accepted, is_empty, is_full_with, is_too_large, listed, shown, step, wanted}
+use Rattle.camp_repo.proofs.AcceptedSteps.{becomes_other, has_branch, has_tree, lacks_none, leads_on, next_is, passes}
 use Rattle.camp_repo.proofs.BranchSteps.{has_other, names_stay, of_one, others_stay}
 use Rattle.camp_repo.proofs.LawfulBranches.{lawful_alone}
 use Rattle.camp_repo.proofs.TreeSteps.{changes_apply, tree_found}
@@ -47,7 +50,7 @@ module _ (state next : Contents) (branch : List ℕ) (old new : List Catch) wher
   -- one branch is given other catches
   pub changes_one : Has state branch old → accepted state (with_catches state.branches branch new) ≡ Next next → ChangesOne branch state next × Has next branch new
   changes_one was e =
-      let same : record { branches = with_catches state.branches branch new; count = state.count + 1 } ≡ next = cc in (
+      let same = next_is state next (with_catches state.branches branch new) e in (
         record {
           counted = ap (λ s. s.count) (sym same);
           names = ap (λ s. names_of_branches s.branches) (sym same) ∙ names_stay state.branches branch new;
@@ -64,9 +67,9 @@ lawful_branch state lawful branch catches has =
 copies : (state next : Contents) (new from : List ℕ) → step state (call.Branch new from) ≡ Next next → Copies new from state next
 copies state next new from e =
     let there = has_branch state next from _ e in
-    let fresh = passes state next _ _ _ there.2 in
-    let few = passes state next _ _ _ fresh.1 in
-    let same : record { branches = state.branches ++ (new, there.0) ∷ []; count = state.count + 1 } ≡ next = cc in
+    let fresh = passes state next (is_some (catches_of state.branches new)) (BranchExists new) _ there.2 in
+    let few = passes state next (nat_le 256 (length state.branches)) TooLarge _ fresh.1 in
+    let same = next_is state next (state.branches ++ (new, there.0) ∷ []) few.1 in
     record {
       counted = ap (λ s. s.count) (sym same);
       catches = there.0;
@@ -80,8 +83,8 @@ same_tree e f = same_Some _ _ (sym e ∙ f)
 records : (state next : Contents) (branch name : List ℕ) (changes : List Primitive) → IsLawful state → step state (call.Record branch name changes) ≡ Next next → Records branch name changes state next
 records state next branch name changes lawful e =
     let there = has_branch state next branch _ e in
-    let free = passes state next _ _ _ there.2 in
-    let small = passes state next _ _ _ free.1 in
+    let free = passes state next (stands state.branches name) (PatchExists name) _ there.2 in
+    let small = passes state next (is_too_large there.0 changes) TooLarge _ free.1 in
     let from = has_tree state next (tree_of there.0) _ _ small.1 in
     let on = leads_on state next branch (there.0 ++ recorded name 1 changes) _ from.2 in
     let change = changes_one state next branch there.0 (there.0 ++ recorded name 1 changes) there.1 on.2 in
@@ -102,11 +105,11 @@ pulls : (state next : Contents) (from to : List ℕ) (names : Option (List (List
 pulls state next from to names lawful e =
     let theirs = has_branch state next from _ e in
     let ours = has_branch state next to _ theirs.2 in
-    let two = passes state next _ _ _ ours.2 in
-    let all = lacks_none state next theirs.0 (listed theirs.0 names) _ two.1 in
-    let some = passes state next _ _ _ all in
-    let few = passes state next _ _ _ some.1 in
     let names_wanted = wanted ours.0 (listed theirs.0 names) in
+    let two = passes state next (bytes_eq from to) (SameBranch to) _ ours.2 in
+    let all = lacks_none state next theirs.0 (listed theirs.0 names) _ two.1 in
+    let some = passes state next (is_empty names_wanted) NothingToDo _ all in
+    let few = passes state next (is_full_with ours.0 theirs.0 names_wanted) TooLarge _ some.1 in
     let other = becomes_other state next to (pulled theirs.0 ours.0 names_wanted) few.1 in
     let gives = pull_gives theirs.0 ours.0 other.0 names_wanted other.1 in
     let parts = pulled_by theirs.0 ours.0 names_wanted other.0 gives in
@@ -128,7 +131,7 @@ obliterates : (state next : Contents) (branch : List ℕ) (names : List (List �
 obliterates state next branch names lawful e =
     let there = has_branch state next branch _ e in
     let all = lacks_none state next there.0 names _ there.2 in
-    let some = passes state next _ _ _ all in
+    let some = passes state next (is_empty names) NothingToDo _ all in
     let other = becomes_other state next branch (obliterated there.0 names) some.1 in
     let gives = obliterate_gives there.0 other.0 names other.1 in
     let change = changes_one state next branch there.0 other.0 there.1 other.2 in
@@ -161,3 +164,14 @@ accepted_calls state (call.Conflicts branch) next lawful e =
     let there = has_branch state next branch _ e in cc
 accepted_calls state (call.Names branch) next lawful e =
     let there = has_branch state next branch _ e in cc
+
+-- what the functions give is what the relations say
+pub outcomes_defined : OutcomesAreDefined
+outcomes_defined = record {
+  pulls = λ from to wanted. (outcomes_are_determined.pulls from to wanted).1;
+  obliterates = λ branch names. (outcomes_are_determined.obliterates branch names).1;
+  conflicts = λ branch. (conflicts_are_determined branch).1;
+}
+
+pub answers_change_none : AnswersChangeNothing
+answers_change_none state call answer e = ap (state_behind state) e

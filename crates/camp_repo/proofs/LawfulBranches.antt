@@ -36,7 +36,7 @@ pulled_lawful changes_of from to pulled wanted gives v w lacked =
     record {
       patches = w.patches ++ those_of wanted v.patches;
       has = pulled_patches from to pulled wanted v.patches w.patches gives v.has w.has lacked;
-      agree = all_append Agrees w.patches (those_of wanted v.patches) w.agree (all_filter (λ p. is_among wanted p.name) Agrees v.patches v.agree);
+      agree = all_append Agrees w.patches (those_of wanted v.patches) w.agree (all_filter (λ p. p.name) (λ p. is_among wanted p.name) Agrees v.patches v.agree);
       tree = tree.0;
       leads = tree.1;
     }
@@ -49,7 +49,7 @@ left_lawful changes_of branch left names gives v =
     record {
       patches = others_of names v.patches;
       has = left_patches branch left names v.patches gives v.has;
-      agree = all_filter (λ p. not (is_among names p.name)) Agrees v.patches v.agree;
+      agree = all_filter (λ p. p.name) (λ p. not (is_among names p.name)) Agrees v.patches v.agree;
       tree = tree.0;
       leads = tree.1;
     }
@@ -85,11 +85,11 @@ pub recorded_lawful : (changes_of : List ℕ → ℕ) (catches : List Catch) (na
 recorded_lawful changes_of catches name changes old new v free some few leads applies =
     let numbers = with_number changes_of name (length changes) in
     let Agrees : Patch → Type 0 = λ patch. patch.changes ≡ numbers patch.name in
-    let before = still_lawful changes_of name (length changes) catches free v in
+    let before = agree_still changes_of name (length changes) v.patches (not_a_patch catches v.patches name v.has free) v.agree in
     record {
       patches = v.patches ++ record { name = name; changes = length changes } ∷ [];
       has = recorded_patches catches v.patches name changes v.has free some few;
-      agree = all_append Agrees v.patches (record { name = name; changes = length changes } ∷ []) before.agree (number_there changes_of name (length changes), tt);
+      agree = all_append Agrees v.patches (record { name = name; changes = length changes } ∷ []) before (number_there changes_of name (length changes), tt);
       tree = new;
       leads = recorded_tree catches name changes old new leads applies;
     }

@@ -1,5 +1,5 @@
 -- From lawful states accepted calls lead to lawful ones.
-use Rattle.std.proofs.Common.{◌≡◌, ℕ, ◌+◌, Bool, true, false, List, [], ◌∷◌, ◌++◌, Option, None, Some, Ok, is_some, length, refl, sym, ap, ◌∙◌, subst}
+use Rattle.std.proofs.Common.{◌≡◌, ℕ, ◌+◌, Bool, true, false, List, [], ◌∷◌, ◌++◌, Option, None, Some, Ok, is_some, length, nat_le, bytes_eq, refl, sym, ap, ◌∙◌, subst}
 use Rattle.std.proofs.lemmas.Option.{same_Some}
 use Rattle.std.specs.List.{AllByRecursion}
 use Rattle.std.specs.Option.{option_map_or}
@@ -10,14 +10,15 @@ use Rattle.camp_branch.proofs.Names.{all_append}
 use Rattle.camp_call.specs.Calls.{IsCall}
 use Rattle.camp_call.specs.Patches.{IsPatchSized}
 use Rattle.camp_call.specs.declared.calls.Call.TheVariants as call
+use Rattle.camp_call.specs.declared.replies.Refusal.TheVariants.{BranchExists, NothingToDo, PatchExists, SameBranch, TooLarge}
 use Rattle.camp_object.specs.declared.objects.Decided.TheVariants.{Next}
 use Rattle.camp_call.specs.declared.replies.Refusal.TheVariants.{NoBranch}
 use Rattle.camp_repo.specs.Laws.{Has, InitialIsLawful, StepsKeepLawful, TreesAreAnswered}
 use Rattle.camp_repo.specs.Lawful.{IsLawful, IsLawfulBy, names_of_branches}
 use Rattle.camp_repo.specs.Outcomes.{obliterated, pulled}
 use Rattle.camp_repo.specs.States.{Branches, Contents, catches_of, stands, tree_of, with_catches}
-use Rattle.camp_repo.specs.Steps.{listed, refused, shown, step, wanted}
-use Rattle.camp_repo.proofs.AcceptedSteps.{becomes_other, has_branch, has_tree, lacks_none, leads_on, passes}
+use Rattle.camp_repo.specs.Steps.{is_empty, is_full_with, is_too_large, listed, refused, shown, step, wanted}
+use Rattle.camp_repo.proofs.AcceptedSteps.{becomes_other, has_branch, has_tree, lacks_none, leads_on, next_is, passes}
 use Rattle.camp_repo.proofs.BranchSteps.{OfEach, absent, distinct_grown, free_of_each, names_grown, names_stay, of_each_with, of_one}
 use Rattle.camp_repo.proofs.Effects.{accepted_calls, lawful_branch, obliterate_gives, pull_gives, wanted_is_lacked}
 use Rattle.camp_repo.proofs.LawfulBranches.{left_lawful, none_lawful, pulled_lawful, recorded_lawful, still_lawful, with_number}
@@ -64,16 +65,16 @@ is_none (Some x) e = cc
 branch_lawful : (state next : Contents) (new from : List ℕ) → IsLawful state → step state (call.Branch new from) ≡ Next next → IsLawful next
 branch_lawful state next new from lawful e =
     let there = has_branch state next from _ e in
-    let fresh = passes state next _ _ _ there.2 in
-    let few = passes state next _ _ _ fresh.1 in
-    let same : record { branches = state.branches ++ (new, there.0) ∷ []; count = state.count + 1 } ≡ next = cc in
+    let fresh = passes state next (is_some (catches_of state.branches new)) (BranchExists new) _ there.2 in
+    let few = passes state next (nat_le 256 (length state.branches)) TooLarge _ fresh.1 in
+    let same = next_is state next (state.branches ++ (new, there.0) ∷ []) few.1 in
     subst IsLawful same (copy_lawful state new from there.0 lawful there.1 (is_none _ fresh.0))
 
 record_lawful : (state next : Contents) (branch name : List ℕ) (changes : List Primitive) → IsPatchSized changes → IsLawful state → step state (call.Record branch name changes) ≡ Next next → IsLawful next
 record_lawful state next branch name changes sized lawful e =
     let there = has_branch state next branch _ e in
-    let free = passes state next _ _ _ there.2 in
-    let small = passes state next _ _ _ free.1 in
+    let free = passes state next (stands state.branches name) (PatchExists name) _ there.2 in
+    let small = passes state next (is_too_large there.0 changes) TooLarge _ free.1 in
     let from = has_tree state next (tree_of there.0) _ _ small.1 in
     let on = leads_on state next branch (there.0 ++ recorded name 1 changes) _ from.2 in
     let own = lawful_branch state lawful branch there.0 there.1 in
@@ -83,35 +84,35 @@ record_lawful state next branch name changes sized lawful e =
     let leads = subst (LeadsTo there.0) same_tree own.leads in
     let new = recorded_lawful lawful.changes_of there.0 name changes from.0 on.0 own own_free sized.0 sized.1 leads (changes_apply changes from.0 on.0 on.1) in
     let each = each_still lawful.changes_of name (length changes) state.branches all_free lawful.lawful in
-    let same : record { branches = with_catches state.branches branch (there.0 ++ recorded name 1 changes); count = state.count + 1 } ≡ next = cc in
+    let same = next_is state next (with_catches state.branches branch (there.0 ++ recorded name 1 changes)) on.2 in
     subst IsLawful same (with_lawful state branch _ _ lawful each new)
 
 pull_lawful : (state next : Contents) (from to : List ℕ) (names : Option (List (List ℕ))) → IsLawful state → step state (call.Pull from to names) ≡ Next next → IsLawful next
 pull_lawful state next from to names lawful e =
     let theirs = has_branch state next from _ e in
     let ours = has_branch state next to _ theirs.2 in
-    let two = passes state next _ _ _ ours.2 in
-    let all = lacks_none state next theirs.0 (listed theirs.0 names) _ two.1 in
-    let some = passes state next _ _ _ all in
-    let few = passes state next _ _ _ some.1 in
     let names_wanted = wanted ours.0 (listed theirs.0 names) in
+    let two = passes state next (bytes_eq from to) (SameBranch to) _ ours.2 in
+    let all = lacks_none state next theirs.0 (listed theirs.0 names) _ two.1 in
+    let some = passes state next (is_empty names_wanted) NothingToDo _ all in
+    let few = passes state next (is_full_with ours.0 theirs.0 names_wanted) TooLarge _ some.1 in
     let other = becomes_other state next to (pulled theirs.0 ours.0 names_wanted) few.1 in
     let gives = pull_gives theirs.0 ours.0 other.0 names_wanted other.1 in
     let v = lawful_branch state lawful from theirs.0 theirs.1 in
     let w = lawful_branch state lawful to ours.0 ours.1 in
     let new = pulled_lawful lawful.changes_of theirs.0 ours.0 other.0 names_wanted gives v w (wanted_is_lacked ours.0 (listed theirs.0 names)) in
-    let same : record { branches = with_catches state.branches to other.0; count = state.count + 1 } ≡ next = cc in
+    let same = next_is state next (with_catches state.branches to other.0) other.2 in
     subst IsLawful same (with_lawful state to other.0 lawful.changes_of lawful lawful.lawful new)
 
 obliterate_lawful : (state next : Contents) (branch : List ℕ) (names : List (List ℕ)) → IsLawful state → step state (call.Obliterate branch names) ≡ Next next → IsLawful next
 obliterate_lawful state next branch names lawful e =
     let there = has_branch state next branch _ e in
     let all = lacks_none state next there.0 names _ there.2 in
-    let some = passes state next _ _ _ all in
+    let some = passes state next (is_empty names) NothingToDo _ all in
     let other = becomes_other state next branch (obliterated there.0 names) some.1 in
     let gives = obliterate_gives there.0 other.0 names other.1 in
     let new = left_lawful lawful.changes_of there.0 other.0 names gives (lawful_branch state lawful branch there.0 there.1) in
-    let same : record { branches = with_catches state.branches branch other.0; count = state.count + 1 } ≡ next = cc in
+    let same = next_is state next (with_catches state.branches branch other.0) other.2 in
     subst IsLawful same (with_lawful state branch other.0 lawful.changes_of lawful lawful.lawful new)
 
 pub steps_lawful : StepsKeepLawful
@@ -131,5 +132,6 @@ trees_answered state branch catches lawful has =
     let own = lawful_branch state lawful branch catches has in (
       own.tree,
       own.leads,
+      tree_found catches own.tree own.leads,
       ap (λ o. option_map_or (λ catches. shown (tree_of catches)) o (refused (NoBranch branch))) has ∙ ap shown (tree_found catches own.tree own.leads),
     )

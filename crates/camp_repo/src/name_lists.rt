@@ -36,7 +36,7 @@ pub(crate) fn set_of(alloc: Global, names: &[Name]) -> Result<SharedMap<Name, ()
 {
     let mut set = SharedMap::new(alloc);
     for name in names {
-        set = set.inserted_if_absent(*name, ())?;
+        set = set.inserted(*name, ())?;
     }
     Ok(set)
 }
@@ -67,7 +67,7 @@ fn wanted_of(branch: &Branch, names: &[Name]) -> Result<SharedMap<Name, ()>, All
     let mut set = SharedMap::new(branch.catches().allocator());
     for name in names {
         if !branch.has_patch(name) {
-            set = set.inserted_if_absent(*name, ())?;
+            set = set.inserted(*name, ())?;
         }
     }
     Ok(set)
@@ -77,14 +77,19 @@ fn wanted_of(branch: &Branch, names: &[Name]) -> Result<SharedMap<Name, ()>, All
 pub(crate) fn is_full_with(ours: &Branch, theirs: &Branch, names: &SharedMap<Name, ()>) -> bool
     ensures { result ≡ is_full_with ours.now theirs.now (names_in names.now) }
 {
-    ours.catches().len() + count_of(theirs, names) > MAX_CATCHES
+    ours.catches().len().saturating_add(count_of(theirs, names)) > MAX_CATCHES
 }
 
 fn count_of(branch: &Branch, names: &SharedMap<Name, ()>) -> usize
     ensures { result ≡ length (catches_named (names_in names.now) branch.now) }
 {
-    let catches = branch.catches().iter();
-    catches
-        .filter(|catch| names.contains_key(catch.name()))
-        .count()
+    let catches = branch.catches();
+    prove!(catches.len() <= usize::MAX);
+    let mut count = 0;
+    for catch in catches.iter() {
+        if names.contains_key(catch.name()) {
+            count += 1;
+        }
+    }
+    count
 }

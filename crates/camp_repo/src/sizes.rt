@@ -11,7 +11,7 @@ use std::alloc::AllocError;
 pub(crate) fn is_too_large(branch: &Branch, changes: &[Primitive]) -> bool
     ensures { result ≡ is_too_large branch.now changes.now }
 {
-    branch.catches().len() + changes.len() > MAX_CATCHES || has_long_side(changes)
+    branch.catches().len().saturating_add(changes.len()) > MAX_CATCHES || has_long_side(changes)
 }
 
 fn has_long_side(changes: &[Primitive]) -> bool
@@ -38,18 +38,18 @@ pub(crate) fn changed(
 ) -> Result<Result<Tree, Refusal>, AllocError>
     ensures { IfOk result (λ led. led ≡ changed changes.now tree.now) }
 {
-    let mut tree = tree.try_clone()?;
+    let mut next = tree.try_clone()?;
     for change in changes {
-        match change.apply(&mut tree) {
+        match change.apply(&mut next) {
             Ok(()) => {}
             Err(Apply::DoesNotApply) => return Ok(Err(Refusal::DoesNotApply)),
             Err(Apply::Memory) => return Err(AllocError),
         }
-        if has_long_file(change.path(), &tree) {
+        if has_long_file(change.path(), &next) {
             return Ok(Err(Refusal::TooLarge));
         }
     }
-    Ok(Ok(tree))
+    Ok(Ok(next))
 }
 
 fn has_long_file(path: &Path, tree: &Tree) -> bool

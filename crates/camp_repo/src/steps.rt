@@ -166,7 +166,7 @@ impl State {
         let Some(branch) = self.branch(branch) else {
             return Ok(refused(Refusal::NoBranch(*branch)));
         };
-        let pairs = Vec::new(self.allocator());
+        let pairs = branch.conflicts()?;
         Ok(Decided::Answer(Reply::Conflicts(Conflicts::new(pairs))))
     }
 

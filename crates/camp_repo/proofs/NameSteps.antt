@@ -1,0 +1,95 @@
+-- Sets of names, filled one name at a time, and names that a branch lacks.
+use Rattle.std.proofs.Common.{◌≡◌, ◌<◌, ◌+◌, ℕ, suc, Bool, true, false, not, cond, ◌||◌, Option, None, Some, List, [], ◌∷◌, drop, length, map, is_some, get_or, bytes_eq, refl, sym, ap, ◌∙◌}
+use Rattle.std.specs.FinMap.{contains_key, empty, get-empty, insert, keys}
+use Rattle.std.specs.Ordering.{nat_cmp}
+use Rattle.std.specs.Cmp.Lexicographic.{slice_cmp}
+use Rattle.camp_catch.specs.declared.catches.Catch.{Catch}
+use Rattle.camp_catch.proofs.MoveSteps.{stands_at}
+use Rattle.camp_branch.specs.Branches.{has_patch, is_among, name_of, names_of}
+use Rattle.camp_branch.proofs.BranchFields.{Names, contains_more}
+use Rattle.camp_branch.proofs.NameSets.{has_listed}
+use Rattle.camp_branch.proofs.Names.{name_itself}
+use Rattle.camp_branch.proofs.NamesKept.{among_once}
+use Rattle.camp_repo.specs.Steps.{catches_named, first_lacked, wanted}
+
+-- of a set, some names are still to come
+abbrev pub IsFilled : Names → List (List ℕ) → (List ℕ → Bool) → Type 0
+IsFilled set rest aim = (name : List ℕ) → (contains_key set name || is_among rest name) ≡ aim name
+
+or_assoc : (a b c : Bool) → ((a || b) || c) ≡ (a || (b || c))
+or_assoc true b c = refl
+or_assoc false b c = refl
+
+or_none : (b : Bool) → (b || false) ≡ b
+or_none true = refl
+or_none false = refl
+
+one_more : (set next : Names) (n : List ℕ) (rest : List (List ℕ)) (aim : List ℕ → Bool) → IsFilled set (n ∷ rest) aim → next ≡ insert set n tt → IsFilled next rest aim
+one_more set next n rest aim inv becomes name =
+    ap (λ m. contains_key m name || is_among rest name) becomes ∙ ap (λ b. b || is_among rest name) (contains_more set n name) ∙ or_assoc (contains_key set name) (bytes_eq name n) (is_among rest name) ∙ inv name
+
+-- the name at a place comes into the set
+pub one_listed : (set next : Names) (names : List (List ℕ)) (i : ℕ) (n d : List ℕ) (aim : List ℕ → Bool) → IsFilled set (drop i names) aim → i < length names → n ≡ get_or names i d → next ≡ insert set n tt → IsFilled next (drop (i + 1) names) aim
+one_listed set next names i n d aim inv within is becomes =
+    one_more set next n (drop (i + 1) names) aim
+    (λ name. ap (λ r. contains_key set name || is_among r name) (sym (stands_at names i d n within is)) ∙ inv name) becomes
+
+-- what is wanted from a place on
+pub wanted_from : (ours : List Catch) (names : List (List ℕ)) (i : ℕ) (n d : List ℕ) (b : Bool) → i < length names → n ≡ get_or names i d → has_patch ours n ≡ b → wanted ours (drop i names) ≡ cond b (wanted ours (drop (i + 1) names)) (n ∷ wanted ours (drop (i + 1) names))
+wanted_from ours names i n d b within is has =
+    ap (wanted ours) (stands_at names i d n within is) ∙ ap (λ c. cond (not c) (n ∷ wanted ours (drop (i + 1) names)) (wanted ours (drop (i + 1) names))) has ∙ turned b
+  where
+    turned : (b : Bool) → cond (not b) (n ∷ wanted ours (drop (i + 1) names)) (wanted ours (drop (i + 1) names)) ≡ cond b (wanted ours (drop (i + 1) names)) (n ∷ wanted ours (drop (i + 1) names))
+    turned true = refl
+    turned false = refl
+
+-- the name at a place is lacked, and comes into the set
+pub one_wanted : (ours : List Catch) (set next : Names) (names : List (List ℕ)) (i : ℕ) (n d : List ℕ) (aim : List ℕ → Bool) → IsFilled set (wanted ours (drop i names)) aim → i < length names → n ≡ get_or names i d → has_patch ours n ≡ false → next ≡ insert set n tt → IsFilled next (wanted ours (drop (i + 1) names)) aim
+one_wanted ours set next names i n d aim inv within is has becomes =
+    one_more set next n (wanted ours (drop (i + 1) names)) aim
+    (λ name. ap (λ r. contains_key set name || is_among r name) (sym (wanted_from ours names i n d false within is has)) ∙ inv name) becomes
+
+-- the name at a place is not lacked
+pub one_passed : (ours : List Catch) (set : Names) (names : List (List ℕ)) (i : ℕ) (n d : List ℕ) (aim : List ℕ → Bool) → IsFilled set (wanted ours (drop i names)) aim → i < length names → n ≡ get_or names i d → has_patch ours n ≡ true → IsFilled set (wanted ours (drop (i + 1) names)) aim
+one_passed ours set names i n d aim inv within is has name =
+    ap (λ r. contains_key set name || is_among r name) (sym (wanted_from ours names i n d true within is has)) ∙ inv name
+
+-- at first all are still to come
+pub none_filled : (set : Names) (rest : List (List ℕ)) → set ≡ empty → IsFilled set rest (is_among rest)
+none_filled set rest is name =
+    ap (λ b. b || is_among rest name) (ap (λ m. contains_key m name) is ∙ ap is_some (get-empty (slice_cmp nat_cmp) name))
+
+-- in the end the set has all of them
+pub all_filled : (set : Names) (rest : List (List ℕ)) (aim : List ℕ → Bool) → rest ≡ [] → IsFilled set rest aim → (name : List ℕ) → is_among (keys set) name ≡ aim name
+all_filled set rest aim is inv name =
+    sym (has_listed set name) ∙ sym (or_none (contains_key set name)) ∙ ap (λ r. contains_key set name || is_among r name) (sym is) ∙ inv name
+
+-- the name at a place decides which is the first that is lacked
+pub first_from : (catches : List Catch) (names : List (List ℕ)) (i : ℕ) (n d : List ℕ) (b : Bool) → i < length names → n ≡ get_or names i d → has_patch catches n ≡ b → first_lacked catches (drop i names) ≡ cond b (first_lacked catches (drop (i + 1) names)) (Some n)
+first_from catches names i n d b within is has =
+    ap (first_lacked catches) (stands_at names i d n within is) ∙ ap (λ c. cond c (first_lacked catches (drop (i + 1) names)) (Some n)) has
+
+-- a branch has the patches of all its names
+all_there : (catches : List Catch) (names : List (List ℕ)) → ((name : List ℕ) → is_among names name ≡ true → has_patch catches name ≡ true) → first_lacked catches names ≡ None
+all_there catches [] has = refl
+all_there catches (n ∷ names) has =
+    ap (λ b. cond b (first_lacked catches names) (Some n)) (has n (here n names)) ∙ all_there catches names (λ name among. has name (ap (λ b. bytes_eq name n || b) among ∙ or_true (bytes_eq name n)))
+  where
+    or_true : (b : Bool) → (b || true) ≡ true
+    or_true true = refl
+    or_true false = refl
+
+    here : (n : List ℕ) (names : List (List ℕ)) → is_among (n ∷ names) n ≡ true
+    here n names = ap (λ b. b || is_among names n) (name_itself n)
+
+pub none_lacked : (catches : List Catch) → first_lacked catches (names_of catches) ≡ None
+none_lacked catches = all_there catches (names_of catches) (λ name among. sym (among_once (map name_of catches) name) ∙ among)
+
+-- how many catches have these names, from a place on
+pub count_from : (names : List (List ℕ)) (catches : List Catch) (i : ℕ) (k d : Catch) (b : Bool) → i < length catches → k ≡ get_or catches i d → is_among names (name_of k) ≡ b → length (catches_named names (drop i catches)) ≡ cond b (suc (length (catches_named names (drop (i + 1) catches)))) (length (catches_named names (drop (i + 1) catches)))
+count_from names catches i k d b within is among =
+    ap (λ r. length (catches_named names r)) (stands_at catches i d k within is) ∙ ap (λ c. length (cond c (k ∷ catches_named names (drop (i + 1) catches)) (catches_named names (drop (i + 1) catches)))) among ∙ counted b
+  where
+    counted : (b : Bool) → length (cond b (k ∷ catches_named names (drop (i + 1) catches)) (catches_named names (drop (i + 1) catches))) ≡ cond b (suc (length (catches_named names (drop (i + 1) catches)))) (length (catches_named names (drop (i + 1) catches)))
+    counted true = refl
+    counted false = refl

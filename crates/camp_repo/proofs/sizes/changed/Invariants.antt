@@ -1,0 +1,6 @@
+use Rattle.std.proofs.Common.{◌≡◌, drop}
+use Rattle.camp_repo.specs.Steps.{changed}
+use Rattle.camp_repo.proofs.sizes.changed.Given as goal
+
+abbrev pub invariant-loop-change : goal.invariant-loop-change
+invariant-loop-change l = changed (drop l.change-index l.changes) l.next ≡ changed l.changes l.tree
