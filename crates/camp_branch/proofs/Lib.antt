@@ -4,12 +4,15 @@ pub mod BranchTrees
 pub mod ConflictsDetermined
 pub mod Differences
 pub mod EffectSteps
+pub mod Fronts
 pub mod KeepLawful
 pub mod MemberNames
 pub mod NameSets
 pub mod Names
 pub mod NamesKept
+pub mod NewEnds
 pub mod OutcomesDetermined
 pub mod PullSteps
 pub mod SortedPairs
 pub mod Steps
+pub mod Undone

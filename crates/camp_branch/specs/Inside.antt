@@ -1,3 +1,4 @@
 -- What only functions that stay within the crate say.
 pub mod Collecting
+pub mod Fronts
 pub mod Stages

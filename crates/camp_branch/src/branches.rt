@@ -1,4 +1,4 @@
-ghost use Rattle.std.specs.Prelude.{◌≡◌, ◌≤◌, ◌++◌, ℕ, List, [], false, length, IfOk};
+ghost use Rattle.std.specs.Prelude.{◌≡◌, ◌≤◌, ◌++◌, ℕ, List, [], false, length, take, drop, IfOk};
 ghost use Rattle.std.specs.FinMap.{empty as no_files};
 ghost use Rattle.camp_base.specs.Trees.{Files};
 ghost use Rattle.camp_branch.specs.Branches.{IsLawful, LeadsTo, has_patch, names_of, recorded};
@@ -9,7 +9,7 @@ ghost use Rattle.camp_branch.specs.Obliterating.{ObliterateGives};
 ghost use Rattle.camp_branch.specs.Pulling.{PullGives};
 
 use crate::conflicts::conflicts_of;
-use crate::effects::tree_after;
+use crate::effects::{tree_after, tree_before};
 use crate::pulls::{pull, wanted_next};
 use crate::{Blocked, name_sets};
 use camp_base::{Name, Tree};
@@ -166,12 +166,38 @@ impl Branch {
         ensures exact { IfOk result (λ outcome. ObliterateGives self.now (names_in names.now) outcome) }
     {
         let staying = name_sets::without(&self.names, names)?;
-        let catches = self.catches.to_vec()?;
-        let arranged = wanted_next(self.catches.allocator(), &catches, &staying)?;
+        let start = name_sets::front(&self.catches, &staying);
+        let behind = self.catches.copied(start, self.catches.len())?.to_vec()?;
+        let arranged = wanted_next(self.catches.allocator(), &behind, &staying)?;
         match arranged {
-            Ok(arranged) => Ok(Ok(of_catches(&arranged.first, staying)?)),
+            Ok(arranged) => Ok(Ok(self.with_end(&behind, &arranged.first, start, staying)?)),
             Err(blocked) => Ok(Err(blocked)),
         }
+    }
+
+    /// The branch with other catches in place of its last ones, which stand from a place on, and the
+    /// names of the patches that it has then.
+    fn with_end(
+        &self,
+        old: &[Shared<Catch>],
+        new: &[Shared<Catch>],
+        start: usize,
+        names: SharedMap<Name, ()>,
+    ) -> Result<Branch, AllocError>
+        requires within { start ≤ length self.now }
+        requires last { old.now ≡ drop start self.now }
+        requires lawful { IsLawful (take start self.now ++ new.now) }
+        requires named { (name : List ℕ) → has_name names name ≡ has_patch (take start self.now ++ new.now) name }
+        ensures { IfOk result (λ branch. branch ≡ take start self.now ++ new.now) }
+    {
+        let catches = self.catches.spliced(start, self.catches.len(), new)?;
+        let front = tree_before(&self.tree, old)?;
+        let tree = tree_after(&front, new)?;
+        Ok(Branch {
+            catches,
+            names,
+            tree,
+        })
     }
 
     /// The branch with further catches behind it.
@@ -189,22 +215,6 @@ impl Branch {
             tree,
         })
     }
-}
-
-/// The branch of catches and the names of their patches. Its tree is made from the empty one.
-fn of_catches(catches: &[Shared<Catch>], names: SharedMap<Name, ()>) -> Result<Branch, AllocError>
-    requires lawful { IsLawful catches.now }
-    requires named { (name : List ℕ) → has_name names name ≡ has_patch catches.now name }
-    ensures { IfOk result (λ branch. branch ≡ catches.now) }
-{
-    let alloc = names.allocator();
-    let tree = tree_after(&Tree::empty(alloc), catches)?;
-    let catches = SharedList::from_items(alloc, catches)?;
-    Ok(Branch {
-        catches,
-        names,
-        tree,
-    })
 }
 
 /// The list with a plain catch behind it for each change, at places from 1.

@@ -1,7 +1,10 @@
 ghost use Rattle.std.specs.Prelude.{IfOk, OnOk};
+ghost use Rattle.std.specs.List.{flat_map};
+ghost use Rattle.camp_base.specs.Answers.{AnswersByTrial};
 ghost use Rattle.camp_base.specs.Trees.{Files};
+ghost use Rattle.camp_prim.specs.Effect.{Applies, inverse_of};
 ghost use Rattle.camp_seq.specs.Running.{AppliesAll};
-ghost use Rattle.camp_catch.specs.Catches.{FitsAll};
+ghost use Rattle.camp_catch.specs.Catches.{FitsAll, effect_of};
 
 use camp_base::{Apply, Tree};
 use camp_catch::Catch;
@@ -21,6 +24,18 @@ pub(crate) fn tree_after(tree: &Tree, catches: &[Shared<Catch>]) -> Result<Tree,
     Ok(after)
 }
 
+/// The tree that catches led from to this one.
+pub(crate) fn tree_before(tree: &Tree, catches: &[Shared<Catch>]) -> Result<Tree, AllocError>
+    requires led { (before : Files) × AppliesAll (flat_map effect_of catches.now) before tree.now }
+    ensures { IfOk result (λ before. AppliesAll (flat_map effect_of catches.now) before tree.now) }
+{
+    let mut before = tree.try_clone()?;
+    for at in (0..catches.len()).rev() {
+        run_back(catches[at].effect(), &mut before)?;
+    }
+    Ok(before)
+}
+
 /// Makes the changes of an effect, each of which applies where it is made.
 fn run(effect: &[Named], tree: &mut Tree) -> Result<(), AllocError>
     requires runs { (after : Files) × AppliesAll effect.now tree.old after }
@@ -34,4 +49,26 @@ fn run(effect: &[Named], tree: &mut Tree) -> Result<(), AllocError>
         }
     }
     Ok(())
+}
+
+/// Takes back the changes of an effect, the last of which led to this tree.
+fn run_back(effect: &[Named], tree: &mut Tree) -> Result<(), AllocError>
+    requires ran { (before : Files) × AppliesAll effect.now before tree.old }
+    ensures { OnOk result (AppliesAll effect.now tree.new tree.old) }
+{
+    for at in (0..effect.len()).rev() {
+        match apply_inverse(&effect[at], tree) {
+            Ok(()) => {}
+            Err(Apply::DoesNotApply) => unreachable!(),
+            Err(Apply::Memory) => return Err(AllocError),
+        }
+    }
+    Ok(())
+}
+
+fn apply_inverse(p: &Named, tree: &mut Tree) -> Result<(), Apply>
+    ensures { AnswersByTrial (Applies (inverse_of p.now).prim) tree.old result tree.new }
+{
+    let inverse = p.try_clone()?.invert();
+    inverse.apply(tree)
 }

@@ -1,10 +1,11 @@
 ghost use Rattle.std.specs.Prelude.{◌≡◌, ◌&&◌, ◌||◌, ℕ, List, not, map, IfOk};
 ghost use Rattle.camp_branch.specs.Branches.{is_among, name_of};
 ghost use Rattle.camp_branch.specs.Fields.{has_name, names_in};
+ghost use Rattle.camp_branch.specs.Inside.Fronts.{front_of};
 
 use camp_base::Name;
 use camp_catch::Catch;
-use camp_share::{Share, Shared, SharedMap};
+use camp_share::{Share, Shared, SharedList, SharedMap};
 use std::alloc::{AllocError, Global};
 
 /// The names but for those that are to go.
@@ -53,4 +54,19 @@ pub(crate) fn with_taken(
         all = all.inserted(*catch.name(), ())?;
     }
     Ok(all)
+}
+
+/// How many catches stand before the first that is of none of the patches.
+pub(crate) fn front(catches: &SharedList<Shared<Catch>>, names: &SharedMap<Name, ()>) -> usize
+    ensures { result ≡ front_of (names_in names.now) catches.now }
+{
+    let end = catches.len();
+    let mut front = 0;
+    for catch in catches.iter() {
+        if !names.contains_key(catch.name()) {
+            return front;
+        }
+        front += 1;
+    }
+    end
 }

@@ -1,0 +1,6 @@
+use Rattle.std.proofs.Common.{drop}
+use Rattle.camp_seq.specs.Running.{AppliesAll}
+use Rattle.camp_branch.proofs.effects.run_back.Given as goal
+
+abbrev pub invariant-loop-at : goal.invariant-loop-at
+invariant-loop-at l = AppliesAll (drop l.at l.effect) l.tree l.initial.tree

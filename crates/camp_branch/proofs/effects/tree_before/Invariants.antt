@@ -1,0 +1,7 @@
+use Rattle.std.proofs.Common.{drop}
+use Rattle.camp_seq.specs.Running.{AppliesAll}
+use Rattle.camp_branch.proofs.Undone.{effects_of}
+use Rattle.camp_branch.proofs.effects.tree_before.Given as goal
+
+abbrev pub invariant-loop-at : goal.invariant-loop-at
+invariant-loop-at l = AppliesAll (effects_of (drop l.at l.catches)) l.before l.tree
