@@ -3,12 +3,12 @@ use Rattle.std.proofs.Common.{◌≡◌, false, ℕ, List, [], ◌∷◌, ◌++�
 use Rattle.std.proofs.lemmas.Bool.{cond-false}
 use Rattle.std.proofs.Math.Seq.{take-append_seam}
 use Rattle.camp_script.specs.Commands.{◌>>=◌, command_of}
-use Rattle.camp_script.specs.Gives.{Gives, IsFaultOf}
+use Rattle.camp_script.specs.Gives.{GivesLine, IsFaultIn}
 use Rattle.camp_script.specs.Lines.{is_skipped, words_of}
 use Rattle.camp_script.specs.Reading.{Open, Progress, after_words, after_command, after_line}
 use Rattle.camp_script.specs.declared.commands.Command.{Command}
 use Rattle.camp_script.specs.declared.faults.ScriptFault.{ScriptFault}
-use Rattle.camp_script.proofs.FaultLemmas.{stays}
+use Rattle.camp_script.proofs.FaultLemmas.{stays, command_grows}
 
 seven_are_enough : (line : ℕ) (progress : Progress) (words : List (List ℕ)) → after_words line progress (take 7 words) ≡ after_words line progress words
 seven_are_enough line progress [] = refl
@@ -25,17 +25,22 @@ module _ (line : ℕ) (progress : Progress) (words all : List (List ℕ)) (first
   after_first : after_words line progress all ≡ (command_of line words >>= after_command line progress)
   after_first = sym (seven_are_enough line progress all) ∙ ap (after_words line progress) (sym first) ∙ cond-false (is_skipped words) _ _ says
 
-  pub followed : (command : Command) (result : Result Progress ScriptFault) → command_of line words ≡ Ok command → Gives result (after_command line progress command) → Gives result (after_words line progress all)
-  followed command result is given = subst (Gives result) (sym (after_first ∙ ap (λ r. r >>= after_command line progress) is)) given
+  pub followed : (command : Command) (result : Result Progress ScriptFault) → command_of line words ≡ Ok command → GivesLine result (after_command line progress command) → GivesLine result (after_words line progress all)
+  followed command result is given = subst (GivesLine result) (sym (after_first ∙ ap (λ r. r >>= after_command line progress) is)) given
 
-  pub not_followed : (fault : ScriptFault) → IsFaultOf fault (command_of line words) → IsFaultOf fault (after_words line progress all)
-  not_followed fault is = subst (IsFaultOf fault) (sym after_first) (stays fault (command_of line words) (after_command line progress) is)
+  pub not_followed : (fault : ScriptFault) → IsFaultIn fault (command_of line words) → IsFaultIn fault (after_words line progress all)
+  not_followed fault is = subst (IsFaultIn fault) (sym after_first) (stays fault (command_of line words) (after_command line progress) (command_grows line progress) is)
+
+-- a line whose first seven words say something says something
+pub seven_say : (words all : List (List ℕ)) → words ≡ take 7 all → is_skipped words ≡ false → is_skipped all ≡ false
+seven_say words [] first says = subst (λ ws. is_skipped ws ≡ false) first says
+seven_say words (word ∷ all) first says = subst (λ ws. is_skipped ws ≡ false) first says
 
 -- as many as seven, at the front
 pub front_of_seven : (words rest all : List (List ℕ)) → length words ≡ 7 → words ++ rest ≡ all → words ≡ take 7 all
 front_of_seven words rest all seven is = sym (take-append_seam words rest) ∙ ap (λ n. take n (words ++ rest)) seven ∙ ap (take 7) is
 
 -- a line where no edit is open
-pub outside : (line : ℕ) (o : Option Open) (p q : Progress) (bytes : List ℕ) (result : Result Progress ScriptFault) → o ≡ None → p ≡ q → Gives result (after_words line p (words_of bytes)) → Gives result (after_line line o q bytes)
+pub outside : (line : ℕ) (o : Option Open) (p q : Progress) (bytes : List ℕ) (result : Result Progress ScriptFault) → o ≡ None → p ≡ q → GivesLine result (after_words line p (words_of bytes)) → GivesLine result (after_line line o q bytes)
 outside line o p q bytes result none is given =
-    subst (λ s. Gives result (after_line line s q bytes)) (sym none) (subst (λ s. Gives result (after_words line s (words_of bytes))) is given)
+    subst (λ s. GivesLine result (after_line line s q bytes)) (sym none) (subst (λ s. GivesLine result (after_words line s (words_of bytes))) is given)

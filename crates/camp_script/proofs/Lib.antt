@@ -5,4 +5,5 @@ pub mod FaultLemmas
 pub mod FirstWords
 pub mod LineLemmas
 pub mod TextLemmas
+pub mod Wanting
 pub mod WordLemmas

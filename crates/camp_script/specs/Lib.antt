@@ -7,4 +7,5 @@ pub mod Lines
 pub mod Reading
 pub mod Sections
 pub mod Texts
+pub mod Wanting
 pub mod Writing

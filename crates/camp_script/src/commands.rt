@@ -2,7 +2,7 @@ ghost use Rattle.std.specs.Prelude.{◌≡◌, ◌≢◌, ◌≤◌, [], ◌∷�
 ghost use Rattle.std.specs.List.{list_all};
 ghost use Rattle.camp_base.specs.Bytes.{is_between, is_path};
 ghost use Rattle.camp_script.specs.Commands.{name_at, path_at, change_at, number_at, value_of, is_line_number, file_at, whole_record, edit_record, record_command, tree_command, command_of, IsPlaced};
-ghost use Rattle.camp_script.specs.Gives.{Gives};
+ghost use Rattle.camp_script.specs.Gives.{GivesLine};
 
 use crate::faults::{FaultKind, ScriptFault, at_line};
 use camp_base::{BaseFault, Name, Path};
@@ -58,7 +58,7 @@ pub(crate) fn command_of(
     number: u64,
     words: &[&[u8]],
 ) -> Result<Command, ScriptFault>
-    ensures given { Gives result (command_of number (map (λ word. word.now) words.now)) }
+    ensures given { GivesLine result (command_of number (map (λ word. word.now) words.now)) }
     ensures placed { IfOk result IsPlaced }
 {
     match words {
@@ -69,17 +69,23 @@ pub(crate) fn command_of(
 }
 
 fn record_command(alloc: Global, number: u64, words: &[&[u8]]) -> Result<Command, ScriptFault>
-    ensures given { Gives result (record_command number (map (λ word. word.now) words.now)) }
+    ensures given { GivesLine result (record_command number (map (λ word. word.now) words.now)) }
     ensures placed { IfOk result IsPlaced }
 {
     let [branch, name, change, rest @ ..] = words else {
         return Err(at_line(number, FaultKind::WrongNumberOfWords));
     };
     if *change == b"add".as_slice() {
-        return whole_record(alloc, number, WholeFile::Add, branch, name, rest);
+        return match rest {
+            [path] => whole_record(alloc, number, WholeFile::Add, branch, name, path),
+            _ => Err(at_line(number, FaultKind::WrongNumberOfWords)),
+        };
     }
     if *change == b"remove".as_slice() {
-        return whole_record(alloc, number, WholeFile::Remove, branch, name, rest);
+        return match rest {
+            [path] => whole_record(alloc, number, WholeFile::Remove, branch, name, path),
+            _ => Err(at_line(number, FaultKind::WrongNumberOfWords)),
+        };
     }
     if *change == b"edit".as_slice() {
         return match rest {
@@ -96,14 +102,11 @@ fn whole_record(
     file: WholeFile,
     branch: &[u8],
     name: &[u8],
-    rest: &[&[u8]],
+    path: &[u8],
 ) -> Result<Command, ScriptFault>
-    ensures given { Gives result (whole_record (change_at file) number branch.now name.now (map (λ word. word.now) rest.now)) }
+    ensures given { GivesLine result (whole_record (change_at file) number branch.now name.now (path.now ∷ [])) }
     ensures placed { IfOk result IsPlaced }
 {
-    let [path] = rest else {
-        return Err(at_line(number, FaultKind::WrongNumberOfWords));
-    };
     let (branch, name, path) = file_at(alloc, number, branch, name, path)?;
     let change = file.at(path);
     Ok(Command::Whole(Call::Record {
@@ -121,7 +124,7 @@ fn edit_record(
     path: &[u8],
     line: &[u8],
 ) -> Result<Command, ScriptFault>
-    ensures given { Gives result (edit_record number branch.now name.now (path.now ∷ line.now ∷ [])) }
+    ensures given { GivesLine result (edit_record number branch.now name.now (path.now ∷ line.now ∷ [])) }
     ensures placed { IfOk result IsPlaced }
 {
     let (branch, name, path) = file_at(alloc, number, branch, name, path)?;
@@ -142,7 +145,7 @@ fn file_at(
     name: &[u8],
     path: &[u8],
 ) -> Result<(Name, Name, Path), ScriptFault>
-    ensures { Gives result (file_at number branch.now name.now path.now) }
+    ensures { GivesLine result (file_at number branch.now name.now path.now) }
 {
     let branch = name_at(number, branch)?;
     let name = name_at(number, name)?;
@@ -151,7 +154,7 @@ fn file_at(
 }
 
 fn tree_command(number: u64, words: &[&[u8]]) -> Result<Command, ScriptFault>
-    ensures given { Gives result (tree_command number (map (λ word. word.now) words.now)) }
+    ensures given { GivesLine result (tree_command number (map (λ word. word.now) words.now)) }
     ensures placed { IfOk result IsPlaced }
 {
     let [branch] = words else {
@@ -162,7 +165,7 @@ fn tree_command(number: u64, words: &[&[u8]]) -> Result<Command, ScriptFault>
 }
 
 fn name_at(number: u64, word: &[u8]) -> Result<Name, ScriptFault>
-    ensures given { Gives result (name_at number word.now) }
+    ensures given { GivesLine result (name_at number word.now) }
     ensures told { IfErr result (λ fault. fault ≢ ScriptFault.Memory) }
 {
     match Name::new(word) {
@@ -172,7 +175,7 @@ fn name_at(number: u64, word: &[u8]) -> Result<Name, ScriptFault>
 }
 
 fn path_at(alloc: Global, number: u64, word: &[u8]) -> Result<Path, ScriptFault>
-    ensures given { Gives result (path_at number word.now) }
+    ensures given { GivesLine result (path_at number word.now) }
     ensures wanted { IfErr result (λ fault. fault ≡ ScriptFault.Memory → IsTrue (is_path word.now)) }
 {
     match Path::new(alloc, word) {
@@ -184,7 +187,7 @@ fn path_at(alloc: Global, number: u64, word: &[u8]) -> Result<Path, ScriptFault>
 
 // The number of a line of a file.
 fn number_at(number: u64, word: &[u8]) -> Result<u32, ScriptFault>
-    ensures value { Gives result (number_at number word.now) }
+    ensures value { GivesLine result (number_at number word.now) }
     ensures counted { IfOk result (λ line. 1 ≤ line) }
     ensures told { IfErr result (λ fault. fault ≢ ScriptFault.Memory) }
 {

@@ -1,12 +1,13 @@
-ghost use Rattle.std.specs.Prelude.{◌≡◌, if◌then◌else◌, true, IfErr, IsTrue, Some};
+ghost use Rattle.std.specs.Prelude.{◌≡◌, if◌then◌else◌, true, false, IfErr, IsTrue, Some};
 ghost use Rattle.camp_base.specs.Bytes.{is_line};
 ghost use Rattle.camp_script.specs.declared.faults.FaultKind.TheVariants as kind;
 ghost use Rattle.camp_trunk.specs.Calls.{is_writing};
 ghost use Rattle.camp_script.specs.Commands.{IsPlaced};
 ghost use Rattle.camp_script.specs.Faults.{fault_at};
-ghost use Rattle.camp_script.specs.Gives.{Gives};
-ghost use Rattle.camp_script.specs.Lines.{words_of};
+ghost use Rattle.camp_script.specs.Gives.{GivesLine};
+ghost use Rattle.camp_script.specs.Lines.{is_skipped, words_of};
 ghost use Rattle.camp_script.specs.Reading.{start, is_full, with_call, after_command, after_words, with_open, after_end, after_body, after_edit_line, after_line, finished};
+ghost use Rattle.camp_script.specs.Wanting.{Says};
 
 use crate::MAX_WRITES;
 use crate::commands::{Command, EditHead, command_of};
@@ -64,7 +65,8 @@ impl Reading {
 
     /// Reads the line of a number, counted from 1.
     pub(crate) fn read_line(mut self, number: u64, line: &[u8]) -> Result<Reading, ScriptFault>
-        ensures { Gives result (after_line number self.open_edit self line.now) }
+        ensures given { GivesLine result (after_line number self.open_edit self line.now) }
+        ensures wanted { IfErr result (λ fault. fault ≡ ScriptFault.Memory → Says self.open_edit line.now) }
     {
         match self.body.take() {
             None => self.read_words(number, line),
@@ -74,7 +76,7 @@ impl Reading {
 
     /// Ends the reading behind the last line.
     pub(crate) fn finish(self) -> Result<Script, ScriptFault>
-        ensures { Gives result (finished self self.open_edit) }
+        ensures { GivesLine result (finished self self.open_edit) }
     {
         let Reading {
             calls,
@@ -89,7 +91,8 @@ impl Reading {
 
     // A line outside an edit.
     fn read_words(self, number: u64, line: &[u8]) -> Result<Reading, ScriptFault>
-        ensures { Gives result (after_words number self (words_of line.now)) }
+        ensures given { GivesLine result (after_words number self (words_of line.now)) }
+        ensures wanted { IfErr result (λ fault. fault ≡ ScriptFault.Memory → is_skipped (words_of line.now) ≡ false) }
     {
         let words = first_words(line);
         let words = words.as_slice();
@@ -106,7 +109,7 @@ impl Reading {
     // A command at a line.
     fn follow(self, number: u64, command: Command) -> Result<Reading, ScriptFault>
         requires { IsPlaced command }
-        ensures { Gives result (after_command number self command) }
+        ensures { GivesLine result (after_command number self command) }
     {
         match command {
             Command::Whole(call) => {
@@ -138,7 +141,7 @@ impl Reading {
 
     fn with_call(mut self, call: Call) -> Result<Reading, ScriptFault>
         requires { is_writing call ≡ true → MayGrow self.calls }
-        ensures { Gives result (Ok (with_call self call)) }
+        ensures { GivesLine result (Ok (with_call self call)) }
     {
         let writing = call.is_writing();
         self.calls.push(call)?;
@@ -160,7 +163,7 @@ impl Reading {
     // A line of the body of an edit.
     fn read_edit_line(self, number: u64, line: &[u8], body: Body) -> Result<Reading, ScriptFault>
         requires { IsAwaited self.calls (Some body) }
-        ensures { Gives result (after_edit_line number self line.now (open_of body)) }
+        ensures { GivesLine result (after_edit_line number self line.now (open_of body)) }
     {
         if line == b"end".as_slice() {
             return self.end_edit(number, body);
@@ -171,7 +174,7 @@ impl Reading {
     // The line `end`.
     fn end_edit(self, number: u64, body: Body) -> Result<Reading, ScriptFault>
         requires { IsAwaited self.calls (Some body) }
-        ensures { Gives result (after_end number self (open_of body)) }
+        ensures { GivesLine result (after_end number self (open_of body)) }
     {
         let Body {
             head,
@@ -208,7 +211,7 @@ impl Reading {
         mut body: Body,
     ) -> Result<Reading, ScriptFault>
         requires { IsAwaited self.calls (Some body) }
-        ensures { Gives result (after_body number self (open_of body) line.now) }
+        ensures { GivesLine result (after_body number self (open_of body) line.now) }
     {
         let alloc = *self.calls.allocator();
         match line {
@@ -229,7 +232,7 @@ impl Reading {
 
 // The bytes behind the sign of a line of a side.
 fn line_at(alloc: Global, number: u64, bytes: &[u8]) -> Result<Line, ScriptFault>
-    ensures given { Gives result (if is_line bytes.now then Ok bytes.now else fault_at number kind.BadLine) }
+    ensures given { GivesLine result (if is_line bytes.now then Ok bytes.now else fault_at number kind.BadLine) }
     ensures wanted { IfErr result (λ fault. fault ≡ ScriptFault.Memory → IsTrue (is_line bytes.now)) }
 {
     match Line::new(alloc, bytes) {

@@ -1,8 +1,9 @@
-ghost use Rattle.std.specs.Prelude.{◌≡◌, ◌≤◌, ◌∷◌, [], map, count_by};
+ghost use Rattle.std.specs.Prelude.{◌≡◌, ◌≤◌, ◌∷◌, [], map, count_by, IfErr};
 ghost use Rattle.camp_trunk.specs.Calls.{is_writing};
-ghost use Rattle.camp_script.specs.Gives.{Gives};
+ghost use Rattle.camp_script.specs.Gives.{Gives, GivesLine};
 ghost use Rattle.camp_script.specs.Reading.{script_of};
 ghost use Rattle.camp_script.specs.Sections.{AreWithinLimits};
+ghost use Rattle.camp_script.specs.Wanting.{ScriptMayWant};
 
 use crate::faults::ScriptFault;
 use crate::lines::without_end;
@@ -50,7 +51,7 @@ impl Script {
 
     pub(crate) fn of_calls(calls: Vec<Call>) -> Result<Script, ScriptFault>
         requires { count_by is_writing calls.items ≤ 65_536 }
-        ensures { Gives result (Ok (calls.items ∷ [])) }
+        ensures { GivesLine result (Ok (calls.items ∷ [])) }
     {
         let mut sections = Vec::new(*calls.allocator());
         sections.push(calls)?;
@@ -59,9 +60,11 @@ impl Script {
 }
 
 /// The script that bytes are, or the first fault of its lines. Only a want of memory may come in
-/// the place of either.
+/// the place of either, and only for a line that says something and has no fault but a late one,
+/// behind lines without a fault, or at the end of a script without a fault.
 pub fn read_script(alloc: Global, bytes: &[u8]) -> Result<Script, ScriptFault>
-    ensures { Gives result (script_of bytes.now) }
+    ensures given { Gives result (script_of bytes.now) }
+    ensures wanted { IfErr result (λ fault. fault ≡ ScriptFault.Memory → ScriptMayWant bytes.now) }
 {
     let mut reading = Reading::new(alloc);
     let mut number = 0;

@@ -7,8 +7,8 @@ ghost use Rattle.camp_script.specs.Writing.{Extends, ExtendsOrKeeps, AppendsFron
 
 use crate::ScriptFault;
 use camp_base::{Line, Path, Tree};
-use camp_trunk::{Refusal, Reply};
 use camp_share::SharedList;
+use camp_trunk::{Refusal, Reply};
 use itoa::Buffer;
 use std::alloc::{AllocError, Global};
 use std::io;
