@@ -1,8 +1,10 @@
 pub mod AcceptedSteps
 pub mod BranchSteps
+pub mod ChangedSteps
 pub mod Effects
 pub mod LawfulBranches
 pub mod NameSteps
 pub mod PlaceSteps
+pub mod StateSteps
 pub mod StepsLawful
 pub mod TreeSteps

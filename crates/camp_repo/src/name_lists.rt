@@ -66,9 +66,10 @@ fn wanted_of(branch: &Branch, names: &[Name]) -> Result<SharedMap<Name, ()>, All
 {
     let mut set = SharedMap::new(branch.catches().allocator());
     for name in names {
-        if !branch.has_patch(name) {
-            set = set.inserted(*name, ())?;
+        if branch.has_patch(name) {
+            continue;
         }
+        set = set.inserted(*name, ())?;
     }
     Ok(set)
 }

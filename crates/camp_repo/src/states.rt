@@ -1,4 +1,6 @@
 ghost use Rattle.std.specs.Prelude.{◌≡◌, ◌-◌, ◌^◌, ◌<◌, ◌++◌, [], ◌∷◌, List, None, Some, length, codes, IfOk, IfSome, MatchOption};
+ghost use Rattle.std.specs.List.{list_any};
+ghost use Rattle.camp_branch.specs.Branches.{has_patch};
 ghost use Rattle.camp_catch.specs.declared.catches.Catch.{Catch};
 ghost use Rattle.camp_repo.specs.Lawful.{IsLawful};
 ghost use Rattle.camp_repo.specs.Placing.{placed};
@@ -63,9 +65,10 @@ impl State {
 
     /// The branch of a name.
     pub fn branch(&self, name: &Name) -> Option<&Branch>
-        ensures { MatchOption result
+        ensures value { MatchOption result
             (catches_of self.now.branches name.now ≡ None)
             (λ branch. catches_of self.now.branches name.now ≡ Some branch.now) }
+        ensures lawful { IsLawful self.now }
     {
         match self.find(name) {
             Some((_, branch)) => Some(branch),
@@ -102,7 +105,7 @@ impl State {
     pub(crate) fn stands(&self, name: &Name) -> bool
         ensures { result ≡ stands self.now.branches name.now }
     {
-        self.branches.iter().any(|branch| branch.has_patch(name))
+        is_in_some(&self.branches, name)
     }
 
     /// The branch of a name, and its place in the order of creation.
@@ -110,12 +113,17 @@ impl State {
         ensures value { MatchOption result
             (catches_of self.now.branches name.now ≡ None)
             (λ found. catches_of self.now.branches name.now ≡ Some found.1.now) }
+        ensures lawful { IsLawful self.now }
         ensures within { IfSome result (λ found. found.0 < length self.now.branches) }
         ensures placed { IfSome result (λ found. (catches : List Catch) →
             placed self.now.branches found.0 catches ≡ with_catches self.now.branches name.now catches) }
     {
-        let place = self.names.get_index_of(name)?;
-        let branch = self.branches.get(place)?;
+        let Some(place) = self.names.get_index_of(name) else {
+            return None;
+        };
+        let Some(branch) = self.branches.get(place) else {
+            return None;
+        };
         Some((place, branch))
     }
 
@@ -139,6 +147,7 @@ impl State {
     /// The state after one more accepted call, with a further branch.
     pub(crate) fn with_new_branch(&self, name: &Name, branch: &Branch) -> Result<State, AllocError>
         requires counts { self.now.count < 2 ^ 64 - 1 }
+        requires fresh { catches_of self.now.branches name.now ≡ None }
         requires lawful { IsLawful (after self.now (self.now.branches ++ (name.now, branch.now) ∷ [])) }
         ensures { IfOk result (λ next. next ≡ after self.now (self.now.branches ++ (name.now, branch.now) ∷ [])) }
     {
@@ -154,6 +163,18 @@ impl State {
             count: self.count + 1,
         })
     }
+}
+
+/// Whether some branch has a patch of this name.
+fn is_in_some(branches: &SharedList<Shared<Branch>>, name: &Name) -> bool
+    ensures { result ≡ list_any (λ branch. has_patch branch name.now) branches.now }
+{
+    for branch in branches.iter() {
+        if branch.has_patch(name) {
+            return true;
+        }
+    }
+    false
 }
 
 fn main_name() -> Name

@@ -1,0 +1,85 @@
+-- How the fields of a state become those of the next.
+use Rattle.std.proofs.Common.{◌≡◌, ◌+◌, ℕ, zero, suc, pred, Bool, true, false, cond, List, [], ◌∷◌, ◌++◌, length, zip, slice_set, Option, None, Some, Ok, Err, bytes_eq, codes, refl, sym, ap, ◌∙◌, subst}
+use Rattle.std.specs.List.{AllZip, list_any}
+use Rattle.camp_catch.specs.declared.catches.Catch.{Catch}
+use Rattle.camp_branch.specs.Branches.{is_among}
+use Rattle.camp_branch.specs.Pulling.{Outcome}
+use Rattle.camp_repo.specs.Lawful.{IsLawful, names_of_branches}
+use Rattle.camp_repo.specs.Placing.{placed, settled}
+use Rattle.camp_repo.specs.States.{Branches, Contents, after, catches_of, initial, with_catches}
+use Rattle.camp_repo.specs.Steps.{Decision, accepted, becomes}
+use Rattle.camp_repo.proofs.BranchSteps.{absent}
+use Rattle.camp_repo.proofs.PlaceSteps.{as_long, zip_grown, zip_placed}
+
+pub set_long : (branches : List (List Catch)) (i : ℕ) (b : List Catch) → length (slice_set branches i b) ≡ length branches
+set_long [] i b = refl
+set_long (c ∷ bs) zero b = refl
+set_long (c ∷ bs) (suc i) b = ap suc (set_long bs i b)
+
+pub grown_long : {X : Type 0} (xs : List X) (x : X) → length (xs ++ x ∷ []) ≡ suc (length xs)
+grown_long [] x = refl
+grown_long (y ∷ xs) x = ap suc (grown_long xs x)
+
+zip_names : (names : List (List ℕ)) (branches : List (List Catch)) → length names ≡ length branches → names_of_branches (zip names branches) ≡ names
+zip_names [] [] e = refl
+zip_names [] (b ∷ bs) e = cc
+zip_names (n ∷ ns) [] e = cc
+zip_names (n ∷ ns) (b ∷ bs) e = ap (λ t. n ∷ t) (zip_names ns bs (ap pred e))
+
+-- a clone of names is the same names
+pub same_clones : (names clones : List (List ℕ)) → AllZip (λ name clone. clone ≡ name) names clones → clones ≡ names
+same_clones [] [] all = refl
+same_clones [] (c ∷ clones) all = absurd all
+same_clones (n ∷ names) [] all = absurd all
+same_clones (n ∷ names) (c ∷ clones) all = λ i. all.0 i ∷ same_clones names clones all.1 i
+
+module _ (names : List (List ℕ)) (branches : List (List Catch)) (count : ℕ) (now : Contents) (view : record { branches = zip names branches; count = count } ≡ now) (long : length names ≡ length branches) where
+  same_branches : zip names branches ≡ now.branches
+  same_branches = ap (λ s. s.branches) view
+
+  -- a place among the branches is one among their fields
+  pub within_fields : length branches ≡ length now.branches
+  within_fields = sym (as_long names branches long) ∙ ap length same_branches
+
+  module _ (place : ℕ) (branch : List Catch) (next_names : List (List ℕ)) (next_branches : List (List Catch)) (same : next_names ≡ names) (set : next_branches ≡ slice_set branches place branch) where
+    pub placed_long : length next_names ≡ length next_branches
+    placed_long = ap length same ∙ long ∙ sym (set_long branches place branch) ∙ ap length (sym set)
+
+    pub placed_state : record { branches = zip next_names next_branches; count = count + 1 } ≡ after now (placed now.branches place branch)
+    placed_state =
+        let made = (λ i. zip (same i) (set i)) ∙ zip_placed names branches place branch long ∙ ap (λ bs. placed bs place branch) same_branches in
+        λ i. record { branches = made i; count = (view i).count + 1 }
+
+  module _ (name : List ℕ) (branch : List Catch) (cloned next_names : List (List ℕ)) (next_branches : List (List Catch)) (fresh : catches_of now.branches name ≡ None) (clone : AllZip (λ one other. other ≡ one) names cloned) (inserted : next_names ≡ cond (list_any (bytes_eq name) cloned) cloned (cloned ++ name ∷ [])) (pushed : next_branches ≡ branches ++ branch ∷ []) where
+    not_there : list_any (bytes_eq name) names ≡ false
+    not_there =
+        ap (list_any (bytes_eq name)) (sym (zip_names names branches long)) ∙ absent (zip names branches) name (ap (λ bs. catches_of bs name) same_branches ∙ fresh)
+
+    next_keys : next_names ≡ names ++ name ∷ []
+    next_keys =
+        inserted ∙ ap (λ ns. cond (list_any (bytes_eq name) ns) ns (ns ++ name ∷ [])) (same_clones names cloned clone) ∙ ap (λ b. cond b names (names ++ name ∷ [])) not_there
+
+    pub grown_as_long : length next_names ≡ length next_branches
+    grown_as_long =
+        ap length next_keys ∙ grown_long names name ∙ ap suc long ∙ sym (grown_long branches branch) ∙ ap length (sym pushed)
+
+    pub grown_state : record { branches = zip next_names next_branches; count = count + 1 } ≡ after now (now.branches ++ (name, branch) ∷ [])
+    grown_state =
+        let made = (λ i. zip (next_keys i) (pushed i)) ∙ zip_grown names branches name branch long ∙ ap (λ bs. bs ++ (name, branch) ∷ []) same_branches in
+        λ i. record { branches = made i; count = (view i).count + 1 }
+
+-- the branch of a name is at a place
+pub settled_by_name : (state : Contents) (name : List ℕ) (place : ℕ) (outcome : Outcome) → ((catches : List Catch) → placed state.branches place catches ≡ with_catches state.branches name catches) → settled state place outcome ≡ becomes state name outcome
+settled_by_name state name place (Ok catches) is = ap (accepted state) (is catches)
+settled_by_name state name place (Err why) is = refl
+
+first_keys : (keys old : List (List ℕ)) (name : List ℕ) → old ≡ [] → keys ≡ cond (list_any (bytes_eq name) old) old (old ++ name ∷ []) → keys ≡ name ∷ []
+first_keys keys old name none inserted =
+    inserted ∙ ap (λ ns. cond (list_any (bytes_eq name) ns) ns (ns ++ name ∷ [])) none
+
+-- the fields of a new state
+pub first_state : (keys old : List (List ℕ)) (name : List ℕ) (branches none : List (List Catch)) (main : List Catch) → old ≡ [] → name ≡ codes "main" → keys ≡ cond (list_any (bytes_eq name) old) old (old ++ name ∷ []) → none ≡ [] → main ≡ [] → branches ≡ none ++ main ∷ [] → (length keys ≡ length branches) × (record { branches = zip keys branches; count = 0 } ≡ initial)
+first_state keys old name branches none main empty called inserted no_branch no_catch pushed =
+    let made : keys ≡ codes "main" ∷ [] = first_keys keys old name empty inserted ∙ ap (λ n. n ∷ []) called in
+    let one : branches ≡ [] ∷ [] = pushed ∙ (λ i. no_branch i ++ no_catch i ∷ []) in
+    (ap length made ∙ sym (ap length one), λ i. record { branches = zip (made i) (one i); count = 0 })

@@ -1,0 +1,8 @@
+use Rattle.std.proofs.Common.{◌≡◌}
+use Rattle.std.specs.List.{list_any}
+use Rattle.camp_branch.specs.Branches.{has_patch}
+use Rattle.camp_repo.proofs.states.is_in_some.Given as goal
+
+abbrev pub invariant-loop-branch : goal.invariant-loop-branch
+invariant-loop-branch l =
+    list_any (λ branch. has_patch branch l.name) l.branch-iterator ≡ list_any (λ branch. has_patch branch l.name) l.branches
