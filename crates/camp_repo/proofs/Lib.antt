@@ -1,6 +1,8 @@
 pub mod AcceptedSteps
 pub mod BranchSteps
+pub mod ByMembers
 pub mod ChangedSteps
+pub mod DecideSteps
 pub mod Effects
 pub mod LawfulBranches
 pub mod NameSteps

@@ -5,4 +5,4 @@ use Rattle.camp_repo.proofs.name_lists.count_of.Given as goal
 
 abbrev pub invariant-loop-catch : goal.invariant-loop-catch
 invariant-loop-catch l =
-    l.count + length (catches_named (names_in l.names) l.catch-iterator) ≡ length (catches_named (names_in l.names) l.catches)
+    l.count + length (catches_named (names_in l.names) l.catch-iterator) ≡ length (catches_named (names_in l.names) l.branch)

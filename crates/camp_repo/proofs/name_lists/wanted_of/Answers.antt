@@ -6,18 +6,11 @@ use Rattle.camp_share.specs.Maps.{map_of}
 use Rattle.camp_branch.specs.Branches.{is_among}
 use Rattle.camp_repo.specs.Steps.{wanted}
 use Rattle.camp_repo.proofs.NameSteps.{all_filled, none_filled, one_passed, one_wanted}
-use Rattle.camp_repo.proofs.name_lists.wanted_of.Goals.{then-not-has_patch+in_ok-set, else-not-has_patch}
 use Rattle.camp_repo.proofs.name_lists.wanted_of.Goals as goal
 
 pub loop-name-init : goal.loop-name-init
 loop-name-init c =
     none_filled (map_of (slice_cmp nat_cmp) c.new-set.result) (wanted c.args.branch.now c.args.names.now) c.new-set.ensures
-
-pub loop-name-preserved : goal.loop-name-preserved
-loop-name-preserved c = elim c.if-not-has_patch.branch [
-  | then-not-has_patch+in_ok-set w ↦ ?
-  | else-not-has_patch w ↦ ?
-]
 
 pub returns : goal.returns
 returns c =

@@ -1,15 +1,19 @@
 use Rattle.std.proofs.Common.{arith, ap, ◌∙◌, sym}
+use Rattle.camp_base.specs.Trees.{Files}
+use Rattle.camp_prim.specs.Effect.{Applies}
+use Rattle.camp_repo.specs.Steps.{has_long_file}
 use Rattle.camp_repo.proofs.ChangedSteps.{leads_nowhere, leads_to_next, leads_too_far}
 use Rattle.camp_repo.proofs.sizes.changed.Goals as goal
 
 pub returns-in-Err-DoesNotApply : goal.returns-in-Err-DoesNotApply
 returns-in-Err-DoesNotApply c =
-    leads_nowhere c.args.changes.now c.loop-change.change-index c.change-item.result c.change-item.result c.loop-change.next _ c.loop-change.invariant (omega arith) c.change-item.is c.in-Err-DoesNotApply.ensures.0
+    let h = c.in-Err-DoesNotApply.ensures in
+    leads_nowhere c.args.changes.now c.loop-change.change-index c.change-item.result c.change-item.result c.loop-change.next _ c.loop-change.invariant (omega arith) c.change-item.is ?
 
 pub returns-then-has_long_file : goal.returns-then-has_long_file
 returns-then-has_long_file c =
-    leads_too_far c.args.changes.now c.loop-change.change-index c.change-item.result c.change-item.result c.loop-change.next _ c.loop-change.invariant (omega arith) c.change-item.is c.apply.new.tree c.has_long_file.result c.in-Ok.ensures ?  ?
+    leads_too_far c.args.changes.now c.loop-change.change-index c.change-item.result c.change-item.result c.loop-change.next _ c.loop-change.invariant (omega arith) c.change-item.is c.apply.new.tree c.has_long_file.result c.in-Ok.ensures (c.has_long_file.ensures ∙ ap (λ p. has_long_file p c.apply.new.tree) c.path.ensures.value) (sym c.if-has_long_file.true)
 
 pub loop-change-preserved : goal.loop-change-preserved
 loop-change-preserved c =
-    leads_to_next c.args.changes.now c.loop-change.change-index c.change-item.result c.change-item.result c.loop-change.next _ c.loop-change.invariant (omega arith) c.change-item.is c.apply.new.tree c.has_long_file.result c.in-Ok.ensures ? ?
+    leads_to_next c.args.changes.now c.loop-change.change-index c.change-item.result c.change-item.result c.loop-change.next _ c.loop-change.invariant (omega arith) c.change-item.is c.apply.new.tree c.has_long_file.result c.in-Ok.ensures (c.has_long_file.ensures ∙ ap (λ p. has_long_file p c.apply.new.tree) c.path.ensures.value) (sym c.if-has_long_file.false)

@@ -1,4 +1,7 @@
+use Rattle.std.proofs.Common.{sym}
+use Rattle.camp_repo.proofs.StepsLawful.{copy_lawful}
 use Rattle.camp_repo.proofs.states.State.copy_branch.Goals as goal
 
 pub with_new_branch-requires-clause-lawful : goal.with_new_branch-requires-clause-lawful
-with_new_branch-requires-clause-lawful c = ?
+with_new_branch-requires-clause-lawful c =
+    copy_lawful c.args.self.now c.args.new.now c.args.from.now c.in_Some-branch.branch.now c.branch-branch.ensures.lawful c.in_Some-branch.ensures.value ?

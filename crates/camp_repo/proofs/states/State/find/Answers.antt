@@ -1,4 +1,4 @@
-use Rattle.std.proofs.Common.{◌≡◌, ◌<◌, None, Some, position, bytes_eq, ap, ◌∙◌, sym, subst, length}
+use Rattle.std.proofs.Common.{◌≡◌, ◌<◌, None, Some, option_copied, position, bytes_eq, ap, ◌∙◌, sym, subst}
 use Rattle.camp_repo.specs.Placing.{placed}
 use Rattle.camp_repo.specs.States.{catches_of, with_catches}
 use Rattle.camp_repo.proofs.PlaceSteps.{found, missing}
@@ -11,13 +11,25 @@ returns-in_default-clause-value c =
     subst (λ s. catches_of s.branches c.args.name.now ≡ None) c.self.view_is (missing c.self.inside.names.keys c.self.inside.branches c.args.name.now searched)
 
 pub returns-in_default-get-clause-value : goal.returns-in_default-get-clause-value
-returns-in_default-get-clause-value c = ?
+returns-in_default-get-clause-value c =
+    let searched = ap (λ s. position (bytes_eq c.args.name.now) s.keys) (sym c.deref.ensures) ∙ sym c.get_index_of.ensures.index ∙ c.in-Some.is in
+    let there = found c.self.inside.names.keys c.self.inside.branches c.args.name.now c.in-Some.place c.self.invariant.as_many searched in
+    subst (λ s. catches_of s.branches c.args.name.now ≡ None) c.self.view_is (sym there.has ∙ sym c.get.ensures ∙ ap option_copied c.in_default-get.is)
 
 pub returns-clause-value : goal.returns-clause-value
-returns-clause-value c = ?
+returns-clause-value c =
+    let searched = ap (λ s. position (bytes_eq c.args.name.now) s.keys) (sym c.deref.ensures) ∙ sym c.get_index_of.ensures.index ∙ c.in-Some.is in
+    let there = found c.self.inside.names.keys c.self.inside.branches c.args.name.now c.in-Some.place c.self.invariant.as_many searched in
+    subst (λ s. catches_of s.branches c.args.name.now ≡ Some c.deref-2.result.now) c.self.view_is (sym there.has ∙ sym c.get.ensures ∙ ap option_copied c.in-Some-get.is ∙ ap Some (sym c.deref-2.ensures))
 
 pub returns-clause-within : goal.returns-clause-within
-returns-clause-within c = ?
+returns-clause-within c =
+    let searched = ap (λ s. position (bytes_eq c.args.name.now) s.keys) (sym c.deref.ensures) ∙ sym c.get_index_of.ensures.index ∙ c.in-Some.is in
+    let there = found c.self.inside.names.keys c.self.inside.branches c.args.name.now c.in-Some.place c.self.invariant.as_many searched in
+    subst (λ n. c.in-Some.place < n) (within_fields c.self.inside.names.keys c.self.inside.branches c.self.inside.count c.args.self.now c.self.view_is c.self.invariant.as_many) there.within
 
 pub returns-clause-placed : goal.returns-clause-placed
-returns-clause-placed c = ?
+returns-clause-placed c catches =
+    let searched = ap (λ s. position (bytes_eq c.args.name.now) s.keys) (sym c.deref.ensures) ∙ sym c.get_index_of.ensures.index ∙ c.in-Some.is in
+    let there = found c.self.inside.names.keys c.self.inside.branches c.args.name.now c.in-Some.place c.self.invariant.as_many searched in
+    subst (λ s. placed s.branches c.in-Some.place catches ≡ with_catches s.branches c.args.name.now catches) c.self.view_is (there.becomes catches)
