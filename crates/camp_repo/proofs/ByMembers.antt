@@ -1,12 +1,12 @@
 -- Pulls and obliterations go by which names are there, and not by their order or number.
-use Rattle.std.proofs.Common.{◌≡◌, ◌==◌, ◌<◌, ℕ, Bool, true, false, not, cond, nat_lt, ◌+◌, ◌||◌, List, [], ◌∷◌, filter, length, map, Ok, Err, bytes_eq, refl, sym, ap, ◌∙◌, subst, inl, inr, true≢false}
+use Rattle.std.proofs.Common.{◌≡◌, ◌==◌, ℕ, suc, Bool, true, false, not, cond, nat_lt, ◌+◌, ◌||◌, List, [], ◌∷◌, filter, length, map, Ok, Err, bytes_eq, refl, sym, ap, ◌∙◌, subst, inl, inr, true≢false}
 use Rattle.std.specs.Prelude.{◌↔◌, Contains}
 use Rattle.std.specs.FinMap.{keys, len, entries}
 use Rattle.camp_catch.specs.declared.catches.Catch.{Catch}
 use Rattle.camp_catch.proofs.ListResults.{arrange_by_members}
 use Rattle.camp_branch.specs.Branches.{is_among, name_of, names_of}
 use Rattle.camp_branch.specs.Obliterating.{ObliterateGives, other_names}
-use Rattle.camp_branch.specs.Pulling.{Outcome, PullGives, WantedNext}
+use Rattle.camp_branch.specs.Pulling.{MergesBehind, Outcome, PullGives, WantedNext, common_names}
 use Rattle.camp_branch.proofs.BranchFields.{Names}
 use Rattle.camp_branch.proofs.Names.{is_among_is, name_itself}
 use Rattle.camp_repo.specs.Steps.{catches_named, is_empty, is_full_with}
@@ -32,7 +32,8 @@ module _ (names others : List (List ℕ)) (alike : AreAlike names others) where
 
   -- a pull of the same names
   pub pull_alike : (from to : List Catch) (outcome : Outcome) → PullGives from to names outcome → PullGives from to others outcome
-  pull_alike from to outcome (inl w) = inl (w.0, w.1, w.2, wanted_alike w.1 _ outcome w.3)
+  pull_alike from to outcome (inl w) =
+      inl (w.0, w.1, w.2, wanted_alike w.1 (λ chosen left. MergesBehind (common_names from to) w.0 chosen to) outcome w.3)
   pull_alike from to outcome (inr w) = inr w
 
   -- an obliteration of the same names
@@ -58,3 +59,15 @@ module _ (names others : List (List ℕ)) (alike : AreAlike names others) where
   -- there are none where there are none of the others
   pub none_alike : is_empty names ≡ is_empty others
   none_alike = empty_names names others refl refl
+
+none_among : (names : List (List ℕ)) → is_empty names ≡ (length names == 0)
+none_among [] = refl
+none_among (n ∷ names) = refl
+
+keys_long : {X : Type 0} (es : List (List ℕ × X)) → length (map (λ e. e.0) es) ≡ length es
+keys_long [] = refl
+keys_long (e ∷ es) = ap suc (keys_long es)
+
+-- a set has no name where it has no entry
+pub none_there : (set : Names) → is_empty (keys set) ≡ (len set == 0)
+none_there set = none_among (keys set) ∙ ap (λ n. n == 0) (keys_long (entries set))

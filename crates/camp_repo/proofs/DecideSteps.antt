@@ -1,5 +1,5 @@
 -- What the functions that decide have found, and what the step is then.
-use Rattle.std.proofs.Common.{◌≡◌, ◌≤◌, ℕ, ◌+◌, Bool, true, false, cond, List, [], ◌∷◌, ◌++◌, Option, None, Some, Result, Ok, Err, length, nat_le, is_some, bytes_eq, refl, sym, ap, ◌∙◌, subst}
+use Rattle.std.proofs.Common.{◌≡◌, ◌≤◌, ℕ, ◌+◌, Bool, true, false, cond, List, [], ◌∷◌, ◌++◌, Option, None, Some, MatchOption, IfOk, Result, Ok, Err, length, nat_le, is_some, bytes_eq, refl, sym, ap, ◌∙◌, subst}
 use Rattle.std.specs.Option.{option_map_or}
 use Rattle.camp_base.specs.Trees.{Files}
 use Rattle.camp_prim.specs.declared.primitives.Primitive.{Primitive}
@@ -26,6 +26,16 @@ use Rattle.camp_repo.proofs.ByMembers.{AreAlike, obliterate_alike, pull_alike}
 use Rattle.camp_repo.proofs.StateSteps.{settled_by_name}
 use Rattle.camp_repo.proofs.StepsLawful.{steps_lawful}
 use Rattle.camp_repo.proofs.TreeSteps.{tree_found}
+
+-- what no match finds
+pub none_found : {X : Type 0} (P : Type 0) (Q : X → Type 0) (o : Option X) → MatchOption o P Q → is_some o ≡ false → P
+none_found P Q None matches e = matches
+none_found P Q (Some x) matches e = cc
+
+-- an answer that is one decision is the other, where they are the same
+pub settled_is : {E : Type 0} (result : Result Decision E) (one other : Decision) → IfOk result (λ decided. decided ≡ one) → one ≡ other → IfOk result (λ decided. decided ≡ other)
+settled_is (Ok decided) one other is same = is ∙ same
+settled_is (Err error) one other is same = is
 
 -- the tree of a branch is shown
 pub tree_shown : (state : Contents) (name : List ℕ) (catches : List Catch) (tree copy : Files) → Has state name catches → LeadsTo catches tree → copy ≡ tree → Answer (reply.Tree copy) ≡ step state (call.Tree name)

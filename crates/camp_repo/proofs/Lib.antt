@@ -7,6 +7,7 @@ pub mod Effects
 pub mod LawfulBranches
 pub mod NameSteps
 pub mod PlaceSteps
+pub mod RecordSteps
 pub mod StateSteps
 pub mod StepsLawful
 pub mod TreeSteps

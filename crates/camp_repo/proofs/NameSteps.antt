@@ -1,5 +1,5 @@
 -- Sets of names, filled one name at a time, and names that a branch lacks.
-use Rattle.std.proofs.Common.{◌≡◌, ◌<◌, ◌+◌, ℕ, suc, Bool, true, false, not, cond, ◌||◌, Option, None, Some, List, [], ◌∷◌, drop, length, map, is_some, get_or, bytes_eq, refl, sym, ap, ◌∙◌}
+use Rattle.std.proofs.Common.{◌≡◌, ◌<◌, ◌≤◌, ◌+◌, ℕ, arith, suc, Bool, true, false, not, cond, ◌||◌, Option, None, Some, List, [], ◌∷◌, drop, length, map, is_some, get_or, bytes_eq, refl, sym, ap, ◌∙◌}
 use Rattle.std.specs.FinMap.{contains_key, empty, get-empty, insert, keys}
 use Rattle.std.specs.Ordering.{nat_cmp}
 use Rattle.std.specs.Cmp.Lexicographic.{slice_cmp}
@@ -85,11 +85,30 @@ all_there catches (n ∷ names) has =
 pub none_lacked : (catches : List Catch) → first_lacked catches (names_of catches) ≡ None
 none_lacked catches = all_there catches (names_of catches) (λ name among. sym (among_once (map name_of catches) name) ∙ among)
 
--- how many catches have these names, from a place on
-pub count_from : (names : List (List ℕ)) (catches : List Catch) (i : ℕ) (k d : Catch) (b : Bool) → i < length catches → k ≡ get_or catches i d → is_among names (name_of k) ≡ b → length (catches_named names (drop i catches)) ≡ cond b (suc (length (catches_named names (drop (i + 1) catches)))) (length (catches_named names (drop (i + 1) catches)))
-count_from names catches i k d b within is among =
-    ap (λ r. length (catches_named names r)) (stands_at catches i d k within is) ∙ ap (λ c. length (cond c (k ∷ catches_named names (drop (i + 1) catches)) (catches_named names (drop (i + 1) catches)))) among ∙ counted b
+named_few : (names : List (List ℕ)) (catches : List Catch) → length (catches_named names catches) ≤ length catches
+named_few names [] = omega arith
+named_few names (k ∷ catches) = few_at (is_among names (name_of k)) (named_few names catches)
   where
-    counted : (b : Bool) → length (cond b (k ∷ catches_named names (drop (i + 1) catches)) (catches_named names (drop (i + 1) catches))) ≡ cond b (suc (length (catches_named names (drop (i + 1) catches)))) (length (catches_named names (drop (i + 1) catches)))
-    counted true = refl
-    counted false = refl
+    few_at : (b : Bool) → length (catches_named names catches) ≤ length catches → length (cond b (k ∷ catches_named names catches) (catches_named names catches)) ≤ suc (length catches)
+    few_at true few = omega arith
+    few_at false few = omega arith
+
+module _ (names : List (List ℕ)) (all rest more : List Catch) (k : Catch) (count : ℕ) (inv : count + length (catches_named names rest) ≡ length (catches_named names all)) (steps : rest ≡ k ∷ more) where
+  counted_at : (b : Bool) → is_among names (name_of k) ≡ b → length (catches_named names rest) ≡ length (cond b (k ∷ catches_named names more) (catches_named names more))
+  counted_at b e =
+      ap (λ l. length (catches_named names l)) steps ∙ ap (λ c. length (cond c (k ∷ catches_named names more) (catches_named names more))) e
+
+  -- one more catch is counted
+  pub counted : is_among names (name_of k) ≡ true → (count + 1) + length (catches_named names more) ≡ length (catches_named names all)
+  counted e = let here = counted_at true e in omega (arith, inv)
+
+  -- one is passed over
+  pub passed_over : is_among names (name_of k) ≡ false → count + length (catches_named names more) ≡ length (catches_named names all)
+  passed_over e = let here = counted_at false e in omega (arith, inv)
+
+  -- the count fits where the number of catches does
+  pub count_fits : (n limit : ℕ) → is_among names (name_of k) ≡ true → n ≡ length all → n < limit → count + 1 < limit
+  count_fits n limit e long fits =
+      let here = counted_at true e in
+      let few = named_few names all in
+      omega (arith, inv)

@@ -1,14 +1,12 @@
 use Rattle.std.proofs.Common.{arith, ap, ◌∙◌, sym}
-use Rattle.camp_base.specs.Trees.{Files}
-use Rattle.camp_prim.specs.Effect.{Applies}
 use Rattle.camp_repo.specs.Steps.{has_long_file}
 use Rattle.camp_repo.proofs.ChangedSteps.{leads_nowhere, leads_to_next, leads_too_far}
 use Rattle.camp_repo.proofs.sizes.changed.Goals as goal
 
 pub returns-in-Err-DoesNotApply : goal.returns-in-Err-DoesNotApply
 returns-in-Err-DoesNotApply c =
-    let h = c.in-Err-DoesNotApply.ensures in
-    leads_nowhere c.args.changes.now c.loop-change.change-index c.change-item.result c.change-item.result c.loop-change.next _ c.loop-change.invariant (omega arith) c.change-item.is ?
+    let never = rw c.in-Err-DoesNotApply.field-0-is at c.in-Err-DoesNotApply.ensures in
+    leads_nowhere c.args.changes.now c.loop-change.change-index c.change-item.result c.change-item.result c.loop-change.next _ c.loop-change.invariant (omega arith) c.change-item.is never.0
 
 pub returns-then-has_long_file : goal.returns-then-has_long_file
 returns-then-has_long_file c =

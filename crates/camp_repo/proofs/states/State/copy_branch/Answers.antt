@@ -1,7 +1,8 @@
-use Rattle.std.proofs.Common.{sym}
+use Rattle.std.proofs.Common.{◌∙◌, sym}
+use Rattle.camp_repo.proofs.DecideSteps.{none_found}
 use Rattle.camp_repo.proofs.StepsLawful.{copy_lawful}
 use Rattle.camp_repo.proofs.states.State.copy_branch.Goals as goal
 
 pub with_new_branch-requires-clause-lawful : goal.with_new_branch-requires-clause-lawful
 with_new_branch-requires-clause-lawful c =
-    copy_lawful c.args.self.now c.args.new.now c.args.from.now c.in_Some-branch.branch.now c.branch-branch.ensures.lawful c.in_Some-branch.ensures.value ?
+    copy_lawful c.args.self.now c.args.new.now c.args.from.now c.in_Some-branch.branch.now c.branch-branch.ensures.lawful c.in_Some-branch.ensures.value (none_found _ _ c.branch-self.result c.branch-self.ensures.value (sym c.is_some.ensures ∙ c.if-is_some.false))

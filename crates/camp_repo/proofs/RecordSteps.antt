@@ -1,0 +1,34 @@
+-- The state after an accepted record.
+use Rattle.std.proofs.Common.{◌≡◌, ℕ, false, List, [], ◌∷◌, ◌++◌, Ok, sym, subst}
+use Rattle.camp_base.specs.Trees.{Files}
+use Rattle.camp_prim.specs.declared.primitives.Primitive.{Primitive}
+use Rattle.camp_catch.specs.declared.catches.Catch.{Catch}
+use Rattle.camp_branch.specs.Branches.{LeadsTo, has_patch, recorded}
+use Rattle.camp_branch.specs.Laws.{AppliesEach}
+use Rattle.camp_branch.proofs.KeepLawful.{trees_are_determined}
+use Rattle.camp_call.specs.Patches.{IsPatchSized}
+use Rattle.camp_call.specs.declared.calls.Call.TheVariants as call
+use Rattle.camp_repo.specs.Laws.{Has}
+use Rattle.camp_repo.specs.Lawful.{IsLawful}
+use Rattle.camp_repo.specs.Placing.{placed}
+use Rattle.camp_repo.specs.States.{Contents, after, stands, with_catches}
+use Rattle.camp_repo.specs.Steps.{changed, is_too_large}
+use Rattle.camp_repo.proofs.BranchSteps.{free_of_each, of_one}
+use Rattle.camp_repo.proofs.DecideSteps.{next_lawful, record_accepted}
+use Rattle.camp_repo.proofs.TreeSteps.{changes_apply}
+
+-- a name that stands nowhere is not that of a patch of the branch
+pub is_new : (state : Contents) (branch name : List ℕ) (catches : List Catch) → Has state branch catches → stands state.branches name ≡ false → has_patch catches name ≡ false
+is_new state branch name catches has free =
+    of_one (λ catches. has_patch catches name ≡ false) state.branches branch catches (free_of_each state.branches name free) has
+
+-- the changes lead from whatever tree the branch leads to
+pub leads_from : (catches : List Catch) (tree old new : Files) (changes lent : List Primitive) → LeadsTo catches tree → LeadsTo catches old → lent ≡ changes → Ok new ≡ changed changes tree → AppliesEach lent old new
+leads_from catches tree old new changes lent leads other same e =
+    subst (λ cs. AppliesEach cs old new) (sym same)
+    (subst (λ t. AppliesEach changes t new) (trees_are_determined.one catches tree old leads other) (changes_apply changes tree new (sym e)))
+
+-- the state after the record is lawful
+pub record_keeps : (state : Contents) (branch name : List ℕ) (changes : List Primitive) (catches : List Catch) (tree next : Files) (place : ℕ) → Has state branch catches → stands state.branches name ≡ false → is_too_large catches changes ≡ false → LeadsTo catches tree → Ok next ≡ changed changes tree → ((other : List Catch) → placed state.branches place other ≡ with_catches state.branches branch other) → IsPatchSized changes → IsLawful state → IsLawful (after state (placed state.branches place (catches ++ recorded name 1 changes)))
+record_keeps state branch name changes catches tree next place has free small leads e there sized lawful =
+    next_lawful state (call.Record branch name changes) _ sized lawful (record_accepted state branch name changes catches tree has free small leads next place e there)

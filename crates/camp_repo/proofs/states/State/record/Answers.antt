@@ -1,0 +1,46 @@
+use Rattle.std.proofs.Common.{◌++◌, ap, ◌∙◌, sym, subst}
+use Rattle.camp_branch.specs.Branches.{recorded}
+use Rattle.camp_object.specs.declared.objects.Decided.TheVariants.{Next}
+use Rattle.camp_repo.specs.Lawful.{IsLawful}
+use Rattle.camp_repo.specs.Placing.{placed}
+use Rattle.camp_repo.specs.States.{after}
+use Rattle.camp_repo.specs.Steps.{changed, is_too_large}
+use Rattle.camp_repo.proofs.DecideSteps.{record_accepted, record_refused}
+use Rattle.camp_repo.proofs.RecordSteps.{is_new, leads_from, record_keeps}
+use Rattle.camp_repo.proofs.states.State.record.Goals as goal
+
+pub returns-in-Err : goal.returns-in-Err
+returns-in-Err c =
+    let has = c.in-Some.ensures.value in
+    let free = sym c.stands.ensures ∙ c.if-stands.false in
+    let small = ap (is_too_large c.in-Some.old.now) (sym c.prims.ensures.value) ∙ sym c.is_too_large.ensures ∙ c.if-is_too_large.false in
+    let led = sym c.in-Err.is ∙ c.in_ok-tree.ensures ∙ ap (λ cs. changed cs c.tree.result.now) c.prims-2.ensures.value in
+    c.refused-in-Err.ensures ∙ record_refused c.args.self.now c.args.branch.now c.args.name.now c.args.changes.now c.in-Some.old.now c.tree.result.now has free small c.tree.ensures c.in-Err.refusal led
+
+pub recorded-requires-clause-is_new : goal.recorded-requires-clause-is_new
+recorded-requires-clause-is_new c =
+    is_new c.args.self.now c.args.branch.now c.args.name.now c.in-Some.old.now c.in-Some.ensures.value (sym c.stands.ensures ∙ c.if-stands.false)
+
+pub recorded-requires-clause-leads : goal.recorded-requires-clause-leads
+recorded-requires-clause-leads c old leads =
+    let led = sym c.in-Ok.is ∙ c.in_ok-tree.ensures ∙ ap (λ cs. changed cs c.tree.result.now) c.prims-2.ensures.value in
+    leads_from c.in-Some.old.now c.tree.result.now old c.in-Ok.tree c.args.changes.now c.prims-3.result.now c.tree.ensures leads c.prims-3.ensures.value led
+
+pub with_branch_at-requires-clause-lawful : goal.with_branch_at-requires-clause-lawful
+with_branch_at-requires-clause-lawful c =
+    let has = c.in-Some.ensures.value in
+    let free = sym c.stands.ensures ∙ c.if-stands.false in
+    let small = ap (is_too_large c.in-Some.old.now) (sym c.prims.ensures.value) ∙ sym c.is_too_large.ensures ∙ c.if-is_too_large.false in
+    let led = sym c.in-Ok.is ∙ c.in_ok-tree.ensures ∙ ap (λ cs. changed cs c.tree.result.now) c.prims-2.ensures.value in
+    let new_is = c.in_ok-new.ensures ∙ ap (λ cs. c.in-Some.old.now ++ recorded c.args.name.now 1 cs) c.prims-3.ensures.value in
+    subst (λ b. IsLawful (after c.args.self.now (placed c.args.self.now.branches c.in-Some.place b))) (sym new_is)
+    (record_keeps c.args.self.now c.args.branch.now c.args.name.now c.args.changes.now c.in-Some.old.now c.tree.result.now c.in-Ok.tree c.in-Some.place has free small c.tree.ensures led c.in-Some.ensures.placed c.prims.ensures.sized c.in-Some.ensures.lawful)
+
+pub returns : goal.returns
+returns c =
+    let has = c.in-Some.ensures.value in
+    let free = sym c.stands.ensures ∙ c.if-stands.false in
+    let small = ap (is_too_large c.in-Some.old.now) (sym c.prims.ensures.value) ∙ sym c.is_too_large.ensures ∙ c.if-is_too_large.false in
+    let led = sym c.in-Ok.is ∙ c.in_ok-tree.ensures ∙ ap (λ cs. changed cs c.tree.result.now) c.prims-2.ensures.value in
+    let new_is = c.in_ok-new.ensures ∙ ap (λ cs. c.in-Some.old.now ++ recorded c.args.name.now 1 cs) c.prims-3.ensures.value in
+    ap Next (c.in_ok-next.ensures ∙ ap (λ b. after c.args.self.now (placed c.args.self.now.branches c.in-Some.place b)) new_is) ∙ record_accepted c.args.self.now c.args.branch.now c.args.name.now c.args.changes.now c.in-Some.old.now c.tree.result.now has free small c.tree.ensures c.in-Ok.tree c.in-Some.place led c.in-Some.ensures.placed
