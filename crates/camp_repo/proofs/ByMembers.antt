@@ -1,7 +1,8 @@
 -- Pulls and obliterations go by which names are there, and not by their order or number.
 use Rattle.std.proofs.Common.{◌≡◌, ◌==◌, ℕ, suc, Bool, true, false, not, cond, nat_lt, ◌+◌, ◌||◌, List, [], ◌∷◌, filter, length, map, Ok, Err, bytes_eq, refl, sym, ap, ◌∙◌, subst, inl, inr, true≢false}
 use Rattle.std.specs.Prelude.{◌↔◌, Contains}
-use Rattle.std.specs.FinMap.{keys, len, entries}
+use Rattle.std.proofs.Math.Dec.{eqb-suc-zero}
+use Rattle.std.specs.FinMap.{entries, keys, len, len-entries}
 use Rattle.camp_catch.specs.declared.catches.Catch.{Catch}
 use Rattle.camp_catch.proofs.ListResults.{arrange_by_members}
 use Rattle.camp_branch.specs.Branches.{is_among, name_of, names_of}
@@ -60,9 +61,9 @@ module _ (names others : List (List ℕ)) (alike : AreAlike names others) where
   pub none_alike : is_empty names ≡ is_empty others
   none_alike = empty_names names others refl refl
 
-none_among : (names : List (List ℕ)) → is_empty names ≡ (length names == 0)
+pub none_among : (names : List (List ℕ)) → is_empty names ≡ (length names == 0)
 none_among [] = refl
-none_among (n ∷ names) = refl
+none_among (n ∷ names) = sym (eqb-suc-zero (length names))
 
 keys_long : {X : Type 0} (es : List (List ℕ × X)) → length (map (λ e. e.0) es) ≡ length es
 keys_long [] = refl
@@ -70,4 +71,4 @@ keys_long (e ∷ es) = ap suc (keys_long es)
 
 -- a set has no name where it has no entry
 pub none_there : (set : Names) → is_empty (keys set) ≡ (len set == 0)
-none_there set = none_among (keys set) ∙ ap (λ n. n == 0) (keys_long (entries set))
+none_there set = none_among (keys set) ∙ ap (λ n. n == 0) (keys_long (entries set) ∙ sym (len-entries set))

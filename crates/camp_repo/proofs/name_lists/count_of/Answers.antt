@@ -1,4 +1,4 @@
-use Rattle.std.proofs.Common.{ap, ◌∙◌, length, sym}
+use Rattle.std.proofs.Common.{ap, arith, ◌∙◌, length, sym}
 use Rattle.std.specs.Cmp.Lexicographic.{slice_cmp}
 use Rattle.std.specs.FinMap.{contains_key}
 use Rattle.std.specs.Ordering.{nat_cmp}
@@ -14,7 +14,8 @@ overflow_add-count c =
     let set = map_of (slice_cmp nat_cmp) c.args.names.now in
     let called = c.name.ensures ∙ ap name_of c.deref.ensures in
     let among = sym (has_listed set (name_of c.in-Some.catch.now)) ∙ ap (contains_key set) (sym called) ∙ sym c.contains_key.ensures ∙ c.if-contains_key.true in
-    count_fits (names_in c.args.names.now) c.args.branch.now c.loop-catch.catch-iterator c.next.new.self c.in-Some.catch.now c.loop-catch.count c.loop-catch.invariant c.in-Some.ensures.steps c.len.result _ among (c.len.ensures ∙ ap length c.catches-catches.ensures.value) c.len.type_inv
+    let within = count_fits (names_in c.args.names.now) c.args.branch.now c.loop-catch.catch-iterator c.next.new.self c.in-Some.catch.now c.loop-catch.count c.loop-catch.invariant c.in-Some.ensures.steps c.len.result _ among (c.len.ensures ∙ ap length c.catches-catches.ensures.value) c.len.type_inv in
+    omega arith
 
 pub loop-catch-preserved-then-contains_key : goal.loop-catch-preserved-then-contains_key
 loop-catch-preserved-then-contains_key c =

@@ -25,7 +25,9 @@ returns-then-is_full_with c =
     c.refused-then-is_full_with.ensures ∙ pull_too_large c.args.self.now c.args.from.now c.args.to.now c.args.names.now c.in_Some-theirs.theirs.now c.in-Some.ours.now c.in_Some-theirs.ensures.value c.in-Some.ensures.value two all some full
 
 pub pulled-requires : goal.pulled-requires
-pulled-requires c = ?
+pulled-requires c = record {
+  lacked = λ name among. wanted_is_lacked c.in-Some.ours.now (listed c.in_Some-theirs.theirs.now c.args.names.now) name (sym (c.in_ok-wanted.ensures name) ∙ among);
+}
 
 pub settled-requires-clause-lawful : goal.settled-requires-clause-lawful
 settled-requires-clause-lawful c =
