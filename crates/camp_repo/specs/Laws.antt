@@ -116,7 +116,8 @@ AnswersChangeNothing =
 -- a pull, an obliteration and the conflicts of a branch come to what their definitions say
 pub record OutcomesAreDefined : Type 0 where
   pub pulls : (from to : List Catch) (wanted : List (List ℕ)) → PullGives from to wanted (pulled from to wanted)
-  pub obliterates : (branch : List Catch) (names : List (List ℕ)) → ObliterateGives branch names (obliterated branch names)
+  pub obliterates : (branch : List Catch) (names : List (List ℕ))
+      → ObliterateGives branch names (obliterated branch names)
   pub conflicts : (branch : List Catch) → AreConflicts branch (conflicts_of branch)
 
 -- the repository is an object

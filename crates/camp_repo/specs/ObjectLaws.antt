@@ -1,5 +1,6 @@
 -- The repository is lawful as an object.
-use Rattle.std.proofs.Common.{◌≡◌, ℕ, ◌+◌, Bool, true, false, cond, List, ◌++◌, [], ◌∷◌, Option, None, Some, Result, Ok, Err, bytes_eq, is_some, length, nat_le, refl, sym, ap, ◌∙◌, subst}
+use Rattle.std.proofs.Common.{◌≡◌, ℕ, ◌+◌, Bool, true, false, cond, List, ◌++◌, [], ◌∷◌, Option, None, Some, Result}
+use Rattle.std.proofs.Common.{Ok, Err, bytes_eq, is_some, length, nat_le, refl, sym, ap, ◌∙◌, subst}
 use Rattle.std.proofs.lemmas.Option.{same_Some}
 use Rattle.std.specs.Option.{option_map_or}
 use Rattle.camp_base.specs.Trees.{Files}
@@ -12,13 +13,15 @@ use Rattle.camp_call.specs.declared.calls.Call.TheVariants as call
 use Rattle.camp_call.specs.declared.replies.Reply.{Reply}
 use Rattle.camp_call.specs.declared.replies.Reply.TheVariants as reply
 use Rattle.camp_call.specs.declared.replies.Refusal.{Refusal}
-use Rattle.camp_call.specs.declared.replies.Refusal.TheVariants.{BranchExists, DoesNotApply, NoBranch, NoPatch, NothingToDo, PatchExists, SameBranch, TooLarge}
+use Rattle.camp_call.specs.declared.replies.Refusal.TheVariants.{BranchExists, DoesNotApply, NoBranch, NoPatch}
+use Rattle.camp_call.specs.declared.replies.Refusal.TheVariants.{NothingToDo, PatchExists, SameBranch, TooLarge}
 use Rattle.camp_object.specs.Objects.{IsLawful}
 use Rattle.camp_object.specs.declared.objects.Decided.TheVariants.{Next, Answer}
 use Rattle.camp_repo.specs.Objects.{next_of, number_told, repository}
 use Rattle.camp_repo.specs.Outcomes.{conflicts_of, obliterated, pulled}
 use Rattle.camp_repo.specs.States.{Contents, after, catches_of, stands, tree_of, with_catches}
-use Rattle.camp_repo.specs.Steps.{Decision, becomes, changed, first_lacked, is_empty, is_full_with, is_too_large, listed, record_leads, refused, refused_if, shown, step, wanted}
+use Rattle.camp_repo.specs.Steps.{Decision, becomes, changed, first_lacked, is_empty, is_full_with, is_too_large}
+use Rattle.camp_repo.specs.Steps.{listed, record_leads, refused, refused_if, shown, step, wanted}
 
 -- one thing of the next state, another of the answer
 abbrev pub Comes : (Contents → Type 0) → (Reply → Type 0) → Decision → Type 0
@@ -26,27 +29,33 @@ Comes P Q (Next state) = P state
 Comes P Q (Answer answer) = Q answer
 
 module _ (P : Contents → Type 0) (Q : Reply → Type 0) (refusals : (refusal : Refusal) → Q (reply.Refused refusal)) where
-  of_branch : (name : List ℕ) (goes_on : List Catch → Decision) (o : Option (List Catch)) → ((catches : List Catch) → Comes P Q (goes_on catches)) → Comes P Q (option_map_or goes_on o (refused (NoBranch name)))
+  of_branch : (name : List ℕ) (goes_on : List Catch → Decision) (o : Option (List Catch)) → ((catches : List Catch)
+      → Comes P Q (goes_on catches)) → Comes P Q (option_map_or goes_on o (refused (NoBranch name)))
   of_branch name goes_on None on = refusals (NoBranch name)
   of_branch name goes_on (Some catches) on = on catches
 
-  past_test : (fails : Bool) (refusal : Refusal) (goes_on : Decision) → Comes P Q goes_on → Comes P Q (refused_if fails refusal goes_on)
+  past_test : (fails : Bool) (refusal : Refusal) (goes_on : Decision) → Comes P Q goes_on
+      → Comes P Q (refused_if fails refusal goes_on)
   past_test true refusal goes_on on = refusals refusal
   past_test false refusal goes_on on = on
 
-  past_names : (o : Option (List ℕ)) (goes_on : Decision) → Comes P Q goes_on → Comes P Q (option_map_or (λ name. refused (NoPatch name)) o goes_on)
+  past_names : (o : Option (List ℕ)) (goes_on : Decision) → Comes P Q goes_on
+      → Comes P Q (option_map_or (λ name. refused (NoPatch name)) o goes_on)
   past_names None goes_on on = on
   past_names (Some name) goes_on on = refusals (NoPatch name)
 
-  by_outcome : (state : Contents) (branch : List ℕ) (outcome : Outcome) → ((catches : List Catch) → P (after state (with_catches state.branches branch catches))) → Comes P Q (becomes state branch outcome)
+  by_outcome : (state : Contents) (branch : List ℕ) (outcome : Outcome) → ((catches : List Catch)
+      → P (after state (with_catches state.branches branch catches))) → Comes P Q (becomes state branch outcome)
   by_outcome state branch (Ok catches) on = on catches
   by_outcome state branch (Err why) on = refusals _
 
-  by_tree : (state : Contents) (branch : List ℕ) (catches : List Catch) (led : Result Files Refusal) → P (after state (with_catches state.branches branch catches)) → Comes P Q (record_leads state branch catches led)
+  by_tree : (state : Contents) (branch : List ℕ) (catches : List Catch) (led : Result Files Refusal)
+      → P (after state (with_catches state.branches branch catches)) → Comes P Q (record_leads state branch catches led)
   by_tree state branch catches (Ok tree) on = on
   by_tree state branch catches (Err refusal) on = refusals refusal
 
-  from_tree : (o : Option Files) (goes_on : Files → Decision) → ((tree : Files) → Comes P Q (goes_on tree)) → Comes P Q (option_map_or goes_on o (refused DoesNotApply))
+  from_tree : (o : Option Files) (goes_on : Files → Decision) → ((tree : Files) → Comes P Q (goes_on tree))
+      → Comes P Q (option_map_or goes_on o (refused DoesNotApply))
   from_tree None goes_on on = refusals DoesNotApply
   from_tree (Some tree) goes_on on = on tree
 
@@ -77,7 +86,8 @@ step_comes state (call.Record branch name changes) =
     (λ catches. past_test P TellsNone none_told (stands state.branches name) (PatchExists name) _
     (past_test P TellsNone none_told (is_too_large catches changes) TooLarge _
     (from_tree P TellsNone none_told (tree_of catches) _
-    (λ tree. by_tree P TellsNone none_told state branch (catches ++ recorded name 1 changes) (changed changes tree) (refl, refl)))))
+    (λ tree. by_tree P TellsNone none_told state branch (catches ++ recorded name 1 changes) (changed changes tree)
+    (refl, refl)))))
 step_comes state (call.Pull from to names) =
     let P = CountsOne state (call.Pull from to names) in
     of_branch P TellsNone none_told from _ (catches_of state.branches from)
@@ -86,7 +96,8 @@ step_comes state (call.Pull from to names) =
     (past_names P TellsNone none_told (first_lacked theirs (listed theirs names)) _
     (past_test P TellsNone none_told (is_empty (wanted ours (listed theirs names))) NothingToDo _
     (past_test P TellsNone none_told (is_full_with ours theirs (wanted ours (listed theirs names))) TooLarge _
-    (by_outcome P TellsNone none_told state to (pulled theirs ours (wanted ours (listed theirs names))) (λ catches. (refl, refl))))))))
+    (by_outcome P TellsNone none_told state to (pulled theirs ours (wanted ours (listed theirs names))) (λ catches.
+    (refl, refl))))))))
 step_comes state (call.Obliterate branch names) =
     let P = CountsOne state (call.Obliterate branch names) in
     of_branch P TellsNone none_told branch _ (catches_of state.branches branch)
@@ -104,7 +115,8 @@ step_comes state (call.Names branch) =
     of_branch (CountsOne state (call.Names branch)) TellsNone none_told branch _ (catches_of state.branches branch)
     (λ catches. refl)
 
-on_next : (P : Contents → Type 0) (Q : Reply → Type 0) (d : Decision) (next : Contents) → Comes P Q d → next_of d ≡ Some next → P next
+on_next : (P : Contents → Type 0) (Q : Reply → Type 0) (d : Decision) (next : Contents) → Comes P Q d
+    → next_of d ≡ Some next → P next
 on_next P Q (Next state) next comes is = subst P (same_Some _ _ is) comes
 on_next P Q (Answer answer) next comes is = cc
 
@@ -118,8 +130,10 @@ tells_exactly (reply.Names names) at is = cc
 pub repository_is_lawful : IsLawful repository
 repository_is_lawful = record {
   starts = refl;
-  counts = λ state call next is. (on_next (CountsOne state call) TellsNone (step state call) next (step_comes state call) is).0;
-  writes = λ state call next is. (on_next (CountsOne state call) TellsNone (step state call) next (step_comes state call) is).1;
+  counts = λ state call next is. (on_next (CountsOne state call) TellsNone (step state call) next
+      (step_comes state call) is).0;
+  writes = λ state call next is. (on_next (CountsOne state call) TellsNone (step state call) next
+      (step_comes state call) is).1;
   tells = λ at. refl;
   tells_exactly = tells_exactly;
   tells_none = λ state call answer is. subst (Comes (CountsOne state call) TellsNone) is (step_comes state call);
