@@ -3,15 +3,9 @@ ghost use Rattle.std.specs.Prelude.{◌≤◌, length};
 use crate::tables::Table;
 use anyhow::{Result, bail};
 use camp_base::{Line, Path, Tree};
-use camp_catch::Catch;
-use camp_ctx::{Contexted, CtxSet};
-use camp_notation::{
-    read_catch, read_catches, read_contexted, read_label, read_lines, read_list, read_named,
-    read_set, read_tree, read_word,
-};
-use camp_prim::{Key, Label, Named};
+use camp_notation::{read_label, read_lines, read_list, read_named, read_tree, read_word};
+use camp_prim::{Label, Named};
 use camp_seq::Seq;
-use camp_share::Shared;
 use std::alloc::{AllocError, Global};
 use std::str;
 
@@ -83,31 +77,6 @@ impl<'a> Arguments<'a> {
 
     pub(crate) fn label(&self, at: usize) -> Result<Label> {
         Ok(read_label(self.alloc, self.text(at)?)?)
-    }
-
-    /// An absolute label, which is written as a label without a caret.
-    pub(crate) fn key(&self, at: usize) -> Result<Key> {
-        Ok(self.label(at)?.key())
-    }
-
-    pub(crate) fn contexted(&self, at: usize) -> Result<Contexted> {
-        let text = self.table.meaning(self.text(at)?);
-        Ok(read_contexted(self.alloc, self.known(), text)?)
-    }
-
-    pub(crate) fn set(&self, at: usize) -> Result<CtxSet> {
-        let text = self.table.meaning(self.text(at)?);
-        Ok(read_set(self.alloc, self.known(), text)?)
-    }
-
-    pub(crate) fn catch(&self, at: usize) -> Result<Catch> {
-        let text = self.table.meaning(self.text(at)?);
-        Ok(read_catch(self.alloc, self.known(), text)?)
-    }
-
-    pub(crate) fn catches(&self, at: usize) -> Result<Vec<Shared<Catch>>> {
-        let text = self.table.meaning(self.text(at)?);
-        Ok(read_catches(self.alloc, self.known(), text)?)
     }
 
     fn text(&self, at: usize) -> Result<&'a [u8]> {

@@ -1,5 +1,5 @@
 use crate::arguments::Arguments;
-use crate::{bases, catch_lists, catches, contexts, lists, primitives};
+use crate::{bases, lists, primitives};
 use anyhow::{Result, bail};
 
 /// The result of the call of this name.
@@ -57,53 +57,6 @@ fn call_of_lists(name: &[u8], a: &Arguments) -> Result<String> {
         b"clean_merge" => lists::merged(a),
         b"apply_all" => lists::applied(a),
         b"are_same_lists" => lists::are_same(a),
-        _ => call_of_contexts(name, a),
-    }
-}
-
-fn call_of_contexts(name: &[u8], a: &Arguments) -> Result<String> {
-    match name {
-        b"read_contexted" => contexts::read(a),
-        b"key_of_contexted" => contexts::key(a),
-        b"are_same_contexted" => contexts::are_same(a),
-        b"add_one" => contexts::add_one(a),
-        b"add" => contexts::add(a),
-        b"pass_one_by" => contexts::pass_one_by(a),
-        b"pass_by" => contexts::pass_by(a),
-        b"conflict" => contexts::are_in_conflict(a),
-        b"merge_behind_common" => contexts::merged(a),
-        _ => call_of_sets(name, a),
-    }
-}
-
-fn call_of_sets(name: &[u8], a: &Arguments) -> Result<String> {
-    match name {
-        b"read_set" => contexts::read_set(a),
-        b"member_count" => contexts::member_count(a),
-        b"member" => contexts::member(a),
-        b"member_at" => contexts::member_at(a),
-        b"sole" => contexts::sole_member(a),
-        b"insert" => contexts::insert(a),
-        b"without" => contexts::without(a),
-        b"add_one_to_set" => contexts::add_one_to_set(a),
-        b"add_to_set" => contexts::add_to_set(a),
-        b"are_same_sets" => contexts::are_same_sets(a),
-        _ => call_of_catches(name, a),
-    }
-}
-
-fn call_of_catches(name: &[u8], a: &Arguments) -> Result<String> {
-    match name {
-        b"read_catch" => catches::read(a),
-        b"key_of_catch" => catches::key(a),
-        b"effect" => catches::effect(a),
-        b"are_same_catches" => catches::are_same(a),
-        b"commute_catches" => catches::commuted(a),
-        b"merge_catches" => catches::merged(a),
-        b"read_catches" => catch_lists::read(a),
-        b"arrange" => catch_lists::arranged(a),
-        b"align" => catch_lists::aligned(a),
-        b"merge_lists" => catch_lists::merged(a),
         _ => bail!("no such call"),
     }
 }

@@ -15,14 +15,10 @@
 mod arguments;
 mod bases;
 mod calls;
-mod catch_lists;
-mod catches;
-mod contexts;
 mod lists;
 mod primitives;
 mod results;
 mod tables;
-mod values;
 
 use anyhow::Result;
 use bstr::ByteSlice;

@@ -1,9 +1,8 @@
 use crate::arguments::Arguments;
 use crate::calls::call;
-use crate::values;
 use anyhow::Result;
 use bstr::ByteSlice;
-use camp_notation::read_named;
+use camp_notation::{list_text, read_list, read_named, read_tree, tree_text};
 use camp_prim::Named;
 use std::alloc::Global;
 
@@ -77,7 +76,18 @@ impl Table {
 
     // A later line of the same name counts in place of an earlier one.
     fn bind(&mut self, name: &[u8], text: &[u8]) -> Result<()> {
-        values::check(self.alloc, &self.known, text)?;
+        match text.first() {
+            Some(b'{') => {
+                tree_text(self.alloc, &read_tree(self.alloc, text)?)?;
+            }
+            _ => {
+                list_text(
+                    self.alloc,
+                    &self.known,
+                    &read_list(self.alloc, &self.known, text)?,
+                )?;
+            }
+        }
         let name = Vec::from_slice(self.alloc, name)?;
         let text = Vec::from_slice(self.alloc, text)?;
         self.bound.insert(0, Binding { name, text })?;
