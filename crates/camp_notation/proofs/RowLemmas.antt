@@ -4,8 +4,10 @@ use Rattle.std.proofs.lemmas.List.{take_more, take_all, length-take-le}
 use Rattle.std.proofs.lemmas.Grind.{flat_map-append}
 use Rattle.std.proofs.lemmas.Option.{slice_get-get_or, slice_get_within, get_or_from_slice_get, none-some}
 use Rattle.std.specs.List.{flat_map, slice_get}
-use Rattle.std.specs.FinMap.{entries, len, len-entries}
+use Rattle.std.specs.FinMap.{entries, values, len, len-entries}
 use Rattle.camp_base.specs.Trees.{Files}
+use Rattle.camp_ctx.specs.Contexts.{InContext, Contexts}
+use Rattle.camp_ctx.proofs.SetSteps.{count_of_members}
 use Rattle.camp_notation.specs.Words.{row, separator}
 
 -- one more item, behind those that are there
@@ -25,19 +27,35 @@ one_more text xs i x old now apart new so read separated is =
     is ∙ ap (λ t. t ++ text x) (separated ∙ ap (λ t. t ++ separator i) so) ∙ append_assoc (old ++ row text (take i xs)) (separator i) (text x)
     ∙ append_assoc old (row text (take i xs)) (separator i ++ text x) ∙ ap (λ t. old ++ t) (sym grown ∙ ap (row text) last)
 
+-- a list has an item at each place below its length
+no_item : {X : Type 0} (xs : List X) (i : ℕ) → i < length xs → slice_get xs i ≡ None → ⊥
+no_item [] i inside none = omega arith
+no_item (x ∷ xs) i inside none = none-some _ (sym none ∙ slice_get-get_or (x ∷ xs) i x inside)
+
+-- all items of a list
+all_items : {X : Type 0} (text : X → List ℕ) (xs : List X) (i : ℕ) (old now : List ℕ) → length xs ≤ i → now ≡ old ++ row text (take i xs) → now ≡ old ++ row text xs
+all_items text xs i old now over so = so ∙ ap (λ s. old ++ row text s) (take_all i xs over)
+
 -- a tree has a file at each place below its number of files
 pub no_file : (tree : Files) (n i : ℕ) → n ≡ len tree → i < n → slice_get (entries tree) i ≡ None → ⊥
 no_file tree n i is within none =
     let size = len-entries tree in
-    let inside : i < length (entries tree) = omega arith in
-    elim (entries tree) as (λ es. i < length es → slice_get es i ≡ None → ⊥) [
-      | [] ↦ λ h e. omega arith
-      | file ∷ files ↦ λ h e. none-some _ (sym e ∙ slice_get-get_or (file ∷ files) i file h)
-    ] inside none
+    no_item (entries tree) i (omega arith) none
 
 -- all files of a tree
 pub all_files : (text : List ℕ × List (List ℕ) → List ℕ) (tree : Files) (n i : ℕ) (old now : List ℕ) → n ≡ len tree → n ≤ i → now ≡ old ++ row text (take i (entries tree)) → now ≡ old ++ row text (entries tree)
 all_files text tree n i old now is past so =
     let size = len-entries tree in
-    let over : length (entries tree) ≤ i = omega arith in
-    so ∙ ap (λ es. old ++ row text es) (take_all i (entries tree) over)
+    all_items text (entries tree) i old now (omega arith) so
+
+-- a set has a member at each place below its number of members
+pub no_member : (xs : Contexts) (n i : ℕ) → n ≡ len xs → i < n → slice_get (values xs) i ≡ None → ⊥
+no_member xs n i is within none =
+    let size = count_of_members xs in
+    no_item (values xs) i (omega arith) none
+
+-- all members of a set
+pub all_members : (text : InContext → List ℕ) (xs : Contexts) (n i : ℕ) (old now : List ℕ) → n ≡ len xs → n ≤ i → now ≡ old ++ row text (take i (values xs)) → now ≡ old ++ row text (values xs)
+all_members text xs n i old now is past so =
+    let size = count_of_members xs in
+    all_items text (values xs) i old now (omega arith) so

@@ -1,3 +1,5 @@
+pub mod Catches
+pub mod Contexts
 pub mod Lists
 pub mod Patches
 pub mod Trees

@@ -29,6 +29,11 @@ impl<'a> Cursor<'a> {
         self.rest.len()
     }
 
+    /// Whether some bytes stand next.
+    pub(crate) fn stands_at(&self, bytes: &[u8]) -> bool {
+        self.rest.starts_with(bytes)
+    }
+
     /// Goes past some bytes, where they stand next.
     pub(crate) fn take(&mut self, bytes: &[u8]) -> bool {
         match self.rest.strip_prefix(bytes) {

@@ -1,7 +1,11 @@
-//! A notation for patches: the text of a labelled primitive, of a list and of a tree, written and
-//! read back.
+//! A notation for patches: the text of a labelled primitive, of a list, of a tree, of a contexted
+//! patch, of a set and of a catch, written and read back.
 #![tactic(auto)]
 
+mod catch_readings;
+mod catches;
+mod context_readings;
+mod contexts;
 mod cursors;
 mod faults;
 mod lists;
@@ -10,6 +14,10 @@ mod readings;
 mod trees;
 mod words;
 
+pub use catch_readings::{read_catch, read_catches};
+pub use catches::{catch_text, catches_text};
+pub use context_readings::{read_contexted, read_set};
+pub use contexts::{contexted_text, set_text};
 pub use faults::NotationError;
 pub use lists::{list_text, listing};
 pub use patches::{label_text, named_text};

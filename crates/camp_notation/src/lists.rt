@@ -36,7 +36,7 @@ fn append_lines_of(text: &mut String, known: &[Named], s: &[Named]) -> Result<()
     Ok(())
 }
 
-fn append_list(text: &mut String, known: &[Named], s: &[Named]) -> Result<(), AllocError>
+pub(crate) fn append_list(text: &mut String, known: &[Named], s: &[Named]) -> Result<(), AllocError>
     ensures { OnOk result (string_bytes text.new ≡ string_bytes text.old ++ list_text known.now s.now) }
 {
     text.push('[')?;

@@ -114,7 +114,11 @@ fn read_file(alloc: Global, cursor: &mut Cursor, tree: &mut Tree) -> Result<(), 
     Ok(tree.splice(&path, 1, &[], &lines)?)
 }
 
-fn read_items(alloc: Global, known: &[Named], cursor: &mut Cursor) -> Result<Seq, NotationError> {
+pub(crate) fn read_items(
+    alloc: Global,
+    known: &[Named],
+    cursor: &mut Cursor,
+) -> Result<Seq, NotationError> {
     let mut s = Seq::empty(alloc);
     cursor.expect(b"[", '[')?;
     if cursor.take(b"]") {
@@ -130,7 +134,11 @@ fn read_items(alloc: Global, known: &[Named], cursor: &mut Cursor) -> Result<Seq
     Err(NotationError::Expected(']'))
 }
 
-fn read_item(alloc: Global, known: &[Named], cursor: &mut Cursor) -> Result<Named, NotationError> {
+pub(crate) fn read_item(
+    alloc: Global,
+    known: &[Named],
+    cursor: &mut Cursor,
+) -> Result<Named, NotationError> {
     let label = read_label_there(cursor)?;
     if cursor.take(b" ") {
         Ok(labelled(label, read_change(alloc, cursor)?))

@@ -1,0 +1,81 @@
+use crate::stops::{Stop, expect, expect_again};
+use camp_catch::{Catch, commute, merge};
+use camp_share::Shared;
+use std::alloc::{AllocError, Global};
+
+/// Two catches of one state, and what each becomes behind the other.
+#[derive(Clone, Copy)]
+struct Merged<'a> {
+    left: &'a Catch,
+    right: &'a Catch,
+    behind_left: &'a Catch,
+    behind_right: &'a Catch,
+}
+
+/// Of four catches, two of one state, the second behind the first, and the first behind the second:
+/// copies the first two, merges them, and commutes the second back to before the first.
+pub(crate) fn make_calls(alloc: Global, catches: &[Shared<Catch>]) -> Result<(), Stop> {
+    match catches {
+        [left, right, behind_left, behind_right] => make_calls_of(
+            alloc,
+            Merged {
+                left,
+                right,
+                behind_left,
+                behind_right,
+            },
+        ),
+        _ => Err(Stop::Wrong("four catches")),
+    }
+}
+
+fn make_calls_of(alloc: Global, pair: Merged<'_>) -> Result<(), Stop> {
+    copy_catch(pair.left)?;
+    copy_catch(pair.right)?;
+    merge_pair(alloc, pair)?;
+    commute_pair(alloc, pair)
+}
+
+fn copy_catch(catch: &Catch) -> Result<(), Stop> {
+    match copies(catch) {
+        Ok(is_right) => expect(is_right, "Catch::try_clone"),
+        Err(_) => expect_again(copies(catch), "Catch::try_clone"),
+    }
+}
+
+fn copies(catch: &Catch) -> Result<bool, AllocError> {
+    let copy = catch.try_clone()?;
+    Ok(copy.is_same(catch))
+}
+
+fn merge_pair(alloc: Global, pair: Merged<'_>) -> Result<(), Stop> {
+    match merges(alloc, pair) {
+        Ok(is_right) => expect(is_right, "merge"),
+        Err(_) => expect_again(merges(alloc, pair), "merge"),
+    }
+}
+
+fn merges(alloc: Global, pair: Merged<'_>) -> Result<bool, AllocError> {
+    match merge(alloc, pair.left, pair.right)? {
+        Some((after, beside)) => {
+            Ok(after.is_same(pair.behind_left) && beside.is_same(pair.behind_right))
+        }
+        None => Ok(false),
+    }
+}
+
+fn commute_pair(alloc: Global, pair: Merged<'_>) -> Result<(), Stop> {
+    match commutes(alloc, pair) {
+        Ok(is_right) => expect(is_right, "commute"),
+        Err(_) => expect_again(commutes(alloc, pair), "commute"),
+    }
+}
+
+fn commutes(alloc: Global, pair: Merged<'_>) -> Result<bool, AllocError> {
+    match commute(alloc, pair.left, pair.behind_left)? {
+        Some((before, behind)) => {
+            Ok(before.is_same(pair.right) && behind.is_same(pair.behind_right))
+        }
+        None => Ok(false),
+    }
+}

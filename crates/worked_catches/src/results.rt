@@ -1,0 +1,82 @@
+use crate::arguments::Arguments;
+use crate::faults::Fault;
+use camp_catch::Catch;
+use camp_ctx::{Contexted, CtxSet};
+use camp_notation::{catch_text, catches_text, contexted_text, label_text, list_text, set_text};
+use camp_prim::{Key, Label};
+use camp_seq::Seq;
+use camp_share::Shared;
+use std::alloc::AllocError;
+
+pub(crate) fn none(a: &Arguments) -> Result<String, Fault> {
+    Ok(String::from_str(a.alloc(), "none")?)
+}
+
+pub(crate) fn yes_or_no(a: &Arguments, is_so: bool) -> Result<String, Fault> {
+    let text = if is_so { "yes" } else { "no" };
+    Ok(String::from_str(a.alloc(), text)?)
+}
+
+pub(crate) fn list(a: &Arguments, s: &Seq) -> Result<String, Fault> {
+    Ok(list_text(a.alloc(), a.known(), s)?)
+}
+
+pub(crate) fn contexted(a: &Arguments, x: &Contexted) -> Result<String, Fault> {
+    let text = contexted_text(a.alloc(), a.known(), x)?;
+    let read = a.contexted_of(text.as_bytes())?;
+    told(text, read.is_same(x))
+}
+
+pub(crate) fn set(a: &Arguments, xs: &CtxSet) -> Result<String, Fault> {
+    let text = set_text(a.alloc(), a.known(), xs)?;
+    let read = a.set_of(text.as_bytes())?;
+    told(text, read.is_same(xs))
+}
+
+pub(crate) fn catch(a: &Arguments, j: &Catch) -> Result<String, Fault> {
+    let text = catch_text(a.alloc(), a.known(), j)?;
+    let read = a.catch_of(text.as_bytes())?;
+    told(text, read.is_same(j))
+}
+
+pub(crate) fn catches(a: &Arguments, list: &[Shared<Catch>]) -> Result<String, Fault> {
+    let text = catches_text(a.alloc(), a.known(), list)?;
+    let read = a.catches_of(text.as_bytes())?;
+    told(text, are_same(list, &read))
+}
+
+fn are_same(list: &[Shared<Catch>], other: &[Shared<Catch>]) -> bool {
+    for (j, k) in list.iter().zip(other) {
+        if !j.is_same(k) {
+            return false;
+        }
+    }
+    list.len() == other.len()
+}
+
+// A text, where it is read back as the value that it was written for.
+fn told(text: String, is_read_back: bool) -> Result<String, Fault> {
+    if is_read_back {
+        Ok(text)
+    } else {
+        Err(Fault::ReadBack)
+    }
+}
+
+/// An absolute label: a label without a caret.
+pub(crate) fn key(a: &Arguments, key: Key) -> Result<String, AllocError> {
+    let label = Label {
+        name: key.name,
+        place: key.place,
+        inverse: false,
+    };
+    label_text(a.alloc(), label)
+}
+
+/// Two results of a call, one behind the other.
+pub(crate) fn pair(first: String, second: &str) -> Result<String, Fault> {
+    let mut text = first;
+    text.push_str(", ")?;
+    text.push_str(second)?;
+    Ok(text)
+}
