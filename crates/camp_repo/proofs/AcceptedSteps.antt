@@ -1,5 +1,5 @@
 -- What a call passes on its way to a next state.
-use Rattle.std.proofs.Common.{◌≡◌, ℕ, Bool, true, false, cond, List, [], ◌∷◌, Option, None, Some, Result, Ok, Err, refl}
+use Rattle.std.proofs.Common.{◌≡◌, ℕ, Bool, true, false, List, Option, None, Some, Result, Ok, Err, refl}
 use Rattle.std.specs.Option.{option_map_or}
 use Rattle.camp_base.specs.Trees.{Files}
 use Rattle.camp_catch.specs.declared.catches.Catch.{Catch}

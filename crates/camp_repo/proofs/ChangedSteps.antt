@@ -1,5 +1,5 @@
 -- What changes lead to, one at a time.
-use Rattle.std.proofs.Common.{◌≡◌, ◌<◌, ◌+◌, ℕ, Bool, true, false, cond, List, [], ◌∷◌, drop, length, get_or, Option, None, Some, Result, Ok, Err, refl, sym, ap, ◌∙◌}
+use Rattle.std.proofs.Common.{◌≡◌, ◌<◌, ◌+◌, ℕ, Bool, true, false, cond, List, drop, length, get_or, Option, None, Some, Result, Ok, Err, sym, ap, ◌∙◌}
 use Rattle.camp_base.specs.Trees.{Files}
 use Rattle.camp_prim.specs.Applied.{applied}
 use Rattle.camp_prim.specs.Effect.{Applies}

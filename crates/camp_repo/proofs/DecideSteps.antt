@@ -1,10 +1,9 @@
 -- What the functions that decide have found, and what the step is then.
-use Rattle.std.proofs.Common.{◌≡◌, ◌≤◌, ℕ, ◌+◌, Bool, true, false, cond, List, [], ◌∷◌, ◌++◌, Option, None, Some, MatchOption, IfOk, Result, Ok, Err, length, nat_le, is_some, bytes_eq, refl, sym, ap, ◌∙◌, subst}
-use Rattle.std.specs.Option.{option_map_or}
+use Rattle.std.proofs.Common.{◌≡◌, ℕ, ◌+◌, true, false, List, ◌++◌, Option, None, Some, MatchOption, IfOk, Result, Ok, Err, is_some, bytes_eq, refl, sym, ap, ◌∙◌}
 use Rattle.camp_base.specs.Trees.{Files}
 use Rattle.camp_prim.specs.declared.primitives.Primitive.{Primitive}
 use Rattle.camp_catch.specs.declared.catches.Catch.{Catch}
-use Rattle.camp_branch.specs.Branches.{LeadsTo, is_among, recorded}
+use Rattle.camp_branch.specs.Branches.{LeadsTo, recorded}
 use Rattle.camp_branch.specs.Conflicting.{AreConflicts}
 use Rattle.camp_branch.specs.Obliterating.{ObliterateGives}
 use Rattle.camp_branch.specs.Pulling.{Outcome, PullGives}
@@ -18,9 +17,9 @@ use Rattle.camp_call.specs.declared.replies.Refusal.{Refusal}
 use Rattle.camp_object.specs.declared.objects.Decided.TheVariants.{Next, Answer}
 use Rattle.camp_repo.specs.Laws.{Has}
 use Rattle.camp_repo.specs.Lawful.{IsLawful}
-use Rattle.camp_repo.specs.Outcomes.{conflicts_of, obliterated, pulled}
+use Rattle.camp_repo.specs.Outcomes.{obliterated, pulled}
 use Rattle.camp_repo.specs.Placing.{placed, settled}
-use Rattle.camp_repo.specs.States.{Contents, after, catches_of, stands, tree_of, with_catches}
+use Rattle.camp_repo.specs.States.{Contents, after, stands, with_catches}
 use Rattle.camp_repo.specs.Steps.{Decision, becomes, changed, first_lacked, is_empty, is_full_with, is_too_large, listed, record_leads, refused, step, step_obliterate, step_pull, step_record, wanted}
 use Rattle.camp_repo.proofs.ByMembers.{AreAlike, obliterate_alike, pull_alike}
 use Rattle.camp_repo.proofs.StateSteps.{settled_by_name}

@@ -1,5 +1,5 @@
 -- What each accepted call does.
-use Rattle.std.proofs.Common.{◌≡◌, ◌≢◌, ℕ, ◌+◌, Bool, true, false, not, ◌&&◌, List, [], ◌∷◌, ◌++◌, Option, None, Some, Ok, Err, filter, is_some, length, nat_le, bytes_eq, refl, sym, ap, ◌∙◌, subst}
+use Rattle.std.proofs.Common.{◌≡◌, ℕ, ◌+◌, Bool, true, false, not, ◌&&◌, List, [], ◌∷◌, ◌++◌, Option, None, Some, Ok, is_some, length, nat_le, bytes_eq, refl, sym, ap, ◌∙◌, subst}
 use Rattle.std.proofs.lemmas.Option.{same_Some}
 use Rattle.camp_base.specs.Trees.{Files}
 use Rattle.camp_prim.specs.declared.primitives.Primitive.{Primitive}
@@ -7,7 +7,7 @@ use Rattle.camp_catch.specs.declared.catches.Catch.{Catch}
 use Rattle.camp_branch.specs.Branches.{LeadsTo, has_patch, is_among, names_of, recorded}
 use Rattle.camp_branch.specs.Laws.{AreLacked}
 use Rattle.camp_branch.specs.Obliterating.{ObliterateGives}
-use Rattle.camp_branch.specs.Pulling.{Outcome, PullGives}
+use Rattle.camp_branch.specs.Pulling.{PullGives}
 use Rattle.camp_branch.proofs.ConflictsDetermined.{conflicts_are_determined}
 use Rattle.camp_branch.proofs.KeepLawful.{obliterates_keep_lawful, pulls_keep_lawful}
 use Rattle.camp_branch.proofs.NamesKept.{among_kept}
@@ -20,8 +20,8 @@ use Rattle.camp_repo.specs.Laws.{AcceptedCallsHaveEffect, AnswersChangeNothing, 
 use Rattle.camp_repo.specs.Objects.{state_behind}
 use Rattle.camp_repo.specs.Lawful.{IsLawful, IsLawfulBy, names_of_branches}
 use Rattle.camp_repo.specs.Outcomes.{obliterated, pulled}
-use Rattle.camp_repo.specs.States.{Branches, Contents, catches_of, stands, tree_of, with_catches}
-use Rattle.camp_repo.specs.Steps.{Decision, accepted, is_empty, is_full_with, is_too_large, listed, shown, step, wanted}
+use Rattle.camp_repo.specs.States.{Contents, catches_of, stands, tree_of, with_catches}
+use Rattle.camp_repo.specs.Steps.{accepted, is_empty, is_full_with, is_too_large, listed, shown, step, wanted}
 use Rattle.camp_repo.proofs.AcceptedSteps.{becomes_other, has_branch, has_tree, lacks_none, leads_on, next_is, passes}
 use Rattle.camp_repo.proofs.BranchSteps.{has_other, names_stay, of_one, others_stay}
 use Rattle.camp_repo.proofs.LawfulBranches.{lawful_alone}

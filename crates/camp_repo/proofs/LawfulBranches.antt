@@ -1,5 +1,5 @@
 -- Branches in which each name goes with its number of changes.
-use Rattle.std.proofs.Common.{◌≡◌, ◌≤◌, ℕ, Bool, true, false, not, ◌||◌, if◌then◌else◌, cond, List, [], ◌∷◌, ◌++◌, Ok, length, bytes_eq, refl, sym, ap, ◌∙◌}
+use Rattle.std.proofs.Common.{◌≡◌, ◌≤◌, ℕ, false, not, if◌then◌else◌, cond, List, [], ◌∷◌, ◌++◌, Ok, length, bytes_eq, refl, sym, ap, ◌∙◌}
 use Rattle.std.specs.FinMap.{empty}
 use Rattle.std.specs.List.{AllByRecursion}
 use Rattle.camp_base.specs.Trees.{Files}
@@ -11,7 +11,7 @@ use Rattle.camp_branch.specs.Obliterating.{ObliterateGives}
 use Rattle.camp_branch.specs.Pulling.{PullGives}
 use Rattle.camp_branch.proofs.BranchLabels.{left_patches, not_a_patch, pulled_patches, recorded_patches}
 use Rattle.camp_branch.proofs.BranchTrees.{left_tree, pulled_tree, recorded_tree}
-use Rattle.camp_branch.proofs.Names.{all_append, all_filter, name_itself, or_parts, other_way}
+use Rattle.camp_branch.proofs.Names.{all_append, all_filter, name_itself, or_parts}
 use Rattle.camp_repo.specs.Lawful.{IsLawfulBy}
 
 -- a branch that is lawful by some numbers is lawful

@@ -11,3 +11,4 @@ pub mod RecordSteps
 pub mod StateSteps
 pub mod StepsLawful
 pub mod TreeSteps
+pub mod WantingSteps

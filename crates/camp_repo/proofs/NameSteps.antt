@@ -1,5 +1,5 @@
 -- Sets of names, filled one name at a time, and names that a branch lacks.
-use Rattle.std.proofs.Common.{◌≡◌, ◌<◌, ◌≤◌, ◌+◌, ℕ, arith, suc, Bool, true, false, not, cond, ◌||◌, Option, None, Some, List, [], ◌∷◌, drop, length, map, is_some, get_or, bytes_eq, refl, sym, ap, ◌∙◌}
+use Rattle.std.proofs.Common.{◌≡◌, ◌<◌, ◌≤◌, ◌+◌, ℕ, arith, suc, Bool, true, false, not, cond, ◌||◌, None, Some, List, [], ◌∷◌, drop, length, map, is_some, get_or, bytes_eq, refl, sym, ap, ◌∙◌}
 use Rattle.std.specs.FinMap.{contains_key, empty, get-empty, insert, keys}
 use Rattle.std.specs.Ordering.{nat_cmp}
 use Rattle.std.specs.Cmp.Lexicographic.{slice_cmp}

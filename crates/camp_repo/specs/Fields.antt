@@ -1,8 +1,7 @@
 -- How a state lies in its fields.
-use Rattle.std.specs.Prelude.{◌≡◌, ℕ, zero, suc, List, [], ◌∷◌, length, zip}
-use Rattle.camp_catch.specs.declared.catches.Catch.{Catch}
+use Rattle.std.specs.Prelude.{◌≡◌, length, zip}
 use Rattle.camp_repo.specs.Lawful.{IsLawful}
-use Rattle.camp_repo.specs.States.{Branches, Contents}
+use Rattle.camp_repo.specs.States.{Contents}
 use Rattle.camp_repo.specs.declared.states.State.TheInside.{Inside}
 
 -- the names and the branches stand side by side, in order of creation

@@ -7,3 +7,4 @@ pub mod Outcomes
 pub mod Placing
 pub mod States
 pub mod Steps
+pub mod Wanting

@@ -1,11 +1,11 @@
 -- The repository is lawful as an object.
-use Rattle.std.proofs.Common.{◌≡◌, ℕ, ◌+◌, Bool, true, false, cond, List, ◌++◌, [], ◌∷◌, Option, None, Some, Result}
-use Rattle.std.proofs.Common.{Ok, Err, bytes_eq, is_some, length, nat_le, refl, sym, ap, ◌∙◌, subst}
+use Rattle.std.proofs.Common.{◌≡◌, ℕ, ◌+◌, Bool, true, false, List, ◌++◌, Option, None, Some, Result}
+use Rattle.std.proofs.Common.{Ok, Err, bytes_eq, is_some, length, nat_le, refl, subst}
 use Rattle.std.proofs.lemmas.Option.{same_Some}
 use Rattle.std.specs.Option.{option_map_or}
 use Rattle.camp_base.specs.Trees.{Files}
 use Rattle.camp_catch.specs.declared.catches.Catch.{Catch}
-use Rattle.camp_branch.specs.Branches.{names_of, recorded}
+use Rattle.camp_branch.specs.Branches.{recorded}
 use Rattle.camp_branch.specs.Pulling.{Outcome}
 use Rattle.camp_call.specs.Calls.{is_writing}
 use Rattle.camp_call.specs.declared.calls.Call.{Call}
@@ -18,7 +18,7 @@ use Rattle.camp_call.specs.declared.replies.Refusal.TheVariants.{NothingToDo, Pa
 use Rattle.camp_object.specs.Objects.{IsLawful}
 use Rattle.camp_object.specs.declared.objects.Decided.TheVariants.{Next, Answer}
 use Rattle.camp_repo.specs.Objects.{next_of, number_told, repository}
-use Rattle.camp_repo.specs.Outcomes.{conflicts_of, obliterated, pulled}
+use Rattle.camp_repo.specs.Outcomes.{obliterated, pulled}
 use Rattle.camp_repo.specs.States.{Contents, after, catches_of, stands, tree_of, with_catches}
 use Rattle.camp_repo.specs.Steps.{Decision, becomes, changed, first_lacked, is_empty, is_full_with, is_too_large}
 use Rattle.camp_repo.specs.Steps.{listed, record_leads, refused, refused_if, shown, step, wanted}

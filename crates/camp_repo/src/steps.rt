@@ -1,9 +1,10 @@
-ghost use Rattle.std.specs.Prelude.{◌≡◌, ◌-◌, ◌^◌, ◌<◌, List, Ok, length, IfOk};
+ghost use Rattle.std.specs.Prelude.{◌≡◌, ◌-◌, ◌^◌, ◌<◌, List, Ok, length, IfErr, IfOk};
 ghost use Rattle.camp_catch.specs.declared.catches.Catch.{Catch};
 ghost use Rattle.camp_repo.specs.Lawful.{IsLawful};
 ghost use Rattle.camp_repo.specs.Placing.{placed, settled};
 ghost use Rattle.camp_repo.specs.States.{after};
 ghost use Rattle.camp_repo.specs.Steps.{refused, refusal_of, step, step_branch, step_obliterate, step_pull, step_record};
+ghost use Rattle.camp_repo.specs.Wanting.{MayWant};
 
 use crate::name_lists::{first_lacked, first_lacked_of, is_full_with, set_of, wanted};
 use crate::sizes::{changed, is_too_large};
@@ -19,6 +20,7 @@ impl State {
     pub fn decide(&self, call: &Call) -> Result<Decided<State, Reply>, AllocError>
         requires { self.now.count < 2 ^ 64 - 1 }
         ensures exact { IfOk result (λ decided. decided ≡ step self.now call.now) }
+        ensures wanted { IfErr result (λ error. MayWant (step self.now call.now)) }
     {
         match call {
             Call::Branch { new, from } => self.copy_branch(new, from),
@@ -37,7 +39,8 @@ impl State {
 
     fn copy_branch(&self, new: &Name, from: &Name) -> Result<Decided<State, Reply>, AllocError>
         requires { self.now.count < 2 ^ 64 - 1 }
-        ensures { IfOk result (λ decided. decided ≡ step_branch self.now new.now from.now) }
+        ensures exact { IfOk result (λ decided. decided ≡ step_branch self.now new.now from.now) }
+        ensures wanted { IfErr result (λ error. MayWant (step_branch self.now new.now from.now)) }
     {
         let Some(branch) = self.branch(from) else {
             return Ok(refused(Refusal::NoBranch(*from)));
@@ -59,7 +62,8 @@ impl State {
         changes: &Changes,
     ) -> Result<Decided<State, Reply>, AllocError>
         requires { self.now.count < 2 ^ 64 - 1 }
-        ensures { IfOk result (λ decided. decided ≡ step_record self.now branch.now name.now changes.now) }
+        ensures exact { IfOk result (λ decided. decided ≡ step_record self.now branch.now name.now changes.now) }
+        ensures wanted { IfErr result (λ error. MayWant (step_record self.now branch.now name.now changes.now)) }
     {
         let Some((place, old)) = self.find(branch) else {
             return Ok(refused(Refusal::NoBranch(*branch)));
@@ -86,7 +90,8 @@ impl State {
         names: &Option<Names>,
     ) -> Result<Decided<State, Reply>, AllocError>
         requires { self.now.count < 2 ^ 64 - 1 }
-        ensures { IfOk result (λ decided. decided ≡ step_pull self.now from.now to.now names.now) }
+        ensures exact { IfOk result (λ decided. decided ≡ step_pull self.now from.now to.now names.now) }
+        ensures wanted { IfErr result (λ error. MayWant (step_pull self.now from.now to.now names.now)) }
     {
         let Some(theirs) = self.branch(from) else {
             return Ok(refused(Refusal::NoBranch(*from)));
@@ -113,7 +118,8 @@ impl State {
 
     fn obliterate(&self, branch: &Name, names: &Names) -> Result<Decided<State, Reply>, AllocError>
         requires { self.now.count < 2 ^ 64 - 1 }
-        ensures { IfOk result (λ decided. decided ≡ step_obliterate self.now branch.now names.now) }
+        ensures exact { IfOk result (λ decided. decided ≡ step_obliterate self.now branch.now names.now) }
+        ensures wanted { IfErr result (λ error. MayWant (step_obliterate self.now branch.now names.now)) }
     {
         let Some((place, old)) = self.find(branch) else {
             return Ok(refused(Refusal::NoBranch(*branch)));
@@ -151,7 +157,8 @@ impl State {
     }
 
     fn show_tree(&self, branch: &Name) -> Result<Decided<State, Reply>, AllocError>
-        ensures { IfOk result (λ decided. decided ≡ step self.now (Call.Tree branch.now)) }
+        ensures exact { IfOk result (λ decided. decided ≡ step self.now (Call.Tree branch.now)) }
+        ensures wanted { IfErr result (λ error. MayWant (step self.now (Call.Tree branch.now))) }
     {
         let Some(branch) = self.branch(branch) else {
             return Ok(refused(Refusal::NoBranch(*branch)));
@@ -161,7 +168,8 @@ impl State {
     }
 
     fn show_conflicts(&self, branch: &Name) -> Result<Decided<State, Reply>, AllocError>
-        ensures { IfOk result (λ decided. decided ≡ step self.now (Call.Conflicts branch.now)) }
+        ensures exact { IfOk result (λ decided. decided ≡ step self.now (Call.Conflicts branch.now)) }
+        ensures wanted { IfErr result (λ error. MayWant (step self.now (Call.Conflicts branch.now))) }
     {
         let Some(branch) = self.branch(branch) else {
             return Ok(refused(Refusal::NoBranch(*branch)));
@@ -171,7 +179,8 @@ impl State {
     }
 
     fn show_names(&self, branch: &Name) -> Result<Decided<State, Reply>, AllocError>
-        ensures { IfOk result (λ decided. decided ≡ step self.now (Call.Names branch.now)) }
+        ensures exact { IfOk result (λ decided. decided ≡ step self.now (Call.Names branch.now)) }
+        ensures wanted { IfErr result (λ error. MayWant (step self.now (Call.Names branch.now))) }
     {
         let Some(branch) = self.branch(branch) else {
             return Ok(refused(Refusal::NoBranch(*branch)));
