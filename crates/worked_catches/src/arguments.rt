@@ -1,6 +1,5 @@
 ghost use Rattle.std.specs.Prelude.{◌≤◌, length};
 
-use crate::faults::Fault;
 use camp_catch::Catch;
 use camp_ctx::{Contexted, CtxSet};
 use camp_notation::{
@@ -47,42 +46,42 @@ impl<'a> Arguments<'a> {
         self.texts.len()
     }
 
-    pub(crate) fn named(&self, at: usize) -> Result<Named, Fault> {
-        Ok(read_named(self.alloc, self.known, self.text(at)?)?)
+    pub(crate) fn named(&self, at: usize) -> Result<Named, NotationError> {
+        read_named(self.alloc, self.known, self.text(at))
     }
 
-    pub(crate) fn list(&self, at: usize) -> Result<Seq, Fault> {
-        Ok(read_list(self.alloc, self.known, self.text(at)?)?)
+    pub(crate) fn list(&self, at: usize) -> Result<Seq, NotationError> {
+        read_list(self.alloc, self.known, self.text(at))
     }
 
     /// A number of one digit.
-    pub(crate) fn number(&self, at: usize) -> Result<usize, Fault> {
-        match self.text(at)? {
+    pub(crate) fn number(&self, at: usize) -> Result<usize, NotationError> {
+        match self.text(at) {
             [digit @ b'0'..=b'9'] => Ok((*digit - b'0') as usize),
-            _ => Err(Fault::NoNumber),
+            _ => Err(NotationError::BadNumber),
         }
     }
 
     /// An absolute label, which is written as a label without a caret.
-    pub(crate) fn key(&self, at: usize) -> Result<Key, Fault> {
-        let label = read_label(self.alloc, self.text(at)?)?;
+    pub(crate) fn key(&self, at: usize) -> Result<Key, NotationError> {
+        let label = read_label(self.alloc, self.text(at))?;
         Ok(label.key())
     }
 
-    pub(crate) fn contexted(&self, at: usize) -> Result<Contexted, Fault> {
-        Ok(self.contexted_of(self.text(at)?)?)
+    pub(crate) fn contexted(&self, at: usize) -> Result<Contexted, NotationError> {
+        self.contexted_of(self.text(at))
     }
 
-    pub(crate) fn set(&self, at: usize) -> Result<CtxSet, Fault> {
-        Ok(self.set_of(self.text(at)?)?)
+    pub(crate) fn set(&self, at: usize) -> Result<CtxSet, NotationError> {
+        self.set_of(self.text(at))
     }
 
-    pub(crate) fn catch(&self, at: usize) -> Result<Catch, Fault> {
-        Ok(self.catch_of(self.text(at)?)?)
+    pub(crate) fn catch(&self, at: usize) -> Result<Catch, NotationError> {
+        self.catch_of(self.text(at))
     }
 
-    pub(crate) fn catches(&self, at: usize) -> Result<Vec<Shared<Catch>>, Fault> {
-        Ok(self.catches_of(self.text(at)?)?)
+    pub(crate) fn catches(&self, at: usize) -> Result<Vec<Shared<Catch>>, NotationError> {
+        self.catches_of(self.text(at))
     }
 
     /// The contexted patch of a text.
@@ -105,10 +104,11 @@ impl<'a> Arguments<'a> {
         read_catches(self.alloc, self.known, text)
     }
 
-    fn text(&self, at: usize) -> Result<&'a [u8], Fault> {
+    // An argument that is missing has an empty text.
+    fn text(&self, at: usize) -> &'a [u8] {
         match self.texts.get(at) {
-            Some(text) => Ok(*text),
-            None => Err(Fault::NoArgument),
+            Some(text) => *text,
+            None => &[],
         }
     }
 }

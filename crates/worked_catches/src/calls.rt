@@ -1,9 +1,9 @@
 use crate::arguments::Arguments;
-use crate::faults::Fault;
-use crate::{catches, contexts, lists, sets};
+use crate::{catches, contexts, lists, results, sets};
+use camp_notation::NotationError;
 
 /// The result of the call of this name.
-pub(crate) fn call(name: &[u8], a: &Arguments) -> Result<String, Fault> {
+pub(crate) fn call(name: &[u8], a: &Arguments) -> Result<String, NotationError> {
     match name {
         b"read_contexted" => contexts::read(a),
         b"key_of_contexted" => contexts::key(a),
@@ -14,7 +14,7 @@ pub(crate) fn call(name: &[u8], a: &Arguments) -> Result<String, Fault> {
     }
 }
 
-fn call_of_adding(name: &[u8], a: &Arguments) -> Result<String, Fault> {
+fn call_of_adding(name: &[u8], a: &Arguments) -> Result<String, NotationError> {
     match name {
         b"add_one" => contexts::add_one(a),
         b"add" => contexts::add(a),
@@ -26,7 +26,7 @@ fn call_of_adding(name: &[u8], a: &Arguments) -> Result<String, Fault> {
     }
 }
 
-fn call_of_sets(name: &[u8], a: &Arguments) -> Result<String, Fault> {
+fn call_of_sets(name: &[u8], a: &Arguments) -> Result<String, NotationError> {
     match name {
         b"read_set" => sets::read(a),
         b"are_same_sets" => sets::are_same(a),
@@ -36,7 +36,7 @@ fn call_of_sets(name: &[u8], a: &Arguments) -> Result<String, Fault> {
     }
 }
 
-fn call_of_members(name: &[u8], a: &Arguments) -> Result<String, Fault> {
+fn call_of_members(name: &[u8], a: &Arguments) -> Result<String, NotationError> {
     match name {
         b"member_count" => sets::member_count(a),
         b"member" => sets::member(a),
@@ -46,7 +46,7 @@ fn call_of_members(name: &[u8], a: &Arguments) -> Result<String, Fault> {
     }
 }
 
-fn call_of_catches(name: &[u8], a: &Arguments) -> Result<String, Fault> {
+fn call_of_catches(name: &[u8], a: &Arguments) -> Result<String, NotationError> {
     match name {
         b"read_catch" => catches::read(a),
         b"key_of_catch" => catches::key(a),
@@ -58,12 +58,12 @@ fn call_of_catches(name: &[u8], a: &Arguments) -> Result<String, Fault> {
     }
 }
 
-fn call_of_lists(name: &[u8], a: &Arguments) -> Result<String, Fault> {
+fn call_of_lists(name: &[u8], a: &Arguments) -> Result<String, NotationError> {
     match name {
         b"read_catches" => lists::read(a),
         b"arrange" => lists::arranged(a),
         b"align" => lists::aligned(a),
         b"merge_lists" => lists::merged(a),
-        _ => Err(Fault::NoCall),
+        _ => results::word(a, "no such call"),
     }
 }

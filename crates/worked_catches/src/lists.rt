@@ -1,18 +1,18 @@
 use crate::arguments::Arguments;
-use crate::faults::Fault;
 use crate::results;
 use camp_base::Name;
 use camp_catch::{Arranged, NoMerge, Stuck, align, arrange, merge_lists};
+use camp_notation::NotationError;
 use camp_prim::Key;
 use camp_share::SharedMap;
 use std::alloc::AllocError;
 
-pub(crate) fn read(a: &Arguments) -> Result<String, Fault> {
+pub(crate) fn read(a: &Arguments) -> Result<String, NotationError> {
     results::catches(a, &a.catches(0)?)
 }
 
 /// The names stand behind the list, each as a label.
-pub(crate) fn arranged(a: &Arguments) -> Result<String, Fault> {
+pub(crate) fn arranged(a: &Arguments) -> Result<String, NotationError> {
     let list = a.catches(0)?;
     let names = names(a)?;
     match arrange(a.alloc(), &list, &names)? {
@@ -21,7 +21,7 @@ pub(crate) fn arranged(a: &Arguments) -> Result<String, Fault> {
     }
 }
 
-fn both(a: &Arguments, arranged: &Arranged) -> Result<String, Fault> {
+fn both(a: &Arguments, arranged: &Arranged) -> Result<String, NotationError> {
     let first = results::catches(a, &arranged.first)?;
     let rest = results::catches(a, &arranged.rest)?;
     results::pair(first, &rest)
@@ -34,7 +34,7 @@ fn stuck_on(a: &Arguments, stuck: Stuck) -> Result<String, AllocError> {
 }
 
 /// The labels stand behind the list.
-pub(crate) fn aligned(a: &Arguments) -> Result<String, Fault> {
+pub(crate) fn aligned(a: &Arguments) -> Result<String, NotationError> {
     let list = a.catches(0)?;
     let order = keys(a)?;
     match align(a.alloc(), &list, &order)? {
@@ -48,7 +48,7 @@ fn stuck(a: &Arguments, key: Key) -> Result<String, AllocError> {
     format!(in a.alloc(); "stuck {key}")
 }
 
-pub(crate) fn merged(a: &Arguments) -> Result<String, Fault> {
+pub(crate) fn merged(a: &Arguments) -> Result<String, NotationError> {
     let (ours, theirs) = (a.catches(0)?, a.catches(1)?);
     match merge_lists(a.alloc(), &ours, &theirs)? {
         Ok(merged) => results::catches(a, &merged),
@@ -62,7 +62,7 @@ fn no_merge(a: &Arguments, pair: NoMerge) -> Result<String, AllocError> {
     format!(in a.alloc(); "no merge of {left} and {right}")
 }
 
-fn names(a: &Arguments) -> Result<SharedMap<Name, ()>, Fault> {
+fn names(a: &Arguments) -> Result<SharedMap<Name, ()>, NotationError> {
     let mut names = SharedMap::new(a.alloc());
     for at in 1..a.len() {
         names = names.inserted(a.key(at)?.name, ())?;
@@ -70,7 +70,7 @@ fn names(a: &Arguments) -> Result<SharedMap<Name, ()>, Fault> {
     Ok(names)
 }
 
-fn keys(a: &Arguments) -> Result<Vec<Key>, Fault> {
+fn keys(a: &Arguments) -> Result<Vec<Key>, NotationError> {
     let mut keys = Vec::new(a.alloc());
     for at in 1..a.len() {
         keys.push(a.key(at)?)?;

@@ -15,7 +15,6 @@ mod arguments;
 mod calls;
 mod catches;
 mod contexts;
-mod faults;
 mod lists;
 mod results;
 mod sets;

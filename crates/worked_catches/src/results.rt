@@ -1,45 +1,49 @@
 use crate::arguments::Arguments;
-use crate::faults::Fault;
 use camp_catch::Catch;
 use camp_ctx::{Contexted, CtxSet};
-use camp_notation::{catch_text, catches_text, contexted_text, label_text, list_text, set_text};
+use camp_notation::{
+    NotationError, catch_text, catches_text, contexted_text, label_text, list_text, set_text,
+};
 use camp_prim::{Key, Label};
 use camp_seq::Seq;
 use camp_share::Shared;
 use std::alloc::AllocError;
 
-pub(crate) fn none(a: &Arguments) -> Result<String, Fault> {
-    Ok(String::from_str(a.alloc(), "none")?)
+pub(crate) fn none(a: &Arguments) -> Result<String, NotationError> {
+    word(a, "none")
 }
 
-pub(crate) fn yes_or_no(a: &Arguments, is_so: bool) -> Result<String, Fault> {
-    let text = if is_so { "yes" } else { "no" };
+pub(crate) fn word(a: &Arguments, text: &str) -> Result<String, NotationError> {
     Ok(String::from_str(a.alloc(), text)?)
 }
 
-pub(crate) fn list(a: &Arguments, s: &Seq) -> Result<String, Fault> {
+pub(crate) fn yes_or_no(a: &Arguments, is_so: bool) -> Result<String, NotationError> {
+    word(a, if is_so { "yes" } else { "no" })
+}
+
+pub(crate) fn list(a: &Arguments, s: &Seq) -> Result<String, NotationError> {
     Ok(list_text(a.alloc(), a.known(), s)?)
 }
 
-pub(crate) fn contexted(a: &Arguments, x: &Contexted) -> Result<String, Fault> {
+pub(crate) fn contexted(a: &Arguments, x: &Contexted) -> Result<String, NotationError> {
     let text = contexted_text(a.alloc(), a.known(), x)?;
     let read = a.contexted_of(text.as_bytes())?;
     told(text, read.is_same(x))
 }
 
-pub(crate) fn set(a: &Arguments, xs: &CtxSet) -> Result<String, Fault> {
+pub(crate) fn set(a: &Arguments, xs: &CtxSet) -> Result<String, NotationError> {
     let text = set_text(a.alloc(), a.known(), xs)?;
     let read = a.set_of(text.as_bytes())?;
     told(text, read.is_same(xs))
 }
 
-pub(crate) fn catch(a: &Arguments, j: &Catch) -> Result<String, Fault> {
+pub(crate) fn catch(a: &Arguments, j: &Catch) -> Result<String, NotationError> {
     let text = catch_text(a.alloc(), a.known(), j)?;
     let read = a.catch_of(text.as_bytes())?;
     told(text, read.is_same(j))
 }
 
-pub(crate) fn catches(a: &Arguments, list: &[Shared<Catch>]) -> Result<String, Fault> {
+pub(crate) fn catches(a: &Arguments, list: &[Shared<Catch>]) -> Result<String, NotationError> {
     let text = catches_text(a.alloc(), a.known(), list)?;
     let read = a.catches_of(text.as_bytes())?;
     told(text, are_same(list, &read))
@@ -54,13 +58,13 @@ fn are_same(list: &[Shared<Catch>], other: &[Shared<Catch>]) -> bool {
     list.len() == other.len()
 }
 
-// A text, where it is read back as the value that it was written for.
-fn told(text: String, is_read_back: bool) -> Result<String, Fault> {
-    if is_read_back {
-        Ok(text)
-    } else {
-        Err(Fault::ReadBack)
+// A text, and whether it is read back as the value that it was written for.
+fn told(text: String, is_read_back: bool) -> Result<String, NotationError> {
+    let mut text = text;
+    if !is_read_back {
+        text.push_str(", which is read back as another")?;
     }
+    Ok(text)
 }
 
 /// An absolute label: a label without a caret.
@@ -74,7 +78,7 @@ pub(crate) fn key(a: &Arguments, key: Key) -> Result<String, AllocError> {
 }
 
 /// Two results of a call, one behind the other.
-pub(crate) fn pair(first: String, second: &str) -> Result<String, Fault> {
+pub(crate) fn pair(first: String, second: &str) -> Result<String, NotationError> {
     let mut text = first;
     text.push_str(", ")?;
     text.push_str(second)?;

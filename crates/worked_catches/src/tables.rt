@@ -1,10 +1,9 @@
 use crate::arguments::Arguments;
 use crate::calls::call;
-use crate::faults::Fault;
 use bstr::ByteSlice;
-use camp_notation::read_named;
+use camp_notation::{NotationError, read_named};
 use camp_prim::Named;
-use std::alloc::Global;
+use std::alloc::{AllocFailed, Global};
 
 /// What the lines of a table have told so far: the primitives that have a line of their own, and
 /// their inverses.
@@ -23,7 +22,7 @@ impl Table {
     }
 
     /// The result of a line, where it is a call.
-    pub(crate) fn answer(&mut self, line: &[u8]) -> Result<Option<String>, Fault> {
+    pub(crate) fn answer(&mut self, line: &[u8]) -> Result<Option<String>, NotationError> {
         if line.is_empty() || line.starts_with(b"#") {
             return Ok(None);
         }
@@ -33,25 +32,32 @@ impl Table {
         }
     }
 
-    fn result_of(&self, name: &[u8], rest: &[u8]) -> Result<String, Fault> {
+    fn result_of(&self, name: &[u8], rest: &[u8]) -> Result<String, NotationError> {
         let text = rest.strip_suffix(b")").unwrap_or(rest);
         let arguments = Arguments::new(self.alloc, &self.known, text)?;
         call(name, &arguments)
     }
 
-    fn define(&mut self, line: &[u8]) -> Result<Option<String>, Fault> {
+    fn define(&mut self, line: &[u8]) -> Result<Option<String>, NotationError> {
         let p = read_named(self.alloc, &[], line)?;
         self.learn(p)?;
         Ok(None)
     }
 
-    // A later primitive of the same name and place counts in place of an earlier one.
-    fn learn(&mut self, p: Named) -> Result<(), Fault> {
+    fn learn(&mut self, p: Named) -> Result<(), NotationError> {
         let inverse = p.try_clone()?.invert();
-        self.known
-            .retain(|k| k.name != p.name || k.place != p.place);
-        self.known.push(p)?;
-        self.known.push(inverse)?;
-        Ok(())
+        self.put(p)?;
+        Ok(self.put(inverse)?)
+    }
+
+    // A later primitive of the same label counts in place of an earlier one.
+    fn put(&mut self, p: Named) -> Result<(), AllocFailed<Named>> {
+        for known in self.known.iter_mut() {
+            if known.label() == p.label() {
+                *known = p;
+                return Ok(());
+            }
+        }
+        self.known.push(p)
     }
 }
