@@ -6,6 +6,7 @@
 //! | `# ..`, or nothing | a comment |
 //! | `book` | a new book |
 //! | `SEAT CALL` | a call of a seat |
+//! | `SEAT branches COUNT` | so many copies of `main`; the last reply is told |
 //! | `history` | the accepted calls of the book so far, each with its seat |
 #![tactic(auto)]
 
@@ -15,6 +16,7 @@ mod replies;
 
 use anyhow::{Result, bail};
 use bstr::ByteSlice;
+use camp_base::Name;
 use camp_repo::{Book, Call, State};
 use std::alloc::{AllocError, Global};
 use std::io::Read;
@@ -52,6 +54,9 @@ fn play(rt: &impl Print, alloc: Global, book: &mut Book<State>, line: &[u8]) -> 
             Ok(())
         }
         [word] if *word == b"history".as_slice() => replies::print_history(rt, book.history()),
+        [seat, kind, count] if *kind == b"branches".as_slice() => {
+            copy_main(rt, alloc, book, number(seat)?, number(count)?)
+        }
         [seat, kind, words @ ..] => {
             let seat = number(seat)?;
             let call = calls::read_call(alloc, kind, words)?;
@@ -64,6 +69,30 @@ fn play(rt: &impl Print, alloc: Global, book: &mut Book<State>, line: &[u8]) -> 
 fn ask(rt: &impl Print, book: &mut Book<State>, seat: u32, call: &Call) -> Result<()> {
     let reply = book.ask(seat, call)?;
     replies::print_reply(rt, &reply)
+}
+
+/// Asks for so many copies of `main`, called `b1`, `b2` and so on, and prints the last reply.
+fn copy_main(
+    rt: &impl Print,
+    alloc: Global,
+    book: &mut Book<State>,
+    seat: u32,
+    count: u32,
+) -> Result<()> {
+    let from = Name::new(b"main")?;
+    for number in 1..=count {
+        let new = numbered(alloc, number)?;
+        let reply = book.ask(seat, &Call::Branch { new, from })?;
+        if number == count {
+            replies::print_reply(rt, &reply)?;
+        }
+    }
+    Ok(())
+}
+
+fn numbered(alloc: Global, number: u32) -> Result<Name> {
+    let text = format!(in alloc; "b{number}")?;
+    Ok(Name::new(text.as_bytes())?)
 }
 
 fn words_of(alloc: Global, line: &[u8]) -> Result<Vec<&[u8]>, AllocError> {
