@@ -31,6 +31,16 @@ fn read_record(alloc: Global, words: &[&[u8]]) -> Result<Call> {
     };
     let branch = Name::new(branch)?;
     let name = Name::new(name)?;
+    record_of(alloc, branch, name, changes)
+}
+
+/// The record of a patch, whose changes these words tell.
+pub(crate) fn record_of(
+    alloc: Global,
+    branch: Name,
+    name: Name,
+    changes: &[&[u8]],
+) -> Result<Call> {
     match Changes::new(read_changes(alloc, changes)?) {
         Some(changes) => Ok(Call::Record {
             branch,

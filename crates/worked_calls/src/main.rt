@@ -6,17 +6,17 @@
 //! | `# ..`, or nothing | a comment |
 //! | `book` | a new book |
 //! | `SEAT CALL` | a call of a seat |
-//! | `SEAT branches COUNT` | so many copies of `main`; the last reply is told |
+//! | `SEAT branches COUNT`, `SEAT records BRANCH COUNT CHANGE` | so many calls; the last reply is told |
 //! | `history` | the accepted calls of the book so far, each with its seat |
 #![tactic(auto)]
 
 mod calls;
 mod changes;
 mod replies;
+mod rows;
 
 use anyhow::{Result, bail};
 use bstr::ByteSlice;
-use camp_base::Name;
 use camp_repo::{Book, Call, State};
 use std::alloc::{AllocError, Global};
 use std::io::Read;
@@ -54,8 +54,11 @@ fn play(rt: &impl Print, alloc: Global, book: &mut Book<State>, line: &[u8]) -> 
             Ok(())
         }
         [word] if *word == b"history".as_slice() => replies::print_history(rt, book.history()),
-        [seat, kind, count] if *kind == b"branches".as_slice() => {
-            copy_main(rt, alloc, book, number(seat)?, number(count)?)
+        [seat, kind, words @ ..] if *kind == b"branches".as_slice() => {
+            rows::copy_main(rt, alloc, book, number(seat)?, words)
+        }
+        [seat, kind, words @ ..] if *kind == b"records".as_slice() => {
+            rows::record_each(rt, alloc, book, number(seat)?, words)
         }
         [seat, kind, words @ ..] => {
             let seat = number(seat)?;
@@ -69,30 +72,6 @@ fn play(rt: &impl Print, alloc: Global, book: &mut Book<State>, line: &[u8]) -> 
 fn ask(rt: &impl Print, book: &mut Book<State>, seat: u32, call: &Call) -> Result<()> {
     let reply = book.ask(seat, call)?;
     replies::print_reply(rt, &reply)
-}
-
-/// Asks for so many copies of `main`, called `b1`, `b2` and so on, and prints the last reply.
-fn copy_main(
-    rt: &impl Print,
-    alloc: Global,
-    book: &mut Book<State>,
-    seat: u32,
-    count: u32,
-) -> Result<()> {
-    let from = Name::new(b"main")?;
-    for number in 1..=count {
-        let new = numbered(alloc, number)?;
-        let reply = book.ask(seat, &Call::Branch { new, from })?;
-        if number == count {
-            replies::print_reply(rt, &reply)?;
-        }
-    }
-    Ok(())
-}
-
-fn numbered(alloc: Global, number: u32) -> Result<Name> {
-    let text = format!(in alloc; "b{number}")?;
-    Ok(Name::new(text.as_bytes())?)
 }
 
 fn words_of(alloc: Global, line: &[u8]) -> Result<Vec<&[u8]>, AllocError> {
