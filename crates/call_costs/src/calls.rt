@@ -32,16 +32,22 @@ pub(crate) fn taken_out(alloc: Global, at: u32) -> Result<Vec<Call>> {
     Ok(calls)
 }
 
-/// Records of a file, and of its lines.
-pub(crate) fn opening(alloc: Global, lines: u32) -> Result<Vec<Call>> {
+/// A record of an added file in a branch.
+pub(crate) fn added_file(alloc: Global, branch: &str) -> Result<Vec<Call>> {
     let mut calls = Vec::new(alloc);
     let add = Primitive::Add(Path::new(alloc, b"f")?);
-    calls.push(record(alloc, "main", Name::new(b"file")?, add)?)?;
+    calls.push(record(alloc, branch, Name::new(b"file")?, add)?)?;
+    Ok(calls)
+}
+
+/// Records of an added file, and of its lines.
+pub(crate) fn opening(alloc: Global, lines: u32) -> Result<Vec<Call>> {
+    let mut calls = added_file(alloc, "main")?;
     if lines > 0 {
         let fill = hunk(
             alloc,
             1,
-            repeated(alloc, 0, "old")?,
+            repeated(alloc, 0, "")?,
             repeated(alloc, lines, "old")?,
         )?;
         calls.push(record(alloc, "main", Name::new(b"lines")?, fill)?)?;

@@ -4,7 +4,9 @@
 //! `call_costs chain N` pulls N edits of one line, each of what the one before has left, and an edit
 //! of that line in another branch, both ways. `call_costs lists N` pulls two branches of N patches,
 //! of which each conflicts with one of the other branch, both ways. `call_costs obliterate N` makes N
-//! records of added files and takes out the last and the first. Without words it measures nothing.
+//! records of added files and takes out the last and the first. `call_costs common N` pulls one patch
+//! between two branches that have N others in common, and all N into a branch without a patch.
+//! Without words it measures nothing.
 #![tactic(auto)]
 
 ghost use Rattle.std.specs.Prelude.{◌≤◌};
@@ -38,7 +40,8 @@ fn main(rt: HostRuntime) -> Result<()> {
         "chain" => chain(&rt, &mut book, count),
         "lists" => lists(&rt, &mut book, count),
         "obliterate" => obliterate(&rt, &mut book, count),
-        _ => bail!("records, edits, branches, chain, lists or obliterate"),
+        "common" => common(&rt, &mut book, count),
+        _ => bail!("records, edits, branches, chain, lists, obliterate or common"),
     }
 }
 
@@ -116,6 +119,28 @@ fn obliterate(rt: &HostRuntime, book: &mut Book<State>, count: u32) -> Result<()
     make(book, &calls::added_files(alloc, count)?)?;
     tell(rt, book, "the last", &calls::taken_out(alloc, count - 1)?)?;
     tell(rt, book, "the first", &calls::taken_out(alloc, 0)?)
+}
+
+fn common(rt: &HostRuntime, book: &mut Book<State>, count: u32) -> Result<()>
+    requires { count ≤ 4_000 }
+{
+    let alloc = rt.alloc();
+    make(book, &calls::copies(alloc, "main", "empty")?)?;
+    make(book, &calls::added_files(alloc, count)?)?;
+    make(book, &calls::copies(alloc, "main", "other")?)?;
+    make(book, &calls::added_file(alloc, "other")?)?;
+    tell(
+        rt,
+        book,
+        "one patch",
+        &calls::pulls(alloc, "other", "main")?,
+    )?;
+    tell(
+        rt,
+        book,
+        "all patches",
+        &calls::pulls(alloc, "other", "empty")?,
+    )
 }
 
 /// Makes calls, and tells how long they take together.
