@@ -7,8 +7,8 @@ ghost use Rattle.camp_run.specs.Runs.{Runs, ReadsAll, IsOutput, HasNoOutput};
 ghost use Rattle.camp_run.specs.declared.faults.RunFault.TheVariants as fault;
 
 use crate::RunFault;
-use camp_trunk::{Call, Decided, Reply, State};
 use camp_script::{Script, ScriptFault, append_reply, read_script, write_text};
+use camp_trunk::{Call, Decided, Reply, State};
 use std::alloc::{AllocError, Global};
 use std::io::{ErrorKind, Read, Write};
 

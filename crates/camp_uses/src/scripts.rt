@@ -3,8 +3,8 @@ ghost use Rattle.std.specs.Prelude.{◌≡◌, ◌++◌, ◌∷◌, [], IfOk, If
 ghost use Rattle.std.specs.Fmt.{decimal};
 ghost use Rattle.camp_script.specs.declared.faults.ScriptFault.TheVariants as fault;
 
-use camp_trunk::Reply;
 use camp_script::{Script, ScriptFault, append_reply, read_script};
+use camp_trunk::Reply;
 use std::alloc::{AllocError, Global};
 
 /// The text of the reply to an accepted call.

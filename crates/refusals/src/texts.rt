@@ -1,8 +1,8 @@
 use crate::fixtures;
 use crate::stops::{Stop, expect, value_of};
 use camp_base::Name;
-use camp_trunk::{Call, Refusal, Reply};
 use camp_script::{FaultKind, LineFault, ScriptFault, append_reply, read_script, write_reply};
+use camp_trunk::{Call, Refusal, Reply};
 use std::alloc::Global;
 
 const SCRIPT: &[u8] = b"record main a add f\nrecord main b edit f 1\n+one\nend\ntree main\n";
