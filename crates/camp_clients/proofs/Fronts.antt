@@ -12,7 +12,7 @@ use Rattle.camp_clients.specs.Positions.{own_at, where_done, done_at}
 use Rattle.camp_clients.specs.Runs.{OneByOne}
 use Rattle.camp_clients.specs.Sections.{Section}
 use Rattle.camp_clients.proofs.Asking.{own_at_asks, own_counts, goes_on}
-use Rattle.camp_clients.proofs.Histories.{front_refl, front_trans, own_rest}
+use Rattle.camp_clients.proofs.Histories.{front_push, front_refl, front_trans, own_rest}
 use Rattle.camp_clients.proofs.Positions.{where_done-append}
 
 module _ {Front Call Answer : Type 0} (Says : Front → Call → Answer → Front → Type 0) where
@@ -37,15 +37,35 @@ module _ {Front Call Answer : Type 0} (Says : Front → Call → Answer → Fron
   section_map Tells each first (c ∷ calls) (a ∷ answers) last s =
       (s.0, each first c a s.0 s.1, section_map Tells each s.0 calls answers last s.2)
 
+-- where each answer's front begins with the one before it
+module _ {Entry Call Answer : Type 0} (Says : List Entry → Call → Answer → List Entry → Type 0)
+    (grows : (before : List Entry) (call : Call) (answer : Answer) (front : List Entry) → Says before call answer front → IsFront before front) where
+  -- a section's last front begins with its first
+  pub section_front : (first : List Entry) (calls : List Call) (answers : List Answer) (last : List Entry)
+      → Section Says first calls answers last → IsFront first last
+  section_front first [] [] last s = subst (IsFront first) s (front_refl first)
+  section_front first [] (a ∷ answers) last s = absurd s
+  section_front first (c ∷ calls) [] last s = absurd s
+  section_front first (c ∷ calls) (a ∷ answers) last s =
+      front_trans first s.0 last (grows first c a s.0 s.1) (section_front s.0 calls answers last s.2)
+
+  -- what each answer says, in other words that hold at the fronts of a history
+  pub section_within : (Tells : List Entry → Call → Answer → List Entry → Type 0) (history : List Entry)
+      → ((before : List Entry) (call : Call) (answer : Answer) (front : List Entry) → IsFront front history → Says before call answer front → Tells before call answer front)
+      → (first : List Entry) (calls : List Call) (answers : List Answer) (last : List Entry) → IsFront last history
+      → Section Says first calls answers last → Section Tells first calls answers last
+  section_within Tells history each first [] [] last within s = s
+  section_within Tells history each first [] (a ∷ answers) last within s = s
+  section_within Tells history each first (c ∷ calls) [] last within s = s
+  section_within Tells history each first (c ∷ calls) (a ∷ answers) last within s =
+      let next = front_trans s.0 last history (section_front s.0 calls answers last s.2) within in
+      (s.0, each first c a s.0 next s.1, section_within Tells history each s.0 calls answers last within s.2)
+
 module _ {State Call Reply : Type 0} (object : Sequential State Call Reply) (caller : Caller) where
   -- what is seen only grows
   pub section_grows : (first : List (ℕ × Call)) (calls : List Call) (answers : List (Result Reply Fault)) (last : List (ℕ × Call))
       → Section (Asks object caller) first calls answers last → IsFront first last
-  section_grows first [] [] last s = subst (IsFront first) s (front_refl first)
-  section_grows first [] (a ∷ answers) last s = absurd s
-  section_grows first (c ∷ calls) [] last s = absurd s
-  section_grows first (c ∷ calls) (a ∷ answers) last s =
-      front_trans first s.0 last s.1.asks.grows (section_grows s.0 calls answers last s.2)
+  section_grows = section_front (Asks object caller) (λ before call answer front asks. asks.asks.grows)
 
   -- what is seen stays legal
   pub section_legal : (first : List (ℕ × Call)) (calls : List Call) (answers : List (Result Reply Fault)) (last : List (ℕ × Call))
@@ -117,6 +137,33 @@ module _ {State Call Reply : Type 0} (object : Sequential State Call Reply) wher
   says_alone seat before call (Err Memory) front asks = asks.goes_on
   says_alone seat before call (Err (Busy lost)) front asks = absurd (cc asks.asks.says.not_alone)
   says_alone seat before call (Err Full) front asks = asks.goes_on
+
+-- what an answer says has a front that begins with the one before
+module _ {State Call Reply : Type 0} (object : Sequential State Call Reply) (seat tries : ℕ) where
+  reply_grows : (before : List (ℕ × Call)) (call : Call) (at : Option ℕ) (reply : Reply) (front : List (ℕ × Call))
+      → MatchOption at (IsFront before front × IsAnswered object front call reply) (λ at. IsDone seat before call at front)
+      → IsFront before front
+  reply_grows before call None reply front says = says.0
+  reply_grows before call (Some at) reply front says = subst (IsFront before) says.ends (front_push before says.stood (seat, call) says.since)
+
+  pub says_grows : (before : List (ℕ × Call)) (call : Call) (answer : Result Reply Fault) (front : List (ℕ × Call))
+      → Says object seat tries before call answer front → IsFront before front
+  says_grows before call (Ok reply) front says = reply_grows before call (object.done_at reply) reply front says
+  says_grows before call (Err Memory) front says = absurd says
+  says_grows before call (Err (Busy lost)) front says = record { rest = says.others; makes = says.makes }
+  says_grows before call (Err Full) front says = absurd says
+
+module _ {State Call Reply : Type 0} (object : Sequential State Call Reply) (seat : ℕ) where
+  alone_reply_grows : (before : List (ℕ × Call)) (call : Call) (at : Option ℕ) (reply : Reply) (front : List (ℕ × Call))
+      → MatchOption at ((front ≡ before) × IsAnswered object before call reply) (λ at. (front ≡ before ++ (seat, call) ∷ []) × (at ≡ length front))
+      → IsFront before front
+  alone_reply_grows before call None reply front says = subst (IsFront before) (sym says.0) (front_refl before)
+  alone_reply_grows before call (Some at) reply front says = record { rest = (seat, call) ∷ []; makes = sym says.0 }
+
+  pub alone_grows : (before : List (ℕ × Call)) (call : Call) (answer : Result Reply Fault) (front : List (ℕ × Call))
+      → SaysAlone object seat before call answer front → IsFront before front
+  alone_grows before call (Ok reply) front says = alone_reply_grows before call (object.done_at reply) reply front says
+  alone_grows before call (Err fault) front says = absurd says
 
 -- one more call of a section, at place i
 module _ {State Call Reply : Type 0} (object : Sequential State Call Reply) (lawful : IsLawful object) (caller : Caller)

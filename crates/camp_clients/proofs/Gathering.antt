@@ -56,16 +56,19 @@ gathers_push first made all one own so_far is = record {
   brought = zip_push (λ one own. one ≡ Ok own) made so_far.others one own so_far.brought is;
 }
 
--- what holds of the first answers, and of each that a thread brought, holds of all
+-- the first answers come first, and what holds of each that a thread brought holds of all others
 module _ {X Z Fault : Type 0} (first : Vec X Z) (made : List (Result (Vec X Z) Fault)) (all : List (Vec X Z)) (gathers : Gathers (first ∷ []) made all) where
   pub gathered_length : length all ≡ length made + 1
   gathered_length = ap length gathers.begins ∙ omega (arith, zip_length (λ one own. one ≡ Ok own) made gathers.others gathers.brought)
 
-  pub gathered : (P : ℕ → List X → Type 0) → P 0 first.items
+  pub gathered_first : section_of (lists_of all) 0 ≡ first.items
+  gathered_first = rw gathers.begins refl
+
+  pub gathered : (P : ℕ → List X → Type 0)
       → ((k : ℕ) (d : Result (Vec X Z) Fault) → k < length made → IfOk (get_or made k d) (λ own. P (k + 1) own.items))
-      → (seat : ℕ) → seat < length made + 1 → P seat (section_of (lists_of all) seat)
-  gathered P here each zero below = rw gathers.begins here
-  gathered P here each (suc k) below =
+      → (seat : ℕ) → 0 < seat → seat < length made + 1 → P seat (section_of (lists_of all) seat)
+  gathered P each zero some below = absurd (omega arith)
+  gathered P each (suc k) some below =
       let in_made : k < length made = omega arith in
       let in_others : k < length gathers.others = omega (arith, zip_length (λ one own. one ≡ Ok own) made gathers.others gathers.brought) in
       let own = get_or gathers.others k first in

@@ -4,6 +4,8 @@ pub mod Fronts
 pub mod Gathering
 pub mod Histories
 pub mod Meeting
+pub mod OneSection
 pub mod Opening
 pub mod Positions
+pub mod Single
 pub mod Vectors

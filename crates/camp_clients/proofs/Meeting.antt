@@ -1,19 +1,18 @@
 -- Lemmas on clients that meet the opening's seat, before and after their threads.
-use Rattle.std.proofs.Common.{◌≡◌, ℕ, ◌+◌, ◌<◌, ◌≤◌, suc, zero, IfOk, Bool, true, false, List, [], ◌∷◌, ◌++◌, length, take, get_or, map, Option, None, Some, MatchOption, append_assoc, Result, Ok, Err, refl, sym, ◌∙◌, ap, subst, add-one, arith}
-use Rattle.std.proofs.lemmas.List.{append-nil, length-append, length-map, get_or-map}
-use Rattle.std.specs.List.{AllZip}
-use Rattle.camp_object.specs.Asking.{Caller}
+use Rattle.std.proofs.Common.{◌≡◌, ℕ, ◌+◌, ◌<◌, suc, zero, IfOk, List, [], ◌∷◌, ◌++◌, length, get_or, map, Option, None, Some, MatchOption, append_assoc, Result, Ok, Err, refl, sym, ◌∙◌, ap, subst, add-one, arith}
+use Rattle.std.proofs.lemmas.List.{length-append, length-map, get_or-map}
+use Rattle.std.specs.List.{All, AllZip}
 use Rattle.camp_object.specs.Histories.{IsFront, IsAnswered, IsLegal, own}
 use Rattle.camp_object.specs.Objects.{Sequential}
 use Rattle.camp_object.specs.declared.faults.Fault.{Fault}
 use Rattle.camp_object.specs.declared.faults.Fault.TheVariants.{Memory, Busy, Full}
-use Rattle.camp_clients.specs.Answers.{Asks, Says, IsDone, IsOvertaken, told}
+use Rattle.camp_clients.specs.Answers.{Asks, Says, IsDone, told}
 use Rattle.camp_clients.specs.Meeting.{Sight, AreNew, Meets, IsMet, Ran, caller_of}
 use Rattle.camp_clients.specs.Positions.{own_at, done_at}
 use Rattle.camp_clients.specs.Runs.{HasFronts, IsShared, OwnDone, section_of}
 use Rattle.camp_clients.specs.Sections.{Section}
 use Rattle.camp_clients.proofs.Fronts.{section_grows, section_map, section_own_at, says}
-use Rattle.camp_clients.proofs.Gathering.{zip_push, zip_at, zip_length}
+use Rattle.camp_clients.proofs.Gathering.{zip_at, zip_length}
 use Rattle.camp_clients.proofs.Histories.{front_trans, own-append, own_between, append_nil_right}
 use Rattle.camp_clients.proofs.Positions.{own_at_front, own_at_none}
 
@@ -171,6 +170,12 @@ module _ {X Y E : Type 0} (R : X → Y → Type 0) where
         zip_granted jobs made all (omega arith) (λ i d below. each (suc i) d (omega arith)) granted.1,
       )
 
+-- calls of these seats only, in other words
+pub none_other : {Call : Type 0} (seats sections : ℕ) (seen history : List (ℕ × Call)) → seats ≡ sections → seen ≡ history
+    → All (λ entry. entry.0 < seats) seen → All (λ entry. entry.0 < sections) history
+none_other seats sections seen history as_many same below =
+    subst (λ n. All (λ entry. entry.0 < n) history) as_many (subst (All (λ entry. entry.0 < seats)) same below)
+
 -- a whole run, put together
 module _ {State Call Reply Client : Type 0} (object : Sequential State Call Reply) (sight : Sight Client Call (Result Reply Fault)) (tries per_seat : ℕ)
     (sections : List (List Call)) (opened history : List (ℕ × Call)) (opening : List (Result Reply Fault)) (clients : List Client) (d : Client)
@@ -195,12 +200,13 @@ module _ {State Call Reply Client : Type 0} (object : Sequential State Call Repl
   at_clients zero some below = absurd (omega arith)
   at_clients (suc k) some below = (at_client k (omega arith)).fronts
 
-  pub shared_run : IsLegal object history → IsShared object tries sections (opening ∷ map sight.answers clients) history
+  pub shared_run : IsLegal object history → All (λ entry. entry.0 < length sections) history
+      → IsShared object tries sections (opening ∷ map sight.answers clients) history
   unfolding all
-  shared_run legal = record {
+  shared_run legal no_other = record {
     legal = legal;
     as_many = omega (arith, length-map clients sight.answers);
-    own_done = own_done;
+    exactly = record { own_done = own_done; no_other = no_other };
     opening = record {
       last = opened;
       fronts = section_map (Asks object (caller_of tries per_seat 0)) (Says object 0 tries) (says object (caller_of tries per_seat 0)) [] _ _ opened ran;

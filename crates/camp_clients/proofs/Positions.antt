@@ -1,7 +1,8 @@
 -- Lemmas on calls with their positions.
-use Rattle.std.proofs.Common.{◌≡◌, ℕ, ◌+◌, ◌==◌, true, false, cond, List, [], ◌∷◌, ◌++◌, length, Option, None, Some, refl, sym, ◌∙◌, ap, zero-add, inl, inr, min, drop, get_or, ◌<◌, ◌≤◌, arith}
+use Rattle.std.proofs.Common.{◌≡◌, ℕ, ◌+◌, ◌==◌, true, false, cond, List, [], ◌∷◌, ◌++◌, length, Option, None, Some, refl, sym, ◌∙◌, ap, zero-add, inl, inr, min, drop, get_or, ◌<◌, ◌≤◌, eq-eqb, arith}
 use Rattle.std.proofs.lemmas.List.{append-nil, drop_all, drop_more}
 use Rattle.std.proofs.lemmas.Bool.{cases_lt}
+use Rattle.std.proofs.lemmas.Bool.Decides.{eqb_tells}
 use Rattle.camp_object.specs.Histories.{IsFront, own}
 use Rattle.camp_clients.specs.Positions.{own_at, where_done, done_at}
 use Rattle.camp_clients.proofs.Histories.{own_rest, same_seat}
@@ -17,6 +18,45 @@ own_at-append seat before (entry ∷ h) more =
     as (λ b. cond b ((before + 1, entry.1) ∷ own_at seat (before + 1) (h ++ more)) (own_at seat (before + 1) (h ++ more))
     ≡ cond b ((before + 1, entry.1) ∷ own_at seat (before + 1) h) (own_at seat (before + 1) h) ++ own_at seat (before + length (entry ∷ h)) more)
     [ true ↦ ap (λ xs. (before + 1, entry.1) ∷ xs) rest | false ↦ rest ]
+
+-- what two lists with one first call have in common
+pub same_first : {Call : Type 0} (n m : ℕ) (a b : Call) (xs ys : List (ℕ × Call)) → (n, a) ∷ xs ≡ (m, b) ∷ ys → (n ≡ m) × (a ≡ b) × (xs ≡ ys)
+same_first {Call} n m a b xs ys is =
+    let one : ℕ × Call = (n, a) in
+    let two : ℕ × Call = (m, b) in
+    let same : one ≡ two = cc is in
+    (ap (λ p. p.0) same, ap (λ p. p.1) same, cc is)
+
+-- the positions in a part of a history lie behind what stands in front of it
+pub own_at_behind : {Call : Type 0} (seat before : ℕ) (h : List (ℕ × Call)) (at : ℕ) (call : Call) (more : List (ℕ × Call))
+    → own_at seat before h ≡ (at, call) ∷ more → before < at
+own_at_behind seat before [] at call more = λ is. absurd (cc is)
+own_at_behind seat before (entry ∷ h) at call more =
+    elim (entry.0 == seat)
+    as (λ b. cond b ((before + 1, entry.1) ∷ own_at seat (before + 1) h) (own_at seat (before + 1) h) ≡ (at, call) ∷ more → before < at) [
+      | true ↦ (λ is. let first = same_first _ _ _ _ _ _ is in omega (arith, first.0))
+      | false ↦ (λ is. let further = own_at_behind seat (before + 1) h at call more is in omega arith)
+    ]
+
+-- a call at the next position is the next call
+pub own_at_first : {Call : Type 0} (seat before : ℕ) (h : List (ℕ × Call)) (call : Call) (left : List (ℕ × Call))
+    → own_at seat before h ≡ (before + 1, call) ∷ left
+    → (more : List (ℕ × Call)) × (h ≡ (seat, call) ∷ more) × (own_at seat (before + 1) more ≡ left)
+own_at_first seat before [] call left is = absurd (cc is)
+own_at_first seat before (entry ∷ h) call left is =
+    elim (eqb_tells entry.0 seat) [
+      | inl same ↦ (
+          let here : (before + 1, entry.1) ∷ own_at seat (before + 1) h ≡ (before + 1, call) ∷ left = rw same.0 at is in
+          let first = same_first _ _ _ _ _ _ here in
+          (h, ap (λ n. (n, entry.1) ∷ h) same.1 ∙ ap (λ c. (seat, c) ∷ h) first.1, first.2))
+      | inr other ↦ absurd (
+          let further = own_at_behind seat (before + 1) h (before + 1) call left (rw other.0 at is) in omega arith)
+    ]
+
+-- a call of the seat has the next position
+pub own_at_mine : {Call : Type 0} (seat before : ℕ) (entry : ℕ × Call) (h : List (ℕ × Call)) → entry.0 ≡ seat
+    → own_at seat before (entry ∷ h) ≡ (before + 1, entry.1) ∷ own_at seat (before + 1) h
+own_at_mine seat before entry h mine = rw (eq-eqb entry.0 seat mine) refl
 
 -- without calls of a seat there are none with positions
 pub own_at_none : {Call : Type 0} (seat before : ℕ) (h : List (ℕ × Call)) → own seat h ≡ [] → own_at seat before h ≡ []

@@ -1,7 +1,7 @@
 -- What an answer says of the history, between the front before it and the front at which it was given.
-use Rattle.std.specs.Prelude.{◌≡◌, ℕ, ◌≤◌, List, [], ◌∷◌, ◌++◌, length, Option, None, Result, Ok, Err, MatchOption}
+use Rattle.std.specs.Prelude.{◌≡◌, ℕ, ◌≤◌, List, [], ◌∷◌, ◌++◌, length, Option, None, Some, Result, Ok, Err, MatchOption}
 use Rattle.camp_object.specs.Asking.{Ask, Caller}
-use Rattle.camp_object.specs.Histories.{IsFront, IsAnswered, own}
+use Rattle.camp_object.specs.Histories.{IsAccepted, IsAnswered, IsFront, own}
 use Rattle.camp_object.specs.Objects.{Sequential}
 use Rattle.camp_object.specs.declared.faults.Fault.{Fault}
 use Rattle.camp_object.specs.declared.faults.Fault.TheVariants.{Memory, Busy, Full}
@@ -66,3 +66,9 @@ SaysAlone object seat before call (Ok reply) front =
     MatchOption (object.done_at reply) ((front ≡ before) × IsAnswered object before call reply)
     (λ at. (front ≡ before ++ (seat, call) ∷ []) × (at ≡ length front))
 SaysAlone object seat before call (Err fault) front = ⊥
+
+-- and where the call is done, it was accepted at the replay of the history as it stood
+pub record StepsAlone {State Call Reply : Type 0} (object : Sequential State Call Reply) (seat : ℕ)
+    (before : List (ℕ × Call)) (call : Call) (answer : Result Reply Fault) (front : List (ℕ × Call)) : Type 0 where
+  pub says : SaysAlone object seat before call answer front
+  pub accepted : (at : ℕ) → told object answer ≡ Some at → IsAccepted object before call

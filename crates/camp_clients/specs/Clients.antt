@@ -1,5 +1,5 @@
 -- What proofs see of a client: its seat, and the answers to its section.
-use Rattle.std.specs.Prelude.{◌≡◌, ℕ, ◌<◌, List, [], Result}
+use Rattle.std.specs.Prelude.{◌≡◌, ℕ, ◌<◌, [], Result}
 use Rattle.camp_object.specs.Histories.{own}
 use Rattle.camp_object.specs.declared.faults.Fault.{Fault}
 use Rattle.camp_history.specs.Seats.{HeadId, Seated, IsSeatOf, history_of}

@@ -2,6 +2,7 @@ pub mod Answers
 pub mod Clients
 pub mod Comparing
 pub mod Gathering
+pub mod Laws
 pub mod Meeting
 pub mod Positions
 pub mod Runs

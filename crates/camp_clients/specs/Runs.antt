@@ -29,15 +29,19 @@ pub record IsExactly {Call Answer : Type 0} (told : Answer → Option ℕ) (sect
   pub own_done : OwnDone told sections answers history
   pub no_other : All (λ entry. entry.0 < length sections) history
 
--- sections one after the other, where nobody else asks, from the section of a seat on
+-- sections one after the other, from the section of a seat on: what each answer says, by its seat
+abbrev pub InTurn : {Front Call Answer : Type 0} → (ℕ → Front → Call → Answer → Front → Type 0) → (seat : ℕ) → Front
+    → List (List Call) → List (List Answer) → Front → Type 0
+InTurn Says seat first [] [] last = first ≡ last
+InTurn Says seat first [] (answers ∷ others) last = ⊥
+InTurn Says seat first (calls ∷ sections) [] last = ⊥
+InTurn {Front} Says seat first (calls ∷ sections) (answers ∷ others) last =
+    (next : Front) × Section (Says seat) first calls answers next × InTurn Says (seat + 1) next sections others last
+
+-- sections one after the other, where nobody else asks
 abbrev pub OneByOne : {State Call Reply : Type 0} → Sequential State Call Reply → (seat : ℕ) → List (ℕ × Call)
     → List (List Call) → List (List (Result Reply Fault)) → List (ℕ × Call) → Type 0
-OneByOne object seat first [] [] last = first ≡ last
-OneByOne object seat first [] (answers ∷ others) last = ⊥
-OneByOne object seat first (calls ∷ sections) [] last = ⊥
-OneByOne {State} {Call} object seat first (calls ∷ sections) (answers ∷ others) last =
-    (next : List (ℕ × Call)) × Section (SaysAlone object seat) first calls answers next
-    × OneByOne object (seat + 1) next sections others last
+OneByOne object = InTurn (SaysAlone object)
 
 -- an answer under a lock: done, or the object's at some legal history
 abbrev pub SaysSomewhere : {State Call Reply : Type 0} → Sequential State Call Reply → Call → Result Reply Fault
@@ -46,13 +50,21 @@ SaysSomewhere {State} {Call} object call (Ok reply) =
     MatchOption (object.done_at reply) ((front : List (ℕ × Call)) × IsAnswered object front call reply) (λ at. Unit {0})
 SaysSomewhere object call (Err fault) = ⊥
 
--- a run over a lock: one legal history of exactly the calls that are done
+-- the opening's answers, asked at seat 0 where nobody else asks; the history begins with what they leave
+pub record HasOpening {State Call Reply : Type 0} (object : Sequential State Call Reply) (calls : List Call)
+    (answers : List (Result Reply Fault)) (history : List (ℕ × Call)) : Type 0 where
+  pub last : List (ℕ × Call)
+  pub alone : Section (SaysAlone object 0) [] calls answers last
+  pub within : IsFront last history
+
+-- a run over a lock: one legal history of exactly the calls that are done, whose beginning the opening was asked alone
 pub record IsLocked {State Call Reply : Type 0} (object : Sequential State Call Reply) (sections : List (List Call))
     (answers : List (List (Result Reply Fault))) (history : List (ℕ × Call)) : Type 0 where
   pub legal : IsLegal object history
   pub as_many : length answers ≡ length sections
   pub exactly : IsExactly (told object) sections answers history
-  pub answered : (seat : ℕ) → seat < length sections →
+  pub opening : HasOpening object (section_of sections 0) (section_of answers 0) history
+  pub clients : (seat : ℕ) → 0 < seat → seat < length sections →
       AllZip (SaysSomewhere object) (section_of sections seat) (section_of answers seat)
 
 -- a section's answers have fronts of the history, which begin where they are to and follow one another
@@ -63,14 +75,14 @@ pub record HasFronts {State Call Reply : Type 0} (object : Sequential State Call
   pub fronts : Section (Says object seat tries) first calls answers last
   pub within : IsFront last history
 
--- a run over a head: one legal history, whose fronts the answers tell. The opening's begin with the empty one, and
--- each client's with the opening's last
+-- a run over a head: one legal history of exactly the calls that are done, whose fronts the answers tell. The opening's
+-- begin with the empty one, and each client's with the opening's last
 pub record IsShared {State Call Reply : Type 0} (object : Sequential State Call Reply) (tries : ℕ)
     (sections : List (List Call)) (answers : List (List (Result Reply Fault))) (history : List (ℕ × Call))
     : Type 0 where
   pub legal : IsLegal object history
   pub as_many : length answers ≡ length sections
-  pub own_done : OwnDone (told object) sections answers history
+  pub exactly : IsExactly (told object) sections answers history
   pub opening : HasFronts object 0 tries [] (section_of sections 0) (section_of answers 0) history
   pub clients : (seat : ℕ) → 0 < seat → seat < length sections →
       HasFronts object seat tries opening.last (section_of sections seat) (section_of answers seat) history

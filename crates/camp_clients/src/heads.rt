@@ -305,6 +305,7 @@ where
     requires opener { (IsSeatOf head.now opener) × (opener.known.number ≡ 0) × (history_of opener ≡ []) }
     requires clients { AreNew (sight_of {Reply = State.Reply} head.now) clients.items }
     requires as_many { length clients.items + 1 ≡ length sections.now }
+    requires seats { head.now.row.seats ≡ length sections.now }
     requires room { All (λ calls. count_by State.object.is_writing calls.items ≤ head.now.row.per_seat) sections.now }
     ensures { IfOk result (λ run. IsShared State.object (head.now.tries) (lists_of sections.now) (lists_of run.answers.items) run.history.items) }
 {

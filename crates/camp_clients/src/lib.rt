@@ -4,6 +4,7 @@
 mod comparisons;
 mod faults;
 mod heads;
+mod laws;
 mod locks;
 mod one_by_one;
 mod sections;
@@ -13,6 +14,7 @@ mod tests;
 pub use comparisons::{MAX_SECTIONS, has_exactly};
 pub use faults::LockFault;
 pub use heads::{HeadRun, shared};
+pub use laws::{done_was_accepted, locked_is_serial, shared_is_serial};
 pub use locks::locked;
 pub use one_by_one::{BookRun, serial};
 pub use sections::{Answers, ask_all};

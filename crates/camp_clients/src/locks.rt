@@ -6,7 +6,7 @@ ghost use Rattle.camp_clients.specs.Runs.{IsLocked, SaysSomewhere, lists_of, sec
 
 use crate::comparisons::has_exactly;
 use crate::faults::LockFault;
-use crate::one_by_one::BookRun;
+use crate::one_by_one::{BookRun, at_seat};
 use crate::sections::{Answers, gather, unless_memory};
 use camp_object::{Book, Fault, Object};
 use std::alloc::{AllocError, Global};
@@ -14,8 +14,8 @@ use std::sync::{Mutex, Wait};
 use std::thread;
 use std::thread::Threads;
 
-/// Asks sections of calls over a book under a lock, section k at seat k: the first alone, then each
-/// further one in a thread of its own. Afterwards the history is compared with the answers.
+/// Asks sections of calls over a book, section k at seat k: the first alone, then each further one in
+/// a thread of its own, under a lock. Afterwards the history is compared with the answers.
 pub fn locked<R: Threads + Wait + Sync, State: Object + Send>(
     rt: &R,
     alloc: Global,
@@ -28,9 +28,10 @@ where
     ensures { IfOk result (λ run.
         IsLocked State.object (lists_of sections.now) (lists_of run.answers.items) run.book) }
 {
-    let lock = Mutex::new(Book::<State>::new(alloc)?);
-    let opening = ask_locked::<R, State>(rt, alloc, &lock, 0, &sections[0])?;
+    let mut book = Book::<State>::new(alloc)?;
+    let opening = at_seat::<State>(alloc, &mut book, 0, &sections[0])?;
     let first = vec![in alloc; opening]?;
+    let lock = Mutex::new(book);
     let clients = in_threads::<R, State>(rt, alloc, &lock, sections)?;
     let answers = gather(first, clients)?;
     let book = lock.into_inner();

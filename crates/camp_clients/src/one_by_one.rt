@@ -32,7 +32,7 @@ pub fn serial<State: Object>(
 }
 
 /// Asks a section of calls at a seat of a book that nobody else writes.
-fn at_seat<State: Object>(
+pub(crate) fn at_seat<State: Object>(
     alloc: Global,
     book: &mut Book<State>,
     seat: u32,

@@ -211,6 +211,25 @@ fn both_clients_wait_for_each_other(rt: HostRuntime) -> Result<(), Fail> {
 }
 
 #[test]
+fn a_single_section_goes_the_same_three_ways(rt: HostRuntime) -> Result<(), Fail> {
+    let alloc = rt.alloc();
+    let sections = vec![in alloc; vec![in alloc; Insert(5), Insert(3), Insert(5), Show]?]?;
+    assert!(rt; sections.len() == 1 && has_room(&sections));
+    let one = serial::<Numbers>(alloc, &sections)?;
+    let two = locked::<HostRuntime, Numbers>(&rt, alloc, &sections)?;
+    let three = shared::<HostRuntime, Numbers, NoGate>(&rt, alloc, &sections, 1, &NoGate)?;
+    assert_eq!(rt;
+        (one.answers.len(), two.answers.len(), three.answers.len()),
+        (1, 1, 1)
+    );
+    assert!(rt; one.answers[0].as_slice() == two.answers[0].as_slice());
+    assert!(rt; one.answers[0].as_slice() == three.answers[0].as_slice());
+    assert!(rt; one.book.history() == two.book.history());
+    assert!(rt; one.book.history() == three.history.as_slice());
+    Ok(())
+}
+
+#[test]
 fn eight_clients_over_a_head(rt: HostRuntime) -> Result<(), Fail> {
     let sections = eight_clients(rt.alloc())?;
     assert_eq!(rt; sections.len(), 9);

@@ -1,13 +1,13 @@
-use Rattle.std.proofs.Common.{◌≡◌, ℕ, ◌<◌, ◌∷◌, [], length, map, sym, ◌∙◌, ap, subst, refl, arith}
+use Rattle.std.proofs.Common.{◌≡◌, ℕ, ◌<◌, [], length, sym, ◌∙◌, ap, subst, arith}
 use Rattle.camp_object.specs.Histories.{IsFront, IsLegal, own}
 use Rattle.camp_clients.specs.Answers.{Asks}
 use Rattle.camp_history.specs.Seats.{IsSeatOf, history_of}
 use Rattle.camp_clients.specs.Clients.{sight_of}
 use Rattle.camp_clients.specs.Meeting.{Ran, IsMet, Meets, caller_of}
-use Rattle.camp_clients.specs.Runs.{IsShared, lists_of, section_of}
+use Rattle.camp_clients.specs.Runs.{lists_of, section_of}
 use Rattle.camp_clients.specs.Sections.{Section}
 use Rattle.camp_clients.proofs.Gathering.{zip_all, zip_length}
-use Rattle.camp_clients.proofs.Meeting.{can_begin, clients_hold, shared_run}
+use Rattle.camp_clients.proofs.Meeting.{can_begin, clients_hold, none_other, shared_run}
 use Rattle.camp_clients.proofs.Vectors.{lists_map, section_at, length-lists_of}
 use Rattle.camp_clients.proofs.heads.over_head.Goals as goal
 
@@ -70,6 +70,8 @@ returns g c =
     let same = subst (λ n. own n history ≡ own n (history_of c.in_ok-clients.opener)) number c.in_ok-opener.ensures.own
     ∙ ap (own 0) c.in_ok-clients.ensures.seen in
     let legal = subst (IsLegal object) c.in_ok-clients-3.ensures.seen c.number-number.ensures.legal in
+    let seats = ap (λ row. row.seats) c.in_ok-clients-3.ensures.seat.row ∙ c.requires.seats ∙ sym (length-lists_of c.args.sections.now) in
+    let no_other = none_other _ _ _ _ seats c.in_ok-clients-3.ensures.seen c.number-number.ensures.seats_below in
     let run = shared_run object sight tries per_seat sections opened history opening.items l4 (record { seat = opener; answers = opening })
-    (omega (arith, long, c.requires.as_many, length-lists_of c.args.sections.now)) holds ran front same legal in
+    (omega (arith, long, c.requires.as_many, length-lists_of c.args.sections.now)) holds ran front same legal no_other in
     rw (c.in_ok-answers.ensures, lists_map, c.in-Ok.ensures.history, c.in_ok-clients-3.ensures.seen) run

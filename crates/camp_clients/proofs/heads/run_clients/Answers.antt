@@ -1,6 +1,4 @@
-use Rattle.std.proofs.Common.{◌≡◌, Ok, sym, ◌∙◌}
-use Rattle.std.specs.List.{AllZip}
-use Rattle.camp_history.specs.Seats.{IsSeatOf, history_of}
+use Rattle.std.proofs.Common.{sym, ◌∙◌}
 use Rattle.camp_clients.specs.Clients.{sight_of}
 use Rattle.camp_clients.specs.Meeting.{Ran}
 use Rattle.camp_clients.specs.Runs.{lists_of}

@@ -1,4 +1,4 @@
-use Rattle.std.proofs.Common.{◌≡◌, ◌+◌, ◌≤◌, [], ◌∙◌, sym, subst, arith, rules, count_by}
+use Rattle.std.proofs.Common.{◌≡◌, ◌≤◌, [], sym, subst, arith, count_by}
 use Rattle.std.specs.List.{All}
 use Rattle.camp_history.specs.Seats.{IsSeatOf, history_of}
 use Rattle.camp_clients.proofs.Gathering.{behind_first, zip_length}

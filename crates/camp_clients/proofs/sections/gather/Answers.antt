@@ -1,4 +1,4 @@
-use Rattle.camp_clients.proofs.Gathering.{gathers_none, gathers_push}
+use Rattle.camp_clients.proofs.Gathering.{gathers_push}
 use Rattle.camp_clients.proofs.sections.gather.Goals as goal
 
 pub loop-own-preserved : goal.loop-own-preserved

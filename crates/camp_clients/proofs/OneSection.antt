@@ -1,0 +1,211 @@
+-- Lemmas on a section whose calls stand in a history one after the other, with nothing between them.
+use Rattle.std.proofs.Common.{◌≡◌, ℕ, ◌+◌, ◌<◌, List, [], ◌∷◌, ◌++◌, length, Option, None, Some, Result, Ok, Err, MatchOption, refl, sym, ◌∙◌, ap, subst, append_assoc, inl, inr, arith}
+use Rattle.std.proofs.lemmas.List.{length-append, get_or-append-add}
+use Rattle.std.proofs.lemmas.List.Elements.{All-same}
+use Rattle.std.proofs.lemmas.Bool.{cases_lt}
+use Rattle.std.specs.List.{All}
+use Rattle.camp_object.specs.Histories.{IsFront, IsAnswered, own}
+use Rattle.camp_object.specs.Objects.{Sequential}
+use Rattle.camp_object.specs.declared.faults.Fault.{Fault}
+use Rattle.camp_object.specs.declared.faults.Fault.TheVariants.{Memory, Busy, Full}
+use Rattle.camp_object.proofs.Fronts.{front_whole, length-front}
+use Rattle.camp_object.proofs.Replays.{length-own-all, length-own-within}
+use Rattle.camp_clients.specs.Answers.{IsDone, IsOvertaken, Says, SaysAlone, told}
+use Rattle.camp_clients.specs.Positions.{own_at, where_done, done_at}
+use Rattle.camp_clients.specs.Runs.{HasOpening}
+use Rattle.camp_clients.specs.Sections.{Section}
+use Rattle.camp_clients.proofs.Fronts.{says_grows, section_front}
+use Rattle.camp_clients.proofs.Histories.{front_trans, own-append}
+use Rattle.camp_clients.proofs.Positions.{own_at_first, own_at_mine, same_first}
+
+-- what holds of all elements holds of those behind a front
+pub all_behind : {X : Type 0} (P : X → Type 0) (front whole : List X) (begins : IsFront front whole) → All P whole → All P begins.rest
+all_behind P front whole begins all k d below =
+    subst P (get_or-append-add front begins.rest k d)
+    (All-same P (front ++ begins.rest) whole begins.makes all (length front + k) d (omega (arith, below, length-append front begins.rest)))
+
+module _ {State Call Reply : Type 0} (object : Sequential State Call Reply) (seat : ℕ) (history : List (ℕ × Call)) where
+  -- a front of the history, and behind it these calls of the seat with their positions
+  pub record Leaves (front left : List (ℕ × Call)) : Type 0 where
+    pub begins : IsFront front history
+    pub are : own_at seat (length front) begins.rest ≡ left
+
+  -- the next call that is done lengthens the front, by itself
+  done_leaves : (before : List (ℕ × Call)) (call : Call) (next left : List (ℕ × Call)) (at : ℕ)
+      → Leaves before ((at, call) ∷ left) → next ≡ before ++ (seat, call) ∷ [] → at ≡ length next → Leaves next left
+  done_leaves before call next left at leaves is position =
+      let long : length next ≡ length before + 1 = ap length is ∙ length-append before ((seat, call) ∷ []) in
+      let rest = leaves.begins.rest in
+      let first = own_at_first seat (length before) rest call left (subst (λ n. own_at seat (length before) rest ≡ (n, call) ∷ left) (position ∙ long) leaves.are) in
+      record {
+        begins = record {
+          rest = first.0;
+          makes = ap (λ f. f ++ first.0) is ∙ append_assoc before ((seat, call) ∷ []) first.0 ∙ ap (λ r. before ++ r) (sym first.1) ∙ leaves.begins.makes;
+        };
+        are = ap (λ n. own_at seat n first.0) long ∙ first.2;
+      }
+
+  reply_leaves : (before : List (ℕ × Call)) (call : Call) (at : Option ℕ) (reply : Reply) (next left : List (ℕ × Call)) → Leaves before (where_done at call left)
+      → MatchOption at ((next ≡ before) × IsAnswered object before call reply) (λ at. (next ≡ before ++ (seat, call) ∷ []) × (at ≡ length next))
+      → Leaves next left
+  reply_leaves before call None reply next left leaves says = subst (λ f. Leaves f left) (sym says.0) leaves
+  reply_leaves before call (Some at) reply next left leaves says = done_leaves before call next left at leaves says.0 says.1
+
+  says_leaves : (before : List (ℕ × Call)) (call : Call) (answer : Result Reply Fault) (next left : List (ℕ × Call))
+      → Leaves before (where_done (told object answer) call left) → SaysAlone object seat before call answer next → Leaves next left
+  says_leaves before call (Ok reply) next left leaves says = reply_leaves before call (object.done_at reply) reply next left leaves says
+  says_leaves before call (Err fault) next left leaves says = absurd says
+
+  -- a section that was asked alone, whose calls are those behind its first front, leaves none of them behind its last
+  section_leaves : (first : List (ℕ × Call)) (calls : List Call) (answers : List (Result Reply Fault)) (last : List (ℕ × Call))
+      → Section (SaysAlone object seat) first calls answers last → Leaves first (done_at (told object) calls answers) → Leaves last []
+  section_leaves first [] [] last s leaves = subst (λ f. Leaves f []) s leaves
+  section_leaves first [] (a ∷ answers) last s leaves = absurd s
+  section_leaves first (c ∷ calls) [] last s leaves = absurd s
+  section_leaves first (c ∷ calls) (a ∷ answers) last s leaves =
+      section_leaves s.0 calls answers last s.2 (says_leaves first c a s.0 (done_at (told object) calls answers) leaves s.1)
+
+  -- a section that was asked first, and alone, stands at the beginning of the history
+  pub alone_begins : (calls : List Call) (answers : List (Result Reply Fault)) (last : List (ℕ × Call))
+      → Section (SaysAlone object seat) [] calls answers last → own_at seat 0 history ≡ done_at (told object) calls answers → Leaves last []
+  alone_begins calls answers last s is = section_leaves [] calls answers last s (record { begins = record { rest = history; makes = refl }; are = is })
+
+  -- in calls of one seat the first has the next position
+  first_position : (before : ℕ) (rest left : List (ℕ × Call)) → All (λ entry. entry.0 ≡ seat) rest → 0 < length rest → own_at seat before rest ≡ left
+      → (call : Call) × (more : List (ℕ × Call)) × (left ≡ (before + 1, call) ∷ more)
+  first_position before [] left mine some are = absurd (omega arith)
+  first_position before (entry ∷ rest) left mine some are =
+      (entry.1, own_at seat (before + 1) rest, sym are ∙ own_at_mine seat before entry rest (mine 0 entry (omega arith)))
+
+  module _ (mine : All (λ entry. entry.0 ≡ seat) history) where
+    -- where all calls are the seat's, a front that isn't all of the history leaves the next position first
+    next_position : (front left : List (ℕ × Call)) → Leaves front left → length front < length history
+        → (call : Call) × (more : List (ℕ × Call)) × (left ≡ (length front + 1, call) ∷ more)
+    next_position front left leaves below =
+        let parts : length (front ++ leaves.begins.rest) ≡ length history = ap length leaves.begins.makes in
+        first_position (length front) leaves.begins.rest left (all_behind (λ entry. entry.0 ≡ seat) front history leaves.begins mine)
+        (omega (arith, length-append front leaves.begins.rest)) leaves.are
+
+    -- and one that leaves nothing is all of it
+    pub leaves_none : (front : List (ℕ × Call)) → Leaves front [] → front ≡ history
+    leaves_none front leaves = elim (cases_lt (length front) (length history)) [
+      | inl below ↦ (let next = next_position front [] leaves below in absurd (cc next.2))
+      | inr past ↦ front_whole front history leaves.begins past
+    ]
+
+    module _ (tries : ℕ) (some : 0 < tries) where
+      -- the first of these positions lies behind a front
+      abbrev Behind : List (ℕ × Call) → List (ℕ × Call) → Type 0
+      Behind front left = (at : ℕ) (call : Call) (more : List (ℕ × Call)) → left ≡ (at, call) ∷ more → length front < at
+
+      behind_reply : (before : List (ℕ × Call)) (call : Call) (at : Option ℕ) (reply : Reply) (next left : List (ℕ × Call))
+          → MatchOption at (IsFront before next × IsAnswered object next call reply) (λ at. IsDone seat before call at next)
+          → Behind next left → Behind before (where_done at call left)
+      behind_reply before call None reply next left says behind at other more is =
+          let further = behind at other more is in omega (arith, length-front says.0)
+      behind_reply before call (Some told) reply next left says behind at other more is =
+          let first = same_first _ _ _ _ _ _ is in
+          omega (arith, first.0, says.position, ap length says.ends, length-append says.stood ((seat, call) ∷ []), length-front says.since)
+
+      behind_says : (before : List (ℕ × Call)) (call : Call) (answer : Result Reply Fault) (next left : List (ℕ × Call))
+          → Says object seat tries before call answer next → Behind next left → Behind before (where_done (told object answer) call left)
+      behind_says before call (Ok reply) next left says behind = behind_reply before call (object.done_at reply) reply next left says behind
+      behind_says before call (Err Memory) next left says behind = absurd says
+      behind_says before call (Err (Busy lost)) next left says behind = λ at other more is.
+          let further = behind at other more is in omega (arith, ap length says.makes, length-append before says.others)
+      behind_says before call (Err Full) next left says behind = absurd says
+
+      -- what a section tells lies behind its first front
+      section_behind : (first : List (ℕ × Call)) (calls : List Call) (answers : List (Result Reply Fault)) (last : List (ℕ × Call))
+          → Section (Says object seat tries) first calls answers last → Behind first (done_at (told object) calls answers)
+      section_behind first [] [] last s = λ at call more is. absurd (cc is)
+      section_behind first [] (a ∷ answers) last s = absurd s
+      section_behind first (c ∷ calls) [] last s = absurd s
+      section_behind first (c ∷ calls) (a ∷ answers) last s =
+          behind_says first c a s.0 (done_at (told object) calls answers) s.1 (section_behind s.0 calls answers last s.2)
+
+      module _ (before : List (ℕ × Call)) (call : Call) (next left : List (ℕ × Call)) (within : IsFront next history) (behind : Behind next left) where
+        -- nothing is left between a front and the next one where no call is done
+        no_more : Leaves before left → IsFront before next → next ≡ before
+        no_more leaves grows = sym (front_whole before next grows (elim (cases_lt (length before) (length history)) [
+          | inl below ↦ (
+              let position = next_position before left leaves below in
+              let behind = behind (length before + 1) position.0 position.1 position.2 in
+              omega arith)
+          | inr past ↦ omega (arith, length-front within)
+        ]))
+
+        -- and nothing but the call where it is done
+        done_next : (at : ℕ) → Leaves before ((at, call) ∷ left) → IsDone seat before call at next → next ≡ before ++ (seat, call) ∷ []
+        done_next at leaves done =
+            let long = length-append done.stood ((seat, call) ∷ []) in
+            let ends = ap length done.ends in
+            let position = next_position before ((at, call) ∷ left) leaves (omega (arith, long, ends, length-front done.since, length-front within)) in
+            let first = same_first _ _ _ _ _ _ position.2 in
+            let same = front_whole before done.stood done.since (omega (arith, first.0, done.position, long, ends)) in
+            sym done.ends ∙ ap (λ f. f ++ (seat, call) ∷ []) (sym same)
+
+        reply_alone : (at : Option ℕ) (reply : Reply) → Leaves before (where_done at call left)
+            → MatchOption at (IsFront before next × IsAnswered object next call reply) (λ at. IsDone seat before call at next)
+            → MatchOption at ((next ≡ before) × IsAnswered object before call reply) (λ at. (next ≡ before ++ (seat, call) ∷ []) × (at ≡ length next))
+        reply_alone None reply leaves says =
+            let same = no_more leaves says.0 in (same, subst (λ f. IsAnswered object f call reply) same says.1)
+        reply_alone (Some at) reply leaves says = (done_next at leaves says, says.position)
+
+        -- and no call is overtaken
+        never_overtaken : (lost : ℕ) → IsOvertaken seat tries before lost next → ⊥
+        never_overtaken lost busy =
+            let all = length-own-all seat history mine in
+            let parts = ap (λ h. length (own seat h)) within.makes in
+            let whole = ap length within.makes in
+            let own_next = ap (λ h. length (own seat h)) busy.makes in
+            omega (
+              arith,
+              all,
+              parts,
+              whole,
+              own_next,
+              some,
+              busy.enough,
+              ap length busy.makes,
+              length-append before busy.others,
+              length-append next within.rest,
+              ap length busy.none_own,
+              ap length (own-append seat before busy.others),
+              length-append (own seat before) (own seat busy.others),
+              ap length (own-append seat next within.rest),
+              length-append (own seat next) (own seat within.rest),
+              length-own-within seat before,
+              length-own-within seat within.rest,
+            )
+
+        says_is_alone : (answer : Result Reply Fault) → Leaves before (where_done (told object answer) call left)
+            → Says object seat tries before call answer next → SaysAlone object seat before call answer next
+        says_is_alone (Ok reply) leaves says = reply_alone (object.done_at reply) reply leaves says
+        says_is_alone (Err Memory) leaves says = says
+        says_is_alone (Err (Busy lost)) leaves says = never_overtaken lost says
+        says_is_alone (Err Full) leaves says = says
+
+      -- a section whose calls are all that the history has was asked alone
+      pub section_is_alone : (first : List (ℕ × Call)) (calls : List Call) (answers : List (Result Reply Fault)) (last : List (ℕ × Call))
+          → IsFront last history → Leaves first (done_at (told object) calls answers) → Section (Says object seat tries) first calls answers last
+          → Section (SaysAlone object seat) first calls answers last
+      section_is_alone first [] [] last within leaves s = s
+      section_is_alone first [] (a ∷ answers) last within leaves s = absurd s
+      section_is_alone first (c ∷ calls) [] last within leaves s = absurd s
+      section_is_alone first (c ∷ calls) (a ∷ answers) last within leaves s =
+          let left = done_at (told object) calls answers in
+          let grows = section_front (Says object seat tries) (says_grows object seat tries) s.0 calls answers last s.2 in
+          let next = front_trans s.0 last history grows within in
+          let alone = says_is_alone first c s.0 left next (section_behind s.0 calls answers last s.2) a leaves s.1 in
+          (s.0, alone, section_is_alone s.0 calls answers last within (says_leaves first c a s.0 left leaves alone) s.2)
+
+-- an opening that was asked alone, whose calls are those of seat 0
+pub has_opening : {State Call Reply : Type 0} (object : Sequential State Call Reply) (history : List (ℕ × Call))
+    (calls : List Call) (answers : List (Result Reply Fault)) (last : List (ℕ × Call))
+    → Section (SaysAlone object 0) [] calls answers last → own_at 0 0 history ≡ done_at (told object) calls answers → HasOpening object calls answers history
+has_opening object history calls answers last s is = record {
+  last = last;
+  alone = s;
+  within = (alone_begins object 0 history calls answers last s is).begins;
+}

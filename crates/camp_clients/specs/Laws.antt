@@ -1,0 +1,26 @@
+-- The laws of runs.
+use Rattle.std.specs.Prelude.{ℕ, ◌<◌, List, [], ◌∷◌, Result}
+use Rattle.camp_object.specs.Histories.{IsLegal}
+use Rattle.camp_object.specs.Objects.{Sequential}
+use Rattle.camp_object.specs.declared.faults.Fault.{Fault}
+use Rattle.camp_clients.specs.Answers.{StepsAlone}
+use Rattle.camp_clients.specs.Runs.{InTurn, IsLocked, IsShared, OneByOne}
+
+module _ {State Call Reply : Type 0} (object : Sequential State Call Reply) where
+  -- a single section that was asked over a head has answers and a history of a run one after the other
+  abbrev pub SharedIsSerial : Type 0
+  SharedIsSerial = (tries : ℕ) (calls : List Call) (answers : List (List (Result Reply Fault)))
+      (history : List (ℕ × Call)) → 0 < tries → IsShared object tries (calls ∷ []) answers history
+      → OneByOne object 0 [] (calls ∷ []) answers history
+
+  -- and so has one that was asked over a lock
+  abbrev pub LockedIsSerial : Type 0
+  LockedIsSerial = (calls : List Call) (answers : List (List (Result Reply Fault))) (history : List (ℕ × Call))
+      → IsLocked object (calls ∷ []) answers history → OneByOne object 0 [] (calls ∷ []) answers history
+
+  -- in a run one after the other whose history is legal, each call that is done was accepted at the replay of what
+  -- stood before it
+  abbrev pub DoneWasAccepted : Type 0
+  DoneWasAccepted = (sections : List (List Call)) (answers : List (List (Result Reply Fault)))
+      (history : List (ℕ × Call)) → IsLegal object history → OneByOne object 0 [] sections answers history
+      → InTurn (StepsAlone object) 0 [] sections answers history

@@ -1,0 +1,19 @@
+ghost use Rattle.camp_clients.specs.Laws.{DoneWasAccepted, LockedIsSerial, SharedIsSerial};
+
+use camp_object::Object;
+
+/// A single section over a head has answers and a history of a run one after the other.
+pub fn shared_is_serial<State: Object>()
+    ensures { SharedIsSerial State.object }
+{}
+
+/// A single section over a lock has answers and a history of a run one after the other.
+pub fn locked_is_serial<State: Object>()
+    ensures { LockedIsSerial State.object }
+{}
+
+/// In a run one after the other whose history is legal, each call that is done was accepted after
+/// what stood before it.
+pub fn done_was_accepted<State: Object>()
+    ensures { DoneWasAccepted State.object }
+{}
