@@ -8,20 +8,31 @@ ends() {
 }
 
 script=examples/first.camp
-: >"$folder/out"
-"$camp" <examples >"$folder/out" 2>"$folder/err"
-ends 'a directory as input' 'cannot read input'
-"$camp" <&- >"$folder/out" 2>"$folder/err"
-ends 'a closed input' 'cannot read input'
-: >"$folder/out"
-"$camp" <$script >/dev/full 2>"$folder/err"
-ends 'a full device as output' 'cannot write output'
-"$camp" <$script >&- 2>"$folder/err"
-ends 'a closed output' 'cannot write output'
+for flags in --tries=1 --serial --history; do
+    : >"$folder/out"
+    "$camp" "$flags" <examples >"$folder/out" 2>"$folder/err"
+    ends "a directory as input $flags" 'cannot read input'
+    "$camp" "$flags" <&- >"$folder/out" 2>"$folder/err"
+    ends "a closed input $flags" 'cannot read input'
+    : >"$folder/out"
+    "$camp" "$flags" <$script >/dev/full 2>"$folder/err"
+    ends "a full device as output $flags" 'cannot write output'
+    "$camp" "$flags" <$script >&- 2>"$folder/err"
+    ends "a closed output $flags" 'cannot write output'
+done
+"$camp" --help <$script >/dev/full 2>"$folder/err"
+ends 'a full device for the help text' 'cannot write output'
 
-# A fault of the script is found before anything is written, and an empty output is always written.
+# A mistake in the command line is found before anything is read, and a fault of the script before anything is
+# written; an empty output is always written.
+"$camp" --tries 0 <&- >"$folder/out" 2>"$folder/err"
+echo $? >"$folder/status"
+want 2 ''
+printf '%b' "$(sed -n 's/^--tries 0\t//p' $cases/refused_options)" >"$folder/wanted.err"
+expect 'ends: no tries, and a closed input'
 "$camp" <examples/fault.camp >/dev/full 2>"$folder/err"
 echo $? >"$folder/status"
+: >"$folder/out"
 want 1 'line 3: unknown command'
 expect 'ends: a fault, and a full device'
 "$camp" </dev/null >/dev/full 2>"$folder/err"

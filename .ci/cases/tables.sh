@@ -1,12 +1,14 @@
 # The tables of short scripts.
 
-# Each script of the table of faults writes nothing but its fault.
+# Each script of the table of faults writes nothing but its fault, over a head and with --serial.
 while IFS=$'\t' read -r line words script; do
     case $line in '' | '#'*) continue ;; esac
     printf '%b' "$script" >"$folder/script"
     want 1 "line $line: $words"
-    run "$folder/script"
-    expect "fault: $script"
+    for flags in '' --serial; do
+        run "$folder/script" "$flags"
+        expect "fault: $script $flags"
+    done
 done <$cases/faults
 
 # Each front of the first example.
@@ -21,17 +23,21 @@ while IFS=$'\t' read -r first last told; do
                 ;;
             *) want 1 "$told" ;;
         esac
-        run "$folder/script"
-        expect "front: $bytes bytes"
+        for flags in '' --serial; do
+            run "$folder/script" "$flags"
+            expect "front: $bytes bytes $flags"
+        done
     done
 done <$cases/fronts
 
 # The scripts that are answered.
 tell() {
-    if [ -n "$name" ]; then
-        run "$folder/script"
-        expect "answers: $name"
-    fi
+    if [ -z "$name" ]; then return; fi
+    if [ "${#ways[@]}" -eq 0 ]; then ways=('' --serial); fi
+    for flags in "${ways[@]}"; do
+        run "$folder/script" "$flags"
+        expect "answers: $name $flags"
+    done
 }
 name=''
 while IFS= read -r line; do
@@ -39,12 +45,52 @@ while IFS= read -r line; do
         '== '*)
             tell
             name=${line#== }
+            ways=()
             want 0 ''
             : >"$folder/script"
             part=$folder/script
+            ;;
+        '$'*)
+            line=${line#$}
+            ways+=("${line# }")
             ;;
         --) part=$folder/wanted.out ;;
         *) if [ -n "$name" ]; then printf '%b\n' "$line" >>"$part"; fi ;;
     esac
 done <$cases/answers
 tell
+
+# Command lines that are refused: nothing is read or written, whatever the script.
+refused() {
+    printf '2\n' >"$folder/wanted.status"
+    : >"$folder/wanted.out"
+    printf '%b' "$told" >"$folder/wanted.err"
+    run examples/fault.camp "$flags"
+    expect "options: $flags"
+}
+while IFS=$'\t' read -r flags told; do
+    case $flags in '' | '#'*) continue ;; esac
+    refused
+done <$cases/refused_options
+
+# Command lines that are taken.
+while IFS= read -r flags; do
+    case $flags in '' | '#'*) continue ;; esac
+    want 0 ''
+    cp examples/first.camp.stdout "$folder/wanted.out"
+    case $flags in
+        *--history*) printf 'history 2\n1 0 record main a add f\n2 0 record main b edit f 1 0 1\n' >>"$folder/wanted.out" ;;
+    esac
+    run examples/first.camp "$flags"
+    expect "options: $flags"
+done <$cases/options
+
+# The help text begins with the usage, and ends the program before the script is read.
+for flags in --help -h '--serial --help' '--help extra'; do
+    run examples/fault.camp "$flags"
+    head -n 1 "$folder/out" >"$folder/first"
+    mv "$folder/first" "$folder/out"
+    want 0 ''
+    echo 'Usage: camp [OPTIONS]' >"$folder/wanted.out"
+    expect "options: $flags"
+done

@@ -1,7 +1,7 @@
 use crate::players::Player;
-use crate::stops::Stop;
 use camp_base::Name;
 use camp_repo::Refusal;
+use refusing::Stop;
 
 /// Asks an almost empty book what it answers, and what it refuses.
 pub(crate) fn ask_in_vain(player: &mut Player) -> Result<(), Stop> {
@@ -30,16 +30,18 @@ pub(crate) fn record_group(player: &mut Player) -> Result<(), Stop> {
     player.expect_names(b"x", &[])
 }
 
-/// Two branches change the same line. One of the two patches in conflict is taken out; one that others
-/// stand on is not.
+/// Two branches change the same line, and one is pulled into the other.
 pub(crate) fn conflict(player: &mut Player) -> Result<(), Stop> {
     record_conflict(player)?;
     player.expect_lines(b"main", &[b"one"])?;
-    player.expect_conflicts(b"main", 1)?;
+    player.expect_conflicts(b"main", 1)
+}
+
+/// Then the other is pulled into the one.
+pub(crate) fn pull_back(player: &mut Player) -> Result<(), Stop> {
     player.pull(b"main", b"x")?;
     player.expect_names(b"x", &[b"g", b"q", b"p"])?;
-    player.expect_conflicts(b"x", 1)?;
-    obliterate(player)
+    player.expect_conflicts(b"x", 1)
 }
 
 fn record_conflict(player: &mut Player) -> Result<(), Stop> {
@@ -50,7 +52,8 @@ fn record_conflict(player: &mut Player) -> Result<(), Stop> {
     player.pull(b"x", b"main")
 }
 
-fn obliterate(player: &mut Player) -> Result<(), Stop> {
+/// Then one of the two patches in conflict is taken out; one that others stand on is not.
+pub(crate) fn obliterate(player: &mut Player) -> Result<(), Stop> {
     let g = Name::new(b"g")?;
     let p = Name::new(b"p")?;
     let depends = Refusal::Depends { patch: p, on: g };

@@ -1,8 +1,9 @@
 use crate::states::is_same;
-use crate::stops::{Stop, expect};
-use camp_base::{Line, Name, Path};
-use camp_prim::{Lines, Primitive};
-use camp_repo::{Book, Call, Changes, Names, Refusal, Reply, State};
+use crate::values::{lines_of, names_of, path_of};
+use camp_base::{Line, Name};
+use camp_prim::Primitive;
+use camp_repo::{Book, Call, Changes, Refusal, Reply, State};
+use refusing::{Stop, expect};
 use std::alloc::Global;
 
 /// The seat of all calls.
@@ -43,7 +44,7 @@ impl Player {
     /// Records the addition of the file `f`, and lines in it.
     pub(crate) fn record_group(&mut self, name: &[u8], lines: &[&[u8]]) -> Result<(), Stop> {
         let mut changes = Vec::with_capacity(self.alloc, 2)?;
-        changes.push(Primitive::Add(Path::new(self.alloc, b"f")?))?;
+        changes.push(Primitive::Add(path_of(self.alloc)?))?;
         changes.push(edit(self.alloc, &[], lines)?)?;
         let call = record(b"main", name, changes)?;
         self.accept(&call)
@@ -117,7 +118,7 @@ impl Player {
     /// The file `f` of a branch has to have these lines.
     pub(crate) fn expect_lines(&mut self, branch: &[u8], lines: &[&[u8]]) -> Result<(), Stop> {
         let branch = Name::new(branch)?;
-        let path = Path::new(self.alloc, b"f")?;
+        let path = path_of(self.alloc)?;
         match self.ask(&Call::Tree(branch))? {
             Reply::Tree(tree) => match tree.file(&path) {
                 Some(file) => {
@@ -235,24 +236,8 @@ fn record(branch: &[u8], name: &[u8], changes: Vec<Primitive>) -> Result<Call, S
 }
 
 fn edit(alloc: Global, old: &[&[u8]], new: &[&[u8]]) -> Result<Primitive, Stop> {
-    let path = Path::new(alloc, b"f")?;
+    let path = path_of(alloc)?;
     let old = lines_of(alloc, old)?;
     let new = lines_of(alloc, new)?;
     Primitive::hunk(path, 1, old, new).ok_or(Stop::Wrong("an edit"))
-}
-
-fn lines_of(alloc: Global, texts: &[&[u8]]) -> Result<Lines, Stop> {
-    let mut lines = Vec::with_capacity(alloc, texts.len())?;
-    for text in texts {
-        lines.push(Line::new(alloc, text)?)?;
-    }
-    Ok(Lines::new(alloc, lines)?)
-}
-
-fn names_of(alloc: Global, texts: &[&[u8]]) -> Result<Names, Stop> {
-    let mut names = Vec::with_capacity(alloc, texts.len())?;
-    for text in texts {
-        names.push(Name::new(text)?)?;
-    }
-    Ok(Names::new(names))
 }

@@ -1,17 +1,44 @@
 //! `camp`: reads a script of calls from standard input, runs it, and writes its answers to standard
-//! output. The exit status is 0 where the script was run, 1 where it has a fault, and 3 where
-//! memory ran out or input or output failed; a line on standard error says why.
+//! output. The exit status is 0 where the script was run, 1 where it has a fault, 2 where the
+//! command line is refused, and 3 where memory ran out or input or output failed; standard error
+//! says why.
 #![tactic(auto)]
 
-use camp_run::run_book;
+ghost use Rattle.std.specs.Prelude.{IfOk, ◌≤◌};
+
+mod runs;
+mod stops;
+
+use camp_options::{Options, options};
+use runs::run;
+use std::alloc::AllocError;
+use std::env::{self, Env};
+use std::io::ErrorKind;
 use std::process::ExitCode;
+use stops::Stop;
 
 fn main(rt: HostRuntime) -> ExitCode {
-    match run_book(rt.alloc(), &mut rt.stdin(), &mut rt.stdout()) {
-        Ok(()) => ExitCode::SUCCESS,
-        Err(fault) => {
-            let _ = eprintln!(rt; "camp: {fault}");
-            ExitCode::from(fault.status())
+    let ended = match asked(&rt) {
+        Ok(options) => {
+            let (mut reader, mut writer) = (rt.stdin(), rt.stdout());
+            run(&rt, rt.alloc(), &options, &mut reader, &mut writer).map_err(Stop::Run)
         }
+        Err(stop) => Err(stop),
+    };
+    match ended {
+        Ok(()) => ExitCode::SUCCESS,
+        Err(stop) => ExitCode::from(stop.tell(&rt)),
     }
+}
+
+// What the command line asks for.
+fn asked<R: Env + AllocGlobal>(rt: &R) -> Result<Options, Stop>
+    ensures { IfOk result (λ options. (1 ≤ options.tries) × (options.tries ≤ 1000)) }
+{
+    let words: Vec<String> = match env::args(rt) {
+        Ok(words) => words.collect(rt.alloc())?,
+        Err(error) if error.kind() == ErrorKind::OutOfMemory => return Err(Stop::from(AllocError)),
+        Err(_) => return Err(Stop::NotText),
+    };
+    Ok(options(rt.alloc(), words.as_slice())?)
 }

@@ -1,1 +1,3 @@
-pub mod Loops
+pub mod Serial
+pub mod Texts
+pub mod Written

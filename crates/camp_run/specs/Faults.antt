@@ -2,18 +2,20 @@
 use Rattle.std.specs.Prelude.{ℕ, List, codes}
 use Rattle.camp_script.specs.Faults.{line_words}
 use Rattle.camp_run.specs.declared.faults.RunFault.{RunFault}
-use Rattle.camp_run.specs.declared.faults.RunFault.TheVariants.{Script, Memory, Read, Write}
+use Rattle.camp_run.specs.declared.faults.RunFault.TheVariants.{Script, Foreign, Memory, Read, Write}
 
 -- the words that tell a fault
 abbrev pub fault_words : RunFault → List ℕ
 fault_words (Script fault) = line_words fault
+fault_words Foreign = codes "foreign call"
 fault_words Memory = codes "out of memory"
 fault_words Read = codes "cannot read input"
 fault_words Write = codes "cannot write output"
 
--- the exit status: 1 where the script has a fault, and 3 where memory, the input or the output failed
+-- the exit status: 1 where the script has a fault, and 3 where memory, the lock, the input or the output failed
 abbrev pub status_of : RunFault → ℕ
 status_of (Script fault) = 1
+status_of Foreign = 3
 status_of Memory = 3
 status_of Read = 3
 status_of Write = 3

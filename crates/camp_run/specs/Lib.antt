@@ -1,3 +1,6 @@
 pub mod Faults
-pub mod Output
+pub mod Inputs
+pub mod Laws
+pub mod Outputs
 pub mod Runs
+pub mod Serial

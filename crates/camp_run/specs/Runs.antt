@@ -1,45 +1,48 @@
--- What a run reads and writes.
-use Rattle.std.specs.Prelude.{◌≡◌, ℕ, List, Option, Result, Ok, Err, IfSome, IsOkAnd}
-use Rattle.std.specs.Io.KnownBytes.{Appends, Keeps, IsAtEnd}
-use Rattle.camp_script.specs.Reading.{script_of}
+-- What a run answers, by what its reader had and has left, and what its writer held and holds, where that is known.
+use Rattle.std.specs.Prelude.{ℕ, Bool, List, Option, Result, Ok, Err}
+use Rattle.std.specs.Io.KnownBytes.{Appends, Keeps}
+use Rattle.camp_call.specs.declared.calls.Call.{Call}
 use Rattle.camp_script.specs.Writing.{AppendsFront}
-use Rattle.camp_run.specs.Output.{serial_output}
+use Rattle.camp_run.specs.Inputs.{ReadsAs}
+use Rattle.camp_run.specs.Outputs.{Outcome, IsOutput}
 use Rattle.camp_run.specs.declared.faults.RunFault.{RunFault}
-use Rattle.camp_run.specs.declared.faults.RunFault.TheVariants.{Script, Memory, Read, Write}
+use Rattle.camp_run.specs.declared.faults.RunFault.TheVariants.{Script, Foreign, Memory, Read, Write}
 
--- the bytes that were read: where it is known what the reader has, they are all of it, and nothing is left
-pub record ReadsAll (remaining rest : Option (List ℕ)) (bytes : List ℕ) : Type 0 where
-  pub all : IfSome remaining (λ all. bytes ≡ all)
-  pub end : IsAtEnd rest
+-- a script was read, and this is the text of what it comes to
+pub record HasOutput (Comes : Outcome) (wants_history : Bool) (remaining rest : Option (List ℕ)) (text : List ℕ)
+    : Type 0 where
+  pub script : List (List Call)
+  pub reads : ReadsAs remaining rest (Ok script)
+  pub is_output : IsOutput Comes wants_history script text
 
--- what a run answers, by what the reader had and has left, and what the writer held and holds, where that is known:
 -- Ok: a script was read, and its output was written, no more and no less.
 -- A fault of the script: it is the first one, and nothing was written.
--- Out of memory, or the reader failed: nothing was written.
+-- A foreign call, out of memory, or the reader failed: nothing was written.
 -- The writer failed: a script was read, and a front of its output was written, and not all of it.
-abbrev pub Runs :
-    Option (List ℕ) → Option (List ℕ) → Option (List ℕ) → Result (Unit {0}) RunFault → Option (List ℕ) → Type 0
-Runs remaining rest old (Ok done) new =
-    (bytes : List ℕ) × ReadsAll remaining rest bytes
-    × IsOkAnd (script_of bytes) (λ script. Appends old new (serial_output script))
-Runs remaining rest old (Err (Script fault)) new =
-    (bytes : List ℕ) × ReadsAll remaining rest bytes × (script_of bytes ≡ Err fault) × Keeps old new
-Runs remaining rest old (Err Memory) new = Keeps old new
-Runs remaining rest old (Err Read) new = Keeps old new
-Runs remaining rest old (Err Write) new =
-    (bytes : List ℕ) × ReadsAll remaining rest bytes
-    × IsOkAnd (script_of bytes) (λ script. AppendsFront old new (serial_output script))
+abbrev pub Runs : Outcome → Bool
+    → Option (List ℕ) → Option (List ℕ) → Option (List ℕ) → Result (Unit {0}) RunFault → Option (List ℕ) → Type 0
+Runs Comes wants_history remaining rest old (Ok done) new =
+    (text : List ℕ) × HasOutput Comes wants_history remaining rest text × Appends old new text
+Runs Comes wants_history remaining rest old (Err (Script fault)) new =
+    ReadsAs remaining rest (Err fault) × Keeps old new
+Runs Comes wants_history remaining rest old (Err Foreign) new = Keeps old new
+Runs Comes wants_history remaining rest old (Err Memory) new = Keeps old new
+Runs Comes wants_history remaining rest old (Err Read) new = Keeps old new
+Runs Comes wants_history remaining rest old (Err Write) new =
+    (text : List ℕ) × HasOutput Comes wants_history remaining rest text × AppendsFront old new text
 
--- a text is the output of the script that was read
-abbrev pub IsOutput : Option (List ℕ) → Option (List ℕ) → List ℕ → Type 0
-IsOutput remaining rest text =
-    (bytes : List ℕ) × ReadsAll remaining rest bytes
-    × IsOkAnd (script_of bytes) (λ script. text ≡ serial_output script)
-
--- why a script that was to be read has no output; writing comes later
+-- why there is no text to be written: a fault of the script is its first one; writing comes later
 abbrev pub HasNoOutput : Option (List ℕ) → Option (List ℕ) → RunFault → Type 0
-HasNoOutput remaining rest (Script fault) =
-    (bytes : List ℕ) × ReadsAll remaining rest bytes × (script_of bytes ≡ Err fault)
+HasNoOutput remaining rest (Script fault) = ReadsAs remaining rest (Err fault)
+HasNoOutput remaining rest Foreign = Unit {0}
 HasNoOutput remaining rest Memory = Unit {0}
 HasNoOutput remaining rest Read = Unit {0}
 HasNoOutput remaining rest Write = ⊥
+
+-- and no call is foreign, where nobody else can have asked one
+abbrev pub IsNotForeign : RunFault → Type 0
+IsNotForeign (Script fault) = Unit {0}
+IsNotForeign Foreign = ⊥
+IsNotForeign Memory = Unit {0}
+IsNotForeign Read = Unit {0}
+IsNotForeign Write = Unit {0}

@@ -12,6 +12,8 @@ use std::fmt;
 pub enum RunFault {
     /// The input is no script. Nothing was run.
     Script(LineFault),
+    /// The history has a call that no answer tells, or lacks one. Nothing was written.
+    Foreign,
     /// Nothing was written.
     Memory,
     /// The reader failed. Nothing was run.
@@ -27,7 +29,7 @@ impl RunFault {
     {
         match self {
             RunFault::Script(_) => 1,
-            RunFault::Memory | RunFault::Read | RunFault::Write => 3,
+            RunFault::Foreign | RunFault::Memory | RunFault::Read | RunFault::Write => 3,
         }
     }
 }
@@ -38,6 +40,7 @@ impl fmt::Display for RunFault {
     fn fmt<W: fmt::Write>(&self, f: &mut fmt::Formatter<W>) -> fmt::Result {
         match self {
             RunFault::Script(fault) => write!(f, "{fault}"),
+            RunFault::Foreign => f.write_str("foreign call"),
             RunFault::Memory => f.write_str("out of memory"),
             RunFault::Read => f.write_str("cannot read input"),
             RunFault::Write => f.write_str("cannot write output"),

@@ -1,8 +1,18 @@
-//! Runs of scripts: from the bytes of a reader to those of a writer.
+//! Runs of scripts, from the bytes of a reader to those of a writer: in one thread, in threads over a
+//! lock, and in threads over a head.
 #![tactic(auto)]
 
 mod books;
 mod faults;
+mod heads;
+mod inputs;
+mod laws;
+mod locks;
+mod outputs;
 
 pub use books::run_book;
+pub use camp_head::{Gate, NoGate};
 pub use faults::RunFault;
+pub use heads::run_head;
+pub use laws::{locked_section_is_serial, shared_section_is_serial};
+pub use locks::run_locked;

@@ -7,7 +7,7 @@ use Rattle.std.specs.Prelude.{fold}
 use Rattle.std.specs.List.{list_all}
 use Rattle.std.specs.Fmt.{decimal}
 use Rattle.camp_base.specs.Bytes.{is_between}
-use Rattle.camp_script.specs.Commands.{value_of, is_line_number}
+use Rattle.camp_script.specs.Words.{value_of, is_line_number}
 use Rattle.camp_script.proofs.CanonicalLines.{both, all_weaker, is_word, is_word_byte}
 
 abbrev are_digits : List ℕ → Bool

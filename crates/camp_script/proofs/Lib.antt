@@ -1,9 +1,12 @@
 pub mod CanonicalCalls
 pub mod CanonicalLines
 pub mod CanonicalNumbers
-pub mod FaultLemmas
 pub mod FirstWords
+pub mod HistoryLemmas
 pub mod LineLemmas
+pub mod NameLemmas
+pub mod RecordLines
 pub mod TextLemmas
 pub mod Wanting
 pub mod WordLemmas
+pub mod Writable

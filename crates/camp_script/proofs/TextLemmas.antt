@@ -87,11 +87,32 @@ moved_on all done rest n is =
 pub decimal-four : decimal 4 ≡ 52 ∷ []
 decimal-four = decimal_digit 4 (lit< tt)
 
+pub decimal-five : decimal 5 ≡ 53 ∷ []
+decimal-five = decimal_digit 5 (lit< tt)
+
 pub decimal-six : decimal 6 ≡ 54 ∷ []
 decimal-six = decimal_digit 6 (lit< tt)
+
+pub decimal-seven : decimal 7 ≡ 55 ∷ []
+decimal-seven = decimal_digit 7 (lit< tt)
+
+pub decimal-eight : decimal 8 ≡ 56 ∷ []
+decimal-eight = decimal_digit 8 (lit< tt)
 
 pub decimal-nine : decimal 9 ≡ 57 ∷ []
 decimal-nine = decimal_digit 9 (lit< tt)
 
 pub decimal-ten : decimal 10 ≡ 49 ∷ 48 ∷ []
 decimal-ten = decimal_step 10 (lit≤ tt) (lit< tt) ∙ ap (λ t. t ++ 48 ∷ []) (decimal_digit 1 (lit< tt))
+
+pub decimal-eleven : decimal 11 ≡ 49 ∷ 49 ∷ []
+decimal-eleven = decimal_step 11 (lit≤ tt) (lit< tt) ∙ ap (λ t. t ++ 49 ∷ []) (decimal_digit 1 (lit< tt))
+
+pub decimal-twelve : decimal 12 ≡ 49 ∷ 50 ∷ []
+decimal-twelve = decimal_step 12 (lit≤ tt) (lit< tt) ∙ ap (λ t. t ++ 50 ∷ []) (decimal_digit 1 (lit< tt))
+
+pub decimal-thirteen : decimal 13 ≡ 49 ∷ 51 ∷ []
+decimal-thirteen = decimal_step 13 (lit≤ tt) (lit< tt) ∙ ap (λ t. t ++ 51 ∷ []) (decimal_digit 1 (lit< tt))
+
+pub decimal-fourteen : decimal 14 ≡ 49 ∷ 52 ∷ []
+decimal-fourteen = decimal_step 14 (lit≤ tt) (lit< tt) ∙ ap (λ t. t ++ 52 ∷ []) (decimal_digit 1 (lit< tt))

@@ -1,5 +1,5 @@
 -- The canonical text of a script, which reads back.
-use Rattle.std.specs.Prelude.{◌≡◌, ℕ, ◌≤◌, IsTrue, List, [], ◌∷◌, ◌++◌, count_by, Ok, codes}
+use Rattle.std.specs.Prelude.{◌≡◌, ℕ, ◌≤◌, IsTrue, List, [], ◌∷◌, ◌++◌, length, Option, None, Some, Ok, codes}
 use Rattle.std.specs.List.{flat_map, AllByRecursion}
 use Rattle.std.specs.Fmt.{decimal}
 use Rattle.camp_base.specs.Bytes.{is_name, is_path, is_line}
@@ -7,38 +7,64 @@ use Rattle.camp_base.specs.Trees.{Lines}
 use Rattle.camp_prim.specs.Hunks.{IsInRange}
 use Rattle.camp_prim.specs.declared.primitives.Primitive.{Primitive}
 use Rattle.camp_prim.specs.declared.primitives.Primitive.TheVariants.{Add, Remove, Hunk}
-use Rattle.camp_trunk.specs.Calls.{is_writing}
-use Rattle.camp_trunk.specs.declared.calls.Call.{Call}
-use Rattle.camp_trunk.specs.declared.calls.Call.TheVariants as call
+use Rattle.camp_call.specs.Patches.{IsPatchSized}
+use Rattle.camp_call.specs.declared.calls.Call.{Call}
+use Rattle.camp_call.specs.declared.calls.Call.TheVariants as call
 use Rattle.camp_script.specs.Texts.{line_text, signed_line}
+use Rattle.camp_script.specs.HistoryTexts.{call_words}
 use Rattle.camp_script.specs.Reading.{script_of}
+use Rattle.camp_script.specs.Sections.{AreWithinLimits}
 
--- the words of a change
-abbrev pub change_words : Primitive → List (List ℕ)
-change_words (Add path) = codes "add" ∷ path ∷ []
-change_words (Remove path) = codes "remove" ∷ path ∷ []
-change_words (Hunk hunk) = codes "edit" ∷ hunk.path ∷ decimal hunk.line ∷ []
+-- the words that begin a change
+abbrev pub change_head : Primitive → List (List ℕ)
+change_head (Add path) = codes "add" ∷ path ∷ []
+change_head (Remove path) = codes "remove" ∷ path ∷ []
+change_head (Hunk hunk) = codes "edit" ∷ hunk.path ∷ decimal hunk.line ∷ []
 
--- the lines behind a change, if it has a body
+-- the lines behind the head of a change, if it has a body
 abbrev pub change_body : Primitive → List ℕ
 change_body (Add path) = []
 change_body (Remove path) = []
 change_body (Hunk hunk) =
     flat_map (signed_line 45) hunk.old ++ flat_map (signed_line 43) hunk.new ++ line_text (codes "end" ∷ [])
 
--- a call as a script has it
+-- a change of a group
+abbrev pub change_text : Primitive → List ℕ
+change_text change = line_text (change_head change) ++ change_body change
+
+-- a record: a change that is alone stands on its line, and others in a group
+abbrev pub record_text : List ℕ → List ℕ → List Primitive → List ℕ
+record_text branch name (change ∷ []) =
+    line_text (codes "record" ∷ branch ∷ name ∷ change_head change) ++ change_body change
+record_text branch name changes =
+    line_text (codes "record" ∷ branch ∷ name ∷ codes "group" ∷ []) ++ flat_map change_text changes
+    ++ line_text (codes "done" ∷ [])
+
+-- a call as a script has it: a record with its bodies, and another on its line, as a history has it
 abbrev pub call_text : Call → List ℕ
-call_text (call.Record branch name change) =
-    line_text (codes "record" ∷ branch ∷ name ∷ change_words change) ++ change_body change
-call_text (call.Tree branch) = line_text (codes "tree" ∷ branch ∷ [])
+call_text (call.Record branch name changes) = record_text branch name changes
+call_text other = line_text (call_words other)
 
 -- the canonical text of a section
 abbrev pub section_text : List Call → List ℕ
 section_text calls = flat_map call_text calls
 
+-- the section of a client
+abbrev pub client_text : List Call → List ℕ
+client_text calls = line_text (codes "client" ∷ []) ++ section_text calls
+
+-- the canonical text of sections: the opening, and those of clients
+abbrev pub script_text : List (List Call) → List ℕ
+script_text [] = []
+script_text (opening ∷ clients) = section_text opening ++ flat_map client_text clients
+
 -- lines that a program can hold
 abbrev pub AreLines : Lines → Type 0
 AreLines lines = AllByRecursion (λ line. IsTrue (is_line line)) lines
+
+-- names that a program can hold
+abbrev pub AreNames : List (List ℕ) → Type 0
+AreNames names = AllByRecursion (λ name. IsTrue (is_name name)) names
 
 -- a change that a program can hold: its path is a path, its lines are lines, and a hunk is in range
 abbrev pub IsChange : Primitive → Type 0
@@ -46,12 +72,31 @@ IsChange (Add path) = IsTrue (is_path path)
 IsChange (Remove path) = IsTrue (is_path path)
 IsChange (Hunk hunk) = IsTrue (is_path hunk.path) × IsInRange hunk × AreLines hunk.old × AreLines hunk.new
 
--- a call that a program can hold: its names are names too
-abbrev pub IsCall : Call → Type 0
-IsCall (call.Record branch name change) = IsTrue (is_name branch) × IsTrue (is_name name) × IsChange change
-IsCall (call.Tree branch) = IsTrue (is_name branch)
+-- a list of names, if there is one, has a name
+abbrev pub IsListed : Option (List (List ℕ)) → Type 0
+IsListed None = Unit {0}
+IsListed (Some names) = (1 ≤ length names) × AreNames names
 
--- the canonical text of calls, 65,536 writing ones at most, reads back as just these calls
+-- a call that a script can ask: its names are names, its changes can be held, and its lists have a name
+abbrev pub IsCall : Call → Type 0
+IsCall (call.Branch new from) = IsTrue (is_name new) × IsTrue (is_name from)
+IsCall (call.Record branch name changes) =
+    IsTrue (is_name branch) × IsTrue (is_name name) × IsPatchSized changes × AllByRecursion IsChange changes
+IsCall (call.Pull from to names) = IsTrue (is_name from) × IsTrue (is_name to) × IsListed names
+IsCall (call.Obliterate branch names) = IsTrue (is_name branch) × (1 ≤ length names) × AreNames names
+IsCall (call.Tree branch) = IsTrue (is_name branch)
+IsCall (call.Conflicts branch) = IsTrue (is_name branch)
+IsCall (call.Names branch) = IsTrue (is_name branch)
+
+-- sections that a script can be: calls that it can ask, within the limits
+pub record CanBeWritten (sections : List (List Call)) : Type 0 where
+  pub calls : AllByRecursion (AllByRecursion IsCall) sections
+  pub limits : AreWithinLimits sections
+
+-- the canonical text of such sections reads back as just these
 abbrev pub ReadsBack : Type 0
-ReadsBack = (calls : List Call) → AllByRecursion IsCall calls → count_by is_writing calls ≤ 65_536 →
-    script_of (section_text calls) ≡ Ok (calls ∷ [])
+ReadsBack = (sections : List (List Call)) → CanBeWritten sections → script_of (script_text sections) ≡ Ok sections
+
+-- whatever is read is such sections
+abbrev pub ReadIsWritable : Type 0
+ReadIsWritable = (bytes : List ℕ) (sections : List (List Call)) → script_of bytes ≡ Ok sections → CanBeWritten sections

@@ -1,100 +1,115 @@
--- What the words of a line ask for, or the first thing that is wrong with them.
-use Rattle.std.specs.Prelude.{◌≤◌, ℕ, ◌+◌, ◌*◌, ◌-◌, Bool, ◌&&◌, if◌then◌else◌}
-use Rattle.std.specs.Prelude.{List, [], ◌∷◌, length, fold, Result, Ok, Err, bytes_eq, codes}
-use Rattle.std.specs.List.{list_all}
-use Rattle.camp_base.specs.Bytes.{is_between, is_name, is_path}
+-- What a line asks for by its words, outside groups and bodies.
+use Rattle.std.specs.Prelude.{ℕ, true, false, if◌then◌else◌}
+use Rattle.std.specs.Prelude.{List, [], ◌∷◌, Option, None, Some, Result, Ok, bytes_eq, codes}
 use Rattle.camp_prim.specs.declared.primitives.Primitive.{Primitive}
 use Rattle.camp_prim.specs.declared.primitives.Primitive.TheVariants.{Add, Remove}
-use Rattle.camp_trunk.specs.declared.calls.Call.TheVariants as call
+use Rattle.camp_call.specs.declared.calls.Call.TheVariants as call
 use Rattle.camp_script.specs.Faults.{fault_at}
-use Rattle.camp_script.specs.declared.commands.WholeFile.{WholeFile}
-use Rattle.camp_script.specs.declared.commands.WholeFile.TheVariants as file
-use Rattle.camp_script.specs.declared.commands.Command.{Command}
-use Rattle.camp_script.specs.declared.commands.Command.TheVariants.{Whole, Edit as edit}
-use Rattle.camp_script.specs.declared.faults.FaultKind.{FaultKind}
+use Rattle.camp_script.specs.Lines.{is_skipped}
+use Rattle.camp_script.specs.Words.{◌>>=◌, no_words, one_word, two_words, three_words}
+use Rattle.camp_script.specs.Words.{name_at, path_at, number_at, names_at}
+use Rattle.camp_script.specs.Progress.{Progress, record_at, with_edit, after_call, after_head, after_client}
 use Rattle.camp_script.specs.declared.faults.FaultKind.TheVariants.{UnknownCommand, WrongNumberOfWords}
-use Rattle.camp_script.specs.declared.faults.FaultKind.TheVariants.{BadName, BadPath, BadNumber}
 use Rattle.camp_script.specs.declared.faults.LineFault.{LineFault}
 
--- what follows a good answer; the first fault stays
-infixl 10 ◌>>=◌
-abbrev pub ◌>>=◌ : {A B E : Type 0} → Result A E → (A → Result B E) → Result B E
-(Ok x) >>= next = next x
-(Err fault) >>= next = Err fault
+-- `branch NEW FROM`, from `NEW` on
+abbrev pub branch_line : ℕ → Progress → List (List ℕ) → Result Progress LineFault
+branch_line line progress words =
+    two_words line words >>= λ pair. name_at line pair.0 >>= λ new. name_at line pair.1 >>= λ from.
+    after_call line progress (call.Branch new from)
 
--- a word of a line that passes a test, or the fault
-abbrev pub word_that : (List ℕ → Bool) → FaultKind → ℕ → List ℕ → Result (List ℕ) LineFault
-word_that test kind line word = if test word then Ok word else fault_at line kind
+-- `record BRANCH NAME add PATH`, and the same with `remove`
+abbrev pub whole_record : (List ℕ → Primitive) → ℕ → Progress → List ℕ → List ℕ → List ℕ → Result Progress LineFault
+whole_record change line progress branch name path =
+    name_at line branch >>= λ branch. name_at line name >>= λ name. path_at line path >>= λ path.
+    after_call line progress (call.Record branch name (change path ∷ []))
 
--- a word that is a name
-abbrev pub name_at : ℕ → List ℕ → Result (List ℕ) LineFault
-name_at = word_that is_name BadName
+-- `record BRANCH NAME edit PATH LINE`; the body follows
+abbrev pub edit_record : ℕ → Progress → List ℕ → List ℕ → List ℕ → List ℕ → Result Progress LineFault
+edit_record line progress branch name path place =
+    name_at line branch >>= λ branch. name_at line name >>= λ name. path_at line path >>= λ path.
+    number_at line place >>= λ place.
+    after_head line progress (with_edit (record_at line branch name false) path place line)
 
--- a word that is a path
-abbrev pub path_at : ℕ → List ℕ → Result (List ℕ) LineFault
-path_at = word_that is_path BadPath
-
--- the number that decimal digits spell
-abbrev pub value_of : List ℕ → ℕ
-value_of digits = fold (λ value digit. value * 10 + (digit - 48)) 0 digits
-
--- whether a word is the number of a line: 1 to 10 decimal digits, with a value of 1 to 1,073,741,823
-abbrev pub is_line_number : List ℕ → Bool
-is_line_number word =
-    is_between 1 10 (length word)
-    && (list_all (is_between 48 57) word && is_between 1 1_073_741_823 (value_of word))
-
--- a word that is the number of a line
-abbrev pub number_at : ℕ → List ℕ → Result ℕ LineFault
-number_at line word = if is_line_number word then Ok (value_of word) else fault_at line BadNumber
-
--- `BRANCH`, `NAME` and `PATH`
-abbrev pub file_at : ℕ → List ℕ → List ℕ → List ℕ → Result (List ℕ × List ℕ × List ℕ) LineFault
-file_at line branch name path =
+-- `record BRANCH NAME group`; the changes follow
+abbrev pub group_record : ℕ → Progress → List ℕ → List ℕ → Result Progress LineFault
+group_record line progress branch name =
     name_at line branch >>= λ branch. name_at line name >>= λ name.
-    path_at line path >>= λ path. Ok (branch, name, path)
+    after_head line progress (record_at line branch name true)
 
--- the change that puts an empty file at a path, or takes it away
-abbrev pub change_at : WholeFile → List ℕ → Primitive
-change_at file.Add = Add
-change_at file.Remove = Remove
+-- a record: its branch, its name, its change word, and the words behind that one
+abbrev pub record_of :
+    ℕ → Progress → List ℕ → List ℕ → List ℕ → List (List ℕ) → Result Progress LineFault
+record_of line progress branch name change words =
+    if bytes_eq change (codes "add")
+    then (one_word line words >>= whole_record Add line progress branch name)
+    else (if bytes_eq change (codes "remove")
+    then (one_word line words >>= whole_record Remove line progress branch name)
+    else (if bytes_eq change (codes "edit")
+    then (two_words line words >>= λ pair. edit_record line progress branch name pair.0 pair.1)
+    else (if bytes_eq change (codes "group")
+    then (no_words line words >>= λ none. group_record line progress branch name)
+    else fault_at line UnknownCommand)))
 
--- `record BRANCH NAME add PATH`, and the same with `remove`: the words from `PATH` on
-abbrev pub whole_record : (List ℕ → Primitive) → ℕ → List ℕ → List ℕ → List (List ℕ) → Result Command LineFault
-whole_record change line branch name (path ∷ []) =
-    file_at line branch name path >>= λ file. Ok (Whole (call.Record file.0 file.1 (change file.2)))
-whole_record change line branch name others = fault_at line WrongNumberOfWords
+-- `record BRANCH NAME ..`, from `BRANCH` on
+abbrev pub record_line : ℕ → Progress → List (List ℕ) → Result Progress LineFault
+record_line line progress words =
+    three_words line words >>= λ head. record_of line progress head.0 head.1 head.2 head.3
 
--- `record BRANCH NAME edit PATH LINE`: the words from `PATH` on
-abbrev pub edit_record : ℕ → List ℕ → List ℕ → List (List ℕ) → Result Command LineFault
-edit_record line branch name (path ∷ place ∷ []) =
-    file_at line branch name path >>= λ file. number_at line place >>= λ place.
-    Ok (edit (record { branch = file.0; name = file.1; path = file.2; line = place }))
-edit_record line branch name others = fault_at line WrongNumberOfWords
+-- the names that a pull lists; without a list it pulls all
+abbrev pub listed : List (List ℕ) → Option (List (List ℕ))
+listed [] = None
+listed (name ∷ names) = Some (name ∷ names)
 
--- the words behind `record`
-abbrev pub record_command : ℕ → List (List ℕ) → Result Command LineFault
-record_command line (branch ∷ name ∷ change ∷ words) =
-    if bytes_eq change (codes "add") then whole_record Add line branch name words
-    else (if bytes_eq change (codes "remove") then whole_record Remove line branch name words
-    else (if bytes_eq change (codes "edit") then edit_record line branch name words
+-- `pull FROM TO` or `pull FROM TO NAME ..`, from `FROM` on
+abbrev pub pull_line : ℕ → Progress → List (List ℕ) → Result Progress LineFault
+pull_line line progress (from ∷ to ∷ names) =
+    name_at line from >>= λ from. name_at line to >>= λ to. names_at line names >>= λ names.
+    after_call line progress (call.Pull from to (listed names))
+pull_line line progress others = fault_at line WrongNumberOfWords
+
+-- `obliterate BRANCH NAME ..`, from `BRANCH` on
+abbrev pub obliterate_line : ℕ → Progress → List (List ℕ) → Result Progress LineFault
+obliterate_line line progress (branch ∷ name ∷ names) =
+    name_at line branch >>= λ branch. names_at line (name ∷ names) >>= λ names.
+    after_call line progress (call.Obliterate branch names)
+obliterate_line line progress others = fault_at line WrongNumberOfWords
+
+-- the branch that a question is about
+abbrev pub branch_at : ℕ → List (List ℕ) → Result (List ℕ) LineFault
+branch_at line words = one_word line words >>= name_at line
+
+-- `client`, with nothing behind it
+abbrev pub client_line : ℕ → Progress → List (List ℕ) → Result Progress LineFault
+client_line line progress words = no_words line words >>= λ none. after_client line progress
+
+-- a question: its first word, and those behind it
+abbrev pub question : ℕ → Progress → List ℕ → List (List ℕ) → Result Progress LineFault
+question line progress word words =
+    if bytes_eq word (codes "tree")
+    then (branch_at line words >>= λ branch. after_call line progress (call.Tree branch))
+    else (if bytes_eq word (codes "conflicts")
+    then (branch_at line words >>= λ branch. after_call line progress (call.Conflicts branch))
+    else (if bytes_eq word (codes "names")
+    then (branch_at line words >>= λ branch. after_call line progress (call.Names branch))
     else fault_at line UnknownCommand))
-record_command line others = fault_at line WrongNumberOfWords
 
--- the words behind `tree`
-abbrev pub tree_command : ℕ → List (List ℕ) → Result Command LineFault
-tree_command line (branch ∷ []) = name_at line branch >>= λ branch. Ok (Whole (call.Tree branch))
-tree_command line others = fault_at line WrongNumberOfWords
+-- a command without a list of names: its first word, and those behind it
+abbrev pub short_command : ℕ → Progress → List ℕ → List (List ℕ) → Result Progress LineFault
+short_command line progress word words =
+    if bytes_eq word (codes "branch") then branch_line line progress words
+    else (if bytes_eq word (codes "record") then record_line line progress words
+    else (if bytes_eq word (codes "client") then client_line line progress words
+    else question line progress word words))
 
--- what the words of a line ask for
-abbrev pub command_of : ℕ → List (List ℕ) → Result Command LineFault
-command_of line [] = fault_at line UnknownCommand
-command_of line (word ∷ words) =
-    if bytes_eq word (codes "record") then record_command line words
-    else (if bytes_eq word (codes "tree") then tree_command line words
-    else fault_at line UnknownCommand)
+-- a command: its first word, and those behind it; no word asks for nothing
+abbrev pub command : ℕ → Progress → List (List ℕ) → Result Progress LineFault
+command line progress [] = Ok progress
+command line progress (word ∷ words) =
+    if bytes_eq word (codes "pull") then pull_line line progress words
+    else (if bytes_eq word (codes "obliterate") then obliterate_line line progress words
+    else short_command line progress word words)
 
--- the head of an edit has a line, counted from 1
-abbrev pub IsPlaced : Command → Type 0
-IsPlaced (Whole call) = Unit {0}
-IsPlaced (edit head) = 1 ≤ head.line
+-- after a line of these words, outside groups and bodies
+abbrev pub after_words : ℕ → Progress → List (List ℕ) → Result Progress LineFault
+after_words line progress words = if is_skipped words then Ok progress else command line progress words

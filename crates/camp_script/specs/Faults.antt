@@ -4,7 +4,8 @@ use Rattle.std.specs.Fmt.{decimal}
 use Rattle.camp_script.specs.declared.faults.FaultKind.{FaultKind}
 use Rattle.camp_script.specs.declared.faults.FaultKind.TheVariants.{UnknownCommand, WrongNumberOfWords, BadName}
 use Rattle.camp_script.specs.declared.faults.FaultKind.TheVariants.{BadPath, BadNumber, BadLine, BadEdit}
-use Rattle.camp_script.specs.declared.faults.FaultKind.TheVariants.{EditNotEnded, TooManyCommands}
+use Rattle.camp_script.specs.declared.faults.FaultKind.TheVariants.{EditNotEnded, TooManyClients, TooManyCommands}
+use Rattle.camp_script.specs.declared.faults.FaultKind.TheVariants.{BadGroup, GroupNotEnded}
 use Rattle.camp_script.specs.declared.faults.LineFault.{LineFault}
 use Rattle.camp_script.specs.declared.faults.ScriptFault.{ScriptFault}
 use Rattle.camp_script.specs.declared.faults.ScriptFault.TheVariants.{Line, Memory, Write}
@@ -19,7 +20,10 @@ kind_words BadNumber = codes "bad number"
 kind_words BadLine = codes "bad line"
 kind_words BadEdit = codes "bad edit"
 kind_words EditNotEnded = codes "edit not ended"
+kind_words TooManyClients = codes "too many clients"
 kind_words TooManyCommands = codes "too many commands"
+kind_words BadGroup = codes "bad group"
+kind_words GroupNotEnded = codes "group not ended"
 
 -- which line it is, and what is wrong with it
 abbrev pub line_words : LineFault → List ℕ

@@ -1,2 +1,4 @@
 -- Words that serve only private functions and the model of a reader.
+pub mod Files
 pub mod ReadingFields
+pub mod Spaces

@@ -2,10 +2,15 @@ pub mod Canonical
 pub mod Commands
 pub mod Faults
 pub mod Gives
+pub mod Groups
+pub mod HistoryTexts
 pub mod Inside
 pub mod Lines
+pub mod Outputs
+pub mod Progress
 pub mod Reading
 pub mod Sections
 pub mod Texts
 pub mod Wanting
+pub mod Words
 pub mod Writing

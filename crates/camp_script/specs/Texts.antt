@@ -1,13 +1,17 @@
 -- The texts of answers.
-use Rattle.std.specs.Prelude.{ℕ, List, [], ◌∷◌, ◌++◌, length, codes}
+use Rattle.std.specs.Prelude.{◌≢◌, ℕ, List, [], ◌∷◌, ◌++◌, length, codes, Result, Ok, Err}
 use Rattle.std.specs.List.{flat_map, join_with_byte}
 use Rattle.std.specs.Fmt.{decimal}
 use Rattle.std.specs.FinMap.{entries, len}
 use Rattle.camp_base.specs.Trees.{Lines, Files}
-use Rattle.camp_trunk.specs.declared.calls.Refusal.{Refusal}
-use Rattle.camp_trunk.specs.declared.calls.Refusal.TheVariants.{NoBranch, PatchExists, TooLarge, DoesNotApply}
-use Rattle.camp_trunk.specs.declared.calls.Reply.{Reply}
-use Rattle.camp_trunk.specs.declared.calls.Reply.TheVariants.{Done, Refused, Tree}
+use Rattle.camp_object.specs.declared.faults.Fault.{Fault}
+use Rattle.camp_object.specs.declared.faults.Fault.TheVariants.{Memory, Busy, Full}
+use Rattle.camp_call.specs.declared.replies.Refusal.{Refusal}
+use Rattle.camp_call.specs.declared.replies.Refusal.TheVariants.{NoBranch, BranchExists, PatchExists, NoPatch}
+use Rattle.camp_call.specs.declared.replies.Refusal.TheVariants.{NothingToDo, TooLarge, DoesNotApply, Depends}
+use Rattle.camp_call.specs.declared.replies.Refusal.TheVariants.{Diverged, NoMerge, SameBranch}
+use Rattle.camp_call.specs.declared.replies.Reply.{Reply}
+use Rattle.camp_call.specs.declared.replies.Reply.TheVariants.{Done, Refused, Tree, Conflicts, Names}
 
 -- words on a line: one space between them, and LF behind
 abbrev pub line_text : List (List ℕ) → List ℕ
@@ -20,9 +24,16 @@ signed_line sign bytes = sign ∷ bytes ++ 10 ∷ []
 -- the number of a refusal, and the names that it is about
 abbrev pub refusal_words : Refusal → List (List ℕ)
 refusal_words (NoBranch branch) = decimal 4 ∷ branch ∷ []
+refusal_words (BranchExists branch) = decimal 5 ∷ branch ∷ []
 refusal_words (PatchExists name) = decimal 6 ∷ name ∷ []
+refusal_words (NoPatch name) = decimal 7 ∷ name ∷ []
+refusal_words NothingToDo = decimal 8 ∷ []
 refusal_words TooLarge = decimal 9 ∷ []
 refusal_words DoesNotApply = decimal 10 ∷ []
+refusal_words (Depends patch on) = decimal 11 ∷ patch ∷ on ∷ []
+refusal_words (Diverged name) = decimal 12 ∷ name ∷ []
+refusal_words (NoMerge left right) = decimal 13 ∷ left ∷ right ∷ []
+refusal_words (SameBranch branch) = decimal 14 ∷ branch ∷ []
 
 -- a file: its path and the number of its lines, and then each line behind `=`
 abbrev pub file_text : List ℕ × Lines → List ℕ
@@ -32,8 +43,37 @@ file_text file = line_text (codes "file" ∷ file.0 ∷ decimal (length file.1) 
 abbrev pub tree_text : Files → List ℕ
 tree_text tree = line_text (codes "tree" ∷ decimal (len tree) ∷ []) ++ flat_map file_text (entries tree)
 
+-- two patches in conflict
+abbrev pub pair_text : List ℕ × List ℕ → List ℕ
+pair_text pair = line_text (pair.0 ∷ pair.1 ∷ [])
+
+-- conflicts: their number, and then each
+abbrev pub conflicts_text : List (List ℕ × List ℕ) → List ℕ
+conflicts_text pairs = line_text (codes "conflicts" ∷ decimal (length pairs) ∷ []) ++ flat_map pair_text pairs
+
+-- a name on a line
+abbrev pub name_text : List ℕ → List ℕ
+name_text name = line_text (name ∷ [])
+
+-- names: their number, and then each
+abbrev pub names_text : List (List ℕ) → List ℕ
+names_text names = line_text (codes "names" ∷ decimal (length names) ∷ []) ++ flat_map name_text names
+
 -- a reply
 abbrev pub reply_text : Reply → List ℕ
 reply_text (Done at) = line_text (codes "ok" ∷ decimal at ∷ [])
 reply_text (Refused refusal) = line_text (codes "refused" ∷ refusal_words refusal)
 reply_text (Tree tree) = tree_text tree
+reply_text (Conflicts pairs) = conflicts_text pairs
+reply_text (Names names) = names_text names
+
+-- an answer has a text, unless memory ran out for its call
+abbrev pub HasText : Result Reply Fault → Type 0
+HasText answer = answer ≢ Err Memory
+
+-- the answer to a call: its reply, or why it got none; where memory ran out there is no text
+abbrev pub answer_text : Result Reply Fault → List ℕ
+answer_text (Ok reply) = reply_text reply
+answer_text (Err Memory) = []
+answer_text (Err (Busy lost)) = line_text (codes "busy" ∷ decimal lost ∷ [])
+answer_text (Err Full) = line_text (codes "full" ∷ [])

@@ -1,226 +1,268 @@
-ghost use Rattle.std.specs.Prelude.{◌≡◌, ◌≢◌, ◌≤◌, [], ◌∷◌, IfErr, IfOk, IsTrue, length, map};
-ghost use Rattle.std.specs.List.{list_all};
-ghost use Rattle.camp_base.specs.Bytes.{is_between, is_path};
-ghost use Rattle.camp_script.specs.Commands.{name_at, path_at, change_at, number_at, value_of, is_line_number, file_at, whole_record, edit_record, record_command, tree_command, command_of, IsPlaced};
+//! Lines outside groups and bodies.
+ghost use Rattle.std.specs.Prelude.{◌≡◌, ◌≢◌, ◌∷◌, [], false, IfErr, IfOk, map};
 ghost use Rattle.camp_script.specs.Gives.{GivesLine};
+ghost use Rattle.camp_script.specs.Inside.Files.{change_at};
+ghost use Rattle.camp_script.specs.Lines.{is_skipped, words_of};
+ghost use Rattle.camp_script.specs.Commands.{branch_line, whole_record, edit_record, group_record, record_line, pull_line, obliterate_line, branch_at, question, short_command, command, after_words, listed};
 
 use crate::faults::{FaultKind, ScriptFault, at_line};
-use camp_base::{BaseFault, Name, Path};
+use crate::lines::{Words, first_words, is_comment};
+use crate::readings::Reading;
+use crate::records::{OpenEdit, OpenRecord, WholeFile};
+use crate::words::{
+    name_at, names_at, no_words, number_at, one_word, path_at, test_names, three_words, two_words,
+};
+use camp_base::Name;
+use camp_call::{Call, Changes, Names};
 use camp_prim::Primitive;
-use camp_trunk::Call;
-use std::alloc::Global;
+use std::alloc::{AllocError, Global};
 
-/// The most digits of the number of a line.
-const MAX_DIGITS: usize = 10;
-
-/// The greatest number of a line.
-const MAX_LINE: u64 = 1_073_741_823;
-
-/// What a line of words asks for.
-#[derive(Drop)]
-pub(crate) enum Command {
-    /// A call that the line holds whole.
-    Whole(Call),
-    /// A record of a hunk, whose body follows.
-    Edit(EditHead),
-}
-
-/// The head of a record of a hunk.
-#[derive(Drop)]
-pub(crate) struct EditHead {
-    pub branch: Name,
-    pub name: Name,
-    pub path: Path,
-    pub line: u32,
-}
-
-/// What a record does to a whole file.
-#[derive(Clone, Copy)]
-enum WholeFile {
-    Add,
-    Remove,
-}
-
-impl WholeFile {
-    fn at(self, path: Path) -> Primitive
-        ensures { result ≡ change_at self path }
+impl Reading {
+    /// A line outside groups and bodies.
+    pub(crate) fn read_words(self, number: u64, line: &[u8]) -> Result<Reading, ScriptFault>
+        ensures given { GivesLine result (after_words number self (words_of line.now)) }
+        ensures wanted { IfErr result (λ fault. fault ≡ ScriptFault.Memory → is_skipped (words_of line.now) ≡ false) }
     {
-        match self {
-            WholeFile::Add => Primitive::Add(path),
-            WholeFile::Remove => Primitive::Remove(path),
+        let mut words = Words::new(line);
+        let Some(word) = words.next() else {
+            return Ok(self);
+        };
+        if is_comment(word) {
+            return Ok(self);
         }
+        self.read_command(number, word, words)
     }
-}
 
-/// What the line of a number asks for by its words.
-pub(crate) fn command_of(
-    alloc: Global,
-    number: u64,
-    words: &[&[u8]],
-) -> Result<Command, ScriptFault>
-    ensures given { GivesLine result (command_of number (map (λ word. word.now) words.now)) }
-    ensures placed { IfOk result IsPlaced }
-{
-    match words {
-        [word, words @ ..] if *word == b"record".as_slice() => record_command(alloc, number, words),
-        [word, words @ ..] if *word == b"tree".as_slice() => tree_command(number, words),
-        _ => Err(at_line(number, FaultKind::UnknownCommand)),
+    // A command: its first word, and those behind it.
+    fn read_command(
+        self,
+        number: u64,
+        word: &[u8],
+        words: Words<'_>,
+    ) -> Result<Reading, ScriptFault>
+        ensures { GivesLine result (command number self (word.now ∷ words.entry)) }
+    {
+        if word == b"pull".as_slice() {
+            return self.read_pull(number, words);
+        }
+        if word == b"obliterate".as_slice() {
+            return self.read_obliterate(number, words);
+        }
+        let words = first_words(words);
+        self.read_short_command(number, word, words.as_slice())
     }
-}
 
-fn record_command(alloc: Global, number: u64, words: &[&[u8]]) -> Result<Command, ScriptFault>
-    ensures given { GivesLine result (record_command number (map (λ word. word.now) words.now)) }
-    ensures placed { IfOk result IsPlaced }
-{
-    let [branch, name, change, rest @ ..] = words else {
-        return Err(at_line(number, FaultKind::WrongNumberOfWords));
-    };
-    if *change == b"add".as_slice() {
-        return match rest {
-            [path] => whole_record(alloc, number, WholeFile::Add, branch, name, path),
-            _ => Err(at_line(number, FaultKind::WrongNumberOfWords)),
+    // A command without a list of names.
+    fn read_short_command(
+        self,
+        number: u64,
+        word: &[u8],
+        words: &[&[u8]],
+    ) -> Result<Reading, ScriptFault>
+        ensures { GivesLine result (short_command number self word.now (map (λ word. word.now) words.now)) }
+    {
+        if word == b"branch".as_slice() {
+            return self.read_branch(number, words);
+        }
+        if word == b"record".as_slice() {
+            return self.read_record(number, words);
+        }
+        if word == b"client".as_slice() {
+            no_words(number, words)?;
+            return self.next_section(number);
+        }
+        self.read_question(number, word, words)
+    }
+
+    fn read_branch(self, number: u64, words: &[&[u8]]) -> Result<Reading, ScriptFault>
+        ensures { GivesLine result (branch_line number self (map (λ word. word.now) words.now)) }
+    {
+        let (new, from) = two_words(number, words)?;
+        let new = name_at(number, new)?;
+        let from = name_at(number, from)?;
+        self.follow(number, Call::Branch { new, from })
+    }
+
+    fn read_record(self, number: u64, words: &[&[u8]]) -> Result<Reading, ScriptFault>
+        ensures { GivesLine result (record_line number self (map (λ word. word.now) words.now)) }
+    {
+        let (branch, name, change, rest) = three_words(number, words)?;
+        if change == b"add".as_slice() {
+            let path = one_word(number, rest)?;
+            return self.read_whole(number, WholeFile::Add, branch, name, path);
+        }
+        if change == b"remove".as_slice() {
+            let path = one_word(number, rest)?;
+            return self.read_whole(number, WholeFile::Remove, branch, name, path);
+        }
+        if change == b"edit".as_slice() {
+            let (path, line) = two_words(number, rest)?;
+            return self.read_edit(number, branch, name, path, line);
+        }
+        if change == b"group".as_slice() {
+            no_words(number, rest)?;
+            return self.read_group(number, branch, name);
+        }
+        Err(at_line(number, FaultKind::UnknownCommand))
+    }
+
+    fn read_whole(
+        self,
+        number: u64,
+        file: WholeFile,
+        branch: &[u8],
+        name: &[u8],
+        path: &[u8],
+    ) -> Result<Reading, ScriptFault>
+        ensures { GivesLine result (whole_record (change_at file) number self branch.now name.now path.now) }
+    {
+        let alloc = self.allocator();
+        let branch = name_at(number, branch)?;
+        let name = name_at(number, name)?;
+        let path = path_at(alloc, number, path)?;
+        self.test_room(number)?;
+        let changes = one_change(alloc, file.at(path?))?;
+        self.with_call(Call::Record {
+            branch,
+            name,
+            changes,
+        })
+    }
+
+    fn read_edit(
+        self,
+        number: u64,
+        branch: &[u8],
+        name: &[u8],
+        path: &[u8],
+        line: &[u8],
+    ) -> Result<Reading, ScriptFault>
+        ensures { GivesLine result (edit_record number self branch.now name.now path.now line.now) }
+    {
+        let alloc = self.allocator();
+        let branch = name_at(number, branch)?;
+        let name = name_at(number, name)?;
+        let path = path_at(alloc, number, path)?;
+        let line = number_at(number, line)?;
+        self.test_room(number)?;
+        let open_edit = Some(OpenEdit {
+            path: path?,
+            line,
+            opened: number,
+            old: Vec::new(alloc),
+            new: Vec::new(alloc),
+        });
+        Ok(self.with_record(OpenRecord {
+            branch,
+            name,
+            opened: number,
+            grouped: false,
+            changes: Vec::new(alloc),
+            open_edit,
+        }))
+    }
+
+    fn read_group(self, number: u64, branch: &[u8], name: &[u8]) -> Result<Reading, ScriptFault>
+        ensures { GivesLine result (group_record number self branch.now name.now) }
+    {
+        let alloc = self.allocator();
+        let branch = name_at(number, branch)?;
+        let name = name_at(number, name)?;
+        self.test_room(number)?;
+        Ok(self.with_record(OpenRecord {
+            branch,
+            name,
+            opened: number,
+            grouped: true,
+            changes: Vec::new(alloc),
+            open_edit: None,
+        }))
+    }
+
+    fn read_pull(self, number: u64, mut words: Words<'_>) -> Result<Reading, ScriptFault>
+        ensures { GivesLine result (pull_line number self words.entry) }
+    {
+        let Some(from) = words.next() else {
+            return Err(at_line(number, FaultKind::WrongNumberOfWords));
         };
-    }
-    if *change == b"remove".as_slice() {
-        return match rest {
-            [path] => whole_record(alloc, number, WholeFile::Remove, branch, name, path),
-            _ => Err(at_line(number, FaultKind::WrongNumberOfWords)),
+        let Some(to) = words.next() else {
+            return Err(at_line(number, FaultKind::WrongNumberOfWords));
         };
+        let from = name_at(number, from)?;
+        let to = name_at(number, to)?;
+        test_names(number, words.again())?;
+        self.test_room(number)?;
+        let names = names_at(self.allocator(), number, words)?;
+        let names = listed(names);
+        self.with_call(Call::Pull { from, to, names })
     }
-    if *change == b"edit".as_slice() {
-        return match rest {
-            [path, line] => edit_record(alloc, number, branch, name, path, line),
-            _ => Err(at_line(number, FaultKind::WrongNumberOfWords)),
+
+    fn read_obliterate(self, number: u64, mut words: Words<'_>) -> Result<Reading, ScriptFault>
+        ensures { GivesLine result (obliterate_line number self words.entry) }
+    {
+        let Some(branch) = words.next() else {
+            return Err(at_line(number, FaultKind::WrongNumberOfWords));
         };
+        if words.again().next().is_none() {
+            return Err(at_line(number, FaultKind::WrongNumberOfWords));
+        }
+        let branch = name_at(number, branch)?;
+        test_names(number, words.again())?;
+        self.test_room(number)?;
+        let names = names_at(self.allocator(), number, words)?;
+        self.with_call(Call::Obliterate { branch, names })
     }
-    Err(at_line(number, FaultKind::UnknownCommand))
+
+    fn read_question(
+        self,
+        number: u64,
+        word: &[u8],
+        words: &[&[u8]],
+    ) -> Result<Reading, ScriptFault>
+        ensures { GivesLine result (question number self word.now (map (λ word. word.now) words.now)) }
+    {
+        if word == b"tree".as_slice() {
+            let branch = branch_at(number, words)?;
+            return self.follow(number, Call::Tree(branch));
+        }
+        if word == b"conflicts".as_slice() {
+            let branch = branch_at(number, words)?;
+            return self.follow(number, Call::Conflicts(branch));
+        }
+        if word == b"names".as_slice() {
+            let branch = branch_at(number, words)?;
+            return self.follow(number, Call::Names(branch));
+        }
+        Err(at_line(number, FaultKind::UnknownCommand))
+    }
 }
 
-fn whole_record(
-    alloc: Global,
-    number: u64,
-    file: WholeFile,
-    branch: &[u8],
-    name: &[u8],
-    path: &[u8],
-) -> Result<Command, ScriptFault>
-    ensures given { GivesLine result (whole_record (change_at file) number branch.now name.now (path.now ∷ [])) }
-    ensures placed { IfOk result IsPlaced }
-{
-    let (branch, name, path) = file_at(alloc, number, branch, name, path)?;
-    let change = file.at(path);
-    Ok(Command::Whole(Call::Record {
-        branch,
-        name,
-        change,
-    }))
-}
-
-fn edit_record(
-    alloc: Global,
-    number: u64,
-    branch: &[u8],
-    name: &[u8],
-    path: &[u8],
-    line: &[u8],
-) -> Result<Command, ScriptFault>
-    ensures given { GivesLine result (edit_record number branch.now name.now (path.now ∷ line.now ∷ [])) }
-    ensures placed { IfOk result IsPlaced }
-{
-    let (branch, name, path) = file_at(alloc, number, branch, name, path)?;
-    let line = number_at(number, line)?;
-    Ok(Command::Edit(EditHead {
-        branch,
-        name,
-        path,
-        line,
-    }))
-}
-
-// The branch, the name and the path of a record.
-fn file_at(
-    alloc: Global,
-    number: u64,
-    branch: &[u8],
-    name: &[u8],
-    path: &[u8],
-) -> Result<(Name, Name, Path), ScriptFault>
-    ensures { GivesLine result (file_at number branch.now name.now path.now) }
-{
-    let branch = name_at(number, branch)?;
-    let name = name_at(number, name)?;
-    let path = path_at(alloc, number, path)?;
-    Ok((branch, name, path))
-}
-
-fn tree_command(number: u64, words: &[&[u8]]) -> Result<Command, ScriptFault>
-    ensures given { GivesLine result (tree_command number (map (λ word. word.now) words.now)) }
-    ensures placed { IfOk result IsPlaced }
-{
-    let [branch] = words else {
-        return Err(at_line(number, FaultKind::WrongNumberOfWords));
-    };
-    let branch = name_at(number, branch)?;
-    Ok(Command::Whole(Call::Tree(branch)))
-}
-
-fn name_at(number: u64, word: &[u8]) -> Result<Name, ScriptFault>
-    ensures given { GivesLine result (name_at number word.now) }
+// The one word of a question.
+fn branch_at(number: u64, words: &[&[u8]]) -> Result<Name, ScriptFault>
+    ensures given { GivesLine result (branch_at number (map (λ word. word.now) words.now)) }
     ensures told { IfErr result (λ fault. fault ≢ ScriptFault.Memory) }
 {
-    match Name::new(word) {
-        Ok(name) => Ok(name),
-        Err(_) => Err(at_line(number, FaultKind::BadName)),
-    }
+    name_at(number, one_word(number, words)?)
 }
 
-fn path_at(alloc: Global, number: u64, word: &[u8]) -> Result<Path, ScriptFault>
-    ensures given { GivesLine result (path_at number word.now) }
-    ensures wanted { IfErr result (λ fault. fault ≡ ScriptFault.Memory → IsTrue (is_path word.now)) }
+// The changes of a patch of one change.
+fn one_change(alloc: Global, change: Primitive) -> Result<Changes, AllocError>
+    ensures { IfOk result (λ changes. changes ≡ change ∷ []) }
 {
-    match Path::new(alloc, word) {
-        Ok(path) => Ok(path),
-        Err(BaseFault::Memory) => Err(ScriptFault::Memory),
-        Err(_) => Err(at_line(number, FaultKind::BadPath)),
-    }
+    let mut changes = Vec::new(alloc);
+    changes.push(change)?;
+    let Some(changes) = Changes::new(changes) else {
+        unreachable!();
+    };
+    Ok(changes)
 }
 
-// The number of a line of a file.
-fn number_at(number: u64, word: &[u8]) -> Result<u32, ScriptFault>
-    ensures value { GivesLine result (number_at number word.now) }
-    ensures counted { IfOk result (λ line. 1 ≤ line) }
-    ensures told { IfErr result (λ fault. fault ≢ ScriptFault.Memory) }
+// The names that a pull lists. Without a list it pulls all.
+fn listed(names: Names) -> Option<Names>
+    ensures { result ≡ listed names }
 {
-    if !is_line_number(word) {
-        return Err(at_line(number, FaultKind::BadNumber));
+    if names.as_slice().is_empty() {
+        return None;
     }
-    Ok(value_of(word) as u32)
-}
-
-fn is_line_number(word: &[u8]) -> bool
-    ensures { result ≡ is_line_number word.now }
-{
-    if word.is_empty() || word.len() > MAX_DIGITS || !has_digits(word) {
-        return false;
-    }
-    let value = value_of(word);
-    1 <= value && value <= MAX_LINE
-}
-
-fn has_digits(word: &[u8]) -> bool
-    ensures { result ≡ list_all (is_between 48 57) word.now }
-{
-    word.iter().all(|byte| matches!(byte, b'0'..=b'9'))
-}
-
-// The number that decimal digits spell.
-fn value_of(digits: &[u8]) -> u64
-    requires { length digits.now ≤ 10 }
-    ensures { result ≡ value_of digits.now }
-{
-    let mut value = 0;
-    for digit in digits {
-        value = value * 10 + u64::from(digit.saturating_sub(b'0'));
-    }
-    value
+    Some(names)
 }

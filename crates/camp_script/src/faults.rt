@@ -18,7 +18,10 @@ pub enum FaultKind {
     BadLine,
     BadEdit,
     EditNotEnded,
+    TooManyClients,
     TooManyCommands,
+    BadGroup,
+    GroupNotEnded,
 }
 
 impl FaultKind {
@@ -35,7 +38,10 @@ impl FaultKind {
             FaultKind::BadLine => "bad line",
             FaultKind::BadEdit => "bad edit",
             FaultKind::EditNotEnded => "edit not ended",
+            FaultKind::TooManyClients => "too many clients",
             FaultKind::TooManyCommands => "too many commands",
+            FaultKind::BadGroup => "bad group",
+            FaultKind::GroupNotEnded => "group not ended",
         }
     }
 }

@@ -4,13 +4,20 @@
 mod canonical;
 mod commands;
 mod faults;
+mod groups;
+mod histories;
 mod lines;
+mod outputs;
 mod readings;
+mod records;
 mod scripts;
 mod texts;
+mod words;
 
-pub use canonical::{calls_can_be_written, canonical_text_reads_back};
+pub use canonical::{canonical_text_reads_back, what_is_read_can_be_written};
 pub use faults::{FaultKind, LineFault, ScriptFault};
+pub use histories::{append_history, write_history};
+pub use outputs::append_sections;
 pub use scripts::{Script, read_script};
 pub use texts::{append_reply, write_reply, write_text};
 

@@ -1,19 +1,20 @@
-ghost use Rattle.std.specs.Prelude.{◌≡◌, ◌≤◌, length, map, not, take};
+ghost use Rattle.std.specs.Prelude.{◌≡◌, ◌==◌, ◌≤◌, length, map, not, slice_index, take};
 ghost use Rattle.std.specs.List.{position_or_len};
-ghost use Rattle.camp_script.specs.Lines.{is_blank, is_skipped, without_end, words_of};
+ghost use Rattle.camp_script.specs.Lines.{is_blank, without_end, words_of};
 
 use arrayvec::ArrayVec;
 use std::marker::Model;
 
-/// One word more than the longest command has: so many show that there are too many.
-const SOME_WORDS: usize = 7;
+/// One word more than the longest command without a list has behind its first: so many show that there
+/// are too many.
+const SOME_WORDS: usize = 6;
 
-/// The first words of a line. Where there are as many as have room, there may be more.
+/// The first words behind the first of a line. Where there are as many as have room, there may be more.
 pub(crate) type FirstWords<'a> = ArrayVec<&'a [u8], SOME_WORDS>;
 
 /// The words of a line, from the first to the last: what stands between runs of spaces and tabs.
 #[derive(Drop)]
-struct Words<'a> {
+pub(crate) struct Words<'a> {
     rest: &'a [u8],
 }
 
@@ -29,10 +30,17 @@ impl<'a> Model for Words<'a> {
 impl<'a> Words<'a> {
     ghost use Rattle.camp_script.specs.Lines.{words_of};
 
-    fn new(line: &'a [u8]) -> Words<'a>
+    pub(crate) fn new(line: &'a [u8]) -> Words<'a>
         ensures { result ≡ words_of line.now }
     {
         Words { rest: line }
+    }
+
+    /// The same words once more.
+    pub(crate) fn again(&self) -> Words<'a>
+        ensures { result ≡ self.now }
+    {
+        Words { rest: self.rest }
     }
 }
 
@@ -57,12 +65,12 @@ impl<'a> Iterator for Words<'a> {
     }
 }
 
-/// The first words of a line.
-pub(crate) fn first_words(line: &[u8]) -> FirstWords<'_>
-    ensures { map (λ word. word.now) result.items ≡ take 7 (words_of line.now) }
+/// The first of some words.
+pub(crate) fn first_words(words: Words<'_>) -> FirstWords<'_>
+    ensures { map (λ word. word.now) result.items ≡ take 6 words.entry }
 {
     let mut first = ArrayVec::new();
-    for word in Words::new(line) {
+    for word in words {
         if first.is_full() {
             break;
         }
@@ -71,14 +79,11 @@ pub(crate) fn first_words(line: &[u8]) -> FirstWords<'_>
     first
 }
 
-/// Whether a line of these words says nothing.
-pub(crate) fn is_skipped(words: &[&[u8]]) -> bool
-    ensures { result ≡ is_skipped (map (λ word. word.now) words.now) }
+/// Whether a line with this first word says nothing.
+pub(crate) fn is_comment(word: &[u8]) -> bool
+    ensures { result ≡ (slice_index word.now 0 == 35) }
 {
-    match words {
-        [] => true,
-        [word, ..] => word.first() == Some(&b'#'),
-    }
+    word.first() == Some(&b'#')
 }
 
 // How many bytes stand before the first that is not blank.

@@ -1,44 +1,33 @@
-ghost use Rattle.std.specs.Prelude.{◌≡◌, if◌then◌else◌, true, false, IfErr, IsTrue, Some};
-ghost use Rattle.camp_base.specs.Bytes.{is_line};
-ghost use Rattle.camp_script.specs.declared.faults.FaultKind.TheVariants as kind;
-ghost use Rattle.camp_trunk.specs.Calls.{is_writing};
-ghost use Rattle.camp_script.specs.Commands.{IsPlaced};
-ghost use Rattle.camp_script.specs.Faults.{fault_at};
+//! How far a script is read, and what the pieces of lines do to it.
+ghost use Rattle.std.specs.Prelude.{◌≡◌, false, true, IfErr, IfOk, Ok};
+ghost use Rattle.camp_call.specs.Calls.{is_writing};
 ghost use Rattle.camp_script.specs.Gives.{GivesLine};
-ghost use Rattle.camp_script.specs.Lines.{is_skipped, words_of};
-ghost use Rattle.camp_script.specs.Reading.{start, is_full, with_call, after_command, after_words, with_open, after_end, after_body, after_edit_line, after_line, finished};
+ghost use Rattle.camp_script.specs.Progress.{start, is_full, with_call, with_record, after_call, after_client, after_record, finished};
+ghost use Rattle.camp_script.specs.declared.faults.FaultKind.TheVariants as kind;
+ghost use Rattle.camp_script.specs.Reading.{after_line};
 ghost use Rattle.camp_script.specs.Wanting.{Says};
+ghost use Rattle.camp_script.specs.Inside.ReadingFields.{open_record_of};
 
-use crate::MAX_WRITES;
-use crate::commands::{Command, EditHead, command_of};
 use crate::faults::{FaultKind, ScriptFault, at_line};
-use crate::lines::{first_words, is_skipped};
+use crate::records::OpenRecord;
 use crate::scripts::Script;
-use camp_base::{BaseFault, Line};
-use camp_prim::{Lines, Primitive};
-use camp_trunk::Call;
+use crate::{MAX_SECTIONS, MAX_WRITES};
+use camp_call::{Call, Changes};
 use std::alloc::Global;
 use std::marker::Model;
 
-/// How far a script is read: the calls so far, and the edit whose body is being read, if any.
+/// How far a script is read: the sections before this one, the calls of this one, how many of them write,
+/// and the record that is not ended, if any.
 #[derive(Drop)]
 pub(crate) struct Reading {
+    closed: Vec<Vec<Call>>,
     calls: Vec<Call>,
     writes: usize,
-    body: Option<Body>,
-}
-
-/// The body of an edit, as far as it is read, and the line of its head.
-#[derive(Drop)]
-struct Body {
-    head: EditHead,
-    opened: u64,
-    old: Vec<Line>,
-    new: Vec<Line>,
+    open_record: Option<OpenRecord>,
 }
 
 impl Model for Reading {
-    ghost use Rattle.camp_script.specs.Reading.{Progress};
+    ghost use Rattle.camp_script.specs.Progress.{Progress};
 
     ghost Value = { Progress };
 
@@ -50,96 +39,64 @@ impl Model for Reading {
 }
 
 impl Reading {
-    ghost use Rattle.camp_script.specs.Inside.ReadingFields.{open_of, MayGrow, IsAwaited};
+    ghost use Rattle.camp_script.specs.Inside.ReadingFields.{open_record_of, open_edit_of, MayGrow, IsOpen, IsAwaited};
 
     /// Before the first line.
     pub(crate) fn new(alloc: Global) -> Reading
         ensures { result ≡ start }
     {
         Reading {
+            closed: Vec::new(alloc),
             calls: Vec::new(alloc),
             writes: 0,
-            body: None,
+            open_record: None,
         }
+    }
+
+    pub(crate) fn allocator(&self) -> Global {
+        *self.calls.allocator()
     }
 
     /// Reads the line of a number, counted from 1.
     pub(crate) fn read_line(mut self, number: u64, line: &[u8]) -> Result<Reading, ScriptFault>
-        ensures given { GivesLine result (after_line number self.open_edit self line.now) }
-        ensures wanted { IfErr result (λ fault. fault ≡ ScriptFault.Memory → Says self.open_edit line.now) }
+        ensures given { GivesLine result (after_line number self.open_record self line.now) }
+        ensures wanted { IfErr result (λ fault. fault ≡ ScriptFault.Memory → Says self.open_record line.now) }
     {
-        match self.body.take() {
+        match self.open_record.take() {
             None => self.read_words(number, line),
-            Some(body) => self.read_edit_line(number, line, body),
+            Some(begun) => self.read_record_line(number, line, begun),
         }
     }
 
     /// Ends the reading behind the last line.
     pub(crate) fn finish(self) -> Result<Script, ScriptFault>
-        ensures { GivesLine result (finished self self.open_edit) }
+        ensures { GivesLine result (finished self self.open_record) }
     {
         let Reading {
+            mut closed,
             calls,
             writes: _,
-            body,
+            open_record,
         } = self;
-        if let Some(body) = body {
-            return Err(at_line(body.opened, FaultKind::EditNotEnded));
+        if let Some(begun) = open_record {
+            return Err(begun.not_ended());
         }
-        Script::of_calls(calls)
+        closed.push(calls)?;
+        Ok(Script::of_sections(closed))
     }
 
-    // A line outside an edit.
-    fn read_words(self, number: u64, line: &[u8]) -> Result<Reading, ScriptFault>
-        ensures given { GivesLine result (after_words number self (words_of line.now)) }
-        ensures wanted { IfErr result (λ fault. fault ≡ ScriptFault.Memory → is_skipped (words_of line.now) ≡ false) }
+    /// A section has room for one more writing call, or this line is one too many.
+    pub(crate) fn test_room(&self, number: u64) -> Result<(), ScriptFault>
+        ensures room { IfOk result (λ _. is_full self.now.calls ≡ false) }
+        ensures fault { IfErr result (λ fault. (fault ≡ ScriptFault.Line (record { line = number; kind = kind.TooManyCommands })) × (is_full self.now.calls ≡ true)) }
     {
-        let words = first_words(line);
-        let words = words.as_slice();
-        if is_skipped(words) {
-            return Ok(self);
+        if self.writes >= MAX_WRITES {
+            return Err(at_line(number, FaultKind::TooManyCommands));
         }
-        let alloc = *self.calls.allocator();
-        match command_of(alloc, number, words) {
-            Ok(command) => self.follow(number, command),
-            Err(fault) => Err(fault),
-        }
+        Ok(())
     }
 
-    // A command at a line.
-    fn follow(self, number: u64, command: Command) -> Result<Reading, ScriptFault>
-        requires { IsPlaced command }
-        ensures { GivesLine result (after_command number self command) }
-    {
-        match command {
-            Command::Whole(call) => {
-                if call.is_writing() && self.is_full() {
-                    return Err(at_line(number, FaultKind::TooManyCommands));
-                }
-                self.with_call(call)
-            }
-            Command::Edit(head) => {
-                if self.is_full() {
-                    return Err(at_line(number, FaultKind::TooManyCommands));
-                }
-                let alloc = *self.calls.allocator();
-                Ok(self.with_open(Body {
-                    head,
-                    opened: number,
-                    old: Vec::new(alloc),
-                    new: Vec::new(alloc),
-                }))
-            }
-        }
-    }
-
-    fn is_full(&self) -> bool
-        ensures { result ≡ is_full self.now.calls }
-    {
-        self.writes >= MAX_WRITES
-    }
-
-    fn with_call(mut self, call: Call) -> Result<Reading, ScriptFault>
+    pub(crate) fn with_call(mut self, call: Call) -> Result<Reading, ScriptFault>
         requires { is_writing call ≡ true → MayGrow self.calls }
         ensures { GivesLine result (Ok (with_call self call)) }
     {
@@ -148,96 +105,69 @@ impl Reading {
         if writing {
             self.writes += 1;
         }
-        self.body = None;
+        self.open_record = None;
         Ok(self)
     }
 
-    fn with_open(mut self, body: Body) -> Reading
-        requires { IsAwaited self.calls (Some body) }
-        ensures { result ≡ with_open self (open_of body) }
+    pub(crate) fn with_record(mut self, begun: OpenRecord) -> Reading
+        requires { IsOpen self.calls begun }
+        ensures { result ≡ with_record self (open_record_of begun) }
     {
-        self.body = Some(body);
+        self.open_record = Some(begun);
         self
     }
 
-    // A line of the body of an edit.
-    fn read_edit_line(self, number: u64, line: &[u8], body: Body) -> Result<Reading, ScriptFault>
-        requires { IsAwaited self.calls (Some body) }
-        ensures { GivesLine result (after_edit_line number self line.now (open_of body)) }
+    /// The last line of a record.
+    pub(crate) fn end_record(self, number: u64, begun: OpenRecord) -> Result<Reading, ScriptFault>
+        requires { IsOpen self.calls begun }
+        ensures { GivesLine result (after_record number self (open_record_of begun)) }
     {
-        if line == b"end".as_slice() {
-            return self.end_edit(number, body);
-        }
-        self.read_side_line(number, line, body)
-    }
-
-    // The line `end`.
-    fn end_edit(self, number: u64, body: Body) -> Result<Reading, ScriptFault>
-        requires { IsAwaited self.calls (Some body) }
-        ensures { GivesLine result (after_end number self (open_of body)) }
-    {
-        let Body {
-            head,
-            opened: _,
-            old,
-            new,
-        } = body;
-        if old.is_empty() && new.is_empty() {
-            return Err(at_line(number, FaultKind::BadEdit));
-        }
-        let EditHead {
+        let OpenRecord {
             branch,
             name,
-            path,
-            line,
-        } = head;
-        let alloc = *self.calls.allocator();
-        let (old, new) = (Lines::new(alloc, old)?, Lines::new(alloc, new)?);
-        match Primitive::hunk(path, line, old, new) {
-            None => Err(at_line(number, FaultKind::BadNumber)),
-            Some(change) => self.with_call(Call::Record {
+            changes,
+            ..
+        } = begun;
+        match Changes::new(changes) {
+            None => Err(at_line(number, FaultKind::BadGroup)),
+            Some(changes) => self.with_call(Call::Record {
                 branch,
                 name,
-                change,
+                changes,
             }),
         }
     }
 
-    // A line of a side: old lines, and then new ones.
-    fn read_side_line(
-        self,
-        number: u64,
-        line: &[u8],
-        mut body: Body,
-    ) -> Result<Reading, ScriptFault>
-        requires { IsAwaited self.calls (Some body) }
-        ensures { GivesLine result (after_body number self (open_of body) line.now) }
+    /// A call that a line holds whole.
+    pub(crate) fn follow(self, number: u64, call: Call) -> Result<Reading, ScriptFault>
+        ensures { GivesLine result (after_call number self call) }
     {
-        let alloc = *self.calls.allocator();
-        match line {
-            [b'-', bytes @ ..] if body.new.is_empty() => {
-                let line = line_at(alloc, number, bytes)?;
-                body.old.push(line)?;
-                Ok(self.with_open(body))
-            }
-            [b'+', bytes @ ..] => {
-                let line = line_at(alloc, number, bytes)?;
-                body.new.push(line)?;
-                Ok(self.with_open(body))
-            }
-            _ => Err(at_line(number, FaultKind::BadEdit)),
+        if call.is_writing() {
+            self.test_room(number)?;
         }
+        self.with_call(call)
     }
-}
 
-// The bytes behind the sign of a line of a side.
-fn line_at(alloc: Global, number: u64, bytes: &[u8]) -> Result<Line, ScriptFault>
-    ensures given { GivesLine result (if is_line bytes.now then Ok bytes.now else fault_at number kind.BadLine) }
-    ensures wanted { IfErr result (λ fault. fault ≡ ScriptFault.Memory → IsTrue (is_line bytes.now)) }
-{
-    match Line::new(alloc, bytes) {
-        Ok(line) => Ok(line),
-        Err(BaseFault::Memory) => Err(ScriptFault::Memory),
-        Err(_) => Err(at_line(number, FaultKind::BadLine)),
+    /// The line of a client: the next section begins.
+    pub(crate) fn next_section(self, number: u64) -> Result<Reading, ScriptFault>
+        ensures { GivesLine result (after_client number self) }
+    {
+        let Reading {
+            mut closed,
+            calls,
+            writes: _,
+            open_record: _,
+        } = self;
+        if closed.len() >= MAX_SECTIONS - 1 {
+            return Err(at_line(number, FaultKind::TooManyClients));
+        }
+        let alloc = *calls.allocator();
+        closed.push(calls)?;
+        Ok(Reading {
+            closed,
+            calls: Vec::new(alloc),
+            writes: 0,
+            open_record: None,
+        })
     }
 }

@@ -1,6 +1,6 @@
-ghost use Rattle.std.specs.Prelude.{◌≡◌, ◌≤◌, ◌∷◌, [], map, count_by, IfErr};
-ghost use Rattle.camp_trunk.specs.Calls.{is_writing};
-ghost use Rattle.camp_script.specs.Gives.{Gives, GivesLine};
+//! Scripts, and how they are read.
+ghost use Rattle.std.specs.Prelude.{◌≡◌, map, IfErr};
+ghost use Rattle.camp_script.specs.Gives.{Gives};
 ghost use Rattle.camp_script.specs.Reading.{script_of};
 ghost use Rattle.camp_script.specs.Sections.{AreWithinLimits};
 ghost use Rattle.camp_script.specs.Wanting.{ScriptMayWant};
@@ -9,7 +9,7 @@ use crate::faults::ScriptFault;
 use crate::lines::without_end;
 use crate::readings::Reading;
 use bstr::ByteSlice;
-use camp_trunk::Call;
+use camp_call::Call;
 use std::alloc::Global;
 use std::marker::Model;
 
@@ -21,7 +21,7 @@ pub struct Script {
 
 impl Model for Script {
     ghost use Rattle.std.specs.Prelude.{List, map};
-    ghost use Rattle.camp_trunk.specs.declared.calls.Call.{Call};
+    ghost use Rattle.camp_call.specs.declared.calls.Call.{Call};
 
     ghost Value = { List (List Call) };
 
@@ -49,19 +49,17 @@ impl Script {
         sections
     }
 
-    pub(crate) fn of_calls(calls: Vec<Call>) -> Result<Script, ScriptFault>
-        requires { count_by is_writing calls.items ≤ 65_536 }
-        ensures { GivesLine result (Ok (calls.items ∷ [])) }
+    pub(crate) fn of_sections(sections: Vec<Vec<Call>>) -> Script
+        requires { AreWithinLimits (map (λ section. section.items) sections.items) }
+        ensures { result ≡ map (λ section. section.items) sections.items }
     {
-        let mut sections = Vec::new(*calls.allocator());
-        sections.push(calls)?;
-        Ok(Script { sections })
+        Script { sections }
     }
 }
 
 /// The script that bytes are, or the first fault of its lines. Only a want of memory may come in
-/// the place of either, and only for a line that says something and has no fault but a late one,
-/// behind lines without a fault, or at the end of a script without a fault.
+/// the place of either, and only for a line that says something and has no fault, behind lines
+/// without a fault, or at the end of a script without a fault.
 pub fn read_script(alloc: Global, bytes: &[u8]) -> Result<Script, ScriptFault>
     ensures given { Gives result (script_of bytes.now) }
     ensures wanted { IfErr result (λ fault. fault ≡ ScriptFault.Memory → ScriptMayWant bytes.now) }

@@ -2,29 +2,31 @@
 ghost use Rattle.std.specs.Prelude.{◌∷◌, map, codes, MatchResult};
 ghost use Rattle.std.specs.List.{flat_map};
 ghost use Rattle.std.specs.Io.KnownBytes.{Appends};
-ghost use Rattle.camp_script.specs.Texts.{line_text, refusal_words, signed_line, file_text, tree_text, reply_text};
+ghost use Rattle.camp_script.specs.Texts.{line_text, refusal_words, signed_line, file_text, tree_text, reply_text, answer_text, HasText, pair_text, conflicts_text, name_text, names_text};
 ghost use Rattle.camp_script.specs.Writing.{Extends, ExtendsOrKeeps, AppendsFront, Writes};
 
 use crate::ScriptFault;
-use camp_base::{Line, Path, Tree};
+use camp_base::{Line, Name, Path, Tree};
+use camp_call::{Refusal, Reply};
+use camp_object::Fault;
 use camp_share::SharedList;
-use camp_trunk::{Refusal, Reply};
 use itoa::Buffer;
 use std::alloc::{AllocError, Global};
 use std::io;
 use std::io::{ErrorKind, Write};
 
-/// Writes the text of a reply. Where memory runs out nothing is written; where the writer fails, a
-/// front of the text is.
+/// Writes the text of the answer to a call: a reply, or that the object was busy or the seat full. Where
+/// memory runs out nothing is written; where the writer fails, a front of the text is.
 pub fn write_reply<W: Write>(
     alloc: Global,
-    reply: &Reply,
+    answer: &Result<Reply, Fault>,
     writer: &mut W,
 ) -> Result<(), ScriptFault>
-    ensures { Writes (W.contents writer.old) (reply_text reply.now) result (W.contents writer.new) }
+    requires { HasText answer.now }
+    ensures { Writes (W.contents writer.old) (answer_text answer.now) result (W.contents writer.new) }
 {
     let mut text = Vec::new(alloc);
-    if append_reply(&mut text, reply).is_err() {
+    if append_reply(&mut text, answer).is_err() {
         return Err(ScriptFault::Memory);
     }
     match write_text(writer, &text) {
@@ -58,12 +60,13 @@ pub fn write_text<W: Write>(writer: &mut W, text: &[u8]) -> io::Result<()>
     Err(ErrorKind::TimedOut.into())
 }
 
-/// Appends the text of a reply. Where memory runs out the text stays as it was.
-pub fn append_reply(text: &mut Vec<u8>, reply: &Reply) -> Result<(), AllocError>
-    ensures { ExtendsOrKeeps text.old.items (reply_text reply.now) result text.new.items }
+/// Appends the text of the answer to a call. Where memory runs out the text stays as it was.
+pub fn append_reply(text: &mut Vec<u8>, answer: &Result<Reply, Fault>) -> Result<(), AllocError>
+    requires { HasText answer.now }
+    ensures { ExtendsOrKeeps text.old.items (answer_text answer.now) result text.new.items }
 {
     let length = text.len();
-    let appended = extend_by_reply(text, reply);
+    let appended = extend_by_answer(text, answer);
     if appended.is_err() {
         text.truncate(length);
     }
@@ -71,6 +74,23 @@ pub fn append_reply(text: &mut Vec<u8>, reply: &Reply) -> Result<(), AllocError>
 }
 
 // Here and below, where memory runs out, a part of what was to come may stand behind the text.
+pub(crate) fn extend_by_answer(
+    text: &mut Vec<u8>,
+    answer: &Result<Reply, Fault>,
+) -> Result<(), AllocError>
+    requires { HasText answer.now }
+    ensures { Extends text.old.items (answer_text answer.now) result text.new.items }
+{
+    match answer {
+        Ok(reply) => extend_by_reply(text, reply),
+        Err(Fault::Busy { lost }) => {
+            extend_by_line(text, b"busy", &[Buffer::new().format(*lost).as_bytes()])
+        }
+        Err(Fault::Full) => extend_by_line(text, b"full", &[]),
+        Err(Fault::Memory) => unreachable!(),
+    }
+}
+
 fn extend_by_reply(text: &mut Vec<u8>, reply: &Reply) -> Result<(), AllocError>
     ensures { Extends text.old.items (reply_text reply.now) result text.new.items }
 {
@@ -78,6 +98,8 @@ fn extend_by_reply(text: &mut Vec<u8>, reply: &Reply) -> Result<(), AllocError>
         Reply::Done(at) => extend_by_line(text, b"ok", &[Buffer::new().format(*at).as_bytes()]),
         Reply::Refused(refusal) => extend_by_refusal(text, refusal),
         Reply::Tree(tree) => extend_by_tree(text, tree),
+        Reply::Conflicts(conflicts) => extend_by_conflicts(text, conflicts.pairs()),
+        Reply::Names(names) => extend_by_names(text, names.as_slice()),
     }
 }
 
@@ -86,10 +108,55 @@ fn extend_by_refusal(text: &mut Vec<u8>, refusal: &Refusal) -> Result<(), AllocE
 {
     match refusal {
         Refusal::NoBranch(branch) => extend_by_line(text, b"refused", &[b"4", branch.bytes()]),
+        Refusal::BranchExists(branch) => extend_by_line(text, b"refused", &[b"5", branch.bytes()]),
         Refusal::PatchExists(name) => extend_by_line(text, b"refused", &[b"6", name.bytes()]),
+        Refusal::NoPatch(name) => extend_by_line(text, b"refused", &[b"7", name.bytes()]),
+        Refusal::NothingToDo => extend_by_line(text, b"refused", &[b"8"]),
         Refusal::TooLarge => extend_by_line(text, b"refused", &[b"9"]),
         Refusal::DoesNotApply => extend_by_line(text, b"refused", &[b"10"]),
+        Refusal::Depends { patch, on } => {
+            extend_by_line(text, b"refused", &[b"11", patch.bytes(), on.bytes()])
+        }
+        Refusal::Diverged(name) => extend_by_line(text, b"refused", &[b"12", name.bytes()]),
+        Refusal::NoMerge { left, right } => {
+            extend_by_line(text, b"refused", &[b"13", left.bytes(), right.bytes()])
+        }
+        Refusal::SameBranch(branch) => extend_by_line(text, b"refused", &[b"14", branch.bytes()]),
     }
+}
+
+fn extend_by_conflicts(text: &mut Vec<u8>, pairs: &[(Name, Name)]) -> Result<(), AllocError>
+    ensures { Extends text.old.items (conflicts_text pairs.now) result text.new.items }
+{
+    let mut count = Buffer::new();
+    extend_by_line(text, b"conflicts", &[count.format(pairs.len()).as_bytes()])?;
+    extend_by_pairs(text, pairs)
+}
+
+fn extend_by_pairs(text: &mut Vec<u8>, pairs: &[(Name, Name)]) -> Result<(), AllocError>
+    ensures { Extends text.old.items (flat_map pair_text pairs.now) result text.new.items }
+{
+    for (first, second) in pairs {
+        extend_by_line(text, first.bytes(), &[second.bytes()])?;
+    }
+    Ok(())
+}
+
+fn extend_by_names(text: &mut Vec<u8>, names: &[Name]) -> Result<(), AllocError>
+    ensures { Extends text.old.items (names_text names.now) result text.new.items }
+{
+    let mut count = Buffer::new();
+    extend_by_line(text, b"names", &[count.format(names.len()).as_bytes()])?;
+    extend_by_name_lines(text, names)
+}
+
+fn extend_by_name_lines(text: &mut Vec<u8>, names: &[Name]) -> Result<(), AllocError>
+    ensures { Extends text.old.items (flat_map name_text names.now) result text.new.items }
+{
+    for name in names {
+        extend_by_line(text, name.bytes(), &[])?;
+    }
+    Ok(())
 }
 
 fn extend_by_tree(text: &mut Vec<u8>, tree: &Tree) -> Result<(), AllocError>
@@ -138,7 +205,11 @@ fn extend_by_signed_line(text: &mut Vec<u8>, line: &Line) -> Result<(), AllocErr
 }
 
 // A line of words, one space between each two.
-fn extend_by_line(text: &mut Vec<u8>, first: &[u8], rest: &[&[u8]]) -> Result<(), AllocError>
+pub(crate) fn extend_by_line(
+    text: &mut Vec<u8>,
+    first: &[u8],
+    rest: &[&[u8]],
+) -> Result<(), AllocError>
     ensures { Extends text.old.items (line_text (first.now ∷ map (λ word. word.now) rest.now)) result text.new.items }
 {
     text.extend_from_slice(first)?;

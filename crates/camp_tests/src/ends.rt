@@ -103,7 +103,7 @@ fn assert_read(
         calls: Calls::new(service),
     };
     let mut written = Vec::new(alloc);
-    let result = run_book(alloc, &mut reader, &mut written);
+    let result = run_book(alloc, &mut reader, &mut written, false);
     assert_eq!(rt; result, expected);
     assert_eq!(rt; written.as_slice(), answers);
     reader.calls.count
@@ -122,7 +122,7 @@ fn assert_written(
         taken: Vec::new(alloc),
         calls: Calls::new(service),
     };
-    let result = run_book(alloc, &mut reader, &mut writer);
+    let result = run_book(alloc, &mut reader, &mut writer, false);
     assert_eq!(rt; result, expected);
     assert_eq!(rt; writer.taken.as_slice(), taken);
     writer.calls.count

@@ -1,2 +1,3 @@
+pub mod Booked
 pub mod Once
-pub mod Taken
+pub mod Output

@@ -1,12 +1,21 @@
--- Why a run in memory has no output.
-use Rattle.std.specs.Prelude.{◌≡◌, ℕ, List, Err}
+-- What a run in memory answers.
+use Rattle.std.specs.Prelude.{◌≡◌, ℕ, Bool, List, Ok, Err}
+use Rattle.camp_call.specs.declared.calls.Call.{Call}
+use Rattle.camp_run.specs.Outputs.{IsOutput}
+use Rattle.camp_run.specs.Serial.{IsSerial}
 use Rattle.camp_run.specs.declared.faults.RunFault.{RunFault}
-use Rattle.camp_run.specs.declared.faults.RunFault.TheVariants.{Script, Memory, Read, Write}
+use Rattle.camp_run.specs.declared.faults.RunFault.TheVariants.{Script, Foreign, Memory, Read, Write}
 use Rattle.camp_script.specs.Reading.{script_of}
 
--- a fault of the script is its first one
+-- the bytes are a script, and a text is the output of its sections, asked one after the other
+abbrev pub IsOutputOf : List ℕ → Bool → List ℕ → Type 0
+IsOutputOf bytes history text =
+    (script : List (List Call)) × (script_of bytes ≡ Ok script) × IsOutput IsSerial history script text
+
+-- a fault of the script is its first one, and no call is foreign
 abbrev pub IsToldOf : List ℕ → RunFault → Type 0
 IsToldOf bytes (Script fault) = script_of bytes ≡ Err fault
+IsToldOf bytes Foreign = ⊥
 IsToldOf bytes Memory = Unit {0}
 IsToldOf bytes Read = Unit {0}
 IsToldOf bytes Write = Unit {0}

@@ -1,6 +1,7 @@
 //! Callers of each crate, proved from its public clauses alone: what the contracts are good for.
 #![tactic(auto)]
 
+pub mod examples;
 pub mod lists;
 pub mod patches;
 pub mod repositories;

@@ -3,8 +3,8 @@ ghost use Rattle.std.specs.Prelude.{◌≡◌, ◌++◌, ◌∷◌, [], IfOk, If
 ghost use Rattle.std.specs.Fmt.{decimal};
 ghost use Rattle.camp_script.specs.declared.faults.ScriptFault.TheVariants as fault;
 
+use camp_repo::Reply;
 use camp_script::{Script, ScriptFault, append_reply, read_script};
-use camp_trunk::Reply;
 use std::alloc::{AllocError, Global};
 
 /// The text of the reply to an accepted call.
@@ -12,7 +12,7 @@ pub fn done(alloc: Global, at: u64) -> Result<Vec<u8>, AllocError>
     ensures { IfOk result (λ text. text.items ≡ codes "ok " ++ decimal at ++ 10 ∷ []) }
 {
     let mut text = Vec::new(alloc);
-    append_reply(&mut text, &Reply::Done(at))?;
+    append_reply(&mut text, &Ok(Reply::Done(at)))?;
     Ok(text)
 }
 

@@ -1,8 +1,8 @@
-use crate::stops::{Stop, expect, expect_again};
 use camp_base::Name;
 use camp_catch::{Catch, Stuck, align, arrange, merge_lists};
 use camp_prim::Key;
 use camp_share::{Shared, SharedMap};
+use refusing::{Stop, expect};
 use std::alloc::{AllocError, Global};
 
 type Names = SharedMap<Name, ()>;
@@ -22,10 +22,7 @@ fn arrange_list(alloc: Global, old: &[Shared<Catch>], new: &[Shared<Catch>]) -> 
         return Err(Stop::Wrong("a new list"));
     };
     let names = names_of(alloc, first.name())?;
-    match arranges(alloc, old, &names, new) {
-        Ok(is_right) => expect(is_right, "arrange"),
-        Err(_) => expect_again(arranges(alloc, old, &names, new), "arrange"),
-    }
+    expect(arranges(alloc, old, &names, new)?, "arrange")
 }
 
 fn arranges(
@@ -59,10 +56,7 @@ fn is_same(list: &[Shared<Catch>], other: &[Shared<Catch>]) -> bool {
 
 fn align_list(alloc: Global, old: &[Shared<Catch>], new: &[Shared<Catch>]) -> Result<(), Stop> {
     let order = keys_of(alloc, new)?;
-    match aligns(alloc, old, &order, new) {
-        Ok(is_right) => expect(is_right, "align"),
-        Err(_) => expect_again(aligns(alloc, old, &order, new), "align"),
-    }
+    expect(aligns(alloc, old, &order, new)?, "align")
 }
 
 fn aligns(
@@ -92,10 +86,7 @@ fn arrange_in_vain(
     patch: &Key,
 ) -> Result<(), Stop> {
     let names = names_of(alloc, &patch.name)?;
-    match sticks(alloc, list, &names, on, patch) {
-        Ok(is_right) => expect(is_right, "arrange"),
-        Err(_) => expect_again(sticks(alloc, list, &names, on, patch), "arrange"),
-    }
+    expect(sticks(alloc, list, &names, on, patch)?, "arrange")
 }
 
 fn sticks(
@@ -123,19 +114,7 @@ pub(crate) fn merge(alloc: Global, catches: &[Shared<Catch>]) -> Result<(), Stop
     let Some((p, q)) = lists.split_at_checked(2) else {
         return Err(Stop::Wrong("two catches"));
     };
-    merge_list(alloc, p, q, new)
-}
-
-fn merge_list(
-    alloc: Global,
-    p: &[Shared<Catch>],
-    q: &[Shared<Catch>],
-    new: &[Shared<Catch>],
-) -> Result<(), Stop> {
-    match merges(alloc, p, q, new) {
-        Ok(is_right) => expect(is_right, "merge_lists"),
-        Err(_) => expect_again(merges(alloc, p, q, new), "merge_lists"),
-    }
+    expect(merges(alloc, p, q, new)?, "merge_lists")
 }
 
 fn merges(

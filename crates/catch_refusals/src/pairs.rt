@@ -1,6 +1,6 @@
-use crate::stops::{Stop, expect, expect_again};
 use camp_catch::{Catch, commute, merge};
 use camp_share::Shared;
+use refusing::{Stop, expect};
 use std::alloc::{AllocError, Global};
 
 /// Two catches of one state, and what each becomes behind the other.
@@ -30,29 +30,15 @@ pub(crate) fn make_calls(alloc: Global, catches: &[Shared<Catch>]) -> Result<(),
 }
 
 fn make_calls_of(alloc: Global, pair: Merged<'_>) -> Result<(), Stop> {
-    copy_catch(pair.left)?;
-    copy_catch(pair.right)?;
-    merge_pair(alloc, pair)?;
-    commute_pair(alloc, pair)
-}
-
-fn copy_catch(catch: &Catch) -> Result<(), Stop> {
-    match copies(catch) {
-        Ok(is_right) => expect(is_right, "Catch::try_clone"),
-        Err(_) => expect_again(copies(catch), "Catch::try_clone"),
-    }
+    expect(copies(pair.left)?, "Catch::try_clone")?;
+    expect(copies(pair.right)?, "Catch::try_clone")?;
+    expect(merges(alloc, pair)?, "merge")?;
+    expect(commutes(alloc, pair)?, "commute")
 }
 
 fn copies(catch: &Catch) -> Result<bool, AllocError> {
     let copy = catch.try_clone()?;
     Ok(copy.is_same(catch))
-}
-
-fn merge_pair(alloc: Global, pair: Merged<'_>) -> Result<(), Stop> {
-    match merges(alloc, pair) {
-        Ok(is_right) => expect(is_right, "merge"),
-        Err(_) => expect_again(merges(alloc, pair), "merge"),
-    }
 }
 
 fn merges(alloc: Global, pair: Merged<'_>) -> Result<bool, AllocError> {
@@ -61,13 +47,6 @@ fn merges(alloc: Global, pair: Merged<'_>) -> Result<bool, AllocError> {
             Ok(after.is_same(pair.behind_left) && beside.is_same(pair.behind_right))
         }
         None => Ok(false),
-    }
-}
-
-fn commute_pair(alloc: Global, pair: Merged<'_>) -> Result<(), Stop> {
-    match commutes(alloc, pair) {
-        Ok(is_right) => expect(is_right, "commute"),
-        Err(_) => expect_again(commutes(alloc, pair), "commute"),
     }
 }
 

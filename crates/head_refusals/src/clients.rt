@@ -1,12 +1,13 @@
 ghost use Rattle.std.specs.Prelude.{◌≡◌, ◌≤◌, All, IsTrue, count_by, length};
 ghost use Rattle.camp_object.specs.NumberList.{numbers_object};
 
-use crate::wants::{Stop, Wants, expect};
+use crate::wants::Wants;
 use NumberCall::{Insert, Show};
 use NumberReply::{Done, Present, Shown};
 use camp_clients::{Answers, BookRun, HeadRun, LockFault, locked, serial, shared};
 use camp_history::Gate;
 use camp_object::{NumberCall, NumberReply, Numbers};
+use refusing::{Stop, expect};
 use std::alloc::{AllocError, Global};
 use std::sync::Wait;
 use std::sync::atomic::{AtomicU64, Ordering};

@@ -9,48 +9,20 @@ mod clients;
 mod heads;
 mod wants;
 
-use std::alloc::{AllocError, Global};
+use refusing::{Stop, allocate, allocate_for_each_byte, next_byte, tell};
+use std::alloc::Global;
 use std::io;
-use std::io::Read;
 use std::sync::Wait;
 use std::thread::Threads;
-use wants::{Stop, Wants};
+use wants::Wants;
 
 fn main(rt: HostRuntime) -> io::Result<()> {
     let mut reader = rt.stdin();
     let part = next_byte(&mut reader)?;
     allocate_for_each_byte(rt.alloc(), &mut reader)?;
-    match make_calls(&rt, rt.alloc(), part) {
-        Ok(()) => println!(rt; "done"),
-        Err(Stop::Refused) => println!(rt; "refused"),
-        Err(Stop::Wrong(call)) => println!(rt; "wrong {call}"),
-    }
+    tell(&rt, make_calls(&rt, rt.alloc(), part))
 }
 
-fn next_byte(reader: &mut impl Read) -> io::Result<Option<u8>> {
-    let mut byte = [0];
-    if reader.read(&mut byte)? == 0 {
-        return Ok(None);
-    }
-    Ok(Some(byte[0]))
-}
-
-fn allocate_for_each_byte(alloc: Global, reader: &mut impl Read) -> io::Result<()> {
-    for _ in 0..u64::MAX {
-        if next_byte(reader)?.is_none() {
-            break;
-        }
-        allocate(alloc)?;
-    }
-    Ok(())
-}
-
-fn allocate(alloc: Global) -> Result<(), AllocError> {
-    Box::new(alloc, 0)?;
-    Ok(())
-}
-
-// The last allocation stands for itself: if it is refused, all calls before it were granted theirs.
 fn make_calls<R: Threads + Wait + Sync>(
     rt: &R,
     alloc: Global,
@@ -71,19 +43,13 @@ fn make_calls_of<R: Threads + Wait + Sync>(
     part: u8,
     wants: &mut Wants,
 ) -> Result<(), Stop> {
-    if part == b'h' {
-        return heads::make_calls(rt, alloc, wants);
+    match part {
+        b'h' => heads::make_calls(rt, alloc, wants),
+        b's' => clients::run_serial(alloc, wants),
+        b'l' => clients::run_locked(rt, alloc, wants),
+        b'c' => clients::run_shared(rt, alloc, wants),
+        _ => Err(Stop::Wrong("no such part")),
     }
-    if part == b's' {
-        return clients::run_serial(alloc, wants);
-    }
-    if part == b'l' {
-        return clients::run_locked(rt, alloc, wants);
-    }
-    if part == b'c' {
-        return clients::run_shared(rt, alloc, wants);
-    }
-    Err(Stop::Wrong("no such part"))
 }
 
 fn make_all_calls<R: Threads + Wait + Sync>(

@@ -1,113 +1,71 @@
-//! Each allocation refused in turn. The first byte of standard input chooses a part of the calls (no
-//! byte: all of them). Makes an allocation for each further byte and lets it go; then goes once
-//! through each call of the part that takes memory. Prints `done` where all of them succeeded,
-//! `refused` where one answered want of memory and left its arguments as they were, and `wrong` with
-//! the name of a call otherwise.
+//! Each allocation refused in turn of the calls of shared lists and maps, trees, patches, lists,
+//! contexts and the notation. The first byte of standard input chooses a part of the calls (no byte:
+//! all of them), in capitals only the values that they are made with. Reads these values; makes an
+//! allocation for each further byte and lets it go; then goes once through the calls of the part. If
+//! one wanted memory, it goes through all of them again, with the same values. Prints `done` where
+//! nothing wanted memory, `refused` where something did and all succeeded the second time, and `wrong`
+//! with the name of a call otherwise.
 #![tactic(auto)]
 
+mod changes;
 mod contexts;
-mod fixtures;
 mod lists;
 mod notation;
 mod patches;
-mod records;
-mod runs;
 mod shares;
-mod stops;
-mod texts;
+mod tables;
 mod trees;
+mod values;
 
-use std::alloc::{AllocError, Global};
+use refusing::{Stop, allocate, allocate_for_each_byte, expect, expect_again, next_byte, tell};
+use std::alloc::Global;
 use std::io;
-use std::io::Read;
-use stops::Stop;
+use values::Values;
 
 fn main(rt: HostRuntime) -> io::Result<()> {
     let mut reader = rt.stdin();
-    let part = next_byte(&mut reader)?;
-    allocate_for_each_byte(rt.alloc(), &mut reader)?;
-    match make_calls(rt.alloc(), part) {
-        Ok(()) => println!(rt; "done"),
-        Err(Stop::Refused) => println!(rt; "refused"),
-        Err(Stop::Wrong(call)) => println!(rt; "wrong {call}"),
-    }
-}
-
-fn next_byte(reader: &mut impl Read) -> io::Result<Option<u8>> {
-    let mut byte = [0];
-    if reader.read(&mut byte)? == 0 {
-        return Ok(None);
-    }
-    Ok(Some(byte[0]))
-}
-
-fn allocate_for_each_byte(alloc: Global, reader: &mut impl Read) -> io::Result<()> {
-    for _ in 0..u64::MAX {
-        if next_byte(reader)?.is_none() {
-            break;
+    match next_byte(&mut reader)? {
+        Some(part) => {
+            let values = values_of(rt.alloc(), part);
+            allocate_for_each_byte(rt.alloc(), &mut reader)?;
+            tell(&rt, make_calls_with(rt.alloc(), part, values))
         }
-        allocate(alloc)?;
+        None => tell(&rt, make_all_calls(rt.alloc())),
     }
-    Ok(())
-}
-
-fn allocate(alloc: Global) -> Result<(), AllocError> {
-    Box::new(alloc, 0)?;
-    Ok(())
-}
-
-// The last allocation stands for itself: if it is refused, all calls before it were granted theirs.
-// So a call that goes on without memory always shows as a `done` between two `refused`.
-fn make_calls(alloc: Global, part: Option<u8>) -> Result<(), Stop> {
-    match part {
-        None => make_all_calls(alloc)?,
-        Some(part) => make_calls_of(alloc, part)?,
-    }
-    Ok(allocate(alloc)?)
-}
-
-fn make_calls_of(alloc: Global, part: u8) -> Result<(), Stop> {
-    if part == b'c' {
-        return shares::make_calls(alloc);
-    }
-    if part == b't' {
-        return trees::make_calls(alloc);
-    }
-    if part == b'p' {
-        return patches::make_calls(alloc);
-    }
-    make_calls_of_lists(alloc, part)
-}
-
-fn make_calls_of_lists(alloc: Global, part: u8) -> Result<(), Stop> {
-    if part == b'l' {
-        return lists::make_calls(alloc);
-    }
-    if part == b'x' {
-        return contexts::make_calls(alloc);
-    }
-    if part == b'n' {
-        return notation::make_calls(alloc);
-    }
-    make_calls_of_runs(alloc, part)
-}
-
-fn make_calls_of_runs(alloc: Global, part: u8) -> Result<(), Stop> {
-    if part == b'r' {
-        return records::make_calls(alloc);
-    }
-    if part == b's' {
-        return texts::make_calls(alloc);
-    }
-    if part == b'u' {
-        return runs::make_calls(alloc);
-    }
-    Err(Stop::Wrong("no such part"))
 }
 
 fn make_all_calls(alloc: Global) -> Result<(), Stop> {
-    for part in b"ctplxnrsu" {
-        make_calls_of(alloc, *part)?;
+    for part in b"ctaplxn" {
+        make_calls_with(alloc, *part, values_of(alloc, *part))?;
     }
     Ok(())
+}
+
+fn values_of(alloc: Global, part: u8) -> Result<Values, Stop> {
+    match Values::read(alloc, tables::text_of(part.to_ascii_lowercase())) {
+        Ok(values) => Ok(values),
+        Err(_) => Err(Stop::Wrong("the values of a part")),
+    }
+}
+
+fn make_calls_with(alloc: Global, part: u8, values: Result<Values, Stop>) -> Result<(), Stop> {
+    let values = values?;
+    match make_calls(alloc, part, &values) {
+        Ok(()) => Ok(allocate(alloc)?),
+        Err(Stop::Refused) => Err(expect_again(make_calls(alloc, part, &values))),
+        Err(wrong) => Err(wrong),
+    }
+}
+
+fn make_calls(alloc: Global, part: u8, values: &Values) -> Result<(), Stop> {
+    match part {
+        b'c' => shares::make_calls(alloc),
+        b't' => trees::make_calls(alloc, &values.trees),
+        b'a' => changes::make_calls(&values.lists, &values.trees),
+        b'p' => patches::make_calls(alloc, &values.lists),
+        b'l' => lists::make_calls(alloc, &values.lists),
+        b'x' => contexts::make_calls(alloc, values),
+        b'n' => notation::make_calls(alloc, values),
+        _ => expect(part.is_ascii_uppercase(), "no such part"),
+    }
 }

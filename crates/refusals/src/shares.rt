@@ -1,10 +1,12 @@
-use crate::stops::{Stop, expect, value_of};
-use camp_base::Path;
+ghost use Rattle.std.specs.Prelude.{◌<◌, length};
+
+use camp_base::Name;
 use camp_share::{Share, SharedList, SharedMap};
+use refusing::{Stop, expect, want};
 use std::alloc::{AllocError, Global};
 
 /// An element, whose copies take no memory.
-#[derive(Debug, Clone, Copy, PartialEq, Eq, Drop)]
+#[derive(Clone, Copy, PartialEq, Eq, Drop)]
 struct Number(usize);
 
 impl Share for Number {
@@ -15,7 +17,7 @@ impl Share for Number {
 
 type Numbers = SharedList<Number>;
 
-type Places = SharedMap<Path, Number>;
+type Places = SharedMap<Name, Number>;
 
 /// The length of a list of two parts, and a place in its first one.
 const LENGTH: usize = 66;
@@ -32,10 +34,7 @@ fn change_list(alloc: Global) -> Result<(), Stop> {
     let items = numbers(alloc, LENGTH)?;
     let list = SharedList::from_items(alloc, &items)?;
     expect(is_of(&list, &items), "SharedList::from_items")?;
-    copy(&list, &items)?;
-    put_in(&list, &items)?;
-    take_out(&list, &items)?;
-    cut(&list, &items)
+    operate(&list, &items)
 }
 
 fn numbers(alloc: Global, count: usize) -> Result<Vec<Number>, Stop> {
@@ -50,103 +49,180 @@ fn is_of(list: &Numbers, items: &[Number]) -> bool {
     list.len() == items.len() && list.has_at(0, items)
 }
 
-fn copy(list: &Numbers, items: &[Number]) -> Result<(), Stop> {
-    let answer = list.share();
-    let copy = value_of(answer, is_of(list, items), "SharedList::share")?;
-    expect(is_of(&copy, items), "SharedList::share")?;
-    let answer = list.to_vec();
-    let vec = value_of(answer, is_of(list, items), "SharedList::to_vec")?;
-    expect(is_of(list, &vec), "SharedList::to_vec")
-}
-
-fn put_in(list: &Numbers, items: &[Number]) -> Result<(), Stop> {
-    let new = [Number(LENGTH)];
-    let answer = list.pushed(Number(LENGTH));
-    let longer = value_of(answer, is_of(list, items), "SharedList::pushed")?;
-    let is_right = longer.has_at(0, items) && longer.has_at(LENGTH, &new);
-    expect(is_right, "SharedList::pushed")?;
-    if PLACE > list.len() {
-        return Err(Stop::Wrong("SharedList::len"));
-    }
-    let answer = list.inserted(PLACE, Number(LENGTH));
-    let longer = value_of(answer, is_of(list, items), "SharedList::inserted")?;
-    let is_right = longer.has_at(PLACE, &new) && longer.len() == LENGTH + 1;
-    expect(is_right, "SharedList::inserted")
-}
-
-fn take_out(list: &Numbers, items: &[Number]) -> Result<(), Stop> {
+fn operate(list: &Numbers, items: &[Number]) -> Result<(), Stop> {
+    share(list, items)?;
+    copy(list, items)?;
+    push(list, items)?;
     if PLACE >= list.len() {
         return Err(Stop::Wrong("SharedList::len"));
     }
-    let answer = list.replaced(PLACE, Number(0));
-    let other = value_of(answer, is_of(list, items), "SharedList::replaced")?;
-    let is_right = other.has_at(PLACE, &[Number(0)]) && other.len() == LENGTH;
-    expect(is_right, "SharedList::replaced")?;
-    let answer = list.without(PLACE);
-    let shorter = value_of(answer, is_of(list, items), "SharedList::without")?;
-    let is_right = shorter.has_at(PLACE, &[Number(PLACE + 1)]) && shorter.len() == LENGTH - 1;
-    expect(is_right, "SharedList::without")
+    insert(list, items)?;
+    replace(list, items)?;
+    remove(list, items)?;
+    splice(list, items)?;
+    cut(list, items)
 }
 
-fn cut(list: &Numbers, items: &[Number]) -> Result<(), Stop> {
-    if PLACE + 1 > list.len() {
-        return Err(Stop::Wrong("SharedList::len"));
+fn share(list: &Numbers, items: &[Number]) -> Result<(), Stop> {
+    match list.share() {
+        Ok(copy) => expect(is_of(&copy, items), "SharedList::share"),
+        Err(_) => want(is_of(list, items), "SharedList::share"),
     }
+}
+
+fn copy(list: &Numbers, items: &[Number]) -> Result<(), Stop> {
+    match list.to_vec() {
+        Ok(copy) => expect(is_of(list, &copy), "SharedList::to_vec"),
+        Err(_) => want(is_of(list, items), "SharedList::to_vec"),
+    }
+}
+
+fn push(list: &Numbers, items: &[Number]) -> Result<(), Stop> {
+    match list.pushed(Number(LENGTH)) {
+        Ok(longer) => {
+            let is_right = longer.has_at(0, items) && longer.has_at(LENGTH, &[Number(LENGTH)]);
+            expect(is_right, "SharedList::pushed")
+        }
+        Err(_) => want(is_of(list, items), "SharedList::pushed"),
+    }
+}
+
+fn insert(list: &Numbers, items: &[Number]) -> Result<(), Stop>
+    requires { 40 < length list.now }
+{
+    match list.inserted(PLACE, Number(LENGTH)) {
+        Ok(longer) => {
+            let is_right = longer.has_at(PLACE, &[Number(LENGTH)]) && longer.len() == LENGTH + 1;
+            expect(is_right, "SharedList::inserted")
+        }
+        Err(_) => want(is_of(list, items), "SharedList::inserted"),
+    }
+}
+
+fn replace(list: &Numbers, items: &[Number]) -> Result<(), Stop>
+    requires { 40 < length list.now }
+{
+    match list.replaced(PLACE, Number(0)) {
+        Ok(other) => {
+            let is_right = other.has_at(PLACE, &[Number(0)]) && other.len() == LENGTH;
+            expect(is_right, "SharedList::replaced")
+        }
+        Err(_) => want(is_of(list, items), "SharedList::replaced"),
+    }
+}
+
+fn remove(list: &Numbers, items: &[Number]) -> Result<(), Stop>
+    requires { 40 < length list.now }
+{
+    match list.without(PLACE) {
+        Ok(shorter) => {
+            let is_right = shorter.has_at(PLACE, &[Number(PLACE + 1)])
+                && shorter.len() == LENGTH - 1;
+            expect(is_right, "SharedList::without")
+        }
+        Err(_) => want(is_of(list, items), "SharedList::without"),
+    }
+}
+
+fn splice(list: &Numbers, items: &[Number]) -> Result<(), Stop>
+    requires { 40 < length list.now }
+{
     let new = [Number(0), Number(1)];
-    let answer = list.spliced(PLACE, PLACE + 1, &new);
-    let other = value_of(answer, is_of(list, items), "SharedList::spliced")?;
-    let is_right = other.has_at(PLACE, &new) && other.len() == LENGTH + 1;
-    expect(is_right, "SharedList::spliced")?;
-    let answer = list.copied(1, PLACE);
-    let part = value_of(answer, is_of(list, items), "SharedList::copied")?;
-    let is_right = list.has_at(1, &part.to_vec()?) && part.len() == PLACE - 1;
-    expect(is_right, "SharedList::copied")
+    match list.spliced(PLACE, PLACE + 1, &new) {
+        Ok(other) => {
+            let is_right = other.has_at(PLACE, &new) && other.len() == LENGTH + 1;
+            expect(is_right, "SharedList::spliced")
+        }
+        Err(_) => want(is_of(list, items), "SharedList::spliced"),
+    }
+}
+
+fn cut(list: &Numbers, items: &[Number]) -> Result<(), Stop>
+    requires { 40 < length list.now }
+{
+    match list.copied(0, PLACE) {
+        Ok(part) => {
+            let is_right = is_front(&part, PLACE, items);
+            expect(is_right, "SharedList::copied")
+        }
+        Err(_) => want(is_of(list, items), "SharedList::copied"),
+    }
+}
+
+fn is_front(part: &Numbers, length: usize, items: &[Number]) -> bool {
+    match items.split_at_checked(length) {
+        Some((front, _)) => is_of(part, front),
+        None => false,
+    }
 }
 
 fn change_map(alloc: Global) -> Result<(), Stop> {
-    let one = Path::new(alloc, b"one")?;
-    let two = Path::new(alloc, b"two")?;
-    let empty: Places = SharedMap::new(alloc);
-    let alone = empty.inserted(one.share()?, Number(1))?;
-    expect(has(&alone, &one, 1), "SharedMap::inserted")?;
-    let both = insert(&alone, &one, &two)?;
-    copy_map(&both, &one, &two)?;
-    remove(&both, &one, &two)
+    let (Ok(one), Ok(two)) = (Name::new(b"one"), Name::new(b"two")) else {
+        return Err(Stop::Wrong("Name::new"));
+    };
+    let both = map_of(alloc, &one, &two)?;
+    change_both(&both, &one, &two)
 }
 
-fn has(map: &Places, key: &Path, number: usize) -> bool {
+fn map_of(alloc: Global, one: &Name, two: &Name) -> Result<Places, Stop> {
+    let alone = put(&SharedMap::new(alloc), one, 1)?;
+    put(&alone, two, 2)
+}
+
+/// A map and one key more.
+fn put(map: &Places, key: &Name, number: usize) -> Result<Places, Stop> {
+    let length = map.len();
+    match map.inserted(*key, Number(number)) {
+        Ok(longer) => Ok(longer),
+        Err(_) if map.len() == length => Err(Stop::Refused),
+        Err(_) => Err(Stop::Wrong("SharedMap::inserted")),
+    }
+}
+
+fn change_both(both: &Places, one: &Name, two: &Name) -> Result<(), Stop> {
+    expect(both.len() == 2 && has(both, one, 1), "SharedMap::inserted")?;
+    share_map(both, one)?;
+    put_again(both, one)?;
+    match both.without(one) {
+        Ok(rest) => change_rest(&rest, one, two),
+        Err(_) => want(has(both, one, 1), "SharedMap::without"),
+    }
+}
+
+fn has(map: &Places, key: &Name, number: usize) -> bool {
     map.get(key) == Some(&Number(number))
 }
 
-fn insert(alone: &Places, one: &Path, two: &Path) -> Result<Places, Stop> {
-    let is_kept = alone.len() == 1 && has(alone, one, 1);
-    let answer = alone.inserted(one.share()?, Number(3));
-    let other = value_of(answer, is_kept && has(alone, one, 1), "SharedMap::inserted")?;
-    expect(has(&other, one, 3), "SharedMap::inserted")?;
-    let answer = alone.inserted_if_absent(one.share()?, Number(3));
-    let same = value_of(answer, has(alone, one, 1), "SharedMap::inserted_if_absent")?;
-    expect(has(&same, one, 1), "SharedMap::inserted_if_absent")?;
-    let answer = alone.inserted_if_absent(two.share()?, Number(2));
-    let both = value_of(answer, has(alone, one, 1), "SharedMap::inserted_if_absent")?;
-    let is_right = both.len() == 2 && has(&both, one, 1) && has(&both, two, 2);
-    expect(is_right, "SharedMap::inserted_if_absent")?;
-    Ok(both)
+fn share_map(both: &Places, one: &Name) -> Result<(), Stop> {
+    match both.share() {
+        Ok(copy) => expect(copy == *both, "SharedMap::share"),
+        Err(_) => want(has(both, one, 1), "SharedMap::share"),
+    }
 }
 
-fn copy_map(both: &Places, one: &Path, two: &Path) -> Result<(), Stop> {
-    let answer = both.share();
-    let is_kept = both.len() == 2 && has(both, one, 1) && has(both, two, 2);
-    let copy = value_of(answer, is_kept, "SharedMap::share")?;
-    expect(copy == *both, "SharedMap::share")
+fn put_again(both: &Places, one: &Name) -> Result<(), Stop> {
+    match both.inserted_if_absent(*one, Number(3)) {
+        Ok(same) => expect(same == *both, "SharedMap::inserted_if_absent"),
+        Err(_) => want(has(both, one, 1), "SharedMap::inserted_if_absent"),
+    }
 }
 
-fn remove(both: &Places, one: &Path, two: &Path) -> Result<(), Stop> {
-    let answer = both.without(one);
-    let is_kept = both.len() == 2 && has(both, one, 1) && has(both, two, 2);
-    let rest = value_of(answer, is_kept, "SharedMap::without")?;
-    let is_right = rest.len() == 1 && has(&rest, two, 2);
-    expect(is_right, "SharedMap::without")?;
-    let answer = rest.without(one);
-    let same = value_of(answer, has(&rest, two, 2), "SharedMap::without")?;
-    expect(same == rest, "SharedMap::without")
+fn change_rest(rest: &Places, one: &Name, two: &Name) -> Result<(), Stop> {
+    expect(rest.len() == 1 && has(rest, two, 2), "SharedMap::without")?;
+    remove_again(rest, one, two)?;
+    put_back(rest, one, two)
+}
+
+fn remove_again(rest: &Places, one: &Name, two: &Name) -> Result<(), Stop> {
+    match rest.without(one) {
+        Ok(same) => expect(same == *rest, "SharedMap::without"),
+        Err(_) => want(has(rest, two, 2), "SharedMap::without"),
+    }
+}
+
+fn put_back(rest: &Places, one: &Name, two: &Name) -> Result<(), Stop> {
+    match rest.inserted_if_absent(*one, Number(1)) {
+        Ok(both) => expect(has(&both, one, 1), "SharedMap::inserted_if_absent"),
+        Err(_) => want(has(rest, two, 2), "SharedMap::inserted_if_absent"),
+    }
 }

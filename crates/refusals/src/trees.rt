@@ -1,88 +1,125 @@
-use crate::fixtures;
-use crate::stops::{Stop, expect, value_of};
 use camp_base::{Apply, BaseFault, Line, Path, Tree};
-use std::alloc::Global;
+use refusing::{Stop, expect, want};
+use std::alloc::{AllocError, Global};
 
-/// Makes the calls of paths, lines and trees.
-pub(crate) fn make_calls(alloc: Global) -> Result<(), Stop> {
-    make_paths(alloc)?;
-    make_lines(alloc)?;
-    make_trees(alloc)
+/// Makes the calls of paths, lines and trees, with a tree without a file, one with an empty file, and
+/// two with one line in it.
+pub(crate) fn make_calls(alloc: Global, trees: &[Tree]) -> Result<(), Stop> {
+    let [none, empty, one, two] = trees else {
+        return Err(Stop::Wrong("four trees"));
+    };
+    make_path(alloc)?;
+    make_line(alloc)?;
+    make_in_vain(alloc)?;
+    copy(two)?;
+    match Path::new(alloc, b"f") {
+        Ok(path) => change_file(&path, [none, empty, one, two]),
+        Err(fault) => want(fault == BaseFault::Memory, "Path::new"),
+    }
 }
 
-fn make_paths(alloc: Global) -> Result<(), Stop> {
-    let bad = Path::new(alloc, b"d//e");
-    expect(matches!(&bad, Err(BaseFault::BadPath)), "Path::new")?;
-    let path = Path::new(alloc, b"d/e")?;
-    let is_right = path.bytes() == b"d/e".as_slice();
-    expect(is_right, "Path::new")?;
-    let answer = path.try_clone();
-    let is_kept = path.bytes() == b"d/e".as_slice();
-    let copy = value_of(answer, is_kept, "Path::try_clone")?;
-    expect(copy == path, "Path::try_clone")
+fn make_path(alloc: Global) -> Result<(), Stop> {
+    match Path::new(alloc, b"d/e") {
+        Ok(path) => expect(copies_path(&path)?, "Path::try_clone"),
+        Err(fault) => want(fault == BaseFault::Memory, "Path::new"),
+    }
 }
 
-fn make_lines(alloc: Global) -> Result<(), Stop> {
-    let bad = Line::new(alloc, b"one\ntwo");
-    expect(matches!(&bad, Err(BaseFault::BadLine)), "Line::new")?;
-    let line = Line::new(alloc, b"one")?;
-    let is_right = line.bytes() == b"one".as_slice();
-    expect(is_right, "Line::new")?;
-    let answer = line.try_clone();
-    let is_kept = line.bytes() == b"one".as_slice();
-    let copy = value_of(answer, is_kept, "Line::try_clone")?;
-    expect(copy == line, "Line::try_clone")
+fn copies_path(path: &Path) -> Result<bool, AllocError> {
+    let copy = path.try_clone()?;
+    Ok(copy.bytes() == b"d/e".as_slice())
 }
 
-fn make_trees(alloc: Global) -> Result<(), Stop> {
-    let mut tree = Tree::empty(alloc);
-    let path = Path::new(alloc, b"f")?;
-    add_file(&mut tree, &path)?;
-    let one = fixtures::lines(alloc, &[b"one"])?;
-    let two = fixtures::lines(alloc, &[b"two"])?;
-    splice(&mut tree, &path, &[], &one)?;
-    splice(&mut tree, &path, &one, &two)?;
-    expect(has_file(&tree, &path, &two), "Tree::splice")?;
-    copy_tree(&tree)?;
-    change_in_vain(&mut tree, &path, &one)
+fn make_line(alloc: Global) -> Result<(), Stop> {
+    match Line::new(alloc, b"one") {
+        Ok(line) => expect(copies_line(&line)?, "Line::try_clone"),
+        Err(fault) => want(fault == BaseFault::Memory, "Line::new"),
+    }
 }
 
-fn add_file(tree: &mut Tree, path: &Path) -> Result<(), Stop> {
-    let before = tree.try_clone()?;
+fn copies_line(line: &Line) -> Result<bool, AllocError> {
+    let copy = line.try_clone()?;
+    Ok(copy.bytes() == b"one".as_slice())
+}
+
+fn make_in_vain(alloc: Global) -> Result<(), Stop> {
+    let is_bad = Path::new(alloc, b"d//e") == Err(BaseFault::BadPath);
+    expect(is_bad, "Path::new")?;
+    let is_bad = Line::new(alloc, b"one\ntwo") == Err(BaseFault::BadLine);
+    expect(is_bad, "Line::new")
+}
+
+fn copy(tree: &Tree) -> Result<(), Stop> {
+    expect(tree.try_clone()?.is_same(tree), "Tree::try_clone")
+}
+
+/// Adds the file, puts a line into it and another in its place.
+fn change_file(path: &Path, [none, empty, one, two]: [&Tree; 4]) -> Result<(), Stop> {
+    add_file(path, none, empty)?;
+    splice(path, empty, one)?;
+    splice(path, one, two)?;
+    change_in_vain(path, one, two)
+}
+
+fn add_file(path: &Path, before: &Tree, after: &Tree) -> Result<(), Stop> {
+    let mut tree = before.try_clone()?;
     let answer = tree.add_file(path);
-    value_of(answer, tree.is_same(&before), "Tree::add_file")?;
-    expect(has_file(tree, path, &[]), "Tree::add_file")
+    expect_change(answer, &tree, before, after, "Tree::add_file")
 }
 
-fn splice(tree: &mut Tree, path: &Path, old: &[Line], new: &[Line]) -> Result<(), Stop> {
-    let before = tree.try_clone()?;
-    let answer = tree.splice(path, 1, old, new);
-    value_of(answer, tree.is_same(&before), "Tree::splice")
+fn splice(path: &Path, before: &Tree, after: &Tree) -> Result<(), Stop> {
+    let mut tree = before.try_clone()?;
+    let old = lines_of(before, path)?;
+    let new = lines_of(after, path)?;
+    let answer = tree.splice(path, 1, &old, &new);
+    expect_change(answer, &tree, before, after, "Tree::splice")
 }
 
-fn copy_tree(tree: &Tree) -> Result<(), Stop> {
-    let before = tree.try_clone()?;
-    let answer = tree.try_clone();
-    let copy = value_of(answer, tree.is_same(&before), "Tree::try_clone")?;
-    expect(copy.is_same(tree), "Tree::try_clone")
+fn lines_of(tree: &Tree, path: &Path) -> Result<Vec<Line>, Stop> {
+    match tree.file(path) {
+        Some(lines) => Ok(lines.to_vec()?),
+        None => Err(Stop::Wrong("a tree with a file")),
+    }
 }
 
 // The tree has the file, and other lines in it.
-fn change_in_vain(tree: &mut Tree, path: &Path, lines: &[Line]) -> Result<(), Stop> {
-    let before = tree.try_clone()?;
-    let is_refused = tree.add_file(path) == Err(Apply::DoesNotApply);
-    expect(is_refused, "Tree::add_file")?;
-    let is_refused = tree.remove_file(path) == Err(Apply::DoesNotApply);
-    expect(is_refused, "Tree::remove_file")?;
-    let is_refused = tree.splice(path, 1, lines, &[]) == Err(Apply::DoesNotApply);
-    expect(is_refused, "Tree::splice")?;
-    expect(tree.is_same(&before), "Tree::splice")
+fn change_in_vain(path: &Path, other: &Tree, before: &Tree) -> Result<(), Stop> {
+    let lines = lines_of(other, path)?;
+    let mut tree = before.try_clone()?;
+    let is_refused = tree.add_file(path) == Err(Apply::DoesNotApply)
+        && tree.remove_file(path) == Err(Apply::DoesNotApply)
+        && tree.splice(path, 1, &lines, &[]) == Err(Apply::DoesNotApply);
+    expect(
+        is_refused && tree.is_same(before),
+        "a change of a tree in vain",
+    )
 }
 
-/// Whether a tree has a file of these lines.
-pub(crate) fn has_file(tree: &Tree, path: &Path, lines: &[Line]) -> bool {
-    match tree.file(path) {
-        Some(found) => found.len() == lines.len() && found.has_at(0, lines),
-        None => false,
+/// A change has led from a tree to another, or left it as it was.
+pub(crate) fn expect_change(
+    answer: Result<(), Apply>,
+    tree: &Tree,
+    before: &Tree,
+    after: &Tree,
+    call: &'static str,
+) -> Result<(), Stop> {
+    match answer {
+        Ok(()) => expect(tree.is_same(after), call),
+        Err(Apply::Memory) => want(tree.is_same(before), call),
+        Err(Apply::DoesNotApply) => Err(Stop::Wrong(call)),
+    }
+}
+
+/// A change was refused, and has left the tree as it was.
+pub(crate) fn expect_none(
+    answer: Result<(), Apply>,
+    tree: &Tree,
+    before: &Tree,
+    call: &'static str,
+) -> Result<(), Stop> {
+    match answer {
+        Err(Apply::DoesNotApply) => expect(tree.is_same(before), call),
+        Err(Apply::Memory) => want(tree.is_same(before), call),
+        Ok(()) => Err(Stop::Wrong(call)),
     }
 }

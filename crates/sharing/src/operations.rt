@@ -12,9 +12,11 @@ pub(crate) enum Operation {
     Edit,
     Invert,
     Record,
+    Branch,
+    Obliterate,
 }
 
-const OPERATIONS: [(&[u8], Operation); 11] = [
+const OPERATIONS: [(&[u8], Operation); 13] = [
     (b"none", Operation::Nothing),
     (b"copy", Operation::Copy),
     (b"push", Operation::Push),
@@ -26,6 +28,8 @@ const OPERATIONS: [(&[u8], Operation); 11] = [
     (b"edit", Operation::Edit),
     (b"invert", Operation::Invert),
     (b"record", Operation::Record),
+    (b"branch", Operation::Branch),
+    (b"obliterate", Operation::Obliterate),
 ];
 
 impl Operation {

@@ -2,7 +2,7 @@ use crate::operations::Operation;
 use anyhow::{Result, bail, ensure};
 use camp_base::{Name, Path};
 use camp_prim::Primitive;
-use camp_trunk::{Call, Decided, State};
+use camp_repo::{Call, Changes, Decided, Names, State};
 use std::alloc::Global;
 
 /// Takes an operation on a state with a branch of so many patches, each of which adds a file.
@@ -12,13 +12,15 @@ pub(crate) fn operate(alloc: Global, size: u32, operation: Operation) -> Result<
     match operation {
         Operation::Nothing => Ok(()),
         Operation::Copy => copy(&state),
-        Operation::Record => record(&state, &call),
+        Operation::Branch => lead(&state, &branch()?),
+        Operation::Record => lead(&state, &call),
+        Operation::Obliterate => lead(&state, &obliteration(alloc, size)?),
         _ => bail!("no such operation on states"),
     }
 }
 
 fn state_of(alloc: Global, size: u32) -> Result<State> {
-    let mut state = State::new(alloc);
+    let mut state = State::new(alloc)?;
     for number in 0..size {
         let call = addition(alloc, number)?;
         state = after(&state, &call)?;
@@ -31,18 +33,45 @@ fn copy(state: &State) -> Result<()> {
     Ok(())
 }
 
-fn record(state: &State, call: &Call) -> Result<()> {
+fn lead(state: &State, call: &Call) -> Result<()> {
     let _next = after(state, call)?;
     Ok(())
 }
 
 fn addition(alloc: Global, number: u32) -> Result<Call> {
+    let name = name_of(alloc, number)?;
+    let mut changes = Vec::with_capacity(alloc, 1)?;
+    changes.push(Primitive::Add(Path::new(alloc, name.bytes())?))?;
+    match Changes::new(changes) {
+        Some(changes) => Ok(Call::Record {
+            branch: Name::new(b"main")?,
+            name,
+            changes,
+        }),
+        None => bail!("a patch without changes"),
+    }
+}
+
+fn name_of(alloc: Global, number: u32) -> Result<Name> {
     let text = format!(in alloc; "f{number:06}")?;
-    let path = Path::new(alloc, text.as_bytes())?;
-    Ok(Call::Record {
+    Ok(Name::new(text.as_bytes())?)
+}
+
+/// The call that copies the branch.
+fn branch() -> Result<Call> {
+    Ok(Call::Branch {
+        new: Name::new(b"x")?,
+        from: Name::new(b"main")?,
+    })
+}
+
+/// The call that takes the last patch out.
+fn obliteration(alloc: Global, size: u32) -> Result<Call> {
+    let mut names = Vec::with_capacity(alloc, 1)?;
+    names.push(name_of(alloc, size.saturating_sub(1))?)?;
+    Ok(Call::Obliterate {
         branch: Name::new(b"main")?,
-        name: Name::new(text.as_bytes())?,
-        change: Primitive::Add(path),
+        names: Names::new(names),
     })
 }
 

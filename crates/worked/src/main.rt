@@ -1,48 +1,45 @@
 //! Worked examples. Reads a table from standard input and prints it line by line, each call with its
 //! result below it.
 //!
-//! | Line | Meaning |
-//! |---|---|
-//! | `# ..`, or nothing | a comment |
-//! | `p f 1 [one] -> [uno]` | a primitive, which is known as `p` from here on, and its inverse as `p^` |
-//! | `s = [a add f, p]` | a list, a tree or another value, which is called `s` from here on |
-//! | `commute(p, q)` | a call |
-//!
-//! The notation is that of `camp_notation`. Where there is no result the line says `none`; where
-//! something is refused, in which words.
+//! The lines and the notation are those of the library `tables`. Where there is no result the line
+//! says `none`; where something is refused, in which words.
 #![tactic(auto)]
 
-mod arguments;
 mod bases;
+mod bytes;
 mod calls;
 mod lists;
 mod primitives;
 mod results;
-mod tables;
+mod trees;
 
-use anyhow::Result;
 use bstr::ByteSlice;
+use camp_notation::NotationError;
+use std::io;
 use std::io::Read;
-use std::str;
-use tables::Table;
+use tables::{Arguments, Table, print_line, print_result, split_call};
 
-fn main(rt: HostRuntime) -> Result<()> {
+fn main(rt: HostRuntime) -> io::Result<()> {
     let mut input = Vec::new(rt.alloc());
     rt.stdin().read_to_end(&mut input)?;
     let mut table = Table::new(rt.alloc());
     for line in input.as_slice().lines() {
-        print_line(&rt, &mut table, line)?;
+        print_line(&rt, line)?;
+        print_result(&rt, answer(&mut table, line))?;
     }
     Ok(())
 }
 
-fn print_line(rt: &impl Print, table: &mut Table, line: &[u8]) -> Result<()> {
-    let text = str::from_utf8(line)?;
-    println!(rt; "{text}")?;
-    match table.answer(line) {
-        Ok(Some(result)) => println!(rt; "= {result}")?,
-        Ok(None) => {}
-        Err(error) => println!(rt; "= {error}")?,
+/// The result of a line, where it is a call.
+fn answer(table: &mut Table, line: &[u8]) -> Result<Option<String>, NotationError> {
+    match split_call(line) {
+        Some((name, text)) => {
+            let arguments = Arguments::new(table, text)?;
+            Ok(Some(calls::call(name, &arguments)?))
+        }
+        None => {
+            table.learn(line)?;
+            Ok(None)
+        }
     }
-    Ok(())
 }

@@ -1,40 +1,17 @@
-use crate::arguments::Arguments;
-use anyhow::Result;
-use camp_base::{Apply, Tree};
-use camp_notation::{list_text, named_text, tree_text};
-use camp_prim::Named;
-use camp_seq::Seq;
+use camp_base::{Apply, BaseFault, Tree};
+use camp_notation::{NotationError, tree_text};
 use std::cmp::Ordering;
+use tables::{Arguments, word};
 
-pub(crate) fn none(a: &Arguments) -> Result<String> {
-    Ok(String::from_str(a.alloc(), "none")?)
-}
-
-pub(crate) fn yes_or_no(a: &Arguments, is_so: bool) -> Result<String> {
-    let text = if is_so { "yes" } else { "no" };
-    Ok(String::from_str(a.alloc(), text)?)
-}
-
-pub(crate) fn order(a: &Arguments, order: Ordering) -> Result<String> {
-    let text = match order {
-        Ordering::Less => "less",
-        Ordering::Equal => "equal",
-        Ordering::Greater => "greater",
-    };
-    Ok(String::from_str(a.alloc(), text)?)
-}
-
-pub(crate) fn named(a: &Arguments, p: &Named) -> Result<String> {
-    Ok(named_text(a.alloc(), a.known(), p)?)
-}
-
-pub(crate) fn list(a: &Arguments, s: &Seq) -> Result<String> {
-    Ok(list_text(a.alloc(), a.known(), s)?)
-}
-
-/// Two results of a call, one behind the other.
-pub(crate) fn pair(a: &Arguments, first: &String, second: &String) -> Result<String> {
-    Ok(format!(in a.alloc(); "{first}, {second}")?)
+pub(crate) fn order(a: &Arguments, order: Ordering) -> Result<String, NotationError> {
+    word(
+        a,
+        match order {
+            Ordering::Less => "less",
+            Ordering::Equal => "equal",
+            Ordering::Greater => "greater",
+        },
+    )
 }
 
 /// The tree that a change leaves, or in which words it is refused. A change that is refused and yet
@@ -44,10 +21,22 @@ pub(crate) fn change(
     answer: Result<(), Apply>,
     before: &Tree,
     after: &Tree,
-) -> Result<String> {
+) -> Result<String, NotationError> {
     match answer {
         Ok(()) => Ok(tree_text(a.alloc(), after)?),
-        Err(fault) if after.is_same(before) => Ok(format!(in a.alloc(); "{fault}")?),
-        Err(fault) => Ok(format!(in a.alloc(); "{fault}, and another tree")?),
+        Err(why) => refused(a, why, after.is_same(before)),
     }
+}
+
+fn refused(a: &Arguments, why: Apply, is_kept: bool) -> Result<String, NotationError> {
+    let mut text = format!(in a.alloc(); "{why}")?;
+    if !is_kept {
+        text.push_str(", and another tree")?;
+    }
+    Ok(text)
+}
+
+/// In which words bytes are refused.
+pub(crate) fn fault(a: &Arguments, fault: BaseFault) -> Result<String, NotationError> {
+    Ok(format!(in a.alloc(); "{fault}")?)
 }

@@ -1,6 +1,6 @@
-use crate::arguments::Arguments;
-use crate::{catches, contexts, lists, results, sets};
+use crate::{catches, contexts, lists, sets};
 use camp_notation::NotationError;
+use tables::Arguments;
 
 /// The result of the call of this name.
 pub(crate) fn call(name: &[u8], a: &Arguments) -> Result<String, NotationError> {
@@ -64,6 +64,6 @@ fn call_of_lists(name: &[u8], a: &Arguments) -> Result<String, NotationError> {
         b"arrange" => lists::arranged(a),
         b"align" => lists::aligned(a),
         b"merge_lists" => lists::merged(a),
-        _ => results::word(a, "no such call"),
+        _ => tables::word(a, "no such call"),
     }
 }

@@ -1,8 +1,8 @@
-use crate::arguments::Arguments;
 use crate::results;
 use camp_ctx::{Contexted, conflict, merge_behind_common};
 use camp_notation::NotationError;
 use camp_seq::Seq;
+use tables::Arguments;
 
 pub(crate) fn read(a: &Arguments) -> Result<String, NotationError> {
     results::contexted(a, &a.contexted(0)?)
@@ -15,7 +15,7 @@ pub(crate) fn key(a: &Arguments) -> Result<String, NotationError> {
 
 pub(crate) fn are_same(a: &Arguments) -> Result<String, NotationError> {
     let (left, right) = (a.contexted(0)?, a.contexted(1)?);
-    results::yes_or_no(a, left.is_same(&right))
+    tables::yes_or_no(a, left.is_same(&right))
 }
 
 pub(crate) fn add_one(a: &Arguments) -> Result<String, NotationError> {
@@ -41,24 +41,24 @@ pub(crate) fn pass_by(a: &Arguments) -> Result<String, NotationError> {
 pub(crate) fn found(a: &Arguments, x: Option<&Contexted>) -> Result<String, NotationError> {
     match x {
         Some(x) => results::contexted(a, x),
-        None => results::none(a),
+        None => tables::none(a),
     }
 }
 
 pub(crate) fn are_in_conflict(a: &Arguments) -> Result<String, NotationError> {
     let are = conflict(&a.contexted(0)?, &a.contexted(1)?)?;
-    results::yes_or_no(a, are)
+    tables::yes_or_no(a, are)
 }
 
 pub(crate) fn merged(a: &Arguments) -> Result<String, NotationError> {
     match merge_behind_common(a.alloc(), &a.list(0)?, &a.list(1)?)? {
         Some((second, first)) => both(a, &second, &first),
-        None => results::none(a),
+        None => tables::none(a),
     }
 }
 
 fn both(a: &Arguments, second: &Seq, first: &Seq) -> Result<String, NotationError> {
-    let second = results::list(a, second)?;
-    let first = results::list(a, first)?;
-    results::pair(second, &first)
+    let second = tables::list(a, second)?;
+    let first = tables::list(a, first)?;
+    tables::pair(second, &first)
 }

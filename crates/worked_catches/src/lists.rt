@@ -1,4 +1,3 @@
-use crate::arguments::Arguments;
 use crate::results;
 use camp_base::Name;
 use camp_catch::{Arranged, NoMerge, Stuck, align, arrange, merge_lists};
@@ -6,6 +5,7 @@ use camp_notation::NotationError;
 use camp_prim::Key;
 use camp_share::SharedMap;
 use std::alloc::AllocError;
+use tables::Arguments;
 
 pub(crate) fn read(a: &Arguments) -> Result<String, NotationError> {
     results::catches(a, &a.catches(0)?)
@@ -24,7 +24,7 @@ pub(crate) fn arranged(a: &Arguments) -> Result<String, NotationError> {
 fn both(a: &Arguments, arranged: &Arranged) -> Result<String, NotationError> {
     let first = results::catches(a, &arranged.first)?;
     let rest = results::catches(a, &arranged.rest)?;
-    results::pair(first, &rest)
+    tables::pair(first, &rest)
 }
 
 fn stuck_on(a: &Arguments, stuck: Stuck) -> Result<String, AllocError> {

@@ -1,29 +1,12 @@
-use crate::arguments::Arguments;
 use camp_catch::Catch;
 use camp_ctx::{Contexted, CtxSet};
 use camp_notation::{
-    NotationError, catch_text, catches_text, contexted_text, label_text, list_text, set_text,
+    NotationError, catch_text, catches_text, contexted_text, label_text, set_text,
 };
 use camp_prim::{Key, Label};
-use camp_seq::Seq;
 use camp_share::Shared;
 use std::alloc::AllocError;
-
-pub(crate) fn none(a: &Arguments) -> Result<String, NotationError> {
-    word(a, "none")
-}
-
-pub(crate) fn word(a: &Arguments, text: &str) -> Result<String, NotationError> {
-    Ok(String::from_str(a.alloc(), text)?)
-}
-
-pub(crate) fn yes_or_no(a: &Arguments, is_so: bool) -> Result<String, NotationError> {
-    word(a, if is_so { "yes" } else { "no" })
-}
-
-pub(crate) fn list(a: &Arguments, s: &Seq) -> Result<String, NotationError> {
-    Ok(list_text(a.alloc(), a.known(), s)?)
-}
+use tables::Arguments;
 
 pub(crate) fn contexted(a: &Arguments, x: &Contexted) -> Result<String, NotationError> {
     let text = contexted_text(a.alloc(), a.known(), x)?;
@@ -75,12 +58,4 @@ pub(crate) fn key(a: &Arguments, key: Key) -> Result<String, AllocError> {
         inverse: false,
     };
     label_text(a.alloc(), label)
-}
-
-/// Two results of a call, one behind the other.
-pub(crate) fn pair(first: String, second: &str) -> Result<String, NotationError> {
-    let mut text = first;
-    text.push_str(", ")?;
-    text.push_str(second)?;
-    Ok(text)
 }

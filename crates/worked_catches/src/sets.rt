@@ -1,8 +1,8 @@
-use crate::arguments::Arguments;
 use crate::contexts::found;
 use crate::results;
 use camp_ctx::CtxSet;
 use camp_notation::NotationError;
+use tables::Arguments;
 
 pub(crate) fn read(a: &Arguments) -> Result<String, NotationError> {
     results::set(a, &a.set(0)?)
@@ -10,7 +10,7 @@ pub(crate) fn read(a: &Arguments) -> Result<String, NotationError> {
 
 pub(crate) fn are_same(a: &Arguments) -> Result<String, NotationError> {
     let (left, right) = (a.set(0)?, a.set(1)?);
-    results::yes_or_no(a, left.is_same(&right))
+    tables::yes_or_no(a, left.is_same(&right))
 }
 
 pub(crate) fn member_count(a: &Arguments) -> Result<String, NotationError> {
@@ -27,7 +27,7 @@ pub(crate) fn member(a: &Arguments) -> Result<String, NotationError> {
 pub(crate) fn member_at(a: &Arguments) -> Result<String, NotationError> {
     let set = a.set(0)?;
     let index = a.number(1)?;
-    found(a, set.at(index))
+    found(a, set.at(index as usize))
 }
 
 pub(crate) fn sole_member(a: &Arguments) -> Result<String, NotationError> {

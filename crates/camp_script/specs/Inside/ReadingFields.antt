@@ -1,31 +1,77 @@
 -- How the progress of a reader lies in its fields.
-use Rattle.std.specs.Prelude.{◌≡◌, ◌≤◌, ◌<◌, count_by, Option, None, Some, List}
+use Rattle.std.specs.Prelude.{◌≡◌, ◌≤◌, ◌<◌, length, map, count_by, Option, None, Some, List}
+use Rattle.std.specs.List.{AllByRecursion}
 use Rattle.std.specs.Option.{option_map}
-use Rattle.camp_trunk.specs.Calls.{is_writing}
-use Rattle.camp_trunk.specs.declared.calls.Call.{Call}
-use Rattle.camp_script.specs.Reading.{Open, Progress}
-use Rattle.camp_script.specs.declared.readings.Body.{Body}
+use Rattle.camp_prim.specs.declared.primitives.Primitive.{Primitive}
+use Rattle.camp_call.specs.Calls.{is_writing}
+use Rattle.camp_call.specs.declared.calls.Call.{Call}
+use Rattle.camp_script.specs.Gives.{IsFaultIn}
+use Rattle.camp_script.specs.declared.faults.ScriptFault.{ScriptFault}
+use Rattle.camp_script.specs.Progress as progress
+use Rattle.camp_script.specs.Progress.{Progress}
+use Rattle.camp_script.specs.declared.records.OpenEdit.{OpenEdit}
+use Rattle.camp_script.specs.declared.records.OpenRecord.{OpenRecord}
 use Rattle.camp_script.specs.declared.readings.Reading.TheInside.{Inside}
 
--- the edit that a body belongs to
-abbrev pub open_of : Body → Open
-open_of body = record { head = body.head; opened = body.opened; old = body.old.items; new = body.new.items }
+-- the edit whose body is not ended
+abbrev pub open_edit_of : OpenEdit → progress.OpenEdit
+open_edit_of edit = record {
+  path = edit.path;
+  line = edit.line;
+  opened = edit.opened;
+  old = edit.old.items;
+  new = edit.new.items;
+}
+
+-- the record that is not ended
+abbrev pub open_record_of : OpenRecord → progress.OpenRecord
+open_record_of begun = record {
+  branch = begun.branch;
+  name = begun.name;
+  opened = begun.opened;
+  grouped = begun.grouped;
+  changes = begun.changes.items;
+  open_edit = option_map open_edit_of begun.open_edit;
+}
+
+-- a fault is what is told where a script ends in a record
+abbrev pub IsNotEnded : ScriptFault → progress.OpenRecord → Type 0
+IsNotEnded fault begun = IsFaultIn {A = List (List Call)} fault (progress.not_ended begun begun.open_edit)
 
 -- the progress that the fields stand for
 abbrev pub progress_of : Inside → Progress
-progress_of reading = record { calls = reading.calls.items; open_edit = option_map open_of reading.body }
+progress_of reading = record {
+  closed = map (λ section. section.items) reading.closed.items;
+  calls = reading.calls.items;
+  open_record = option_map open_record_of reading.open_record;
+}
 
 -- the section may have one more writing call
 abbrev pub MayGrow : List Call → Type 0
 MayGrow calls = count_by is_writing calls < 65_536
 
--- an open edit has a line, counted from 1, and room for its call
-abbrev pub IsAwaited : List Call → Option Body → Type 0
+-- an edit has a line, counted from 1, and the record has room for it
+abbrev pub HasRoomFor : List Primitive → Option OpenEdit → Type 0
+HasRoomFor changes None = Unit {0}
+HasRoomFor changes (Some edit) = (1 ≤ edit.line) × (length changes < 64)
+
+-- an open record has room for its changes, and its section for its call
+abbrev pub IsOpen : List Call → OpenRecord → Type 0
+IsOpen calls begun = MayGrow calls × (length begun.changes.items ≤ 64) × HasRoomFor begun.changes.items begun.open_edit
+
+-- the same where a record is open
+abbrev pub IsAwaited : List Call → Option OpenRecord → Type 0
 IsAwaited calls None = Unit {0}
-IsAwaited calls (Some body) = (1 ≤ body.head.line) × MayGrow calls
+IsAwaited calls (Some begun) = IsOpen calls begun
+
+-- sections that are closed: each has as many writing calls as it may have at most, and there is room for one more
+pub record AreClosed (sections : List (List Call)) : Type 0 where
+  pub few : length sections ≤ 63
+  pub writes : AllByRecursion (λ section. count_by is_writing section ≤ 65_536) sections
 
 -- the number of writing calls is kept and within the limit
 pub record IsKept (reading : Inside) : Type 0 where
+  pub closed : AreClosed (map (λ section. section.items) reading.closed.items)
   pub writes : reading.writes ≡ count_by is_writing reading.calls.items
   pub few : count_by is_writing reading.calls.items ≤ 65_536
-  pub awaited : IsAwaited reading.calls.items reading.body
+  pub awaited : IsAwaited reading.calls.items reading.open_record

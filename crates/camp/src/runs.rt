@@ -1,0 +1,41 @@
+ghost use Rattle.std.specs.Prelude.{◌≡◌, ◌≤◌, false, true};
+ghost use Rattle.camp_clients.specs.Runs.{IsShared};
+ghost use Rattle.camp_repo.specs.Objects.{repository};
+ghost use Rattle.camp_run.specs.Runs.{Runs};
+ghost use Rattle.camp_run.specs.Serial.{IsSerial};
+
+use camp_options::Options;
+use camp_run::{NoGate, RunFault, run_book, run_head};
+use std::alloc::Global;
+use std::io::{Read, Write};
+use std::sync::Wait;
+use std::thread::Threads;
+
+/// Runs the script that a reader gives in the way that the options ask for.
+pub(crate) fn run<T: Threads + Wait + Sync, R: Read, W: Write>(
+    rt: &T,
+    alloc: Global,
+    asked: &Options,
+    reader: &mut R,
+    writer: &mut W,
+) -> Result<(), RunFault>
+    requires { (1 ≤ asked.now.tries) × (asked.now.tries ≤ 1000) }
+    ensures serial { asked.now.serial ≡ true → Runs IsSerial asked.now.history
+        (R.remaining reader.old) (R.remaining reader.new) (W.contents writer.old) result (W.contents writer.new) }
+    ensures shared { asked.now.serial ≡ false → Runs (IsShared repository asked.now.tries) asked.now.history
+        (R.remaining reader.old) (R.remaining reader.new) (W.contents writer.old) result (W.contents writer.new) }
+{
+    if asked.serial {
+        run_book(alloc, reader, writer, asked.history)
+    } else {
+        run_head(
+            rt,
+            alloc,
+            reader,
+            writer,
+            asked.history,
+            asked.tries,
+            &NoGate,
+        )
+    }
+}

@@ -1,0 +1,44 @@
+-- What a command line asks for, by clap's meaning of its words.
+use Rattle.std.specs.Prelude.{◌≡◌, ◌↔◌, true, ℕ, List, [], ◌∷◌, Some, codes, pos}
+use Rattle.std.specs.Str.Parse.{IsNumeral, digits_value, without_leading_plus}
+use Rattle.clap.specs.Words.{App, Row, Rule, new_app, new_rule, one_of, with_rule}
+use Rattle.clap.specs.declared.builder.ArgAction.TheVariants.{Set, SetTrue}
+use Rattle.clap.specs.declared.builder.value_parser.ValueParser.TheVariants as parser
+use Rattle.camp_options.specs.declared.kinds.Options.{Options}
+
+-- an option without a value
+abbrev pub flag : List ℕ → Rule
+flag name = record (new_rule name) {
+  long = Some name;
+  action = Some SetTrue;
+  parser = Some parser.Bool;
+}
+
+-- the option `--tries N`, N from 1 to 1,000 and 100 by default
+abbrev pub tries : Rule
+tries = record (new_rule (codes "tries")) {
+  long = Some (codes "tries");
+  action = Some Set;
+  value_names = 1;
+  parser = Some (parser.Signed (pos 1) (pos 1000));
+  defaults = codes "100" ∷ [];
+}
+
+-- the program's command line: `--serial`, `--tries N` and `--history`
+abbrev pub program : App
+program = with_rule (with_rule (with_rule (new_app (codes "camp")) (flag (codes "serial"))) tries) (flag (codes "history"))
+
+-- the option is set
+abbrev pub IsSet : List ℕ → List Row → Type 0
+IsSet name rows = one_of name rows ≡ Some (codes "true")
+
+-- the option's value is a numeral, behind a plus or not, and writes the number
+abbrev pub Writes : List ℕ → ℕ → List Row → Type 0
+Writes name number rows = (text : List ℕ) × (one_of name rows ≡ Some text) × IsNumeral 10 (without_leading_plus text)
+    × (number ≡ digits_value 10 (without_leading_plus text))
+
+-- the options are those that clap has found
+pub record Given (rows : List Row) (options : Options) : Type 0 where
+  pub serial : (options.serial ≡ true) ↔ IsSet (codes "serial") rows
+  pub tries : Writes (codes "tries") options.tries rows
+  pub history : (options.history ≡ true) ↔ IsSet (codes "history") rows

@@ -1,0 +1,82 @@
+//! What `--help` says behind the usage and the options.
+
+pub(crate) const REFERENCE: &str =
+    "A script comes on standard input, and its answers go to standard output. A script is a list of
+commands, each on a line. They work on branches, which are lists of named patches; a patch changes
+files of lines. At first there is one branch, main, without patches. Empty lines and lines that
+begin with # are skipped.
+
+    record main start add notes
+    record main hello edit notes 1
+    +hello
+    end
+    tree main
+
+is answered by
+
+    ok 1
+    ok 2
+    tree 1
+    file notes 1
+    =hello
+
+Commands:
+  branch NEW FROM               make a branch that is a copy       branch work main
+  record BRANCH NAME add PATH   record an empty file that is new   record main start add notes
+  record BRANCH NAME remove PATH
+                                record that it goes, once empty    record main gone remove notes
+  record BRANCH NAME edit PATH LINE
+                                record lines put in place of others, from line LINE on; below it the
+                                old lines, each behind a -, the new ones, each behind a +, and end
+                                                                   record main hello edit notes 1
+  record BRANCH NAME group      record 1 to 64 changes as one patch; below it add PATH, remove PATH
+                                or edit PATH LINE with its lines, and done
+                                                                   record main all group
+  pull FROM TO                  bring to TO all that it lacks      pull work main
+  pull FROM TO NAME ..          bring these patches                pull work main hello
+  obliterate BRANCH NAME ..     take these patches out             obliterate main hello
+  tree BRANCH                   show the files                     tree main
+  conflicts BRANCH              show the patches in conflict       conflicts main
+  names BRANCH                  show the patches in their order    names main
+  client                        what follows is asked by the next client, in a thread of its own
+
+A name has 1 to 40 of a-z, 0-9 and -, and does not begin with -. A path has 1 to 200 printing ASCII
+characters without spaces; its parts between / are not empty, not . and not .. .
+
+Answers:
+  ok NUMBER                     the call was accepted, as the one of this number
+  tree FILES                    then each file as: file PATH LINES, and its lines behind =
+  conflicts PAIRS               then each pair of patches that are in conflict
+  names COUNT                   then each name
+  refused NUMBER ..             the call was not accepted, and nothing has changed; see below
+  busy LOST                     the call lost LOST times to other clients; ask it again, or run with a
+                                greater --tries, or with --serial
+  full                          the client has no room for one more call
+  client NUMBER                 what follows answers the calls of this client
+  history COUNT                 with --history: each accepted call, behind its number and its client
+
+Refusals, and what to do:
+  4 BRANCH                      there is no such branch: make it with branch
+  5 BRANCH                      there is such a branch: take another name
+  6 NAME                        some branch has a patch of this name: take another name
+  7 NAME                        the branch has no such patch: see names
+  8                             there is nothing to pull: TO has it all
+  9                             too large: 256 branches, 4096 changes in a branch, 65535 lines in a side
+                                of an edit or 1000000 lines in a file are the most
+  10                            the change does not fit the files: see tree, and mend path, LINE or lines
+  11 PATCH ON                   PATCH stands on ON: pull ON too, or obliterate PATCH too
+  12 NAME                       the branches hold this patch in forms that do not agree: obliterate it
+                                and what stands on it in one of them, and pull again
+  13 LEFT RIGHT                 the two do not merge: pull without RIGHT, or obliterate LEFT first
+  14 BRANCH                     the two branches are one: name another
+
+A conflict is no refusal. Patches in conflict have no effect; record a patch that says what the lines
+are to be, or obliterate one of the two.
+
+Exit status:
+  0  the script was run, whatever was refused
+  1  the script has a fault, and nothing was run; standard error says camp: line LINE: FAULT
+  2  the command line is refused
+  3  memory ran out, or input or output failed; standard error says which
+
+More: docs/scripts.md has the whole language and its faults, and examples/ has scripts to run.";

@@ -1,0 +1,69 @@
+ghost use Rattle.std.specs.Prelude.{◌≡◌, IfOk, false, map, ◌≤◌};
+ghost use Rattle.clap.specs.Words.{FailsBy, app_of, fault_of, matches_of, rule_of};
+ghost use Rattle.camp_options.specs.Options.{Given, flag, program, tries};
+
+use crate::help::REFERENCE;
+use crate::kinds::Options;
+use clap::{Arg, ArgAction, Command, Error, value_parser};
+use std::alloc::{AllocError, Global};
+use std::convert::AsStr;
+
+/// Reads the words of a command line, of which the first is the program's name. The fault is a
+/// mistake in the words, a request for the help text, or want of memory; it shows as the text for
+/// the user.
+pub fn options<'a, S: AsStr>(alloc: Global, words: &'a [S]) -> Result<Options, Error>
+    ensures given { IfOk result (Given (matches_of program (map S.text words.entry.now))) }
+    ensures range { IfOk result (λ options. (1 ≤ options.tries) × (options.tries ≤ 1000)) }
+    ensures refused { FailsBy (fault_of program (map S.text words.entry.now)) result }
+{
+    let matches = command(alloc)?.try_get_matches_from(words)?;
+    Ok(Options {
+        serial: matches.get_flag("serial"),
+        tries: matches.get_one::<u32>("tries").unwrap(),
+        history: matches.get_flag("history"),
+    })
+}
+
+fn command<'a>(alloc: Global) -> Result<Command<'a>, AllocError>
+    ensures { IfOk result (λ command. app_of command ≡ program) }
+{
+    let serial = flag(
+        alloc,
+        "serial",
+        "Run the clients one after the other, in one thread",
+    );
+    let history = flag(
+        alloc,
+        "history",
+        "Write the history of accepted calls behind the answers",
+    );
+    Command::new(alloc, "camp")
+        .after_help(REFERENCE)
+        .arg(serial)?
+        .arg(tries(alloc))?
+        .arg(history)
+}
+
+fn flag<'a>(alloc: Global, name: &'a str, help: &'a str) -> Arg<'a>
+    ensures rule { rule_of result ≡ flag name.entry.now }
+    ensures local { result.global ≡ false }
+{
+    Arg::new(alloc, name)
+        .long(name)
+        .action(ArgAction::SetTrue)
+        .value_parser(value_parser!(bool))
+        .help(help)
+}
+
+fn tries<'a>(alloc: Global) -> Arg<'a>
+    ensures rule { rule_of result ≡ tries }
+    ensures local { result.global ≡ false }
+{
+    Arg::new(alloc, "tries")
+        .long("tries")
+        .action(ArgAction::Set)
+        .value_name("N")
+        .value_parser(value_parser!(u32).range(1..=1000))
+        .default_value("100")
+        .help("Answer a call busy once it has lost N times to other clients, 1 to 1000")
+}

@@ -1,0 +1,54 @@
+-- What is prepared and then written is what a run answers.
+use Rattle.std.proofs.Common.{◌≡◌, ℕ, ◌≤◌, Bool, List, [], ◌∷◌, Option, Result, Ok, Err, MatchResult, Vec}
+use Rattle.std.proofs.Common.{ap, count_by, subst, sym, ◌∙◌}
+use Rattle.std.specs.Io.KnownBytes.{Appends}
+use Rattle.std.specs.List.{All, AllByRecursion}
+use Rattle.std.proofs.lemmas.List.Elements.{All-cons, All-nil}
+use Rattle.camp_object.specs.declared.faults.Fault.{Fault}
+use Rattle.camp_call.specs.Calls.{is_writing}
+use Rattle.camp_call.specs.declared.calls.Call.{Call}
+use Rattle.camp_call.specs.declared.replies.Reply.{Reply}
+use Rattle.camp_clients.specs.Runs.{lists_of}
+use Rattle.camp_script.specs.Outputs.{output_text}
+use Rattle.camp_script.specs.Writing.{AppendsFront}
+use Rattle.camp_run.specs.Inputs.{ReadsAs}
+use Rattle.camp_run.specs.Outputs.{Outcome, if_wanted}
+use Rattle.camp_run.specs.Runs.{HasOutput, Runs}
+use Rattle.camp_run.specs.declared.faults.RunFault.{RunFault}
+use Rattle.camp_run.specs.declared.faults.RunFault.TheVariants.{Write}
+
+module _ (Comes : Outcome) (wants_history : Bool) (remaining rest old new : Option (List ℕ)) (text : List ℕ) where
+  pub written : (result : Result (Unit {0}) RunFault) → HasOutput Comes wants_history remaining rest text
+      → MatchResult result (λ _. Appends old new text) (λ why. (why ≡ Write) × AppendsFront old new text)
+      → Runs Comes wants_history remaining rest old result new
+  written (Ok done) prepared says = (text, prepared, says)
+  written (Err why) prepared says =
+      subst (λ fault. Runs Comes wants_history remaining rest old (Err fault) new) (sym says.0) (text, prepared, says.1)
+
+-- what was read, what it comes to, and its text
+module _ (Comes : Outcome) (wants_history : Bool) (remaining rest : Option (List ℕ)) (script sections : List (List Call))
+    (answers lent_answers : List (List (Result Reply Fault))) (history lent_history : List (ℕ × Call)) (text : List ℕ) where
+  pub prepared : ReadsAs remaining rest (Ok script) → sections ≡ script → Comes sections answers history
+      → lent_answers ≡ answers → lent_history ≡ history
+      → text ≡ output_text lent_answers (if_wanted wants_history lent_history)
+      → HasOutput Comes wants_history remaining rest text
+  prepared reads are comes same_answers same_history is_text = record {
+    script = sections;
+    reads = subst (λ s. ReadsAs remaining rest (Ok s)) (sym are) reads;
+    is_output = record {
+      answers = answers;
+      history = history;
+      comes = comes;
+      is_text = is_text ∙ ap (λ a. output_text a (if_wanted wants_history lent_history)) same_answers
+          ∙ ap (λ h. output_text answers (if_wanted wants_history h)) same_history;
+    };
+  }
+
+-- sections of a script are within its limits, lent as vectors too
+pub lent_within : {Z : Type 0} (sections : List (Vec Call Z))
+    → AllByRecursion (λ section. count_by is_writing section ≤ 65_536) (lists_of sections)
+    → All (λ section. count_by is_writing section.items ≤ 65_536) sections
+lent_within [] within = All-nil (λ section. count_by is_writing section.items ≤ 65_536)
+lent_within (section ∷ sections) within =
+    All-cons (λ section. count_by is_writing section.items ≤ 65_536) section sections within.0
+    (lent_within sections within.1)

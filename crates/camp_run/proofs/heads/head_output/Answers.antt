@@ -1,0 +1,20 @@
+use Rattle.std.proofs.Common.{count_by, subst, sym, ◌≤◌}
+use Rattle.std.specs.List.{AllByRecursion}
+use Rattle.camp_call.specs.Calls.{is_writing}
+use Rattle.camp_clients.specs.Runs.{lists_of}
+use Rattle.camp_script.specs.Outputs.{HaveTexts}
+use Rattle.camp_run.proofs.Texts.{shared_texts}
+use Rattle.camp_run.proofs.Written.{lent_within}
+use Rattle.camp_run.proofs.heads.head_output.Goals as goal
+
+pub text_of-requires : goal.text_of-requires
+text_of-requires g c =
+    subst (λ answers. HaveTexts (lists_of answers)) (sym c.deref.ensures.value)
+    (shared_texts (lists_of c.sections.result.now) (lists_of c.in_ok-run.run'.answers.items)
+    c.in_ok-run.run'.history.items c.args.tries c.in_ok-run.ensures)
+
+pub shared-requires-clause-writing : goal.shared-requires-clause-writing
+shared-requires-clause-writing g c lifetimes outlive =
+    lent_within c.sections.result.now
+    (subst (AllByRecursion (λ section. count_by is_writing section ≤ 65_536)) (sym c.sections.ensures.value)
+    c.sections.ensures.limits.writes_within)

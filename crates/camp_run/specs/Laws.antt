@@ -1,0 +1,19 @@
+-- The laws of runs of scripts.
+use Rattle.std.specs.Prelude.{ℕ, ◌<◌, List, [], ◌∷◌, Result}
+use Rattle.camp_object.specs.declared.faults.Fault.{Fault}
+use Rattle.camp_call.specs.declared.calls.Call.{Call}
+use Rattle.camp_call.specs.declared.replies.Reply.{Reply}
+use Rattle.camp_clients.specs.Runs.{IsLocked, IsShared}
+use Rattle.camp_repo.specs.Objects.{repository}
+use Rattle.camp_run.specs.Serial.{IsSerial}
+
+-- a script of one section comes over a lock to what it comes to in one thread
+abbrev pub LockedSectionIsSerial : Type 0
+LockedSectionIsSerial = (calls : List Call) (answers : List (List (Result Reply Fault))) (history : List (ℕ × Call))
+    → IsLocked repository (calls ∷ []) answers history → IsSerial (calls ∷ []) answers history
+
+-- and so it does over a head, however often its calls try
+abbrev pub SharedSectionIsSerial : Type 0
+SharedSectionIsSerial = (tries : ℕ) (calls : List Call) (answers : List (List (Result Reply Fault)))
+    (history : List (ℕ × Call)) → 0 < tries → IsShared repository tries (calls ∷ []) answers history
+    → IsSerial (calls ∷ []) answers history

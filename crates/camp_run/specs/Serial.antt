@@ -1,0 +1,37 @@
+-- What a script answers where one thread asks its sections one after the other.
+use Rattle.std.specs.Prelude.{◌≡◌, ℕ, ◌+◌, List, [], ◌∷◌, ◌++◌, map, Result, Ok}
+use Rattle.camp_object.specs.declared.faults.Fault.{Fault}
+use Rattle.camp_object.specs.declared.objects.Decided.TheVariants.{Next, Answer}
+use Rattle.camp_call.specs.declared.calls.Call.{Call}
+use Rattle.camp_call.specs.declared.replies.Reply.{Reply}
+use Rattle.camp_repo.specs.Objects.{replies_to, state_after, state_behind}
+use Rattle.camp_repo.specs.States.{Contents, initial}
+use Rattle.camp_repo.specs.Steps.{Decision, step}
+
+-- the replies to sections, one after the other from a state on
+abbrev pub replies_from : Contents → List (List Call) → List (List Reply)
+replies_from state [] = []
+replies_from state (calls ∷ sections) = replies_to state calls ∷ replies_from (state_after state calls) sections
+
+-- a call in front of those that are accepted after it, where it is accepted itself
+abbrev pub booked : Decision → ℕ × Call → List (ℕ × Call) → List (ℕ × Call)
+booked (Next state) entry rest = entry ∷ rest
+booked (Answer answer) entry rest = rest
+
+-- those calls of a section that are accepted, from a state on, under the section's number
+abbrev pub accepted_from : ℕ → Contents → List Call → List (ℕ × Call)
+accepted_from seat state [] = []
+accepted_from seat state (call ∷ calls) =
+    booked (step state call) (seat, call) (accepted_from seat (state_behind state (step state call)) calls)
+
+-- those calls of sections that are accepted, from a state on, where the first section has this number
+abbrev pub history_from : ℕ → Contents → List (List Call) → List (ℕ × Call)
+history_from seat state [] = []
+history_from seat state (calls ∷ sections) =
+    accepted_from seat state calls ++ history_from (seat + 1) (state_after state calls) sections
+
+-- sections of calls to a new repository, one after the other, come to these answers and this history
+pub record IsSerial (sections : List (List Call)) (answers : List (List (Result Reply Fault)))
+    (history : List (ℕ × Call)) : Type 0 where
+  pub replies : answers ≡ map (map Ok) (replies_from initial sections)
+  pub books : history ≡ history_from 0 initial sections

@@ -1,0 +1,57 @@
+//! Runs in threads over a head.
+ghost use Rattle.std.specs.Prelude.{◌<◌, ◌≤◌, IfOk, IfErr};
+ghost use Rattle.camp_clients.specs.Runs.{IsShared};
+ghost use Rattle.camp_repo.specs.Objects.{repository};
+ghost use Rattle.camp_run.specs.Runs.{HasNoOutput, HasOutput, IsNotForeign, Runs};
+
+use crate::RunFault;
+use crate::inputs::read_input;
+use crate::outputs::{text_of, write_output};
+use camp_clients::shared;
+use camp_head::Gate;
+use camp_repo::State;
+use std::alloc::Global;
+use std::io::{Read, Write};
+use std::sync::Wait;
+use std::thread::Threads;
+
+/// Reads a whole script and asks its sections over a head, section k at seat k: the opening first, and
+/// then each client in a thread of its own, whose calls give up after `tries` lost exchanges, 1 to
+/// 1,000. The gate is told of each call, by its number in its section, and of each exchange. Writes
+/// the answers, and the history where it is wanted, after the last thread was joined.
+pub fn run_head<T: Threads + Wait + Sync, R: Read, W: Write, G: Gate + Sync>(
+    rt: &T,
+    alloc: Global,
+    reader: &mut R,
+    writer: &mut W,
+    history: bool,
+    tries: u32,
+    gate: &G,
+) -> Result<(), RunFault>
+    requires { (0 < tries) × (tries ≤ 1000) }
+    ensures runs { Runs (IsShared repository tries) history
+        (R.remaining reader.old) (R.remaining reader.new) (W.contents writer.old) result (W.contents writer.new) }
+    ensures not_foreign { IfErr result IsNotForeign }
+{
+    let text = head_output(rt, alloc, reader, history, tries, gate)?;
+    write_output(writer, &text)
+}
+
+fn head_output<T: Threads + Wait + Sync, R: Read, G: Gate + Sync>(
+    rt: &T,
+    alloc: Global,
+    reader: &mut R,
+    history: bool,
+    tries: u32,
+    gate: &G,
+) -> Result<Vec<u8>, RunFault>
+    requires { (0 < tries) × (tries ≤ 1000) }
+    ensures text { IfOk result (λ text.
+        HasOutput (IsShared repository tries) history (R.remaining reader.old) (R.remaining reader.new) text.items) }
+    ensures fault { IfErr result (HasNoOutput (R.remaining reader.old) (R.remaining reader.new)) }
+    ensures not_foreign { IfErr result IsNotForeign }
+{
+    let script = read_input(alloc, reader)?;
+    let run = shared::<T, State, G>(rt, alloc, script.sections(), tries, gate)?;
+    Ok(text_of(alloc, &run.answers, &run.history, history)?)
+}

@@ -1,0 +1,37 @@
+//! The input of a run: all of it is read before anything is run.
+ghost use Rattle.std.specs.Prelude.{◌≡◌, ◌⊎◌, Ok, IfOk, IfErr};
+ghost use Rattle.camp_run.specs.Inputs.{ReadsAll, ReadsAs};
+ghost use Rattle.camp_run.specs.Runs.{HasNoOutput, IsNotForeign};
+ghost use Rattle.camp_run.specs.declared.faults.RunFault.TheVariants as fault;
+
+use crate::RunFault;
+use camp_script::{Script, ScriptFault, read_script};
+use std::alloc::Global;
+use std::io::{ErrorKind, Read};
+
+/// The script that a reader gives, read to its end.
+pub(crate) fn read_input<R: Read>(alloc: Global, reader: &mut R) -> Result<Script, RunFault>
+    ensures script { IfOk result (λ script. ReadsAs (R.remaining reader.old) (R.remaining reader.new) (Ok script)) }
+    ensures fault { IfErr result (HasNoOutput (R.remaining reader.old) (R.remaining reader.new)) }
+    ensures not_foreign { IfErr result IsNotForeign }
+{
+    let bytes = read_all(alloc, reader)?;
+    match read_script(alloc, &bytes) {
+        Ok(script) => Ok(script),
+        Err(ScriptFault::Line(fault)) => Err(RunFault::Script(fault)),
+        Err(ScriptFault::Memory) => Err(RunFault::Memory),
+        Err(ScriptFault::Write) => unreachable!(),
+    }
+}
+
+fn read_all<R: Read>(alloc: Global, reader: &mut R) -> Result<Vec<u8>, RunFault>
+    ensures bytes { IfOk result (λ bytes. ReadsAll (R.remaining reader.old) (R.remaining reader.new) bytes.items) }
+    ensures fault { IfErr result (λ error. (error ≡ fault.Memory) ⊎ (error ≡ fault.Read)) }
+{
+    let mut bytes = Vec::new(alloc);
+    match reader.read_to_end(&mut bytes) {
+        Ok(_) => Ok(bytes),
+        Err(error) if error.kind() == ErrorKind::OutOfMemory => Err(RunFault::Memory),
+        Err(_) => Err(RunFault::Read),
+    }
+}

@@ -1,0 +1,51 @@
+//! Runs in threads over a lock.
+ghost use Rattle.std.specs.Prelude.{IfOk, IfErr};
+ghost use Rattle.camp_clients.specs.Runs.{IsLocked};
+ghost use Rattle.camp_repo.specs.Objects.{repository};
+ghost use Rattle.camp_run.specs.Runs.{HasNoOutput, HasOutput, Runs};
+
+use crate::RunFault;
+use crate::inputs::read_input;
+use crate::outputs::{text_of, write_output};
+use camp_clients::{LockFault, locked};
+use camp_repo::State;
+use std::alloc::Global;
+use std::io::{Read, Write};
+use std::sync::Wait;
+use std::thread::Threads;
+
+/// Reads a whole script and asks its sections of a new book under a lock, section k at seat k: the
+/// opening first, and then each client in a thread of its own. Writes the answers, and the history
+/// where it is wanted, after the last thread was joined.
+pub fn run_locked<T: Threads + Wait + Sync, R: Read, W: Write>(
+    rt: &T,
+    alloc: Global,
+    reader: &mut R,
+    writer: &mut W,
+    history: bool,
+) -> Result<(), RunFault>
+    ensures { Runs (IsLocked repository) history
+        (R.remaining reader.old) (R.remaining reader.new) (W.contents writer.old) result (W.contents writer.new) }
+{
+    let text = locked_output(rt, alloc, reader, history)?;
+    write_output(writer, &text)
+}
+
+fn locked_output<T: Threads + Wait + Sync, R: Read>(
+    rt: &T,
+    alloc: Global,
+    reader: &mut R,
+    history: bool,
+) -> Result<Vec<u8>, RunFault>
+    ensures text { IfOk result (λ text.
+        HasOutput (IsLocked repository) history (R.remaining reader.old) (R.remaining reader.new) text.items) }
+    ensures fault { IfErr result (HasNoOutput (R.remaining reader.old) (R.remaining reader.new)) }
+{
+    let script = read_input(alloc, reader)?;
+    let run = match locked::<T, State>(rt, alloc, script.sections()) {
+        Ok(run) => run,
+        Err(LockFault::Foreign) => return Err(RunFault::Foreign),
+        Err(LockFault::Memory) => return Err(RunFault::Memory),
+    };
+    Ok(text_of(alloc, &run.answers, run.book.history(), history)?)
+}

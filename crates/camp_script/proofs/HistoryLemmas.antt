@@ -1,0 +1,79 @@
+-- Texts of histories that grow word by word and call by call.
+use Rattle.std.proofs.Common.{◌≡◌, ℕ, ◌+◌, ◌-◌, ◌<◌, List, [], ◌∷◌, ◌++◌, length, get_or, take, drop, map, refl, sym, ap, subst, ◌∙◌, append_assoc, append-nil, arith, Result}
+use Rattle.std.proofs.lemmas.List.{get_or-map, length-map, length-take, take_rest}
+use Rattle.std.proofs.lemmas.List.Elements.{All-tail}
+use Rattle.std.proofs.lemmas.List.Concat.{flat_map-cons}
+use Rattle.std.specs.Borrow.{Bor}
+use Rattle.std.specs.List.{All, flat_map, join_with_byte}
+use Rattle.camp_object.specs.declared.faults.Fault.{Fault}
+use Rattle.camp_call.specs.declared.calls.Call.{Call}
+use Rattle.camp_call.specs.declared.replies.Reply.{Reply}
+use Rattle.camp_script.specs.HistoryTexts.{entry_text, entries_text}
+use Rattle.camp_script.specs.Outputs.{HaveTexts, client_text, clients_text}
+use Rattle.camp_script.specs.Inside.Spaces.{spaced}
+use Rattle.camp_script.specs.Texts.{HasText, line_text}
+
+pub spaced-map : (words : List (Bor (List ℕ))) → flat_map (λ (word : Bor (List ℕ)). 32 ∷ word.now) words ≡ spaced (map (λ word. word.now) words)
+spaced-map [] = refl
+spaced-map (word ∷ words) =
+    flat_map-cons (λ (w : Bor (List ℕ)). 32 ∷ w.now) word words ∙ ap (λ t. (32 ∷ word.now) ++ t) (spaced-map words)
+    ∙ sym (flat_map-cons (λ (w : List ℕ). 32 ∷ w) word.now (map (λ w. w.now) words))
+
+joined : (first : List ℕ) (words : List (List ℕ)) → join_with_byte 32 (first ∷ words) ≡ first ++ spaced words
+joined first [] = sym (append-nil first)
+joined first (word ∷ words) = ap (λ t. first ++ (32 ∷ t)) (joined word words) ∙ ap (λ t. first ++ t) (sym (flat_map-cons (λ (w : List ℕ). 32 ∷ w) word words))
+
+regrouped : (o a s w e : List ℕ) → (((o ++ a) ++ (s ++ [])) ++ w) ++ e ≡ o ++ ((a ++ (s ++ w)) ++ e)
+regrouped o a s w e = simp (append_assoc, append-nil)
+
+-- a position, a seat, the words of a call, and the end of the line
+pub entry_done : (old at seat : List ℕ) (words : List (List ℕ)) (a b c d : List ℕ) → a ≡ old ++ at → b ≡ a ++ spaced (seat ∷ []) → c ≡ b ++ spaced words → d ≡ c ++ 10 ∷ [] → d ≡ old ++ line_text (at ∷ seat ∷ words)
+entry_done old at seat words a b c d first second third last =
+    last ∙ ap (λ t. t ++ 10 ∷ []) (third ∙ ap (λ t. t ++ spaced words) (second ∙ ap (λ t. t ++ spaced (seat ∷ [])) first ∙ ap (λ t. (old ++ at) ++ t) (flat_map-cons (λ (w : List ℕ). 32 ∷ w) seat [])))
+    ∙ regrouped old at (32 ∷ seat) (spaced words) (10 ∷ [])
+    ∙ ap (λ t. old ++ (t ++ 10 ∷ [])) (sym (joined at (seat ∷ words) ∙ ap (λ t. at ++ t) (flat_map-cons (λ (w : List ℕ). 32 ∷ w) seat words)))
+
+-- one more call at the end of a history
+entries_text-append : (at : ℕ) (done : List (ℕ × Call)) (entry : ℕ × Call) → entries_text at (done ++ entry ∷ []) ≡ entries_text at done ++ entry_text (at + length done) entry
+entries_text-append at [] entry = append-nil (entry_text at entry) ∙ ap (λ n. entry_text n entry) (omega arith)
+entries_text-append at (first ∷ done) entry =
+    ap (λ t. entry_text at first ++ t) (entries_text-append (at + 1) done entry)
+    ∙ sym (append_assoc (entry_text at first) (entries_text (at + 1) done) (entry_text (at + 1 + length done) entry))
+    ∙ ap (λ n. (entry_text at first ++ entries_text (at + 1) done) ++ entry_text n entry) (omega arith)
+
+pub one_more_entry : (old now new : List ℕ) (history : List (ℕ × Call)) (i : ℕ) (entry : ℕ × Call) → now ≡ old ++ entries_text 1 (take i history) → i < length history
+    → take (i + 1) history ≡ take i history ++ entry ∷ [] → new ≡ now ++ entry_text (i + 1) entry → new ≡ old ++ entries_text 1 (take (i + 1) history)
+one_more_entry old now new history i entry so within last is =
+    let long : 1 + length (take i history) ≡ i + 1 = omega (arith, length-take i history) in
+    is ∙ ap (λ t. t ++ entry_text (i + 1) entry) so ∙ append_assoc old (entries_text 1 (take i history)) (entry_text (i + 1) entry)
+    ∙ ap (λ t. old ++ t) (ap (λ n. entries_text 1 (take i history) ++ entry_text n entry) (sym long) ∙ sym (entries_text-append 1 (take i history) entry) ∙ ap (entries_text 1) (sym last))
+
+-- one more client behind the others
+clients_text-append : {S : Type 0} (answers : S → List (Result Reply Fault)) (number : ℕ) (done : List S) (client : S) → clients_text number (map answers (done ++ client ∷ [])) ≡ clients_text number (map answers done) ++ client_text (number + length done) (answers client)
+clients_text-append answers number [] client = append-nil (client_text number (answers client)) ∙ ap (λ n. client_text n (answers client)) (omega arith)
+clients_text-append answers number (first ∷ done) client =
+    ap (λ t. client_text number (answers first) ++ t) (clients_text-append answers (number + 1) done client)
+    ∙ sym (append_assoc (client_text number (answers first)) (clients_text (number + 1) (map answers done)) (client_text (number + 1 + length done) (answers client)))
+    ∙ ap (λ n. (client_text number (answers first) ++ clients_text (number + 1) (map answers done)) ++ client_text n (answers client)) (omega arith)
+
+pub one_more_client : {S : Type 0} (answers : S → List (Result Reply Fault)) (old now new : List ℕ) (clients : List S) (i : ℕ) (client : S) → now ≡ old ++ clients_text 1 (map answers (take i clients)) → i < length clients
+    → take (i + 1) clients ≡ take i clients ++ client ∷ [] → new ≡ now ++ client_text (i + 1) (answers client) → new ≡ old ++ clients_text 1 (map answers (take (i + 1) clients))
+one_more_client answers old now new clients i client so within last is =
+    let long : 1 + length (take i clients) ≡ i + 1 = omega (arith, length-take i clients) in
+    let before = clients_text 1 (map answers (take i clients)) in
+    is ∙ ap (λ t. t ++ client_text (i + 1) (answers client)) so ∙ append_assoc old before (client_text (i + 1) (answers client))
+    ∙ ap (λ t. old ++ t) (ap (λ n. before ++ client_text n (answers client)) (sym long) ∙ sym (clients_text-append answers 1 (take i clients) client) ∙ ap (λ cs. clients_text 1 (map answers cs)) (sym last))
+
+-- each answer of one of the sections has a text
+pub section_has_texts : {S : Type 0} (answers : S → List (Result Reply Fault)) (sections : List S) (i : ℕ) (section d : S) → HaveTexts (map answers sections) → i < length sections → section ≡ get_or sections i d
+    → All HasText (answers section)
+section_has_texts answers sections i section d have within is =
+    let within_map : i < length (map answers sections) = omega (arith, length-map sections answers) in
+    let at : get_or (map answers sections) i (answers d) ≡ answers (get_or sections i d) = get_or-map answers sections i d (answers d) within in
+    subst (All HasText) (at ∙ ap answers (sym is)) (have i (answers d) within_map)
+
+-- and each of the sections behind the first
+pub rest_have_texts : {S : Type 0} (answers : S → List (Result Reply Fault)) (sections : List S) → HaveTexts (map answers sections) → HaveTexts (map answers (take (length sections - 1) (drop 1 sections)))
+rest_have_texts answers [] have = subst (λ rest. HaveTexts (map answers rest)) (sym (take_rest [] 1)) have
+rest_have_texts answers (first ∷ sections) have =
+    subst (λ rest. HaveTexts (map answers rest)) (sym (take_rest (first ∷ sections) 1)) (All-tail (All HasText) (answers first) (map answers sections) have)

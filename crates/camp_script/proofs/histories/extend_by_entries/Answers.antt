@@ -1,0 +1,14 @@
+use Rattle.std.proofs.Common.{◌<◌, ◌+◌, ap, ◌∙◌, ◌++◌, ◌∷◌, [], sym, take, length, arith}
+use Rattle.std.proofs.lemmas.List.{take_more}
+use Rattle.camp_script.specs.HistoryTexts.{entry_text}
+use Rattle.camp_script.proofs.HistoryLemmas.{one_more_entry}
+use Rattle.camp_script.proofs.histories.extend_by_entries.Goals as goal
+
+pub loop-seat-preserved : goal.loop-seat-preserved
+loop-seat-preserved c =
+    let within : c.loop-seat.seat-index < length c.args.history.now = omega arith in
+    let last = take_more c.args.history.now c.loop-seat.seat-index c.loop-seat-item.result within ∙ ap (λ entry. take c.loop-seat.seat-index c.args.history.now ++ entry ∷ []) (sym c.loop-seat-item.is) in (
+      ap (λ n. n + 1) c.loop-seat.invariant.0,
+      one_more_entry c.args.text.now.items c.loop-seat.text.items c.extend_by_entry.new.text.items c.args.history.now c.loop-seat.seat-index c.loop-seat-item.result c.loop-seat.invariant.1 within last
+          (c.in_ok-extend_by_entry.ensures ∙ ap (λ n. c.loop-seat.text.items ++ entry_text (n + 1) c.loop-seat-item.result) c.loop-seat.invariant.0),
+    )

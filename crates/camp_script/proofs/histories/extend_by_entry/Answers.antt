@@ -1,0 +1,15 @@
+use Rattle.std.proofs.Common.{ap, ◌∙◌, ◌++◌, ◌∷◌, []}
+use Rattle.std.specs.Fmt.{decimal}
+use Rattle.camp_script.specs.HistoryTexts.{call_words}
+use Rattle.camp_script.specs.Inside.Spaces.{spaced}
+use Rattle.camp_script.proofs.HistoryLemmas.{entry_done}
+use Rattle.camp_script.proofs.histories.extend_by_entry.Goals as goal
+
+pub returns : goal.returns
+returns c =
+    let at = c.as_bytes.ensures.value ∙ c.format.ensures.text in
+    let seat = c.as_bytes-2.ensures.value ∙ c.format-2.ensures.text in
+    entry_done c.args.text.now.items (decimal c.args.at) (decimal c.args.seat) (call_words c.args.call.now) c.extend_from_slice.new.self.items c.extend_by_words.new.text.items c.extend_by_call.new.text.items c.push.new.self.items
+    (c.in_ok-extend_from_slice.ensures.items ∙ ap (λ t. c.args.text.now.items ++ t) at)
+    (c.in_ok-extend_by_words.ensures ∙ ap (λ t. c.extend_from_slice.new.self.items ++ spaced (t ∷ [])) seat)
+    c.in_ok-extend_by_call.ensures c.in_ok-push.ensures.items

@@ -1,0 +1,7 @@
+use Rattle.std.proofs.Common.{◌≡◌, ◌++◌, take, map}
+use Rattle.camp_script.specs.Outputs.{clients_text}
+use Rattle.camp_script.proofs.outputs.extend_by_clients.Given as goal
+
+abbrev pub invariant-loop-answers : goal.invariant-loop-answers
+invariant-loop-answers l =
+    (l.number ≡ l.answers-index) × (l.text.items ≡ l.fn.text.items ++ clients_text 1 (map (λ section. section.items) (take l.answers-index l.clients)))

@@ -1,0 +1,14 @@
+use Rattle.std.proofs.Common.{◌<◌, length, subst, sym, arith}
+use Rattle.std.specs.List.{All}
+use Rattle.camp_script.specs.Texts.{HasText}
+use Rattle.camp_script.proofs.HistoryLemmas.{rest_have_texts, section_has_texts}
+use Rattle.camp_script.proofs.outputs.extend_by_sections.Goals as goal
+
+pub extend_by_answers-requires : goal.extend_by_answers-requires
+extend_by_answers-requires c =
+    let within : 0 < length c.args.sections.now = omega (arith, c.in-len1-up.len_at_least) in
+    subst (All HasText) (sym c.deref.ensures.value)
+    (section_has_texts (λ section. section.items) c.args.sections.now 0 c.opening-item.result c.opening-item.result c.requires within c.opening-item.is)
+
+pub extend_by_clients-requires : goal.extend_by_clients-requires
+extend_by_clients-requires c = rest_have_texts (λ section. section.items) c.args.sections.now c.requires

@@ -1,0 +1,66 @@
+-- The words of a line as names, paths and numbers, or the first that is none.
+use Rattle.std.specs.Prelude.{ℕ, ◌+◌, ◌*◌, ◌-◌, Bool, ◌&&◌, if◌then◌else◌}
+use Rattle.std.specs.Prelude.{List, [], ◌∷◌, length, fold, Result, Ok, Err}
+use Rattle.std.specs.List.{list_all}
+use Rattle.camp_base.specs.Bytes.{is_between, is_name, is_path}
+use Rattle.camp_script.specs.Faults.{fault_at}
+use Rattle.camp_script.specs.declared.faults.FaultKind.{FaultKind}
+use Rattle.camp_script.specs.declared.faults.FaultKind.TheVariants.{WrongNumberOfWords, BadName, BadPath, BadNumber}
+use Rattle.camp_script.specs.declared.faults.LineFault.{LineFault}
+
+-- what follows a good answer; the first fault stays
+infixl 10 ◌>>=◌
+abbrev pub ◌>>=◌ : {A B E : Type 0} → Result A E → (A → Result B E) → Result B E
+(Ok x) >>= next = next x
+(Err fault) >>= next = Err fault
+
+-- no word, where no word is to stand
+abbrev pub no_words : ℕ → List (List ℕ) → Result (Unit {0}) LineFault
+no_words line [] = Ok tt
+no_words line others = fault_at line WrongNumberOfWords
+
+-- the one word that stands there
+abbrev pub one_word : ℕ → List (List ℕ) → Result (List ℕ) LineFault
+one_word line (word ∷ []) = Ok word
+one_word line others = fault_at line WrongNumberOfWords
+
+-- the two words that stand there
+abbrev pub two_words : ℕ → List (List ℕ) → Result (List ℕ × List ℕ) LineFault
+two_words line (first ∷ second ∷ []) = Ok (first, second)
+two_words line others = fault_at line WrongNumberOfWords
+
+-- three words, and those behind them
+abbrev pub three_words : ℕ → List (List ℕ) → Result (List ℕ × List ℕ × List ℕ × List (List ℕ)) LineFault
+three_words line (first ∷ second ∷ third ∷ words) = Ok (first, second, third, words)
+three_words line others = fault_at line WrongNumberOfWords
+
+-- a word of a line that passes a test, or the fault
+abbrev pub word_that : (List ℕ → Bool) → FaultKind → ℕ → List ℕ → Result (List ℕ) LineFault
+word_that test kind line word = if test word then Ok word else fault_at line kind
+
+-- a word that is a name
+abbrev pub name_at : ℕ → List ℕ → Result (List ℕ) LineFault
+name_at = word_that is_name BadName
+
+-- a word that is a path
+abbrev pub path_at : ℕ → List ℕ → Result (List ℕ) LineFault
+path_at = word_that is_path BadPath
+
+-- words that are names, from left to right
+abbrev pub names_at : ℕ → List (List ℕ) → Result (List (List ℕ)) LineFault
+names_at line [] = Ok []
+names_at line (word ∷ words) = name_at line word >>= λ name. names_at line words >>= λ names. Ok (name ∷ names)
+
+-- the number that decimal digits spell
+abbrev pub value_of : List ℕ → ℕ
+value_of digits = fold (λ value digit. value * 10 + (digit - 48)) 0 digits
+
+-- whether a word is the number of a line: 1 to 10 decimal digits, with a value of 1 to 1,073,741,823
+abbrev pub is_line_number : List ℕ → Bool
+is_line_number word =
+    is_between 1 10 (length word)
+    && (list_all (is_between 48 57) word && is_between 1 1_073_741_823 (value_of word))
+
+-- a word that is the number of a line
+abbrev pub number_at : ℕ → List ℕ → Result ℕ LineFault
+number_at line word = if is_line_number word then Ok (value_of word) else fault_at line BadNumber

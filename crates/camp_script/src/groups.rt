@@ -1,0 +1,263 @@
+//! Lines of groups and of bodies.
+ghost use Rattle.std.specs.Prelude.{◌≡◌, ◌≤◌, ◌<◌, ◌+◌, ◌^◌, ◌∷◌, [], if◌then◌else◌, false, IfErr, IfOk, Ok, Some, length, map, nat_lt};
+ghost use Rattle.std.specs.Option.{option_map};
+ghost use Rattle.camp_base.specs.Bytes.{is_line};
+ghost use Rattle.camp_script.specs.declared.faults.FaultKind.TheVariants as kind;
+ghost use Rattle.camp_script.specs.Faults.{fault_at};
+ghost use Rattle.camp_script.specs.Gives.{GivesLine, IsFaultIn};
+ghost use Rattle.camp_script.specs.Inside.Files.{change_at};
+ghost use Rattle.camp_script.specs.Inside.ReadingFields.{open_record_of, open_edit_of, IsOpen, HasRoomFor};
+ghost use Rattle.camp_script.specs.Lines.{is_skipped, words_of};
+ghost use Rattle.camp_script.specs.Groups.{whole_change, edit_change, group_line, after_group_words, after_end, grown, after_body_line};
+ghost use Rattle.camp_script.specs.Progress.{after_change};
+ghost use Rattle.camp_script.specs.Reading.{after_record_line};
+ghost use Rattle.camp_script.specs.Wanting.{SaysIn};
+
+use crate::faults::{FaultKind, ScriptFault, at_line};
+use crate::lines::{Words, first_words, is_comment};
+use crate::readings::Reading;
+use crate::records::{OpenEdit, OpenRecord, WholeFile};
+use crate::words::{no_words, number_at, one_word, path_at, two_words};
+use camp_base::{BaseFault, Line};
+use camp_call::MAX_CHANGES;
+use camp_prim::{Lines, Primitive};
+use std::alloc::Global;
+
+/// The greatest sum of the line of an edit and the numbers of its old and of its new lines.
+const MAX_REACH: usize = 1 << 30;
+
+impl Reading {
+    /// A line of a record whose changes follow.
+    pub(crate) fn read_record_line(
+        self,
+        number: u64,
+        line: &[u8],
+        mut begun: OpenRecord,
+    ) -> Result<Reading, ScriptFault>
+        requires { IsOpen self.calls begun }
+        ensures given { GivesLine result (after_record_line number self (open_record_of begun) (option_map open_edit_of begun.open_edit) line.now) }
+        ensures wanted { IfErr result (λ fault. fault ≡ ScriptFault.Memory → SaysIn (option_map open_edit_of begun.open_edit) line.now) }
+    {
+        match begun.open_edit.take() {
+            None => self.read_group_words(number, line, begun),
+            Some(edit) => self.read_body_line(number, line, begun, edit),
+        }
+    }
+
+    // A line of a group, outside bodies.
+    fn read_group_words(
+        self,
+        number: u64,
+        line: &[u8],
+        begun: OpenRecord,
+    ) -> Result<Reading, ScriptFault>
+        requires { IsOpen self.calls begun }
+        ensures given { GivesLine result (after_group_words number self (open_record_of begun) (words_of line.now)) }
+        ensures wanted { IfErr result (λ fault. fault ≡ ScriptFault.Memory → is_skipped (words_of line.now) ≡ false) }
+    {
+        let mut words = Words::new(line);
+        let Some(word) = words.next() else {
+            return Ok(self.with_record(begun));
+        };
+        if is_comment(word) {
+            return Ok(self.with_record(begun));
+        }
+        let words = first_words(words);
+        self.read_change(number, begun, word, words.as_slice())
+    }
+
+    // What a line of a group asks for: its first word, and those behind it.
+    fn read_change(
+        self,
+        number: u64,
+        begun: OpenRecord,
+        word: &[u8],
+        words: &[&[u8]],
+    ) -> Result<Reading, ScriptFault>
+        requires { IsOpen self.calls begun }
+        ensures { GivesLine result (group_line number self (open_record_of begun) (word.now ∷ map (λ word. word.now) words.now)) }
+    {
+        if word == b"add".as_slice() {
+            let path = one_word(number, words)?;
+            return self.add_whole(number, begun, WholeFile::Add, path);
+        }
+        if word == b"remove".as_slice() {
+            let path = one_word(number, words)?;
+            return self.add_whole(number, begun, WholeFile::Remove, path);
+        }
+        if word == b"edit".as_slice() {
+            let (path, line) = two_words(number, words)?;
+            return self.open_edit(number, begun, path, line);
+        }
+        if word == b"done".as_slice() {
+            no_words(number, words)?;
+            return self.end_record(number, begun);
+        }
+        Err(at_line(number, FaultKind::BadGroup))
+    }
+
+    // A change of a whole file in a group.
+    fn add_whole(
+        self,
+        number: u64,
+        mut begun: OpenRecord,
+        file: WholeFile,
+        path: &[u8],
+    ) -> Result<Reading, ScriptFault>
+        requires { IsOpen self.calls begun }
+        ensures { GivesLine result (whole_change (change_at file) number self (open_record_of begun) path.now) }
+    {
+        if begun.changes.len() >= MAX_CHANGES {
+            return Err(at_line(number, FaultKind::BadGroup));
+        }
+        let path = path_at(self.allocator(), number, path)??;
+        begun.changes.push(file.at(path))?;
+        begun.open_edit = None;
+        Ok(self.with_record(begun))
+    }
+
+    // The head of an edit in a group.
+    fn open_edit(
+        self,
+        number: u64,
+        mut begun: OpenRecord,
+        path: &[u8],
+        line: &[u8],
+    ) -> Result<Reading, ScriptFault>
+        requires { IsOpen self.calls begun }
+        ensures { GivesLine result (edit_change number self (open_record_of begun) path.now line.now) }
+    {
+        if begun.changes.len() >= MAX_CHANGES {
+            return Err(at_line(number, FaultKind::BadGroup));
+        }
+        let alloc = self.allocator();
+        let path = path_at(alloc, number, path)?;
+        let line = number_at(number, line)?;
+        begun.open_edit = Some(OpenEdit {
+            path: path?,
+            line,
+            opened: number,
+            old: Vec::new(alloc),
+            new: Vec::new(alloc),
+        });
+        Ok(self.with_record(begun))
+    }
+
+    // A line of the body of an edit.
+    fn read_body_line(
+        self,
+        number: u64,
+        line: &[u8],
+        mut begun: OpenRecord,
+        edit: OpenEdit,
+    ) -> Result<Reading, ScriptFault>
+        requires open { IsOpen self.calls begun }
+        requires room { HasRoomFor begun.changes.items (Some edit) }
+        ensures { GivesLine result (after_body_line number self (open_record_of begun) (open_edit_of edit) line.now) }
+    {
+        if line == b"end".as_slice() {
+            return self.end_edit(number, begun, edit);
+        }
+        let edit = grow(self.allocator(), number, line, edit)?;
+        begun.open_edit = Some(edit);
+        Ok(self.with_record(begun))
+    }
+
+    // The line `end`.
+    fn end_edit(
+        self,
+        number: u64,
+        begun: OpenRecord,
+        edit: OpenEdit,
+    ) -> Result<Reading, ScriptFault>
+        requires open { IsOpen self.calls begun }
+        requires room { HasRoomFor begun.changes.items (Some edit) }
+        ensures { GivesLine result (after_end number self (open_record_of begun) (open_edit_of edit)) }
+    {
+        let OpenEdit {
+            path,
+            line,
+            opened: _,
+            old,
+            new,
+        } = edit;
+        if old.is_empty() && new.is_empty() {
+            return Err(at_line(number, FaultKind::BadEdit));
+        }
+        if reaches_too_far(line, old.len(), new.len()) {
+            return Err(at_line(number, FaultKind::BadNumber));
+        }
+        let alloc = self.allocator();
+        let (old, new) = (Lines::new(alloc, old)?, Lines::new(alloc, new)?);
+        let Some(change) = Primitive::hunk(path, line, old, new) else {
+            unreachable!();
+        };
+        self.end_change(number, begun, change)
+    }
+
+    // The last line of a change: a group goes on, and a change that stands alone ends its record.
+    fn end_change(
+        self,
+        number: u64,
+        mut begun: OpenRecord,
+        change: Primitive,
+    ) -> Result<Reading, ScriptFault>
+        requires open { IsOpen self.calls begun }
+        requires room { length begun.changes.items < 64 }
+        ensures { GivesLine result (after_change number self (open_record_of begun) change) }
+    {
+        begun.changes.push(change)?;
+        begun.open_edit = None;
+        if begun.grouped {
+            return Ok(self.with_record(begun));
+        }
+        self.end_record(number, begun)
+    }
+}
+
+// Whether the line of an edit and the numbers of its old and new lines add up to too much.
+fn reaches_too_far(line: u32, old: usize, new: usize) -> bool
+    ensures { result ≡ nat_lt (2 ^ 30) (line + old + new) }
+{
+    if old > MAX_REACH || new > MAX_REACH {
+        return true;
+    }
+    line as usize + old + new > MAX_REACH
+}
+
+// An edit with one more line of a side: old lines, and then new ones.
+fn grow(
+    alloc: Global,
+    number: u64,
+    line: &[u8],
+    mut edit: OpenEdit,
+) -> Result<OpenEdit, ScriptFault>
+    ensures given { IfOk result (λ more. grown number (open_edit_of edit) line.now ≡ Ok (open_edit_of more)) }
+    ensures placed { IfOk result (λ more. more.line ≡ edit.line) }
+    ensures fault { IfErr result (λ fault. IsFaultIn fault (grown number (open_edit_of edit) line.now)) }
+{
+    match line {
+        [b'-', bytes @ ..] if edit.new.is_empty() => {
+            let line = line_at(alloc, number, bytes)?;
+            edit.old.push(line)?;
+            Ok(edit)
+        }
+        [b'+', bytes @ ..] => {
+            let line = line_at(alloc, number, bytes)?;
+            edit.new.push(line)?;
+            Ok(edit)
+        }
+        _ => Err(at_line(number, FaultKind::BadEdit)),
+    }
+}
+
+// The bytes behind the sign of a line of a side.
+fn line_at(alloc: Global, number: u64, bytes: &[u8]) -> Result<Line, ScriptFault>
+    ensures given { GivesLine result (if is_line bytes.now then Ok bytes.now else fault_at number kind.BadLine) }
+{
+    match Line::new(alloc, bytes) {
+        Ok(line) => Ok(line),
+        Err(BaseFault::Memory) => Err(ScriptFault::Memory),
+        Err(_) => Err(at_line(number, FaultKind::BadLine)),
+    }
+}

@@ -1,0 +1,163 @@
+//! The text of a history.
+ghost use Rattle.std.specs.Prelude.{◌∷◌, map};
+ghost use Rattle.camp_script.specs.HistoryTexts.{change_words, changes_words, call_words, entry_text, entries_text, history_text};
+ghost use Rattle.camp_script.specs.Inside.Spaces.{spaced};
+ghost use Rattle.camp_script.specs.Writing.{Extends, ExtendsOrKeeps, Writes};
+
+use crate::ScriptFault;
+use crate::texts::{extend_by_line, write_text};
+use camp_base::Name;
+use camp_call::Call;
+use camp_prim::Primitive;
+use itoa::Buffer;
+use std::alloc::{AllocError, Global};
+use std::io::Write;
+
+/// Writes the text of a history. Where memory runs out nothing is written; where the writer fails, a
+/// front of the text is.
+pub fn write_history<W: Write>(
+    alloc: Global,
+    history: &[(u32, Call)],
+    writer: &mut W,
+) -> Result<(), ScriptFault>
+    ensures { Writes (W.contents writer.old) (history_text history.now) result (W.contents writer.new) }
+{
+    let mut text = Vec::new(alloc);
+    if append_history(&mut text, history).is_err() {
+        return Err(ScriptFault::Memory);
+    }
+    match write_text(writer, &text) {
+        Ok(()) => Ok(()),
+        Err(_) => Err(ScriptFault::Write),
+    }
+}
+
+/// Appends the text of a history. Where memory runs out the text stays as it was.
+pub fn append_history(text: &mut Vec<u8>, history: &[(u32, Call)]) -> Result<(), AllocError>
+    ensures { ExtendsOrKeeps text.old.items (history_text history.now) result text.new.items }
+{
+    let length = text.len();
+    let appended = extend_by_history(text, history);
+    if appended.is_err() {
+        text.truncate(length);
+    }
+    appended
+}
+
+// Here and below, where memory runs out, a part of what was to come may stand behind the text.
+fn extend_by_history(text: &mut Vec<u8>, history: &[(u32, Call)]) -> Result<(), AllocError>
+    ensures { Extends text.old.items (history_text history.now) result text.new.items }
+{
+    let mut count = Buffer::new();
+    extend_by_line(text, b"history", &[count.format(history.len()).as_bytes()])?;
+    extend_by_entries(text, history)
+}
+
+fn extend_by_entries(text: &mut Vec<u8>, history: &[(u32, Call)]) -> Result<(), AllocError>
+    ensures { Extends text.old.items (entries_text 1 history.now) result text.new.items }
+{
+    let mut at = 0;
+    for (seat, call) in history {
+        at += 1;
+        extend_by_entry(text, at, *seat, call)?;
+    }
+    Ok(())
+}
+
+fn extend_by_entry(text: &mut Vec<u8>, at: u64, seat: u32, call: &Call) -> Result<(), AllocError>
+    ensures { Extends text.old.items (entry_text at (seat, call.now)) result text.new.items }
+{
+    text.extend_from_slice(Buffer::new().format(at).as_bytes())?;
+    extend_by_words(text, &[Buffer::new().format(seat).as_bytes()])?;
+    extend_by_call(text, call)?;
+    Ok(text.push(b'\n')?)
+}
+
+fn extend_by_call(text: &mut Vec<u8>, call: &Call) -> Result<(), AllocError>
+    ensures { Extends text.old.items (spaced (call_words call.now)) result text.new.items }
+{
+    match call {
+        Call::Branch { new, from } => {
+            extend_by_words(text, &[b"branch".as_slice(), new.bytes(), from.bytes()])
+        }
+        Call::Record {
+            branch,
+            name,
+            changes,
+        } => {
+            extend_by_words(text, &[b"record".as_slice(), branch.bytes(), name.bytes()])?;
+            extend_by_changes(text, changes.prims())
+        }
+        Call::Pull { from, to, names } => {
+            extend_by_words(text, &[b"pull".as_slice(), from.bytes(), to.bytes()])?;
+            match names {
+                None => Ok(()),
+                Some(names) => extend_by_names(text, names.as_slice()),
+            }
+        }
+        Call::Obliterate { branch, names } => {
+            extend_by_words(text, &[b"obliterate".as_slice(), branch.bytes()])?;
+            extend_by_names(text, names.as_slice())
+        }
+        Call::Tree(branch) => extend_by_words(text, &[b"tree".as_slice(), branch.bytes()]),
+        Call::Conflicts(branch) => extend_by_words(
+            text,
+            &[b"conflicts".as_slice(), branch.bytes()],
+        ),
+        Call::Names(branch) => extend_by_words(text, &[b"names".as_slice(), branch.bytes()]),
+    }
+}
+
+fn extend_by_changes(text: &mut Vec<u8>, changes: &[Primitive]) -> Result<(), AllocError>
+    ensures { Extends text.old.items (spaced (changes_words changes.now)) result text.new.items }
+{
+    match changes {
+        [change] => extend_by_change(text, change),
+        _ => {
+            let mut count = Buffer::new();
+            let count = count.format(changes.len());
+            extend_by_words(text, &[b"group".as_slice(), count.as_bytes()])
+        }
+    }
+}
+
+fn extend_by_change(text: &mut Vec<u8>, change: &Primitive) -> Result<(), AllocError>
+    ensures { Extends text.old.items (spaced (change_words change.now)) result text.new.items }
+{
+    match change {
+        Primitive::Add(path) => extend_by_words(text, &[b"add".as_slice(), path.bytes()]),
+        Primitive::Remove(path) => extend_by_words(text, &[b"remove".as_slice(), path.bytes()]),
+        Primitive::Hunk(hunk) => {
+            let (mut line, mut old, mut new) = (Buffer::new(), Buffer::new(), Buffer::new());
+            let line = line.format(hunk.line()).as_bytes();
+            let old = old.format(hunk.old().len()).as_bytes();
+            let new = new.format(hunk.new().len()).as_bytes();
+            extend_by_words(
+                text,
+                &[b"edit".as_slice(), hunk.path().bytes(), line, old, new],
+            )
+        }
+    }
+}
+
+// Names, a space before each.
+fn extend_by_names(text: &mut Vec<u8>, names: &[Name]) -> Result<(), AllocError>
+    ensures { Extends text.old.items (spaced names.now) result text.new.items }
+{
+    for name in names {
+        text.push(b' ')?;
+        text.extend_from_slice(name.bytes())?;
+    }
+    Ok(())
+}
+
+// Words, a space before each.
+fn extend_by_words(text: &mut Vec<u8>, words: &[&[u8]]) -> Result<(), AllocError>
+    ensures { Extends text.old.items (spaced (map (λ word. word.now) words.now)) result text.new.items }
+{
+    for word in words {
+        text.push(b' ')?;
+        text.extend_from_slice(word)?;
+    }
+    Ok(())
+}

@@ -1,0 +1,164 @@
+//! The words of a line as names, paths and numbers.
+ghost use Rattle.std.specs.Prelude.{◌≡◌, ◌≢◌, ◌≤◌, IfErr, IfOk, List, Ok, length, map, ℕ};
+ghost use Rattle.std.specs.List.{list_all};
+ghost use Rattle.camp_base.specs.Bytes.{is_between};
+ghost use Rattle.camp_script.specs.Words.{no_words, one_word, two_words, three_words, name_at, names_at, path_at, number_at, value_of, is_line_number};
+ghost use Rattle.camp_script.specs.Gives.{Gives, GivesLine, IsFaultIn};
+
+use crate::faults::{FaultKind, ScriptFault, at_line};
+use crate::lines::Words;
+use camp_base::{BaseFault, Name, Path};
+use camp_call::Names;
+use std::alloc::{AllocError, Global};
+
+/// The most digits of the number of a line.
+const MAX_DIGITS: usize = 10;
+
+/// The greatest number of a line.
+const MAX_LINE: u64 = 1_073_741_823;
+
+/// No word, where no word is to stand.
+pub(crate) fn no_words(number: u64, words: &[&[u8]]) -> Result<(), ScriptFault>
+    ensures given { GivesLine result (no_words number (map (λ word. word.now) words.now)) }
+    ensures told { IfErr result (λ fault. fault ≢ ScriptFault.Memory) }
+{
+    match words {
+        [] => Ok(()),
+        _ => Err(at_line(number, FaultKind::WrongNumberOfWords)),
+    }
+}
+
+/// The one word that stands there.
+pub(crate) fn one_word<'a>(number: u64, words: &[&'a [u8]]) -> Result<&'a [u8], ScriptFault>
+    ensures given { IfOk result (λ word. one_word number (map (λ word. word.now) words.now) ≡ Ok word.now) }
+    ensures fault { IfErr result (λ fault. IsFaultIn fault (one_word number (map (λ word. word.now) words.now))) }
+    ensures told { IfErr result (λ fault. fault ≢ ScriptFault.Memory) }
+{
+    match words {
+        [word] => Ok(*word),
+        _ => Err(at_line(number, FaultKind::WrongNumberOfWords)),
+    }
+}
+
+/// The two words that stand there.
+pub(crate) fn two_words<'a>(
+    number: u64,
+    words: &[&'a [u8]],
+) -> Result<(&'a [u8], &'a [u8]), ScriptFault>
+    ensures given { IfOk result (λ pair. two_words number (map (λ word. word.now) words.now) ≡ Ok (pair.0.now, pair.1.now)) }
+    ensures fault { IfErr result (λ fault. IsFaultIn fault (two_words number (map (λ word. word.now) words.now))) }
+    ensures told { IfErr result (λ fault. fault ≢ ScriptFault.Memory) }
+{
+    match words {
+        [first, second] => Ok((*first, *second)),
+        _ => Err(at_line(number, FaultKind::WrongNumberOfWords)),
+    }
+}
+
+/// Three words, and those behind them.
+pub(crate) fn three_words<'a, 'w>(
+    number: u64,
+    words: &'w [&'a [u8]],
+) -> Result<(&'a [u8], &'a [u8], &'a [u8], &'w [&'a [u8]]), ScriptFault>
+    ensures given { IfOk result (λ head. three_words number (map (λ word. word.now) words.now)
+        ≡ Ok (head.0.now, head.1.now, head.2.now, map (λ word. word.now) head.3.now)) }
+    ensures fault { IfErr result (λ fault. IsFaultIn fault (three_words number (map (λ word. word.now) words.now))) }
+    ensures told { IfErr result (λ fault. fault ≢ ScriptFault.Memory) }
+{
+    match words {
+        [first, second, third, rest @ ..] => Ok((*first, *second, *third, rest)),
+        _ => Err(at_line(number, FaultKind::WrongNumberOfWords)),
+    }
+}
+
+pub(crate) fn name_at(number: u64, word: &[u8]) -> Result<Name, ScriptFault>
+    ensures given { GivesLine result (name_at number word.now) }
+    ensures told { IfErr result (λ fault. fault ≢ ScriptFault.Memory) }
+{
+    match Name::new(word) {
+        Ok(name) => Ok(name),
+        Err(_) => Err(at_line(number, FaultKind::BadName)),
+    }
+}
+
+/// Words, all as names.
+pub(crate) fn names_at(alloc: Global, number: u64, words: Words<'_>) -> Result<Names, ScriptFault>
+    ensures { Gives result (names_at number words.entry) }
+{
+    let mut names = Vec::new(alloc);
+    for word in words {
+        names.push(name_at(number, word)?)?;
+    }
+    Ok(Names::new(names))
+}
+
+/// Words are names: a test that asks for no memory.
+pub(crate) fn test_names(number: u64, words: Words<'_>) -> Result<(), ScriptFault>
+    ensures passed { IfOk result (λ _. (names : List (List ℕ)) × (names_at number words.entry ≡ Ok names)) }
+    ensures given { IfErr result (λ fault. IsFaultIn fault (names_at number words.entry)) }
+    ensures told { IfErr result (λ fault. fault ≢ ScriptFault.Memory) }
+{
+    for word in words {
+        let _name = name_at(number, word)?;
+    }
+    Ok(())
+}
+
+/// A path. What is none is told at once; that memory ran out is told inside, so that the tests behind this
+/// one may come first.
+pub(crate) fn path_at(
+    alloc: Global,
+    number: u64,
+    word: &[u8],
+) -> Result<Result<Path, AllocError>, ScriptFault>
+    ensures passed { IfOk result (λ _. path_at number word.now ≡ Ok word.now) }
+    ensures made { IfOk result (λ made. IfOk made (λ path. path ≡ word.now)) }
+    ensures fault { IfErr result (λ fault. IsFaultIn fault (path_at number word.now)) }
+    ensures told { IfErr result (λ fault. fault ≢ ScriptFault.Memory) }
+{
+    match Path::new(alloc, word) {
+        Ok(path) => Ok(Ok(path)),
+        Err(BaseFault::Memory) => Ok(Err(AllocError)),
+        Err(_) => Err(at_line(number, FaultKind::BadPath)),
+    }
+}
+
+/// The number of a line of a file.
+pub(crate) fn number_at(number: u64, word: &[u8]) -> Result<u32, ScriptFault>
+    ensures value { GivesLine result (number_at number word.now) }
+    ensures counted { IfOk result (λ line. 1 ≤ line) }
+    ensures told { IfErr result (λ fault. fault ≢ ScriptFault.Memory) }
+{
+    if !is_line_number(word) {
+        return Err(at_line(number, FaultKind::BadNumber));
+    }
+    Ok(value_of(word) as u32)
+}
+
+fn is_line_number(word: &[u8]) -> bool
+    ensures { result ≡ is_line_number word.now }
+{
+    if word.is_empty() || word.len() > MAX_DIGITS || !has_digits(word) {
+        return false;
+    }
+    let value = value_of(word);
+    1 <= value && value <= MAX_LINE
+}
+
+fn has_digits(word: &[u8]) -> bool
+    ensures { result ≡ list_all (is_between 48 57) word.now }
+{
+    word.iter().all(|byte| matches!(byte, b'0'..=b'9'))
+}
+
+// The number that decimal digits spell.
+fn value_of(digits: &[u8]) -> u64
+    requires { length digits.now ≤ 10 }
+    ensures { result ≡ value_of digits.now }
+{
+    let mut value = 0;
+    for digit in digits {
+        value = value * 10 + u64::from(digit.saturating_sub(b'0'));
+    }
+    value
+}

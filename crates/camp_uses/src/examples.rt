@@ -1,0 +1,71 @@
+//! The callers that stand in the READMEs of the crates, in their words.
+
+use camp_base::{Apply, Line, Path, Tree};
+use camp_ctx::{Contexted, CtxSet, conflict};
+use camp_notation::{NotationError, list_text, read_list};
+use camp_prim::{Named, commute};
+use camp_seq::{Seq, apply_all, clean_merge, norm};
+use camp_share::{Share, Shared, SharedList, SharedMap};
+use std::alloc::{AllocError, Global};
+
+/// Puts a path into a map that is shared, and takes it out again; `camp_share`.
+pub fn put_and_remove(
+    alloc: Global,
+    path: &Path,
+    lines: SharedList<Line>,
+) -> Result<usize, AllocError> {
+    let empty: SharedMap<Path, Shared<SharedList<Line>>> = SharedMap::new(alloc);
+    let one = empty.inserted(path.share()?, Shared::new(alloc, lines)?)?;
+    let none = one.without(path)?;
+    Ok(none.len())
+}
+
+/// A tree with one file of one line; `camp_base`.
+pub fn one_line(alloc: Global, path: &Path, line: &Line) -> Result<Tree, Apply> {
+    let mut tree = Tree::empty(alloc);
+    tree.add_file(path)?;
+    let lines = [line.try_clone()?];
+    tree.splice(path, 1, &[], &lines)?;
+    Ok(tree)
+}
+
+/// Takes `p` out of a tree that `p` and then `q` made, and leaves what `q` did, where it can stand
+/// without `p`; `camp_prim`.
+pub fn take_out(tree: &mut Tree, p: &Named, q: &Named) -> Result<Option<Named>, Apply> {
+    let Some((alone, last)) = commute(p, q)? else {
+        return Ok(None);
+    };
+    last.invert().apply(tree)?;
+    Ok(Some(alone))
+}
+
+/// Brings what `theirs` did into a tree that `ours` made of the same state; `camp_seq`.
+pub fn pull(tree: &mut Tree, ours: &Seq, theirs: &Seq) -> Result<bool, Apply> {
+    let Some((after_ours, _)) = clean_merge(ours, theirs)? else {
+        return Ok(false);
+    };
+    apply_all(&after_ours, tree)?;
+    Ok(true)
+}
+
+/// Whether a patch behind a list, or what it is before that list, is in conflict with another;
+/// `camp_ctx`.
+pub fn meets(
+    alloc: Global,
+    list: &Seq,
+    x: &Contexted,
+    other: &Contexted,
+) -> Result<bool, AllocError> {
+    let seen = Contexted::add(list, x)?;
+    if let Some(passed) = Contexted::past(list, x)? {
+        return conflict(&passed, other);
+    }
+    let set = CtxSet::empty(alloc).insert(x)?.insert(&seen)?;
+    Ok(set.len() == 1 && conflict(&seen, other)?)
+}
+
+/// The text of a list in normal order, from the text of a list; `camp_notation`.
+pub fn ordered_text(alloc: Global, text: &[u8]) -> Result<String, NotationError> {
+    let list = read_list(alloc, &[], text)?;
+    Ok(list_text(alloc, &[], &norm(&list)?)?)
+}
