@@ -1,14 +1,16 @@
--- Branches whose last catches are replaced.
+-- Branches whose last catches are brought into another order, and then end before some of them.
 use Rattle.std.proofs.Common.{◌≡◌, ◌++◌, ℕ, List, take, drop, length, flat_map, sym, ap, ◌∙◌, subst, arith}
 use Rattle.std.proofs.lemmas.List.{append-nil, drop_all, take-append-drop}
 use Rattle.std.specs.FinMap.{empty}
 use Rattle.std.specs.List.{splice}
 use Rattle.camp_base.specs.Trees.{Files}
 use Rattle.camp_seq.specs.Running.{AppliesAll}
+use Rattle.camp_catch.specs.Arranging.{Arrange}
 use Rattle.camp_catch.specs.Catches.{FitsAll, effect_of}
 use Rattle.camp_catch.specs.declared.catches.Catch.{Catch}
-use Rattle.camp_branch.specs.Branches.{IsLawful, LeadsTo}
-use Rattle.camp_branch.proofs.BranchTrees.{joined_fits, one_end, tree_of_effects}
+use Rattle.camp_catch.proofs.ListEffects.{lists_keep_effects}
+use Rattle.camp_branch.specs.Branches.{LeadsTo}
+use Rattle.camp_branch.proofs.BranchTrees.{joined_fits, tree_of_effects}
 use Rattle.camp_branch.proofs.EffectSteps.{second_fits}
 use Rattle.camp_branch.proofs.Undone.{one_start}
 
@@ -17,28 +19,24 @@ pub end_replaced : (catches own new next : List Catch) (start n : ℕ) → n ≡
 end_replaced catches own new next start n is was becomes =
     becomes ∙ ap (λ t. take start catches ++ (new ++ t)) (drop_all n catches (omega (is, arith))) ∙ ap (λ t. take start catches ++ t) (append-nil new) ∙ ap (λ l. take start l ++ new) was
 
-module _ (own old new : List Catch) (start : ℕ) (tree : Files) (last : old ≡ drop start own) (leads : LeadsTo own tree) where
-  parts : (between : Files) × FitsAll (take start own) empty between × FitsAll old between tree
-  parts =
-      let fits : FitsAll (take start own ++ drop start own) empty tree = subst (λ l. LeadsTo l tree) (sym (take-append-drop start own)) leads in
-      let both = second_fits (take start own) (drop start own) empty tree fits in
-      (both.0, both.1, subst (λ l. FitsAll l both.0 tree) (sym last) both.2)
+-- catches that go stand behind all others
+module _ (front gone : List Catch) (tree : Files) (leads : LeadsTo (front ++ gone) tree) where
+  parts : (between : Files) × FitsAll front empty between × FitsAll gone between tree
+  parts = second_fits front gone empty tree leads
 
-  -- the effects of the old end led to the tree
-  pub end_led : (before : Files) × AppliesAll (flat_map effect_of old) before tree
-  end_led = (parts.0, tree_of_effects old parts.0 tree parts.2)
+  -- their effects led to the tree
+  pub end_led : (before : Files) × AppliesAll (flat_map effect_of gone) before tree
+  end_led = (parts.0, tree_of_effects gone parts.0 tree parts.2)
 
-  -- the tree from which they led there
-  module _ (front : Files) (led : AppliesAll (flat_map effect_of old) front tree) where
-    front_fits : FitsAll (take start own) empty front
-    front_fits =
-        subst (FitsAll (take start own) empty) (one_start (flat_map effect_of old) parts.0 front tree (tree_of_effects old parts.0 tree parts.2) led) parts.1
+  -- the others lead to the tree from which they led there
+  pub front_leads : (before : Files) → AppliesAll (flat_map effect_of gone) before tree → LeadsTo front before
+  front_leads before led =
+      subst (FitsAll front empty) (one_start (flat_map effect_of gone) parts.0 before tree (tree_of_effects gone parts.0 tree parts.2) led) parts.1
 
-    pub new_fits : IsLawful (take start own ++ new) → (after : Files) × FitsAll new front after
-    new_fits lawful =
-        let both = second_fits (take start own) new empty lawful.tree lawful.leads in
-        let same = one_end (take start own) empty both.0 front both.1 front_fits in
-        (lawful.tree, subst (λ t. FitsAll new t lawful.tree) same both.2)
-
-    pub new_leads : (after : Files) → FitsAll new front after → LeadsTo (take start own ++ new) after
-    new_leads after fits = joined_fits (take start own) new empty front after front_fits fits
+-- the last catches of a branch in another order lead to its tree
+pub end_arranged : (names : List (List ℕ)) (own behind first rest : List Catch) (start : ℕ) (tree : Files) → behind ≡ drop start own → Arrange names behind first rest → LeadsTo own tree → LeadsTo ((take start own ++ first) ++ rest) tree
+end_arranged names own behind first rest start tree is arranged leads =
+    let whole : FitsAll (take start own ++ drop start own) empty tree = subst (λ l. LeadsTo l tree) (sym (take-append-drop start own)) leads in
+    let both = second_fits (take start own) (drop start own) empty tree whole in
+    let kept = lists_keep_effects.arranged names behind first rest arranged both.0 tree (subst (λ l. FitsAll l both.0 tree) (sym is) both.2) in
+    joined_fits (take start own ++ first) rest empty kept.0 tree (joined_fits (take start own) first empty both.0 kept.0 both.1 kept.1) kept.2

@@ -170,29 +170,28 @@ impl Branch {
         let behind = self.catches.copied(start, self.catches.len())?.to_vec()?;
         let arranged = wanted_next(self.catches.allocator(), &behind, &staying)?;
         match arranged {
-            Ok(arranged) => Ok(Ok(self.with_end(&behind, &arranged.first, start, staying)?)),
+            Ok(arranged) => Ok(Ok(self.with_end(start, &arranged.first, &arranged.rest, staying)?)),
             Err(blocked) => Ok(Err(blocked)),
         }
     }
 
-    /// The branch with other catches in place of its last ones, which stand from a place on, and the
-    /// names of the patches that it has then.
+    /// The branch whose catches from a place on are brought into another order, and then end before
+    /// those that go, with the names of the patches that it has then.
     fn with_end(
         &self,
-        old: &[Shared<Catch>],
-        new: &[Shared<Catch>],
         start: usize,
+        new: &[Shared<Catch>],
+        gone: &[Shared<Catch>],
         names: SharedMap<Name, ()>,
     ) -> Result<Branch, AllocError>
         requires within { start ≤ length self.now }
-        requires last { old.now ≡ drop start self.now }
+        requires reordered { (tree : Files) → LeadsTo self.now tree → LeadsTo ((take start self.now ++ new.now) ++ gone.now) tree }
         requires lawful { IsLawful (take start self.now ++ new.now) }
         requires named { (name : List ℕ) → has_name names name ≡ has_patch (take start self.now ++ new.now) name }
         ensures { IfOk result (λ branch. branch ≡ take start self.now ++ new.now) }
     {
         let catches = self.catches.spliced(start, self.catches.len(), new)?;
-        let front = tree_before(&self.tree, old)?;
-        let tree = tree_after(&front, new)?;
+        let tree = tree_before(&self.tree, gone)?;
         Ok(Branch {
             catches,
             names,
