@@ -1,15 +1,15 @@
 -- Sets of names, a name more or less at a time.
-use Rattle.std.proofs.Common.{◌≡◌, ◌<◌, ◌+◌, ℕ, Bool, true, false, not, cond, ◌||◌, ◌&&◌, Option, None, Some, List, [], ◌∷◌, map, drop, length, get_or, is_some, bytes_eq, refl, sym, ap, ◌∙◌}
+use Rattle.std.proofs.Common.{◌≡◌, ◌<◌, ◌+◌, ℕ, Bool, true, false, not, cond, ◌||◌, ◌&&◌, Option, None, Some, Result, Ok, Err, IfOk, List, [], ◌∷◌, map, drop, length, get_or, is_some, bytes_eq, refl, sym, ap, ◌∙◌}
 use Rattle.std.proofs.lemmas.Map.Text.{is_eq-slice_cmp}
 use Rattle.std.specs.List.{list_any}
 use Rattle.std.specs.Ordering.{nat_cmp, eq_by_cmp}
 use Rattle.std.specs.Cmp.Lexicographic.{slice_cmp, nat_list_cmp_total}
-use Rattle.std.specs.FinMap.{contains_key, contains_key-keys, get, get-remove, get-empty, empty, insert, remove, keys}
+use Rattle.std.specs.FinMap.{nat_cmp-IsAntisymmetric, slice_cmp-IsAntisymmetric, contains_key, contains_key-keys, get, get-remove, get-retain_keys, insert, remove, retain_keys, keys}
+use Rattle.camp_share.specs.Maps.{map_of}
 use Rattle.camp_catch.specs.declared.catches.Catch.{Catch}
 use Rattle.camp_catch.proofs.MoveSteps.{stands_at}
 use Rattle.camp_branch.specs.Branches.{is_among, name_of}
 use Rattle.camp_branch.proofs.BranchFields.{Names, contains_more}
-use Rattle.camp_branch.proofs.Names.{same_name}
 
 -- what a set lists
 abbrev pub Entries : Type 0
@@ -54,27 +54,26 @@ pub one_goes : (left next : Names) (rest more : Entries) (entry : List ℕ × Un
 one_goes left next rest more entry aim inv is becomes name =
     ap (λ m. contains_key m name && not (listed more name)) becomes ∙ ap (λ b. b && not (listed more name)) (contains_less left entry.0 name) ∙ and_not (contains_key left name) (bytes_eq name entry.0) (listed more name) ∙ ap (λ r. contains_key left name && not (listed r name)) (sym is) ∙ inv name
 
--- of two sets, some of the names of the first are still to be looked up in the other
-abbrev pub IsCommon : Names → Entries → Names → (List ℕ → Bool) → Type 0
-IsCommon both rest others aim =
-    (name : List ℕ) → (contains_key both name || (listed rest name && contains_key others name)) ≡ aim name
+only_where : {X : Type 0} (b : Bool) (o : Option X) → is_some (cond b o None) ≡ (is_some o && b)
+only_where true None = refl
+only_where true (Some x) = refl
+only_where false None = refl
+only_where false (Some x) = refl
 
-taken_in : (a b c o : Bool) → (b ≡ true → o ≡ true) → ((a || b) || (c && o)) ≡ (a || ((b || c) && o))
-taken_in true b c o w = refl
-taken_in false true c o w = sym (w refl)
-taken_in false false c o w = refl
+-- the names that two sets have
+pub contains_common : (names others : Names) (name : List ℕ) → contains_key (retain_keys names (contains_key others)) name ≡ (is_among (keys names) name && contains_key others name)
+contains_common names others name =
+    let kept = get-retain_keys names (contains_key others) name (λ other tied. ap (contains_key others) (sym (slice_cmp-IsAntisymmetric nat_cmp-IsAntisymmetric name other tied))) in
+    ap is_some kept ∙ only_where (contains_key others name) (get names name) ∙ ap (λ b. b && contains_key others name) (has_listed names name)
+
+pub has_common : {E : Type 0} (names others : Names) (result : Result Entries E) → IfOk result (λ both. map_of (slice_cmp nat_cmp) both ≡ retain_keys names (contains_key others)) → IfOk result (λ both. (name : List ℕ) → contains_key (map_of (slice_cmp nat_cmp) both) name ≡ (is_among (keys names) name && contains_key others name))
+has_common names others (Ok both) is =
+    λ name. ap (λ m. contains_key m name) is ∙ contains_common names others name
+has_common names others (Err fault) is = tt
 
 pub and_false : (c : Bool) → (c && false) ≡ false
 and_false true = refl
 and_false false = refl
-
-pub one_common : (both next : Names) (rest more : Entries) (entry : List ℕ × Unit {0}) (others : Names) (aim : List ℕ → Bool) → IsCommon both rest others aim → rest ≡ entry ∷ more → contains_key others entry.0 ≡ true → next ≡ insert both entry.0 tt → IsCommon next more others aim
-one_common both next rest more entry others aim inv is has becomes name =
-    ap (λ m. contains_key m name || (listed more name && contains_key others name)) becomes ∙ ap (λ b. b || (listed more name && contains_key others name)) (contains_more both entry.0 name) ∙ taken_in (contains_key both name) (bytes_eq name entry.0) (listed more name) (contains_key others name) (λ e. ap (contains_key others) (same_name name entry.0 e) ∙ has) ∙ ap (λ r. contains_key both name || (listed r name && contains_key others name)) (sym is) ∙ inv name
-
-pub none_common : (both : Names) (all : Entries) (others : Names) → both ≡ empty → IsCommon both all others (λ name. listed all name && contains_key others name)
-none_common both all others is name =
-    ap (λ b. b || (listed all name && contains_key others name)) (ap (λ m. contains_key m name) is ∙ ap is_some (get-empty (slice_cmp nat_cmp) name))
 
 -- of some catches, the names of the rest are still to come into a set
 abbrev pub IsGrown : Names → List Catch → (List ℕ → Bool) → Type 0

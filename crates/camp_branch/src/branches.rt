@@ -147,7 +147,7 @@ impl Branch {
         ensures exact { IfOk result (λ outcome. PullGives from.now self.now (names_in wanted.now) outcome) }
     {
         let alloc = self.catches.allocator();
-        let common = name_sets::common(alloc, &from.names, &self.names)?;
+        let common = name_sets::common(&from.names, &self.names)?;
         let theirs = from.catches.to_vec()?;
         let ours = self.catches.to_vec()?;
         let taken = pull(alloc, &theirs, &ours, &common, wanted)?;

@@ -6,7 +6,7 @@ ghost use Rattle.camp_branch.specs.Inside.Fronts.{front_of};
 use camp_base::Name;
 use camp_catch::Catch;
 use camp_share::{Share, Shared, SharedList, SharedMap};
-use std::alloc::{AllocError, Global};
+use std::alloc::AllocError;
 
 /// The names but for those that are to go.
 pub(crate) fn without(
@@ -25,20 +25,13 @@ pub(crate) fn without(
 
 /// The names that two sets have.
 pub(crate) fn common(
-    alloc: Global,
     names: &SharedMap<Name, ()>,
     others: &SharedMap<Name, ()>,
 ) -> Result<SharedMap<Name, ()>, AllocError>
     ensures { IfOk result (λ both. (name : List ℕ) →
         has_name both name ≡ (is_among (names_in names.now) name && has_name others.now name)) }
 {
-    let mut both = SharedMap::new(alloc);
-    for entry in names.iter() {
-        if others.contains_key(&entry.0) {
-            both = both.inserted(entry.0, ())?;
-        }
-    }
-    Ok(both)
+    names.intersection(others)
 }
 
 /// The names, and those of the patches that catches are of.

@@ -93,6 +93,21 @@ fn keys_come_in_any_order_and_stand_in_theirs(rt: HostRuntime) -> Result<(), Fai
     Ok(())
 }
 
+#[test]
+fn an_intersection_has_the_keys_of_both(rt: HostRuntime) -> Result<(), Fail> {
+    let (mut evens, mut thirds) = (SharedMap::new(rt.alloc()), SharedMap::new(rt.alloc()));
+    for at in 0u32..100 {
+        evens = evens.inserted(at * 2, at)?;
+        thirds = thirds.inserted(at * 3, ())?;
+    }
+    let both = evens.intersection(&thirds)?;
+    assert_eq!(rt; both.len(), 34);
+    for entry in both.iter() {
+        assert!(rt; entry.0 % 6 == 0 && entry.1 == entry.0 / 2, "{}", entry.0);
+    }
+    Ok(())
+}
+
 fn numbers(alloc: Global, count: u32) -> Result<Vec<u32>, AllocError> {
     let mut numbers = Vec::new(alloc);
     for number in 0..count {

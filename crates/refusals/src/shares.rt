@@ -183,6 +183,7 @@ fn change_both(both: &Places, one: &Name, two: &Name) -> Result<(), Stop> {
     expect(both.len() == 2 && has(both, one, 1), "SharedMap::inserted")?;
     share_map(both, one)?;
     put_again(both, one)?;
+    keep_common(both, one)?;
     match both.without(one) {
         Ok(rest) => change_rest(&rest, one, two),
         Err(_) => want(has(both, one, 1), "SharedMap::without"),
@@ -204,6 +205,13 @@ fn put_again(both: &Places, one: &Name) -> Result<(), Stop> {
     match both.inserted_if_absent(*one, Number(3)) {
         Ok(same) => expect(same == *both, "SharedMap::inserted_if_absent"),
         Err(_) => want(has(both, one, 1), "SharedMap::inserted_if_absent"),
+    }
+}
+
+fn keep_common(both: &Places, one: &Name) -> Result<(), Stop> {
+    match both.intersection(both) {
+        Ok(same) => expect(same == *both, "SharedMap::intersection"),
+        Err(_) => want(has(both, one, 1), "SharedMap::intersection"),
     }
 }
 

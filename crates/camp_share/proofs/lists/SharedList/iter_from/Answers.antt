@@ -1,4 +1,4 @@
-use Rattle.std.proofs.Common.{◌≡◌, ◌<◌, length, get_or, ap, subst, ◌∙◌, arith}
+use Rattle.std.proofs.Common.{◌<◌, length, get_or, ap, subst, ◌∙◌, arith}
 use Rattle.camp_share.proofs.PartLemmas.{left_behind, length_told}
 use Rattle.camp_share.proofs.lists.SharedList.iter_from.Goals as goal
 

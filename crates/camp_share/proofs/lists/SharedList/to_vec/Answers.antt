@@ -1,5 +1,4 @@
 use Rattle.std.proofs.Common.{◌++◌, sym, ap, ◌∙◌, Vec}
-use Rattle.camp_share.specs.Inside.Parts.{joined}
 use Rattle.camp_share.proofs.PartLemmas.{up_to_here}
 use Rattle.camp_share.proofs.lists.SharedList.to_vec.Goals as goal
 
