@@ -14,17 +14,20 @@ use Rattle.camp_prim.specs.declared.primitives.Primitive.TheVariants.{Add, Remov
 use Rattle.camp_call.specs.Calls.{is_writing}
 use Rattle.camp_call.specs.declared.calls.Call.{Call}
 use Rattle.camp_call.specs.declared.calls.Call.TheVariants as call
-use Rattle.camp_script.specs.Canonical.{ReadsBack, IsCall, IsChange, AreNames, IsListed, change_head, change_body, change_text, record_text, call_text, section_text, client_text}
+use Rattle.camp_script.specs.Canonical.{ReadsBack, IsCall, IsChange, AreNames, IsListed, change_head, change_body, change_text, record_text, call_text, section_text, client_text, script_text}
 use Rattle.camp_script.specs.Words.{◌>>=◌, name_at, names_at, path_at, number_at, is_line_number}
 use Rattle.camp_script.specs.HistoryTexts.{listed_words}
-use Rattle.camp_script.specs.Commands.{command, after_words}
-use Rattle.camp_script.specs.Groups.{group_line, after_group_words}
+use Rattle.camp_prim.specs.Hunks.{Edit}
+use Rattle.camp_script.specs.Changes.{GroupLine, group_line_of, change_of}
+use Rattle.camp_script.specs.Commands.{Command, command_of, command}
 use Rattle.camp_script.specs.Lines.{lines_of}
-use Rattle.camp_script.specs.Progress.{Progress, OpenRecord, OpenEdit, is_full, after_call, after_change, record_at, with_open_edit}
-use Rattle.camp_script.specs.Reading.{read_from}
+use Rattle.camp_script.specs.Reading.{is_full}
+use Rattle.camp_script.specs.Inside.Progress.{Progress, OpenRecord, OpenEdit, after_call, after_change, record_at, with_open_edit}
+use Rattle.camp_script.specs.Inside.Steps.{read_from, obey, heed}
 use Rattle.camp_script.specs.declared.faults.LineFault.{LineFault}
 use Rattle.camp_script.specs.Texts.{line_text, signed_line}
 use Rattle.camp_script.proofs.CanonicalLines.{both, first_of, second_of, all_weaker, is_word, is_word_byte, is_one_line, AreWords, first_line, first_words, words_of-joined, positive}
+use Rattle.camp_script.proofs.Agreement.{reads_as_defined}
 use Rattle.camp_script.proofs.CanonicalNumbers.{decimal_is_word, decimal_is_line_number, value_of-decimal}
 
 -- from some bytes to the rest of them the reader comes from one progress to another
@@ -46,10 +49,14 @@ group branch name opened changes =
 
 -- the body of an edit so far
 abbrev edit_at : List ℕ → ℕ → ℕ → Lines → Lines → OpenEdit
-edit_at path line opened old new = record { path = path; line = line; opened = opened; old = old; new = new }
+edit_at path line opened old new = record { opened = opened; edit = record { path = path; line = line; old = old; new = new } }
 
 passes : {A B E : Type 0} (r : Result A E) (x : A) (next : A → Result B E) → r ≡ Ok x → (r >>= next) ≡ next x
 passes r x next is = ap (λ s. s >>= next) is
+
+-- the same where more follows
+goes_on : {A B C E : Type 0} (r : Result A E) (x : A) (next : A → Result B E) (more : B → Result C E) → r ≡ Ok x → ((r >>= next) >>= more) ≡ (next x >>= more)
+goes_on r x next more is = ap (λ s. (s >>= next) >>= more) is
 
 name_byte_is_word_byte : (x : ℕ) → is_name_byte x ≡ true → is_word_byte x ≡ true
 name_byte_is_word_byte x h = grind (arith, nat_tests)
@@ -82,24 +89,30 @@ numbered : (at n : ℕ) → 1 ≤ n → n ≤ 1_073_741_823 → number_at at (de
 numbered at n low high = cond-true (is_line_number (decimal n)) _ _ (decimal_is_line_number n low high) ∙ ap Ok (value_of-decimal n (omega arith))
 
 -- a line of words, outside groups and bodies
-words_read : (n : ℕ) (closed : List (List Call)) (done : List Call) (word : List ℕ) (words : List (List ℕ)) (rest : List ℕ) (next : Progress) → AreWords (word ∷ words) → (slice_index word 0 == 35) ≡ false → command n (after closed done) (word ∷ words) ≡ Ok next → Reads n (after closed done) (line_text (word ∷ words) ++ rest) next rest
+words_read : (n : ℕ) (closed : List (List Call)) (done : List Call) (word : List ℕ) (words : List (List ℕ)) (rest : List ℕ) (next : Progress) → AreWords (word ∷ words) → (slice_index word 0 == 35) ≡ false → (command n word words >>= obey n (after closed done)) ≡ Ok next → Reads n (after closed done) (line_text (word ∷ words) ++ rest) next rest
 words_read n closed done word words rest next are says is = (
   n + 1,
   ap (read_from n (after closed done)) (first_words (word ∷ words) rest are)
-      ∙ ap (λ ws. after_words n (after closed done) ws >>= λ p. read_from (n + 1) p (lines_of rest)) (words_of-joined word words are)
-      ∙ ap (λ s. s >>= λ p. read_from (n + 1) p (lines_of rest)) (cond-false (slice_index word 0 == 35) _ _ says ∙ is),
+      ∙ ap (λ ws. (command_of n ws >>= obey n (after closed done)) >>= λ p. read_from (n + 1) p (lines_of rest)) (words_of-joined word words are)
+      ∙ ap (λ (s : Result Progress LineFault). s >>= λ p. read_from (n + 1) p (lines_of rest))
+      (ap (λ (s : Result Command LineFault). s >>= obey n (after closed done)) (cond-false (slice_index word 0 == 35) _ _ says) ∙ is),
 )
+
+-- after a line of a group, by what it says
+abbrev heeded : ℕ → List (List Call) → List Call → List ℕ → List ℕ → ℕ → List Primitive → Result GroupLine LineFault → Result Progress LineFault
+heeded n closed done branch name opened changes said = said >>= heed n (within closed done (group branch name opened changes)) (group branch name opened changes)
 
 -- a line of words in a group
 group_words_read : (n : ℕ) (closed : List (List Call)) (done : List Call) (branch name : List ℕ) (opened : ℕ) (changes : List Primitive) (word : List ℕ) (words : List (List ℕ)) (rest : List ℕ) (next : Progress)
     → AreWords (word ∷ words) → (slice_index word 0 == 35) ≡ false
-    → group_line n (within closed done (group branch name opened changes)) (group branch name opened changes) (word ∷ words) ≡ Ok next
+    → heeded n closed done branch name opened changes (change_of n (length changes) word words) ≡ Ok next
     → Reads n (within closed done (group branch name opened changes)) (line_text (word ∷ words) ++ rest) next rest
 group_words_read n closed done branch name opened changes word words rest next are says is = (
   n + 1,
   ap (read_from n (within closed done (group branch name opened changes))) (first_words (word ∷ words) rest are)
-      ∙ ap (λ ws. after_group_words n (within closed done (group branch name opened changes)) (group branch name opened changes) ws >>= λ p. read_from (n + 1) p (lines_of rest)) (words_of-joined word words are)
-      ∙ ap (λ s. s >>= λ p. read_from (n + 1) p (lines_of rest)) (cond-false (slice_index word 0 == 35) _ _ says ∙ is),
+      ∙ ap (λ ws. heeded n closed done branch name opened changes (group_line_of n (length changes) ws) >>= λ p. read_from (n + 1) p (lines_of rest)) (words_of-joined word words are)
+      ∙ ap (λ (s : Result Progress LineFault). s >>= λ p. read_from (n + 1) p (lines_of rest))
+      (ap (heeded n closed done branch name opened changes) (cond-false (slice_index word 0 == 35) _ _ says) ∙ is),
 )
 
 -- a call, where there is room for it if it writes
@@ -124,36 +137,36 @@ module _ (n : ℕ) (closed : List (List Call)) (done : List Call) (rest : List �
   branch_read : (new from : List ℕ) → is_name new ≡ true → is_name from ≡ true → is_full done ≡ false → Reads n (after closed done) (line_text (codes "branch" ∷ new ∷ from ∷ []) ++ rest) (after closed (done ++ call.Branch new from ∷ [])) rest
   branch_read new from a b room =
       words_read n closed done (codes "branch") (new ∷ from ∷ []) rest _ (refl, (name_is_word new a, (name_is_word from b, tt))) refl
-      (passes (name_at n new) new _ (named n new a) ∙ passes (name_at n from) from _ (named n from b) ∙ follows n closed done (call.Branch new from) (λ _. room))
+      (goes_on (name_at n new) new _ _ (named n new a) ∙ goes_on (name_at n from) from _ _ (named n from b) ∙ follows n closed done (call.Branch new from) (λ _. room))
 
   tree_read : (branch : List ℕ) → is_name branch ≡ true → Reads n (after closed done) (line_text (codes "tree" ∷ branch ∷ []) ++ rest) (after closed (done ++ call.Tree branch ∷ [])) rest
   tree_read branch h =
-      words_read n closed done (codes "tree") (branch ∷ []) rest _ (refl, (name_is_word branch h, tt)) refl (passes (name_at n branch) branch _ (named n branch h))
+      words_read n closed done (codes "tree") (branch ∷ []) rest _ (refl, (name_is_word branch h, tt)) refl (goes_on (name_at n branch) branch _ _ (named n branch h))
 
   conflicts_read : (branch : List ℕ) → is_name branch ≡ true → Reads n (after closed done) (line_text (codes "conflicts" ∷ branch ∷ []) ++ rest) (after closed (done ++ call.Conflicts branch ∷ [])) rest
   conflicts_read branch h =
-      words_read n closed done (codes "conflicts") (branch ∷ []) rest _ (refl, (name_is_word branch h, tt)) refl (passes (name_at n branch) branch _ (named n branch h))
+      words_read n closed done (codes "conflicts") (branch ∷ []) rest _ (refl, (name_is_word branch h, tt)) refl (goes_on (name_at n branch) branch _ _ (named n branch h))
 
   question_of_names_read : (branch : List ℕ) → is_name branch ≡ true → Reads n (after closed done) (line_text (codes "names" ∷ branch ∷ []) ++ rest) (after closed (done ++ call.Names branch ∷ [])) rest
   question_of_names_read branch h =
-      words_read n closed done (codes "names") (branch ∷ []) rest _ (refl, (name_is_word branch h, tt)) refl (passes (name_at n branch) branch _ (named n branch h))
+      words_read n closed done (codes "names") (branch ∷ []) rest _ (refl, (name_is_word branch h, tt)) refl (goes_on (name_at n branch) branch _ _ (named n branch h))
 
   pull_read : (from to : List ℕ) (names : Option (List (List ℕ))) → is_name from ≡ true → is_name to ≡ true → IsListed names → is_full done ≡ false → Reads n (after closed done) (line_text (codes "pull" ∷ from ∷ to ∷ listed_words names) ++ rest) (after closed (done ++ call.Pull from to names ∷ [])) rest
   pull_read from to None a b h room =
       words_read n closed done (codes "pull") (from ∷ to ∷ []) rest _ (refl, (name_is_word from a, (name_is_word to b, tt))) refl
-      (passes (name_at n from) from _ (named n from a) ∙ passes (name_at n to) to _ (named n to b) ∙ follows n closed done (call.Pull from to None) (λ _. room))
+      (goes_on (name_at n from) from _ _ (named n from a) ∙ goes_on (name_at n to) to _ _ (named n to b) ∙ follows n closed done (call.Pull from to None) (λ _. room))
   pull_read from to (Some []) a b h room = absurd (omega (arith, h.0))
   pull_read from to (Some (name ∷ names)) a b h room =
       words_read n closed done (codes "pull") (from ∷ to ∷ name ∷ names) rest _ (refl, (name_is_word from a, (name_is_word to b, names_are_words (name ∷ names) h.1))) refl
-      (passes (name_at n from) from _ (named n from a) ∙ passes (name_at n to) to _ (named n to b)
-      ∙ passes (names_at n (name ∷ names)) (name ∷ names) _ (names_read n (name ∷ names) h.1) ∙ follows n closed done (call.Pull from to (Some (name ∷ names))) (λ _. room))
+      (goes_on (name_at n from) from _ _ (named n from a) ∙ goes_on (name_at n to) to _ _ (named n to b)
+      ∙ goes_on (names_at n (name ∷ names)) (name ∷ names) _ _ (names_read n (name ∷ names) h.1) ∙ follows n closed done (call.Pull from to (Some (name ∷ names))) (λ _. room))
 
   obliterate_read : (branch : List ℕ) (names : List (List ℕ)) → is_name branch ≡ true → 1 ≤ length names → AreNames names → is_full done ≡ false → Reads n (after closed done) (line_text (codes "obliterate" ∷ branch ∷ names) ++ rest) (after closed (done ++ call.Obliterate branch names ∷ [])) rest
   obliterate_read branch [] a some h room = absurd (omega arith)
   obliterate_read branch (name ∷ names) a some h room =
       words_read n closed done (codes "obliterate") (branch ∷ name ∷ names) rest _ (refl, (name_is_word branch a, names_are_words (name ∷ names) h)) refl
-      (passes (name_at n branch) branch _ (named n branch a)
-      ∙ passes (names_at n (name ∷ names)) (name ∷ names) _ (names_read n (name ∷ names) h) ∙ follows n closed done (call.Obliterate branch (name ∷ names)) (λ _. room))
+      (goes_on (name_at n branch) branch _ _ (named n branch a)
+      ∙ goes_on (names_at n (name ∷ names)) (name ∷ names) _ _ (names_read n (name ∷ names) h) ∙ follows n closed done (call.Obliterate branch (name ∷ names)) (λ _. room))
 
   client_read : nat_le 63 (length closed) ≡ false → Reads n (after closed done) (line_text (codes "client" ∷ []) ++ rest) (after (closed ++ done ∷ []) []) rest
   client_read few = words_read n closed done (codes "client") [] rest _ (refl, tt) refl (cond-false (nat_le 63 (length closed)) _ _ few)
@@ -162,26 +175,26 @@ module _ (n : ℕ) (closed : List (List Call)) (done : List Call) (branch name p
   add_read : Reads n (after closed done) (line_text (codes "record" ∷ branch ∷ name ∷ codes "add" ∷ path ∷ []) ++ rest) (after closed (done ++ call.Record branch name (Add path ∷ []) ∷ [])) rest
   add_read =
       words_read n closed done (codes "record") (branch ∷ name ∷ codes "add" ∷ path ∷ []) rest _ (refl, (name_is_word branch b, (name_is_word name m, (refl, (path_is_word path p, tt))))) refl
-      (passes (name_at n branch) branch _ (named n branch b) ∙ passes (name_at n name) name _ (named n name m) ∙ passes (path_at n path) path _ (placed n path p)
+      (goes_on (name_at n branch) branch _ _ (named n branch b) ∙ goes_on (name_at n name) name _ _ (named n name m) ∙ goes_on (path_at n path) path _ _ (placed n path p)
       ∙ follows n closed done (call.Record branch name (Add path ∷ [])) (λ _. room))
 
   remove_read : Reads n (after closed done) (line_text (codes "record" ∷ branch ∷ name ∷ codes "remove" ∷ path ∷ []) ++ rest) (after closed (done ++ call.Record branch name (Remove path ∷ []) ∷ [])) rest
   remove_read =
       words_read n closed done (codes "record") (branch ∷ name ∷ codes "remove" ∷ path ∷ []) rest _ (refl, (name_is_word branch b, (name_is_word name m, (refl, (path_is_word path p, tt))))) refl
-      (passes (name_at n branch) branch _ (named n branch b) ∙ passes (name_at n name) name _ (named n name m) ∙ passes (path_at n path) path _ (placed n path p)
+      (goes_on (name_at n branch) branch _ _ (named n branch b) ∙ goes_on (name_at n name) name _ _ (named n name m) ∙ goes_on (path_at n path) path _ _ (placed n path p)
       ∙ follows n closed done (call.Record branch name (Remove path ∷ [])) (λ _. room))
 
   head_read : (line : ℕ) → 1 ≤ line → line ≤ 1_073_741_823 → Reads n (after closed done) (line_text (codes "record" ∷ branch ∷ name ∷ codes "edit" ∷ path ∷ decimal line ∷ []) ++ rest) (within closed done (with_open_edit (record_at n branch name false) (edit_at path line n [] []))) rest
   head_read line low high =
       words_read n closed done (codes "record") (branch ∷ name ∷ codes "edit" ∷ path ∷ decimal line ∷ []) rest _ (refl, (name_is_word branch b, (name_is_word name m, (refl, (path_is_word path p, (decimal_is_word line (omega arith), tt)))))) refl
-      (passes (name_at n branch) branch _ (named n branch b) ∙ passes (name_at n name) name _ (named n name m) ∙ passes (path_at n path) path _ (placed n path p)
-      ∙ passes (number_at n (decimal line)) line _ (numbered n line low high) ∙ cond-false (is_full done) _ _ room)
+      (goes_on (name_at n branch) branch _ _ (named n branch b) ∙ goes_on (name_at n name) name _ _ (named n name m) ∙ goes_on (path_at n path) path _ _ (placed n path p)
+      ∙ goes_on (number_at n (decimal line)) line _ _ (numbered n line low high) ∙ cond-false (is_full done) _ _ room)
 
 group_head_read : (n : ℕ) (closed : List (List Call)) (done : List Call) (branch name rest : List ℕ) → is_name branch ≡ true → is_name name ≡ true → is_full done ≡ false
     → Reads n (after closed done) (line_text (codes "record" ∷ branch ∷ name ∷ codes "group" ∷ []) ++ rest) (within closed done (group branch name n [])) rest
 group_head_read n closed done branch name rest b m room =
     words_read n closed done (codes "record") (branch ∷ name ∷ codes "group" ∷ []) rest _ (refl, (name_is_word branch b, (name_is_word name m, (refl, tt)))) refl
-    (passes (name_at n branch) branch _ (named n branch b) ∙ passes (name_at n name) name _ (named n name m) ∙ cond-false (is_full done) _ _ room)
+    (goes_on (name_at n branch) branch _ _ (named n branch b) ∙ goes_on (name_at n name) name _ _ (named n name m) ∙ cond-false (is_full done) _ _ room)
 
 abbrev AreLines : Lines → Type 0
 AreLines lines = AllByRecursion (λ line. is_line line ≡ true) lines
@@ -202,7 +215,7 @@ module _ (closed : List (List Call)) (done : List Call) (begun : OpenRecord) (pa
       let (m, more) = old_read (n + 1) (before ++ next ∷ []) lines h.1 in (
         m,
         ap (read_from n (in_edit before [])) (next_line 45 next lines rest refl h.0)
-            ∙ ap (λ (s : Result OpenEdit LineFault). (s >>= λ b. Ok (within closed done (with_open_edit begun b))) >>= λ p. read_from (n + 1) p (lines_of (flat_map (signed_line 45) lines ++ rest))) (cond-true (is_line next) _ _ h.0)
+            ∙ ap (λ (s : Result Edit LineFault). (s >>= λ e. Ok (within closed done (with_open_edit begun (record { opened = opened; edit = e })))) >>= λ p. read_from (n + 1) p (lines_of (flat_map (signed_line 45) lines ++ rest))) (cond-true (is_line next) _ _ h.0)
             ∙ more ∙ ap (λ ls. read_from m (in_edit ls []) (lines_of rest)) (append_assoc before (next ∷ []) lines),
       )
 
@@ -212,7 +225,7 @@ module _ (closed : List (List Call)) (done : List Call) (begun : OpenRecord) (pa
       let (m, more) = new_read (n + 1) old (before ++ next ∷ []) lines h.1 in (
         m,
         ap (read_from n (in_edit old before)) (next_line 43 next lines rest refl h.0)
-            ∙ ap (λ (s : Result OpenEdit LineFault). (s >>= λ b. Ok (within closed done (with_open_edit begun b))) >>= λ p. read_from (n + 1) p (lines_of (flat_map (signed_line 43) lines ++ rest))) (cond-true (is_line next) _ _ h.0)
+            ∙ ap (λ (s : Result Edit LineFault). (s >>= λ e. Ok (within closed done (with_open_edit begun (record { opened = opened; edit = e })))) >>= λ p. read_from (n + 1) p (lines_of (flat_map (signed_line 43) lines ++ rest))) (cond-true (is_line next) _ _ h.0)
             ∙ more ∙ ap (λ ls. read_from m (in_edit old ls) (lines_of rest)) (append_assoc before (next ∷ []) lines),
       )
 
@@ -222,8 +235,9 @@ module _ (closed : List (List Call)) (done : List Call) (begun : OpenRecord) (pa
   end_read n old new next some ends is = (
     n + 1,
     ap (read_from n (in_edit old new)) (first_line (codes "end") rest refl)
-        ∙ ap (λ s. s >>= λ p. read_from (n + 1) p (lines_of rest))
-        (cond-false (length old + length new == 0) _ _ (grind (arith, nat_tests)) ∙ cond-false (nat_lt (2 ^ 30) (line + length old + length new)) _ _ (grind (arith, nat_tests)) ∙ is),
+        ∙ ap (λ (s : Result Progress LineFault). s >>= λ p. read_from (n + 1) p (lines_of rest))
+        (ap (λ (s : Result Edit LineFault). s >>= λ edit. after_change n (in_edit old new) (with_open_edit begun (edit_at path line opened old new)) (Hunk edit))
+        (cond-false (length old + length new == 0) _ _ (grind (arith, nat_tests)) ∙ cond-false (nat_lt (2 ^ 30) (line + length old + length new)) _ _ (grind (arith, nat_tests))) ∙ is),
   )
 
 regrouped : (a b c d e : List ℕ) → (a ++ ((b ++ c) ++ d)) ++ e ≡ a ++ (b ++ (c ++ (d ++ e)))
@@ -259,11 +273,11 @@ change_read : (n : ℕ) (closed : List (List Call)) (done : List Call) (branch n
     → Reads n (within closed done (group branch name opened changes)) (change_text change ++ rest) (within closed done (group branch name opened (changes ++ change ∷ []))) rest
 change_read n closed done branch name opened changes (Add path) rest few h =
     let (k, is) = group_words_read n closed done branch name opened changes (codes "add") (path ∷ []) rest (within closed done (group branch name opened (changes ++ Add path ∷ []))) (refl, (path_is_word path h, tt)) refl
-    (cond-false (nat_le 64 (length changes)) _ _ (has_room changes few) ∙ passes (path_at n path) path _ (placed n path h)) in
+    (ap (heeded n closed done branch name opened changes) (cond-false (nat_le 64 (length changes)) _ _ (has_room changes few)) ∙ goes_on (path_at n path) path _ _ (placed n path h)) in
     (k, ap (λ t. read_from n (within closed done (group branch name opened changes)) (lines_of (t ++ rest))) (append-nil (line_text (codes "add" ∷ path ∷ []))) ∙ is)
 change_read n closed done branch name opened changes (Remove path) rest few h =
     let (k, is) = group_words_read n closed done branch name opened changes (codes "remove") (path ∷ []) rest (within closed done (group branch name opened (changes ++ Remove path ∷ []))) (refl, (path_is_word path h, tt)) refl
-    (cond-false (nat_le 64 (length changes)) _ _ (has_room changes few) ∙ passes (path_at n path) path _ (placed n path h)) in
+    (ap (heeded n closed done branch name opened changes) (cond-false (nat_le 64 (length changes)) _ _ (has_room changes few)) ∙ goes_on (path_at n path) path _ _ (placed n path h)) in
     (k, ap (λ t. read_from n (within closed done (group branch name opened changes)) (lines_of (t ++ rest))) (append-nil (line_text (codes "remove" ∷ path ∷ []))) ∙ is)
 change_read n closed done branch name opened changes (Hunk hunk) rest few h =
     let (placed_at, range, old, new) = h in
@@ -275,8 +289,8 @@ change_read n closed done branch name opened changes (Hunk hunk) rest few h =
     let high : hunk.line ≤ 1_073_741_823 = omega (arith, range.within, range.changes) in
     let (k, heads) = group_words_read n closed done branch name opened changes (codes "edit") (hunk.path ∷ decimal hunk.line ∷ []) (olds ++ (news ++ (end ++ rest)))
     (within closed done (with_open_edit begun (edit_at hunk.path hunk.line n [] []))) (refl, (path_is_word hunk.path placed_at, (decimal_is_word hunk.line (omega arith), tt))) refl
-    (cond-false (nat_le 64 (length changes)) _ _ (has_room changes few) ∙ passes (path_at n hunk.path) hunk.path _ (placed n hunk.path placed_at)
-    ∙ passes (number_at n (decimal hunk.line)) hunk.line _ (numbered n hunk.line range.counted high)) in
+    (ap (heeded n closed done branch name opened changes) (cond-false (nat_le 64 (length changes)) _ _ (has_room changes few)) ∙ goes_on (path_at n hunk.path) hunk.path _ _ (placed n hunk.path placed_at)
+    ∙ goes_on (number_at n (decimal hunk.line)) hunk.line _ _ (numbered n hunk.line range.counted high)) in
     let (l, gone) = old_read closed done begun hunk.path hunk.line n (news ++ (end ++ rest)) k [] hunk.old old in
     let (i, come) = new_read closed done begun hunk.path hunk.line n (end ++ rest) l hunk.old [] hunk.new new in
     let (j, ends) = end_read closed done begun hunk.path hunk.line n rest i hunk.old hunk.new (within closed done (group branch name opened (changes ++ Hunk hunk ∷ []))) range.changes range.within refl in
@@ -368,4 +382,4 @@ pub reads_back : ReadsBack
 reads_back [] h = absurd (omega (arith, h.limits.has_opening))
 reads_back (opening ∷ clients) h =
     let (m, reads) = section_read 1 [] [] opening (flat_map client_text clients) h.calls.0 h.limits.writes_within.0 in
-    reads ∙ clients_read m [] opening clients h.calls.1 h.limits.writes_within.1 (omega (arith, h.limits.sections_within))
+    sym (reads_as_defined (lines_of (script_text (opening ∷ clients)))) ∙ reads ∙ clients_read m [] opening clients h.calls.1 h.limits.writes_within.1 (omega (arith, h.limits.sections_within))

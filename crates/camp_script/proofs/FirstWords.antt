@@ -1,37 +1,60 @@
--- The first words of a line say all that the line asks for, where it lists no names.
-use Rattle.std.proofs.Common.{◌≡◌, false, ℕ, List, [], ◌∷◌, ◌++◌, length, take, refl, sym, ap, subst, ◌∙◌}
-use Rattle.std.proofs.lemmas.Bool.{cond-false}
+-- The first words of a line say all that the line asks for, where it lists other names.
+use Rattle.std.proofs.Common.{◌≡◌, true, false, ◌==◌, ℕ, List, [], ◌∷◌, ◌++◌, length, slice_index, take, refl, sym, ap, subst, ◌∙◌}
+use Rattle.std.proofs.lemmas.Bool.{cond-true, cond-false}
 use Rattle.std.specs.Prelude.{bytes_eq, codes, Result}
 use Rattle.std.proofs.Math.Seq.{take-append_seam}
-use Rattle.camp_script.specs.Commands.{command, short_command}
+use Rattle.camp_script.specs.Commands.{Command, command, short_command, pull_line, obliterate_line, record_line, question}
 use Rattle.camp_script.specs.Gives.{GivesLine}
-use Rattle.camp_script.specs.Groups.{group_line}
-use Rattle.camp_script.specs.Progress.{Progress, OpenRecord}
+use Rattle.camp_script.specs.Changes.{GroupLine, change_of, group_line_of}
+use Rattle.camp_script.specs.Inside.Progress.{Progress, OpenRecord}
+use Rattle.camp_script.specs.Inside.Steps.{obeyed, heeded}
+use Rattle.camp_script.specs.declared.faults.LineFault.{LineFault}
 use Rattle.camp_script.specs.declared.faults.ScriptFault.{ScriptFault}
 
-pub six_are_enough : (line : ℕ) (progress : Progress) (word : List ℕ) (words : List (List ℕ)) → short_command line progress word (take 6 words) ≡ short_command line progress word words
-six_are_enough line progress word [] = refl
-six_are_enough line progress word (a ∷ []) = refl
-six_are_enough line progress word (a ∷ b ∷ []) = refl
-six_are_enough line progress word (a ∷ b ∷ c ∷ []) = refl
-six_are_enough line progress word (a ∷ b ∷ c ∷ d ∷ []) = refl
-six_are_enough line progress word (a ∷ b ∷ c ∷ d ∷ e ∷ []) = refl
-six_are_enough line progress word (a ∷ b ∷ c ∷ d ∷ e ∷ f ∷ words) = refl
+pub six_are_enough : (line : ℕ) (word : List ℕ) (words : List (List ℕ)) → short_command line word (take 6 words) ≡ short_command line word words
+six_are_enough line word [] = refl
+six_are_enough line word (a ∷ []) = refl
+six_are_enough line word (a ∷ b ∷ []) = refl
+six_are_enough line word (a ∷ b ∷ c ∷ []) = refl
+six_are_enough line word (a ∷ b ∷ c ∷ d ∷ []) = refl
+six_are_enough line word (a ∷ b ∷ c ∷ d ∷ e ∷ []) = refl
+six_are_enough line word (a ∷ b ∷ c ∷ d ∷ e ∷ f ∷ words) = refl
 
-pub six_are_enough_in_group : (line : ℕ) (progress : Progress) (begun : OpenRecord) (word : List ℕ) (words : List (List ℕ)) → group_line line progress begun (word ∷ take 6 words) ≡ group_line line progress begun (word ∷ words)
-six_are_enough_in_group line progress begun word [] = refl
-six_are_enough_in_group line progress begun word (a ∷ []) = refl
-six_are_enough_in_group line progress begun word (a ∷ b ∷ []) = refl
-six_are_enough_in_group line progress begun word (a ∷ b ∷ c ∷ words) = refl
+pub six_are_enough_in_group : (line count : ℕ) (word : List ℕ) (words : List (List ℕ)) → change_of line count word (take 6 words) ≡ change_of line count word words
+six_are_enough_in_group line count word [] = refl
+six_are_enough_in_group line count word (a ∷ []) = refl
+six_are_enough_in_group line count word (a ∷ b ∷ []) = refl
+six_are_enough_in_group line count word (a ∷ b ∷ c ∷ words) = refl
 
--- a command without a list of names
-pub short : (line : ℕ) (progress : Progress) (word : List ℕ) (words all : List (List ℕ)) (result : Result Progress ScriptFault) → words ≡ take 6 all
-    → bytes_eq word (codes "pull") ≡ false → bytes_eq word (codes "obliterate") ≡ false
-    → GivesLine result (short_command line progress word words) → GivesLine result (command line progress (word ∷ all))
-short line progress word words all result first pulls obliterates given =
-    subst (GivesLine result)
-    (ap (short_command line progress word) first ∙ six_are_enough line progress word all
-    ∙ sym (cond-false _ _ _ pulls ∙ cond-false _ _ _ obliterates)) given
+-- what a line asks for, where its first word is known or not
+module _ (line : ℕ) (progress : Progress) (word : List ℕ) (result : Result Progress ScriptFault) where
+  abbrev Obeys : Result Command LineFault → Type 0
+  Obeys asked = GivesLine result (obeyed line progress asked)
+
+  pub pulls : (words : List (List ℕ)) → bytes_eq word (codes "pull") ≡ true → Obeys (pull_line line words) → Obeys (command line word words)
+  pulls words is given = subst Obeys (sym (cond-true _ _ _ is)) given
+
+  pub obliterates : (words : List (List ℕ)) → bytes_eq word (codes "pull") ≡ false → bytes_eq word (codes "obliterate") ≡ true → Obeys (obliterate_line line words) → Obeys (command line word words)
+  obliterates words other is given = subst Obeys (sym (cond-false _ _ _ other ∙ cond-true _ _ _ is)) given
+
+  -- a command without a list of names
+  pub short : (words all : List (List ℕ)) → words ≡ take 6 all → bytes_eq word (codes "pull") ≡ false → bytes_eq word (codes "obliterate") ≡ false → Obeys (short_command line word words) → Obeys (command line word all)
+  short words all first other neither given =
+      subst Obeys (ap (short_command line word) first ∙ six_are_enough line word all ∙ sym (cond-false _ _ _ other ∙ cond-false _ _ _ neither)) given
+
+  pub records : (words : List (List ℕ)) → bytes_eq word (codes "branch") ≡ false → bytes_eq word (codes "record") ≡ true → Obeys (record_line line words) → Obeys (short_command line word words)
+  records words other is given = subst Obeys (sym (cond-false _ _ _ other ∙ cond-true _ _ _ is)) given
+
+  pub questions : (words : List (List ℕ)) → bytes_eq word (codes "branch") ≡ false → bytes_eq word (codes "record") ≡ false → bytes_eq word (codes "client") ≡ false → Obeys (question line word words) → Obeys (short_command line word words)
+  questions words a b c given = subst Obeys (sym (cond-false _ _ _ a ∙ cond-false _ _ _ b ∙ cond-false _ _ _ c)) given
+
+-- a line of a group, by its first words
+pub group_words : (line count : ℕ) (progress : Progress) (begun : OpenRecord) (word : List ℕ) (words all bytes : List (List ℕ)) (result : Result Progress ScriptFault)
+    → bytes ≡ word ∷ all → (slice_index word 0 == 35) ≡ false → words ≡ take 6 all
+    → GivesLine result (heeded line progress begun (change_of line count word words)) → GivesLine result (heeded line progress begun (group_line_of line count bytes))
+group_words line count progress begun word words all bytes result is says first given =
+    subst (λ (said : Result GroupLine LineFault). GivesLine result (heeded line progress begun said))
+    (ap (change_of line count word) first ∙ six_are_enough_in_group line count word all ∙ sym (cond-false _ _ _ says) ∙ ap (group_line_of line count) (sym is)) given
 
 -- as many as six, at the front
 pub front_of_six : (words rest all : List (List ℕ)) → length words ≡ 6 → words ++ rest ≡ all → words ≡ take 6 all

@@ -1,8 +1,11 @@
+pub mod Agreement
+pub mod Beginnings
 pub mod CanonicalCalls
 pub mod CanonicalLines
 pub mod CanonicalNumbers
 pub mod FirstWords
 pub mod HistoryLemmas
+pub mod Holding
 pub mod LineLemmas
 pub mod NameLemmas
 pub mod RecordLines

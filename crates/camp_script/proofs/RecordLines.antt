@@ -1,9 +1,18 @@
--- A line where a record is open.
-use Rattle.std.proofs.Common.{◌≡◌, ℕ, List, refl, sym, ap, subst, ◌∙◌, Option, None, Some, Result}
+-- A line where a record is open, or none; and the line `end`.
+use Rattle.std.proofs.Common.{◌≡◌, ℕ, ◌+◌, ◌^◌, ◌==◌, nat_lt, true, false, cond, List, [], ◌∷◌, ◌++◌, length, length-append, arith, refl, sym, ap, subst, ◌∙◌, Option, None, Some, Result, Ok}
+use Rattle.std.proofs.lemmas.Bool.{cond-false}
+use Rattle.std.proofs.lemmas.Bool.Decides.{nat_tests}
+use Rattle.camp_prim.specs.Hunks.{Edit}
+use Rattle.camp_prim.specs.declared.primitives.Primitive.{Primitive}
+use Rattle.camp_prim.specs.declared.primitives.Primitive.TheVariants.{Hunk}
 use Rattle.camp_call.specs.declared.calls.Call.{Call}
-use Rattle.camp_script.specs.Gives.{GivesLine}
-use Rattle.camp_script.specs.Progress.{OpenEdit, OpenRecord, Progress}
-use Rattle.camp_script.specs.Reading.{after_line, after_record_line}
+use Rattle.camp_script.specs.Commands.{command_of}
+use Rattle.camp_script.specs.Gives.{GivesLine, HasNoFault}
+use Rattle.camp_script.specs.Lines.{words_of}
+use Rattle.camp_script.specs.Words.{◌>>=◌}
+use Rattle.camp_script.specs.Inside.Progress.{OpenEdit, OpenRecord, Progress, with_record, with_one_more, after_record, after_change}
+use Rattle.camp_script.specs.Inside.Steps.{obeyed, after_end, after_line, after_record_line}
+use Rattle.camp_script.specs.declared.faults.LineFault.{LineFault}
 use Rattle.camp_script.specs.declared.faults.ScriptFault.{ScriptFault}
 
 -- progress with these sections, these calls and no record open
@@ -25,3 +34,45 @@ pub in_record : (line : ℕ) (o : Option OpenRecord) (begun : OpenRecord) (p q :
     → GivesLine result (after_record_line line p begun begun.open_edit bytes) → GivesLine result (after_line line o q bytes)
 in_record line o begun p q bytes result is closed calls given =
     subst (λ s. GivesLine result (after_line line s q bytes)) (sym is) (subst (GivesLine result) (same_calls line p q begun begun.open_edit bytes closed calls) given)
+
+-- progress with these parts
+abbrev progress_with : List (List Call) → List Call → Option OpenRecord → Progress
+progress_with closed calls begun = record { closed = closed; calls = calls; open_record = begun }
+
+same_progress : (p q : Progress) → p.closed ≡ q.closed → p.calls ≡ q.calls → p.open_record ≡ q.open_record → p ≡ q
+same_progress p q closed calls begun =
+    ap (λ c. progress_with c p.calls p.open_record) closed ∙ ap (λ c. progress_with q.closed c p.open_record) calls ∙ ap (λ b. progress_with q.closed q.calls b) begun
+
+pub no_record : (line : ℕ) (o : Option OpenRecord) (p q : Progress) (bytes : List ℕ) (result : Result Progress ScriptFault) → o ≡ None → p.closed ≡ q.closed → p.calls ≡ q.calls → p.open_record ≡ q.open_record
+    → GivesLine result (obeyed line p (command_of line (words_of bytes))) → GivesLine result (after_line line o q bytes)
+no_record line o p q bytes result is closed calls begun given =
+    subst (λ s. GivesLine result (after_line line s q bytes)) (sym is)
+    (subst (λ p. GivesLine result (obeyed line p (command_of line (words_of bytes)))) (same_progress p q closed calls begun) given)
+
+-- a side has lines
+pub some_old : (old new : ℕ) → (old == 0) ≡ false → (old + new == 0) ≡ false
+some_old old new h = grind (arith, nat_tests)
+
+pub some_new : (old new : ℕ) → (new == 0) ≡ false → (old + new == 0) ≡ false
+some_new old new h = grind (arith, nat_tests)
+
+-- one more change is one at least
+pub some_change : (changes : List Primitive) (change : Primitive) → (length (changes ++ change ∷ []) == 0) ≡ false
+some_change changes change =
+    let long : length (changes ++ change ∷ []) ≡ length changes + 1 = length-append changes (change ∷ []) in
+    ap (λ n. n == 0) long ∙ grind (arith, nat_tests)
+
+change_has_no_fault : (line : ℕ) (p : Progress) (begun : OpenRecord) (change : Primitive) → HasNoFault (after_change line p begun change)
+change_has_no_fault line p begun change =
+    elim begun.grouped as (λ b. HasNoFault (cond b (Ok (with_record p (with_one_more begun change))) (after_record line p (with_one_more begun change)))) [
+      | true ↦ tt
+      | false ↦ subst HasNoFault (sym (cond-false (length (begun.changes ++ change ∷ []) == 0) _ _ (some_change begun.changes change))) tt
+    ]
+
+-- a body with lines, not too many, ends without a fault
+pub end_has_no_fault : (line : ℕ) (p : Progress) (begun : OpenRecord) (body : OpenEdit) → (length body.edit.old + length body.edit.new == 0) ≡ false
+    → nat_lt (2 ^ 30) (body.edit.line + length body.edit.old + length body.edit.new) ≡ false → HasNoFault (after_end line p begun body)
+end_has_no_fault line p begun body some near =
+    subst HasNoFault
+    (sym (ap (λ (r : Result Edit LineFault). r >>= λ edit. after_change line p begun (Hunk edit)) (cond-false (length body.edit.old + length body.edit.new == 0) _ _ some ∙ cond-false _ _ _ near)))
+    (change_has_no_fault line p begun (Hunk body.edit))

@@ -1,80 +1,79 @@
 -- Where memory may be wanted as a script is read.
-use Rattle.std.proofs.Common.{◌≡◌, ℕ, ◌+◌, List, ◌∷◌, [], ◌++◌, length, refl, sym, ap, subst, ◌∙◌, arith, append_assoc, length-append, Result, Ok, Err, inl, inr}
-use Rattle.std.specs.Prelude.{IfErr}
-use Rattle.camp_call.specs.declared.calls.Call.{Call}
-use Rattle.camp_script.specs.Gives.{GivesLine, IsFaultIn, HasNoFault}
-use Rattle.camp_script.specs.Lines.{lines_of}
-use Rattle.camp_script.specs.Progress.{Progress, start, finished}
-use Rattle.camp_script.specs.Reading.{after_line, read_from, script_of}
-use Rattle.camp_script.specs.Wanting.{ScriptMayWant, Says, read_past}
-use Rattle.camp_script.specs.Words.{◌>>=◌}
+use Rattle.std.proofs.Common.{◌≡◌, ℕ, ◌+◌, ◌⊎◌, Bool, true, false, cond, List, [], ◌∷◌, refl, sym, ap, subst, ◌∙◌, Result, Ok, Err, inl, inr}
+use Rattle.camp_script.specs.Commands.{Command, Nothing, command, command_of}
+use Rattle.camp_script.specs.Gives.{IsFaultIn, HasNoFault}
+use Rattle.camp_script.specs.Lines.{lines_of, words_of, is_skipped}
+use Rattle.camp_script.specs.Pieces.{numbered}
+use Rattle.camp_script.specs.Wanting.{ScriptMayWant, first_command}
+use Rattle.camp_script.specs.Inside.Progress.{Progress, start}
+use Rattle.camp_script.specs.Inside.Steps.{after_line, obeyed, Says}
 use Rattle.camp_script.specs.declared.faults.LineFault.{LineFault}
 use Rattle.camp_script.specs.declared.faults.ScriptFault.{ScriptFault}
 use Rattle.camp_script.specs.declared.faults.ScriptFault.TheVariants.{Memory}
 
--- so many lines are read without a fault, and these are left
-pub record IsReached (number : ℕ) (reading : Progress) (rest lines : List (List ℕ)) : Type 0 where
-  pub before : List (List ℕ)
-  pub long : length before ≡ number
-  pub cut : lines ≡ before ++ rest
-  pub reached : read_past 1 start before ≡ Ok reading
+-- what lines ask for first, the first of them of a number
+abbrev first_from : ℕ → List (List ℕ) → Result Command LineFault
+first_from number lines = first_command (numbered number lines)
 
-joined : (r : Result Progress LineFault) (f g : Progress → Result Progress LineFault) (h : Progress → Result Progress LineFault) → ((x : Progress) → f x ≡ (g x >>= h)) → (r >>= f) ≡ ((r >>= g) >>= h)
-joined (Ok x) f g h same = same x
-joined (Err fault) f g h same = refl
+-- so many lines are read, and these are left: the first that is not skipped has no fault, or each was skipped so far
+abbrev pub IsBegun : ℕ → Progress → List (List ℕ) → List (List ℕ) → Type 0
+IsBegun number reading rest lines =
+    HasNoFault (first_from 1 lines) ⊎ ((reading ≡ start) × (first_from 1 lines ≡ first_from (number + 1) rest))
 
--- lines behind lines
-read_past-append : (n : ℕ) (p : Progress) (before lines : List (List ℕ)) → read_past n p (before ++ lines) ≡ (read_past n p before >>= λ q. read_past (n + length before) q lines)
-read_past-append n p [] lines = ap (λ m. read_past m p lines) (omega arith)
-read_past-append n p (bytes ∷ before) lines =
-    let further : n + 1 + length before ≡ n + length (bytes ∷ before) = omega arith in
-    joined (after_line n p.open_record p bytes) (λ q. read_past (n + 1) q (before ++ lines)) (λ q. read_past (n + 1) q before) (λ q. read_past (n + length (bytes ∷ before)) q lines)
-    (λ q. read_past-append (n + 1) q before lines ∙ ap (λ m. read_past (n + 1) q before >>= λ r. read_past m r lines) further)
+pub nothing_read : (lines : List (List ℕ)) → IsBegun 0 start lines lines
+nothing_read lines = inr (refl, refl)
 
-pub nothing_read : (lines : List (List ℕ)) → IsReached 0 start lines lines
-nothing_read lines = record { before = []; long = refl; cut = refl; reached = refl }
+-- what lines ask for first, by whether the first of them is skipped
+abbrev by_first : ℕ → List ℕ → List (List ℕ) → Bool → Result Command LineFault
+by_first number bytes rest b = cond b (first_from (number + 1) rest) (command_of number (words_of bytes))
+
+skipped_asks : (number : ℕ) (words : List (List ℕ)) → is_skipped words ≡ true → command_of number words ≡ Ok Nothing
+skipped_asks number [] is = refl
+skipped_asks number (word ∷ words) is = ap (λ b. cond b (Ok Nothing) (command number word words)) is
+
+good_command : (number : ℕ) (reading : Progress) (r : Result Command LineFault) → HasNoFault (obeyed number reading r) → HasNoFault r
+good_command number reading (Ok command) h = tt
+good_command number reading (Err fault) h = h
+
+same_reading : (reading next : Progress) (r : Result Progress LineFault) → r ≡ Ok reading → r ≡ Ok next → next ≡ reading
+same_reading reading next r e f = cc
+
+module _ (number : ℕ) (bytes : List ℕ) (rest : List (List ℕ)) where
+  -- a first line that is not skipped has no fault where reading it has none
+  good_first : is_skipped (words_of bytes) ≡ false → HasNoFault (obeyed number start (command_of number (words_of bytes))) → HasNoFault (first_from number (bytes ∷ rest))
+  good_first says h =
+      subst HasNoFault (sym (ap (by_first number bytes rest) says)) (good_command number start (command_of number (words_of bytes)) h)
+
+  begun_by : (next : Progress) (b : Bool) → is_skipped (words_of bytes) ≡ b → obeyed number start (command_of number (words_of bytes)) ≡ Ok next → HasNoFault (first_from number (bytes ∷ rest)) ⊎ ((next ≡ start) × (first_from number (bytes ∷ rest) ≡ first_from (number + 1) rest))
+  begun_by next true is read =
+      inr (same_reading start next _ (ap (obeyed number start) (skipped_asks number (words_of bytes) is)) read, ap (by_first number bytes rest) is)
+  begun_by next false is read = inl (good_first is (subst HasNoFault (sym read) tt))
 
 -- one more line without a fault
-pub one_read : (number : ℕ) (reading next : Progress) (bytes : List ℕ) (rest lines : List (List ℕ)) → IsReached number reading (bytes ∷ rest) lines
-    → after_line (number + 1) reading.open_record reading bytes ≡ Ok next → IsReached (number + 1) next rest lines
-one_read number reading next bytes rest lines h is = record {
-  before = h.before ++ bytes ∷ [];
-  long = length-append h.before (bytes ∷ []) ∙ ap (λ n. n + 1) h.long;
-  cut = h.cut ∙ sym (append_assoc h.before (bytes ∷ []) rest);
-  reached =
-      let at : 1 + length h.before ≡ number + 1 = omega (arith, h.long) in
-      read_past-append 1 start h.before (bytes ∷ [])
-      ∙ ap (λ (r : Result Progress LineFault). r >>= λ q. read_past (1 + length h.before) q (bytes ∷ [])) h.reached
-      ∙ ap (λ m. after_line m reading.open_record reading bytes >>= λ q. Ok q) at
-      ∙ ap (λ (r : Result Progress LineFault). r >>= λ q. Ok q) is;
-}
+pub one_read : (number : ℕ) (reading next : Progress) (bytes : List ℕ) (rest lines : List (List ℕ)) → IsBegun number reading (bytes ∷ rest) lines
+    → after_line (number + 1) reading.open_record reading bytes ≡ Ok next → IsBegun (number + 1) next rest lines
+one_read number reading next bytes rest lines begun read = elim begun [
+  | inl h ↦ inl h
+  | inr h ↦ elim (begun_by (number + 1) bytes rest next (is_skipped (words_of bytes)) refl (subst (λ (p : Progress). after_line (number + 1) p.open_record p bytes ≡ Ok next) h.0 read)) [
+    | inl good ↦ inl (subst HasNoFault (sym h.1) good)
+    | inr more ↦ inr (more.0, h.1 ∙ more.1)
+  ]
+]
 
--- what reading comes to stays the same behind a line without a fault
-pub reads_on : (number : ℕ) (reading next : Progress) (bytes : List ℕ) (rest lines : List (List ℕ)) (script : Result (List (List Call)) LineFault) → lines ≡ bytes ∷ rest
-    → after_line number reading.open_record reading bytes ≡ Ok next → read_from number reading lines ≡ script → read_from (number + 1) next rest ≡ script
-reads_on number reading next bytes rest lines script cut is so =
-    sym (ap (λ (r : Result Progress LineFault). r >>= λ q. read_from (number + 1) q rest) is) ∙ sym (ap (read_from number reading) cut) ∙ so
-
--- for a line
-pub wants_now : (number : ℕ) (reading : Progress) (bytes : List ℕ) (rest : List (List ℕ)) (script : List ℕ) (fault : ScriptFault) → IsReached number reading (bytes ∷ rest) (lines_of script)
+-- memory is wanted for a line
+pub wants_now : (number : ℕ) (reading : Progress) (bytes : List ℕ) (rest : List (List ℕ)) (script : List ℕ) (fault : ScriptFault) → IsBegun number reading (bytes ∷ rest) (lines_of script)
     → IsFaultIn fault (after_line (number + 1) reading.open_record reading bytes) → (fault ≡ Memory → Says reading.open_record bytes)
     → fault ≡ Memory → ScriptMayWant script
-wants_now number reading bytes rest script fault h given says is =
-    inl (record {
-      before = h.before;
-      bytes = bytes;
-      behind = rest;
-      cut = h.cut;
-      progress = reading;
-      reached = h.reached;
-      says = says is;
-      good = subst (λ n. HasNoFault (after_line (n + 1) reading.open_record reading bytes)) (sym h.long)
-          (subst (λ f. IsFaultIn f (after_line (number + 1) reading.open_record reading bytes)) is given);
-    })
+wants_now number reading bytes rest script fault begun given says is = elim begun [
+  | inl h ↦ h
+  | inr h ↦ subst HasNoFault (sym h.1) (good_first (number + 1) bytes rest
+      (subst (λ (p : Progress). Says p.open_record bytes) h.0 (says is))
+      (subst (λ (p : Progress). HasNoFault (after_line (number + 1) p.open_record p bytes)) h.0 (subst (λ f. IsFaultIn f (after_line (number + 1) reading.open_record reading bytes)) is given)))
+]
 
--- at the end
-pub wants_at_end : (reading : Progress) (script : List ℕ) (result : Result (List (List Call)) ScriptFault) → finished reading reading.open_record ≡ script_of script
-    → GivesLine result (finished reading reading.open_record) → IfErr result (λ fault. fault ≡ Memory → ScriptMayWant script)
-wants_at_end reading script (Ok sections) ends given = tt
-wants_at_end reading script (Err fault) ends given =
-    λ is. inr (subst HasNoFault ends (subst (λ f. IsFaultIn f (finished reading reading.open_record)) is given))
+-- memory is wanted behind the last line
+pub wants_at_end : (number : ℕ) (reading : Progress) (script : List ℕ) → IsBegun number reading [] (lines_of script) → ScriptMayWant script
+wants_at_end number reading script begun = elim begun [
+  | inl h ↦ h
+  | inr h ↦ subst HasNoFault (sym h.1) tt
+]

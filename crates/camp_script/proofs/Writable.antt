@@ -1,11 +1,10 @@
 -- The calls of whatever is read are calls that a script can ask, within its limits.
-use Rattle.std.proofs.Common.{◌≡◌, ℕ, ◌+◌, ◌^◌, ◌<◌, ◌≤◌, Bool, true, false, ◌&&◌, ◌==◌, nat_lt, nat_le, cond, List, [], ◌∷◌, ◌++◌, length, count_by, refl, subst, None, Some, Option, Result, Ok, Err, arith, length-append}
+use Rattle.std.proofs.Common.{◌≡◌, ℕ, ◌+◌, ◌^◌, ◌<◌, ◌≤◌, Bool, true, false, ◌&&◌, ◌==◌, nat_lt, nat_le, cond, List, [], ◌∷◌, ◌++◌, length, count_by, slice_index, ◌∙◌, refl, subst, None, Some, Option, Ok, arith, length-append}
 use Rattle.std.proofs.lemmas.Bool.Decides.{nat_tests}
 use Rattle.std.proofs.lemmas.List.Sums.{sum_by-append, sum_by-cons}
 use Rattle.std.specs.Prelude.{IfOk, IsTrue, bytes_eq, codes}
 use Rattle.std.specs.List.{list_all, AllByRecursion}
 use Rattle.camp_base.specs.Bytes.{is_between, is_name, is_path, is_line}
-use Rattle.camp_prim.specs.Hunks.{IsInRange}
 use Rattle.camp_prim.specs.declared.primitives.Primitive.{Primitive}
 use Rattle.camp_prim.specs.declared.primitives.Primitive.TheVariants.{Add, Remove, Hunk}
 use Rattle.camp_call.specs.Calls.{is_writing}
@@ -13,39 +12,23 @@ use Rattle.camp_call.specs.declared.calls.Call.{Call}
 use Rattle.camp_call.specs.declared.calls.Call.TheVariants as call
 use Rattle.camp_script.specs.Canonical.{IsCall, IsChange, IsListed, AreNames, AreLines, CanBeWritten, ReadIsWritable}
 use Rattle.camp_script.specs.Words.{◌>>=◌, no_words, one_word, two_words, three_words, name_at, names_at, path_at, number_at, value_of, is_line_number}
-use Rattle.camp_script.specs.Progress.{OpenEdit, OpenRecord, Progress, is_full, start, with_call, with_record, after_call, after_head, after_client, after_record, after_change, with_change, finished, not_ended, record_at, with_edit, with_open_edit}
-use Rattle.camp_script.specs.Commands.{branch_line, whole_record, edit_record, group_record, record_of, listed, pull_line, obliterate_line, branch_at, question, command, after_words}
-use Rattle.camp_script.specs.Groups.{whole_change, edit_change, group_line, after_group_words, after_end, side_at, with_old, with_new, grown, after_body_line}
-use Rattle.camp_script.specs.Reading.{after_line, after_record_line, read_from}
-use Rattle.camp_script.specs.Lines.{lines_of, words_of, is_skipped}
-use Rattle.camp_script.specs.declared.faults.LineFault.{LineFault}
+use Rattle.camp_prim.specs.Hunks.{Edit}
+use Rattle.camp_script.specs.Changes.{GroupLine, NoChange, WholeChange, EditChange, EndGroup, whole_change, edit_change, change_of, group_line_of, side_at, with_old, with_new, grown, ended}
+use Rattle.camp_script.specs.Commands.{Command, Nothing, Ask, BeginEdit, BeginGroup, BeginSection, branch_line, whole_record, edit_record, group_record, record_of, listed, pull_line, obliterate_line, branch_at, question, command, command_of}
+use Rattle.camp_script.specs.Lines.{lines_of, words_of}
+use Rattle.camp_script.specs.Reading.{is_full}
+use Rattle.camp_script.specs.Inside.Progress.{OpenEdit, OpenRecord, Progress, start, with_call, with_record, after_head, after_record, after_change, with_one_more, finished, not_ended, record_at, with_edit, with_open_edit}
+use Rattle.camp_script.specs.Inside.Steps.{obey, heed, after_body, after_record_line, after_line, read_from}
+use Rattle.camp_script.proofs.Agreement.{reads_as_defined}
 use Rattle.camp_script.proofs.CanonicalLines.{second_of}
-
--- what holds of the value that reading comes to, if it comes to one
-record Holds {A : Type 0} (P : A → Type 0) (r : Result A LineFault) : Type 0 where
-  pub value : IfOk r P
-
-fails : {A : Type 0} {P : A → Type 0} {fault : LineFault} → Holds P (Err fault)
-fails = record { value = tt }
-
-bind : {A B : Type 0} (P : A → Type 0) (Q : B → Type 0) (r : Result A LineFault) (next : A → Result B LineFault) → Holds P r → ((x : A) → P x → Holds Q (next x)) → Holds Q (r >>= next)
-bind P Q (Ok x) next h k = k x h.value
-bind P Q (Err e) next h k = record { value = tt }
-
-either : {A : Type 0} (P : A → Type 0) (b : Bool) (x y : Result A LineFault) → (b ≡ true → Holds P x) → (b ≡ false → Holds P y) → Holds P (cond b x y)
-either P true x y f g = f refl
-either P false x y f g = g refl
-
-anything : {A : Type 0} (r : Result A LineFault) → Holds (λ x. Unit {0}) r
-anything (Ok x) = record { value = tt }
-anything (Err e) = record { value = tt }
+use Rattle.camp_script.proofs.Holding.{Holds, fails, bind, either, behind}
 
 all_more : {A : Type 0} (P : A → Type 0) (xs : List A) (x : A) → AllByRecursion P xs → P x → AllByRecursion P (xs ++ x ∷ [])
 all_more P [] x h k = (k, tt)
 all_more P (y ∷ ys) x h k = (h.0, all_more P ys x h.1 k)
 
 -- the body of an edit that fits a patch with these changes
-record GoodEdit (changes : List Primitive) (edit : OpenEdit) : Type 0 where
+record GoodEdit (changes : List Primitive) (edit : Edit) : Type 0 where
   pub path : IsTrue (is_path edit.path)
   pub counted : 1 ≤ edit.line
   pub old : AreLines edit.old
@@ -54,7 +37,7 @@ record GoodEdit (changes : List Primitive) (edit : OpenEdit) : Type 0 where
 
 abbrev GoodOpen : List Primitive → Option OpenEdit → Type 0
 GoodOpen changes None = Unit {0}
-GoodOpen changes (Some edit) = GoodEdit changes edit
+GoodOpen changes (Some begun) = GoodEdit changes begun.edit
 
 record GoodRecord (calls : List Call) (begun : OpenRecord) : Type 0 where
   pub branch : IsTrue (is_name begun.branch)
@@ -137,6 +120,124 @@ names_good n (word ∷ words) =
     bind (Names (length words)) (Names (length (word ∷ words))) (names_at n words) _ (names_good n words) (λ names k.
     record { value = (omega (arith, k.0), (h, k.1)) }))
 
+-- what a line asks for can be done
+abbrev CanBeAsked : Command → Type 0
+CanBeAsked Nothing = Unit {0}
+CanBeAsked (Ask new) = IsCall new
+CanBeAsked (BeginEdit branch name path place) = Name branch × Name name × Path path × Place place
+CanBeAsked (BeginGroup branch name) = Name branch × Name name
+CanBeAsked BeginSection = Unit {0}
+
+-- what a line of a group says can be done, behind so many changes
+abbrev CanBeSaid : ℕ → GroupLine → Type 0
+CanBeSaid count NoChange = Unit {0}
+CanBeSaid count (WholeChange change) = (count < 64) × IsChange change
+CanBeSaid count (EditChange path place) = (count < 64) × Path path × Place place
+CanBeSaid count EndGroup = Unit {0}
+
+module _ (n : ℕ) where
+  branch_line_good : (words : List (List ℕ)) → Holds CanBeAsked (branch_line n words)
+  branch_line_good words =
+      behind CanBeAsked (two_words n words) _ (λ pair.
+      bind Name CanBeAsked (name_at n pair.0) _ (name_good n pair.0) (λ new a.
+      bind Name CanBeAsked (name_at n pair.1) _ (name_good n pair.1) (λ from b. record { value = (a, b) })))
+
+  whole_good : (change : List ℕ → Primitive) → ((path : List ℕ) → Path path → IsChange (change path)) → (branch name path : List ℕ) → Holds CanBeAsked (whole_record change n branch name path)
+  whole_good change fits branch name path =
+      bind Name CanBeAsked (name_at n branch) _ (name_good n branch) (λ branch a.
+      bind Name CanBeAsked (name_at n name) _ (name_good n name) (λ name b.
+      bind Path CanBeAsked (path_at n path) _ (path_good n path) (λ path c.
+      record { value = (a, b, (omega arith, omega arith), (fits path c, tt)) })))
+
+  edit_good : (branch name path place : List ℕ) → Holds CanBeAsked (edit_record n branch name path place)
+  edit_good branch name path place =
+      bind Name CanBeAsked (name_at n branch) _ (name_good n branch) (λ branch a.
+      bind Name CanBeAsked (name_at n name) _ (name_good n name) (λ name b.
+      bind Path CanBeAsked (path_at n path) _ (path_good n path) (λ path c.
+      bind Place CanBeAsked (number_at n place) _ (number_good n place) (λ line d. record { value = (a, b, c, d) }))))
+
+  group_good : (branch name : List ℕ) → Holds CanBeAsked (group_record n branch name)
+  group_good branch name =
+      bind Name CanBeAsked (name_at n branch) _ (name_good n branch) (λ branch a.
+      bind Name CanBeAsked (name_at n name) _ (name_good n name) (λ name b. record { value = (a, b) }))
+
+  record_good : (branch name change : List ℕ) (words : List (List ℕ)) → Holds CanBeAsked (record_of n branch name change words)
+  record_good branch name change words =
+      either CanBeAsked (bytes_eq change (codes "add")) _ _ (λ _. behind CanBeAsked (one_word n words) _ (λ path. whole_good Add (λ path h. h) branch name path))
+      (λ _. either CanBeAsked (bytes_eq change (codes "remove")) _ _ (λ _. behind CanBeAsked (one_word n words) _ (λ path. whole_good Remove (λ path h. h) branch name path))
+      (λ _. either CanBeAsked (bytes_eq change (codes "edit")) _ _ (λ _. behind CanBeAsked (two_words n words) _ (λ pair. edit_good branch name pair.0 pair.1))
+      (λ _. either CanBeAsked (bytes_eq change (codes "group")) _ _ (λ _. behind CanBeAsked (no_words n words) _ (λ none. group_good branch name))
+      (λ _. fails))))
+
+  listed_good : (names : List (List ℕ)) → AreNames names → IsListed (listed names)
+  listed_good [] h = tt
+  listed_good (name ∷ names) h = (omega arith, h)
+
+  pull_good : (words : List (List ℕ)) → Holds CanBeAsked (pull_line n words)
+  pull_good [] = fails
+  pull_good (word ∷ []) = fails
+  pull_good (from ∷ to ∷ words) =
+      bind Name CanBeAsked (name_at n from) _ (name_good n from) (λ from a.
+      bind Name CanBeAsked (name_at n to) _ (name_good n to) (λ to b.
+      bind (Names (length words)) CanBeAsked (names_at n words) _ (names_good n words) (λ names c. record { value = (a, b, listed_good names c.1) })))
+
+  obliterate_good : (words : List (List ℕ)) → Holds CanBeAsked (obliterate_line n words)
+  obliterate_good [] = fails
+  obliterate_good (word ∷ []) = fails
+  obliterate_good (branch ∷ word ∷ words) =
+      bind Name CanBeAsked (name_at n branch) _ (name_good n branch) (λ branch a.
+      bind (Names (length (word ∷ words))) CanBeAsked (names_at n (word ∷ words)) _ (names_good n (word ∷ words)) (λ names c.
+      record { value = (a, omega (arith, c.0), c.1) }))
+
+  asks_good : (make : List ℕ → Call) → ((branch : List ℕ) → Name branch → IsCall (make branch)) → (words : List (List ℕ)) → Holds CanBeAsked (branch_at n words >>= λ branch. Ok (Ask (make branch)))
+  asks_good make fits words =
+      bind Name CanBeAsked (branch_at n words) _ (behind Name (one_word n words) _ (λ word. name_good n word)) (λ branch h. record { value = fits branch h })
+
+  question_good : (word : List ℕ) (words : List (List ℕ)) → Holds CanBeAsked (question n word words)
+  question_good word words =
+      either CanBeAsked (bytes_eq word (codes "tree")) _ _ (λ _. asks_good call.Tree (λ branch h. h) words)
+      (λ _. either CanBeAsked (bytes_eq word (codes "conflicts")) _ _ (λ _. asks_good call.Conflicts (λ branch h. h) words)
+      (λ _. either CanBeAsked (bytes_eq word (codes "names")) _ _ (λ _. asks_good call.Names (λ branch h. h) words) (λ _. fails)))
+
+  some_command_good : (word : List ℕ) (words : List (List ℕ)) → Holds CanBeAsked (command n word words)
+  some_command_good word words =
+      either CanBeAsked (bytes_eq word (codes "pull")) _ _ (λ _. pull_good words)
+      (λ _. either CanBeAsked (bytes_eq word (codes "obliterate")) _ _ (λ _. obliterate_good words)
+      (λ _. either CanBeAsked (bytes_eq word (codes "branch")) _ _ (λ _. branch_line_good words)
+      (λ _. either CanBeAsked (bytes_eq word (codes "record")) _ _ (λ _. behind CanBeAsked (three_words n words) _ (λ head. record_good head.0 head.1 head.2 head.3))
+      (λ _. either CanBeAsked (bytes_eq word (codes "client")) _ _ (λ _. behind CanBeAsked (no_words n words) _ (λ none. record { value = tt }))
+      (λ _. question_good word words)))))
+
+  command_good : (words : List (List ℕ)) → Holds CanBeAsked (command_of n words)
+  command_good [] = record { value = tt }
+  command_good (word ∷ words) = either CanBeAsked (slice_index word 0 == 35) _ _ (λ _. record { value = tt }) (λ _. some_command_good word words)
+
+  has_room : (count : ℕ) → nat_le 64 count ≡ false → count < 64
+  has_room count h = grind (arith, nat_tests)
+
+  whole_change_good : (count : ℕ) (change : List ℕ → Primitive) → ((path : List ℕ) → Path path → IsChange (change path)) → (path : List ℕ) → Holds (CanBeSaid count) (whole_change change n count path)
+  whole_change_good count change fits path =
+      either (CanBeSaid count) (nat_le 64 count) _ _ (λ _. fails)
+      (λ few. bind Path (CanBeSaid count) (path_at n path) _ (path_good n path) (λ path c. record { value = (has_room count few, fits path c) }))
+
+  edit_change_good : (count : ℕ) (path place : List ℕ) → Holds (CanBeSaid count) (edit_change n count path place)
+  edit_change_good count path place =
+      either (CanBeSaid count) (nat_le 64 count) _ _ (λ _. fails)
+      (λ few. bind Path (CanBeSaid count) (path_at n path) _ (path_good n path) (λ path c.
+      bind Place (CanBeSaid count) (number_at n place) _ (number_good n place) (λ line d. record { value = (has_room count few, c, d) })))
+
+  change_of_good : (count : ℕ) (word : List ℕ) (words : List (List ℕ)) → Holds (CanBeSaid count) (change_of n count word words)
+  change_of_good count word words =
+      either (CanBeSaid count) (bytes_eq word (codes "add")) _ _ (λ _. behind (CanBeSaid count) (one_word n words) _ (λ path. whole_change_good count Add (λ path h. h) path))
+      (λ _. either (CanBeSaid count) (bytes_eq word (codes "remove")) _ _ (λ _. behind (CanBeSaid count) (one_word n words) _ (λ path. whole_change_good count Remove (λ path h. h) path))
+      (λ _. either (CanBeSaid count) (bytes_eq word (codes "edit")) _ _ (λ _. behind (CanBeSaid count) (two_words n words) _ (λ pair. edit_change_good count pair.0 pair.1))
+      (λ _. either (CanBeSaid count) (bytes_eq word (codes "done")) _ _ (λ _. behind (CanBeSaid count) (no_words n words) _ (λ none. record { value = tt }))
+      (λ _. fails))))
+
+  group_line_good : (count : ℕ) (words : List (List ℕ)) → Holds (CanBeSaid count) (group_line_of n count words)
+  group_line_good count [] = record { value = tt }
+  group_line_good count (word ∷ words) = either (CanBeSaid count) (slice_index word 0 == 35) _ _ (λ _. record { value = tt }) (λ _. change_of_good count word words)
+
 module _ (n : ℕ) (p : Progress) (g : GoodCalls p) where
   asks : (new : Call) → IsCall new → (is_writing new && is_full p.calls) ≡ false → Good (with_call p new)
   asks new h room = record {
@@ -146,9 +247,6 @@ module _ (n : ℕ) (p : Progress) (g : GoodCalls p) where
 
   opens : (begun : OpenRecord) → GoodRecord p.calls begun → Good (with_record p begun)
   opens begun h = record { so_far = record { closed = g.closed; calls = g.calls; few = g.few; writes = g.writes; within = g.within }; awaited = h }
-
-  call_good : (new : Call) → IsCall new → Holds Good (after_call n p new)
-  call_good new h = either Good (is_writing new && is_full p.calls) _ _ (λ _. fails) (λ room. record { value = asks new h room })
 
   head_good : (begun : OpenRecord) → (count_by is_writing p.calls < 65_536 → GoodRecord p.calls begun) → Holds Good (after_head n p begun)
   head_good begun h = either Good (is_full p.calls) _ _ (λ _. fails) (λ free. record { value = opens begun (h (less_than_full (count_by is_writing p.calls) free)) })
@@ -165,88 +263,15 @@ module _ (n : ℕ) (p : Progress) (g : GoodCalls p) where
     awaited = tt;
   }
 
-  client_good : Holds Good (after_client n p)
-  client_good = either Good (nat_le 63 (length p.closed)) _ _ (λ _. fails) (λ free. record { value = next_good free })
-
-  branch_line_good : (words : List (List ℕ)) → Holds Good (branch_line n p words)
-  branch_line_good words =
-      bind (λ _. Unit {0}) Good (two_words n words) _ (anything (two_words n words)) (λ pair _.
-      bind Name Good (name_at n pair.0) _ (name_good n pair.0) (λ new a.
-      bind Name Good (name_at n pair.1) _ (name_good n pair.1) (λ from b.
-      call_good (call.Branch new from) (a, b))))
-
-  whole_good : (change : List ℕ → Primitive) → ((path : List ℕ) → Path path → IsChange (change path)) → (branch name path : List ℕ) → Holds Good (whole_record change n p branch name path)
-  whole_good change fits branch name path =
-      bind Name Good (name_at n branch) _ (name_good n branch) (λ branch a.
-      bind Name Good (name_at n name) _ (name_good n name) (λ name b.
-      bind Path Good (path_at n path) _ (path_good n path) (λ path c.
-      call_good (call.Record branch name (change path ∷ [])) (a, b, (omega arith, omega arith), (fits path c, tt)))))
-
-  edit_good : (branch name path place : List ℕ) → Holds Good (edit_record n p branch name path place)
-  edit_good branch name path place =
-      bind Name Good (name_at n branch) _ (name_good n branch) (λ branch a.
-      bind Name Good (name_at n name) _ (name_good n name) (λ name b.
-      bind Path Good (path_at n path) _ (path_good n path) (λ path c.
-      bind Place Good (number_at n place) _ (number_good n place) (λ line d.
-      head_good (with_edit (record_at n branch name false) path line n)
-      (λ room. record { branch = a; name = b; changes = tt; few = omega arith; open_edit = record { path = c; counted = d; old = tt; new = tt; room = omega arith }; room_left = room })))))
-
-  group_good : (branch name : List ℕ) → Holds Good (group_record n p branch name)
-  group_good branch name =
-      bind Name Good (name_at n branch) _ (name_good n branch) (λ branch a.
-      bind Name Good (name_at n name) _ (name_good n name) (λ name b.
-      head_good (record_at n branch name true) (λ room. record { branch = a; name = b; changes = tt; few = omega arith; open_edit = tt; room_left = room })))
-
-  record_good : (branch name change : List ℕ) (words : List (List ℕ)) → Holds Good (record_of n p branch name change words)
-  record_good branch name change words =
-      either Good (bytes_eq change (codes "add")) _ _ (λ _. bind (λ _. Unit {0}) Good (one_word n words) _ (anything (one_word n words)) (λ path _. whole_good Add (λ path h. h) branch name path))
-      (λ _. either Good (bytes_eq change (codes "remove")) _ _ (λ _. bind (λ _. Unit {0}) Good (one_word n words) _ (anything (one_word n words)) (λ path _. whole_good Remove (λ path h. h) branch name path))
-      (λ _. either Good (bytes_eq change (codes "edit")) _ _ (λ _. bind (λ _. Unit {0}) Good (two_words n words) _ (anything (two_words n words)) (λ pair _. edit_good branch name pair.0 pair.1))
-      (λ _. either Good (bytes_eq change (codes "group")) _ _ (λ _. bind (λ _. Unit {0}) Good (no_words n words) _ (anything (no_words n words)) (λ none _. group_good branch name))
-      (λ _. fails))))
-
-  listed_good : (names : List (List ℕ)) → AreNames names → IsListed (listed names)
-  listed_good [] h = tt
-  listed_good (name ∷ names) h = (omega arith, h)
-
-  pull_good : (words : List (List ℕ)) → Holds Good (pull_line n p words)
-  pull_good [] = fails
-  pull_good (word ∷ []) = fails
-  pull_good (from ∷ to ∷ words) =
-      bind Name Good (name_at n from) _ (name_good n from) (λ from a.
-      bind Name Good (name_at n to) _ (name_good n to) (λ to b.
-      bind (Names (length words)) Good (names_at n words) _ (names_good n words) (λ names c.
-      call_good (call.Pull from to (listed names)) (a, b, listed_good names c.1))))
-
-  obliterate_good : (words : List (List ℕ)) → Holds Good (obliterate_line n p words)
-  obliterate_good [] = fails
-  obliterate_good (word ∷ []) = fails
-  obliterate_good (branch ∷ word ∷ words) =
-      bind Name Good (name_at n branch) _ (name_good n branch) (λ branch a.
-      bind (Names (length (word ∷ words))) Good (names_at n (word ∷ words)) _ (names_good n (word ∷ words)) (λ names c.
-      call_good (call.Obliterate branch names) (a, omega (arith, c.0), c.1)))
-
-  branch_good : (words : List (List ℕ)) → Holds Name (branch_at n words)
-  branch_good words = bind (λ _. Unit {0}) Name (one_word n words) _ (anything (one_word n words)) (λ word _. name_good n word)
-
-  question_good : (word : List ℕ) (words : List (List ℕ)) → Holds Good (question n p word words)
-  question_good word words =
-      either Good (bytes_eq word (codes "tree")) _ _ (λ _. bind Name Good (branch_at n words) _ (branch_good words) (λ branch h. call_good (call.Tree branch) h))
-      (λ _. either Good (bytes_eq word (codes "conflicts")) _ _ (λ _. bind Name Good (branch_at n words) _ (branch_good words) (λ branch h. call_good (call.Conflicts branch) h))
-      (λ _. either Good (bytes_eq word (codes "names")) _ _ (λ _. bind Name Good (branch_at n words) _ (branch_good words) (λ branch h. call_good (call.Names branch) h)) (λ _. fails)))
-
-  command_good : GoodAwaited p.calls p.open_record → (words : List (List ℕ)) → Holds Good (command n p words)
-  command_good o [] = record { value = record { so_far = g; awaited = o } }
-  command_good o (word ∷ words) =
-      either Good (bytes_eq word (codes "pull")) _ _ (λ _. pull_good words)
-      (λ _. either Good (bytes_eq word (codes "obliterate")) _ _ (λ _. obliterate_good words)
-      (λ _. either Good (bytes_eq word (codes "branch")) _ _ (λ _. branch_line_good words)
-      (λ _. either Good (bytes_eq word (codes "record")) _ _ (λ _. bind (λ _. Unit {0}) Good (three_words n words) _ (anything (three_words n words)) (λ head _. record_good head.0 head.1 head.2 head.3))
-      (λ _. either Good (bytes_eq word (codes "client")) _ _ (λ _. bind (λ _. Unit {0}) Good (no_words n words) _ (anything (no_words n words)) (λ none _. client_good))
-      (λ _. question_good word words)))))
-
-  words_good : GoodAwaited p.calls p.open_record → (words : List (List ℕ)) → Holds Good (after_words n p words)
-  words_good o words = either Good (is_skipped words) _ _ (λ _. record { value = record { so_far = g; awaited = o } }) (λ _. command_good o words)
+  obeyed_good : GoodAwaited p.calls p.open_record → (asked : Command) → CanBeAsked asked → Holds Good (obey n p asked)
+  obeyed_good o Nothing h = record { value = record { so_far = g; awaited = o } }
+  obeyed_good o (Ask new) h = either Good (is_writing new && is_full p.calls) _ _ (λ _. fails) (λ room. record { value = asks new h room })
+  obeyed_good o (BeginEdit branch name path place) h =
+      head_good (with_edit (record_at n branch name false) path place n)
+      (λ room. record { branch = h.0; name = h.1; changes = tt; few = omega arith; open_edit = record { path = h.2; counted = h.3; old = tt; new = tt; room = omega arith }; room_left = room })
+  obeyed_good o (BeginGroup branch name) h =
+      head_good (record_at n branch name true) (λ room. record { branch = h.0; name = h.1; changes = tt; few = omega arith; open_edit = tt; room_left = room })
+  obeyed_good o BeginSection h = either Good (nat_le 63 (length p.closed)) _ _ (λ _. fails) (λ free. record { value = next_good free })
 
   some_change : (changes : List Primitive) → (length changes == 0) ≡ false → 1 ≤ length changes
   some_change changes h = grind (arith, nat_tests)
@@ -256,69 +281,36 @@ module _ (n : ℕ) (p : Progress) (g : GoodCalls p) where
       either Good (length begun.changes == 0) _ _ (λ _. fails)
       (λ some. record { value = asks (call.Record begun.branch begun.name begun.changes) (h.branch, h.name, (some_change begun.changes some, h.few), h.changes) (not_full (count_by is_writing p.calls) h.room_left) })
 
-  changed : (begun : OpenRecord) (change : Primitive) → GoodRecord p.calls begun → length begun.changes < 64 → IsChange change → GoodRecord p.calls (with_change begun change)
+  changed : (begun : OpenRecord) (change : Primitive) → GoodRecord p.calls begun → length begun.changes < 64 → IsChange change → GoodRecord p.calls (with_one_more begun change)
   changed begun change h few k =
       record { branch = h.branch; name = h.name; changes = all_more IsChange begun.changes change h.changes k; few = omega (arith, length-append begun.changes (change ∷ [])); open_edit = tt; room_left = h.room_left }
 
-  has_room : (changes : List Primitive) → nat_le 64 (length changes) ≡ false → length changes < 64
-  has_room changes h = grind (arith, nat_tests)
-
-  whole_change_good : (change : List ℕ → Primitive) → ((path : List ℕ) → Path path → IsChange (change path)) → (begun : OpenRecord) → GoodRecord p.calls begun → (path : List ℕ) → Holds Good (whole_change change n p begun path)
-  whole_change_good change fits begun h path =
-      either Good (nat_le 64 (length begun.changes)) _ _ (λ _. fails)
-      (λ few. bind Path Good (path_at n path) _ (path_good n path)
-      (λ path c. record { value = opens (with_change begun (change path)) (changed begun (change path) h (has_room begun.changes few) (fits path c)) }))
-
-  edited : (begun : OpenRecord) (edit : OpenEdit) → GoodRecord p.calls begun → GoodEdit begun.changes edit → GoodRecord p.calls (with_open_edit begun edit)
+  edited : (begun : OpenRecord) (edit : OpenEdit) → GoodRecord p.calls begun → GoodEdit begun.changes edit.edit → GoodRecord p.calls (with_open_edit begun edit)
   edited begun edit h k = record { branch = h.branch; name = h.name; changes = h.changes; few = h.few; open_edit = k; room_left = h.room_left }
 
-  edit_change_good : (begun : OpenRecord) → GoodRecord p.calls begun → (path place : List ℕ) → Holds Good (edit_change n p begun path place)
-  edit_change_good begun h path place =
-      either Good (nat_le 64 (length begun.changes)) _ _ (λ _. fails)
-      (λ few. bind Path Good (path_at n path) _ (path_good n path) (λ path c.
-      bind Place Good (number_at n place) _ (number_good n place) (λ line d.
+  heeded_good : (begun : OpenRecord) → GoodRecord p.calls begun → (said : GroupLine) → CanBeSaid (length begun.changes) said → Holds Good (heed n p begun said)
+  heeded_good begun h NoChange k = record { value = opens begun h }
+  heeded_good begun h (WholeChange change) k = record { value = opens (with_one_more begun change) (changed begun change h k.0 k.1) }
+  heeded_good begun h (EditChange path place) k =
       record {
-        value = opens (with_edit begun path line n) (record {
-          branch = h.branch;
-          name = h.name;
-          changes = h.changes;
-          few = h.few;
-          open_edit = record { path = c; counted = d; old = tt; new = tt; room = has_room begun.changes few };
-          room_left = h.room_left;
-        });
-      })))
+        value = opens (with_edit begun path place n)
+            (edited begun (record { opened = n; edit = record { path = path; line = place; old = []; new = [] } }) h (record { path = k.1; counted = k.2; old = tt; new = tt; room = k.0 }));
+      }
+  heeded_good begun h EndGroup k = record_ends begun h
 
-  group_line_good : (begun : OpenRecord) → GoodRecord p.calls begun → (words : List (List ℕ)) → Holds Good (group_line n p begun words)
-  group_line_good begun h [] = record { value = opens begun h }
-  group_line_good begun h (word ∷ words) =
-      either Good (bytes_eq word (codes "add")) _ _ (λ _. bind (λ _. Unit {0}) Good (one_word n words) _ (anything (one_word n words)) (λ path _. whole_change_good Add (λ path h. h) begun h path))
-      (λ _. either Good (bytes_eq word (codes "remove")) _ _ (λ _. bind (λ _. Unit {0}) Good (one_word n words) _ (anything (one_word n words)) (λ path _. whole_change_good Remove (λ path h. h) begun h path))
-      (λ _. either Good (bytes_eq word (codes "edit")) _ _ (λ _. bind (λ _. Unit {0}) Good (two_words n words) _ (anything (two_words n words)) (λ pair _. edit_change_good begun h pair.0 pair.1))
-      (λ _. either Good (bytes_eq word (codes "done")) _ _ (λ _. bind (λ _. Unit {0}) Good (no_words n words) _ (anything (no_words n words)) (λ none _. record_ends begun h))
-      (λ _. fails))))
+  change_good : (begun : OpenRecord) (change : Primitive) → GoodRecord p.calls (with_one_more begun change) → Holds Good (after_change n p begun change)
+  change_good begun change h = either Good begun.grouped _ _ (λ _. record { value = opens (with_one_more begun change) h }) (λ _. record_ends (with_one_more begun change) h)
 
-  group_words_good : (begun : OpenRecord) → GoodRecord p.calls begun → (words : List (List ℕ)) → Holds Good (after_group_words n p begun words)
-  group_words_good begun h words = either Good (is_skipped words) _ _ (λ _. record { value = opens begun h }) (λ _. group_line_good begun h words)
+  ended_good : (changes : List Primitive) (edit : Edit) → GoodEdit changes edit → Holds (λ edit. (length changes < 64) × IsChange (Hunk edit)) (ended n edit)
+  ended_good changes edit k =
+      either (λ edit. (length changes < 64) × IsChange (Hunk edit)) (length edit.old + length edit.new == 0) _ _ (λ _. fails)
+      (λ some. either (λ edit. (length changes < 64) × IsChange (Hunk edit)) (nat_lt (2 ^ 30) (edit.line + length edit.old + length edit.new)) _ _ (λ _. fails)
+      (λ ends. record { value = (k.room, (k.path, record { counted = k.counted; changes = grind (arith, nat_tests); within = grind (arith, nat_tests) }, k.old, k.new)) }))
 
-  change_good : (begun : OpenRecord) (change : Primitive) → GoodRecord p.calls (with_change begun change) → Holds Good (after_change n p begun change)
-  change_good begun change h = either Good begun.grouped _ _ (λ _. record { value = opens (with_change begun change) h }) (λ _. record_ends (with_change begun change) h)
-
-  in_range : (edit : OpenEdit) → 1 ≤ edit.line → (length edit.old + length edit.new == 0) ≡ false → nat_lt (2 ^ 30) (edit.line + length edit.old + length edit.new) ≡ false
-      → IsInRange (record { path = edit.path; line = edit.line; old = edit.old; new = edit.new })
-  in_range edit counted some ends = record { counted = counted; changes = grind (arith, nat_tests); within = grind (arith, nat_tests) }
-
-  end_good : (begun : OpenRecord) (edit : OpenEdit) → GoodRecord p.calls begun → GoodEdit begun.changes edit → Holds Good (after_end n p begun edit)
-  end_good begun edit h k =
-      either Good (length edit.old + length edit.new == 0) _ _ (λ _. fails)
-      (λ some. either Good (nat_lt (2 ^ 30) (edit.line + length edit.old + length edit.new)) _ _ (λ _. fails)
-      (λ ends. change_good begun (Hunk (record { path = edit.path; line = edit.line; old = edit.old; new = edit.new }))
-      (changed begun (Hunk (record { path = edit.path; line = edit.line; old = edit.old; new = edit.new })) h k.room
-      (k.path, in_range edit k.counted some ends, k.old, k.new))))
-
-  side_good : (changes : List Primitive) (bytes : List ℕ) (more : OpenEdit) → (IsTrue (is_line bytes) → GoodEdit changes more) → Holds (GoodEdit changes) (side_at n bytes more)
+  side_good : (changes : List Primitive) (bytes : List ℕ) (more : Edit) → (IsTrue (is_line bytes) → GoodEdit changes more) → Holds (GoodEdit changes) (side_at n bytes more)
   side_good changes bytes more h = either (GoodEdit changes) (is_line bytes) _ _ (λ is. record { value = h is }) (λ _. fails)
 
-  grown_good : (changes : List Primitive) (edit : OpenEdit) → GoodEdit changes edit → (bytes : List ℕ) → Holds (GoodEdit changes) (grown n edit bytes)
+  grown_good : (changes : List Primitive) (edit : Edit) → GoodEdit changes edit → (bytes : List ℕ) → Holds (GoodEdit changes) (grown n edit bytes)
   grown_good changes edit k [] = fails
   grown_good changes edit k (sign ∷ bytes) =
       either (GoodEdit changes) (sign == 45 && length edit.new == 0) _ _
@@ -327,17 +319,21 @@ module _ (n : ℕ) (p : Progress) (g : GoodCalls p) where
       (λ _. side_good changes bytes (with_new edit bytes) (λ h. record { path = k.path; counted = k.counted; old = k.old; new = all_more (λ line. IsTrue (is_line line)) edit.new bytes k.new h; room = k.room }))
       (λ _. fails))
 
-  body_line_good : (begun : OpenRecord) (edit : OpenEdit) → GoodRecord p.calls begun → GoodEdit begun.changes edit → (bytes : List ℕ) → Holds Good (after_body_line n p begun edit bytes)
-  body_line_good begun edit h k bytes =
-      either Good (bytes_eq bytes (codes "end")) _ _ (λ _. end_good begun edit h k)
-      (λ _. bind (GoodEdit begun.changes) Good (grown n edit bytes) _ (grown_good begun.changes edit k bytes) (λ more l. record { value = opens (with_open_edit begun more) (edited begun more h l) }))
+  body_good : (begun : OpenRecord) (body : OpenEdit) → GoodRecord p.calls begun → GoodEdit begun.changes body.edit → (bytes : List ℕ) → Holds Good (after_body n p begun body bytes)
+  body_good begun body h k bytes =
+      either Good (bytes_eq bytes (codes "end")) _ _
+      (λ _. bind (λ edit. (length begun.changes < 64) × IsChange (Hunk edit)) Good (ended n body.edit) _ (ended_good begun.changes body.edit k)
+      (λ edit l. change_good begun (Hunk edit) (changed begun (Hunk edit) h l.0 l.1)))
+      (λ _. bind (GoodEdit begun.changes) Good (grown n body.edit bytes) _ (grown_good begun.changes body.edit k bytes)
+      (λ edit l. record { value = opens (with_open_edit begun (record { opened = body.opened; edit = edit })) (edited begun (record { opened = body.opened; edit = edit }) h l) }))
 
   record_line_good : (begun : OpenRecord) (o : Option OpenEdit) → GoodRecord p.calls begun → GoodOpen begun.changes o → (bytes : List ℕ) → Holds Good (after_record_line n p begun o bytes)
-  record_line_good begun None h k bytes = group_words_good begun h (words_of bytes)
-  record_line_good begun (Some edit) h k bytes = body_line_good begun edit h k bytes
+  record_line_good begun None h k bytes =
+      bind (CanBeSaid (length begun.changes)) Good (group_line_of n (length begun.changes) (words_of bytes)) _ (group_line_good n (length begun.changes) (words_of bytes)) (heeded_good begun h)
+  record_line_good begun (Some edit) h k bytes = body_good begun edit h k bytes
 
   line_good : GoodAwaited p.calls p.open_record → (o : Option OpenRecord) → GoodAwaited p.calls o → (bytes : List ℕ) → Holds Good (after_line n o p bytes)
-  line_good here None h bytes = words_good here (words_of bytes)
+  line_good here None h bytes = bind CanBeAsked Good (command_of n (words_of bytes)) _ (command_good n (words_of bytes)) (obeyed_good here)
   line_good here (Some begun) h bytes = record_line_good begun begun.open_edit h h.open_edit bytes
 
 open_good : (begun : OpenRecord) (o : Option OpenEdit) → Holds CanBeWritten (not_ended {A = List (List Call)} begun o)
@@ -369,4 +365,4 @@ nothing_good = record { so_far = record { closed = tt; calls = tt; few = omega a
 
 pub read_is_writable : ReadIsWritable
 read_is_writable bytes sections is =
-    subst (λ r. IfOk r CanBeWritten) is (read_good 1 start (lines_of bytes) nothing_good).value
+    subst (λ r. IfOk r CanBeWritten) (reads_as_defined (lines_of bytes) ∙ is) (read_good 1 start (lines_of bytes) nothing_good).value

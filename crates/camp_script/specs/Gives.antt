@@ -4,7 +4,8 @@ use Rattle.camp_script.specs.declared.faults.LineFault.{LineFault}
 use Rattle.camp_script.specs.declared.faults.ScriptFault.{ScriptFault}
 use Rattle.camp_script.specs.declared.faults.ScriptFault.TheVariants.{Line, Memory, Write}
 
--- a fault of a line is the one that reading comes to; a want of memory says nothing; nothing is written
+-- a fault of a line is the one that reading comes to; a want of memory says nothing; `Write` never comes, since nothing
+-- is written
 abbrev pub IsFaultOf : {A : Type 0} → ScriptFault → Result A LineFault → Type 0
 IsFaultOf (Line fault) reading = reading ≡ Err fault
 IsFaultOf Memory reading = Unit {0}

@@ -1,4 +1,6 @@
 -- Words that serve only private functions and the model of a reader.
 pub mod Files
+pub mod Progress
 pub mod ReadingFields
 pub mod Spaces
+pub mod Steps

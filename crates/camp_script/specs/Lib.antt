@@ -1,13 +1,13 @@
 pub mod Canonical
+pub mod Changes
 pub mod Commands
 pub mod Faults
 pub mod Gives
-pub mod Groups
 pub mod HistoryTexts
 pub mod Inside
 pub mod Lines
 pub mod Outputs
-pub mod Progress
+pub mod Pieces
 pub mod Reading
 pub mod Sections
 pub mod Texts

@@ -1,29 +1,62 @@
--- How a script is read, line by line, up to its end or its first fault.
-use Rattle.std.specs.Prelude.{ℕ, ◌+◌, List, [], ◌∷◌, Option, None, Some, Result}
+-- The script that bytes are, section by section, or its first fault from the top.
+use Rattle.std.specs.Prelude.{ℕ, Bool, ◌&&◌, nat_le, if◌then◌else◌}
+use Rattle.std.specs.Prelude.{List, [], ◌∷◌, ◌++◌, length, count_by, Result, Ok}
+use Rattle.camp_call.specs.Calls.{is_writing}
 use Rattle.camp_call.specs.declared.calls.Call.{Call}
-use Rattle.camp_script.specs.Lines.{lines_of, words_of}
-use Rattle.camp_script.specs.Words.{◌>>=◌}
-use Rattle.camp_script.specs.Progress.{Progress, OpenRecord, OpenEdit, start, finished}
-use Rattle.camp_script.specs.Commands.{after_words}
-use Rattle.camp_script.specs.Groups.{after_group_words, after_body_line}
+use Rattle.camp_call.specs.declared.calls.Call.TheVariants as call
+use Rattle.camp_script.specs.Changes.{edit_of, group_of}
+use Rattle.camp_script.specs.Commands.{Command, Nothing, Ask, BeginEdit, BeginGroup, BeginSection, command_of}
+use Rattle.camp_script.specs.Faults.{fault_at}
+use Rattle.camp_script.specs.Lines.{lines_of}
+use Rattle.camp_script.specs.Pieces.{Piece, Item, numbered, words_on, entries_of, items_of, item_line, first_section, clients_of}
+use Rattle.camp_script.specs.Words.{◌>>=◌, in_turn}
+use Rattle.camp_script.specs.declared.faults.FaultKind.TheVariants.{TooManyClients, TooManyCommands}
 use Rattle.camp_script.specs.declared.faults.LineFault.{LineFault}
 
--- after a line of a record whose changes follow: a line of the body of an edit, or of the group
-abbrev pub after_record_line : ℕ → Progress → OpenRecord → Option OpenEdit → List ℕ → Result Progress LineFault
-after_record_line line progress begun None bytes = after_group_words line progress begun (words_of bytes)
-after_record_line line progress begun (Some edit) bytes = after_body_line line progress begun edit bytes
+-- whether a section has as many writing calls as it may have, 65,536
+abbrev pub is_full : List Call → Bool
+is_full calls = nat_le 65_536 (count_by is_writing calls)
 
--- after the line of a number
-abbrev pub after_line : ℕ → Option OpenRecord → Progress → List ℕ → Result Progress LineFault
-after_line line None progress bytes = after_words line progress (words_of bytes)
-after_line line (Some begun) progress bytes = after_record_line line progress begun begun.open_edit bytes
+-- a section has room for a record that begins at a line, which is one more writing call
+abbrev pub room_at : ℕ → List Call → Result (Unit {0}) LineFault
+room_at line calls = if is_full calls then fault_at line TooManyCommands else Ok tt
 
--- what reading comes to, from the line of a number on
-abbrev pub read_from : ℕ → Progress → List (List ℕ) → Result (List (List Call)) LineFault
-read_from line progress [] = finished progress progress.open_record
-read_from line progress (bytes ∷ lines) =
-    after_line line progress.open_record progress bytes >>= λ next. read_from (line + 1) next lines
+-- what the line of an item asks for
+abbrev pub command_at : Item → Result Command LineFault
+command_at item = command_of (item_line item).number (words_on (item_line item))
 
--- the script that the bytes are, section by section, or its first fault
+-- the calls of a section with what an item asks for; no item of a section asks for the next one
+abbrev pub with_command : List Call → Item → Command → Result (List Call) LineFault
+with_command calls item Nothing = Ok calls
+with_command calls item (Ask new) =
+    if is_writing new && is_full calls then fault_at (item_line item).number TooManyCommands
+    else Ok (calls ++ new ∷ [])
+with_command calls item (BeginEdit branch name path place) =
+    room_at (item_line item).number calls >>= λ room.
+    edit_of (item_line item).number path place item.head.rest >>= λ change.
+    Ok (calls ++ call.Record branch name (change ∷ []) ∷ [])
+with_command calls item (BeginGroup branch name) =
+    room_at (item_line item).number calls >>= λ room. group_of (item_line item).number item.rest >>= λ changes.
+    Ok (calls ++ call.Record branch name changes ∷ [])
+with_command calls item BeginSection = Ok calls
+
+-- the calls of a section behind an item
+abbrev pub after_item : List Call → Item → Result (List Call) LineFault
+after_item calls item = command_at item >>= with_command calls item
+
+-- the sections with that of a client: a script has 64 at most
+abbrev pub after_client : List (List Call) → Piece Item → Result (List (List Call)) LineFault
+after_client sections client =
+    command_at client.head >>= λ begins.
+    if nat_le 64 (length sections) then fault_at (item_line client.head).number TooManyClients
+    else (in_turn after_item [] client.rest >>= λ calls. Ok (sections ++ calls ∷ []))
+
+-- the script that lines are: the calls of the opening, and then those of each client
+abbrev pub script_of_lines : List (List ℕ) → Result (List (List Call)) LineFault
+script_of_lines lines =
+    let items = items_of (entries_of (numbered 1 lines)) in
+    in_turn after_item [] (first_section items) >>= λ calls. in_turn after_client (calls ∷ []) (clients_of items)
+
+-- the script that bytes are
 abbrev pub script_of : List ℕ → Result (List (List Call)) LineFault
-script_of bytes = read_from 1 start (lines_of bytes)
+script_of bytes = script_of_lines (lines_of bytes)

@@ -1,4 +1,4 @@
--- The words of a line as names, paths and numbers, or the first that is none.
+-- The words of a line as names, paths and numbers, or the fault of the first that is none.
 use Rattle.std.specs.Prelude.{ℕ, ◌+◌, ◌*◌, ◌-◌, Bool, ◌&&◌, if◌then◌else◌}
 use Rattle.std.specs.Prelude.{List, [], ◌∷◌, length, fold, Result, Ok, Err}
 use Rattle.std.specs.List.{list_all}
@@ -13,6 +13,11 @@ infixl 10 ◌>>=◌
 abbrev pub ◌>>=◌ : {A B E : Type 0} → Result A E → (A → Result B E) → Result B E
 (Ok x) >>= next = next x
 (Err fault) >>= next = Err fault
+
+-- what comes of a step for each element, from the first to the last; the first fault stays
+abbrev pub in_turn : {A B E : Type 0} → (A → B → Result A E) → A → List B → Result A E
+in_turn step so_far [] = Ok so_far
+in_turn step so_far (first ∷ others) = step so_far first >>= λ next. in_turn step next others
 
 -- no word, where no word is to stand
 abbrev pub no_words : ℕ → List (List ℕ) → Result (Unit {0}) LineFault
@@ -55,12 +60,12 @@ names_at line (word ∷ words) = name_at line word >>= λ name. names_at line wo
 abbrev pub value_of : List ℕ → ℕ
 value_of digits = fold (λ value digit. value * 10 + (digit - 48)) 0 digits
 
--- whether a word is the number of a line: 1 to 10 decimal digits, with a value of 1 to 1,073,741,823
+-- whether a word is the number of a line of a file: 1 to 10 decimal digits, with a value of 1 to 1,073,741,823
 abbrev pub is_line_number : List ℕ → Bool
 is_line_number word =
     is_between 1 10 (length word)
     && (list_all (is_between 48 57) word && is_between 1 1_073_741_823 (value_of word))
 
--- a word that is the number of a line
+-- a word that is the number of a line of a file
 abbrev pub number_at : ℕ → List ℕ → Result ℕ LineFault
 number_at line word = if is_line_number word then Ok (value_of word) else fault_at line BadNumber

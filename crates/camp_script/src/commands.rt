@@ -3,7 +3,8 @@ ghost use Rattle.std.specs.Prelude.{◌≡◌, ◌≢◌, ◌∷◌, [], false, 
 ghost use Rattle.camp_script.specs.Gives.{GivesLine};
 ghost use Rattle.camp_script.specs.Inside.Files.{change_at};
 ghost use Rattle.camp_script.specs.Lines.{is_skipped, words_of};
-ghost use Rattle.camp_script.specs.Commands.{branch_line, whole_record, edit_record, group_record, record_line, pull_line, obliterate_line, branch_at, question, short_command, command, after_words, listed};
+ghost use Rattle.camp_script.specs.Commands.{branch_line, whole_record, edit_record, group_record, record_line, pull_line, obliterate_line, branch_at, question, short_command, command, command_of, listed};
+ghost use Rattle.camp_script.specs.Inside.Steps.{obeyed};
 
 use crate::faults::{FaultKind, ScriptFault, at_line};
 use crate::lines::{Words, first_words, is_comment};
@@ -20,7 +21,7 @@ use std::alloc::{AllocError, Global};
 impl Reading {
     /// A line outside groups and bodies.
     pub(crate) fn read_words(self, number: u64, line: &[u8]) -> Result<Reading, ScriptFault>
-        ensures given { GivesLine result (after_words number self (words_of line.now)) }
+        ensures given { GivesLine result (obeyed number self (command_of number (words_of line.now))) }
         ensures wanted { IfErr result (λ fault. fault ≡ ScriptFault.Memory → is_skipped (words_of line.now) ≡ false) }
     {
         let mut words = Words::new(line);
@@ -40,7 +41,7 @@ impl Reading {
         word: &[u8],
         words: Words<'_>,
     ) -> Result<Reading, ScriptFault>
-        ensures { GivesLine result (command number self (word.now ∷ words.entry)) }
+        ensures { GivesLine result (obeyed number self (command number word.now words.entry)) }
     {
         if word == b"pull".as_slice() {
             return self.read_pull(number, words);
@@ -59,7 +60,7 @@ impl Reading {
         word: &[u8],
         words: &[&[u8]],
     ) -> Result<Reading, ScriptFault>
-        ensures { GivesLine result (short_command number self word.now (map (λ word. word.now) words.now)) }
+        ensures { GivesLine result (obeyed number self (short_command number word.now (map (λ word. word.now) words.now))) }
     {
         if word == b"branch".as_slice() {
             return self.read_branch(number, words);
@@ -75,7 +76,7 @@ impl Reading {
     }
 
     fn read_branch(self, number: u64, words: &[&[u8]]) -> Result<Reading, ScriptFault>
-        ensures { GivesLine result (branch_line number self (map (λ word. word.now) words.now)) }
+        ensures { GivesLine result (obeyed number self (branch_line number (map (λ word. word.now) words.now))) }
     {
         let (new, from) = two_words(number, words)?;
         let new = name_at(number, new)?;
@@ -84,7 +85,7 @@ impl Reading {
     }
 
     fn read_record(self, number: u64, words: &[&[u8]]) -> Result<Reading, ScriptFault>
-        ensures { GivesLine result (record_line number self (map (λ word. word.now) words.now)) }
+        ensures { GivesLine result (obeyed number self (record_line number (map (λ word. word.now) words.now))) }
     {
         let (branch, name, change, rest) = three_words(number, words)?;
         if change == b"add".as_slice() {
@@ -114,7 +115,7 @@ impl Reading {
         name: &[u8],
         path: &[u8],
     ) -> Result<Reading, ScriptFault>
-        ensures { GivesLine result (whole_record (change_at file) number self branch.now name.now path.now) }
+        ensures { GivesLine result (obeyed number self (whole_record (change_at file) number branch.now name.now path.now)) }
     {
         let alloc = self.allocator();
         let branch = name_at(number, branch)?;
@@ -137,7 +138,7 @@ impl Reading {
         path: &[u8],
         line: &[u8],
     ) -> Result<Reading, ScriptFault>
-        ensures { GivesLine result (edit_record number self branch.now name.now path.now line.now) }
+        ensures { GivesLine result (obeyed number self (edit_record number branch.now name.now path.now line.now)) }
     {
         let alloc = self.allocator();
         let branch = name_at(number, branch)?;
@@ -163,7 +164,7 @@ impl Reading {
     }
 
     fn read_group(self, number: u64, branch: &[u8], name: &[u8]) -> Result<Reading, ScriptFault>
-        ensures { GivesLine result (group_record number self branch.now name.now) }
+        ensures { GivesLine result (obeyed number self (group_record number branch.now name.now)) }
     {
         let alloc = self.allocator();
         let branch = name_at(number, branch)?;
@@ -180,7 +181,7 @@ impl Reading {
     }
 
     fn read_pull(self, number: u64, mut words: Words<'_>) -> Result<Reading, ScriptFault>
-        ensures { GivesLine result (pull_line number self words.entry) }
+        ensures { GivesLine result (obeyed number self (pull_line number words.entry)) }
     {
         let Some(from) = words.next() else {
             return Err(at_line(number, FaultKind::WrongNumberOfWords));
@@ -198,7 +199,7 @@ impl Reading {
     }
 
     fn read_obliterate(self, number: u64, mut words: Words<'_>) -> Result<Reading, ScriptFault>
-        ensures { GivesLine result (obliterate_line number self words.entry) }
+        ensures { GivesLine result (obeyed number self (obliterate_line number words.entry)) }
     {
         let Some(branch) = words.next() else {
             return Err(at_line(number, FaultKind::WrongNumberOfWords));
@@ -219,7 +220,7 @@ impl Reading {
         word: &[u8],
         words: &[&[u8]],
     ) -> Result<Reading, ScriptFault>
-        ensures { GivesLine result (question number self word.now (map (λ word. word.now) words.now)) }
+        ensures { GivesLine result (obeyed number self (question number word.now (map (λ word. word.now) words.now))) }
     {
         if word == b"tree".as_slice() {
             let branch = branch_at(number, words)?;

@@ -6,12 +6,11 @@ ghost use Rattle.camp_script.specs.declared.faults.FaultKind.TheVariants as kind
 ghost use Rattle.camp_script.specs.Faults.{fault_at};
 ghost use Rattle.camp_script.specs.Gives.{GivesLine, IsFaultIn};
 ghost use Rattle.camp_script.specs.Inside.Files.{change_at};
-ghost use Rattle.camp_script.specs.Inside.ReadingFields.{open_record_of, open_edit_of, IsOpen, HasRoomFor};
+ghost use Rattle.camp_script.specs.Inside.ReadingFields.{open_record_of, open_edit_of, edit_so_far, IsOpen, HasRoomFor};
 ghost use Rattle.camp_script.specs.Lines.{is_skipped, words_of};
-ghost use Rattle.camp_script.specs.Groups.{whole_change, edit_change, group_line, after_group_words, after_end, grown, after_body_line};
-ghost use Rattle.camp_script.specs.Progress.{after_change};
-ghost use Rattle.camp_script.specs.Reading.{after_record_line};
-ghost use Rattle.camp_script.specs.Wanting.{SaysIn};
+ghost use Rattle.camp_script.specs.Changes.{whole_change, edit_change, change_of, group_line_of, grown};
+ghost use Rattle.camp_script.specs.Inside.Progress.{after_change};
+ghost use Rattle.camp_script.specs.Inside.Steps.{heeded, after_end, after_body, after_record_line, SaysIn};
 
 use crate::faults::{FaultKind, ScriptFault, at_line};
 use crate::lines::{Words, first_words, is_comment};
@@ -52,7 +51,7 @@ impl Reading {
         begun: OpenRecord,
     ) -> Result<Reading, ScriptFault>
         requires { IsOpen self.calls begun }
-        ensures given { GivesLine result (after_group_words number self (open_record_of begun) (words_of line.now)) }
+        ensures given { GivesLine result (heeded number self (open_record_of begun) (group_line_of number (length begun.changes.items) (words_of line.now))) }
         ensures wanted { IfErr result (λ fault. fault ≡ ScriptFault.Memory → is_skipped (words_of line.now) ≡ false) }
     {
         let mut words = Words::new(line);
@@ -75,7 +74,7 @@ impl Reading {
         words: &[&[u8]],
     ) -> Result<Reading, ScriptFault>
         requires { IsOpen self.calls begun }
-        ensures { GivesLine result (group_line number self (open_record_of begun) (word.now ∷ map (λ word. word.now) words.now)) }
+        ensures { GivesLine result (heeded number self (open_record_of begun) (change_of number (length begun.changes.items) word.now (map (λ word. word.now) words.now))) }
     {
         if word == b"add".as_slice() {
             let path = one_word(number, words)?;
@@ -105,7 +104,7 @@ impl Reading {
         path: &[u8],
     ) -> Result<Reading, ScriptFault>
         requires { IsOpen self.calls begun }
-        ensures { GivesLine result (whole_change (change_at file) number self (open_record_of begun) path.now) }
+        ensures { GivesLine result (heeded number self (open_record_of begun) (whole_change (change_at file) number (length begun.changes.items) path.now)) }
     {
         if begun.changes.len() >= MAX_CHANGES {
             return Err(at_line(number, FaultKind::BadGroup));
@@ -125,7 +124,7 @@ impl Reading {
         line: &[u8],
     ) -> Result<Reading, ScriptFault>
         requires { IsOpen self.calls begun }
-        ensures { GivesLine result (edit_change number self (open_record_of begun) path.now line.now) }
+        ensures { GivesLine result (heeded number self (open_record_of begun) (edit_change number (length begun.changes.items) path.now line.now)) }
     {
         if begun.changes.len() >= MAX_CHANGES {
             return Err(at_line(number, FaultKind::BadGroup));
@@ -153,7 +152,7 @@ impl Reading {
     ) -> Result<Reading, ScriptFault>
         requires open { IsOpen self.calls begun }
         requires room { HasRoomFor begun.changes.items (Some edit) }
-        ensures { GivesLine result (after_body_line number self (open_record_of begun) (open_edit_of edit) line.now) }
+        ensures { GivesLine result (after_body number self (open_record_of begun) (open_edit_of edit) line.now) }
     {
         if line == b"end".as_slice() {
             return self.end_edit(number, begun, edit);
@@ -232,9 +231,9 @@ fn grow(
     line: &[u8],
     mut edit: OpenEdit,
 ) -> Result<OpenEdit, ScriptFault>
-    ensures given { IfOk result (λ more. grown number (open_edit_of edit) line.now ≡ Ok (open_edit_of more)) }
-    ensures placed { IfOk result (λ more. more.line ≡ edit.line) }
-    ensures fault { IfErr result (λ fault. IsFaultIn fault (grown number (open_edit_of edit) line.now)) }
+    ensures given { IfOk result (λ more. grown number (edit_so_far edit) line.now ≡ Ok (edit_so_far more)) }
+    ensures placed { IfOk result (λ more. (more.line ≡ edit.line) × (more.opened ≡ edit.opened)) }
+    ensures fault { IfErr result (λ fault. IsFaultIn fault (grown number (edit_so_far edit) line.now)) }
 {
     match line {
         [b'-', bytes @ ..] if edit.new.is_empty() => {

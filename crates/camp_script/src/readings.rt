@@ -2,10 +2,10 @@
 ghost use Rattle.std.specs.Prelude.{◌≡◌, false, true, IfErr, IfOk, Ok};
 ghost use Rattle.camp_call.specs.Calls.{is_writing};
 ghost use Rattle.camp_script.specs.Gives.{GivesLine};
-ghost use Rattle.camp_script.specs.Progress.{start, is_full, with_call, with_record, after_call, after_client, after_record, finished};
+ghost use Rattle.camp_script.specs.Reading.{is_full};
+ghost use Rattle.camp_script.specs.Inside.Progress.{start, with_call, with_record, after_call, after_client, after_record, finished};
 ghost use Rattle.camp_script.specs.declared.faults.FaultKind.TheVariants as kind;
-ghost use Rattle.camp_script.specs.Reading.{after_line};
-ghost use Rattle.camp_script.specs.Wanting.{Says};
+ghost use Rattle.camp_script.specs.Inside.Steps.{after_line, Says};
 ghost use Rattle.camp_script.specs.Inside.ReadingFields.{open_record_of};
 
 use crate::faults::{FaultKind, ScriptFault, at_line};
@@ -27,7 +27,7 @@ pub(crate) struct Reading {
 }
 
 impl Model for Reading {
-    ghost use Rattle.camp_script.specs.Progress.{Progress};
+    ghost use Rattle.camp_script.specs.Inside.Progress.{Progress};
 
     ghost Value = { Progress };
 

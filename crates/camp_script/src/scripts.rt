@@ -58,8 +58,7 @@ impl Script {
 }
 
 /// The script that bytes are, or the first fault of its lines. Only a want of memory may come in
-/// the place of either, and only for a line that says something and has no fault, behind lines
-/// without a fault, or at the end of a script without a fault.
+/// the place of either, and not where the first line that says something has a fault.
 pub fn read_script(alloc: Global, bytes: &[u8]) -> Result<Script, ScriptFault>
     ensures given { Gives result (script_of bytes.now) }
     ensures wanted { IfErr result (λ fault. fault ≡ ScriptFault.Memory → ScriptMayWant bytes.now) }

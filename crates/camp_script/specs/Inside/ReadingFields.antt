@@ -2,26 +2,25 @@
 use Rattle.std.specs.Prelude.{◌≡◌, ◌≤◌, ◌<◌, length, map, count_by, Option, None, Some, List}
 use Rattle.std.specs.List.{AllByRecursion}
 use Rattle.std.specs.Option.{option_map}
+use Rattle.camp_prim.specs.Hunks.{Edit}
 use Rattle.camp_prim.specs.declared.primitives.Primitive.{Primitive}
 use Rattle.camp_call.specs.Calls.{is_writing}
 use Rattle.camp_call.specs.declared.calls.Call.{Call}
 use Rattle.camp_script.specs.Gives.{IsFaultIn}
 use Rattle.camp_script.specs.declared.faults.ScriptFault.{ScriptFault}
-use Rattle.camp_script.specs.Progress as progress
-use Rattle.camp_script.specs.Progress.{Progress}
+use Rattle.camp_script.specs.Inside.Progress as progress
+use Rattle.camp_script.specs.Inside.Progress.{Progress}
 use Rattle.camp_script.specs.declared.records.OpenEdit.{OpenEdit}
 use Rattle.camp_script.specs.declared.records.OpenRecord.{OpenRecord}
 use Rattle.camp_script.specs.declared.readings.Reading.TheInside.{Inside}
 
+-- an edit with its sides so far
+abbrev pub edit_so_far : OpenEdit → Edit
+edit_so_far edit = record { path = edit.path; line = edit.line; old = edit.old.items; new = edit.new.items }
+
 -- the edit whose body is not ended
 abbrev pub open_edit_of : OpenEdit → progress.OpenEdit
-open_edit_of edit = record {
-  path = edit.path;
-  line = edit.line;
-  opened = edit.opened;
-  old = edit.old.items;
-  new = edit.new.items;
-}
+open_edit_of edit = record { opened = edit.opened; edit = edit_so_far edit }
 
 -- the record that is not ended
 abbrev pub open_record_of : OpenRecord → progress.OpenRecord

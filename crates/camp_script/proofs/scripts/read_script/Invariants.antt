@@ -1,10 +1,11 @@
 use Rattle.std.proofs.Common.{◌≡◌, ◌+◌, ◌≤◌, length, map}
 use Rattle.camp_script.specs.Lines.{lines_of, without_end}
-use Rattle.camp_script.specs.Reading.{read_from, script_of}
-use Rattle.camp_script.proofs.Wanting.{IsReached}
+use Rattle.camp_script.specs.Reading.{script_of}
+use Rattle.camp_script.specs.Inside.Steps.{read_from}
+use Rattle.camp_script.proofs.Wanting.{IsBegun}
 use Rattle.camp_script.proofs.scripts.read_script.Given as goal
 
 abbrev pub invariant-loop-line : goal.invariant-loop-line
 invariant-loop-line l =
     (read_from (l.number + 1) l.reading (map without_end l.line-iterator) ≡ script_of l.fn.bytes) × (l.number + length l.line-iterator ≤ length l.fn.bytes)
-    × IsReached l.number l.reading (map without_end l.line-iterator) (lines_of l.fn.bytes)
+    × IsBegun l.number l.reading (map without_end l.line-iterator) (lines_of l.fn.bytes)

@@ -1,23 +1,21 @@
--- How far a script is read.
+-- How far a reader is: its own words, which no definition of a script cites.
 use Rattle.std.specs.Prelude.{ℕ, Bool, ◌&&◌, ◌==◌, nat_le, if◌then◌else◌}
-use Rattle.std.specs.Prelude.{List, [], ◌∷◌, ◌++◌, length, count_by, Option, None, Some, Result, Ok}
-use Rattle.camp_base.specs.Trees.{Lines}
+use Rattle.std.specs.Prelude.{List, [], ◌∷◌, ◌++◌, length, Option, None, Some, Result, Ok}
+use Rattle.camp_prim.specs.Hunks.{Edit}
 use Rattle.camp_prim.specs.declared.primitives.Primitive.{Primitive}
 use Rattle.camp_call.specs.Calls.{is_writing}
 use Rattle.camp_call.specs.declared.calls.Call.{Call}
 use Rattle.camp_call.specs.declared.calls.Call.TheVariants as call
 use Rattle.camp_script.specs.Faults.{fault_at}
+use Rattle.camp_script.specs.Reading.{is_full}
 use Rattle.camp_script.specs.declared.faults.FaultKind.TheVariants.{TooManyClients, TooManyCommands}
 use Rattle.camp_script.specs.declared.faults.FaultKind.TheVariants.{BadGroup, EditNotEnded, GroupNotEnded}
 use Rattle.camp_script.specs.declared.faults.LineFault.{LineFault}
 
--- an edit whose body is not ended: its path and line, the line of the script that begins it, and its sides so far
+-- an edit whose body is not ended: the line of the script that begins it, and its sides so far
 pub record OpenEdit : Type 0 where
-  pub path : List ℕ
-  pub line : ℕ
   pub opened : ℕ
-  pub old : Lines
-  pub new : Lines
+  pub edit : Edit
 
 -- a record that is not ended: its branch and name, the line of the script that begins it, whether its changes stand in
 -- a group, those so far, and the edit that is not ended
@@ -29,8 +27,7 @@ pub record OpenRecord : Type 0 where
   pub changes : List Primitive
   pub open_edit : Option OpenEdit
 
--- how far a script is read: the sections before this one, the calls of this one, and the record that is not
--- ended
+-- how far a script is read: the sections before this one, the calls of this one, and the record that is not ended
 pub record Progress : Type 0 where
   pub closed : List (List Call)
   pub calls : List Call
@@ -40,73 +37,49 @@ pub record Progress : Type 0 where
 abbrev pub start : Progress
 start = record { closed = []; calls = []; open_record = None }
 
--- whether a section has as many writing calls as it may have, 65,536
-abbrev pub is_full : List Call → Bool
-is_full calls = nat_le 65_536 (count_by is_writing calls)
-
 -- the section with one more call, and no record open
 abbrev pub with_call : Progress → Call → Progress
-with_call progress new = record { closed = progress.closed; calls = progress.calls ++ new ∷ []; open_record = None }
+with_call progress new = record progress { calls = progress.calls ++ new ∷ []; open_record = None }
 
 -- the section with this record open
 abbrev pub with_record : Progress → OpenRecord → Progress
-with_record progress begun = record { closed = progress.closed; calls = progress.calls; open_record = Some begun }
-
--- after a call that a line holds whole: a section has 65,536 writing ones at most
-abbrev pub after_call : ℕ → Progress → Call → Result Progress LineFault
-after_call line progress new =
-    if is_writing new && is_full progress.calls then fault_at line TooManyCommands else Ok (with_call progress new)
-
--- after the head of a record whose changes follow: it writes
-abbrev pub after_head : ℕ → Progress → OpenRecord → Result Progress LineFault
-after_head line progress begun =
-    if is_full progress.calls then fault_at line TooManyCommands else Ok (with_record progress begun)
-
--- after the line of a client: the next section begins, and there are 63 behind the opening at most
-abbrev pub after_client : ℕ → Progress → Result Progress LineFault
-after_client line progress =
-    if nat_le 63 (length progress.closed) then fault_at line TooManyClients
-    else Ok (record { closed = progress.closed ++ progress.calls ∷ []; calls = []; open_record = None })
-
--- a record with the head of an edit, whose body follows
-abbrev pub with_edit : OpenRecord → List ℕ → ℕ → ℕ → OpenRecord
-with_edit begun path place line = record {
-  branch = begun.branch;
-  name = begun.name;
-  opened = begun.opened;
-  grouped = begun.grouped;
-  changes = begun.changes;
-  open_edit = Some (record { path = path; line = place; opened = line; old = []; new = [] });
-}
-
--- a record with this edit so far
-abbrev pub with_open_edit : OpenRecord → OpenEdit → OpenRecord
-with_open_edit begun edit = record {
-  branch = begun.branch;
-  name = begun.name;
-  opened = begun.opened;
-  grouped = begun.grouped;
-  changes = begun.changes;
-  open_edit = Some edit;
-}
-
--- a record with one more change
-abbrev pub with_change : OpenRecord → Primitive → OpenRecord
-with_change begun change = record {
-  branch = begun.branch;
-  name = begun.name;
-  opened = begun.opened;
-  grouped = begun.grouped;
-  changes = begun.changes ++ change ∷ [];
-  open_edit = None;
-}
+with_record progress begun = record progress { open_record = Some begun }
 
 -- a record without changes, which begins at a line
 abbrev pub record_at : ℕ → List ℕ → List ℕ → Bool → OpenRecord
 record_at line branch name grouped =
     record { branch = branch; name = name; opened = line; grouped = grouped; changes = []; open_edit = None }
 
--- after the last line of a record: it has a change
+-- a record with this edit so far
+abbrev pub with_open_edit : OpenRecord → OpenEdit → OpenRecord
+with_open_edit begun edit = record begun { open_edit = Some edit }
+
+-- a record with the head of an edit that begins at a line, whose body follows
+abbrev pub with_edit : OpenRecord → List ℕ → ℕ → ℕ → OpenRecord
+with_edit begun path place line =
+    with_open_edit begun (record { opened = line; edit = record { path = path; line = place; old = []; new = [] } })
+
+-- a record with one more change
+abbrev pub with_one_more : OpenRecord → Primitive → OpenRecord
+with_one_more begun change = record begun { changes = begun.changes ++ change ∷ []; open_edit = None }
+
+-- after a call that a line holds whole
+abbrev pub after_call : ℕ → Progress → Call → Result Progress LineFault
+after_call line progress new =
+    if is_writing new && is_full progress.calls then fault_at line TooManyCommands else Ok (with_call progress new)
+
+-- after the head of a record whose changes follow
+abbrev pub after_head : ℕ → Progress → OpenRecord → Result Progress LineFault
+after_head line progress begun =
+    if is_full progress.calls then fault_at line TooManyCommands else Ok (with_record progress begun)
+
+-- after the line of a client: the next section begins
+abbrev pub after_client : ℕ → Progress → Result Progress LineFault
+after_client line progress =
+    if nat_le 63 (length progress.closed) then fault_at line TooManyClients
+    else Ok (record { closed = progress.closed ++ progress.calls ∷ []; calls = []; open_record = None })
+
+-- after the last line of a record
 abbrev pub after_record : ℕ → Progress → OpenRecord → Result Progress LineFault
 after_record line progress begun =
     if length begun.changes == 0 then fault_at line BadGroup
@@ -115,8 +88,8 @@ after_record line progress begun =
 -- after a change whose last line this is: a group goes on, and a change that stands alone ends its record
 abbrev pub after_change : ℕ → Progress → OpenRecord → Primitive → Result Progress LineFault
 after_change line progress begun change =
-    if begun.grouped then Ok (with_record progress (with_change begun change))
-    else after_record line progress (with_change begun change)
+    if begun.grouped then Ok (with_record progress (with_one_more begun change))
+    else after_record line progress (with_one_more begun change)
 
 -- at the end of the script: no edit is open, and then no group
 abbrev pub not_ended : {A : Type 0} → OpenRecord → Option OpenEdit → Result A LineFault

@@ -1,0 +1,109 @@
+-- The changes of a record: the bodies of edits, and the lines of groups.
+use Rattle.std.specs.Prelude.{ℕ, ◌+◌, ◌^◌, ◌&&◌, ◌==◌, nat_le, nat_lt, if◌then◌else◌}
+use Rattle.std.specs.Prelude.{List, [], ◌∷◌, ◌++◌, length, Result, Ok, bytes_eq, codes}
+use Rattle.std.specs.List.{list_any}
+use Rattle.camp_base.specs.Bytes.{is_line}
+use Rattle.camp_prim.specs.Hunks.{Edit}
+use Rattle.camp_prim.specs.declared.primitives.Primitive.{Primitive}
+use Rattle.camp_prim.specs.declared.primitives.Primitive.TheVariants.{Add, Remove, Hunk}
+use Rattle.camp_script.specs.Faults.{fault_at}
+use Rattle.camp_script.specs.Lines.{is_skipped}
+use Rattle.camp_script.specs.Pieces.{NumberedLine, Entry, ends_body, ends_group, entry_words}
+use Rattle.camp_script.specs.Words.{◌>>=◌, in_turn, no_words, one_word, two_words, path_at, number_at}
+use Rattle.camp_script.specs.declared.faults.FaultKind.TheVariants.{BadGroup, BadEdit, BadNumber, BadLine}
+use Rattle.camp_script.specs.declared.faults.FaultKind.TheVariants.{EditNotEnded, GroupNotEnded}
+use Rattle.camp_script.specs.declared.faults.LineFault.{LineFault}
+
+-- the edit with one more old line
+abbrev pub with_old : Edit → List ℕ → Edit
+with_old edit line = record edit { old = edit.old ++ line ∷ [] }
+
+-- the edit with one more new line
+abbrev pub with_new : Edit → List ℕ → Edit
+with_new edit line = record edit { new = edit.new ++ line ∷ [] }
+
+-- an edit with a line of a side: it has at most 4,096 bytes behind its sign
+abbrev pub side_at : ℕ → List ℕ → Edit → Result Edit LineFault
+side_at line bytes edit = if is_line bytes then Ok edit else fault_at line BadLine
+
+-- an edit with a line of its body that is not `end`: an old line, with no new one before it, or a new line
+abbrev pub grown : ℕ → Edit → List ℕ → Result Edit LineFault
+grown line edit [] = fault_at line BadEdit
+grown line edit (sign ∷ bytes) =
+    if sign == 45 && length edit.new == 0 then side_at line bytes (with_old edit bytes)
+    else (if sign == 43 then side_at line bytes (with_new edit bytes)
+    else fault_at line BadEdit)
+
+-- an edit whose `end` stands at a line: a side has lines, and the edit's line and the counts of its old and new lines
+-- add up to 2^30 at most
+abbrev pub ended : ℕ → Edit → Result Edit LineFault
+ended line edit =
+    if length edit.old + length edit.new == 0 then fault_at line BadEdit
+    else (if nat_lt (2 ^ 30) (edit.line + length edit.old + length edit.new) then fault_at line BadNumber
+    else Ok edit)
+
+-- an edit behind a line of its body
+abbrev pub after_body_line : Edit → NumberedLine → Result Edit LineFault
+after_body_line edit line =
+    if ends_body line then ended line.number edit else grown line.number edit line.bytes
+
+-- the change of an edit of a path, at a place of its file: its body, line by line, and the last line is `end`; where the
+-- body has none, the fault is that of the line of the script that begins the edit
+abbrev pub edit_of : ℕ → List ℕ → ℕ → List NumberedLine → Result Primitive LineFault
+edit_of line path place body =
+    in_turn after_body_line (record { path = path; line = place; old = []; new = [] }) body >>= λ edit.
+    if list_any ends_body body then Ok (Hunk edit) else fault_at line EditNotEnded
+
+-- what a line of a group says: no change; a change; an edit, whose body follows; or that the group is done
+pub data GroupLine : Type 0 where
+  NoChange : GroupLine
+  WholeChange : Primitive → GroupLine
+  EditChange : (path : List ℕ) → (place : ℕ) → GroupLine
+  EndGroup : GroupLine
+
+-- `add PATH` and `remove PATH`, behind so many changes: a group has 64 at most
+abbrev pub whole_change : (List ℕ → Primitive) → ℕ → ℕ → List ℕ → Result GroupLine LineFault
+whole_change change line count path =
+    if nat_le 64 count then fault_at line BadGroup else (path_at line path >>= λ path. Ok (WholeChange (change path)))
+
+-- `edit PATH LINE`, behind so many changes; the body follows
+abbrev pub edit_change : ℕ → ℕ → List ℕ → List ℕ → Result GroupLine LineFault
+edit_change line count path place =
+    if nat_le 64 count then fault_at line BadGroup
+    else (path_at line path >>= λ path. number_at line place >>= λ place. Ok (EditChange path place))
+
+-- a line of a group, behind so many changes: its first word, and those behind it; nothing stands behind `done`
+abbrev pub change_of : ℕ → ℕ → List ℕ → List (List ℕ) → Result GroupLine LineFault
+change_of line count word words =
+    if bytes_eq word (codes "add") then (one_word line words >>= whole_change Add line count)
+    else (if bytes_eq word (codes "remove") then (one_word line words >>= whole_change Remove line count)
+    else (if bytes_eq word (codes "edit") then (two_words line words >>= λ pair. edit_change line count pair.0 pair.1)
+    else (if bytes_eq word (codes "done") then (no_words line words >>= λ none. Ok EndGroup)
+    else fault_at line BadGroup)))
+
+-- what the line of a number says in a group, behind so many changes; what is skipped elsewhere is skipped here too
+abbrev pub group_line_of : ℕ → ℕ → List (List ℕ) → Result GroupLine LineFault
+group_line_of line count [] = Ok NoChange
+group_line_of line count (word ∷ words) =
+    if is_skipped (word ∷ words) then Ok NoChange else change_of line count word words
+
+-- the changes of a group with what an entry says; where the group is done, it has a change
+abbrev pub with_change : List Primitive → Entry → GroupLine → Result (List Primitive) LineFault
+with_change changes entry NoChange = Ok changes
+with_change changes entry (WholeChange change) = Ok (changes ++ change ∷ [])
+with_change changes entry (EditChange path place) =
+    edit_of entry.head.number path place entry.rest >>= λ change. Ok (changes ++ change ∷ [])
+with_change changes entry EndGroup =
+    if length changes == 0 then fault_at entry.head.number BadGroup else Ok changes
+
+-- the changes of a group behind an entry
+abbrev pub after_entry : List Primitive → Entry → Result (List Primitive) LineFault
+after_entry changes entry =
+    group_line_of entry.head.number (length changes) (entry_words entry) >>= with_change changes entry
+
+-- the changes of a group: those of its entries, and the last entry is `done`; where the group has none, the fault is
+-- that of the line of the script that begins it
+abbrev pub group_of : ℕ → List Entry → Result (List Primitive) LineFault
+group_of line entries =
+    in_turn after_entry [] entries >>= λ changes.
+    if list_any ends_group entries then Ok changes else fault_at line GroupNotEnded

@@ -1,0 +1,76 @@
+-- How a reader goes from line to line. That this comes to the script that is defined is proved.
+use Rattle.std.specs.Prelude.{◌≡◌, ℕ, ◌+◌, false, true, if◌then◌else◌}
+use Rattle.std.specs.Prelude.{List, [], ◌∷◌, length, Option, None, Some, Result, Ok, bytes_eq, codes}
+use Rattle.camp_prim.specs.declared.primitives.Primitive.TheVariants.{Hunk}
+use Rattle.camp_call.specs.declared.calls.Call.{Call}
+use Rattle.camp_script.specs.Changes.{GroupLine, NoChange, WholeChange, EditChange, EndGroup, group_line_of, grown, ended}
+use Rattle.camp_script.specs.Commands.{Command, Nothing, Ask, BeginEdit, BeginGroup, BeginSection, command_of}
+use Rattle.camp_script.specs.Lines.{words_of, is_skipped}
+use Rattle.camp_script.specs.Words.{◌>>=◌}
+use Rattle.camp_script.specs.Inside.Progress.{Progress, OpenRecord, OpenEdit, with_record, with_edit, with_open_edit}
+use Rattle.camp_script.specs.Inside.Progress.{with_one_more, record_at, after_call, after_head, after_client}
+use Rattle.camp_script.specs.Inside.Progress.{after_record, after_change, finished}
+use Rattle.camp_script.specs.declared.faults.LineFault.{LineFault}
+
+-- after the line of a number, outside groups and bodies, by what it asks for
+abbrev pub obey : ℕ → Progress → Command → Result Progress LineFault
+obey line progress Nothing = Ok progress
+obey line progress (Ask new) = after_call line progress new
+obey line progress (BeginEdit branch name path place) =
+    after_head line progress (with_edit (record_at line branch name false) path place line)
+obey line progress (BeginGroup branch name) = after_head line progress (record_at line branch name true)
+obey line progress BeginSection = after_client line progress
+
+-- the same, where the line may have a fault
+abbrev pub obeyed : ℕ → Progress → Result Command LineFault → Result Progress LineFault
+obeyed line progress asked = asked >>= obey line progress
+
+-- after the line of a number in a group, outside bodies, by what it says
+abbrev pub heed : ℕ → Progress → OpenRecord → GroupLine → Result Progress LineFault
+heed line progress begun NoChange = Ok (with_record progress begun)
+heed line progress begun (WholeChange change) = Ok (with_record progress (with_one_more begun change))
+heed line progress begun (EditChange path place) = Ok (with_record progress (with_edit begun path place line))
+heed line progress begun EndGroup = after_record line progress begun
+
+-- the same, where the line may have a fault
+abbrev pub heeded : ℕ → Progress → OpenRecord → Result GroupLine LineFault → Result Progress LineFault
+heeded line progress begun said = said >>= heed line progress begun
+
+-- after the line `end`
+abbrev pub after_end : ℕ → Progress → OpenRecord → OpenEdit → Result Progress LineFault
+after_end line progress begun body =
+    ended line body.edit >>= λ edit. after_change line progress begun (Hunk edit)
+
+-- after a line of a body
+abbrev pub after_body : ℕ → Progress → OpenRecord → OpenEdit → List ℕ → Result Progress LineFault
+after_body line progress begun body bytes =
+    if bytes_eq bytes (codes "end") then after_end line progress begun body
+    else (grown line body.edit bytes >>= λ edit.
+    Ok (with_record progress (with_open_edit begun (record { opened = body.opened; edit = edit }))))
+
+-- after a line of a record whose changes follow: a line of the body of an edit, or of the group
+abbrev pub after_record_line : ℕ → Progress → OpenRecord → Option OpenEdit → List ℕ → Result Progress LineFault
+after_record_line line progress begun None bytes =
+    heeded line progress begun (group_line_of line (length begun.changes) (words_of bytes))
+after_record_line line progress begun (Some body) bytes = after_body line progress begun body bytes
+
+-- after the line of a number
+abbrev pub after_line : ℕ → Option OpenRecord → Progress → List ℕ → Result Progress LineFault
+after_line line None progress bytes = obeyed line progress (command_of line (words_of bytes))
+after_line line (Some begun) progress bytes = after_record_line line progress begun begun.open_edit bytes
+
+-- what reading comes to, from the line of a number on
+abbrev pub read_from : ℕ → Progress → List (List ℕ) → Result (List (List Call)) LineFault
+read_from line progress [] = finished progress progress.open_record
+read_from line progress (bytes ∷ lines) =
+    after_line line progress.open_record progress bytes >>= λ next. read_from (line + 1) next lines
+
+-- a line says something: it is a line of a body, or it is not skipped
+abbrev pub SaysIn : Option OpenEdit → List ℕ → Type 0
+SaysIn None bytes = is_skipped (words_of bytes) ≡ false
+SaysIn (Some body) bytes = Unit {0}
+
+-- the same, whether a record is open or not
+abbrev pub Says : Option OpenRecord → List ℕ → Type 0
+Says None bytes = is_skipped (words_of bytes) ≡ false
+Says (Some begun) bytes = SaysIn begun.open_edit bytes
