@@ -23,7 +23,7 @@ use Rattle.camp_script.specs.declared.faults.FaultKind.TheVariants.{BadGroup, Ed
 use Rattle.camp_script.specs.declared.faults.LineFault.{LineFault}
 use Rattle.camp_script.proofs.Holding.{Holds}
 use Rattle.camp_script.proofs.RecordLines.{some_change}
-use Rattle.camp_script.proofs.Beginnings.{Fits, is_edit, is_group, is_section, fits, FitsGroup, is_edit_change, is_end, fits_group}
+use Rattle.camp_script.proofs.Asked.{Fits, is_edit, is_group, is_section, fits, FitsGroup, is_edit_change, is_end, fits_group}
 
 -- ---- where a reader stands, and what the rest of the lines means there
 
@@ -170,7 +170,7 @@ module _ (n : ℕ) (bytes : List ℕ) (lines : List (List ℕ)) (next : Agrees (
         | false ↦ next.beyond closed (calls ++ call.Record branch name changes ∷ [])
       ]
 
-  group_meets : (r : Result GroupLine LineFault) → Holds (FitsGroup (words_of bytes)) r
+  group_meets : (r : Result GroupLine LineFault) → Holds (FitsGroup (length changes) (words_of bytes)) r
       → ((r >>= heed n (inside closed calls branch name opened true changes None) group_so_far) >>= λ p. read_from (n + 1) p lines) ≡ group_where (begins_edit (words_of bytes)) (begins_with (codes "done") (words_of bytes)) r
   group_meets (Err fault) h = refl
   group_meets (Ok said) h =

@@ -1,5 +1,5 @@
 pub mod Agreement
-pub mod Beginnings
+pub mod Asked
 pub mod CanonicalCalls
 pub mod CanonicalLines
 pub mod CanonicalNumbers

@@ -1,27 +1,26 @@
 -- The calls of whatever is read are calls that a script can ask, within its limits.
-use Rattle.std.proofs.Common.{◌≡◌, ℕ, ◌+◌, ◌^◌, ◌<◌, ◌≤◌, Bool, true, false, ◌&&◌, ◌==◌, nat_lt, nat_le, cond, List, [], ◌∷◌, ◌++◌, length, count_by, slice_index, ◌∙◌, refl, subst, None, Some, Option, Ok, arith, length-append}
+use Rattle.std.proofs.Common.{◌≡◌, ℕ, ◌+◌, ◌^◌, ◌<◌, ◌≤◌, Bool, true, false, ◌&&◌, ◌==◌, nat_lt, nat_le, cond, List, [], ◌∷◌, ◌++◌, length, count_by, ◌∙◌, subst, None, Some, Option, arith, length-append}
 use Rattle.std.proofs.lemmas.Bool.Decides.{nat_tests}
 use Rattle.std.proofs.lemmas.List.Sums.{sum_by-append, sum_by-cons}
 use Rattle.std.specs.Prelude.{IfOk, IsTrue, bytes_eq, codes}
-use Rattle.std.specs.List.{list_all, AllByRecursion}
-use Rattle.camp_base.specs.Bytes.{is_between, is_name, is_path, is_line}
+use Rattle.std.specs.List.{AllByRecursion}
+use Rattle.camp_base.specs.Bytes.{is_name, is_path, is_line}
 use Rattle.camp_prim.specs.declared.primitives.Primitive.{Primitive}
-use Rattle.camp_prim.specs.declared.primitives.Primitive.TheVariants.{Add, Remove, Hunk}
+use Rattle.camp_prim.specs.declared.primitives.Primitive.TheVariants.{Hunk}
 use Rattle.camp_call.specs.Calls.{is_writing}
 use Rattle.camp_call.specs.declared.calls.Call.{Call}
 use Rattle.camp_call.specs.declared.calls.Call.TheVariants as call
-use Rattle.camp_script.specs.Canonical.{IsCall, IsChange, IsListed, AreNames, AreLines, CanBeWritten, ReadIsWritable}
-use Rattle.camp_script.specs.Words.{◌>>=◌, no_words, one_word, two_words, three_words, name_at, names_at, path_at, number_at, value_of, is_line_number}
+use Rattle.camp_script.specs.Canonical.{IsCall, IsChange, AreLines, CanBeWritten, ReadIsWritable}
 use Rattle.camp_prim.specs.Hunks.{Edit}
-use Rattle.camp_script.specs.Changes.{GroupLine, NoChange, WholeChange, EditChange, EndGroup, whole_change, edit_change, change_of, group_line_of, side_at, with_old, with_new, grown, ended}
-use Rattle.camp_script.specs.Commands.{Command, Nothing, Ask, BeginEdit, BeginGroup, BeginSection, branch_line, whole_record, edit_record, group_record, record_of, listed, pull_line, obliterate_line, branch_at, question, command, command_of}
+use Rattle.camp_script.specs.Changes.{GroupLine, NoChange, WholeChange, EditChange, EndGroup, group_line_of, side_at, with_old, with_new, grown, ended}
+use Rattle.camp_script.specs.Commands.{Command, Nothing, Ask, BeginEdit, BeginGroup, BeginSection, command_of}
 use Rattle.camp_script.specs.Lines.{lines_of, words_of}
 use Rattle.camp_script.specs.Reading.{is_full}
 use Rattle.camp_script.specs.Inside.Progress.{OpenEdit, OpenRecord, Progress, start, with_call, with_record, after_head, after_record, after_change, with_one_more, finished, not_ended, record_at, with_edit, with_open_edit}
 use Rattle.camp_script.specs.Inside.Steps.{obey, heed, after_body, after_record_line, after_line, read_from}
 use Rattle.camp_script.proofs.Agreement.{reads_as_defined}
-use Rattle.camp_script.proofs.CanonicalLines.{second_of}
-use Rattle.camp_script.proofs.Holding.{Holds, fails, bind, either, behind}
+use Rattle.camp_script.proofs.Asked.{CanBeAsked, CanBeSaid, Fits, fits, FitsGroup, fits_group}
+use Rattle.camp_script.proofs.Holding.{Holds, fails, bind, either}
 
 all_more : {A : Type 0} (P : A → Type 0) (xs : List A) (x : A) → AllByRecursion P xs → P x → AllByRecursion P (xs ++ x ∷ [])
 all_more P [] x h k = (k, tt)
@@ -86,157 +85,6 @@ stays_within calls new few room =
     let split = sum_by-append (λ c. cond {A = ℕ} (is_writing c) 1 0) calls (new ∷ []) in
     let first = sum_by-cons (λ c. cond {A = ℕ} (is_writing c) 1 0) new [] in
     one_more (is_writing new) (count_by is_writing calls) (count_by is_writing (calls ++ new ∷ [])) room few (omega arith)
-
-abbrev Name : List ℕ → Type 0
-Name name = IsTrue (is_name name)
-
-abbrev Path : List ℕ → Type 0
-Path path = IsTrue (is_path path)
-
-abbrev Place : ℕ → Type 0
-Place line = 1 ≤ line
-
-abbrev Names : ℕ → List (List ℕ) → Type 0
-Names count names = (length names ≡ count) × AreNames names
-
-name_good : (n : ℕ) (word : List ℕ) → Holds Name (name_at n word)
-name_good n word = either Name (is_name word) _ _ (λ h. record { value = h }) (λ _. fails)
-
-path_good : (n : ℕ) (word : List ℕ) → Holds Path (path_at n word)
-path_good n word = either Path (is_path word) _ _ (λ h. record { value = h }) (λ _. fails)
-
-some_line : (v : ℕ) → is_between 1 1_073_741_823 v ≡ true → 1 ≤ v
-some_line v h = grind (arith, nat_tests)
-
-number_good : (n : ℕ) (word : List ℕ) → Holds Place (number_at n word)
-number_good n word =
-    either Place (is_line_number word) _ _
-    (λ h. record { value = some_line (value_of word) (second_of (list_all (is_between 48 57) word) _ (second_of (is_between 1 10 (length word)) _ h)) }) (λ _. fails)
-
-names_good : (n : ℕ) (words : List (List ℕ)) → Holds (Names (length words)) (names_at n words)
-names_good n [] = record { value = (refl, tt) }
-names_good n (word ∷ words) =
-    bind Name (Names (length (word ∷ words))) (name_at n word) _ (name_good n word) (λ name h.
-    bind (Names (length words)) (Names (length (word ∷ words))) (names_at n words) _ (names_good n words) (λ names k.
-    record { value = (omega (arith, k.0), (h, k.1)) }))
-
--- what a line asks for can be done
-abbrev CanBeAsked : Command → Type 0
-CanBeAsked Nothing = Unit {0}
-CanBeAsked (Ask new) = IsCall new
-CanBeAsked (BeginEdit branch name path place) = Name branch × Name name × Path path × Place place
-CanBeAsked (BeginGroup branch name) = Name branch × Name name
-CanBeAsked BeginSection = Unit {0}
-
--- what a line of a group says can be done, behind so many changes
-abbrev CanBeSaid : ℕ → GroupLine → Type 0
-CanBeSaid count NoChange = Unit {0}
-CanBeSaid count (WholeChange change) = (count < 64) × IsChange change
-CanBeSaid count (EditChange path place) = (count < 64) × Path path × Place place
-CanBeSaid count EndGroup = Unit {0}
-
-module _ (n : ℕ) where
-  branch_line_good : (words : List (List ℕ)) → Holds CanBeAsked (branch_line n words)
-  branch_line_good words =
-      behind CanBeAsked (two_words n words) _ (λ pair.
-      bind Name CanBeAsked (name_at n pair.0) _ (name_good n pair.0) (λ new a.
-      bind Name CanBeAsked (name_at n pair.1) _ (name_good n pair.1) (λ from b. record { value = (a, b) })))
-
-  whole_good : (change : List ℕ → Primitive) → ((path : List ℕ) → Path path → IsChange (change path)) → (branch name path : List ℕ) → Holds CanBeAsked (whole_record change n branch name path)
-  whole_good change fits branch name path =
-      bind Name CanBeAsked (name_at n branch) _ (name_good n branch) (λ branch a.
-      bind Name CanBeAsked (name_at n name) _ (name_good n name) (λ name b.
-      bind Path CanBeAsked (path_at n path) _ (path_good n path) (λ path c.
-      record { value = (a, b, (omega arith, omega arith), (fits path c, tt)) })))
-
-  edit_good : (branch name path place : List ℕ) → Holds CanBeAsked (edit_record n branch name path place)
-  edit_good branch name path place =
-      bind Name CanBeAsked (name_at n branch) _ (name_good n branch) (λ branch a.
-      bind Name CanBeAsked (name_at n name) _ (name_good n name) (λ name b.
-      bind Path CanBeAsked (path_at n path) _ (path_good n path) (λ path c.
-      bind Place CanBeAsked (number_at n place) _ (number_good n place) (λ line d. record { value = (a, b, c, d) }))))
-
-  group_good : (branch name : List ℕ) → Holds CanBeAsked (group_record n branch name)
-  group_good branch name =
-      bind Name CanBeAsked (name_at n branch) _ (name_good n branch) (λ branch a.
-      bind Name CanBeAsked (name_at n name) _ (name_good n name) (λ name b. record { value = (a, b) }))
-
-  record_good : (branch name change : List ℕ) (words : List (List ℕ)) → Holds CanBeAsked (record_of n branch name change words)
-  record_good branch name change words =
-      either CanBeAsked (bytes_eq change (codes "add")) _ _ (λ _. behind CanBeAsked (one_word n words) _ (λ path. whole_good Add (λ path h. h) branch name path))
-      (λ _. either CanBeAsked (bytes_eq change (codes "remove")) _ _ (λ _. behind CanBeAsked (one_word n words) _ (λ path. whole_good Remove (λ path h. h) branch name path))
-      (λ _. either CanBeAsked (bytes_eq change (codes "edit")) _ _ (λ _. behind CanBeAsked (two_words n words) _ (λ pair. edit_good branch name pair.0 pair.1))
-      (λ _. either CanBeAsked (bytes_eq change (codes "group")) _ _ (λ _. behind CanBeAsked (no_words n words) _ (λ none. group_good branch name))
-      (λ _. fails))))
-
-  listed_good : (names : List (List ℕ)) → AreNames names → IsListed (listed names)
-  listed_good [] h = tt
-  listed_good (name ∷ names) h = (omega arith, h)
-
-  pull_good : (words : List (List ℕ)) → Holds CanBeAsked (pull_line n words)
-  pull_good [] = fails
-  pull_good (word ∷ []) = fails
-  pull_good (from ∷ to ∷ words) =
-      bind Name CanBeAsked (name_at n from) _ (name_good n from) (λ from a.
-      bind Name CanBeAsked (name_at n to) _ (name_good n to) (λ to b.
-      bind (Names (length words)) CanBeAsked (names_at n words) _ (names_good n words) (λ names c. record { value = (a, b, listed_good names c.1) })))
-
-  obliterate_good : (words : List (List ℕ)) → Holds CanBeAsked (obliterate_line n words)
-  obliterate_good [] = fails
-  obliterate_good (word ∷ []) = fails
-  obliterate_good (branch ∷ word ∷ words) =
-      bind Name CanBeAsked (name_at n branch) _ (name_good n branch) (λ branch a.
-      bind (Names (length (word ∷ words))) CanBeAsked (names_at n (word ∷ words)) _ (names_good n (word ∷ words)) (λ names c.
-      record { value = (a, omega (arith, c.0), c.1) }))
-
-  asks_good : (make : List ℕ → Call) → ((branch : List ℕ) → Name branch → IsCall (make branch)) → (words : List (List ℕ)) → Holds CanBeAsked (branch_at n words >>= λ branch. Ok (Ask (make branch)))
-  asks_good make fits words =
-      bind Name CanBeAsked (branch_at n words) _ (behind Name (one_word n words) _ (λ word. name_good n word)) (λ branch h. record { value = fits branch h })
-
-  question_good : (word : List ℕ) (words : List (List ℕ)) → Holds CanBeAsked (question n word words)
-  question_good word words =
-      either CanBeAsked (bytes_eq word (codes "tree")) _ _ (λ _. asks_good call.Tree (λ branch h. h) words)
-      (λ _. either CanBeAsked (bytes_eq word (codes "conflicts")) _ _ (λ _. asks_good call.Conflicts (λ branch h. h) words)
-      (λ _. either CanBeAsked (bytes_eq word (codes "names")) _ _ (λ _. asks_good call.Names (λ branch h. h) words) (λ _. fails)))
-
-  some_command_good : (word : List ℕ) (words : List (List ℕ)) → Holds CanBeAsked (command n word words)
-  some_command_good word words =
-      either CanBeAsked (bytes_eq word (codes "pull")) _ _ (λ _. pull_good words)
-      (λ _. either CanBeAsked (bytes_eq word (codes "obliterate")) _ _ (λ _. obliterate_good words)
-      (λ _. either CanBeAsked (bytes_eq word (codes "branch")) _ _ (λ _. branch_line_good words)
-      (λ _. either CanBeAsked (bytes_eq word (codes "record")) _ _ (λ _. behind CanBeAsked (three_words n words) _ (λ head. record_good head.0 head.1 head.2 head.3))
-      (λ _. either CanBeAsked (bytes_eq word (codes "client")) _ _ (λ _. behind CanBeAsked (no_words n words) _ (λ none. record { value = tt }))
-      (λ _. question_good word words)))))
-
-  command_good : (words : List (List ℕ)) → Holds CanBeAsked (command_of n words)
-  command_good [] = record { value = tt }
-  command_good (word ∷ words) = either CanBeAsked (slice_index word 0 == 35) _ _ (λ _. record { value = tt }) (λ _. some_command_good word words)
-
-  has_room : (count : ℕ) → nat_le 64 count ≡ false → count < 64
-  has_room count h = grind (arith, nat_tests)
-
-  whole_change_good : (count : ℕ) (change : List ℕ → Primitive) → ((path : List ℕ) → Path path → IsChange (change path)) → (path : List ℕ) → Holds (CanBeSaid count) (whole_change change n count path)
-  whole_change_good count change fits path =
-      either (CanBeSaid count) (nat_le 64 count) _ _ (λ _. fails)
-      (λ few. bind Path (CanBeSaid count) (path_at n path) _ (path_good n path) (λ path c. record { value = (has_room count few, fits path c) }))
-
-  edit_change_good : (count : ℕ) (path place : List ℕ) → Holds (CanBeSaid count) (edit_change n count path place)
-  edit_change_good count path place =
-      either (CanBeSaid count) (nat_le 64 count) _ _ (λ _. fails)
-      (λ few. bind Path (CanBeSaid count) (path_at n path) _ (path_good n path) (λ path c.
-      bind Place (CanBeSaid count) (number_at n place) _ (number_good n place) (λ line d. record { value = (has_room count few, c, d) })))
-
-  change_of_good : (count : ℕ) (word : List ℕ) (words : List (List ℕ)) → Holds (CanBeSaid count) (change_of n count word words)
-  change_of_good count word words =
-      either (CanBeSaid count) (bytes_eq word (codes "add")) _ _ (λ _. behind (CanBeSaid count) (one_word n words) _ (λ path. whole_change_good count Add (λ path h. h) path))
-      (λ _. either (CanBeSaid count) (bytes_eq word (codes "remove")) _ _ (λ _. behind (CanBeSaid count) (one_word n words) _ (λ path. whole_change_good count Remove (λ path h. h) path))
-      (λ _. either (CanBeSaid count) (bytes_eq word (codes "edit")) _ _ (λ _. behind (CanBeSaid count) (two_words n words) _ (λ pair. edit_change_good count pair.0 pair.1))
-      (λ _. either (CanBeSaid count) (bytes_eq word (codes "done")) _ _ (λ _. behind (CanBeSaid count) (no_words n words) _ (λ none. record { value = tt }))
-      (λ _. fails))))
-
-  group_line_good : (count : ℕ) (words : List (List ℕ)) → Holds (CanBeSaid count) (group_line_of n count words)
-  group_line_good count [] = record { value = tt }
-  group_line_good count (word ∷ words) = either (CanBeSaid count) (slice_index word 0 == 35) _ _ (λ _. record { value = tt }) (λ _. change_of_good count word words)
 
 module _ (n : ℕ) (p : Progress) (g : GoodCalls p) where
   asks : (new : Call) → IsCall new → (is_writing new && is_full p.calls) ≡ false → Good (with_call p new)
@@ -329,11 +177,11 @@ module _ (n : ℕ) (p : Progress) (g : GoodCalls p) where
 
   record_line_good : (begun : OpenRecord) (o : Option OpenEdit) → GoodRecord p.calls begun → GoodOpen begun.changes o → (bytes : List ℕ) → Holds Good (after_record_line n p begun o bytes)
   record_line_good begun None h k bytes =
-      bind (CanBeSaid (length begun.changes)) Good (group_line_of n (length begun.changes) (words_of bytes)) _ (group_line_good n (length begun.changes) (words_of bytes)) (heeded_good begun h)
+      bind (FitsGroup (length begun.changes) (words_of bytes)) Good (group_line_of n (length begun.changes) (words_of bytes)) _ (fits_group n (length begun.changes) (words_of bytes)) (λ said k. heeded_good begun h said k.can)
   record_line_good begun (Some edit) h k bytes = body_good begun edit h k bytes
 
   line_good : GoodAwaited p.calls p.open_record → (o : Option OpenRecord) → GoodAwaited p.calls o → (bytes : List ℕ) → Holds Good (after_line n o p bytes)
-  line_good here None h bytes = bind CanBeAsked Good (command_of n (words_of bytes)) _ (command_good n (words_of bytes)) (obeyed_good here)
+  line_good here None h bytes = bind (Fits (words_of bytes)) Good (command_of n (words_of bytes)) _ (fits n (words_of bytes)) (λ asked k. obeyed_good here asked k.can)
   line_good here (Some begun) h bytes = record_line_good begun begun.open_edit h h.open_edit bytes
 
 open_good : (begun : OpenRecord) (o : Option OpenEdit) → Holds CanBeWritten (not_ended {A = List (List Call)} begun o)
