@@ -1,3 +1,4 @@
 pub mod Booked
 pub mod Once
 pub mod Output
+pub mod Turned

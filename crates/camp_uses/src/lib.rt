@@ -1,6 +1,9 @@
 //! Callers of each crate, proved from its public clauses alone: what the contracts are good for.
 #![tactic(auto)]
 
+pub mod branches;
+pub mod calls;
+pub mod catches;
 pub mod examples;
 pub mod lists;
 pub mod patches;

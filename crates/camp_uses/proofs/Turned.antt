@@ -1,0 +1,21 @@
+-- What becomes of catches that fit a tree.
+use Rattle.std.proofs.Common.{◌≡◌, List, Option, None, Some, Result, Ok, Err, IfOk, IfSome}
+use Rattle.camp_base.specs.Answers.{FindsPair}
+use Rattle.camp_base.specs.Trees.{Files}
+use Rattle.camp_catch.specs.Catches.{Fits, FitsAll}
+use Rattle.camp_catch.specs.Commuting.{CommuteCatch}
+use Rattle.camp_catch.specs.Laws.{CommuteKeepsEffects, ListsKeepEffects}
+use Rattle.camp_catch.specs.MergingLists.{MergeLists}
+use Rattle.camp_catch.specs.declared.catches.Catch.{Catch}
+
+-- a pair that two catches commute to fits where the two fit
+pub turned : {E : Type 0} → CommuteKeepsEffects → (j k : Catch) (result : Result (Option (Catch × Catch)) E) → IfOk result (FindsPair (CommuteCatch j k)) → IfOk result (λ found. IfSome found (λ both. (old between new : Files) → Fits j old between → Fits k between new → (other : Files) × Fits both.0 old other × Fits both.1 other new))
+turned law j k (Ok None) none = tt
+turned law j k (Ok (Some both)) one = law j k both.0 both.1 one
+turned law j k (Err why) none = tt
+
+-- a list that is merged fits behind the other one
+pub behind : ListsKeepEffects → (ours theirs merged rest : List Catch) → MergeLists theirs ours merged rest → (old left right : Files) → FitsAll ours old left → FitsAll theirs old right → (new : Files) × FitsAll merged left new
+behind law ours theirs merged rest gives old left right first second =
+    let (new, fits, other) = law.merged theirs ours merged rest gives old left right first second in
+    (new, fits)

@@ -1,0 +1,10 @@
+use Rattle.std.proofs.Common.{List}
+use Rattle.camp_catch.specs.MergingLists.{MergeLists}
+use Rattle.camp_catch.specs.declared.catches.Catch.{Catch}
+use Rattle.camp_uses.proofs.Turned.{behind}
+use Rattle.camp_uses.proofs.catches.behind_ours.Goals as goal
+
+pub returns-in-Ok-clause-fits : goal.returns-in-Ok-clause-fits
+returns-in-Ok-clause-fits c =
+    let merged : (rest : List Catch) × MergeLists c.args.theirs.now c.args.ours.now c.in-Ok.behind.items rest = rw c.in-Ok.is at c.in_ok-behind.ensures.exact in
+    behind c.lists_keep_effects.ensures _ _ _ _ merged.1

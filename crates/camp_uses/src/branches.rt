@@ -1,0 +1,46 @@
+//! Callers of `camp_branch`.
+ghost use Rattle.std.specs.Prelude.{◌≡◌, ◌++◌, List, filter, IfOk, IfSome};
+ghost use Rattle.camp_catch.specs.declared.catches.Catch.{Catch};
+ghost use Rattle.camp_branch.specs.Branches.{is_among, names_of};
+ghost use Rattle.camp_branch.specs.Fields.{names_in};
+ghost use Rattle.camp_branch.specs.Laws.{AreLacked};
+ghost use Rattle.camp_branch.specs.Obliterating.{other_names};
+
+use camp_base::Name;
+use camp_branch::{Branch, obliterates_keep_lawful, pulls_begin_with_own, pulls_keep_lawful};
+use camp_share::SharedMap;
+use std::alloc::AllocError;
+
+/// A branch with the wanted patches of another one, which it lacks, if they can come there. What it
+/// had stands before them, and their names follow in the order of the other branch.
+pub fn with_pulled(
+    to: &Branch,
+    from: &Branch,
+    wanted: &SharedMap<Name, ()>,
+) -> Result<Option<Branch>, AllocError>
+    requires { AreLacked to.now (names_in wanted.now) }
+    ensures own { IfOk result (λ found. IfSome found (λ pulled. (taken : List Catch) × (pulled ≡ to.now ++ taken))) }
+    ensures names { IfOk result (λ found. IfSome found (λ pulled.
+        names_of pulled ≡ names_of to.now ++ filter (is_among (names_in wanted.now)) (names_of from.now))) }
+{
+    pulls_begin_with_own();
+    pulls_keep_lawful();
+    let (_theirs, _ours) = (from.catches(), to.catches());
+    match to.pulled(from, wanted)? {
+        Ok(pulled) => Ok(Some(pulled)),
+        Err(_) => Ok(None),
+    }
+}
+
+/// A branch without the patches of some names, if no other one depends on them. The others stay in
+/// their order.
+pub fn without(branch: &Branch, names: &SharedMap<Name, ()>) -> Result<Option<Branch>, AllocError>
+    ensures { IfOk result (λ found. IfSome found (λ left. names_of left ≡ other_names branch.now (names_in names.now))) }
+{
+    obliterates_keep_lawful();
+    let _lawful = branch.catches();
+    match branch.without(names)? {
+        Ok(left) => Ok(Some(left)),
+        Err(_) => Ok(None),
+    }
+}

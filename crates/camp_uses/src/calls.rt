@@ -1,0 +1,34 @@
+//! Callers of `camp_call`.
+ghost use Rattle.std.specs.Prelude.{◌≡◌, true, IfOk, MatchOption};
+ghost use Rattle.camp_call.specs.Calls.{IsCall, is_writing};
+ghost use Rattle.camp_call.specs.Patches.{IsPatchSized};
+
+use camp_base::Name;
+use camp_call::{Call, Changes};
+use camp_prim::Primitive;
+use std::alloc::AllocError;
+
+/// The call that records these changes under a name, or none where they are no change or too many.
+pub fn record(branch: Name, name: Name, prims: Vec<Primitive>) -> Option<Call>
+    ensures { MatchOption result
+        (¬ (IsPatchSized prims.items))
+        (λ call. (call ≡ Call.Record branch name prims.items) × IsCall call × (is_writing call ≡ true)) }
+{
+    let Some(changes) = Changes::new(prims) else {
+        return None;
+    };
+    Some(Call::Record {
+        branch,
+        name,
+        changes,
+    })
+}
+
+/// A copy of a call, and whether it asks the same: it does.
+pub fn copied(call: &Call) -> Result<(Call, bool), AllocError>
+    ensures { IfOk result (λ both. both.1 ≡ true) }
+{
+    let copy = call.try_clone()?;
+    let is_same = copy.is_same(call);
+    Ok((copy, is_same))
+}

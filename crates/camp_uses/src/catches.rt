@@ -1,0 +1,65 @@
+//! Callers of `camp_catch`.
+ghost use Rattle.std.specs.Prelude.{◌≡◌, IfOk, IfSome};
+ghost use Rattle.camp_base.specs.Trees.{Files};
+ghost use Rattle.camp_catch.specs.Catches.{Fits, FitsAll};
+ghost use Rattle.camp_catch.specs.Laws.{keys_of};
+
+use camp_catch::{
+    Catch, commute, commute_keeps_effects, labels_are_kept, lists_keep_effects, merge,
+    merge_is_symmetric, merge_is_unique, merge_lists,
+};
+use camp_share::Shared;
+use std::alloc::{AllocError, Global};
+
+/// Two catches in their other order, if they have one: where the two fit a tree these do too, and
+/// both orders end in one tree.
+pub fn in_other_order(
+    alloc: Global,
+    j: &Catch,
+    k: &Catch,
+) -> Result<Option<(Catch, Catch)>, AllocError>
+    ensures { IfOk result (λ found. IfSome found (λ both. (old between new : Files) →
+        Fits j.now old between → Fits k.now between new → (other : Files) × Fits both.0 old other × Fits both.1 other new)) }
+{
+    commute_keeps_effects();
+    commute(alloc, j, k)
+}
+
+/// What two catches of one state become each behind the other, found by both ways of asking: they
+/// agree.
+pub fn merged_either_way(
+    alloc: Global,
+    j: &Catch,
+    k: &Catch,
+) -> Result<Option<((Catch, Catch), (Catch, Catch))>, AllocError>
+    ensures { IfOk result (λ found. IfSome found (λ both. (both.0.0 ≡ both.1.1) × (both.0.1 ≡ both.1.0))) }
+{
+    merge_is_symmetric();
+    merge_is_unique();
+    let Some(here) = merge(alloc, j, k)? else {
+        return Ok(None);
+    };
+    let Some(there) = merge(alloc, k, j)? else {
+        return Ok(None);
+    };
+    Ok(Some((here, there)))
+}
+
+/// What the catches of another list become behind our own, where both lists begin in one state. They
+/// keep their labels, and fit the tree that our list leads to.
+pub fn behind_ours(
+    alloc: Global,
+    ours: &[Shared<Catch>],
+    theirs: &[Shared<Catch>],
+) -> Result<Option<Vec<Shared<Catch>>>, AllocError>
+    ensures fits { IfOk result (λ found. IfSome found (λ behind. (old left right : Files) →
+        FitsAll ours.now old left → FitsAll theirs.now old right → (new : Files) × FitsAll behind.items left new)) }
+    ensures labels { IfOk result (λ found. IfSome found (λ behind. keys_of behind.items ≡ keys_of theirs.now)) }
+{
+    lists_keep_effects();
+    labels_are_kept();
+    match merge_lists(alloc, theirs, ours)? {
+        Ok(behind) => Ok(Some(behind)),
+        Err(_) => Ok(None),
+    }
+}
