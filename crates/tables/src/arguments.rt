@@ -14,7 +14,7 @@ use camp_share::Shared;
 use std::alloc::{AllocError, Global};
 use std::str;
 
-/// The arguments of a call, each as its text.
+/// The arguments of a call, each as its text. A primitive and a catch are lent by a `Shared`.
 #[derive(Drop)]
 pub struct Arguments<'a> {
     table: &'a Table,
@@ -23,7 +23,7 @@ pub struct Arguments<'a> {
 
 impl<'a> Arguments<'a> {
     /// The arguments of a text, which may name what stands in a table.
-    pub fn new(table: &'a Table, text: &'a [u8]) -> Result<Arguments<'a>, AllocError> {
+    pub(crate) fn new(table: &'a Table, text: &'a [u8]) -> Result<Arguments<'a>, AllocError> {
         let texts = split(table.alloc(), text)?;
         Ok(Arguments { table, texts })
     }
@@ -65,8 +65,9 @@ impl<'a> Arguments<'a> {
         }
     }
 
-    pub fn named(&self, at: usize) -> Result<Named, NotationError> {
-        read_named(self.alloc(), self.known(), self.text(at))
+    pub fn named(&self, at: usize) -> Result<Shared<Named>, NotationError> {
+        let p = read_named(self.alloc(), self.known(), self.text(at))?;
+        Ok(Shared::new(self.alloc(), p)?)
     }
 
     pub fn list(&self, at: usize) -> Result<Seq, NotationError> {
@@ -95,7 +96,7 @@ impl<'a> Arguments<'a> {
         self.set_of(self.text(at))
     }
 
-    pub fn catch(&self, at: usize) -> Result<Catch, NotationError> {
+    pub fn catch(&self, at: usize) -> Result<Shared<Catch>, NotationError> {
         self.catch_of(self.text(at))
     }
 
@@ -104,22 +105,23 @@ impl<'a> Arguments<'a> {
     }
 
     /// The contexted patch of a text.
-    pub fn contexted_of(&self, text: &[u8]) -> Result<Contexted, NotationError> {
+    pub(crate) fn contexted_of(&self, text: &[u8]) -> Result<Contexted, NotationError> {
         read_contexted(self.alloc(), self.known(), text)
     }
 
     /// The set of a text.
-    pub fn set_of(&self, text: &[u8]) -> Result<CtxSet, NotationError> {
+    pub(crate) fn set_of(&self, text: &[u8]) -> Result<CtxSet, NotationError> {
         read_set(self.alloc(), self.known(), text)
     }
 
     /// The catch of a text.
-    pub fn catch_of(&self, text: &[u8]) -> Result<Catch, NotationError> {
-        read_catch(self.alloc(), self.known(), text)
+    pub(crate) fn catch_of(&self, text: &[u8]) -> Result<Shared<Catch>, NotationError> {
+        let j = read_catch(self.alloc(), self.known(), text)?;
+        Ok(Shared::new(self.alloc(), j)?)
     }
 
     /// The list of catches of a text.
-    pub fn catches_of(&self, text: &[u8]) -> Result<Vec<Shared<Catch>>, NotationError> {
+    pub(crate) fn catches_of(&self, text: &[u8]) -> Result<Vec<Shared<Catch>>, NotationError> {
         read_catches(self.alloc(), self.known(), text)
     }
 

@@ -17,6 +17,6 @@ mod results;
 mod tables;
 
 pub use arguments::Arguments;
-pub use lines::{print_line, print_result};
-pub use results::{joined, list, named, none, pair, word, yes_or_no};
-pub use tables::{Table, split_call};
+pub use lines::{Calls, print_table};
+pub use results::{Shown, both, found, joined, none, pair_text, word, yes_or_no};
+use tables::{Table, split_call};

@@ -6,7 +6,7 @@ use std::alloc::{AllocError, AllocFailed, Global};
 /// What the lines of a table have told so far: the primitives that have a line of their own, their
 /// inverses, and the names of other values.
 #[derive(Drop)]
-pub struct Table {
+pub(crate) struct Table {
     alloc: Global,
     known: Vec<Named>,
     bound: Vec<Binding>,
@@ -20,7 +20,7 @@ struct Binding {
 }
 
 /// The name of the call that a line is, and the text of its arguments.
-pub fn split_call(line: &[u8]) -> Option<(&[u8], &[u8])> {
+pub(crate) fn split_call(line: &[u8]) -> Option<(&[u8], &[u8])> {
     if line.starts_with(b"#") {
         return None;
     }
@@ -34,7 +34,7 @@ pub fn split_call(line: &[u8]) -> Option<(&[u8], &[u8])> {
 
 impl Table {
     /// A table without a line.
-    pub fn new(alloc: Global) -> Table {
+    pub(crate) fn new(alloc: Global) -> Table {
         Table {
             alloc,
             known: Vec::new(alloc),
@@ -61,7 +61,7 @@ impl Table {
     }
 
     /// Keeps what a line tells that is no call.
-    pub fn learn(&mut self, line: &[u8]) -> Result<(), NotationError> {
+    pub(crate) fn learn(&mut self, line: &[u8]) -> Result<(), NotationError> {
         if line.is_empty() || line.starts_with(b"#") {
             return Ok(());
         }

@@ -3,7 +3,7 @@ use camp_base::Tree;
 use camp_notation::{NotationError, lines_text, word_text};
 use camp_prim::{Hunk, Lines, Named, Primitive, commute, exchange};
 use std::alloc::AllocError;
-use tables::{Arguments, joined, named, none, pair, yes_or_no};
+use tables::{Arguments, Shown, both, joined, none, pair_text, yes_or_no};
 
 pub(crate) fn hunk(a: &Arguments) -> Result<String, NotationError> {
     let path = a.path(0)?;
@@ -43,13 +43,16 @@ fn sides(a: &Arguments, hunk: &Hunk) -> Result<String, NotationError> {
 }
 
 pub(crate) fn read(a: &Arguments) -> Result<String, NotationError> {
-    let p = a.named(0)?;
-    named(a, &p)
+    a.named(0)?.text(a)
 }
 
 pub(crate) fn invert(a: &Arguments) -> Result<String, NotationError> {
-    let inverse = a.named(0)?.invert();
-    named(a, &inverse)
+    let p = a.named(0)?;
+    inverted(a, &p)
+}
+
+fn inverted(a: &Arguments, p: &Named) -> Result<String, NotationError> {
+    p.try_clone()?.invert().text(a)
 }
 
 pub(crate) fn are_same(a: &Arguments) -> Result<String, NotationError> {
@@ -79,31 +82,20 @@ fn applied(a: &Arguments, p: &Named, before: &Tree) -> Result<String, NotationEr
 pub(crate) fn commuted(a: &Arguments) -> Result<String, NotationError> {
     let p = a.named(0)?;
     let q = a.named(1)?;
-    commuted_of(a, &p, &q)
-}
-
-fn commuted_of(a: &Arguments, p: &Named, q: &Named) -> Result<String, NotationError> {
-    match commute(p, q)? {
-        Some((first, second)) => both(a, &first, &second),
-        None => none(a),
-    }
+    both(a, commute(&p, &q)?)
 }
 
 /// The two as they stand after an exchange; both as they were where they can't change places.
 pub(crate) fn exchanged(a: &Arguments) -> Result<String, NotationError> {
-    let mut first = a.named(0)?;
-    let mut second = a.named(1)?;
-    let done = exchange(&mut first, &mut second);
-    let left = both(a, &first, &second)?;
-    if done {
-        Ok(left)
-    } else {
-        Ok(format!(in a.alloc(); "none: {left}")?)
-    }
+    let p = a.named(0)?;
+    let q = a.named(1)?;
+    let mut pair = (p.try_clone()?, q.try_clone()?);
+    let done = exchange(&mut pair.0, &mut pair.1);
+    let text = pair_text(a, &pair.0, &pair.1)?;
+    if done { Ok(text) } else { stayed(a, &text) }
 }
 
-fn both(a: &Arguments, first: &Named, second: &Named) -> Result<String, NotationError> {
-    let first = named(a, first)?;
-    let second = named(a, second)?;
-    pair(first, &second)
+fn stayed(a: &Arguments, text: &str) -> Result<String, NotationError> {
+    let word = none(a)?;
+    joined(word, ": ", text)
 }

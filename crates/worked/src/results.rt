@@ -1,7 +1,7 @@
 use camp_base::{Apply, BaseFault, Tree};
-use camp_notation::{NotationError, tree_text};
+use camp_notation::NotationError;
 use std::cmp::Ordering;
-use tables::{Arguments, word};
+use tables::{Arguments, Shown, word};
 
 pub(crate) fn order(a: &Arguments, order: Ordering) -> Result<String, NotationError> {
     word(
@@ -23,7 +23,7 @@ pub(crate) fn change(
     after: &Tree,
 ) -> Result<String, NotationError> {
     match answer {
-        Ok(()) => Ok(tree_text(a.alloc(), after)?),
+        Ok(()) => after.text(a),
         Err(why) => refused(a, why, after.is_same(before)),
     }
 }

@@ -1,64 +1,75 @@
-use crate::results;
+use crate::results::key_text;
 use camp_ctx::{Contexted, conflict, merge_behind_common};
 use camp_notation::NotationError;
+use camp_prim::Named;
 use camp_seq::Seq;
-use tables::Arguments;
+use tables::{Arguments, Shown, both, found, yes_or_no};
 
 pub(crate) fn read(a: &Arguments) -> Result<String, NotationError> {
-    results::contexted(a, &a.contexted(0)?)
+    a.contexted(0)?.text(a)
 }
 
 pub(crate) fn key(a: &Arguments) -> Result<String, NotationError> {
     let key = a.contexted(0)?.key();
-    Ok(results::key(a, key)?)
+    Ok(key_text(a, key)?)
 }
 
 pub(crate) fn are_same(a: &Arguments) -> Result<String, NotationError> {
-    let (left, right) = (a.contexted(0)?, a.contexted(1)?);
-    tables::yes_or_no(a, left.is_same(&right))
+    let left = a.contexted(0)?;
+    let right = a.contexted(1)?;
+    yes_or_no(a, left.is_same(&right))
 }
 
 pub(crate) fn add_one(a: &Arguments) -> Result<String, NotationError> {
-    let sum = Contexted::add_one(&a.named(0)?, &a.contexted(1)?)?;
-    results::contexted(a, &sum)
+    let p = a.named(0)?;
+    let x = a.contexted(1)?;
+    added_one(a, &p, &x)
+}
+
+fn added_one(a: &Arguments, p: &Named, x: &Contexted) -> Result<String, NotationError> {
+    Contexted::add_one(p, x)?.text(a)
 }
 
 pub(crate) fn add(a: &Arguments) -> Result<String, NotationError> {
-    let sum = Contexted::add(&a.list(0)?, &a.contexted(1)?)?;
-    results::contexted(a, &sum)
+    let s = a.list(0)?;
+    let x = a.contexted(1)?;
+    added(a, &s, &x)
+}
+
+fn added(a: &Arguments, s: &Seq, x: &Contexted) -> Result<String, NotationError> {
+    Contexted::add(s, x)?.text(a)
 }
 
 pub(crate) fn pass_one_by(a: &Arguments) -> Result<String, NotationError> {
-    let passed = Contexted::past_one(&a.named(0)?, &a.contexted(1)?)?;
+    let p = a.named(0)?;
+    let x = a.contexted(1)?;
+    passed_one(a, &p, &x)
+}
+
+fn passed_one(a: &Arguments, p: &Named, x: &Contexted) -> Result<String, NotationError> {
+    let passed = Contexted::past_one(p, x)?;
     found(a, passed.as_ref())
 }
 
 pub(crate) fn pass_by(a: &Arguments) -> Result<String, NotationError> {
-    let passed = Contexted::past(&a.list(0)?, &a.contexted(1)?)?;
+    let s = a.list(0)?;
+    let x = a.contexted(1)?;
+    passed(a, &s, &x)
+}
+
+fn passed(a: &Arguments, s: &Seq, x: &Contexted) -> Result<String, NotationError> {
+    let passed = Contexted::past(s, x)?;
     found(a, passed.as_ref())
 }
 
-pub(crate) fn found(a: &Arguments, x: Option<&Contexted>) -> Result<String, NotationError> {
-    match x {
-        Some(x) => results::contexted(a, x),
-        None => tables::none(a),
-    }
-}
-
 pub(crate) fn are_in_conflict(a: &Arguments) -> Result<String, NotationError> {
-    let are = conflict(&a.contexted(0)?, &a.contexted(1)?)?;
-    tables::yes_or_no(a, are)
+    let x = a.contexted(0)?;
+    let y = a.contexted(1)?;
+    yes_or_no(a, conflict(&x, &y)?)
 }
 
 pub(crate) fn merged(a: &Arguments) -> Result<String, NotationError> {
-    match merge_behind_common(a.alloc(), &a.list(0)?, &a.list(1)?)? {
-        Some((second, first)) => both(a, &second, &first),
-        None => tables::none(a),
-    }
-}
-
-fn both(a: &Arguments, second: &Seq, first: &Seq) -> Result<String, NotationError> {
-    let second = tables::list(a, second)?;
-    let first = tables::list(a, first)?;
-    tables::pair(second, &first)
+    let first = a.list(0)?;
+    let second = a.list(1)?;
+    both(a, merge_behind_common(a.alloc(), &first, &second)?)
 }

@@ -1,14 +1,14 @@
-use crate::results;
+use crate::results::key_text;
 use camp_base::Name;
-use camp_catch::{Arranged, NoMerge, Stuck, align, arrange, merge_lists};
+use camp_catch::{NoMerge, Stuck, align, arrange, merge_lists};
 use camp_notation::NotationError;
 use camp_prim::Key;
 use camp_share::SharedMap;
 use std::alloc::AllocError;
-use tables::Arguments;
+use tables::{Arguments, Shown, pair_text};
 
 pub(crate) fn read(a: &Arguments) -> Result<String, NotationError> {
-    results::catches(a, &a.catches(0)?)
+    a.catches(0)?.text(a)
 }
 
 /// The names stand behind the list, each as a label.
@@ -16,20 +16,14 @@ pub(crate) fn arranged(a: &Arguments) -> Result<String, NotationError> {
     let list = a.catches(0)?;
     let names = names(a)?;
     match arrange(a.alloc(), &list, &names)? {
-        Ok(arranged) => both(a, &arranged),
+        Ok(arranged) => pair_text(a, &arranged.first, &arranged.rest),
         Err(stuck) => Ok(stuck_on(a, stuck)?),
     }
 }
 
-fn both(a: &Arguments, arranged: &Arranged) -> Result<String, NotationError> {
-    let first = results::catches(a, &arranged.first)?;
-    let rest = results::catches(a, &arranged.rest)?;
-    tables::pair(first, &rest)
-}
-
 fn stuck_on(a: &Arguments, stuck: Stuck) -> Result<String, AllocError> {
-    let patch = results::key(a, stuck.patch)?;
-    let on = results::key(a, stuck.on)?;
+    let patch = key_text(a, stuck.patch)?;
+    let on = key_text(a, stuck.on)?;
     format!(in a.alloc(); "stuck {patch} on {on}")
 }
 
@@ -38,27 +32,27 @@ pub(crate) fn aligned(a: &Arguments) -> Result<String, NotationError> {
     let list = a.catches(0)?;
     let order = keys(a)?;
     match align(a.alloc(), &list, &order)? {
-        Ok(aligned) => results::catches(a, &aligned),
+        Ok(aligned) => aligned.text(a),
         Err(key) => Ok(stuck(a, key)?),
     }
 }
 
 fn stuck(a: &Arguments, key: Key) -> Result<String, AllocError> {
-    let key = results::key(a, key)?;
+    let key = key_text(a, key)?;
     format!(in a.alloc(); "stuck {key}")
 }
 
 pub(crate) fn merged(a: &Arguments) -> Result<String, NotationError> {
     let (ours, theirs) = (a.catches(0)?, a.catches(1)?);
     match merge_lists(a.alloc(), &ours, &theirs)? {
-        Ok(merged) => results::catches(a, &merged),
+        Ok(merged) => merged.text(a),
         Err(pair) => Ok(no_merge(a, pair)?),
     }
 }
 
 fn no_merge(a: &Arguments, pair: NoMerge) -> Result<String, AllocError> {
-    let left = results::key(a, pair.left)?;
-    let right = results::key(a, pair.right)?;
+    let left = key_text(a, pair.left)?;
+    let right = key_text(a, pair.right)?;
     format!(in a.alloc(); "no merge of {left} and {right}")
 }
 

@@ -12,33 +12,22 @@ mod lists;
 mod results;
 mod sets;
 
-use bstr::ByteSlice;
 use camp_notation::NotationError;
 use std::io;
 use std::io::Read;
-use tables::{Arguments, Table, print_line, print_result, split_call};
+use tables::{Arguments, Calls, print_table};
 
 fn main(rt: HostRuntime) -> io::Result<()> {
     let mut input = Vec::new(rt.alloc());
     rt.stdin().read_to_end(&mut input)?;
-    let mut table = Table::new(rt.alloc());
-    for line in input.as_slice().lines() {
-        print_line(&rt, line)?;
-        print_result(&rt, answer(&mut table, line))?;
-    }
-    Ok(())
+    print_table::<CatchCalls, HostRuntime>(&rt, rt.alloc(), &input)
 }
 
-/// The result of a line, where it is a call.
-fn answer(table: &mut Table, line: &[u8]) -> Result<Option<String>, NotationError> {
-    match split_call(line) {
-        Some((name, text)) => {
-            let arguments = Arguments::new(table, text)?;
-            Ok(Some(calls::call(name, &arguments)?))
-        }
-        None => {
-            table.learn(line)?;
-            Ok(None)
-        }
+/// The calls of contexts, sets and catches.
+struct CatchCalls;
+
+impl Calls for CatchCalls {
+    fn call(name: &[u8], a: &Arguments) -> Result<String, NotationError> {
+        calls::call(name, a)
     }
 }

@@ -1,16 +1,17 @@
-use crate::contexts::found;
-use crate::results;
-use camp_ctx::CtxSet;
+use camp_ctx::{Contexted, CtxSet};
 use camp_notation::NotationError;
-use tables::Arguments;
+use camp_prim::{Key, Named};
+use camp_seq::Seq;
+use tables::{Arguments, Shown, found, yes_or_no};
 
 pub(crate) fn read(a: &Arguments) -> Result<String, NotationError> {
-    results::set(a, &a.set(0)?)
+    a.set(0)?.text(a)
 }
 
 pub(crate) fn are_same(a: &Arguments) -> Result<String, NotationError> {
-    let (left, right) = (a.set(0)?, a.set(1)?);
-    tables::yes_or_no(a, left.is_same(&right))
+    let left = a.set(0)?;
+    let right = a.set(1)?;
+    yes_or_no(a, left.is_same(&right))
 }
 
 pub(crate) fn member_count(a: &Arguments) -> Result<String, NotationError> {
@@ -36,21 +37,41 @@ pub(crate) fn sole_member(a: &Arguments) -> Result<String, NotationError> {
 }
 
 pub(crate) fn insert(a: &Arguments) -> Result<String, NotationError> {
-    let set = a.set(0)?.insert(&a.contexted(1)?)?;
-    results::set(a, &set)
+    let set = a.set(0)?;
+    let x = a.contexted(1)?;
+    inserted(a, &set, &x)
+}
+
+fn inserted(a: &Arguments, set: &CtxSet, x: &Contexted) -> Result<String, NotationError> {
+    set.insert(x)?.text(a)
 }
 
 pub(crate) fn without(a: &Arguments) -> Result<String, NotationError> {
-    let set = a.set(0)?.without(&a.key(1)?)?;
-    results::set(a, &set)
+    let set = a.set(0)?;
+    let key = a.key(1)?;
+    removed(a, &set, &key)
+}
+
+fn removed(a: &Arguments, set: &CtxSet, key: &Key) -> Result<String, NotationError> {
+    set.without(key)?.text(a)
 }
 
 pub(crate) fn add_one(a: &Arguments) -> Result<String, NotationError> {
-    let set = CtxSet::add_one(&a.named(0)?, &a.set(1)?)?;
-    results::set(a, &set)
+    let p = a.named(0)?;
+    let set = a.set(1)?;
+    added_one(a, &p, &set)
+}
+
+fn added_one(a: &Arguments, p: &Named, set: &CtxSet) -> Result<String, NotationError> {
+    CtxSet::add_one(p, set)?.text(a)
 }
 
 pub(crate) fn add(a: &Arguments) -> Result<String, NotationError> {
-    let set = CtxSet::add(&a.list(0)?, &a.set(1)?)?;
-    results::set(a, &set)
+    let s = a.list(0)?;
+    let set = a.set(1)?;
+    added(a, &s, &set)
+}
+
+fn added(a: &Arguments, s: &Seq, set: &CtxSet) -> Result<String, NotationError> {
+    CtxSet::add(s, set)?.text(a)
 }
