@@ -89,9 +89,22 @@ pub(crate) fn commuted(a: &Arguments) -> Result<String, NotationError> {
 pub(crate) fn exchanged(a: &Arguments) -> Result<String, NotationError> {
     let p = a.named(0)?;
     let q = a.named(1)?;
-    let mut pair = (p.try_clone()?, q.try_clone()?);
-    let done = exchange(&mut pair.0, &mut pair.1);
-    let text = pair_text(a, &pair.0, &pair.1)?;
+    exchanged_copies(a, &p, &q)
+}
+
+fn exchanged_copies(a: &Arguments, p: &Named, q: &Named) -> Result<String, NotationError> {
+    let mut first = p.try_clone()?;
+    let mut second = q.try_clone()?;
+    exchanged_here(a, &mut first, &mut second)
+}
+
+fn exchanged_here(
+    a: &Arguments,
+    first: &mut Named,
+    second: &mut Named,
+) -> Result<String, NotationError> {
+    let done = exchange(first, second);
+    let text = pair_text(a, first, second)?;
     if done { Ok(text) } else { stayed(a, &text) }
 }
 
