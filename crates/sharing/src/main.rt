@@ -4,6 +4,7 @@
 #![tactic(auto)]
 
 mod lists;
+mod names;
 mod operations;
 mod patches;
 mod states;

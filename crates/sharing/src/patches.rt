@@ -35,11 +35,16 @@ fn patch_of(alloc: Global, size: u32) -> Result<Named> {
 }
 
 fn hunk_of(alloc: Global, size: u32) -> Result<Primitive> {
+    let old = side(alloc, size)?;
+    let new = side(alloc, size)?;
     let path = Path::new(alloc, b"f")?;
-    let old = Lines::new(alloc, lines_of(alloc, size)?)?;
-    let new = Lines::new(alloc, lines_of(alloc, size)?)?;
     match Primitive::hunk(path, 1, old, new) {
         Some(hunk) => Ok(hunk),
         None => bail!("a hunk without lines"),
     }
+}
+
+fn side(alloc: Global, size: u32) -> Result<Lines> {
+    let lines = lines_of(alloc, size)?;
+    Ok(Lines::new(alloc, lines)?)
 }

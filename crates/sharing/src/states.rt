@@ -1,3 +1,4 @@
+use crate::names::numbered;
 use crate::operations::Operation;
 use anyhow::{Result, bail, ensure};
 use camp_base::{Name, Path};
@@ -53,7 +54,7 @@ fn addition(alloc: Global, number: u32) -> Result<Call> {
 }
 
 fn name_of(alloc: Global, number: u32) -> Result<Name> {
-    let text = format!(in alloc; "f{number:06}")?;
+    let text = numbered(alloc, number)?;
     Ok(Name::new(text.as_bytes())?)
 }
 

@@ -1,7 +1,8 @@
+use crate::names::numbered;
 use crate::operations::Operation;
 use anyhow::{Result, bail};
 use camp_base::{Line, Path, Tree};
-use std::alloc::Global;
+use std::alloc::{AllocError, Global};
 
 /// Takes an operation on a tree of so many files.
 pub(crate) fn operate(alloc: Global, size: u32, operation: Operation) -> Result<()> {
@@ -26,7 +27,7 @@ fn tree_of(alloc: Global, size: u32) -> Result<Tree> {
 }
 
 fn path_of(alloc: Global, number: u32) -> Result<Path> {
-    let text = format!(in alloc; "f{number:06}")?;
+    let text = numbered(alloc, number)?;
     Ok(Path::new(alloc, text.as_bytes())?)
 }
 
@@ -59,6 +60,10 @@ fn file_of(alloc: Global, path: &Path, size: u32) -> Result<Tree> {
 /// So many lines, each a copy of one.
 pub(crate) fn lines_of(alloc: Global, size: u32) -> Result<Vec<Line>> {
     let line = Line::new(alloc, b"line")?;
+    Ok(copies_of(alloc, &line, size)?)
+}
+
+fn copies_of(alloc: Global, line: &Line, size: u32) -> Result<Vec<Line>, AllocError> {
     let mut lines = Vec::new(alloc);
     for _ in 0..size {
         lines.push(line.try_clone()?)?;
