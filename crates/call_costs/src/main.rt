@@ -24,23 +24,27 @@ const MAX_COUNT: u32 = 4_000;
 fn main(rt: HostRuntime) -> Result<()> {
     let mut words = env::args(&rt)?;
     let _program = words.next();
-    let Some(measure) = words.next() else {
+    let Some(what) = words.next() else {
         return Ok(());
     };
-    let Some(word) = words.next() else {
+    let Some(count) = words.next() else {
         bail!("how many?");
     };
-    let count = word.as_str().parse::<u32>()?;
+    measure(&rt, &what, &count)
+}
+
+fn measure(rt: &HostRuntime, what: &str, count: &str) -> Result<()> {
+    let count = count.parse::<u32>()?;
     ensure!(count <= MAX_COUNT, "at most {MAX_COUNT}");
     let mut book = Book::<State>::new(rt.alloc())?;
-    match measure.as_str() {
-        "records" => records(&rt, &mut book, count),
-        "edits" => edits(&rt, &mut book, count),
-        "branches" => branches(&rt, &mut book, count),
-        "chain" => chain(&rt, &mut book, count),
-        "lists" => lists(&rt, &mut book, count),
-        "obliterate" => obliterate(&rt, &mut book, count),
-        "common" => common(&rt, &mut book, count),
+    match what {
+        "records" => records(rt, &mut book, count),
+        "edits" => edits(rt, &mut book, count),
+        "branches" => branches(rt, &mut book, count),
+        "chain" => chain(rt, &mut book, count),
+        "lists" => lists(rt, &mut book, count),
+        "obliterate" => obliterate(rt, &mut book, count),
+        "common" => common(rt, &mut book, count),
         _ => bail!("records, edits, branches, chain, lists, obliterate or common"),
     }
 }
@@ -49,66 +53,66 @@ fn records(rt: &HostRuntime, book: &mut Book<State>, count: u32) -> Result<()>
     requires { count ≤ 4_000 }
 {
     let added = calls::added_files(rt.alloc(), count)?;
-    tell(rt, book, "records", &added)
+    tell(rt, book, "records", added)
 }
 
 fn edits(rt: &HostRuntime, book: &mut Book<State>, count: u32) -> Result<()>
     requires { count ≤ 4_000 }
 {
     let alloc = rt.alloc();
-    make(book, &calls::opening(alloc, 0)?)?;
+    make(book, calls::opening(alloc, 0)?)?;
     let edits = calls::lines_put_in(alloc, count)?;
-    tell(rt, book, "edits", &edits)
+    tell(rt, book, "edits", edits)
 }
 
 fn branches(rt: &HostRuntime, book: &mut Book<State>, count: u32) -> Result<()>
     requires { count ≤ 4_000 }
 {
     let alloc = rt.alloc();
-    make(book, &calls::opening(alloc, 1)?)?;
-    make(book, &calls::edited_branches(alloc, count)?)?;
+    make(book, calls::opening(alloc, 1)?)?;
+    make(book, calls::edited_branches(alloc, count)?)?;
     let pulls = calls::pulls_of_branches(alloc, count)?;
-    tell(rt, book, "pulls", &pulls)
+    tell(rt, book, "pulls", pulls)
 }
 
 fn chain(rt: &HostRuntime, book: &mut Book<State>, count: u32) -> Result<()>
     requires { count ≤ 4_000 }
 {
     let alloc = rt.alloc();
-    make(book, &calls::opening(alloc, 1)?)?;
-    make(book, &calls::edits_of_lines(alloc, "one", 1)?)?;
-    make(book, &calls::chain_of_edits(alloc, "chain", count)?)?;
-    make(book, &calls::copies(alloc, "one", "merged")?)?;
-    make(book, &calls::copies(alloc, "chain", "behind")?)?;
+    make(book, calls::opening(alloc, 1)?)?;
+    make(book, calls::edits_of_lines(alloc, "one", 1)?)?;
+    make(book, calls::chain_of_edits(alloc, "chain", count)?)?;
+    make(book, calls::copies(alloc, "one", "merged")?)?;
+    make(book, calls::copies(alloc, "chain", "behind")?)?;
     tell(
         rt,
         book,
         "chain into one",
-        &calls::pulls(alloc, "chain", "merged")?,
+        calls::pulls(alloc, "chain", "merged")?,
     )?;
     tell(
         rt,
         book,
         "one into chain",
-        &calls::pulls(alloc, "one", "chain")?,
+        calls::pulls(alloc, "one", "chain")?,
     )?;
-    tell(rt, book, "back", &calls::pulls(alloc, "merged", "behind")?)
+    tell(rt, book, "back", calls::pulls(alloc, "merged", "behind")?)
 }
 
 fn lists(rt: &HostRuntime, book: &mut Book<State>, count: u32) -> Result<()>
     requires { count ≤ 4_000 }
 {
     let alloc = rt.alloc();
-    make(book, &calls::opening(alloc, 2 * count)?)?;
-    make(book, &calls::edits_of_lines(alloc, "ours", count)?)?;
-    make(book, &calls::edits_of_lines(alloc, "theirs", count)?)?;
+    make(book, calls::opening(alloc, 2 * count)?)?;
+    make(book, calls::edits_of_lines(alloc, "ours", count)?)?;
+    make(book, calls::edits_of_lines(alloc, "theirs", count)?)?;
     tell(
         rt,
         book,
         "theirs into ours",
-        &calls::pulls(alloc, "theirs", "ours")?,
+        calls::pulls(alloc, "theirs", "ours")?,
     )?;
-    tell(rt, book, "back", &calls::pulls(alloc, "ours", "theirs")?)
+    tell(rt, book, "back", calls::pulls(alloc, "ours", "theirs")?)
 }
 
 fn obliterate(rt: &HostRuntime, book: &mut Book<State>, count: u32) -> Result<()>
@@ -116,35 +120,30 @@ fn obliterate(rt: &HostRuntime, book: &mut Book<State>, count: u32) -> Result<()
 {
     let alloc = rt.alloc();
     ensure!(count >= 2, "at least 2");
-    make(book, &calls::added_files(alloc, count)?)?;
-    tell(rt, book, "the last", &calls::taken_out(alloc, count - 1)?)?;
-    tell(rt, book, "the first", &calls::taken_out(alloc, 0)?)
+    make(book, calls::added_files(alloc, count)?)?;
+    tell(rt, book, "the last", calls::taken_out(alloc, count - 1)?)?;
+    tell(rt, book, "the first", calls::taken_out(alloc, 0)?)
 }
 
 fn common(rt: &HostRuntime, book: &mut Book<State>, count: u32) -> Result<()>
     requires { count ≤ 4_000 }
 {
     let alloc = rt.alloc();
-    make(book, &calls::copies(alloc, "main", "empty")?)?;
-    make(book, &calls::added_files(alloc, count)?)?;
-    make(book, &calls::copies(alloc, "main", "other")?)?;
-    make(book, &calls::added_file(alloc, "other")?)?;
-    tell(
-        rt,
-        book,
-        "one patch",
-        &calls::pulls(alloc, "other", "main")?,
-    )?;
+    make(book, calls::copies(alloc, "main", "empty")?)?;
+    make(book, calls::added_files(alloc, count)?)?;
+    make(book, calls::copies(alloc, "main", "other")?)?;
+    make(book, calls::added_file(alloc, "other")?)?;
+    tell(rt, book, "one patch", calls::pulls(alloc, "other", "main")?)?;
     tell(
         rt,
         book,
         "all patches",
-        &calls::pulls(alloc, "other", "empty")?,
+        calls::pulls(alloc, "other", "empty")?,
     )
 }
 
 /// Makes calls, and tells how long they take together.
-fn tell(rt: &HostRuntime, book: &mut Book<State>, what: &str, calls: &[Call]) -> Result<()> {
+fn tell(rt: &HostRuntime, book: &mut Book<State>, what: &str, calls: Vec<Call>) -> Result<()> {
     let start = Instant::now(rt)?;
     make(book, calls)?;
     let time = start.elapsed(rt)?.as_micros();
@@ -153,13 +152,17 @@ fn tell(rt: &HostRuntime, book: &mut Book<State>, what: &str, calls: &[Call]) ->
 }
 
 /// Makes calls, each of which has to be accepted.
-fn make(book: &mut Book<State>, calls: &[Call]) -> Result<()> {
-    for (at, call) in calls.iter().enumerate() {
-        match book.ask(0, call)? {
-            Reply::Done(_) => {}
-            Reply::Refused(refusal) => bail!("call {at} is refused: {refusal:?}"),
-            _ => bail!("call {at} is a question"),
-        }
+fn make(book: &mut Book<State>, calls: Vec<Call>) -> Result<()> {
+    for call in &calls {
+        expect_done(book.ask(0, call)?)?;
     }
     Ok(())
+}
+
+fn expect_done(reply: Reply) -> Result<()> {
+    match reply {
+        Reply::Done(_) => Ok(()),
+        Reply::Refused(refusal) => bail!("a call is refused: {refusal:?}"),
+        _ => bail!("a call is a question"),
+    }
 }
