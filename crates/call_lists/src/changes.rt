@@ -1,11 +1,11 @@
-use crate::number;
-use anyhow::{Result, bail};
+use crate::ListFault;
+use crate::words::number;
 use camp_base::{Line, Path};
 use camp_prim::{Lines, Primitive};
 use std::alloc::{AllocError, Global};
 
 /// The changes of a record, with a word `;` between each two.
-pub(crate) fn read_changes(alloc: Global, words: &[&[u8]]) -> Result<Vec<Primitive>> {
+pub(crate) fn read_changes(alloc: Global, words: &[&[u8]]) -> Result<Vec<Primitive>, ListFault> {
     let mut changes = Vec::new(alloc);
     for change in words.split(|word| *word == b";".as_slice()) {
         changes.push(read_change(alloc, change)?)?;
@@ -13,7 +13,7 @@ pub(crate) fn read_changes(alloc: Global, words: &[&[u8]]) -> Result<Vec<Primiti
     Ok(changes)
 }
 
-fn read_change(alloc: Global, words: &[&[u8]]) -> Result<Primitive> {
+fn read_change(alloc: Global, words: &[&[u8]]) -> Result<Primitive, ListFault> {
     match words {
         [kind, path] if *kind == b"add".as_slice() => Ok(Primitive::Add(Path::new(alloc, path)?)),
         [kind, path] if *kind == b"remove".as_slice() => {
@@ -30,27 +30,38 @@ fn read_change(alloc: Global, words: &[&[u8]]) -> Result<Primitive> {
             let lines = equal_lines(alloc, count)?;
             edit_of(alloc, path, line, lines, no_lines(alloc)?)
         }
-        _ => bail!("no such change"),
+        _ => Err(ListFault::NoChange),
     }
 }
 
-fn read_edit(alloc: Global, path: &[u8], line: &[u8], sides: &[&[u8]]) -> Result<Primitive> {
+fn read_edit(
+    alloc: Global,
+    path: &[u8],
+    line: &[u8],
+    sides: &[&[u8]],
+) -> Result<Primitive, ListFault> {
     let old = read_side(alloc, b'-', sides)?;
     let new = read_side(alloc, b'+', sides)?;
     edit_of(alloc, path, line, old, new)
 }
 
-fn edit_of(alloc: Global, path: &[u8], line: &[u8], old: Lines, new: Lines) -> Result<Primitive> {
+fn edit_of(
+    alloc: Global,
+    path: &[u8],
+    line: &[u8],
+    old: Lines,
+    new: Lines,
+) -> Result<Primitive, ListFault> {
     let line = number(line)?;
     let path = Path::new(alloc, path)?;
     match Primitive::hunk(path, line, old, new) {
         Some(change) => Ok(change),
-        None => bail!("no such edit"),
+        None => Err(ListFault::NoEdit),
     }
 }
 
 /// The lines of the words that begin with this sign.
-fn read_side(alloc: Global, sign: u8, words: &[&[u8]]) -> Result<Lines> {
+fn read_side(alloc: Global, sign: u8, words: &[&[u8]]) -> Result<Lines, ListFault> {
     let mut lines = Vec::new(alloc);
     for word in words {
         if let [first, bytes @ ..] = *word {
@@ -67,7 +78,7 @@ fn no_lines(alloc: Global) -> Result<Lines, AllocError> {
 }
 
 /// As many lines `x` as a word tells.
-fn equal_lines(alloc: Global, count: &[u8]) -> Result<Lines> {
+fn equal_lines(alloc: Global, count: &[u8]) -> Result<Lines, ListFault> {
     let count = number(count)?;
     let mut lines = Vec::new(alloc);
     for _ in 0..count {

@@ -1,11 +1,11 @@
+use crate::ListFault;
 use crate::changes::read_changes;
-use anyhow::{Result, bail};
 use camp_base::Name;
-use camp_repo::{Call, Changes, Names};
+use camp_call::{Call, Changes, Names};
 use std::alloc::Global;
 
 /// The call of this kind, whose other words are these.
-pub(crate) fn read_call(alloc: Global, kind: &[u8], words: &[&[u8]]) -> Result<Call> {
+pub(crate) fn read_call(alloc: Global, kind: &[u8], words: &[&[u8]]) -> Result<Call, ListFault> {
     match kind {
         b"branch" => read_branch(words),
         b"record" => read_record(alloc, words),
@@ -16,18 +16,18 @@ pub(crate) fn read_call(alloc: Global, kind: &[u8], words: &[&[u8]]) -> Result<C
     }
 }
 
-fn read_branch(words: &[&[u8]]) -> Result<Call> {
+fn read_branch(words: &[&[u8]]) -> Result<Call, ListFault> {
     let [new, from] = words else {
-        bail!("branch NEW FROM");
+        return Err(ListFault::NoCall);
     };
     let new = Name::new(new)?;
     let from = Name::new(from)?;
     Ok(Call::Branch { new, from })
 }
 
-fn read_record(alloc: Global, words: &[&[u8]]) -> Result<Call> {
+fn read_record(alloc: Global, words: &[&[u8]]) -> Result<Call, ListFault> {
     let [branch, name, changes @ ..] = words else {
-        bail!("record BRANCH NAME CHANGE [; CHANGE]..");
+        return Err(ListFault::NoCall);
     };
     let branch = Name::new(branch)?;
     let name = Name::new(name)?;
@@ -40,19 +40,19 @@ pub(crate) fn record_of(
     branch: Name,
     name: Name,
     changes: &[&[u8]],
-) -> Result<Call> {
+) -> Result<Call, ListFault> {
     match Changes::new(read_changes(alloc, changes)?) {
         Some(changes) => Ok(Call::Record {
             branch,
             name,
             changes,
         }),
-        None => bail!("1 to 64 changes"),
+        None => Err(ListFault::NotSized),
     }
 }
 
 /// Without names everything is pulled that is lacking.
-fn read_pull(alloc: Global, words: &[&[u8]]) -> Result<Call> {
+fn read_pull(alloc: Global, words: &[&[u8]]) -> Result<Call, ListFault> {
     match words {
         [from, to] => Ok(Call::Pull {
             from: Name::new(from)?,
@@ -64,9 +64,9 @@ fn read_pull(alloc: Global, words: &[&[u8]]) -> Result<Call> {
 }
 
 /// A pull of a list of names, which may have none.
-fn read_listed_pull(alloc: Global, words: &[&[u8]]) -> Result<Call> {
+fn read_listed_pull(alloc: Global, words: &[&[u8]]) -> Result<Call, ListFault> {
     let [from, to, names @ ..] = words else {
-        bail!("pull FROM TO [NAME..]");
+        return Err(ListFault::NoCall);
     };
     let from = Name::new(from)?;
     let to = Name::new(to)?;
@@ -78,29 +78,29 @@ fn read_listed_pull(alloc: Global, words: &[&[u8]]) -> Result<Call> {
     })
 }
 
-fn read_obliterate(alloc: Global, words: &[&[u8]]) -> Result<Call> {
+fn read_obliterate(alloc: Global, words: &[&[u8]]) -> Result<Call, ListFault> {
     let [branch, names @ ..] = words else {
-        bail!("obliterate BRANCH [NAME..]");
+        return Err(ListFault::NoCall);
     };
     let branch = Name::new(branch)?;
     let names = read_names(alloc, names)?;
     Ok(Call::Obliterate { branch, names })
 }
 
-fn read_question(kind: &[u8], words: &[&[u8]]) -> Result<Call> {
+fn read_question(kind: &[u8], words: &[&[u8]]) -> Result<Call, ListFault> {
     let [branch] = words else {
-        bail!("no such call");
+        return Err(ListFault::NoCall);
     };
     let branch = Name::new(branch)?;
     match kind {
         b"tree" => Ok(Call::Tree(branch)),
         b"conflicts" => Ok(Call::Conflicts(branch)),
         b"names" => Ok(Call::Names(branch)),
-        _ => bail!("no such call"),
+        _ => Err(ListFault::NoCall),
     }
 }
 
-fn read_names(alloc: Global, words: &[&[u8]]) -> Result<Names> {
+fn read_names(alloc: Global, words: &[&[u8]]) -> Result<Names, ListFault> {
     let mut names = Vec::new(alloc);
     for word in words {
         names.push(Name::new(word)?)?;
