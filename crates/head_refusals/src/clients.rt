@@ -1,13 +1,12 @@
 ghost use Rattle.std.specs.Prelude.{◌≡◌, ◌≤◌, All, IsTrue, count_by, length};
 ghost use Rattle.camp_object.specs.NumberList.{numbers_object};
 
-use crate::wants::Wants;
 use NumberCall::{Insert, Show};
 use NumberReply::{Done, Present, Shown};
 use camp_clients::{Answers, BookRun, HeadRun, LockFault, locked, serial, shared};
 use camp_history::Gate;
 use camp_object::{NumberCall, NumberReply, Numbers};
-use refusing::{Stop, expect};
+use refusing::{Stop, Wants, expect};
 use std::alloc::{AllocError, Global};
 use std::sync::Wait;
 use std::sync::atomic::{AtomicU64, Ordering};

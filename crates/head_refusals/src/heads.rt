@@ -1,12 +1,11 @@
 ghost use Rattle.std.specs.Prelude.{All, IfSome, IfOk};
 ghost use Rattle.camp_history.specs.Seats.{IsSeatOf};
 
-use crate::wants::Wants;
 use NumberCall::{Insert, Show};
 use NumberReply::{Done, Present, Shown};
 use camp_history::{Head, HeadFault, Seat};
 use camp_object::{Fault, NumberCall, NumberReply, Numbers};
-use refusing::{Stop, expect};
+use refusing::{Stop, Wants, expect};
 use std::alloc::Global;
 use std::sync::Wait;
 

@@ -1,37 +1,33 @@
-//! Each allocation refused in turn, of heads and of clients. The first byte of standard input chooses
-//! a part of the calls (no byte: all of them). Makes an allocation for each further byte and lets it
-//! go; then goes through the calls of the part. A call that answered want of memory is made again, and
-//! all that follows has to be as if it had been granted at once. Prints `done` where no call wanted
-//! memory, `refused` where one did, and `wrong` with the name of a call otherwise.
+//! Each allocation refused in turn, of heads and of clients: `head_refusals h 17`. The letter chooses a
+//! part of the calls (with no letter all are made, and no number is read). Makes as many allocations as
+//! the number tells, and lets each go; then goes through the calls of the part. A call that answered
+//! want of memory is made again, and all that follows has to be as if it had been granted at once.
+//! Prints `done` where no call wanted memory, `refused` where one did, and `wrong` with the name of a
+//! call otherwise.
 #![tactic(auto)]
 
 mod clients;
 mod heads;
-mod wants;
 
-use refusing::{Stop, allocate, allocate_for_each_byte, next_byte, tell};
+use refusing::{Stop, Wants, allocate, allocate_each, read_count, read_part, tell};
 use std::alloc::Global;
+use std::env::Env;
 use std::io;
 use std::sync::Wait;
 use std::thread::Threads;
-use wants::Wants;
 
 fn main(rt: HostRuntime) -> io::Result<()> {
-    let mut reader = rt.stdin();
-    let part = next_byte(&mut reader)?;
-    allocate_for_each_byte(rt.alloc(), &mut reader)?;
-    tell(&rt, make_calls(&rt, rt.alloc(), part))
+    tell(&rt, make_asked_calls(&rt, rt.alloc()))
 }
 
-fn make_calls<R: Threads + Wait + Sync>(
-    rt: &R,
-    alloc: Global,
-    part: Option<u8>,
-) -> Result<(), Stop> {
+fn make_asked_calls<R: Env + Threads + Wait + Sync>(rt: &R, alloc: Global) -> Result<(), Stop> {
     let mut wants = Wants::new();
-    match part {
+    match read_part(rt)? {
+        Some(part) => {
+            allocate_each(alloc, read_count(rt, 2)?)?;
+            make_calls_of(rt, alloc, part, &mut wants)?;
+        }
         None => make_all_calls(rt, alloc, &mut wants)?,
-        Some(part) => make_calls_of(rt, alloc, part, &mut wants)?,
     }
     wants.are_none()?;
     Ok(allocate(alloc)?)

@@ -1,24 +1,38 @@
 use crate::Stop;
 use std::alloc::{AllocError, Global};
-use std::io;
-use std::io::Read;
+use std::env::{Env, FillError};
+use std::{io, str};
 
-/// The next byte of the input, where there is one.
-pub fn next_byte(reader: &mut impl Read) -> io::Result<Option<u8>> {
-    let mut byte = [0];
-    if reader.read(&mut byte)? == 0 {
-        return Ok(None);
+/// The part of the calls that the first argument names by its letter, where there is one.
+pub fn read_part(rt: &impl Env) -> Result<Option<u8>, Stop> {
+    let mut letter = [0; 1];
+    match rt.arg(1, &mut letter) {
+        Ok(1) => Ok(Some(letter[0])),
+        Ok(_) | Err(FillError::TooLong) => Err(Stop::Wrong("the part that is asked for")),
+        Err(FillError::NotPresent) => Ok(None),
     }
-    Ok(Some(byte[0]))
 }
 
-/// Makes an allocation for each byte that is left, and lets it go.
-pub fn allocate_for_each_byte(alloc: Global, reader: &mut impl Read) -> io::Result<()> {
-    for _ in 0..u64::MAX {
-        if next_byte(reader)?.is_none() {
-            break;
+/// How many allocations are to be made before the calls, as the argument at this place tells.
+pub fn read_count(rt: &impl Env, at: usize) -> Result<u32, Stop> {
+    let mut digits = [0; 10];
+    let Ok(length) = rt.arg(at, &mut digits) else {
+        return Err(NO_COUNT);
+    };
+    let Ok(text) = str::from_utf8(&digits[..length]) else {
+        return Err(NO_COUNT);
+    };
+    text.parse::<u32>().map_err(|_| NO_COUNT)
+}
+
+const NO_COUNT: Stop = Stop::Wrong("the number of allocations");
+
+/// Makes so many allocations, and lets each go. None of them is to be refused.
+pub fn allocate_each(alloc: Global, count: u32) -> Result<(), Stop> {
+    for _ in 0..count {
+        if allocate(alloc).is_err() {
+            return Err(Stop::Wrong("an allocation before the calls"));
         }
-        allocate(alloc)?;
     }
     Ok(())
 }
