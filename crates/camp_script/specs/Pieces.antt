@@ -1,5 +1,5 @@
--- How the lines of a script fall into edits, groups and sections. A line's first words decide it, whether they are good
--- or not: where they are not, the line has a fault, and nothing behind it is read.
+-- How the lines of a script fall into edits, groups and sections. A line's first words decide it, and nothing is a fault
+-- here: where a line has one, reading ends there, and how the lines behind it are cut does not matter.
 use Rattle.std.specs.Prelude.{ℕ, ◌+◌, Bool, true, false, not, ◌&&◌, ◌||◌, if◌then◌else◌}
 use Rattle.std.specs.Prelude.{List, [], ◌∷◌, drop, bytes_eq, codes}
 use Rattle.camp_script.specs.Lines.{words_of}

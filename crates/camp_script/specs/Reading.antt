@@ -1,4 +1,5 @@
--- The script that bytes are, section by section, or its first fault from the top.
+-- The script that bytes are, section by section, or its first fault: the pieces that its lines fall into are read from the
+-- top.
 use Rattle.std.specs.Prelude.{ℕ, Bool, ◌&&◌, nat_le, if◌then◌else◌}
 use Rattle.std.specs.Prelude.{List, [], ◌∷◌, ◌++◌, length, count_by, Result, Ok}
 use Rattle.camp_call.specs.Calls.{is_writing}
