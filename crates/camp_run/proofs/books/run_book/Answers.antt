@@ -1,0 +1,11 @@
+use Rattle.std.proofs.Common.{subst, sym}
+use Rattle.camp_run.specs.Runs.{HasOutput}
+use Rattle.camp_run.specs.Serial.{IsSerial}
+use Rattle.camp_run.proofs.Written.{written}
+use Rattle.camp_run.proofs.books.run_book.Goals as goal
+
+pub returns-clause-runs : goal.returns-clause-runs
+returns-clause-runs g c =
+    written IsSerial c.args.history _ _ _ _ c.deref.result.now c.write_output.result
+    (subst (HasOutput IsSerial c.args.history _ _) (sym c.deref.ensures.value) c.in_ok-text.ensures.text)
+    c.write_output.ensures
