@@ -26,8 +26,3 @@ pub const MAX_SECTIONS: usize = 64;
 
 /// The most writing commands of one section of a script.
 pub const MAX_WRITES: usize = 65_536;
-
-#[cfg(test)]
-mod tests;
-#[cfg(test)]
-mod text_tests;

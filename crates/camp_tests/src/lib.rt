@@ -1,5 +1,9 @@
-//! Tests of whole runs, from a reader to a writer that may fail.
+//! Tests of scripts and texts, and of whole runs, from a reader to a writer that may fail.
 #![tactic(auto)]
 
 #[cfg(test)]
 mod ends;
+#[cfg(test)]
+mod scripts;
+#[cfg(test)]
+mod texts;

@@ -1,4 +1,4 @@
-use crate::{FaultKind, LineFault, ScriptFault, read_script};
+use camp_script::{FaultKind, LineFault, ScriptFault, read_script};
 use std::test::Fail;
 
 #[test]

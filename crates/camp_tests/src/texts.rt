@@ -1,7 +1,9 @@
-use crate::{append_reply, append_sections, read_script, write_history, write_reply, write_text};
 use camp_base::Name;
 use camp_call::{Conflicts, Names, Refusal, Reply};
 use camp_object::Fault;
+use camp_script::{
+    append_reply, append_sections, read_script, write_history, write_reply, write_text,
+};
 use std::alloc::Global;
 use std::io;
 use std::io::{ErrorKind, Write};
