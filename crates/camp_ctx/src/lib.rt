@@ -17,6 +17,3 @@ pub use laws::{
     conflict_is_symmetric, results_in_context_are_determined,
 };
 pub use sets::CtxSet;
-
-#[cfg(test)]
-mod tests;

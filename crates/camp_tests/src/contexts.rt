@@ -1,5 +1,5 @@
-use crate::{Contexted, CtxSet, conflict};
 use camp_base::{Line, Name, Path};
+use camp_ctx::{Contexted, CtxSet, conflict};
 use camp_prim::{Lines, Named, Primitive};
 use camp_seq::Seq;
 use std::alloc::Global;
