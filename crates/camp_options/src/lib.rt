@@ -7,6 +7,3 @@ mod words;
 
 pub use kinds::Options;
 pub use words::options;
-
-#[cfg(test)]
-mod tests;

@@ -1,4 +1,4 @@
-use crate::{Options, options};
+use camp_options::{Options, options};
 use clap::error::ErrorKind;
 use std::alloc::Global;
 use std::test::Fail;
