@@ -12,6 +12,3 @@ pub use iters::Iter;
 pub use lists::SharedList;
 pub use maps::{Key, SharedMap};
 pub use shared::{Share, Shared};
-
-#[cfg(test)]
-mod tests;

@@ -1,19 +1,42 @@
 ghost use Rattle.std.specs.FinMap.{nat_cmp-IsAntisymmetric};
 
-use crate::{Key, Share, SharedList, SharedMap};
+use camp_share::{Key, Share, SharedList, SharedMap};
 use std::alloc::{AllocError, Global};
+use std::marker::Model;
 use std::test::Fail;
 
 /// Around none, one, two and three parts of 64.
 const LENGTHS: [u32; 6] = [0, 1, 63, 64, 65, 130];
 
-impl Share for u32 {
-    fn share(&self) -> Result<u32, AllocError> {
+/// An element, and a key in the order of its number.
+#[derive(Clone, Copy, PartialEq, Eq, PartialOrd, Ord)]
+struct Number {
+    value: u32,
+}
+
+impl Model for Number {
+    ghost use Rattle.std.specs.Prelude.{ℕ};
+
+    ghost Value = { ℕ };
+
+    ghost view = { λ number. number.value };
+
+    ghost inverse = { λ number. record { value = number } };
+}
+
+impl Number {
+    fn new(value: u32) -> Number {
+        Number { value }
+    }
+}
+
+impl Share for Number {
+    fn share(&self) -> Result<Number, AllocError> {
         Ok(*self)
     }
 }
 
-impl Key for u32 {
+impl Key for Number {
     ghost same = { nat_cmp-IsAntisymmetric };
 }
 
@@ -28,12 +51,18 @@ fn lists_of_each_length_are_changed_at_each_end(rt: HostRuntime) -> Result<(), F
             "{length}"
         );
         assert!(rt; list == list.share()?, "{length}");
-        let longer = list.pushed(length)?;
+        let longer = list.pushed(Number::new(length))?;
         assert!(rt; longer.to_vec()? == numbers(alloc, length + 1)?, "{length}");
         assert!(rt; longer.without(items.len())? == list, "{length}");
-        assert!(rt; list.inserted(0, 7)?.get(0) == Some(&7), "{length}");
         assert!(rt;
-            longer.replaced(items.len(), 7)?.get(items.len()) == Some(&7),
+            list.inserted(0, Number::new(7))?.get(0) == Some(&Number::new(7)),
+            "{length}"
+        );
+        assert!(rt;
+            longer
+                .replaced(items.len(), Number::new(7))?
+                .get(items.len())
+                == Some(&Number::new(7)),
             "{length}"
         );
         assert!(rt; list.get(items.len()).is_none(), "{length}");
@@ -70,23 +99,27 @@ fn keys_come_in_any_order_and_stand_in_theirs(rt: HostRuntime) -> Result<(), Fai
     for step in [1u32, 77, 199] {
         let mut map = SharedMap::new(alloc);
         for turn in 0u32..200 {
-            map = map.inserted(turn.wrapping_mul(step) % 200, turn)?;
+            map = map.inserted(
+                Number::new(turn.wrapping_mul(step) % 200),
+                Number::new(turn),
+            )?;
         }
         for at in 0u32..200 {
-            let turn = map.get(&at).ok_or("no value")?;
-            assert!(rt; turn.wrapping_mul(step) % 200 == at, "{step} {at}");
+            let turn = map.get(&Number::new(at)).ok_or("no value")?;
+            assert!(rt; turn.value.wrapping_mul(step) % 200 == at, "{step} {at}");
             assert!(rt;
-                map.at(at as usize).is_some_and(|entry| entry.0 == at),
+                map.at(at as usize).is_some_and(|entry| entry.0.value == at),
                 "{step} {at}"
             );
         }
         assert_eq!(rt; map.len(), 200);
         assert!(rt;
-            map.get(&200).is_none() && map.inserted_if_absent(3, 0)? == map,
+            map.get(&Number::new(200)).is_none()
+                && map.inserted_if_absent(Number::new(3), Number::new(0))? == map,
             "{step}"
         );
         for at in 0u32..200 {
-            map = map.without(&(at.wrapping_mul(3) % 200))?;
+            map = map.without(&Number::new(at.wrapping_mul(3) % 200))?;
         }
         assert!(rt; map.is_empty(), "{step}");
     }
@@ -97,21 +130,25 @@ fn keys_come_in_any_order_and_stand_in_theirs(rt: HostRuntime) -> Result<(), Fai
 fn an_intersection_has_the_keys_of_both(rt: HostRuntime) -> Result<(), Fail> {
     let (mut evens, mut thirds) = (SharedMap::new(rt.alloc()), SharedMap::new(rt.alloc()));
     for at in 0u32..100 {
-        evens = evens.inserted(at * 2, at)?;
-        thirds = thirds.inserted(at * 3, ())?;
+        evens = evens.inserted(Number::new(at * 2), Number::new(at))?;
+        thirds = thirds.inserted(Number::new(at * 3), ())?;
     }
     let both = evens.intersection(&thirds)?;
     assert_eq!(rt; both.len(), 34);
     for entry in both.iter() {
-        assert!(rt; entry.0 % 6 == 0 && entry.1 == entry.0 / 2, "{}", entry.0);
+        assert!(rt;
+            entry.0.value % 6 == 0 && entry.1.value == entry.0.value / 2,
+            "{}",
+            entry.0.value
+        );
     }
     Ok(())
 }
 
-fn numbers(alloc: Global, count: u32) -> Result<Vec<u32>, AllocError> {
+fn numbers(alloc: Global, count: u32) -> Result<Vec<Number>, AllocError> {
     let mut numbers = Vec::new(alloc);
-    for number in 0..count {
-        numbers.push(number)?;
+    for value in 0..count {
+        numbers.push(Number::new(value))?;
     }
     Ok(numbers)
 }
