@@ -8,8 +8,6 @@ mod laws;
 mod locks;
 mod one_by_one;
 mod sections;
-#[cfg(test)]
-mod tests;
 
 pub use comparisons::{MAX_SECTIONS, has_exactly};
 pub use faults::LockFault;

@@ -6,8 +6,6 @@ mod desks;
 mod faults;
 mod numbers;
 mod objects;
-#[cfg(test)]
-mod tests;
 
 pub use books::Book;
 pub use desks::{BookDesk, Desk};

@@ -1,9 +1,9 @@
 ghost use Rattle.std.specs.Prelude.{◌+◌, ◌<◌, ◌≤◌, ◌^◌, All, IsTrue, count_by, length};
 ghost use Rattle.camp_object.specs.NumberList.{numbers_object};
 
-use crate::{Answers, has_exactly, locked, serial, shared};
 use NumberCall::{Insert, Show};
 use NumberReply::{Done, Present};
+use camp_clients::{Answers, has_exactly, locked, serial, shared};
 use camp_history::{Gate, NoGate};
 use camp_object::{Fault, NumberCall, NumberReply, Numbers};
 use std::alloc::{AllocError, Global};

@@ -1,8 +1,8 @@
 ghost use Rattle.camp_object.specs.Histories.{IsFront};
 
-use crate::{Book, BookDesk, Desk, Fault, NumberCall, NumberReply, Numbers, Object};
 use NumberCall::{Insert, Show};
 use NumberReply::{Done, Present};
+use camp_object::{Book, BookDesk, Desk, Fault, NumberCall, NumberReply, Numbers, Object};
 use std::process::Abort;
 use std::test::Fail;
 
