@@ -10,8 +10,6 @@ mod kept;
 mod marks;
 mod meets;
 mod seats;
-#[cfg(test)]
-mod tests;
 mod walks;
 
 pub use desks::HeadDesk;
