@@ -31,15 +31,15 @@ module _ (a : Named) (x : InContext) (label : Label) (s : List Named) (first : N
       let firsts = one_front _ x.context rest w.rest first (inverse_of a) front w.front in
       other (ap inverse_of firsts.0 ∙ inverse_of-inverse_of a)
 
-  pub cancels_from : (y : InContext) (context : List Named) (patch : Named) → inverse_of first ≡ a → Norm rest context → patch ≡ x.patch → y ≡ record { context = context; patch = patch } → Cancels a x y
-  cancels_from y context patch same order kept made =
+  pub cancels_from : (y : InContext) → inverse_of first ≡ a → Norm rest y.context → y.patch ≡ x.patch → Cancels a x y
+  cancels_from y same order kept =
       let it : first ≡ inverse_of a = sym (inverse_of-inverse_of first) ∙ ap inverse_of same in
-      subst (Cancels a x) (sym made) (record {
+      record {
         rest = rest;
         front = subst (λ z. Fronts (label_of (inverse_of a)) x.context z rest) it front;
         context = order;
         patch = kept;
-      })
+      }
 
 -- a context that can not be passed
 pub not_past_context : (a : Named) (x : InContext) (s : List Named) → s ≡ x.context → ((pair : List Named × Named) → ¬ (Passes a s pair.0 pair.1)) → GivesNone (PassesBy a) x
@@ -47,20 +47,20 @@ not_past_context a x s is never y w = never (w.passed, w.a') (subst (λ t. Passe
 
 -- what passed a context
 module _ (a : Named) (x : InContext) (s passed : List Named) (a' : Named) (is : s ≡ x.context) (past : Passes a s passed a') where
-  pub not_past_patch : (p : Named) → p ≡ x.patch → ((pair : Named × Named) → ¬ (Swap a' p pair.0 pair.1)) → GivesNone (PassesBy a) x
+  pub not_past_patch : (p : Named) → p ≡ x.patch → ((before : Named) → ¬ ((a'' : Named) × Swap a' p before a'')) → GivesNone (PassesBy a) x
   not_past_patch p patch never y w =
       let pass = one_pass a s passed w.passed a' w.a' past (subst (λ t. Passes a t w.passed w.a') (sym is) w.past_context) in
-      never (y.patch, w.a'') (subst (λ q. Swap a' q y.patch w.a'') (sym patch) (subst (λ b. Swap b x.patch y.patch w.a'') (sym pass.1) w.past_patch))
+      never y.patch (w.a'', subst (λ q. Swap a' q y.patch w.a'') (sym patch) (subst (λ b. Swap b x.patch y.patch w.a'') (sym pass.1) w.past_patch))
 
-  pub passes_by_from : (y : InContext) (context : List Named) (p patch a'' : Named) → p ≡ x.patch → Swap a' p patch a'' → Norm passed context → y ≡ record { context = context; patch = patch } → PassesBy a x y
-  passes_by_from y context p patch a'' here swap order made = subst (PassesBy a x) (sym made) (record {
+  pub passes_by_from : (y : InContext) (p patch a'' : Named) → p ≡ x.patch → Swap a' p patch a'' → Norm passed y.context → y.patch ≡ patch → PassesBy a x y
+  passes_by_from y p patch a'' here swap order same = record {
     a' = a';
     a'' = a'';
     passed = passed;
     past_context = subst (λ t. Passes a t passed a') is past;
-    past_patch = subst (λ q. Swap a' q patch a'') here swap;
+    past_patch = subst (λ q. Swap a' x.patch q a'') (sym same) (subst (λ q. Swap a' q patch a'') here swap);
     context = order;
-  })
+  }
 
 -- where the elements from i on have been taken, and the one before them gives nothing, the list gives nothing
 pub none_from_last : (Change : Named → InContext → InContext → Type 0) → ((a : Named) → GivesOne (Change a)) → (before : List Named) (a : Named) (r : List Named) (x y : InContext) → FromLast Change r x y → GivesNone (Change a) y → GivesNone (FromLast Change (before ++ a ∷ r)) x

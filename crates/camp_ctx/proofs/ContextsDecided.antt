@@ -1,7 +1,6 @@
 -- Whether contexted patches pass and conflict, and whether a set has one member, is decided.
-use Rattle.std.proofs.Common.{◌≡◌, Option, None, Some, List, [], ◌∷◌, refl, sym, ap, ◌∙◌, subst, inl, inr}
+use Rattle.std.proofs.Common.{◌≡◌, None, Some, List, [], ◌∷◌, refl, sym, ap, ◌∙◌, subst, inl, inr}
 use Rattle.std.specs.FinMap.{entries, same_entries_map}
-use Rattle.camp_base.specs.Answers.{FindsPair}
 use Rattle.camp_prim.specs.declared.labels.Key.{Key}
 use Rattle.camp_prim.specs.Labels.{key_cmp}
 use Rattle.camp_prim.specs.declared.named.Named.{Named}

@@ -1,13 +1,16 @@
 ghost use Rattle.std.specs.Prelude.{◌≡◌, ◌↔◌, IfOk, IsTrue};
-ghost use Rattle.camp_prim.specs.Effect.{inverse_of};
 ghost use Rattle.camp_base.specs.Answers.{Finds};
+ghost use Rattle.camp_prim.specs.Effect.{inverse_of};
+ghost use Rattle.camp_prim.specs.Swaps.{Swap};
+ghost use Rattle.camp_prim.specs.declared.named.Named.{Named};
+ghost use Rattle.camp_seq.specs.NormalOrder.{Norm};
 ghost use Rattle.camp_ctx.specs.Adding.{Adds, AddsAll, Cancels, Keeps, PassesBy, PassesByAll};
 
 use crate::conflicts::has_label;
 use crate::{Contexted, join};
 use camp_prim::{Named, commute};
 use camp_seq::{Seq, front, norm, past};
-use std::alloc::AllocError;
+use std::alloc::{AllocError, Global};
 use std::slice;
 
 impl Contexted {
@@ -66,12 +69,23 @@ impl Contexted {
         let Some((context, a)) = behind else {
             return Ok(None);
         };
-        let swapped = commute(&a, x.patch())?;
-        let Some((patch, _)) = swapped else {
+        let swapped = patch_before(&a, x.patch())?;
+        let Some(patch) = swapped else {
             return Ok(None);
         };
-        let context = norm(&context)?;
-        Ok(Some(Contexted::new(x.allocator(), context, patch)?))
+        let before = in_order(x.allocator(), &context, patch)?;
+        Ok(Some(before))
+    }
+}
+
+/// What a primitive that stands behind `a` becomes before it. None where they can't change places.
+fn patch_before(a: &Named, patch: &Named) -> Result<Option<Named>, AllocError>
+    ensures { IfOk result (Finds (λ before. (a'' : Named) × Swap a.now patch.now before a'')) }
+{
+    let swapped = commute(a, patch)?;
+    match swapped {
+        Some((before, _)) => Ok(Some(before)),
+        None => Ok(None),
     }
 }
 
@@ -92,9 +106,9 @@ fn cancelled(a: &Named, x: &Contexted) -> Result<Option<Contexted>, AllocError>
     if !undoes(first, a) {
         return Ok(None);
     }
-    let left = norm(&rest)?;
     let patch = x.patch().try_clone()?;
-    Ok(Some(Contexted::new(x.allocator(), left, patch)?))
+    let left = in_order(x.allocator(), &rest, patch)?;
+    Ok(Some(left))
 }
 
 /// Whether the first is the inverse of the second, by its label and by its primitive.
@@ -109,7 +123,14 @@ fn kept(a: &Named, x: &Contexted) -> Result<Contexted, AllocError>
     ensures { IfOk result (λ y. Keeps a.now x.now y) }
 {
     let whole = join(x.allocator(), slice::from_ref(a), x.context().items())?;
-    let context = norm(&whole)?;
     let patch = x.patch().try_clone()?;
-    Contexted::new(x.allocator(), context, patch)
+    in_order(x.allocator(), &whole, patch)
+}
+
+/// A patch behind a context, which is put in normal order.
+fn in_order(alloc: Global, context: &Seq, patch: Named) -> Result<Contexted, AllocError>
+    ensures { IfOk result (λ y. Norm context.now y.context × (y.patch ≡ patch)) }
+{
+    let context = norm(context)?;
+    Contexted::new(alloc, context, patch)
 }

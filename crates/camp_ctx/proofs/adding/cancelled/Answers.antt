@@ -23,4 +23,4 @@ returns-then-not-undoes c =
 pub returns : goal.returns
 returns c =
     let front = rw c.in-Some.is at c.in_ok-found.ensures.exact in
-    record { exact = cancels_from c.args.a.now c.args.x.now _ _ _ _ (c.opposite-label.ensures ∙ ap opposite c.label.ensures) c.context-context.ensures front _ _ _ (c.undoes.ensures.0 c.if-not-undoes.false) c.in_ok-left.ensures.order (c.in_ok-patch.ensures ∙ c.patch.ensures) c.in_ok-new.ensures }
+    record { exact = cancels_from c.args.a.now c.args.x.now _ _ _ _ (c.opposite-label.ensures ∙ ap opposite c.label.ensures) c.context-context.ensures front _ (c.undoes.ensures.0 c.if-not-undoes.false) c.in_ok-left.ensures.0 (c.in_ok-left.ensures.1 ∙ c.in_ok-patch.ensures ∙ c.patch.ensures) }

@@ -9,11 +9,11 @@ returns-in_default c =
 pub returns-in_default-swapped : goal.returns-in_default-swapped
 returns-in_default-swapped c =
     let past = rw c.in-Some.is at c.in_ok-behind.ensures.exact in
-    let never = rw c.in_default-swapped.is at c.in_ok-swapped.ensures.exact in
+    let never = rw c.in_default-swapped.is at c.in_ok-swapped.ensures in
     record { exact = not_past_patch c.args.a.now c.args.x.now _ _ _ c.context.ensures past _ c.patch.ensures never }
 
 pub returns : goal.returns
 returns c =
     let past = rw c.in-Some.is at c.in_ok-behind.ensures.exact in
-    let swap = rw c.in-Some-swapped.is at c.in_ok-swapped.ensures.exact in
-    record { exact = passes_by_from c.args.a.now c.args.x.now _ _ _ c.context.ensures past _ _ _ _ _ c.patch.ensures swap c.in_ok-context.ensures.order c.in_ok-new.ensures }
+    let swap = rw c.in-Some-swapped.is at c.in_ok-swapped.ensures in
+    record { exact = passes_by_from c.args.a.now c.args.x.now _ _ _ c.context.ensures past _ _ _ _ c.patch.ensures swap.1 c.in_ok-before.ensures.0 c.in_ok-before.ensures.1 }
