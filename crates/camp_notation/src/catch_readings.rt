@@ -17,10 +17,19 @@ pub fn read_catch(alloc: Global, known: &[Named], text: &[u8]) -> Result<Catch, 
     let mut cursor = Cursor::new(text);
     let j = read_catch_there(alloc, known, &mut cursor)?;
     cursor.expect_end()?;
-    if catch_text(alloc, known, &j)?.as_bytes() != text {
+    expect_text(alloc, known, &j, text)?;
+    Ok(j)
+}
+
+/// Whether a catch has a text, and else `WrittenOtherwise`.
+fn expect_text(alloc: Global, known: &[Named], j: &Catch, text: &[u8]) -> Result<(), NotationError>
+    ensures { IfOk result (λ _. text.now ≡ catch_text known.now j.now) }
+{
+    let written = catch_text(alloc, known, j)?;
+    if written.as_bytes() != text {
         return Err(NotationError::WrittenOtherwise);
     }
-    Ok(j)
+    Ok(())
 }
 
 /// The list of catches of a text.

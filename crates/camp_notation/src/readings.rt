@@ -211,11 +211,16 @@ fn read_hunk(
 ) -> Result<Primitive, NotationError> {
     let path = Path::new(alloc, path)?;
     let line = read_number(line)?;
-    let old = read_row_of_lines(alloc, cursor)?;
+    let old = read_side(alloc, cursor)?;
     cursor.expect(b" -> ", '-')?;
-    let new = read_row_of_lines(alloc, cursor)?;
-    let (old, new) = (Lines::new(alloc, old)?, Lines::new(alloc, new)?);
+    let new = read_side(alloc, cursor)?;
     Primitive::hunk(path, line, old, new).ok_or(NotationError::NoHunk)
+}
+
+/// One side of a hunk.
+fn read_side(alloc: Global, cursor: &mut Cursor) -> Result<Lines, NotationError> {
+    let lines = read_row_of_lines(alloc, cursor)?;
+    Ok(Lines::new(alloc, lines)?)
 }
 
 fn read_number(digits: &[u8]) -> Result<u32, NotationError> {
