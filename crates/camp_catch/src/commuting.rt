@@ -4,13 +4,15 @@ ghost use Rattle.camp_base.specs.Answers.{Finds, FindsPair};
 ghost use Rattle.camp_prim.specs.Effect.{inverse_of};
 ghost use Rattle.camp_prim.specs.Labels.{label_of};
 ghost use Rattle.camp_seq.specs.Passing.{Fronts, PassesAll};
-ghost use Rattle.camp_ctx.specs.Contexts.{context_key, only, patch_key};
+ghost use Rattle.camp_ctx.specs.Contexts.{context_key, patch_key};
 ghost use Rattle.camp_catch.specs.Commuting.{BothPlain, CommuteCatch, CommutePlainConflictor, ConflictDissolves, ConflictorPastPlain, PlainLeavesTheSet, PlainPastConflictor};
 
 use crate::Catch;
 use crate::conflictors::commute_conflictors;
-use crate::seen::{has_no_context, in_conflict_with, set_before, without_member};
-use crate::values::{alone, is_bare, one, undoes};
+use crate::seen::{
+    has_no_context, in_conflict_with, in_first_conflict, set_before, without_member,
+};
+use crate::values::{is_bare, one, undoes};
 use camp_ctx::{Contexted, CtxSet};
 use camp_prim::Named;
 use camp_seq::{Seq, front, past, past_all};
@@ -196,21 +198,6 @@ fn conflict_dissolves(
     let second = Catch::Plain(l.patch().try_clone()?);
     let first = in_first_conflict(alloc, l, x)?;
     Ok(Some((second, first)))
-}
-
-/// `([q^], {:q}, z)`, for a `:q`
-fn in_first_conflict(alloc: Global, l: &Contexted, z: &Contexted) -> Result<Catch, AllocError>
-    ensures { IfOk result (λ k. k ≡ Catch.Conflictor (inverse_of l.now.patch ∷ []) (only l.now) z.now) }
-{
-    let back = l.patch().try_clone()?.invert();
-    let effect = one(alloc, &back)?;
-    let conflicts = alone(alloc, l)?;
-    let identity = z.try_clone()?;
-    Ok(Catch::Conflictor {
-        effect,
-        conflicts,
-        identity,
-    })
 }
 
 /// `[a] (s, Y, l) <-> (s', Y without a, l) ([], {l}, z)`, where `s ~ a^ s'`

@@ -3,7 +3,6 @@ ghost use Rattle.camp_base.specs.Answers.{FindsPair};
 ghost use Rattle.camp_prim.specs.Effect.{inverse_of};
 ghost use Rattle.camp_prim.specs.declared.named.Named.{Named};
 ghost use Rattle.camp_seq.specs.Merging.{Merges};
-ghost use Rattle.camp_seq.specs.NormalOrder.{Norm};
 ghost use Rattle.camp_seq.specs.Running.{inverse_all};
 ghost use Rattle.camp_ctx.specs.Adding.{AddsAll};
 ghost use Rattle.camp_ctx.specs.Conflicts.{Conflict};
@@ -13,12 +12,12 @@ ghost use Rattle.camp_catch.specs.Merging.{Clean, FirstConflict, MergeCatch, Mer
 ghost use Rattle.camp_catch.specs.declared.catches.Catch.TheVariants.{Plain, Conflictor};
 
 use crate::Catch;
-use crate::values::{alone, bare, one};
-use camp_ctx::{Contexted, CtxSet, conflict, join, merge_behind_common};
+use crate::seen::{in_conflict_with, in_first_conflict, takes_back};
+use crate::values::bare;
+use camp_ctx::{Contexted, CtxSet, conflict, merge_behind_common};
 use camp_prim::{Named, commute};
 use camp_seq::{Seq, invert_all, norm, past};
 use std::alloc::{AllocError, Global};
-use std::slice;
 
 /// What two catches that begin in one state become one after the other: `Some((k', j'))`, where `k'`
 /// stands after `j`, and `j'` after `k`. None where they do not merge, which only hunks near the end
@@ -108,15 +107,9 @@ fn conflictor_with(alloc: Global, a: &Named, b: &Named) -> Result<Catch, AllocEr
     ensures { IfOk result (λ made.
         made ≡ Conflictor (inverse_of a.now ∷ []) (only (bare a.now)) (bare b.now)) }
 {
-    let back = a.try_clone()?.invert();
-    let effect = one(alloc, &back)?;
-    let conflicts = alone(alloc, &bare(alloc, a)?)?;
-    let identity = bare(alloc, b)?;
-    Ok(Catch::Conflictor {
-        effect,
-        conflicts,
-        identity,
-    })
+    let own = bare(alloc, a)?;
+    let other = bare(alloc, b)?;
+    in_first_conflict(alloc, &own, &other)
 }
 
 /// A plain catch and a conflictor: it joins the conflictor where it conflicts with what that is, as
@@ -180,26 +173,9 @@ fn plain_joins_conflictor(
 {
     let own = bare(alloc, a)?;
     let z = seen_behind(s, &own)?;
-    let after = Catch::Conflictor {
-        effect: with_undone(alloc, a, s)?,
-        conflicts: ys.insert(&z)?,
-        identity: l.try_clone()?,
-    };
-    let beside = Catch::Conflictor {
-        effect: Seq::empty(alloc),
-        conflicts: alone(alloc, l)?,
-        identity: z,
-    };
+    let after = takes_back(alloc, a, s, ys, &z, l)?;
+    let beside = in_conflict_with(alloc, l, &z)?;
     Ok((after, beside))
-}
-
-/// `a^ s`, in normal order.
-fn with_undone(alloc: Global, a: &Named, s: &Seq) -> Result<Seq, AllocError>
-    ensures { IfOk result (Norm (inverse_of a.now ∷ s.now)) }
-{
-    let back = a.try_clone()?.invert();
-    let joined = join(alloc, slice::from_ref(&back), s.items())?;
-    norm(&joined)
 }
 
 /// `(r, X, i) | [b]`, as `[b] | (r, X, i)` with the two results exchanged

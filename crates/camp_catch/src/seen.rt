@@ -1,9 +1,11 @@
-ghost use Rattle.std.specs.Prelude.{◌≡◌, ◌↔◌, [], IfOk, IsTrue};
+ghost use Rattle.std.specs.Prelude.{◌≡◌, ◌↔◌, [], ◌∷◌, IfOk, IsTrue};
+ghost use Rattle.camp_prim.specs.Effect.{inverse_of};
+ghost use Rattle.camp_seq.specs.NormalOrder.{Norm};
 ghost use Rattle.camp_ctx.specs.Contexts.{bare, only};
 ghost use Rattle.camp_catch.specs.Inside.Seen.{BothBefore, JoinedBefore, LeavesSet, SetBefore, TakesBack};
 
 use crate::Catch;
-use crate::values::alone;
+use crate::values::{alone, inverse, undone};
 use camp_ctx::{Contexted, CtxSet, join};
 use camp_prim::{Key, Named};
 use camp_seq::{Seq, norm};
@@ -67,9 +69,7 @@ pub(crate) fn takes_back(
 ) -> Result<Catch, AllocError>
     ensures { IfOk result (TakesBack a.now s.now xs.now l.now i.now) }
 {
-    let back = a.try_clone()?.invert();
-    let joined = join(alloc, slice::from_ref(&back), s.items())?;
-    let effect = norm(&joined)?;
+    let effect = with_undone(alloc, a, s)?;
     let conflicts = xs.insert(l)?;
     let identity = i.try_clone()?;
     Ok(Catch::Conflictor {
@@ -77,6 +77,15 @@ pub(crate) fn takes_back(
         conflicts,
         identity,
     })
+}
+
+/// `a^ s`, in normal order.
+fn with_undone(alloc: Global, a: &Named, s: &Seq) -> Result<Seq, AllocError>
+    ensures { IfOk result (Norm (inverse_of a.now ∷ s.now)) }
+{
+    let back = inverse(a)?;
+    let joined = join(alloc, slice::from_ref(&back), s.items())?;
+    norm(&joined)
 }
 
 /// `(s', X without a label, i)`, where `s'` is `s` in normal order
@@ -90,6 +99,24 @@ pub(crate) fn without_member(
 {
     let effect = norm(s)?;
     let conflicts = xs.without(key)?;
+    let identity = i.try_clone()?;
+    Ok(Catch::Conflictor {
+        effect,
+        conflicts,
+        identity,
+    })
+}
+
+/// `([q^], {:q}, i)`, for a `:q`
+pub(crate) fn in_first_conflict(
+    alloc: Global,
+    l: &Contexted,
+    i: &Contexted,
+) -> Result<Catch, AllocError>
+    ensures { IfOk result (λ k. k ≡ Catch.Conflictor (inverse_of l.now.patch ∷ []) (only l.now) i.now) }
+{
+    let effect = undone(alloc, l.patch())?;
+    let conflicts = alone(alloc, l)?;
     let identity = i.try_clone()?;
     Ok(Catch::Conflictor {
         effect,

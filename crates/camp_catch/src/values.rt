@@ -16,6 +16,22 @@ pub(crate) fn one(alloc: Global, p: &Named) -> Result<Seq, AllocError>
     join(alloc, slice::from_ref(p), &[])
 }
 
+/// `p^`
+pub(crate) fn inverse(p: &Named) -> Result<Named, AllocError>
+    ensures { IfOk result (λ back. back ≡ inverse_of p.now) }
+{
+    let copy = p.try_clone()?;
+    Ok(copy.invert())
+}
+
+/// `[p^]`
+pub(crate) fn undone(alloc: Global, p: &Named) -> Result<Seq, AllocError>
+    ensures { IfOk result (λ list. list ≡ inverse_of p.now ∷ []) }
+{
+    let back = inverse(p)?;
+    one(alloc, &back)
+}
+
 /// `:p`
 pub(crate) fn bare(alloc: Global, p: &Named) -> Result<Contexted, AllocError>
     ensures { IfOk result (λ x. x ≡ bare p.now) }
