@@ -16,12 +16,12 @@ use Rattle.camp_seq.specs.NormalOrder.{Norm, Splits}
 use Rattle.camp_seq.specs.Passing.{Passes, PassesAll, Fronts}
 use Rattle.camp_seq.specs.Running.{inverse_all}
 use Rattle.camp_seq.proofs.GatherSteps.{length-passes}
-use Rattle.camp_seq.proofs.ListResults.{one_pass, one_front, one_split}
+use Rattle.camp_seq.proofs.ListResults.{one_pass, one_pass_of_all, one_front, one_split}
 use Rattle.camp_ctx.specs.Adding.{Adds, AddsAll, PassesBy, PassesByAll}
 use Rattle.camp_ctx.specs.Contexts.{InContext, Contexts, EachMember, bare, only, patch_key, context_key}
 use Rattle.camp_ctx.proofs.AddResults.{one_add_of_all}
 use Rattle.camp_catch.specs.Commuting.{PlainPastConflictor, ConflictorPastPlain, EffectsPass, labels_undone, TwoConflictorsApart, ConflictDissolves, PlainLeavesTheSet, OnlyConflictGoes, OneOfSeveralConflicts, CommutePlainConflictor, CommuteConflictors}
-use Rattle.camp_catch.specs.Inside.Seen.{SetBefore, BothBefore, JoinedBefore, TakesBack, LeavesSet, JoinsInOrder}
+use Rattle.camp_catch.specs.Inside.Seen.{PassesBefore, SetBefore, BothBefore, JoinedBefore, TakesBack, LeavesSet, JoinsInOrder}
 use Rattle.camp_catch.specs.declared.catches.Catch.{Catch}
 use Rattle.camp_catch.specs.declared.catches.Catch.TheVariants.{Plain, Conflictor}
 use Rattle.camp_catch.proofs.ValueSteps.{is_alone}
@@ -121,13 +121,23 @@ module _ (r : List Named) (xs : Contexts) (i : InContext) (s : List Named) (ys :
 
 -- a plain catch that passed the effect of a conflictor
 module _ (a : Named) (s : List Named) (ys : Contexts) (l : InContext) (passed : List Named) (a' : Named) (past : Passes a s passed a') where
-  pub no_identity : ((y : InContext) → ¬ (PassesBy a' l y)) → NoResult (PlainPastConflictor a s ys l)
+  pub no_identity : ((k : Catch) → ¬ (PassesBefore a' passed ys l k)) → NoResult (PlainPastConflictor a s ys l)
   no_identity never pair w =
       let same = one_pass a s w.passed passed w.a' a' w.passes past in
-      never w.l' (subst (λ b. PassesBy b l w.l') same.1 w.identity)
+      never pair.0 (
+        w.l',
+        subst (λ b. PassesBy b l w.l') same.1 w.identity,
+        record {
+          s' = w.s';
+          effect = subst (λ t. Norm t w.s') same.0 w.effect;
+          xs' = w.ys';
+          conflicts = subst (λ b. EachMember (Adds b) ys w.ys') same.1 w.conflicts;
+          is = w.second;
+        },
+      )
 
-  pub plain_past_from : get ys (patch_key a) ≡ None → (l' : InContext) (k' : Catch) → PassesBy a' l l' → SetBefore a' passed ys l' k' → PlainPastConflictor a s ys l k' (Plain a')
-  plain_past_from lacks l' k' identity made = record {
+  pub plain_past_from : get ys (patch_key a) ≡ None → (k' : Catch) → PassesBefore a' passed ys l k' → PlainPastConflictor a s ys l k' (Plain a')
+  plain_past_from lacks k' (l', identity, made) = record {
     apart = lacks;
     passed = passed;
     a' = a';
@@ -161,24 +171,33 @@ module _ (r : List Named) (b : Named) (single : List Named) (is : single ≡ b �
       subst (λ t. PassesAll r (b ∷ []) t left) one (subst (λ t. PassesAll r t before left) is w)
 
 -- a primitive that came before the effect of a conflictor
-module _ (r : List Named) (xs : Contexts) (i : InContext) (b back : Named) (inverse : back ≡ inverse_of b) where
-  pub conflictor_not_past : ((pair : Named × List Named) → ¬ (PassesAll r (b ∷ []) (pair.0 ∷ []) pair.1)) → NoResult (ConflictorPastPlain r xs i b)
-  conflictor_not_past never pair w = never (w.b', w.left) w.passes
+module _ (r : List Named) (xs : Contexts) (i : InContext) (b b' : Named) (left : List Named) (passes : PassesAll r (b ∷ []) (b' ∷ []) left) where
+  pub identity_not_past : ((k : Catch) → ¬ (PassesBefore (inverse_of b) left xs i k)) → NoResult (ConflictorPastPlain r xs i b)
+  identity_not_past never pair w =
+      let same = one_pass_of_all r (b ∷ []) (w.b' ∷ []) (b' ∷ []) w.left left w.passes passes in
+      never pair.1 (
+        w.i',
+        w.identity,
+        record {
+          s' = w.r';
+          effect = subst (λ t. Norm t w.r') same.1 w.effect;
+          xs' = w.xs';
+          conflicts = w.conflicts;
+          is = w.first;
+        },
+      )
 
-  pub identity_not_past : ((y : InContext) → ¬ (PassesBy back i y)) → NoResult (ConflictorPastPlain r xs i b)
-  identity_not_past never pair w = never w.i' (subst (λ p. PassesBy p i w.i') (sym inverse) w.identity)
-
-  pub conflictor_past_from : (b' : Named) (left : List Named) (i' : InContext) (j' : Catch) → PassesAll r (b ∷ []) (b' ∷ []) left → PassesBy back i i' → SetBefore back left xs i' j' → ConflictorPastPlain r xs i b (Plain b') j'
-  conflictor_past_from b' left i' j' passes identity made = record {
+  pub conflictor_past_from : (j' : Catch) → PassesBefore (inverse_of b) left xs i j' → ConflictorPastPlain r xs i b (Plain b') j'
+  conflictor_past_from j' (i', identity, made) = record {
     b' = b';
     left = left;
     passes = passes;
     r' = made.s';
     effect = made.effect;
     xs' = made.xs';
-    conflicts = subst (λ p. EachMember (Adds p) xs made.xs') inverse made.conflicts;
+    conflicts = made.conflicts;
     i' = i';
-    identity = subst (λ p. PassesBy p i i') inverse identity;
+    identity = identity;
     second = refl;
     first = made.is;
   }

@@ -14,6 +14,7 @@ use Rattle.camp_ctx.specs.Adding.{Adds, AddsAll}
 use Rattle.camp_ctx.specs.Conflicts.{Conflict, MergesBehindCommon}
 use Rattle.camp_ctx.specs.Contexts.{InContext, Contexts, EachMember, bare}
 use Rattle.camp_ctx.proofs.AddResults.{one_add_of_all}
+use Rattle.camp_catch.specs.Inside.Seen.{OneBefore}
 use Rattle.camp_catch.specs.Inside.TwoConflictors.{EffectsMerge, TellsConflict, JoinsBehind}
 use Rattle.camp_catch.specs.Merging.{Clean, PlainBesideConflictor, MergePlainConflictor, Mirror, TwoConflictors}
 use Rattle.camp_catch.specs.declared.catches.Catch.{Catch}
@@ -42,32 +43,32 @@ module _ (a back : Named) (is : back ≡ inverse_of a) where
   no_clean b never pair w =
       never (w.b', inverse_of w.a') (subst (λ p. Swap p b w.b' (inverse_of w.a')) (sym is) w.merge)
 
+module _ (a : Named) (s : List Named) where
   -- a list that the inverse of a passes merges cleanly with a
-  pub row_of : (s merged : List Named) (back' a' : Named) → a' ≡ inverse_of back' → Passes back s merged back' → MergesOne a s merged a'
-  row_of s merged back' a' turned w =
-      let row = passes_row (inverse_of a) s merged back' (subst (λ p. Passes p s merged back') is w) in
+  row_of : (merged : List Named) (back' a' : Named) → a' ≡ inverse_of back' → Passes (inverse_of a) s merged back' → MergesOne a s merged a'
+  row_of merged back' a' turned w =
+      let row = passes_row (inverse_of a) s merged back' w in
       subst (MergesOne a s merged) (sym turned) (subst (λ p. MergesOne p s merged (inverse_of back')) (inverse_of-inverse_of a) row)
 
-  pub none_beside : (s : List Named) (ys : Contexts) (l : InContext) → NoPair (Passes back s) → NoPair (PlainBesideConflictor a s ys l)
-  none_beside s ys l never pair w =
-      never (w.merged, inverse_of w.a') (subst (λ p. Passes p s w.merged (inverse_of w.a')) (sym is) (row_passes a s w.merged w.a' w.merge))
+  pub none_beside : (ys : Contexts) (l : InContext) → NoPair (Passes (inverse_of a) s) → NoPair (PlainBesideConflictor a s ys l)
+  none_beside ys l never pair w = never (w.merged, inverse_of w.a') (row_passes a s w.merged w.a' w.merge)
 
-  pub beside_from : (s : List Named) (ys : Contexts) (l seen : InContext) → AddsAll s l seen → ¬ (Conflict (bare a) seen) → (merged s' : List Named) (back' a' : Named) (ys' : Contexts) (l' : InContext) → a' ≡ inverse_of back' → Passes back s merged back' → Norm merged s' → EachMember (Adds back') ys ys' → Adds back' l l' → PlainBesideConflictor a s ys l (Conflictor s' ys' l') (Plain a')
-  beside_from s ys l seen sees apart merged s' back' a' ys' l' turned w effect conflicts identity =
+  pub beside_from : (ys : Contexts) (l seen : InContext) → AddsAll s l seen → ¬ (Conflict (bare a) seen) → (merged : List Named) (back' a' : Named) (k' : Catch) → a' ≡ inverse_of back' → Passes (inverse_of a) s merged back' → OneBefore back' merged ys l k' → PlainBesideConflictor a s ys l k' (Plain a')
+  beside_from ys l seen sees apart merged back' a' k' turned w made =
       let undo : back' ≡ inverse_of a' = sym (back_again back' a' turned) in record {
         seen = seen;
         sees = sees;
         apart = apart;
         merged = merged;
         a' = a';
-        merge = row_of s merged back' a' turned w;
-        s' = s';
-        effect = effect;
-        ys' = ys';
-        conflicts = subst (λ p. EachMember (Adds p) ys ys') undo conflicts;
-        l' = l';
-        identity = subst (λ p. Adds p l l') undo identity;
-        after = refl;
+        merge = row_of merged back' a' turned w;
+        s' = made.s';
+        effect = made.effect;
+        ys' = made.xs';
+        conflicts = subst (λ p. EachMember (Adds p) ys made.xs') undo made.conflicts;
+        l' = made.i';
+        identity = subst (λ p. Adds p l made.i') undo made.identity;
+        after = made.is;
         beside = refl;
       }
 

@@ -6,13 +6,14 @@ ghost use Rattle.camp_prim.specs.Labels.{label_of};
 ghost use Rattle.camp_seq.specs.Passing.{Fronts, PassesAll};
 ghost use Rattle.camp_ctx.specs.Contexts.{context_key, patch_key};
 ghost use Rattle.camp_catch.specs.Commuting.{BothPlain, CommuteCatch, CommutePlainConflictor, ConflictDissolves, ConflictorPastPlain, PlainLeavesTheSet, PlainPastConflictor};
+ghost use Rattle.camp_catch.specs.Inside.Seen.{PassesBefore};
 
 use crate::Catch;
 use crate::conflictors::commute_conflictors;
 use crate::seen::{
-    has_no_context, in_conflict_with, in_first_conflict, set_before, without_member,
+    has_no_context, in_conflict_with, in_first_conflict, passes_before, without_member,
 };
-use crate::values::{is_bare, one, undoes};
+use crate::values::{inverse, is_bare, one, undoes};
 use camp_ctx::{Contexted, CtxSet};
 use camp_prim::Named;
 use camp_seq::{Seq, front, past, past_all};
@@ -127,12 +128,11 @@ fn plain_past_conflictor(
     let Some((passed, a)) = behind else {
         return Ok(None);
     };
-    let moved = Contexted::past_one(&a, l)?;
-    let Some(identity) = moved else {
-        return Ok(None);
-    };
-    let second = set_before(&a, &passed, ys, identity)?;
-    Ok(Some((second, Catch::Plain(a))))
+    let made = passes_before(&a, &passed, ys, l)?;
+    match made {
+        None => Ok(None),
+        Some(second) => Ok(Some((second, Catch::Plain(a)))),
+    }
 }
 
 /// `(r, X, i) [b] <-> [b'] (r', X', i')`, where `b^` added to `X` gives `X'`
@@ -149,13 +149,25 @@ fn conflictor_past_plain(
     let Some((second, left)) = behind else {
         return Ok(None);
     };
-    let back = b.try_clone()?.invert();
-    let moved = Contexted::past_one(&back, i)?;
-    let Some(identity) = moved else {
-        return Ok(None);
-    };
-    let first = set_before(&back, &left, xs, identity)?;
-    Ok(Some((Catch::Plain(second), first)))
+    let made = inverse_passes_before(b, &left, xs, i)?;
+    match made {
+        None => Ok(None),
+        Some(first) => Ok(Some((Catch::Plain(second), first))),
+    }
+}
+
+/// `Some((s', X', i'))`, where `s'` is `s` in normal order, `b^` added to `X` gives `X'`, and `b^`
+/// passes by `i`. None where it can't.
+fn inverse_passes_before(
+    b: &Named,
+    s: &Seq,
+    xs: &CtxSet,
+    i: &Contexted,
+) -> Result<Option<Catch>, AllocError>
+    ensures { IfOk result (Finds (PassesBefore (inverse_of b.now) s.now xs.now i.now)) }
+{
+    let back = inverse(b)?;
+    passes_before(&back, s, xs, i)
 }
 
 /// `Some((b', r'))` where `r` and then `b` are the same as `b'` and then `r'`. None where `b` can't

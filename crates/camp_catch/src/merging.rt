@@ -3,6 +3,7 @@ ghost use Rattle.camp_base.specs.Answers.{FindsPair};
 ghost use Rattle.camp_prim.specs.Effect.{inverse_of};
 ghost use Rattle.camp_prim.specs.declared.named.Named.{Named};
 ghost use Rattle.camp_seq.specs.Merging.{Merges};
+ghost use Rattle.camp_seq.specs.Passing.{Passes};
 ghost use Rattle.camp_seq.specs.Running.{inverse_all};
 ghost use Rattle.camp_ctx.specs.Adding.{AddsAll};
 ghost use Rattle.camp_ctx.specs.Conflicts.{Conflict};
@@ -12,8 +13,8 @@ ghost use Rattle.camp_catch.specs.Merging.{Clean, FirstConflict, MergeCatch, Mer
 ghost use Rattle.camp_catch.specs.declared.catches.Catch.TheVariants.{Plain, Conflictor};
 
 use crate::Catch;
-use crate::seen::{in_conflict_with, in_first_conflict, takes_back};
-use crate::values::bare;
+use crate::seen::{in_conflict_with, in_first_conflict, one_before, takes_back};
+use crate::values::{bare, inverse};
 use camp_ctx::{Contexted, CtxSet, conflict, merge_behind_common};
 use camp_prim::{Named, commute};
 use camp_seq::{Seq, invert_all, norm, past};
@@ -84,7 +85,7 @@ fn both_plain(alloc: Global, a: &Named, b: &Named) -> Result<Option<(Catch, Catc
 fn clean(a: &Named, b: &Named) -> Result<Option<(Catch, Catch)>, AllocError>
     ensures exact { IfOk result (FindsPair (Clean a.now b.now)) }
 {
-    let back = a.try_clone()?.invert();
+    let back = inverse(a)?;
     let swapped = commute(&back, b)?;
     match swapped {
         Some((b, back)) => Ok(Some((Catch::Plain(b), Catch::Plain(back.invert())))),
@@ -144,20 +145,20 @@ fn plain_beside_conflictor(
     requires { (seen : InContext) × AddsAll s.now l.now seen × (¬ (Conflict (bare a.now) seen)) }
     ensures exact { IfOk result (FindsPair (PlainBesideConflictor a.now s.now ys.now l.now)) }
 {
-    let back = a.try_clone()?.invert();
-    let passed = past(&back, s)?;
+    let passed = past_inverse(a, s)?;
     let Some((merged, back)) = passed else {
         return Ok(None);
     };
-    let effect = norm(&merged)?;
-    let conflicts = CtxSet::add_one(&back, ys)?;
-    let identity = Contexted::add_one(&back, l)?;
-    let after = Catch::Conflictor {
-        effect,
-        conflicts,
-        identity,
-    };
+    let after = one_before(&back, &merged, ys, l)?;
     Ok(Some((after, Catch::Plain(back.invert()))))
+}
+
+/// `a^ s <-> s' a'^`
+fn past_inverse(a: &Named, s: &Seq) -> Result<Option<(Seq, Named)>, AllocError>
+    ensures exact { IfOk result (FindsPair (Passes (inverse_of a.now) s.now)) }
+{
+    let back = inverse(a)?;
+    past(&back, s)
 }
 
 /// `[a] | (s, Y, l) -> (a^ s, Y and z, l) | ([], {l}, z)`, where `z` is `:a` as seen behind `s`

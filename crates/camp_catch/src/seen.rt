@@ -1,8 +1,9 @@
 ghost use Rattle.std.specs.Prelude.{◌≡◌, ◌↔◌, [], ◌∷◌, IfOk, IsTrue};
+ghost use Rattle.camp_base.specs.Answers.{Finds};
 ghost use Rattle.camp_prim.specs.Effect.{inverse_of};
 ghost use Rattle.camp_seq.specs.NormalOrder.{Norm};
 ghost use Rattle.camp_ctx.specs.Contexts.{bare, only};
-ghost use Rattle.camp_catch.specs.Inside.Seen.{BothBefore, JoinedBefore, LeavesSet, SetBefore, TakesBack};
+ghost use Rattle.camp_catch.specs.Inside.Seen.{BothBefore, JoinedBefore, LeavesSet, OneBefore, PassesBefore, SetBefore, TakesBack};
 
 use crate::Catch;
 use crate::values::{alone, inverse, undone};
@@ -13,7 +14,7 @@ use std::alloc::{AllocError, Global};
 use std::slice;
 
 /// `(s', X', i)`, where `s'` is `s` in normal order, and `a` added to `X` gives `X'`
-pub(crate) fn set_before(a: &Named, s: &Seq, xs: &CtxSet, i: Contexted) -> Result<Catch, AllocError>
+fn set_before(a: &Named, s: &Seq, xs: &CtxSet, i: Contexted) -> Result<Catch, AllocError>
     ensures { IfOk result (SetBefore a.now s.now xs.now i) }
 {
     let effect = norm(s)?;
@@ -22,6 +23,43 @@ pub(crate) fn set_before(a: &Named, s: &Seq, xs: &CtxSet, i: Contexted) -> Resul
         effect,
         conflicts,
         identity: i,
+    })
+}
+
+/// `Some((s', X', i'))`, where `s'` is `s` in normal order, `a` added to `X` gives `X'`, and `a`
+/// passes by `i`. None where it can't.
+pub(crate) fn passes_before(
+    a: &Named,
+    s: &Seq,
+    xs: &CtxSet,
+    i: &Contexted,
+) -> Result<Option<Catch>, AllocError>
+    ensures { IfOk result (Finds (PassesBefore a.now s.now xs.now i.now)) }
+{
+    let moved = Contexted::past_one(a, i)?;
+    let Some(identity) = moved else {
+        return Ok(None);
+    };
+    let made = set_before(a, s, xs, identity)?;
+    Ok(Some(made))
+}
+
+/// `(s', X', i')`, where `s'` is `s` in normal order, and `a` added to `X` and `i` gives `X'` and `i'`
+pub(crate) fn one_before(
+    a: &Named,
+    s: &Seq,
+    xs: &CtxSet,
+    i: &Contexted,
+) -> Result<Catch, AllocError>
+    ensures { IfOk result (OneBefore a.now s.now xs.now i.now) }
+{
+    let effect = norm(s)?;
+    let conflicts = CtxSet::add_one(a, xs)?;
+    let identity = Contexted::add_one(a, i)?;
+    Ok(Catch::Conflictor {
+        effect,
+        conflicts,
+        identity,
     })
 }
 

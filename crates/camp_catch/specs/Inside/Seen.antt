@@ -5,7 +5,7 @@ use Rattle.camp_prim.specs.Effect.{inverse_of}
 use Rattle.camp_prim.specs.declared.labels.Key.{Key}
 use Rattle.camp_prim.specs.declared.named.Named.{Named}
 use Rattle.camp_seq.specs.NormalOrder.{Norm}
-use Rattle.camp_ctx.specs.Adding.{Adds, AddsAll}
+use Rattle.camp_ctx.specs.Adding.{Adds, AddsAll, PassesBy}
 use Rattle.camp_ctx.specs.Contexts.{InContext, Contexts, EachMember, with_member}
 use Rattle.camp_catch.specs.declared.catches.Catch.{Catch}
 use Rattle.camp_catch.specs.declared.catches.Catch.TheVariants.{Conflictor}
@@ -17,6 +17,20 @@ pub record SetBefore (a : Named) (s : List Named) (xs : Contexts) (i : InContext
   pub xs' : Contexts
   pub conflicts : EachMember (Adds a) xs xs'
   pub is : k ≡ Conflictor s' xs' i
+
+-- (s', X', i'), where s' is s in normal order, a added to X gives X', and a passes by i
+abbrev pub PassesBefore : Named → List Named → Contexts → InContext → Catch → Type 0
+PassesBefore a s xs i k = (i' : InContext) × PassesBy a i i' × SetBefore a s xs i' k
+
+-- (s', X', i'), where s' is s in normal order, and a added to X and i gives X' and i'
+pub record OneBefore (a : Named) (s : List Named) (xs : Contexts) (i : InContext) (k : Catch) : Type 0 where
+  pub s' : List Named
+  pub effect : Norm s s'
+  pub xs' : Contexts
+  pub conflicts : EachMember (Adds a) xs xs'
+  pub i' : InContext
+  pub identity : Adds a i i'
+  pub is : k ≡ Conflictor s' xs' i'
 
 -- (s, X', i'), where r added to X and i gives X' and i'
 pub record BothBefore (r s : List Named) (xs : Contexts) (i : InContext) (k : Catch) : Type 0 where

@@ -1,5 +1,3 @@
-use Rattle.std.proofs.Common.{ap, ◌∙◌}
-use Rattle.camp_prim.specs.Effect.{inverse_of}
 use Rattle.camp_catch.proofs.CommuteSteps.{identity_not_past, conflictor_past_from}
 use Rattle.camp_catch.proofs.commuting.conflictor_past_plain.Goals as goal
 
@@ -8,13 +6,14 @@ returns-in_default c =
     let never = rw c.in_default.is at c.in_ok-behind.ensures in
     λ pair w. never (w.b', w.left) w.passes
 
-pub returns-in_default-moved : goal.returns-in_default-moved
-returns-in_default-moved c =
-    let never = rw c.in_default-moved.is at c.in_ok-moved.ensures.exact in
-    identity_not_past c.args.r.now c.args.xs.now c.args.i.now c.args.b.now _ (c.invert-back.ensures ∙ ap inverse_of c.in_ok-try_clone.ensures) never
-
-pub returns : goal.returns
-returns c =
+pub returns-in-None : goal.returns-in-None
+returns-in-None c =
     let passes = rw c.in-Some.is at c.in_ok-behind.ensures in
-    let identity = rw c.in-Some-moved.is at c.in_ok-moved.ensures.exact in
-    conflictor_past_from c.args.r.now c.args.xs.now c.args.i.now c.args.b.now _ (c.invert-back.ensures ∙ ap inverse_of c.in_ok-try_clone.ensures) _ _ _ _ passes identity c.in_ok-first.ensures
+    let never = rw c.in-None.is at c.in_ok-made.ensures in
+    identity_not_past c.args.r.now c.args.xs.now c.args.i.now c.args.b.now _ _ passes never
+
+pub returns-in-Some-made : goal.returns-in-Some-made
+returns-in-Some-made c =
+    let passes = rw c.in-Some.is at c.in_ok-behind.ensures in
+    let made = rw c.in-Some-made.is at c.in_ok-made.ensures in
+    conflictor_past_from c.args.r.now c.args.xs.now c.args.i.now c.args.b.now _ _ passes _ made

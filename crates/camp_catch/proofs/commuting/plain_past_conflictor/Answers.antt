@@ -6,14 +6,14 @@ returns-in_default c =
     let never = rw c.in_default.is at c.in_ok-behind.ensures.exact in
     λ pair w. never (w.passed, w.a') w.passes
 
-pub returns-in_default-moved : goal.returns-in_default-moved
-returns-in_default-moved c =
+pub returns-in-None : goal.returns-in-None
+returns-in-None c =
     let past = rw c.in-Some.is at c.in_ok-behind.ensures.exact in
-    let never = rw c.in_default-moved.is at c.in_ok-moved.ensures.exact in
+    let never = rw c.in-None.is at c.in_ok-made.ensures in
     no_identity c.args.a.now c.args.s.now c.args.ys.now c.args.l.now _ _ past never
 
 pub returns : goal.returns
 returns c =
     let past = rw c.in-Some.is at c.in_ok-behind.ensures.exact in
-    let identity = rw c.in-Some-moved.is at c.in_ok-moved.ensures.exact in
-    plain_past_from c.args.a.now c.args.s.now c.args.ys.now c.args.l.now _ _ past c.requires _ _ identity c.in_ok-second.ensures
+    let made = rw c.in-Some-made.is at c.in_ok-made.ensures in
+    plain_past_from c.args.a.now c.args.s.now c.args.ys.now c.args.l.now _ _ past c.requires _ made

@@ -1,16 +1,12 @@
-use Rattle.std.proofs.Common.{ap, ◌∙◌}
-use Rattle.camp_prim.specs.Effect.{inverse_of}
 use Rattle.camp_catch.proofs.MergeSteps.{clean_from, no_clean}
 use Rattle.camp_catch.proofs.merging.clean.Goals as goal
 
 pub returns-in-Some : goal.returns-in-Some
 returns-in-Some c =
     let swap = rw c.in-Some.is at c.in_ok-swapped.ensures.exact in
-    let is = c.invert-back.ensures ∙ ap inverse_of c.in_ok-try_clone.ensures in
-    record { exact = clean_from c.args.a.now c.invert-back.result is c.args.b.now _ _ _ c.invert.ensures swap }
+    record { exact = clean_from c.args.a.now c.in_ok-back.back c.in_ok-back.ensures c.args.b.now _ _ _ c.invert.ensures swap }
 
 pub returns : goal.returns
 returns c =
     let never = rw c.in-None.is at c.in_ok-swapped.ensures.exact in
-    let is = c.invert-back.ensures ∙ ap inverse_of c.in_ok-try_clone.ensures in
-    record { exact = no_clean c.args.a.now c.invert-back.result is c.args.b.now never }
+    record { exact = no_clean c.args.a.now c.in_ok-back.back c.in_ok-back.ensures c.args.b.now never }

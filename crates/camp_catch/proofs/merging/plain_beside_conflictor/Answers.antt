@@ -1,17 +1,13 @@
-use Rattle.std.proofs.Common.{ap, ◌∙◌}
-use Rattle.camp_prim.specs.Effect.{inverse_of}
 use Rattle.camp_catch.proofs.MergeSteps.{none_beside, beside_from}
 use Rattle.camp_catch.proofs.merging.plain_beside_conflictor.Goals as goal
 
 pub returns-in_default : goal.returns-in_default
 returns-in_default c =
     let never = rw c.in_default.is at c.in_ok-passed.ensures.exact in
-    let is = c.invert-back.ensures ∙ ap inverse_of c.in_ok-try_clone.ensures in
-    record { exact = none_beside c.args.a.now c.invert-back.result is c.args.s.now c.args.ys.now c.args.l.now never }
+    record { exact = none_beside c.args.a.now c.args.s.now c.args.ys.now c.args.l.now never }
 
 pub returns : goal.returns
 returns c =
     let passes = rw c.in-Some.is at c.in_ok-passed.ensures.exact in
-    let is = c.invert-back.ensures ∙ ap inverse_of c.in_ok-try_clone.ensures in
     let apart = c.requires in
-    record { exact = beside_from c.args.a.now c.invert-back.result is c.args.s.now c.args.ys.now c.args.l.now apart.0 apart.1 apart.2 _ _ _ _ _ _ c.invert.ensures passes c.in_ok-effect.ensures.order c.in_ok-conflicts.ensures c.in_ok-identity.ensures }
+    record { exact = beside_from c.args.a.now c.args.s.now c.args.ys.now c.args.l.now apart.0 apart.1 apart.2 _ _ _ _ c.invert.ensures passes c.in_ok-after.ensures }
