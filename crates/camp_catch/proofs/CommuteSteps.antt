@@ -21,7 +21,7 @@ use Rattle.camp_ctx.specs.Adding.{Adds, AddsAll, PassesBy, PassesByAll}
 use Rattle.camp_ctx.specs.Contexts.{InContext, Contexts, EachMember, bare, only, patch_key, context_key}
 use Rattle.camp_ctx.proofs.AddResults.{one_add_of_all}
 use Rattle.camp_catch.specs.Commuting.{PlainPastConflictor, ConflictorPastPlain, EffectsPass, labels_undone, TwoConflictorsApart, ConflictDissolves, PlainLeavesTheSet, OnlyConflictGoes, OneOfSeveralConflicts, CommutePlainConflictor, CommuteConflictors}
-use Rattle.camp_catch.specs.Inside.Seen.{PassesBefore, SetBefore, BothBefore, JoinedBefore, TakesBack, LeavesSet, JoinsInOrder}
+use Rattle.camp_catch.specs.Inside.Seen.{AllPassBefore, PassesBefore, BothBefore, JoinedBefore, TakesBack, LeavesSet, JoinsInOrder}
 use Rattle.camp_catch.specs.declared.catches.Catch.{Catch}
 use Rattle.camp_catch.specs.declared.catches.Catch.TheVariants.{Plain, Conflictor}
 use Rattle.camp_catch.proofs.ValueSteps.{is_alone}
@@ -241,41 +241,44 @@ is_unseen i l key context is same lacks = subst (LacksKey (context_key i)) same 
 
 -- two conflictors apart, whose effects changed places
 module _ (r : List Named) (xs : Contexts) (i : InContext) (s : List Named) (ys : Contexts) (l : InContext) (effect rr' : List Named) (pass : EffectsPass r s ys effect rr') where
-  pub identity_stays : ((y : InContext) → ¬ (PassesByAll rr' l y)) → NoResult (TwoConflictorsApart r xs i s ys l)
+  pub identity_stays : ((k : Catch) → ¬ (AllPassBefore rr' effect ys l k)) → NoResult (TwoConflictorsApart r xs i s ys l)
   identity_stays never pair w =
       let same = one_pass_of_effects r s ys w.effect w.rr' effect rr' w.effects pass in
-      never w.l' (subst (λ x. PassesByAll x l w.l') same.1 w.identity)
+      never (Conflictor effect w.ys' w.l') (record {
+        xs' = w.ys';
+        conflicts = subst (λ x. EachMember (AddsAll x) ys w.ys') same.1 w.conflicts;
+        i' = w.l';
+        identity = subst (λ x. PassesByAll x l w.l') same.1 w.identity;
+        is = refl;
+      })
 
-  pub apart_from : get ys (context_key i) ≡ None → LacksKey (context_key i) l.context → (l' : InContext) (ys' : Contexts) (back : List Named) (j' : Catch) → PassesByAll rr' l l' → EachMember (AddsAll rr') ys ys' → back ≡ inverse_all s → BothBefore back rr' xs i j' → TwoConflictorsApart r xs i s ys l (Conflictor effect ys' l') j'
-  apart_from lacks unseen l' ys' back j' identity conflicts is made =
-      let own = subst (λ b. BothBefore b rr' xs i j') is made in
-      record {
-        apart = lacks;
-        unseen = unseen;
-        effect = effect;
-        rr' = rr';
-        effects = pass;
-        ys' = ys';
-        conflicts = conflicts;
-        l' = l';
-        identity = identity;
-        xs' = own.xs';
-        own_conflicts = own.conflicts;
-        i' = own.i';
-        own_identity = own.identity;
-        second = refl;
-        first = own.is;
-      }
+  pub apart_from : get ys (context_key i) ≡ None → LacksKey (context_key i) l.context → (k' j' : Catch) → AllPassBefore rr' effect ys l k' → BothBefore (inverse_all s) rr' xs i j' → TwoConflictorsApart r xs i s ys l k' j'
+  apart_from lacks unseen k' j' made own = record {
+    apart = lacks;
+    unseen = unseen;
+    effect = effect;
+    rr' = rr';
+    effects = pass;
+    ys' = made.xs';
+    conflicts = made.conflicts;
+    l' = made.i';
+    identity = made.identity;
+    xs' = own.xs';
+    own_conflicts = own.conflicts;
+    i' = own.i';
+    own_identity = own.identity;
+    second = made.is;
+    first = own.is;
+  }
 
 -- one of several conflicts, where the others are what is left of the set
 module _ (r : List Named) (xs : Contexts) (i : InContext) (s : List Named) (ys : Contexts) (l : InContext) (others : Contexts) (left : others ≡ remove ys (context_key i)) where
   pub several_stay : ((pair : List Named × List Named) → ¬ (EffectsPass r s others pair.0 pair.1)) → NoResult (OneOfSeveralConflicts r xs i s ys l)
   several_stay never pair w = never (w.effect, w.rr') (subst (λ x. EffectsPass r s x w.effect w.rr') (sym left) w.effects)
 
-  pub several_from : (z : InContext) → get ys (context_key i) ≡ Some z → 2 ≤ len ys → (effect rr' back : List Named) (k' j' : Catch) → EffectsPass r s others effect rr' → BothBefore rr' effect others l k' → back ≡ inverse_all s → JoinedBefore back rr' xs i l j' → OneOfSeveralConflicts r xs i s ys l k' j'
-  several_from z member several effect rr' back k' j' pass made is joined =
+  pub several_from : (z : InContext) → get ys (context_key i) ≡ Some z → 2 ≤ len ys → (effect rr' : List Named) (k' j' : Catch) → EffectsPass r s others effect rr' → BothBefore rr' effect others l k' → JoinedBefore (inverse_all s) rr' xs i l j' → OneOfSeveralConflicts r xs i s ys l k' j'
+  several_from z member several effect rr' k' j' pass made first =
       let second = subst (λ x. BothBefore rr' effect x l k') left made in
-      let first = subst (λ b. JoinedBefore b rr' xs i l j') is joined in
       record {
         z = z;
         member = member;

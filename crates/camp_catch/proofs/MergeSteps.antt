@@ -6,7 +6,6 @@ use Rattle.camp_prim.specs.Swaps.{Swap}
 use Rattle.camp_prim.specs.declared.named.Named.{Named}
 use Rattle.camp_prim.proofs.Inverses.{inverse_of-inverse_of}
 use Rattle.camp_seq.specs.Merging.{Merges, MergesOne}
-use Rattle.camp_seq.specs.NormalOrder.{Norm}
 use Rattle.camp_seq.specs.Passing.{Passes}
 use Rattle.camp_seq.specs.Running.{inverse_all}
 use Rattle.camp_seq.proofs.MergeGrid.{row_passes, passes_row}

@@ -207,9 +207,9 @@ fn conflict_dissolves(
     if !undone {
         return Ok(None);
     }
-    let second = Catch::Plain(l.patch().try_clone()?);
     let first = in_first_conflict(alloc, l, x)?;
-    Ok(Some((second, first)))
+    let second = l.patch().try_clone()?;
+    Ok(Some((Catch::Plain(second), first)))
 }
 
 /// `[a] (s, Y, l) <-> (s', Y without a, l) ([], {l}, z)`, where `s ~ a^ s'`

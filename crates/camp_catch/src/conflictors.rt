@@ -7,11 +7,13 @@ ghost use Rattle.camp_catch.specs.Commuting.{CommuteConflictors, EffectsPass, On
 ghost use Rattle.camp_catch.specs.Inside.Seen.{JoinsInOrder};
 
 use crate::Catch;
-use crate::seen::{both_before, has_no_context, joined_before, takes_back};
+use crate::seen::{
+    all_pass_before, both_before, both_behind, has_no_context, joined_behind, takes_back,
+};
 use crate::values::is_undone;
 use camp_ctx::{Contexted, CtxSet, join};
 use camp_prim::{Key, Label, Named};
-use camp_seq::{Seq, invert_all, norm, past_all, split};
+use camp_seq::{Seq, norm, past_all, split};
 use std::alloc::{AllocError, Global};
 
 /// Two conflictors: the first is not in the second's set, or it is.
@@ -72,17 +74,11 @@ fn two_conflictors_apart(
     let Some((effect, rest)) = passed else {
         return Ok(None);
     };
-    let moved = Contexted::past(&rest, l)?;
-    let Some(identity) = moved else {
+    let moved = all_pass_before(&rest, effect, ys, l)?;
+    let Some(second) = moved else {
         return Ok(None);
     };
-    let conflicts = CtxSet::add(&rest, ys)?;
-    let first = both_before(&invert_all(s)?, rest, xs, i)?;
-    let second = Catch::Conflictor {
-        effect,
-        conflicts,
-        identity,
-    };
+    let first = both_behind(s, rest, xs, i)?;
     Ok(Some((second, first)))
 }
 
@@ -111,9 +107,9 @@ fn only_conflict_goes(
     if !has_no_context(&seen) {
         return Ok(None);
     }
-    let second = Catch::Plain(seen.patch().try_clone()?);
     let first = takes_back(alloc, seen.patch(), r, xs, l, i)?;
-    Ok(Some((second, first)))
+    let second = seen.patch().try_clone()?;
+    Ok(Some((Catch::Plain(second), first)))
 }
 
 /// `(common rr, X, i) (s, Y, l) <-> (common s', Z', l') (rr', X' and l, i')`, where `Z` is `Y`
@@ -137,7 +133,7 @@ fn one_of_several_conflicts(
         return Ok(None);
     };
     let second = both_before(&rest, effect, &others, l)?;
-    let first = joined_before(&invert_all(s)?, rest, xs, i, l)?;
+    let first = joined_behind(s, rest, xs, i, l)?;
     Ok(Some((second, first)))
 }
 

@@ -172,11 +172,18 @@ fn plain_joins_conflictor(
     requires { (seen : InContext) × AddsAll s.now l.now seen × Conflict (bare a.now) seen }
     ensures { IfOk result (λ pair. PlainJoinsConflictor a.now s.now ys.now l.now pair.0 pair.1) }
 {
-    let own = bare(alloc, a)?;
-    let z = seen_behind(s, &own)?;
+    let z = bare_behind(alloc, a, s)?;
     let after = takes_back(alloc, a, s, ys, &z, l)?;
     let beside = in_conflict_with(alloc, l, &z)?;
     Ok((after, beside))
+}
+
+/// `:a` as it is seen behind a list
+fn bare_behind(alloc: Global, a: &Named, list: &Seq) -> Result<Contexted, AllocError>
+    ensures { IfOk result (AddsAll (inverse_all list.now) (bare a.now)) }
+{
+    let own = bare(alloc, a)?;
+    seen_behind(list, &own)
 }
 
 /// `(r, X, i) | [b]`, as `[b] | (r, X, i)` with the two results exchanged

@@ -2,14 +2,15 @@ ghost use Rattle.std.specs.Prelude.{◌≡◌, ◌↔◌, [], ◌∷◌, IfOk, I
 ghost use Rattle.camp_base.specs.Answers.{Finds};
 ghost use Rattle.camp_prim.specs.Effect.{inverse_of};
 ghost use Rattle.camp_seq.specs.NormalOrder.{Norm};
+ghost use Rattle.camp_seq.specs.Running.{inverse_all};
 ghost use Rattle.camp_ctx.specs.Contexts.{bare, only};
-ghost use Rattle.camp_catch.specs.Inside.Seen.{BothBefore, JoinedBefore, LeavesSet, OneBefore, PassesBefore, SetBefore, TakesBack};
+ghost use Rattle.camp_catch.specs.Inside.Seen.{AllPassBefore, BothBefore, JoinedBefore, LeavesSet, OneBefore, PassesBefore, SetBefore, TakesBack};
 
 use crate::Catch;
 use crate::values::{alone, inverse, undone};
 use camp_ctx::{Contexted, CtxSet, join};
 use camp_prim::{Key, Named};
-use camp_seq::{Seq, norm};
+use camp_seq::{Seq, invert_all, norm};
 use std::alloc::{AllocError, Global};
 use std::slice;
 
@@ -76,8 +77,51 @@ pub(crate) fn both_before(r: &Seq, s: Seq, xs: &CtxSet, i: &Contexted) -> Result
     })
 }
 
+/// `(s, X', i')`, where `r^` added to `X` and `i` gives `X'` and `i'`
+pub(crate) fn both_behind(r: &Seq, s: Seq, xs: &CtxSet, i: &Contexted) -> Result<Catch, AllocError>
+    ensures { IfOk result (BothBefore (inverse_all r.now) s xs.now i.now) }
+{
+    let back = invert_all(r)?;
+    both_before(&back, s, xs, i)
+}
+
+/// `Some((s, X', i'))`, where `r` added to `X` gives `X'`, and `r` passes by `i`. None where it can't.
+pub(crate) fn all_pass_before(
+    r: &Seq,
+    s: Seq,
+    xs: &CtxSet,
+    i: &Contexted,
+) -> Result<Option<Catch>, AllocError>
+    ensures { IfOk result (Finds (AllPassBefore r.now s xs.now i.now)) }
+{
+    let moved = Contexted::past(r, i)?;
+    let Some(identity) = moved else {
+        return Ok(None);
+    };
+    let conflicts = CtxSet::add(r, xs)?;
+    Ok(Some(Catch::Conflictor {
+        effect: s,
+        conflicts,
+        identity,
+    }))
+}
+
+/// `(s, X' and l, i')`, where `r^` added to `X` and `i` gives `X'` and `i'`
+pub(crate) fn joined_behind(
+    r: &Seq,
+    s: Seq,
+    xs: &CtxSet,
+    i: &Contexted,
+    l: &Contexted,
+) -> Result<Catch, AllocError>
+    ensures { IfOk result (JoinedBefore (inverse_all r.now) s xs.now i.now l.now) }
+{
+    let back = invert_all(r)?;
+    joined_before(&back, s, xs, i, l)
+}
+
 /// `(s, X' and l, i')`, where `r` added to `X` and `i` gives `X'` and `i'`
-pub(crate) fn joined_before(
+fn joined_before(
     r: &Seq,
     s: Seq,
     xs: &CtxSet,

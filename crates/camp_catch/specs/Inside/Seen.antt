@@ -5,7 +5,7 @@ use Rattle.camp_prim.specs.Effect.{inverse_of}
 use Rattle.camp_prim.specs.declared.labels.Key.{Key}
 use Rattle.camp_prim.specs.declared.named.Named.{Named}
 use Rattle.camp_seq.specs.NormalOrder.{Norm}
-use Rattle.camp_ctx.specs.Adding.{Adds, AddsAll, PassesBy}
+use Rattle.camp_ctx.specs.Adding.{Adds, AddsAll, PassesBy, PassesByAll}
 use Rattle.camp_ctx.specs.Contexts.{InContext, Contexts, EachMember, with_member}
 use Rattle.camp_catch.specs.declared.catches.Catch.{Catch}
 use Rattle.camp_catch.specs.declared.catches.Catch.TheVariants.{Conflictor}
@@ -38,6 +38,14 @@ pub record BothBefore (r s : List Named) (xs : Contexts) (i : InContext) (k : Ca
   pub conflicts : EachMember (AddsAll r) xs xs'
   pub i' : InContext
   pub identity : AddsAll r i i'
+  pub is : k ≡ Conflictor s xs' i'
+
+-- (s, X', i'), where r added to X gives X', and r passes by i
+pub record AllPassBefore (r s : List Named) (xs : Contexts) (i : InContext) (k : Catch) : Type 0 where
+  pub xs' : Contexts
+  pub conflicts : EachMember (AddsAll r) xs xs'
+  pub i' : InContext
+  pub identity : PassesByAll r i i'
   pub is : k ≡ Conflictor s xs' i'
 
 -- (s, X' and l, i'), where r added to X and i gives X' and i'

@@ -22,4 +22,4 @@ returns-then-not-undone c =
 
 pub returns : goal.returns
 returns c =
-    dissolves_from c.args.a.now c.args.s.now c.args.ys.now c.args.l.now _ _ _ c.in-Some.ensures (c.is_bare.ensures.0 c.if-not-is_bare.false) (c.has_no_context.ensures.0 c.if-not-has_no_context.false) (c.in_ok-undone.ensures.0 c.if-not-undone.false) (c.in_ok-try_clone.ensures ∙ c.patch.ensures) c.in_ok-first.ensures
+    dissolves_from c.args.a.now c.args.s.now c.args.ys.now c.args.l.now _ _ _ c.in-Some.ensures (c.is_bare.ensures.0 c.if-not-is_bare.false) (c.has_no_context.ensures.0 c.if-not-has_no_context.false) (c.in_ok-undone.ensures.0 c.if-not-undone.false) (c.in_ok-second.ensures ∙ c.patch.ensures) c.in_ok-first.ensures

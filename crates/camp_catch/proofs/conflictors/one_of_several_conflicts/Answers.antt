@@ -11,4 +11,4 @@ returns-in_default c =
 pub returns : goal.returns
 returns c =
     let pass = rw c.in-Some.is at c.in_ok-passed.ensures in
-    several_from c.args.r.now c.args.xs.now c.args.i.now c.args.s.now c.args.ys.now c.args.l.now _ (c.in_ok-others.ensures ∙ ap (remove c.args.ys.now) c.key.ensures) c.requires.member.0 c.requires.member.1 c.requires.several _ _ _ _ _ pass c.in_ok-second.ensures c.in_ok-invert_all.ensures c.in_ok-first.ensures
+    several_from c.args.r.now c.args.xs.now c.args.i.now c.args.s.now c.args.ys.now c.args.l.now _ (c.in_ok-others.ensures ∙ ap (remove c.args.ys.now) c.key.ensures) c.requires.member.0 c.requires.member.1 c.requires.several _ _ _ _ pass c.in_ok-second.ensures c.in_ok-first.ensures

@@ -15,12 +15,12 @@ returns-in_default c =
 pub returns-in_default-moved : goal.returns-in_default-moved
 returns-in_default-moved c =
     let pass = rw c.in-Some.is at c.in_ok-passed.ensures in
-    let never = rw c.in_default-moved.is at c.in_ok-moved.ensures.exact in
+    let never = rw c.in_default-moved.is at c.in_ok-moved.ensures in
     identity_stays c.args.r.now c.args.xs.now c.args.i.now c.args.s.now c.args.ys.now c.args.l.now _ _ pass never
 
 pub returns : goal.returns
 returns c =
     let pass = rw c.in-Some.is at c.in_ok-passed.ensures in
-    let identity = rw c.in-Some-moved.is at c.in_ok-moved.ensures.exact in
+    let made = rw c.in-Some-moved.is at c.in_ok-moved.ensures in
     let unseen = is_unseen c.args.i.now c.args.l.now _ _ c.key.ensures (c.items.ensures ∙ c.context.ensures) (c.lacks_key.ensures.0 c.if-not-lacks_key.false) in
-    apart_from c.args.r.now c.args.xs.now c.args.i.now c.args.s.now c.args.ys.now c.args.l.now _ _ pass c.requires unseen _ _ _ _ identity c.in_ok-conflicts.ensures c.in_ok-invert_all.ensures c.in_ok-first.ensures
+    apart_from c.args.r.now c.args.xs.now c.args.i.now c.args.s.now c.args.ys.now c.args.l.now _ _ pass c.requires unseen _ _ made c.in_ok-first.ensures
