@@ -21,7 +21,7 @@ use Rattle.camp_ctx.specs.Adding.{Adds, AddsAll, PassesBy, PassesByAll}
 use Rattle.camp_ctx.specs.Contexts.{InContext, Contexts, EachMember, bare, only, patch_key, context_key}
 use Rattle.camp_ctx.proofs.AddResults.{one_add_of_all}
 use Rattle.camp_catch.specs.Commuting.{PlainPastConflictor, ConflictorPastPlain, EffectsPass, labels_undone, TwoConflictorsApart, ConflictDissolves, PlainLeavesTheSet, OnlyConflictGoes, OneOfSeveralConflicts, CommutePlainConflictor, CommuteConflictors}
-use Rattle.camp_catch.specs.Inside.Seen.{AllPassBefore, PassesBefore, BothBefore, JoinedBefore, TakesBack, LeavesSet, JoinsInOrder}
+use Rattle.camp_catch.specs.Inside.Seen.{AllPassBefore, PassesBefore, BothBefore, JoinsBehindEffects, PlainAndUndone, PlainAndFirstConflict, LeavesSet, JoinsInOrder}
 use Rattle.camp_catch.specs.declared.catches.Catch.{Catch}
 use Rattle.camp_catch.specs.declared.catches.Catch.TheVariants.{Plain, Conflictor}
 use Rattle.camp_catch.proofs.ValueSteps.{is_alone}
@@ -273,29 +273,46 @@ module _ (r : List Named) (xs : Contexts) (i : InContext) (s : List Named) (ys :
 
 -- one of several conflicts, where the others are what is left of the set
 module _ (r : List Named) (xs : Contexts) (i : InContext) (s : List Named) (ys : Contexts) (l : InContext) (others : Contexts) (left : others ≡ remove ys (context_key i)) where
-  pub several_stay : ((pair : List Named × List Named) → ¬ (EffectsPass r s others pair.0 pair.1)) → NoResult (OneOfSeveralConflicts r xs i s ys l)
-  several_stay never pair w = never (w.effect, w.rr') (subst (λ x. EffectsPass r s x w.effect w.rr') (sym left) w.effects)
-
-  pub several_from : (z : InContext) → get ys (context_key i) ≡ Some z → 2 ≤ len ys → (effect rr' : List Named) (k' j' : Catch) → EffectsPass r s others effect rr' → BothBefore rr' effect others l k' → JoinedBefore (inverse_all s) rr' xs i l j' → OneOfSeveralConflicts r xs i s ys l k' j'
-  several_from z member several effect rr' k' j' pass made first =
-      let second = subst (λ x. BothBefore rr' effect x l k') left made in
+  pub several_from : (z : InContext) → get ys (context_key i) ≡ Some z → 2 ≤ len ys → (found : Option (Catch × Catch)) → FindsPair (JoinsBehindEffects r xs i s others l) found → FindsPair (OneOfSeveralConflicts r xs i s ys l) found
+  several_from z member several None never = λ pair w.
+      never pair (record {
+        effect = w.effect;
+        rr' = w.rr';
+        effects = subst (λ x. EffectsPass r s x w.effect w.rr') (sym left) w.effects;
+        second = record {
+          xs' = w.zs';
+          conflicts = subst (λ x. EachMember (AddsAll w.rr') x w.zs') (sym left) w.conflicts;
+          i' = w.l';
+          identity = w.identity;
+          is = w.second;
+        };
+        first = record {
+          xs' = w.xs';
+          conflicts = w.own_conflicts;
+          i' = w.i';
+          identity = w.own_identity;
+          is = w.first;
+        };
+      })
+  several_from z member several (Some (k', j')) made =
+      let second = subst (λ x. BothBefore made.rr' made.effect x l k') left made.second in
       record {
         z = z;
         member = member;
         several = several;
-        effect = effect;
-        rr' = rr';
-        effects = subst (λ x. EffectsPass r s x effect rr') left pass;
+        effect = made.effect;
+        rr' = made.rr';
+        effects = subst (λ x. EffectsPass r s x made.effect made.rr') left made.effects;
         zs' = second.xs';
         conflicts = second.conflicts;
         l' = second.i';
         identity = second.identity;
-        xs' = first.xs';
-        own_conflicts = first.conflicts;
-        i' = first.i';
-        own_identity = first.identity;
+        xs' = made.first.xs';
+        own_conflicts = made.first.conflicts;
+        i' = made.first.i';
+        own_identity = made.first.identity;
         second = second.is;
-        first = first.is;
+        first = made.first.is;
       }
 
 -- what comes to the front of an effect
@@ -350,13 +367,13 @@ module _ (a : Named) (s : List Named) (ys : Contexts) (l : InContext) where
   pub does_more : ¬ (s ≡ inverse_of a ∷ []) → NoResult (ConflictDissolves a s ys l)
   does_more other pair w = other w.undoes
 
-  pub dissolves_from : (x : InContext) (q : Named) (j' : Catch) → ys ≡ only x → x ≡ bare a → l ≡ bare l.patch → s ≡ inverse_of a ∷ [] → q ≡ l.patch → j' ≡ Conflictor (inverse_of l.patch ∷ []) (only l) x → ConflictDissolves a s ys l (Plain q) j'
-  dissolves_from x q j' alone is no_context undoes patch made = record {
+  pub dissolves_from : (x : InContext) (k' j' : Catch) → ys ≡ only x → x ≡ bare a → l ≡ bare l.patch → s ≡ inverse_of a ∷ [] → PlainAndFirstConflict l x k' j' → ConflictDissolves a s ys l k' j'
+  dissolves_from x k' j' alone is no_context undoes (patch, made) = record {
     q = l.patch;
     undoes = undoes;
     alone = alone ∙ ap only is;
     is = no_context;
-    second = ap Plain patch;
+    second = patch;
     first = made ∙ (λ t. Conflictor (inverse_of l.patch ∷ []) (only (no_context t)) (is t));
   }
 
@@ -384,18 +401,17 @@ module _ (r : List Named) (xs : Contexts) (i : InContext) (s : List Named) (ys :
         let same : y ≡ bare w.a = one_add_of_all r l y (bare w.a) adds w.becomes in
         other (same ∙ ap (λ (z : InContext). bare z.patch) (sym same))
 
-    pub only_goes_from : (x : InContext) (a b : Named) (j' : Catch) → ys ≡ only x → context_key x ≡ context_key i → s ≡ [] → y ≡ bare y.patch → a ≡ y.patch → b ≡ y.patch → TakesBack b r xs l i j' → OnlyConflictGoes r xs i s ys l (Plain a) j'
-    only_goes_from x a b j' alone named no_effect no_context patch back made =
-        let own = subst (λ p. TakesBack p r xs l i j') back made in
+    pub only_goes_from : (x : InContext) (a : Named) (k' j' : Catch) → ys ≡ only x → context_key x ≡ context_key i → s ≡ [] → y ≡ bare y.patch → a ≡ y.patch → PlainAndUndone a r xs l i k' j' → OnlyConflictGoes r xs i s ys l k' j'
+    only_goes_from x a k' j' alone named no_effect no_context patch (plain, made) =
         record {
           x = x;
           named = named;
           no_effect = no_effect;
           alone = alone;
-          a = y.patch;
-          becomes = subst (AddsAll r l) no_context adds;
-          effect = own.s';
-          joined = own.effect;
-          second = ap Plain patch;
-          first = own.is;
+          a = a;
+          becomes = subst (AddsAll r l) (no_context ∙ ap bare (sym patch)) adds;
+          effect = made.s';
+          joined = made.effect;
+          second = plain;
+          first = made.is;
         }

@@ -13,9 +13,9 @@ use Rattle.camp_ctx.specs.Adding.{Adds, AddsAll}
 use Rattle.camp_ctx.specs.Conflicts.{Conflict, MergesBehindCommon}
 use Rattle.camp_ctx.specs.Contexts.{InContext, Contexts, EachMember, bare}
 use Rattle.camp_ctx.proofs.AddResults.{one_add_of_all}
-use Rattle.camp_catch.specs.Inside.Seen.{OneBefore}
+use Rattle.camp_catch.specs.Inside.Seen.{OneBefore, JoinsAs}
 use Rattle.camp_catch.specs.Inside.TwoConflictors.{EffectsMerge, TellsConflict, JoinsBehind}
-use Rattle.camp_catch.specs.Merging.{Clean, PlainBesideConflictor, MergePlainConflictor, Mirror, TwoConflictors}
+use Rattle.camp_catch.specs.Merging.{Clean, PlainBesideConflictor, PlainJoinsConflictor, MergePlainConflictor, Mirror, TwoConflictors}
 use Rattle.camp_catch.specs.declared.catches.Catch.{Catch}
 use Rattle.camp_catch.specs.declared.catches.Catch.TheVariants.{Plain, Conflictor}
 use Rattle.camp_catch.proofs.MergeEffects.{joins_alike}
@@ -28,19 +28,18 @@ NoPair {X} {Y} Results = (pair : X × Y) → ¬ (Results pair.0 pair.1)
 back_again : (p turned : Named) → turned ≡ inverse_of p → inverse_of turned ≡ p
 back_again p turned e = ap inverse_of e ∙ inverse_of-inverse_of p
 
-module _ (a back : Named) (is : back ≡ inverse_of a) where
-  pub clean_from : (b b' back' a' : Named) → a' ≡ inverse_of back' → Swap back b b' back' → Clean a b (Plain b') (Plain a')
-  clean_from b b' back' a' turned w = record {
+module _ (a b : Named) where
+  pub clean_from : (b' back' a' : Named) → a' ≡ inverse_of back' → Swap (inverse_of a) b b' back' → Clean a b (Plain b') (Plain a')
+  clean_from b' back' a' turned w = record {
     b' = b';
     a' = a';
-    merge = subst (Swap (inverse_of a) b b') (sym (back_again back' a' turned)) (subst (λ p. Swap p b b' back') is w);
+    merge = subst (Swap (inverse_of a) b b') (sym (back_again back' a' turned)) w;
     after = refl;
     beside = refl;
   }
 
-  pub no_clean : (b : Named) → NoPair (Swap back b) → NoPair (Clean a b)
-  no_clean b never pair w =
-      never (w.b', inverse_of w.a') (subst (λ p. Swap p b w.b' (inverse_of w.a')) (sym is) w.merge)
+  pub no_clean : NoPair (Swap (inverse_of a) b) → NoPair (Clean a b)
+  no_clean never pair w = never (w.b', inverse_of w.a') w.merge
 
 module _ (a : Named) (s : List Named) where
   -- a list that the inverse of a passes merges cleanly with a
@@ -70,6 +69,20 @@ module _ (a : Named) (s : List Named) where
         after = made.is;
         beside = refl;
       }
+
+-- a plain catch that conflicts with a conflictor joins it as it is seen behind its effect
+pub joins_from : (a : Named) (s : List Named) (ys : Contexts) (l seen z : InContext) → AddsAll s l seen → Conflict (bare a) seen → AddsAll (inverse_all s) (bare a) z → (k' j' : Catch) → JoinsAs a s ys l z k' j' → PlainJoinsConflictor a s ys l k' j'
+joins_from a s ys l seen z sees conflict becomes k' j' (taken, beside) = record {
+  seen = seen;
+  sees = sees;
+  conflict = conflict;
+  z = z;
+  becomes = becomes;
+  effect = taken.s';
+  joined = taken.effect;
+  after = taken.is;
+  beside = beside;
+}
 
 -- where two plain catches do not merge cleanly, their patches do not
 pub no_merge : (a b : Named) → NoPair (Clean a b) → (b' a' : Named) → ¬ (Merges a b b' a')

@@ -6,7 +6,7 @@ ghost use Rattle.camp_prim.specs.Labels.{label_of};
 ghost use Rattle.camp_seq.specs.Passing.{Fronts, PassesAll};
 ghost use Rattle.camp_ctx.specs.Contexts.{context_key, patch_key};
 ghost use Rattle.camp_catch.specs.Commuting.{BothPlain, CommuteCatch, CommutePlainConflictor, ConflictDissolves, ConflictorPastPlain, PlainLeavesTheSet, PlainPastConflictor};
-ghost use Rattle.camp_catch.specs.Inside.Seen.{PassesBefore};
+ghost use Rattle.camp_catch.specs.Inside.Seen.{PassesBefore, PlainAndFirstConflict};
 
 use crate::Catch;
 use crate::conflictors::commute_conflictors;
@@ -207,9 +207,21 @@ fn conflict_dissolves(
     if !undone {
         return Ok(None);
     }
-    let first = in_first_conflict(alloc, l, x)?;
+    let pair = plain_and_first_conflict(alloc, l, x)?;
+    Ok(Some(pair))
+}
+
+/// `[q] ([q^], {:q}, z)`, for a `:q`
+fn plain_and_first_conflict(
+    alloc: Global,
+    l: &Contexted,
+    z: &Contexted,
+) -> Result<(Catch, Catch), AllocError>
+    ensures { IfOk result (λ pair. PlainAndFirstConflict l.now z.now pair.0 pair.1) }
+{
+    let first = in_first_conflict(alloc, l, z)?;
     let second = l.patch().try_clone()?;
-    Ok(Some((Catch::Plain(second), first)))
+    Ok((Catch::Plain(second), first))
 }
 
 /// `[a] (s, Y, l) <-> (s', Y without a, l) ([], {l}, z)`, where `s ~ a^ s'`

@@ -4,7 +4,7 @@ ghost use Rattle.camp_base.specs.Answers.{FindsPair};
 ghost use Rattle.camp_seq.specs.NormalOrder.{Splits};
 ghost use Rattle.camp_ctx.specs.Contexts.{context_key, patch_key, InContext};
 ghost use Rattle.camp_catch.specs.Commuting.{CommuteConflictors, EffectsPass, OneOfSeveralConflicts, OnlyConflictGoes, TwoConflictorsApart, labels_undone};
-ghost use Rattle.camp_catch.specs.Inside.Seen.{JoinsInOrder};
+ghost use Rattle.camp_catch.specs.Inside.Seen.{JoinsBehindEffects, JoinsInOrder, PlainAndUndone};
 
 use crate::Catch;
 use crate::seen::{
@@ -107,9 +107,24 @@ fn only_conflict_goes(
     if !has_no_context(&seen) {
         return Ok(None);
     }
-    let first = takes_back(alloc, seen.patch(), r, xs, l, i)?;
-    let second = seen.patch().try_clone()?;
-    Ok(Some((Catch::Plain(second), first)))
+    let pair = plain_and_undone(alloc, seen.patch(), r, xs, l, i)?;
+    Ok(Some(pair))
+}
+
+/// `[a] (a^ r, X and l, i)`
+fn plain_and_undone(
+    alloc: Global,
+    a: &Named,
+    r: &Seq,
+    xs: &CtxSet,
+    l: &Contexted,
+    i: &Contexted,
+) -> Result<(Catch, Catch), AllocError>
+    ensures { IfOk result (λ pair. PlainAndUndone a.now r.now xs.now l.now i.now pair.0 pair.1) }
+{
+    let first = takes_back(alloc, a, r, xs, l, i)?;
+    let second = a.try_clone()?;
+    Ok((Catch::Plain(second), first))
 }
 
 /// `(common rr, X, i) (s, Y, l) <-> (common s', Z', l') (rr', X' and l, i')`, where `Z` is `Y`
@@ -128,11 +143,26 @@ fn one_of_several_conflicts(
     ensures { IfOk result (FindsPair (OneOfSeveralConflicts r.now xs.now i.now s.now ys.now l.now)) }
 {
     let others = ys.without(&i.key())?;
-    let passed = effects_pass(alloc, r, s, &others)?;
+    joins_behind_effects(alloc, r, xs, i, s, &others, l)
+}
+
+/// `(common rr, X, i) (s, Z, l) <-> (common s', Z', l') (rr', X' and l, i')`
+fn joins_behind_effects(
+    alloc: Global,
+    r: &Seq,
+    xs: &CtxSet,
+    i: &Contexted,
+    s: &Seq,
+    zs: &CtxSet,
+    l: &Contexted,
+) -> Result<Option<(Catch, Catch)>, AllocError>
+    ensures { IfOk result (FindsPair (JoinsBehindEffects r.now xs.now i.now s.now zs.now l.now)) }
+{
+    let passed = effects_pass(alloc, r, s, zs)?;
     let Some((effect, rest)) = passed else {
         return Ok(None);
     };
-    let second = both_before(&rest, effect, &others, l)?;
+    let second = both_before(&rest, effect, zs, l)?;
     let first = joined_behind(s, rest, xs, i, l)?;
     Ok(Some((second, first)))
 }

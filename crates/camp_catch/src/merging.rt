@@ -1,6 +1,7 @@
 ghost use Rattle.std.specs.Prelude.{◌≡◌, [], ◌∷◌, IfOk};
 ghost use Rattle.camp_base.specs.Answers.{FindsPair};
 ghost use Rattle.camp_prim.specs.Effect.{inverse_of};
+ghost use Rattle.camp_prim.specs.Swaps.{Swap};
 ghost use Rattle.camp_prim.specs.declared.named.Named.{Named};
 ghost use Rattle.camp_seq.specs.Merging.{Merges};
 ghost use Rattle.camp_seq.specs.Passing.{Passes};
@@ -8,6 +9,7 @@ ghost use Rattle.camp_seq.specs.Running.{inverse_all};
 ghost use Rattle.camp_ctx.specs.Adding.{AddsAll};
 ghost use Rattle.camp_ctx.specs.Conflicts.{Conflict};
 ghost use Rattle.camp_ctx.specs.Contexts.{InContext, bare, only};
+ghost use Rattle.camp_catch.specs.Inside.Seen.{JoinsAs};
 ghost use Rattle.camp_catch.specs.Inside.TwoConflictors.{EffectsMerge, JoinsBehind, TellsConflict};
 ghost use Rattle.camp_catch.specs.Merging.{Clean, FirstConflict, MergeCatch, MergePlainConflictor, Mirror, PlainBesideConflictor, PlainJoinsConflictor, TwoConflictors};
 ghost use Rattle.camp_catch.specs.declared.catches.Catch.TheVariants.{Plain, Conflictor};
@@ -85,12 +87,19 @@ fn both_plain(alloc: Global, a: &Named, b: &Named) -> Result<Option<(Catch, Catc
 fn clean(a: &Named, b: &Named) -> Result<Option<(Catch, Catch)>, AllocError>
     ensures exact { IfOk result (FindsPair (Clean a.now b.now)) }
 {
-    let back = inverse(a)?;
-    let swapped = commute(&back, b)?;
+    let swapped = commute_inverse(a, b)?;
     match swapped {
         Some((b, back)) => Ok(Some((Catch::Plain(b), Catch::Plain(back.invert())))),
         None => Ok(None),
     }
+}
+
+/// `a^ b <-> b' a'^`
+fn commute_inverse(a: &Named, b: &Named) -> Result<Option<(Named, Named)>, AllocError>
+    ensures exact { IfOk result (FindsPair (Swap (inverse_of a.now) b.now)) }
+{
+    let back = inverse(a)?;
+    commute(&back, b)
 }
 
 /// `[a] | [b] -> ([a^], {:a}, :b) | ([b^], {:b}, :a)`
@@ -173,8 +182,22 @@ fn plain_joins_conflictor(
     ensures { IfOk result (λ pair. PlainJoinsConflictor a.now s.now ys.now l.now pair.0 pair.1) }
 {
     let z = bare_behind(alloc, a, s)?;
-    let after = takes_back(alloc, a, s, ys, &z, l)?;
-    let beside = in_conflict_with(alloc, l, &z)?;
+    joins_as(alloc, a, s, ys, l, &z)
+}
+
+/// `[a] | (s, Y, l) -> (a^ s, Y and z, l) | ([], {l}, z)`
+fn joins_as(
+    alloc: Global,
+    a: &Named,
+    s: &Seq,
+    ys: &CtxSet,
+    l: &Contexted,
+    z: &Contexted,
+) -> Result<(Catch, Catch), AllocError>
+    ensures { IfOk result (λ pair. JoinsAs a.now s.now ys.now l.now z.now pair.0 pair.1) }
+{
+    let after = takes_back(alloc, a, s, ys, z, l)?;
+    let beside = in_conflict_with(alloc, l, z)?;
     Ok((after, beside))
 }
 

@@ -1,7 +1,7 @@
 ghost use Rattle.std.specs.Prelude.{◌≡◌, List, IfOk};
 ghost use Rattle.std.specs.Result.{MatchResult};
-ghost use Rattle.camp_base.specs.Answers.{Changes};
-ghost use Rattle.camp_catch.specs.Inside.InPlace.{MergesInPlace};
+ghost use Rattle.camp_base.specs.Answers.{Changes, Finds};
+ghost use Rattle.camp_catch.specs.Inside.InPlace.{MergesBehind, MergesInPlace};
 ghost use Rattle.camp_catch.specs.MergingLists.{MergeLists, MergeSticks, MergesWithAll, SticksWithin};
 ghost use Rattle.camp_catch.specs.Catches.{catch_key};
 ghost use Rattle.camp_catch.specs.declared.catches.Catch.{Catch as AnyCatch};
@@ -81,13 +81,24 @@ fn merge_behind_all(
 {
     let mut after = k.share()?;
     for j in q {
-        let merged = merge(alloc, j, &after)?;
-        let Some((next, _)) = merged else {
+        let merged = merge_behind(alloc, j, &after)?;
+        let Some(next) = merged else {
             return Ok(Err(no_merge(j, &after)));
         };
         after = renewed(alloc, &after, next)?;
     }
     Ok(Ok(after))
+}
+
+/// `k` as it is after the `j` of the same state.
+fn merge_behind(alloc: Global, j: &Catch, k: &Catch) -> Result<Option<Catch>, AllocError>
+    ensures exact { IfOk result (Finds (MergesBehind j.now k.now)) }
+{
+    let found = merge(alloc, j, k)?;
+    match found {
+        None => Ok(None),
+        Some((after, _)) => Ok(Some(after)),
+    }
 }
 
 /// Merges `j` and the `k` of the same state, where each stays in its place in memory.

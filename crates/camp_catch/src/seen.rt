@@ -165,9 +165,16 @@ pub(crate) fn takes_back(
 fn with_undone(alloc: Global, a: &Named, s: &Seq) -> Result<Seq, AllocError>
     ensures { IfOk result (Norm (inverse_of a.now ∷ s.now)) }
 {
-    let back = inverse(a)?;
-    let joined = join(alloc, slice::from_ref(&back), s.items())?;
+    let joined = undone_before(alloc, a, s)?;
     norm(&joined)
+}
+
+/// `a^ s`
+fn undone_before(alloc: Global, a: &Named, s: &Seq) -> Result<Seq, AllocError>
+    ensures { IfOk result (λ joined. joined ≡ inverse_of a.now ∷ s.now) }
+{
+    let back = inverse(a)?;
+    join(alloc, slice::from_ref(&back), s.items())
 }
 
 /// `(s', X without a label, i)`, where `s'` is `s` in normal order

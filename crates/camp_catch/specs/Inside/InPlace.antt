@@ -15,6 +15,10 @@ CommutesInPlace old new = CommuteCatch old.0 old.1 new.1 new.0
 abbrev pub MergesInPlace : Catch × Catch → Catch × Catch → Type 0
 MergesInPlace old new = MergeCatch old.0 old.1 new.1 new.0
 
+-- j and the k of the same state merge, and k becomes k'
+abbrev pub MergesBehind : Catch → Catch → Catch → Type 0
+MergesBehind j k k' = (j' : Catch) × MergeCatch j k k' j'
+
 -- no catch has this absolute label
 abbrev pub Lacks : Key → List Catch → Type 0
 Lacks key list = All (λ j. catch_key j ≢ key) list

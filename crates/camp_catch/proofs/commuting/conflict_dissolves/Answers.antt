@@ -1,4 +1,3 @@
-use Rattle.std.proofs.Common.{◌∙◌}
 use Rattle.camp_catch.proofs.CommuteSteps.{not_alone, another_alone, has_context, does_more, dissolves_from}
 use Rattle.camp_catch.proofs.commuting.conflict_dissolves.Goals as goal
 
@@ -22,4 +21,4 @@ returns-then-not-undone c =
 
 pub returns : goal.returns
 returns c =
-    dissolves_from c.args.a.now c.args.s.now c.args.ys.now c.args.l.now _ _ _ c.in-Some.ensures (c.is_bare.ensures.0 c.if-not-is_bare.false) (c.has_no_context.ensures.0 c.if-not-has_no_context.false) (c.in_ok-undone.ensures.0 c.if-not-undone.false) (c.in_ok-second.ensures ∙ c.patch.ensures) c.in_ok-first.ensures
+    dissolves_from c.args.a.now c.args.s.now c.args.ys.now c.args.l.now _ _ _ c.in-Some.ensures (c.is_bare.ensures.0 c.if-not-is_bare.false) (c.has_no_context.ensures.0 c.if-not-has_no_context.false) (c.in_ok-undone.ensures.0 c.if-not-undone.false) c.in_ok-pair.ensures

@@ -20,4 +20,4 @@ pub returns : goal.returns
 returns c =
     let named = sym (ap patch_key c.patch.ensures) ∙ c.has_key.ensures.0 c.if-not-has_key.false ∙ c.key.ensures in
     let nothing = is_nothing c.args.s.now _ _ c.is_empty.ensures c.if-not-is_empty.false c.items.ensures in
-    only_goes_from c.args.r.now c.args.xs.now c.args.i.now c.args.s.now c.args.ys.now c.args.l.now _ c.in_ok-seen.ensures _ _ _ _ c.in-Some.ensures named nothing (c.has_no_context.ensures.0 c.if-not-has_no_context.false) (c.in_ok-second.ensures ∙ c.patch-3.ensures) c.patch-2.ensures c.in_ok-first.ensures
+    only_goes_from c.args.r.now c.args.xs.now c.args.i.now c.args.s.now c.args.ys.now c.args.l.now _ c.in_ok-seen.ensures _ _ _ _ c.in-Some.ensures named nothing (c.has_no_context.ensures.0 c.if-not-has_no_context.false) c.patch-2.ensures c.in_ok-pair.ensures

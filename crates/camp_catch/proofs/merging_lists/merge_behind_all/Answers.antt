@@ -26,7 +26,7 @@ returns-in_default c =
     let left = ap (λ (x : NoMerge). x.left) told ∙ ap catch_key c.deref-in_default.ensures in
     let right = ap (λ (x : NoMerge). x.right) told ∙ ap catch_key c.deref-in_default-2.ensures in
     record {
-      exact = c.loop-j.invariant.1.sticks _ _ (subst (λ x. SticksWithin x c.loop-j.after c.no_merge.result.left c.no_merge.result.right) (sym next) (inl ((λ k' j'. never (k', j')), left, right)));
+      exact = c.loop-j.invariant.1.sticks _ _ (subst (λ x. SticksWithin x c.loop-j.after c.no_merge.result.left c.no_merge.result.right) (sym next) (inl ((λ k' j' m. never k' (j', m)), left, right)));
     }
 
 pub loop-j-preserved : goal.loop-j-preserved
@@ -37,9 +37,9 @@ loop-j-preserved c =
     let done = c.loop-j.invariant.0 in
     let next : drop i s ≡ j ∷ drop (i + 1) s = stands_at s i j j (omega arith) c.j-item.is in
     let merged = rw (c.in-Some.is, c.deref.ensures, c.deref-in-loop-j.ensures) at c.in_ok-merged.ensures.exact in
-    let beside = c.in-Some.field-0-1 in
+    let (beside, m) = merged in
     let after : c.in_ok-after-2.after ≡ c.in-Some.next = c.in_ok-after-2.ensures in
-    (done ++ beside ∷ [], behind_one_more s c.args.k.now done c.loop-j.after j (drop (i + 1) s) c.in_ok-after-2.after beside (subst (IsBehind s c.args.k.now done c.loop-j.after) next c.loop-j.invariant.1) (subst (λ x. MergeCatch j c.loop-j.after x beside) (sym after) merged))
+    (done ++ beside ∷ [], behind_one_more s c.args.k.now done c.loop-j.after j (drop (i + 1) s) c.in_ok-after-2.after beside (subst (IsBehind s c.args.k.now done c.loop-j.after) next c.loop-j.invariant.1) (subst (λ x. MergeCatch j c.loop-j.after x beside) (sym after) m))
 
 pub returns : goal.returns
 returns c =
