@@ -21,7 +21,8 @@ use Rattle.camp_ctx.specs.Adding.{Adds, AddsAll, PassesBy, PassesByAll}
 use Rattle.camp_ctx.specs.Contexts.{InContext, Contexts, EachMember, bare, only, patch_key, context_key}
 use Rattle.camp_ctx.proofs.AddResults.{one_add_of_all}
 use Rattle.camp_catch.specs.Commuting.{PlainPastConflictor, ConflictorPastPlain, EffectsPass, labels_undone, TwoConflictorsApart, ConflictDissolves, PlainLeavesTheSet, OnlyConflictGoes, OneOfSeveralConflicts, CommutePlainConflictor, CommuteConflictors}
-use Rattle.camp_catch.specs.Inside.Seen.{AllPassBefore, PassesBefore, BothBefore, JoinsBehindEffects, PlainAndUndone, PlainAndFirstConflict, LeavesSet, JoinsInOrder}
+use Rattle.camp_catch.specs.Inside.Pairs.{JoinsBehindEffects, PlainAndUndone, PlainAndFirstConflict}
+use Rattle.camp_catch.specs.Inside.Seen.{AllPassBefore, PassesBefore, BothBefore, LeavesSet, JoinsInOrder}
 use Rattle.camp_catch.specs.declared.catches.Catch.{Catch}
 use Rattle.camp_catch.specs.declared.catches.Catch.TheVariants.{Plain, Conflictor}
 use Rattle.camp_catch.proofs.ValueSteps.{is_alone}

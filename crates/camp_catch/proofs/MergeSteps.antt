@@ -13,7 +13,8 @@ use Rattle.camp_ctx.specs.Adding.{Adds, AddsAll}
 use Rattle.camp_ctx.specs.Conflicts.{Conflict, MergesBehindCommon}
 use Rattle.camp_ctx.specs.Contexts.{InContext, Contexts, EachMember, bare}
 use Rattle.camp_ctx.proofs.AddResults.{one_add_of_all}
-use Rattle.camp_catch.specs.Inside.Seen.{OneBefore, JoinsAs}
+use Rattle.camp_catch.specs.Inside.Pairs.{JoinsAs}
+use Rattle.camp_catch.specs.Inside.Seen.{OneBefore}
 use Rattle.camp_catch.specs.Inside.TwoConflictors.{EffectsMerge, TellsConflict, JoinsBehind}
 use Rattle.camp_catch.specs.Merging.{Clean, PlainBesideConflictor, PlainJoinsConflictor, MergePlainConflictor, Mirror, TwoConflictors}
 use Rattle.camp_catch.specs.declared.catches.Catch.{Catch}

@@ -6,7 +6,8 @@ ghost use Rattle.camp_prim.specs.Labels.{label_of};
 ghost use Rattle.camp_seq.specs.Passing.{Fronts, PassesAll};
 ghost use Rattle.camp_ctx.specs.Contexts.{context_key, patch_key};
 ghost use Rattle.camp_catch.specs.Commuting.{BothPlain, CommuteCatch, CommutePlainConflictor, ConflictDissolves, ConflictorPastPlain, PlainLeavesTheSet, PlainPastConflictor};
-ghost use Rattle.camp_catch.specs.Inside.Seen.{PassesBefore, PlainAndFirstConflict};
+ghost use Rattle.camp_catch.specs.Inside.Pairs.{PlainAndFirstConflict};
+ghost use Rattle.camp_catch.specs.Inside.Seen.{PassesBefore};
 
 use crate::Catch;
 use crate::conflictors::commute_conflictors;

@@ -4,7 +4,8 @@ ghost use Rattle.camp_base.specs.Answers.{FindsPair};
 ghost use Rattle.camp_seq.specs.NormalOrder.{Splits};
 ghost use Rattle.camp_ctx.specs.Contexts.{context_key, patch_key, InContext};
 ghost use Rattle.camp_catch.specs.Commuting.{CommuteConflictors, EffectsPass, OneOfSeveralConflicts, OnlyConflictGoes, TwoConflictorsApart, labels_undone};
-ghost use Rattle.camp_catch.specs.Inside.Seen.{JoinsBehindEffects, JoinsInOrder, PlainAndUndone};
+ghost use Rattle.camp_catch.specs.Inside.Pairs.{JoinsBehindEffects, PlainAndUndone};
+ghost use Rattle.camp_catch.specs.Inside.Seen.{JoinsInOrder};
 
 use crate::Catch;
 use crate::seen::{

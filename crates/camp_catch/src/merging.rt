@@ -9,7 +9,7 @@ ghost use Rattle.camp_seq.specs.Running.{inverse_all};
 ghost use Rattle.camp_ctx.specs.Adding.{AddsAll};
 ghost use Rattle.camp_ctx.specs.Conflicts.{Conflict};
 ghost use Rattle.camp_ctx.specs.Contexts.{InContext, bare, only};
-ghost use Rattle.camp_catch.specs.Inside.Seen.{JoinsAs};
+ghost use Rattle.camp_catch.specs.Inside.Pairs.{JoinsAs};
 ghost use Rattle.camp_catch.specs.Inside.TwoConflictors.{EffectsMerge, JoinsBehind, TellsConflict};
 ghost use Rattle.camp_catch.specs.Merging.{Clean, FirstConflict, MergeCatch, MergePlainConflictor, Mirror, PlainBesideConflictor, PlainJoinsConflictor, TwoConflictors};
 ghost use Rattle.camp_catch.specs.declared.catches.Catch.TheVariants.{Plain, Conflictor};
