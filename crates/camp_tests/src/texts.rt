@@ -1,9 +1,7 @@
 use camp_base::Name;
-use camp_call::{Conflicts, Names, Refusal, Reply};
+use camp_call::{Refusal, Reply};
 use camp_object::Fault;
-use camp_script::{
-    append_reply, append_sections, read_script, write_history, write_reply, write_text,
-};
+use camp_script::{append_reply, write_reply, write_text};
 use std::alloc::Global;
 use std::io;
 use std::io::{ErrorKind, Write};
@@ -45,81 +43,6 @@ fn a_refusal_shows_its_number_and_its_names(rt: HostRuntime) -> Result<(), Fail>
     }
     Ok(())
 }
-
-#[test]
-fn conflicts_and_names_are_shown(rt: HostRuntime) -> Result<(), Fail> {
-    let alloc = rt.alloc();
-    let (p, q) = (name(b"p")?, name(b"q")?);
-    let mut text = Vec::new(alloc);
-    let pairs = Vec::from_array(alloc, [(p, q)])?;
-    append_reply(&mut text, &Ok(Reply::Conflicts(Conflicts::new(pairs))))?;
-    let names = Vec::from_array(alloc, [q, p])?;
-    append_reply(&mut text, &Ok(Reply::Names(Names::new(names))))?;
-    assert!(rt; text.as_slice() == b"conflicts 1\np q\nnames 2\nq\np\n".as_slice());
-    Ok(())
-}
-
-#[test]
-fn a_history_shows_positions_seats_and_calls(rt: HostRuntime) -> Result<(), Fail> {
-    let alloc = rt.alloc();
-    let script = read_script(alloc, HISTORY)?;
-    let mut history = Vec::new(alloc);
-    let mut seat = 0u32;
-    for calls in script.into_sections() {
-        for call in calls {
-            history.push((seat, call))?;
-        }
-        seat = seat.saturating_add(1);
-    }
-    let mut text = Vec::new(alloc);
-    write_history(alloc, &history, &mut text)?;
-    assert!(rt; text.as_slice() == SHOWN);
-    Ok(())
-}
-
-#[test]
-fn each_client_has_its_answers_behind_its_line(rt: HostRuntime) -> Result<(), Fail> {
-    let alloc = rt.alloc();
-    let opening = Vec::from_array(alloc, [Ok(Reply::Done(1)), Err(Fault::Full)])?;
-    let second = Vec::from_array(alloc, [Err(Fault::Busy { lost: 2 })])?;
-    let sections = Vec::from_array(alloc, [opening, Vec::new(alloc), second])?;
-    let mut text = Vec::from_slice(alloc, b"# ")?;
-    append_sections(&mut text, &sections)?;
-    assert!(rt; text.as_slice() == b"# ok 1\nfull\nclient 1\nclient 2\nbusy 2\n".as_slice());
-    Ok(())
-}
-
-const HISTORY: &[u8] = b"branch x main
-record main a add f
-record main b edit f 1
--old
-+one
-+two
-end
-client
-record main g group
-add f
-edit f 1
-+one
-end
-done
-pull x main b a a
-pull x main
-client
-obliterate x b b
-record x r remove f
-";
-
-const SHOWN: &[u8] = b"history 8
-1 0 branch x main
-2 0 record main a add f
-3 0 record main b edit f 1 1 2
-4 1 record main g group 2
-5 1 pull x main b a a
-6 1 pull x main
-7 2 obliterate x b b
-8 2 record x r remove f
-";
 
 fn name(bytes: &[u8]) -> Result<Name, Fail> {
     Ok(Name::new(bytes)?)

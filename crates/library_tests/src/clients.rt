@@ -3,7 +3,7 @@ ghost use Rattle.camp_object.specs.NumberList.{numbers_object};
 
 use NumberCall::{Insert, Show};
 use NumberReply::{Done, Present};
-use camp_clients::{Answers, has_exactly, locked, serial, shared};
+use camp_clients::{Answers, BookRun, has_exactly, locked, serial, shared};
 use camp_history::{Gate, NoGate};
 use camp_object::{Fault, NumberCall, NumberReply, Numbers};
 use std::alloc::{AllocError, Global};
@@ -210,22 +210,25 @@ fn both_clients_wait_for_each_other(rt: HostRuntime) -> Result<(), Fail> {
     Ok(())
 }
 
+/// Whether a run has just these answers and this history.
+fn is_run(
+    run: &BookRun<Numbers>,
+    answers: &[Answers<Numbers>],
+    history: &[(u32, NumberCall)],
+) -> bool {
+    run.answers.as_slice() == answers && run.book.history() == history
+}
+
 #[test]
 fn a_single_section_goes_the_same_three_ways(rt: HostRuntime) -> Result<(), Fail> {
     let alloc = rt.alloc();
     let sections = vec![in alloc; vec![in alloc; Insert(5), Insert(3), Insert(5), Show]?]?;
     assert!(rt; sections.len() == 1 && has_room(&sections));
+    let wanted = shared::<HostRuntime, Numbers, NoGate>(&rt, alloc, &sections, 1, &NoGate)?;
     let one = serial::<Numbers>(alloc, &sections)?;
+    assert!(rt; is_run(&one, &wanted.answers, &wanted.history));
     let two = locked::<HostRuntime, Numbers>(&rt, alloc, &sections)?;
-    let three = shared::<HostRuntime, Numbers, NoGate>(&rt, alloc, &sections, 1, &NoGate)?;
-    assert_eq!(rt;
-        (one.answers.len(), two.answers.len(), three.answers.len()),
-        (1, 1, 1)
-    );
-    assert!(rt; one.answers[0].as_slice() == two.answers[0].as_slice());
-    assert!(rt; one.answers[0].as_slice() == three.answers[0].as_slice());
-    assert!(rt; one.book.history() == two.book.history());
-    assert!(rt; one.book.history() == three.history.as_slice());
+    assert!(rt; is_run(&two, &wanted.answers, &wanted.history));
     Ok(())
 }
 

@@ -22,16 +22,30 @@ fn ask(
     book.ask(seat, &call)
 }
 
+/// The number that a call is told, if it is told one.
+fn number_of(
+    rt: &impl Abort,
+    book: &mut Book<Numbers>,
+    seat: u32,
+    call: NumberCall,
+) -> Result<Option<u64>, Fault> {
+    let reply = ask(rt, book, seat, call)?;
+    Ok(Numbers::done_at(&reply))
+}
+
+/// Whether the book shows just these numbers.
+fn shows(rt: &impl Abort, book: &mut Book<Numbers>, wanted: &[u32]) -> Result<bool, Fault> {
+    let reply = ask(rt, book, 7, Show)?;
+    Ok(matches!(&reply, NumberReply::Shown(numbers) if numbers.as_slice() == wanted))
+}
+
 #[test]
 fn a_call_is_booked_once_and_under_its_seat(rt: HostRuntime) -> Result<(), Fail> {
     let mut book = Book::<Numbers>::new(rt.alloc())?;
-    assert_eq!(rt; ask(&rt, &mut book, 0, Insert(5))?, Done(1));
-    assert_eq!(rt; ask(&rt, &mut book, 7, Insert(5))?, Present);
-    assert_eq!(rt; ask(&rt, &mut book, 7, Insert(3))?, Done(2));
-    let shown = ask(&rt, &mut book, 7, Show)?;
-    assert!(rt;
-        matches!(&shown, NumberReply::Shown(numbers) if numbers.as_slice() == [5, 3].as_slice())
-    );
+    assert_eq!(rt; number_of(&rt, &mut book, 0, Insert(5))?, Some(1));
+    assert_eq!(rt; number_of(&rt, &mut book, 7, Insert(5))?, None);
+    assert_eq!(rt; number_of(&rt, &mut book, 7, Insert(3))?, Some(2));
+    assert!(rt; shows(&rt, &mut book, &[5, 3])?);
     assert!(rt; book.history() == [(0, Insert(5)), (7, Insert(3))].as_slice());
     Ok(())
 }
