@@ -33,6 +33,14 @@ fn number_of(
     Ok(Numbers::done_at(&reply))
 }
 
+/// Two seats insert 5, and the second one 3.
+fn insert_in_turn(rt: &impl Abort, book: &mut Book<Numbers>) -> Result<[Option<u64>; 3], Fault> {
+    let first = number_of(rt, book, 0, Insert(5))?;
+    let present = number_of(rt, book, 7, Insert(5))?;
+    let second = number_of(rt, book, 7, Insert(3))?;
+    Ok([first, present, second])
+}
+
 /// Whether the book shows just these numbers.
 fn shows(rt: &impl Abort, book: &mut Book<Numbers>, wanted: &[u32]) -> Result<bool, Fault> {
     let reply = ask(rt, book, 7, Show)?;
@@ -42,9 +50,8 @@ fn shows(rt: &impl Abort, book: &mut Book<Numbers>, wanted: &[u32]) -> Result<bo
 #[test]
 fn a_call_is_booked_once_and_under_its_seat(rt: HostRuntime) -> Result<(), Fail> {
     let mut book = Book::<Numbers>::new(rt.alloc())?;
-    assert_eq!(rt; number_of(&rt, &mut book, 0, Insert(5))?, Some(1));
-    assert_eq!(rt; number_of(&rt, &mut book, 7, Insert(5))?, None);
-    assert_eq!(rt; number_of(&rt, &mut book, 7, Insert(3))?, Some(2));
+    let told = insert_in_turn(&rt, &mut book)?;
+    assert_eq!(rt; told, [Some(1), None, Some(2)]);
     assert!(rt; shows(&rt, &mut book, &[5, 3])?);
     assert!(rt; book.history() == [(0, Insert(5)), (7, Insert(3))].as_slice());
     Ok(())

@@ -67,17 +67,24 @@ fn takes_sevens(list: &SharedList<Number>) -> Result<bool, AllocError> {
     Ok(longer.get(0) == Some(&seven) && replaced.get(list.len()) == Some(&seven))
 }
 
+/// Whether the list of so many numbers is what a vector would be, and so are those that differ at an end.
+fn is_changed_at_each_end(alloc: Global, length: u32) -> Result<bool, AllocError> {
+    let mut items = numbers(alloc, length)?;
+    let list = SharedList::from_items(alloc, &items)?;
+    let is_whole = has(&list, &items)? && list.get(items.len()).is_none();
+    items.push(Number::new(length))?;
+    Ok(
+        is_whole
+            && list == list.share()?
+            && grows_to(&list, &items, length)?
+            && takes_sevens(&list)?,
+    )
+}
+
 #[test]
 fn lists_of_each_length_are_changed_at_each_end(rt: HostRuntime) -> Result<(), Fail> {
-    let alloc = rt.alloc();
     for length in LENGTHS {
-        let mut items = numbers(alloc, length)?;
-        let list = SharedList::from_items(alloc, &items)?;
-        assert!(rt; has(&list, &items)? && list == list.share()?, "{length}");
-        assert!(rt; list.get(items.len()).is_none(), "{length}");
-        items.push(Number::new(length))?;
-        assert!(rt; grows_to(&list, &items, length)?, "{length}");
-        assert!(rt; takes_sevens(&list)?, "{length}");
+        assert!(rt; is_changed_at_each_end(rt.alloc(), length)?, "{length}");
     }
     Ok(())
 }

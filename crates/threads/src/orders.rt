@@ -3,8 +3,9 @@ use crate::batons::Baton;
 use crate::games::{Entry, Player};
 use crate::sections::{Sections, inserts, run};
 use NumberReply::{Done, Present};
-use anyhow::{Result, ensure};
-use camp_object::{Fault, NumberReply};
+use anyhow::{Result, bail, ensure};
+use camp_clients::HeadRun;
+use camp_object::{Fault, NumberReply, Numbers};
 use std::alloc::Global;
 use std::fmt;
 use std::fmt::{Formatter, Write};
@@ -118,28 +119,29 @@ fn play<R: Threads + Wait + Sync>(
     game: &Game<'static>,
     tries: u32,
 ) -> Result<()> {
-    let mut sections = Vec::new(alloc);
-    sections.push(Vec::new(alloc))?;
-    for numbers in NUMBERS {
-        sections.push(inserts(alloc, &numbers)?)?;
-    }
+    let [first, second] = &NUMBERS;
+    let sections = three_sections(alloc, [&[], first, second])?;
     let baton = Baton::new(&game.turns);
     let run = run(rt, alloc, &sections, tries, &baton)?;
     ensure!(baton.is_played(), "a seat gave up");
+    expect_game(&run, game)
+}
+
+/// A run went as the game says.
+fn expect_game(run: &HeadRun<Numbers>, game: &Game<'static>) -> Result<()> {
     ensure!(
         run.history.as_slice() == game.history.as_slice(),
         "another history"
     );
+    let [_, first, second] = run.answers.as_slice() else {
+        bail!("answers of another number of sections");
+    };
     ensure!(
-        run.answers.len() == 3,
-        "answers of another number of sections"
-    );
-    ensure!(
-        run.answers[1].as_slice() == game.first.answers.as_slice(),
+        first.as_slice() == game.first.answers.as_slice(),
         "another answer to seat 1"
     );
     ensure!(
-        run.answers[2].as_slice() == game.second.answers.as_slice(),
+        second.as_slice() == game.second.answers.as_slice(),
         "another answer to seat 2"
     );
     Ok(())

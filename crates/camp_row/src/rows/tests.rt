@@ -49,6 +49,28 @@ fn publish(row: &Row, pass: &mut Pass, place: usize) -> Option<bool>
     Some(row.publish(pass))
 }
 
+// Seat 1 publishes, and seat 0 behind it; then seat 1 without having seen that, again when it has, and
+// once more. Tells which were published, and the list has what each saw of the other.
+fn publish_in_turn(
+    row: &Row,
+    alloc: Global,
+    one: &mut Pass,
+    zero: &mut Pass,
+    seen: &mut Vec<Entry>,
+) -> Result<[Option<bool>; 5], Fail>
+    requires one { one.old.row ≡ row.now }
+    requires zero { zero.old.row ≡ row.now }
+{
+    let first = publish(row, one, 5);
+    catch_up(row, alloc, zero, seen)?;
+    let second = publish(row, zero, 9);
+    let stale = publish(row, one, 7);
+    catch_up(row, alloc, one, seen)?;
+    let third = publish(row, one, 7);
+    let full = publish(row, one, 1);
+    Ok([first, second, stale, third, full])
+}
+
 #[test]
 fn cells_name_the_one_before_and_their_place(rt: HostRuntime) -> Result<(), Fail> {
     let alloc = rt.alloc();
@@ -57,17 +79,8 @@ fn cells_name_the_one_before_and_their_place(rt: HostRuntime) -> Result<(), Fail
         return Err("two passes".into());
     };
     let mut seen = Vec::new(alloc);
-    let first = publish(&row, &mut one, 5);
-    catch_up(&row, alloc, &mut zero, &mut seen)?;
-    let second = publish(&row, &mut zero, 9);
-    let stale = publish(&row, &mut one, 7);
-    catch_up(&row, alloc, &mut one, &mut seen)?;
-    let third = publish(&row, &mut one, 7);
-    let full = publish(&row, &mut one, 1);
-    assert!(rt;
-        [first, second, stale, third, full]
-            == [Some(true), Some(true), Some(false), Some(true), None]
-    );
+    let published = publish_in_turn(&row, alloc, &mut one, &mut zero, &mut seen)?;
+    assert!(rt; published == [Some(true), Some(true), Some(false), Some(true), None]);
     assert!(rt;
         seen.as_slice() == [Entry { seat: 1, place: 5 }, Entry { seat: 0, place: 9 }].as_slice()
     );
