@@ -22,30 +22,15 @@ fn a_reply_stands_behind_what_was_there(rt: HostRuntime) -> Result<(), Fail> {
 }
 
 #[test]
-fn a_refusal_shows_its_number_and_its_names(rt: HostRuntime) -> Result<(), Fail> {
-    let (p, q) = (name(b"p")?, name(b"q")?);
-    for (refusal, shown) in [
-        (Refusal::NoBranch(p), b"refused 4 p\n".as_slice()),
-        (Refusal::BranchExists(p), b"refused 5 p\n"),
-        (Refusal::PatchExists(p), b"refused 6 p\n"),
-        (Refusal::NoPatch(p), b"refused 7 p\n"),
-        (Refusal::NothingToDo, b"refused 8\n"),
-        (Refusal::TooLarge, b"refused 9\n"),
-        (Refusal::DoesNotApply, b"refused 10\n"),
-        (Refusal::Depends { patch: q, on: p }, b"refused 11 q p\n"),
-        (Refusal::Diverged(p), b"refused 12 p\n"),
-        (Refusal::NoMerge { left: q, right: p }, b"refused 13 q p\n"),
-        (Refusal::SameBranch(p), b"refused 14 p\n"),
-    ] {
-        let mut text = Vec::new(rt.alloc());
-        append_reply(&mut text, &Ok(Reply::Refused(refusal)))?;
-        assert!(rt; text.as_slice() == shown);
-    }
+fn a_refused_merge_shows_its_number_and_its_names(rt: HostRuntime) -> Result<(), Fail> {
+    let refusal = Refusal::NoMerge {
+        left: Name::new(b"q")?,
+        right: Name::new(b"p")?,
+    };
+    let mut text = Vec::new(rt.alloc());
+    append_reply(&mut text, &Ok(Reply::Refused(refusal)))?;
+    assert!(rt; text.as_slice() == b"refused 13 q p\n".as_slice());
     Ok(())
-}
-
-fn name(bytes: &[u8]) -> Result<Name, Fail> {
-    Ok(Name::new(bytes)?)
 }
 
 // A writer that takes a few bytes a call, each call only after so many that are interrupted, and fails
