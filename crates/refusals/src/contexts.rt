@@ -49,11 +49,15 @@ fn make_set(alloc: Global, list: &Seq, far: &Contexted, near: &Contexted) -> Res
 
 fn change_set(list: &Seq, set: &CtxSet, far: &Contexted, near: &Contexted) -> Result<(), Stop> {
     expect(set.len() == 1, "CtxSet::insert")?;
-    expect(set.insert(near)?.is_same(set), "CtxSet::insert")?;
+    expect(keeps_its_member(set, near)?, "CtxSet::insert")?;
     expect(set.try_clone()?.is_same(set), "CtxSet::try_clone")?;
     expect(adds(list, set, near)?, "CtxSet::add")?;
-    let none = set.without(&far.key())?;
-    expect(none.len() == 0, "CtxSet::without")
+    expect(set.without(&far.key())?.len() == 0, "CtxSet::without")
+}
+
+fn keeps_its_member(set: &CtxSet, near: &Contexted) -> Result<bool, AllocError> {
+    let same = set.insert(near)?;
+    Ok(same.is_same(set))
 }
 
 fn adds(list: &Seq, set: &CtxSet, near: &Contexted) -> Result<bool, AllocError> {

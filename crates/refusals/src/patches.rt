@@ -16,7 +16,7 @@ pub(crate) fn make_calls(alloc: Global, lists: &[Seq]) -> Result<(), Stop> {
     for list in lists {
         match list.items() {
             [p, q, moved] => expect(swap(p, q, moved)?, "commute")?,
-            [p, q] => expect(commute(p, q)?.is_none(), "commute")?,
+            [p, q] => expect(do_not_swap(p, q)?, "commute")?,
             _ => return Err(Stop::Wrong("two or three patches")),
         }
     }
@@ -30,14 +30,26 @@ fn swap(p: &Named, q: &Named, moved: &Named) -> Result<bool, AllocError> {
     }
 }
 
+fn do_not_swap(p: &Named, q: &Named) -> Result<bool, AllocError> {
+    Ok(commute(p, q)?.is_none())
+}
+
 fn copy(alloc: Global, patch: &Named) -> Result<(), Stop> {
-    expect(patch.try_clone()?.is_same(patch), "Named::try_clone")?;
+    expect(is_copied(patch)?, "Named::try_clone")?;
     let prim = &patch.prim;
-    expect(prim.try_clone()?.is_same(prim), "Primitive::try_clone")?;
+    expect(is_primitive_copied(prim)?, "Primitive::try_clone")?;
     match prim {
         Primitive::Hunk(hunk) => copy_hunk(alloc, hunk),
         _ => Ok(()),
     }
+}
+
+fn is_copied(patch: &Named) -> Result<bool, AllocError> {
+    Ok(patch.try_clone()?.is_same(patch))
+}
+
+fn is_primitive_copied(prim: &Primitive) -> Result<bool, AllocError> {
+    Ok(prim.try_clone()?.is_same(prim))
 }
 
 fn copy_hunk(alloc: Global, hunk: &Hunk) -> Result<(), Stop> {
