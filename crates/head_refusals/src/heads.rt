@@ -48,9 +48,21 @@ fn open_again(alloc: Global, wants: &mut Wants) -> Result<Seated, Stop>
 
 /// Makes the calls of a head, at two seats in turn.
 pub(crate) fn make_calls<R: Wait>(rt: &R, alloc: Global, wants: &mut Wants) -> Result<(), Stop> {
-    let (head, mut zero, mut one) = open_again(alloc, wants)?;
-    ask_in_turn(rt, &head, &mut zero, &mut one, wants)?;
-    fill(rt, &head, &mut zero, wants)?;
+    let (head, zero, one) = open_again(alloc, wants)?;
+    make_calls_of(rt, &head, zero, one, wants)
+}
+
+fn make_calls_of<R: Wait>(
+    rt: &R,
+    head: &Head<Numbers>,
+    mut zero: Seat<Numbers>,
+    mut one: Seat<Numbers>,
+    wants: &mut Wants,
+) -> Result<(), Stop>
+    requires { IsSeatOf head.now zero × IsSeatOf head.now one }
+{
+    ask_in_turn(rt, head, &mut zero, &mut one, wants)?;
+    fill(rt, head, &mut zero, wants)?;
     meet_again(head, zero, one, wants)
 }
 
@@ -158,26 +170,44 @@ fn show<R: Wait>(
 
 /// Seat 1 meets seat 0, again where memory was wanted, and tells the history.
 fn meet_again(
-    head: Head<Numbers>,
+    head: &Head<Numbers>,
     zero: Seat<Numbers>,
     one: Seat<Numbers>,
     wants: &mut Wants,
 ) -> Result<(), Stop>
-    requires { IsSeatOf head zero × IsSeatOf head one }
+    requires { IsSeatOf head.now zero × IsSeatOf head.now one }
 {
     let position = one.position();
     let (one, zero, met) = head.meet(one, zero);
-    if met.is_ok() {
-        return tell_again(&head, &one, wants);
+    match met {
+        Ok(()) => tell_again(head, &one, wants),
+        Err(_) => {
+            expect_kept(&one, position, wants)?;
+            let (one, _zero, met) = head.meet(one, zero);
+            tell_met(head, &one, met.is_ok(), wants)
+        }
     }
+}
+
+/// A seat that wanted memory to meet another has its accepted call, and has seen no less.
+fn expect_kept(seat: &Seat<Numbers>, position: u64, wants: &mut Wants) -> Result<(), Stop> {
     wants.note()?;
     expect(
-        one.accepted() == 1 && one.position() >= position,
+        seat.accepted() == 1 && seat.position() >= position,
         "Head::meet",
-    )?;
-    let (one, _zero, met) = head.meet(one, zero);
-    expect(met.is_ok(), "Head::meet")?;
-    tell_again(&head, &one, wants)
+    )
+}
+
+fn tell_met(
+    head: &Head<Numbers>,
+    seat: &Seat<Numbers>,
+    has_met: bool,
+    wants: &mut Wants,
+) -> Result<(), Stop>
+    requires { IsSeatOf head.now seat.now }
+{
+    expect(has_met, "Head::meet")?;
+    tell_again(head, seat, wants)
 }
 
 fn tell_again(head: &Head<Numbers>, seat: &Seat<Numbers>, wants: &mut Wants) -> Result<(), Stop>
