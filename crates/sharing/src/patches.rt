@@ -9,14 +9,22 @@ use std::alloc::Global;
 pub(crate) fn operate(alloc: Global, size: u32, operation: Operation) -> Result<()> {
     let patch = patch_of(alloc, size)?;
     match operation {
+        Operation::Invert => invert(patch),
+        _ => operate_on(&patch, operation),
+    }
+}
+
+fn operate_on(patch: &Named, operation: Operation) -> Result<()> {
+    match operation {
         Operation::Nothing => Ok(()),
-        Operation::Copy => copy(&patch),
-        Operation::Invert => {
-            let _inverse = patch.invert();
-            Ok(())
-        }
+        Operation::Copy => copy(patch),
         _ => bail!("no such operation on patches"),
     }
+}
+
+fn invert(patch: Named) -> Result<()> {
+    let _inverse = patch.invert();
+    Ok(())
 }
 
 fn copy(patch: &Named) -> Result<()> {

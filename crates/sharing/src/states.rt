@@ -10,14 +10,34 @@ use std::alloc::Global;
 pub(crate) fn operate(alloc: Global, size: u32, operation: Operation) -> Result<()> {
     let state = state_of(alloc, size)?;
     let call = addition(alloc, size)?;
+    operate_on(alloc, &state, size, &call, operation)
+}
+
+fn operate_on(
+    alloc: Global,
+    state: &State,
+    size: u32,
+    call: &Call,
+    operation: Operation,
+) -> Result<()> {
     match operation {
         Operation::Nothing => Ok(()),
-        Operation::Copy => copy(&state),
-        Operation::Branch => lead(&state, &branch()?),
-        Operation::Record => lead(&state, &call),
-        Operation::Obliterate => lead(&state, &obliteration(alloc, size)?),
+        Operation::Copy => copy(state),
+        Operation::Branch => copy_branch(state),
+        Operation::Record => lead(state, call),
+        Operation::Obliterate => obliterate(alloc, state, size),
         _ => bail!("no such operation on states"),
     }
+}
+
+fn copy_branch(state: &State) -> Result<()> {
+    let call = branch()?;
+    lead(state, &call)
+}
+
+fn obliterate(alloc: Global, state: &State, size: u32) -> Result<()> {
+    let call = obliteration(alloc, size)?;
+    lead(state, &call)
 }
 
 fn state_of(alloc: Global, size: u32) -> Result<State> {

@@ -9,11 +9,15 @@ pub(crate) fn operate(alloc: Global, size: u32, operation: Operation) -> Result<
     let mut tree = tree_of(alloc, size)?;
     let path = path_of(alloc, size / 2)?;
     let new = Path::new(alloc, b"g")?;
+    operate_on(&mut tree, &path, &new, operation)
+}
+
+fn operate_on(tree: &mut Tree, path: &Path, new: &Path, operation: Operation) -> Result<()> {
     match operation {
         Operation::Nothing => Ok(()),
-        Operation::Copy => copy(&tree),
-        Operation::Add => Ok(tree.add_file(&new)?),
-        Operation::Remove => Ok(tree.remove_file(&path)?),
+        Operation::Copy => copy(tree),
+        Operation::Add => Ok(tree.add_file(new)?),
+        Operation::Remove => Ok(tree.remove_file(path)?),
         _ => bail!("no such operation on trees"),
     }
 }
@@ -40,11 +44,21 @@ fn copy(tree: &Tree) -> Result<()> {
 pub(crate) fn operate_on_lines(alloc: Global, size: u32, operation: Operation) -> Result<()> {
     let path = Path::new(alloc, b"f")?;
     let mut tree = file_of(alloc, &path, size)?;
-    let old = lines_of(alloc, 1)?;
+    let line = lines_of(alloc, 1)?;
+    operate_on_file(&mut tree, &path, size, &line, operation)
+}
+
+fn operate_on_file(
+    tree: &mut Tree,
+    path: &Path,
+    size: u32,
+    line: &[Line],
+    operation: Operation,
+) -> Result<()> {
     match operation {
         Operation::Nothing => Ok(()),
-        Operation::Copy => copy(&tree),
-        Operation::Edit => Ok(tree.splice(&path, size / 2 + 1, &old, &old)?),
+        Operation::Copy => copy(tree),
+        Operation::Edit => Ok(tree.splice(path, size / 2 + 1, line, line)?),
         _ => bail!("no such operation on files"),
     }
 }

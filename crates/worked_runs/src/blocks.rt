@@ -37,7 +37,11 @@ impl Block {
     /// Takes a line in.
     pub(crate) fn read(&mut self, alloc: Global, line: &[u8]) -> Result<()> {
         let words = words_of(alloc, line)?;
-        match words.as_slice() {
+        self.read_words(line, &words)
+    }
+
+    fn read_words(&mut self, line: &[u8], words: &[&[u8]]) -> Result<()> {
+        match words {
             [word, ..] if word.starts_with(b"#") => {}
             [word, shows] if *word == b"each".as_slice() => {
                 self.run = Some((Run::Each, read_shows(shows)?));
