@@ -17,7 +17,6 @@ use std::env;
 use std::time::Instant;
 
 fn main(rt: HostRuntime) -> Result<()> {
-    let alloc = rt.alloc();
     let mut words = env::args(&rt)?;
     let _program = words.next();
     let Some(measure) = words.next() else {
@@ -28,33 +27,60 @@ fn main(rt: HostRuntime) -> Result<()> {
     };
     let count = word.as_str().parse::<u32>()?;
     ensure!(count <= 100_000, "at most 100000");
-    match measure.as_str() {
-        "norm" => {
-            let list = falling_list(alloc, count)?;
-            let start = Instant::now(&rt)?;
-            norm(&list)?;
-            let time = start.elapsed(&rt)?.as_micros();
-            println!(rt; "norm of {count} hunks: {time} microseconds")?;
-        }
-        "chain" => {
-            let one = patches(alloc, "one", 1, Change::Line)?;
-            let chain = patches(alloc, "chain", count, Change::Chain)?;
-            let start = Instant::now(&rt)?;
-            let merged = merges(alloc, one.as_slice(), chain.as_slice())?;
-            let time = start.elapsed(&rt)?.as_micros();
-            println!(rt; "one with a chain of {count}: {merged} merged, {time} microseconds")?;
-        }
-        "lists" => {
-            let ours = patches(alloc, "ours", count, Change::Line)?;
-            let theirs = patches(alloc, "theirs", count, Change::Line)?;
-            let start = Instant::now(&rt)?;
-            let merged = merges(alloc, ours.as_slice(), theirs.as_slice())?;
-            let time = start.elapsed(&rt)?.as_micros();
-            println!(rt; "two lists of {count}: {merged} merged, {time} microseconds")?;
-        }
+    measure_by(&rt, measure.as_str(), count)
+}
+
+fn measure_by(rt: &HostRuntime, measure: &str, count: u32) -> Result<()>
+    requires { count ≤ 100_000 }
+{
+    match measure {
+        "norm" => measure_norm(rt, count),
+        "chain" => measure_chain(rt, count),
+        "lists" => measure_lists(rt, count),
         _ => bail!("norm, chain or lists"),
     }
+}
+
+fn measure_norm(rt: &HostRuntime, count: u32) -> Result<()>
+    requires { count ≤ 100_000 }
+{
+    let list = falling_list(rt.alloc(), count)?;
+    let start = Instant::now(rt)?;
+    norm(&list)?;
+    let time = start.elapsed(rt)?.as_micros();
+    println!(rt; "norm of {count} hunks: {time} microseconds")?;
     Ok(())
+}
+
+fn measure_chain(rt: &HostRuntime, count: u32) -> Result<()>
+    requires { count ≤ 100_000 }
+{
+    let one = patches(rt.alloc(), "one", 1, Change::Line)?;
+    let chain = patches(rt.alloc(), "chain", count, Change::Chain)?;
+    let (merged, time) = measure_merge(rt, &one, &chain)?;
+    println!(rt; "one with a chain of {count}: {merged} merged, {time} microseconds")?;
+    Ok(())
+}
+
+fn measure_lists(rt: &HostRuntime, count: u32) -> Result<()>
+    requires { count ≤ 100_000 }
+{
+    let ours = patches(rt.alloc(), "ours", count, Change::Line)?;
+    let theirs = patches(rt.alloc(), "theirs", count, Change::Line)?;
+    let (merged, time) = measure_merge(rt, &ours, &theirs)?;
+    println!(rt; "two lists of {count}: {merged} merged, {time} microseconds")?;
+    Ok(())
+}
+
+/// How many catches are merged, and the microseconds that it takes.
+fn measure_merge(
+    rt: &HostRuntime,
+    p: &[Shared<Catch>],
+    q: &[Shared<Catch>],
+) -> Result<(usize, u128)> {
+    let start = Instant::now(rt)?;
+    let merged = merges(rt.alloc(), p, q)?;
+    Ok((merged, start.elapsed(rt)?.as_micros()))
 }
 
 /// How many catches of a list are merged with another.

@@ -35,8 +35,31 @@ impl Gate for Counter {
     fn after(&self, _seat: u32, _call: u32) {}
 }
 
+/// A script, and the way in which it is run.
+#[derive(Drop)]
+struct Measure {
+    way: String,
+    script: Vec<u8>,
+}
+
 fn main(rt: HostRuntime) -> Result<()> {
-    let mut words = env::args(&rt)?;
+    let Some(measure) = read_measure(&rt)? else {
+        return Ok(());
+    };
+    let counter = Counter {
+        exchanges: AtomicU64::new(0),
+    };
+    let mut written = Vec::new(rt.alloc());
+    let start = Instant::now(&rt)?;
+    run(&rt, rt.alloc(), &measure, &mut written, &counter)?;
+    let time = start.elapsed(&rt)?.as_micros();
+    println!(rt; "{time} microseconds")?;
+    tell_answers(&rt, &written, counter.exchanges.load(Ordering::SeqCst))
+}
+
+/// What the words of the command line ask for.
+fn read_measure(rt: &HostRuntime) -> Result<Option<Measure>> {
+    let mut words = env::args(rt)?;
     let _program = words.next();
     let (Some(way), Some(branches), Some(clients), Some(calls)) = (
         words.next(),
@@ -44,47 +67,40 @@ fn main(rt: HostRuntime) -> Result<()> {
         words.next(),
         words.next(),
     ) else {
-        return Ok(());
+        return Ok(None);
     };
-    let clients = clients.as_str().parse::<u32>()?;
-    let calls = calls.as_str().parse::<u32>()?;
+    let script = script_of(
+        rt.alloc(),
+        branches.as_str(),
+        clients.as_str(),
+        calls.as_str(),
+    )?;
+    Ok(Some(Measure { way, script }))
+}
+
+fn script_of(alloc: Global, branches: &str, clients: &str, calls: &str) -> Result<Vec<u8>> {
+    let clients = clients.parse::<u32>()?;
+    let calls = calls.parse::<u32>()?;
     ensure!(
         clients <= 63 && calls <= 500,
         "at most 63 clients and 500 calls"
     );
-    let script = match branches.as_str() {
-        "own" => scripts::on_own_branches(rt.alloc(), clients, calls)?,
-        "one" => scripts::on_one_branch(rt.alloc(), clients, calls)?,
+    Ok(match branches {
+        "own" => scripts::on_own_branches(alloc, clients, calls)?,
+        "one" => scripts::on_one_branch(alloc, clients, calls)?,
         _ => bail!("own or one"),
-    };
-    let counter = Counter {
-        exchanges: AtomicU64::new(0),
-    };
-    let mut written = Vec::new(rt.alloc());
-    let start = Instant::now(&rt)?;
-    run(
-        &rt,
-        rt.alloc(),
-        way.as_str(),
-        &script,
-        &mut written,
-        &counter,
-    )?;
-    let time = start.elapsed(&rt)?.as_micros();
-    println!(rt; "{time} microseconds")?;
-    tell_answers(&rt, &written, counter.exchanges.load(Ordering::SeqCst))
+    })
 }
 
 fn run<R: Threads + Wait + Sync>(
     rt: &R,
     alloc: Global,
-    way: &str,
-    script: &[u8],
+    measure: &Measure,
     written: &mut Vec<u8>,
     counter: &Counter,
 ) -> Result<(), RunFault> {
-    let mut reader = script;
-    match way {
+    let mut reader = measure.script.as_slice();
+    match measure.way.as_str() {
         "book" => run_book(alloc, &mut reader, written, false),
         "lock" => run_locked(rt, alloc, &mut reader, written, false),
         _ => run_head(rt, alloc, &mut reader, written, false, TRIES, counter),

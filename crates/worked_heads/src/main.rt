@@ -67,7 +67,21 @@ fn play<R: Wait>(
     ensures { All (IsSeatOf seating.new.head) seating.new.seats.items }
 {
     let words = words_of(alloc, line)?;
-    match words.as_slice() {
+    play_words(rt, alloc, seating, line, &words, text)
+}
+
+fn play_words<R: Wait>(
+    rt: &R,
+    alloc: Global,
+    seating: &mut Seating,
+    line: &[u8],
+    words: &[&[u8]],
+    text: &mut Vec<u8>,
+) -> Result<()>
+    requires { All (IsSeatOf seating.old.head) seating.old.seats.items }
+    ensures { All (IsSeatOf seating.new.head) seating.new.seats.items }
+{
+    match words {
         [] => Ok(()),
         [word, sizes @ ..] if *word == b"head".as_slice() => open(alloc, seating, sizes, text),
         [word, first, second] if *word == b"meet".as_slice() => {
@@ -75,8 +89,7 @@ fn play<R: Wait>(
         }
         [word, seat] if *word == b"seen".as_slice() => append_seen(seating, number(seat)?, text),
         [word, seat] if *word == b"history".as_slice() => {
-            let history = seating.history(number(seat)?)?;
-            Ok(append_history(text, &history)?)
+            tell_history(seating, number(seat)?, text)
         }
         [seat, ..] => {
             let command = line.strip_prefix(*seat).unwrap_or(line);
@@ -89,21 +102,24 @@ fn open(alloc: Global, seating: &mut Seating, sizes: &[&[u8]], text: &mut Vec<u8
     requires { All (IsSeatOf seating.old.head) seating.old.seats.items }
     ensures { All (IsSeatOf seating.new.head) seating.new.seats.items }
 {
-    let [seats, per_seat, tries, every] = sizes else {
-        bail!("head SEATS PER_SEAT TRIES EVERY");
-    };
-    let sizes = [
-        number(seats)?,
-        number(per_seat)?,
-        number(tries)?,
-        number(every)?,
-    ];
-    match Seating::new(alloc, sizes) {
+    match Seating::new(alloc, sizes_of(sizes)?) {
         Ok(made) => *seating = made,
         Err(HeadFault::BadSize) => writeln!(text, "bad size")?,
         Err(HeadFault::Memory) => bail!("out of memory"),
     }
     Ok(())
+}
+
+fn sizes_of(words: &[&[u8]]) -> Result<[u32; 4]> {
+    let [seats, per_seat, tries, every] = words else {
+        bail!("head SEATS PER_SEAT TRIES EVERY");
+    };
+    Ok([
+        number(seats)?,
+        number(per_seat)?,
+        number(tries)?,
+        number(every)?,
+    ])
 }
 
 fn meet(seating: &mut Seating, first: u32, second: u32, text: &mut Vec<u8>) -> Result<()>
@@ -121,6 +137,13 @@ fn append_seen(seating: &Seating, number: u32, text: &mut Vec<u8>) -> Result<()>
     let position = seat.position();
     let accepted = seat.accepted();
     Ok(writeln!(text, "position {position} accepted {accepted}")?)
+}
+
+fn tell_history(seating: &Seating, number: u32, text: &mut Vec<u8>) -> Result<()>
+    requires { All (IsSeatOf seating.now.head) seating.now.seats.items }
+{
+    let history = seating.history(number)?;
+    Ok(append_history(text, &history)?)
 }
 
 fn ask<R: Wait>(
