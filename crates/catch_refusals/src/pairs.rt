@@ -42,19 +42,19 @@ fn copies(catch: &Catch) -> Result<bool, AllocError> {
 }
 
 fn merges(alloc: Global, pair: Merged<'_>) -> Result<bool, AllocError> {
-    match merge(alloc, pair.left, pair.right)? {
+    let merged = merge(alloc, pair.left, pair.right)?;
+    Ok(match &merged {
         Some((after, beside)) => {
-            Ok(after.is_same(pair.behind_left) && beside.is_same(pair.behind_right))
+            after.is_same(pair.behind_left) && beside.is_same(pair.behind_right)
         }
-        None => Ok(false),
-    }
+        None => false,
+    })
 }
 
 fn commutes(alloc: Global, pair: Merged<'_>) -> Result<bool, AllocError> {
-    match commute(alloc, pair.left, pair.behind_left)? {
-        Some((before, behind)) => {
-            Ok(before.is_same(pair.right) && behind.is_same(pair.behind_right))
-        }
-        None => Ok(false),
-    }
+    let commuted = commute(alloc, pair.left, pair.behind_left)?;
+    Ok(match &commuted {
+        Some((before, behind)) => before.is_same(pair.right) && behind.is_same(pair.behind_right),
+        None => false,
+    })
 }
