@@ -62,6 +62,8 @@ too many commands	record main a add f
 too many commands	record main a edit f 1
 too many commands	record main a group
 bad name	record Main a add f
+bad name	record Main g group
+bad name	obliterate Main a
 bad path	record main a add /f
 bad number	record main a edit f 0
 wrong number of words	record main a add
@@ -90,10 +92,10 @@ TABLE
 
 # A branch has 4,096 changes.
 full='for (i = 0; i < 2048; i++) print "record main a" i " add f\nrecord main r" i " remove f"'
-made "print \"branch x main\nrecord x p add g\"; $full
-    print \"record main x add f\nrecord main x remove g\nrecord main a0 remove g\nrecord w a0 add f\npull x main p\npull x main\ntree main\""
-answers 'for (i = 1; i <= 4098; i++) print "ok " i
-    print "refused 9\nrefused 9\nrefused 6 a0\nrefused 4 w\nrefused 9\nrefused 9\ntree 0"' '4,096 changes'
+made "print \"branch x main\nrecord x p add g\nrecord x n edit g 1\n+x\nend\"; $full
+    print \"record main x add f\nrecord main x remove g\nrecord main a0 remove g\nrecord w a0 add f\npull x main p\npull x main n\npull x main\ntree main\""
+answers 'for (i = 1; i <= 4099; i++) print "ok " i
+    print "refused 9\nrefused 9\nrefused 6 a0\nrefused 4 w\nrefused 9\nrefused 9\nrefused 9\ntree 0"' '4,096 changes'
 made "print \"branch x main\nrecord x p add g\"; $full
     print \"obliterate main r2047\nrecord main h group\nadd k\nadd l\ndone\npull x main\nrecord main s add k\ntree main\""
 answers 'for (i = 1; i <= 4099; i++) print "ok " i
@@ -102,6 +104,6 @@ answers 'for (i = 1; i <= 4099; i++) print "ok " i
 # A file has 1,000,000 lines: 15 edits of 65,535 and one of 16,975.
 edits='print "record main a add f"
     for (e = 0; e < 16; e++) { print "record main e" e " edit f 1"; times(e < 15 ? 65535 : 16975, "+line"); print "end" }'
-made "$edits; print \"record main x edit f 1\n+one\nend\nrecord main y edit f 1\n-line\n+one\nend\nrecord main z edit f 1\n-one\nend\ntree main\""
+made "$edits; print \"record main x edit f 1\n+one\nend\nrecord main v group\nedit f 1\n+y\n+y\nend\nremove zz\ndone\nrecord main y edit f 1\n-line\n+one\nend\nrecord main z edit f 1\n-one\nend\ntree main\""
 answers 'for (i = 1; i <= 17; i++) print "ok " i
-    print "refused 9\nok 18\nok 19\ntree 1\nfile f 999999"; times(999999, "=line")' '1,000,000 lines'
+    print "refused 9\nrefused 9\nok 18\nok 19\ntree 1\nfile f 999999"; times(999999, "=line")' '1,000,000 lines'
