@@ -85,12 +85,19 @@ while IFS= read -r flags; do
     expect "options: $flags"
 done <$cases/options
 
-# The help text begins with the usage, and ends the program before the script is read.
+# The help text is all that is written, and the script is not read.
 for flags in --help -h '--serial --help' '--help extra'; do
     run examples/fault.camp "$flags"
-    head -n 1 "$folder/out" >"$folder/first"
-    mv "$folder/first" "$folder/out"
     want 0 ''
-    echo 'Usage: camp [OPTIONS]' >"$folder/wanted.out"
+    cp $cases/help "$folder/wanted.out"
     expect "options: $flags"
+done
+
+# The example of the help text is run as it stands there.
+for flags in '' --serial; do
+    awk '/^is answered by$/ { exit } is_example { print } /^The script$/ { is_example = 1 }' $cases/help >"$folder/script"
+    want 0 ''
+    awk '/^Commands, / { exit } is_answer && NF { print } /^is answered by$/ { is_answer = 1 }' $cases/help >"$folder/wanted.out"
+    run "$folder/script" "$flags"
+    expect "options: the example of the help text $flags"
 done

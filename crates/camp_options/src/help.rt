@@ -1,33 +1,36 @@
 //! What `--help` says behind the usage and the options.
 
+pub(crate) const USAGE: &str = "camp [OPTIONS] < SCRIPT";
+
 pub(crate) const REFERENCE: &str =
     "A script comes on standard input, and its answers go to standard output. A script is a list of
 commands, each on a line. They work on branches, which are lists of named patches; a patch changes
-files of lines. At first there is one branch, main, without patches. Empty lines and lines that
-begin with # are skipped.
+files of lines. At first there is one branch, main, without patches. Outside the bodies of edits,
+lines of spaces and tabs alone are skipped, and so are lines whose first word begins with #.
 
-    record main start add notes
-    record main hello edit notes 1
-    +hello
-    end
-    tree main
+The script
+
+record main start add notes
+record main hello edit notes 1
++hello
+end
+tree main
 
 is answered by
 
-    ok 1
-    ok 2
-    tree 1
-    file notes 1
-    =hello
+ok 1
+ok 2
+tree 1
+file notes 1
+=hello
 
-Commands:
+Commands, each with an example:
   branch NEW FROM               make a branch that is a copy       branch work main
   record BRANCH NAME add PATH   record an empty file that is new   record main start add notes
   record BRANCH NAME remove PATH
                                 record that it goes, once empty    record main gone remove notes
   record BRANCH NAME edit PATH LINE
-                                record lines put in place of others, from line LINE on; below it the
-                                old lines, each behind a -, the new ones, each behind a +, and end
+                                record lines put in place of others
                                                                    record main hello edit notes 1
   record BRANCH NAME group      record 1 to 64 changes as one patch; below it add PATH, remove PATH
                                 or edit PATH LINE with its lines, and done
@@ -40,18 +43,29 @@ Commands:
   names BRANCH                  show the patches in their order    names main
   client                        what follows is asked by the next client, in a thread of its own
 
+LINE counts from 1: the old lines stand there from LINE on. To append, LINE is the number of lines of
+the file plus 1. Below an edit stand the old lines, each behind a -, then the new ones, each behind
+a +, and then end. Nothing stands before the sign, and no blanks before or behind end.
+
 A name has 1 to 40 of a-z, 0-9 and -, and does not begin with -. A path has 1 to 200 printing ASCII
 characters without spaces; its parts between / are not empty, not . and not .. .
+
+Limits of a script: 63 clients; 65536 commands that write for each of them, and for what stands
+before the first; 4096 bytes in a line of an edit. A line ends with LF alone. A file with CR LF is
+refused at its first command, with bad name, bad path, bad number, bad edit or unknown command: take
+the CR out.
 
 Answers:
   ok NUMBER                     the call was accepted, as the one of this number
   tree FILES                    then each file as: file PATH LINES, and its lines behind =
   conflicts PAIRS               then each pair of patches that are in conflict
   names COUNT                   then each name
-  refused NUMBER ..             the call was not accepted, and nothing has changed; see below
+  refused NUMBER ..             the call was not accepted, and nothing has changed; see below. The
+                                commands behind it go on
   busy LOST                     the call lost LOST times to other clients; ask it again, or run with a
                                 greater --tries, or with --serial
-  full                          the client has no room for one more call
+  full                          the client has no room for one more accepted call; a script within its
+                                limits is never answered so
   client NUMBER                 what follows answers the calls of this client
   history COUNT                 with --history: each accepted call, behind its number and its client
 
@@ -65,8 +79,9 @@ Refusals, and what to do:
                                 of an edit or 1000000 lines in a file are the most
   10                            the change does not fit the files: see tree, and mend path, LINE or lines
   11 PATCH ON                   PATCH stands on ON: pull ON too, or obliterate PATCH too
-  12 NAME                       the branches hold this patch in forms that do not agree: obliterate it
-                                and what stands on it in one of them, and pull again
+  12 NAME                       the branches hold this patch in forms that do not agree, or it can't
+                                come before what only one of them has: obliterate it and what stands on
+                                it in one of them, and pull again
   13 LEFT RIGHT                 the two do not merge: pull without RIGHT, or obliterate LEFT first
   14 BRANCH                     the two branches are one: name another
 

@@ -2,7 +2,7 @@ ghost use Rattle.std.specs.Prelude.{◌≡◌, IfOk, false, map, ◌≤◌};
 ghost use Rattle.clap.specs.Words.{FailsBy, app_of, fault_of, matches_of, rule_of};
 ghost use Rattle.camp_options.specs.Options.{Given, flag, program, tries};
 
-use crate::help::REFERENCE;
+use crate::help::{REFERENCE, USAGE};
 use crate::kinds::Options;
 use clap::{Arg, ArgAction, Command, Error, value_parser};
 use std::alloc::{AllocError, Global};
@@ -38,6 +38,7 @@ fn command<'a>(alloc: Global) -> Result<Command<'a>, AllocError>
         "Write the history of accepted calls behind the answers",
     );
     Command::new(alloc, "camp")
+        .override_usage(USAGE)
         .after_help(REFERENCE)
         .arg(serial)?
         .arg(tries(alloc))?

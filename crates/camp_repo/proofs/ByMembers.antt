@@ -1,5 +1,5 @@
 -- Pulls and obliterations go by which names are there, and not by their order or number.
-use Rattle.std.proofs.Common.{◌≡◌, ◌==◌, ℕ, suc, Bool, true, false, not, cond, nat_lt, ◌+◌, ◌||◌, List, [], ◌∷◌, filter, length, map, Ok, refl, sym, ap, ◌∙◌, subst, inl, inr, true≢false}
+use Rattle.std.proofs.Common.{◌≡◌, ◌==◌, ℕ, suc, Bool, not, cond, nat_lt, ◌+◌, ◌||◌, List, [], ◌∷◌, filter, length, map, Ok, refl, sym, ap, ◌∙◌, subst, inl, inr, true≢false}
 use Rattle.std.specs.Prelude.{◌↔◌, Contains}
 use Rattle.std.proofs.Math.Dec.{eqb-suc-zero}
 use Rattle.std.specs.FinMap.{entries, keys, len, len-entries}

@@ -1,5 +1,5 @@
 -- What the functions that decide have found, and what the step is then.
-use Rattle.std.proofs.Common.{◌≡◌, ℕ, ◌+◌, true, false, List, ◌++◌, Option, None, Some, MatchOption, IfOk, Result, Ok, Err, is_some, bytes_eq, refl, sym, ap, ◌∙◌}
+use Rattle.std.proofs.Common.{◌≡◌, ℕ, true, false, List, ◌++◌, Option, None, Some, MatchOption, IfOk, Result, Ok, Err, is_some, bytes_eq, refl, sym, ap, ◌∙◌}
 use Rattle.camp_base.specs.Trees.{Files}
 use Rattle.camp_prim.specs.declared.primitives.Primitive.{Primitive}
 use Rattle.camp_catch.specs.declared.catches.Catch.{Catch}

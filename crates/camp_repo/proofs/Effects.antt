@@ -1,5 +1,5 @@
 -- What each accepted call does.
-use Rattle.std.proofs.Common.{◌≡◌, ℕ, ◌+◌, Bool, true, false, not, ◌&&◌, List, [], ◌∷◌, ◌++◌, Option, None, Some, Ok, is_some, length, nat_le, bytes_eq, refl, sym, ap, ◌∙◌, subst}
+use Rattle.std.proofs.Common.{◌≡◌, ℕ, Bool, true, false, not, ◌&&◌, List, [], ◌∷◌, ◌++◌, Option, None, Some, Ok, is_some, length, nat_le, bytes_eq, refl, sym, ap, ◌∙◌, subst}
 use Rattle.std.proofs.lemmas.Option.{same_Some}
 use Rattle.camp_base.specs.Trees.{Files}
 use Rattle.camp_prim.specs.declared.primitives.Primitive.{Primitive}
@@ -16,8 +16,7 @@ use Rattle.camp_branch.proofs.Steps.{pulled_by}
 use Rattle.camp_call.specs.declared.calls.Call.TheVariants as call
 use Rattle.camp_call.specs.declared.replies.Refusal.TheVariants.{BranchExists, NothingToDo, PatchExists, SameBranch, TooLarge}
 use Rattle.camp_object.specs.declared.objects.Decided.TheVariants.{Next}
-use Rattle.camp_repo.specs.Laws.{AcceptedCallsHaveEffect, AnswersChangeNothing, ChangesOne, Copies, Has, Obliterates, OutcomesAreDefined, Pulls, Records}
-use Rattle.camp_repo.specs.Objects.{state_behind}
+use Rattle.camp_repo.specs.Laws.{AcceptedCallsHaveEffect, ChangesOne, Copies, Has, Obliterates, OutcomesAreDefined, Pulls, Records}
 use Rattle.camp_repo.specs.Lawful.{IsLawful, IsLawfulBy, names_of_branches}
 use Rattle.camp_repo.specs.Outcomes.{obliterated, pulled}
 use Rattle.camp_repo.specs.States.{Contents, catches_of, stands, tree_of, with_catches}
@@ -172,6 +171,3 @@ outcomes_defined = record {
   obliterates = λ branch names. (outcomes_are_determined.obliterates branch names).1;
   conflicts = λ branch. (conflicts_are_determined branch).1;
 }
-
-pub answers_change_none : AnswersChangeNothing
-answers_change_none state call answer e = ap (state_behind state) e

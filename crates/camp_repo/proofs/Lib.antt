@@ -4,6 +4,7 @@ pub mod ByMembers
 pub mod ChangedSteps
 pub mod DecideSteps
 pub mod Effects
+pub mod HistoriesLawful
 pub mod LawfulBranches
 pub mod NameSteps
 pub mod PlaceSteps
@@ -11,4 +12,3 @@ pub mod RecordSteps
 pub mod StateSteps
 pub mod StepsLawful
 pub mod TreeSteps
-pub mod WantingSteps

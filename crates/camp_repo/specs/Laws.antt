@@ -1,5 +1,6 @@
 -- The laws of what calls come to.
-use Rattle.std.specs.Prelude.{◌≡◌, ◌≢◌, ℕ, ◌+◌, List, [], ◌∷◌, ◌++◌, Option, Some, filter}
+use Rattle.std.specs.Prelude.{◌≡◌, ◌≢◌, ℕ, ◌+◌, List, [], ◌∷◌, ◌++◌, length, Option, Some, filter}
+use Rattle.std.specs.List.{AllByRecursion}
 use Rattle.camp_base.specs.Trees.{Files}
 use Rattle.camp_prim.specs.declared.primitives.Primitive.{Primitive}
 use Rattle.camp_catch.specs.declared.catches.Catch.{Catch}
@@ -11,12 +12,12 @@ use Rattle.camp_branch.specs.Conflicting.{AreConflicts}
 use Rattle.camp_call.specs.Calls.{IsCall}
 use Rattle.camp_call.specs.declared.calls.Call.{Call}
 use Rattle.camp_call.specs.declared.calls.Call.TheVariants as call
-use Rattle.camp_call.specs.declared.replies.Reply.{Reply}
 use Rattle.camp_call.specs.declared.replies.Reply.TheVariants as reply
+use Rattle.camp_object.specs.Histories.{replay}
 use Rattle.camp_object.specs.Objects as object
 use Rattle.camp_object.specs.declared.objects.Decided.TheVariants.{Next, Answer}
 use Rattle.camp_repo.specs.Lawful.{IsLawful, names_of_branches}
-use Rattle.camp_repo.specs.Objects.{repository, state_behind}
+use Rattle.camp_repo.specs.Objects.{repository}
 use Rattle.camp_repo.specs.Outcomes.{conflicts_of, obliterated, pulled}
 use Rattle.camp_repo.specs.States.{Contents, catches_of, initial, tree_of}
 use Rattle.camp_repo.specs.Steps.{listed, step, wanted}
@@ -107,11 +108,30 @@ TreesAreAnswered =
     (tree : Files) × LeadsTo catches tree × (tree_of catches ≡ Some tree)
     × (step state (call.Tree branch) ≡ Answer (reply.Tree tree))
 
--- the state behind a refusal, and behind the answer to a question, is the one before it
-abbrev pub AnswersChangeNothing : Type 0
-AnswersChangeNothing =
-    (state : Contents) (call : Call) (answer : Reply) → step state call ≡ Answer answer →
-    state_behind state (step state call) ≡ state
+-- each call of a history is one: a record has 1 to 64 changes
+abbrev pub HasCalls : List (ℕ × Call) → Type 0
+HasCalls history = AllByRecursion (λ entry. IsCall entry.1) history
+
+-- every legal history of calls leads to a lawful state
+abbrev pub HistoriesAreLawful : Type 0
+HistoriesAreLawful =
+    (history : List (ℕ × Call)) (state : Contents) → HasCalls history → replay repository history ≡ Some state →
+    IsLawful state
+
+-- after a legal history of calls each branch has a tree: the effects of its catches, in their order, applied to the
+-- empty tree; with it the question for the tree is answered
+abbrev pub HistoriesTellTrees : Type 0
+HistoriesTellTrees =
+    (history : List (ℕ × Call)) (state : Contents) (branch : List ℕ) (catches : List Catch) → HasCalls history
+    → replay repository history ≡ Some state → Has state branch catches →
+    (tree : Files) × LeadsTo catches tree × (tree_of catches ≡ Some tree)
+    × (step state (call.Tree branch) ≡ Answer (reply.Tree tree))
+
+-- a state counts the calls of the history that leads to it, so the number that an accepted call is told is its place
+abbrev pub HistoriesAreCounted : Type 0
+HistoriesAreCounted =
+    (history : List (ℕ × Call)) (state : Contents) → replay repository history ≡ Some state →
+    state.count ≡ length history
 
 -- a pull, an obliteration and the conflicts of a branch come to what their definitions say
 pub record OutcomesAreDefined : Type 0 where

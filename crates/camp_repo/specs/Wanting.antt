@@ -1,34 +1,55 @@
--- When a call may want memory.
-use Rattle.camp_call.specs.declared.replies.Refusal.{Refusal}
-use Rattle.camp_call.specs.declared.replies.Refusal.TheVariants as refusal
-use Rattle.camp_call.specs.declared.replies.Reply.{Reply}
-use Rattle.camp_call.specs.declared.replies.Reply.TheVariants as reply
-use Rattle.camp_object.specs.declared.objects.Decided.TheVariants.{Next, Answer}
-use Rattle.camp_repo.specs.Steps.{Decision}
+-- When a call may want memory: past the tests that look at names and numbers alone. Each other answer takes none.
+use Rattle.std.specs.Prelude.{◌≡◌, ◌<◌, ℕ, Bool, false, List, length, Option, None, Some, bytes_eq}
+use Rattle.std.specs.Option.{IsSomeAnd}
+use Rattle.camp_catch.specs.declared.catches.Catch.{Catch}
+use Rattle.camp_call.specs.declared.calls.Call.{Call}
+use Rattle.camp_call.specs.declared.calls.Call.TheVariants as call
+use Rattle.camp_repo.specs.States.{Contents, catches_of, stands}
+use Rattle.camp_repo.specs.Steps.{first_lacked, is_empty, is_too_large, listed}
 
--- a refusal that is told by a look at names alone, before anything grows, does not come
-abbrev pub ComesLate : Refusal → Type 0
-ComesLate (refusal.NoBranch branch) = ⊥
-ComesLate (refusal.BranchExists branch) = ⊥
-ComesLate (refusal.PatchExists name) = ⊥
-ComesLate (refusal.NoPatch name) = ⊥
-ComesLate (refusal.SameBranch branch) = ⊥
-ComesLate refusal.NothingToDo = Unit {0}
-ComesLate refusal.TooLarge = Unit {0}
-ComesLate refusal.DoesNotApply = Unit {0}
-ComesLate (refusal.Depends patch on) = Unit {0}
-ComesLate (refusal.Diverged name) = Unit {0}
-ComesLate (refusal.NoMerge left right) = Unit {0}
+-- there is a branch of a name, with such catches
+abbrev pub HasBranch : Contents → List ℕ → (List Catch → Type 0) → Type 0
+HasBranch state name P = IsSomeAnd (catches_of state.branches name) P
 
--- a reply is no such refusal
-abbrev pub IsLateReply : Reply → Type 0
-IsLateReply (reply.Done at) = Unit {0}
-IsLateReply (reply.Refused refusal) = ComesLate refusal
-IsLateReply (reply.Tree tree) = Unit {0}
-IsLateReply (reply.Conflicts pairs) = Unit {0}
-IsLateReply (reply.Names names) = Unit {0}
+-- a branch of some catches has all these patches
+abbrev pub HasAll : List (List ℕ) → List Catch → Type 0
+HasAll names catches = first_lacked catches names ≡ None
 
--- a decision that may want memory: it leads on, or is told behind the tests of names
-abbrev pub MayWant : Decision → Type 0
-MayWant (Next state) = Unit {0}
-MayWant (Answer answer) = IsLateReply answer
+-- whether names are given, and they are none
+abbrev pub lists_none : Option (List (List ℕ)) → Bool
+lists_none None = false
+lists_none (Some names) = is_empty names
+
+-- a copy wants memory only where it is made
+pub record MayWantCopy (state : Contents) (new from : List ℕ) : Type 0 where
+  pub from_stands : HasBranch state from (λ catches. Unit {0})
+  pub is_new : catches_of state.branches new ≡ None
+  pub few : length state.branches < 256
+
+-- a record, where its branch is there, its name is free, and it is not too large for the branch
+pub record MayWantRecord (state : Contents) (branch name : List ℕ) (too_large : List Catch → Bool) : Type 0 where
+  pub fits : HasBranch state branch (λ catches. too_large catches ≡ false)
+  pub is_free : stands state.branches name ≡ false
+
+-- a pull, where there are two branches, the one has all that is listed, and something is
+pub record MayWantPull (state : Contents) (from to : List ℕ) (names : Option (List (List ℕ))) : Type 0 where
+  pub from_has : HasBranch state from (λ theirs. HasAll (listed theirs names) theirs)
+  pub to_stands : HasBranch state to (λ ours. Unit {0})
+  pub are_two : bytes_eq from to ≡ false
+  pub some : lists_none names ≡ false
+
+-- an obliteration, where the branch has all that is listed, and something is
+pub record MayWantObliterate (state : Contents) (branch : List ℕ) (names : List (List ℕ)) : Type 0 where
+  pub has : HasBranch state branch (HasAll names)
+  pub some : is_empty names ≡ false
+
+-- a call may want memory at a state
+abbrev pub MayWant : Contents → Call → Type 0
+MayWant state (call.Branch new from) = MayWantCopy state new from
+MayWant state (call.Record branch name changes) =
+    MayWantRecord state branch name (λ catches. is_too_large catches changes)
+MayWant state (call.Pull from to names) = MayWantPull state from to names
+MayWant state (call.Obliterate branch names) = MayWantObliterate state branch names
+MayWant state (call.Tree branch) = HasBranch state branch (λ catches. Unit {0})
+MayWant state (call.Conflicts branch) = HasBranch state branch (λ catches. Unit {0})
+MayWant state (call.Names branch) = HasBranch state branch (λ catches. Unit {0})

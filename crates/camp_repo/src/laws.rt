@@ -1,5 +1,5 @@
-ghost use Rattle.camp_repo.specs.Laws.{AcceptedCallsHaveEffect, AnswersChangeNothing, InitialIsLawful, OutcomesAreDefined};
-ghost use Rattle.camp_repo.specs.Laws.{RepositoryIsLawful, StepsKeepLawful, TreesAreAnswered};
+ghost use Rattle.camp_repo.specs.Laws.{AcceptedCallsHaveEffect, HistoriesAreCounted, HistoriesAreLawful, HistoriesTellTrees};
+ghost use Rattle.camp_repo.specs.Laws.{InitialIsLawful, OutcomesAreDefined, RepositoryIsLawful, StepsKeepLawful, TreesAreAnswered};
 
 /// A new repository is lawful.
 pub fn initial_is_lawful()
@@ -18,9 +18,21 @@ pub fn accepted_calls_have_effect()
     ensures { AcceptedCallsHaveEffect }
 {}
 
-/// A refused call and a question change nothing.
-pub fn answers_change_nothing()
-    ensures { AnswersChangeNothing }
+/// Every legal history of calls leads to a lawful state.
+pub fn histories_are_lawful()
+    ensures { HistoriesAreLawful }
+{}
+
+/// After every legal history of calls, the tree of a branch is the effects of its catches applied to
+/// the empty tree, and the question for it is answered with that tree.
+pub fn histories_tell_trees()
+    ensures { HistoriesTellTrees }
+{}
+
+/// A state counts the calls of the history that leads to it: the number that an accepted call is told
+/// is its place in the history, from 1.
+pub fn histories_are_counted()
+    ensures { HistoriesAreCounted }
 {}
 
 /// Each branch of a lawful state has a tree, with which the question for it is answered.

@@ -12,8 +12,9 @@ pub use camp_branch::Branch;
 pub use camp_call::{Call, Changes, Conflicts, Names, Refusal, Reply};
 pub use camp_object::{Book, BookDesk, Decided, Desk, Fault, Object};
 pub use laws::{
-    accepted_calls_have_effect, answers_change_nothing, initial_is_lawful, outcomes_are_defined,
-    repository_is_lawful, steps_keep_lawful, trees_are_answered,
+    accepted_calls_have_effect, histories_are_counted, histories_are_lawful, histories_tell_trees,
+    initial_is_lawful, outcomes_are_defined, repository_is_lawful, steps_keep_lawful,
+    trees_are_answered,
 };
 pub use states::State;
 

@@ -1,6 +1,7 @@
 ghost use Rattle.std.specs.Prelude.{◌≡◌, ℕ, List, length, IfOk};
 ghost use Rattle.camp_branch.specs.Branches.{is_among};
 ghost use Rattle.camp_branch.specs.Fields.{names_in};
+ghost use Rattle.camp_repo.specs.Wanting.{lists_none};
 ghost use Rattle.camp_repo.specs.Steps.{catches_named, first_lacked, is_full_with, listed, wanted};
 
 use crate::{Branch, MAX_CATCHES, Names};
@@ -28,6 +29,16 @@ pub(crate) fn first_lacked_of(branch: &Branch, names: &[Name]) -> Option<Name>
         }
     }
     None
+}
+
+/// Whether names are given, and they are none.
+pub(crate) fn lists_none(names: &Option<Names>) -> bool
+    ensures { result ≡ lists_none names.now }
+{
+    match names {
+        Some(names) => names.as_slice().is_empty(),
+        None => false,
+    }
 }
 
 /// The names, each once.

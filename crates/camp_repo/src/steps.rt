@@ -3,10 +3,10 @@ ghost use Rattle.camp_catch.specs.declared.catches.Catch.{Catch};
 ghost use Rattle.camp_repo.specs.Lawful.{IsLawful};
 ghost use Rattle.camp_repo.specs.Placing.{placed, settled};
 ghost use Rattle.camp_repo.specs.States.{after};
-ghost use Rattle.camp_repo.specs.Steps.{refused, refusal_of, step, step_branch, step_obliterate, step_pull, step_record};
-ghost use Rattle.camp_repo.specs.Wanting.{MayWant};
+ghost use Rattle.camp_repo.specs.Steps.{is_too_large, refused, refusal_of, step, step_branch, step_obliterate, step_pull, step_record};
+ghost use Rattle.camp_repo.specs.Wanting.{HasBranch, MayWant, MayWantCopy, MayWantObliterate, MayWantPull, MayWantRecord};
 
-use crate::name_lists::{first_lacked, first_lacked_of, is_full_with, set_of, wanted};
+use crate::name_lists::{first_lacked, first_lacked_of, is_full_with, lists_none, set_of, wanted};
 use crate::sizes::{changed, is_too_large};
 use crate::{
     Branch, Call, Changes, Conflicts, Decided, MAX_BRANCHES, Names, Refusal, Reply, State,
@@ -20,7 +20,7 @@ impl State {
     pub fn decide(&self, call: &Call) -> Result<Decided<State, Reply>, AllocError>
         requires { self.now.count < 2 ^ 64 - 1 }
         ensures exact { IfOk result (λ decided. decided ≡ step self.now call.now) }
-        ensures wanted { IfErr result (λ error. MayWant (step self.now call.now)) }
+        ensures wanted { IfErr result (λ error. MayWant self.now call.now) }
     {
         match call {
             Call::Branch { new, from } => self.copy_branch(new, from),
@@ -40,7 +40,7 @@ impl State {
     fn copy_branch(&self, new: &Name, from: &Name) -> Result<Decided<State, Reply>, AllocError>
         requires { self.now.count < 2 ^ 64 - 1 }
         ensures exact { IfOk result (λ decided. decided ≡ step_branch self.now new.now from.now) }
-        ensures wanted { IfErr result (λ error. MayWant (step_branch self.now new.now from.now)) }
+        ensures wanted { IfErr result (λ error. MayWantCopy self.now new.now from.now) }
     {
         let Some(branch) = self.branch(from) else {
             return Ok(refused(Refusal::NoBranch(*from)));
@@ -63,7 +63,7 @@ impl State {
     ) -> Result<Decided<State, Reply>, AllocError>
         requires { self.now.count < 2 ^ 64 - 1 }
         ensures exact { IfOk result (λ decided. decided ≡ step_record self.now branch.now name.now changes.now) }
-        ensures wanted { IfErr result (λ error. MayWant (step_record self.now branch.now name.now changes.now)) }
+        ensures wanted { IfErr result (λ error. MayWantRecord self.now branch.now name.now (λ catches. is_too_large catches changes.now)) }
     {
         let Some((place, old)) = self.find(branch) else {
             return Ok(refused(Refusal::NoBranch(*branch)));
@@ -91,7 +91,7 @@ impl State {
     ) -> Result<Decided<State, Reply>, AllocError>
         requires { self.now.count < 2 ^ 64 - 1 }
         ensures exact { IfOk result (λ decided. decided ≡ step_pull self.now from.now to.now names.now) }
-        ensures wanted { IfErr result (λ error. MayWant (step_pull self.now from.now to.now names.now)) }
+        ensures wanted { IfErr result (λ error. MayWantPull self.now from.now to.now names.now) }
     {
         let Some(theirs) = self.branch(from) else {
             return Ok(refused(Refusal::NoBranch(*from)));
@@ -104,6 +104,9 @@ impl State {
         }
         if let Some(name) = first_lacked(theirs, names) {
             return Ok(refused(Refusal::NoPatch(name)));
+        }
+        if lists_none(names) {
+            return Ok(refused(Refusal::NothingToDo));
         }
         let wanted = wanted(ours, theirs, names)?;
         if wanted.is_empty() {
@@ -119,7 +122,7 @@ impl State {
     fn obliterate(&self, branch: &Name, names: &Names) -> Result<Decided<State, Reply>, AllocError>
         requires { self.now.count < 2 ^ 64 - 1 }
         ensures exact { IfOk result (λ decided. decided ≡ step_obliterate self.now branch.now names.now) }
-        ensures wanted { IfErr result (λ error. MayWant (step_obliterate self.now branch.now names.now)) }
+        ensures wanted { IfErr result (λ error. MayWantObliterate self.now branch.now names.now) }
     {
         let Some((place, old)) = self.find(branch) else {
             return Ok(refused(Refusal::NoBranch(*branch)));
@@ -158,7 +161,7 @@ impl State {
 
     fn show_tree(&self, branch: &Name) -> Result<Decided<State, Reply>, AllocError>
         ensures exact { IfOk result (λ decided. decided ≡ step self.now (Call.Tree branch.now)) }
-        ensures wanted { IfErr result (λ error. MayWant (step self.now (Call.Tree branch.now))) }
+        ensures wanted { IfErr result (λ error. HasBranch self.now branch.now (λ catches. Unit {0})) }
     {
         let Some(branch) = self.branch(branch) else {
             return Ok(refused(Refusal::NoBranch(*branch)));
@@ -169,7 +172,7 @@ impl State {
 
     fn show_conflicts(&self, branch: &Name) -> Result<Decided<State, Reply>, AllocError>
         ensures exact { IfOk result (λ decided. decided ≡ step self.now (Call.Conflicts branch.now)) }
-        ensures wanted { IfErr result (λ error. MayWant (step self.now (Call.Conflicts branch.now))) }
+        ensures wanted { IfErr result (λ error. HasBranch self.now branch.now (λ catches. Unit {0})) }
     {
         let Some(branch) = self.branch(branch) else {
             return Ok(refused(Refusal::NoBranch(*branch)));
@@ -180,7 +183,7 @@ impl State {
 
     fn show_names(&self, branch: &Name) -> Result<Decided<State, Reply>, AllocError>
         ensures exact { IfOk result (λ decided. decided ≡ step self.now (Call.Names branch.now)) }
-        ensures wanted { IfErr result (λ error. MayWant (step self.now (Call.Names branch.now))) }
+        ensures wanted { IfErr result (λ error. HasBranch self.now branch.now (λ catches. Unit {0})) }
     {
         let Some(branch) = self.branch(branch) else {
             return Ok(refused(Refusal::NoBranch(*branch)));

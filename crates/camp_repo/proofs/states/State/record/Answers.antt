@@ -7,7 +7,6 @@ use Rattle.camp_repo.specs.States.{after}
 use Rattle.camp_repo.specs.Steps.{changed, is_too_large}
 use Rattle.camp_repo.proofs.DecideSteps.{record_accepted, record_refused}
 use Rattle.camp_repo.proofs.RecordSteps.{is_new, leads_from, record_keeps}
-use Rattle.camp_repo.proofs.WantingSteps.{late_error, record_wants}
 use Rattle.camp_repo.proofs.states.State.record.Goals as goal
 
 pub returns-in-Err-clause-exact : goal.returns-in-Err-clause-exact
@@ -45,21 +44,3 @@ returns-clause-exact c =
     let led = sym c.in-Ok.is ∙ c.in_ok-tree.ensures ∙ ap (λ cs. changed cs c.tree.result.now) c.prims-2.ensures.value in
     let new_is = c.in_ok-new.ensures ∙ ap (λ cs. c.in-Some.old.now ++ recorded c.args.name.now 1 cs) c.prims-3.ensures.value in
     ap Next (c.in_ok-next.ensures ∙ ap (λ b. after c.args.self.now (placed c.args.self.now.branches c.in-Some.place b)) new_is) ∙ record_accepted c.args.self.now c.args.branch.now c.args.name.now c.args.changes.now c.in-Some.old.now c.tree.result.now has free small c.tree.ensures c.in-Ok.tree c.in-Some.place led c.in-Some.ensures.placed
-
-pub returns-in_err-tree-clause-wanted : goal.returns-in_err-tree-clause-wanted
-returns-in_err-tree-clause-wanted c =
-    let free = sym c.stands.ensures ∙ c.if-stands.false in
-    let small = ap (is_too_large c.in-Some.old.now) (sym c.prims.ensures.value) ∙ sym c.is_too_large.ensures ∙ c.if-is_too_large.false in
-    late_error c.from_residual.result (record_wants c.args.self.now c.args.branch.now c.args.name.now c.args.changes.now c.in-Some.old.now c.tree.result.now c.in-Some.ensures.value free small c.tree.ensures)
-
-pub returns-in_err-new-clause-wanted : goal.returns-in_err-new-clause-wanted
-returns-in_err-new-clause-wanted c =
-    let free = sym c.stands.ensures ∙ c.if-stands.false in
-    let small = ap (is_too_large c.in-Some.old.now) (sym c.prims.ensures.value) ∙ sym c.is_too_large.ensures ∙ c.if-is_too_large.false in
-    late_error c.from_residual-in_err-new.result (record_wants c.args.self.now c.args.branch.now c.args.name.now c.args.changes.now c.in-Some.old.now c.tree.result.now c.in-Some.ensures.value free small c.tree.ensures)
-
-pub returns-in_err-next-clause-wanted : goal.returns-in_err-next-clause-wanted
-returns-in_err-next-clause-wanted c =
-    let free = sym c.stands.ensures ∙ c.if-stands.false in
-    let small = ap (is_too_large c.in-Some.old.now) (sym c.prims.ensures.value) ∙ sym c.is_too_large.ensures ∙ c.if-is_too_large.false in
-    late_error c.from_residual-in_err-next.result (record_wants c.args.self.now c.args.branch.now c.args.name.now c.args.changes.now c.in-Some.old.now c.tree.result.now c.in-Some.ensures.value free small c.tree.ensures)
