@@ -6,6 +6,7 @@ pub mod Histories
 pub mod Meeting
 pub mod OneSection
 pub mod Opening
+pub mod OpeningAlone
 pub mod Positions
 pub mod Single
 pub mod Vectors

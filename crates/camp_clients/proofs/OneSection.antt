@@ -24,6 +24,37 @@ all_behind P front whole begins all k d below =
     subst P (get_or-append-add front begins.rest k d)
     (All-same P (front ++ begins.rest) whole begins.makes all (length front + k) d (omega (arith, below, length-append front begins.rest)))
 
+module _ {State Call Reply : Type 0} (object : Sequential State Call Reply) (seat tries : ℕ) where
+  -- the first of these positions lies behind a front
+  abbrev pub Behind : List (ℕ × Call) → List (ℕ × Call) → Type 0
+  Behind front left = (at : ℕ) (call : Call) (more : List (ℕ × Call)) → left ≡ (at, call) ∷ more → length front < at
+
+  behind_reply : (before : List (ℕ × Call)) (call : Call) (at : Option ℕ) (reply : Reply) (next left : List (ℕ × Call))
+      → MatchOption at (IsFront before next × IsAnswered object next call reply) (λ at. IsDone seat before call at next)
+      → Behind next left → Behind before (where_done at call left)
+  behind_reply before call None reply next left says behind at other more is =
+      let further = behind at other more is in omega (arith, length-front says.0)
+  behind_reply before call (Some told) reply next left says behind at other more is =
+      let first = same_first _ _ _ _ _ _ is in
+      omega (arith, first.0, says.position, ap length says.ends, length-append says.stood ((seat, call) ∷ []), length-front says.since)
+
+  behind_says : (before : List (ℕ × Call)) (call : Call) (answer : Result Reply Fault) (next left : List (ℕ × Call))
+      → Says object seat tries before call answer next → Behind next left → Behind before (where_done (told object answer) call left)
+  behind_says before call (Ok reply) next left says behind = behind_reply before call (object.done_at reply) reply next left says behind
+  behind_says before call (Err Memory) next left says behind = absurd says
+  behind_says before call (Err (Busy lost)) next left says behind = λ at other more is.
+      let further = behind at other more is in omega (arith, ap length says.makes, length-append before says.others)
+  behind_says before call (Err Full) next left says behind = absurd says
+
+  -- what a section tells lies behind its first front
+  pub section_behind : (first : List (ℕ × Call)) (calls : List Call) (answers : List (Result Reply Fault)) (last : List (ℕ × Call))
+      → Section (Says object seat tries) first calls answers last → Behind first (done_at (told object) calls answers)
+  section_behind first [] [] last s = λ at call more is. absurd (cc is)
+  section_behind first [] (a ∷ answers) last s = absurd s
+  section_behind first (c ∷ calls) [] last s = absurd s
+  section_behind first (c ∷ calls) (a ∷ answers) last s =
+      behind_says first c a s.0 (done_at (told object) calls answers) s.1 (section_behind s.0 calls answers last s.2)
+
 module _ {State Call Reply : Type 0} (object : Sequential State Call Reply) (seat : ℕ) (history : List (ℕ × Call)) where
   -- a front of the history, and behind it these calls of the seat with their positions
   pub record Leaves (front left : List (ℕ × Call)) : Type 0 where
@@ -94,37 +125,7 @@ module _ {State Call Reply : Type 0} (object : Sequential State Call Reply) (sea
     ]
 
     module _ (tries : ℕ) (some : 0 < tries) where
-      -- the first of these positions lies behind a front
-      abbrev Behind : List (ℕ × Call) → List (ℕ × Call) → Type 0
-      Behind front left = (at : ℕ) (call : Call) (more : List (ℕ × Call)) → left ≡ (at, call) ∷ more → length front < at
-
-      behind_reply : (before : List (ℕ × Call)) (call : Call) (at : Option ℕ) (reply : Reply) (next left : List (ℕ × Call))
-          → MatchOption at (IsFront before next × IsAnswered object next call reply) (λ at. IsDone seat before call at next)
-          → Behind next left → Behind before (where_done at call left)
-      behind_reply before call None reply next left says behind at other more is =
-          let further = behind at other more is in omega (arith, length-front says.0)
-      behind_reply before call (Some told) reply next left says behind at other more is =
-          let first = same_first _ _ _ _ _ _ is in
-          omega (arith, first.0, says.position, ap length says.ends, length-append says.stood ((seat, call) ∷ []), length-front says.since)
-
-      behind_says : (before : List (ℕ × Call)) (call : Call) (answer : Result Reply Fault) (next left : List (ℕ × Call))
-          → Says object seat tries before call answer next → Behind next left → Behind before (where_done (told object answer) call left)
-      behind_says before call (Ok reply) next left says behind = behind_reply before call (object.done_at reply) reply next left says behind
-      behind_says before call (Err Memory) next left says behind = absurd says
-      behind_says before call (Err (Busy lost)) next left says behind = λ at other more is.
-          let further = behind at other more is in omega (arith, ap length says.makes, length-append before says.others)
-      behind_says before call (Err Full) next left says behind = absurd says
-
-      -- what a section tells lies behind its first front
-      section_behind : (first : List (ℕ × Call)) (calls : List Call) (answers : List (Result Reply Fault)) (last : List (ℕ × Call))
-          → Section (Says object seat tries) first calls answers last → Behind first (done_at (told object) calls answers)
-      section_behind first [] [] last s = λ at call more is. absurd (cc is)
-      section_behind first [] (a ∷ answers) last s = absurd s
-      section_behind first (c ∷ calls) [] last s = absurd s
-      section_behind first (c ∷ calls) (a ∷ answers) last s =
-          behind_says first c a s.0 (done_at (told object) calls answers) s.1 (section_behind s.0 calls answers last s.2)
-
-      module _ (before : List (ℕ × Call)) (call : Call) (next left : List (ℕ × Call)) (within : IsFront next history) (behind : Behind next left) where
+      module _ (before : List (ℕ × Call)) (call : Call) (next left : List (ℕ × Call)) (within : IsFront next history) (behind : Behind object seat tries next left) where
         -- nothing is left between a front and the next one where no call is done
         no_more : Leaves before left → IsFront before next → next ≡ before
         no_more leaves grows = sym (front_whole before next grows (elim (cases_lt (length before) (length history)) [
@@ -197,7 +198,7 @@ module _ {State Call Reply : Type 0} (object : Sequential State Call Reply) (sea
           let left = done_at (told object) calls answers in
           let grows = section_front (Says object seat tries) (says_grows object seat tries) s.0 calls answers last s.2 in
           let next = front_trans s.0 last history grows within in
-          let alone = says_is_alone first c s.0 left next (section_behind s.0 calls answers last s.2) a leaves s.1 in
+          let alone = says_is_alone first c s.0 left next (section_behind object seat tries s.0 calls answers last s.2) a leaves s.1 in
           (s.0, alone, section_is_alone s.0 calls answers last within (says_leaves first c a s.0 left leaves alone) s.2)
 
 -- an opening that was asked alone, whose calls are those of seat 0

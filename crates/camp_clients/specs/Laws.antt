@@ -1,10 +1,10 @@
 -- The laws of runs.
-use Rattle.std.specs.Prelude.{ℕ, ◌<◌, List, [], ◌∷◌, Result}
+use Rattle.std.specs.Prelude.{ℕ, ◌<◌, List, [], ◌∷◌, length, Result}
 use Rattle.camp_object.specs.Histories.{IsLegal}
 use Rattle.camp_object.specs.Objects.{Sequential}
 use Rattle.camp_object.specs.declared.faults.Fault.{Fault}
 use Rattle.camp_clients.specs.Answers.{StepsAlone}
-use Rattle.camp_clients.specs.Runs.{InTurn, IsLocked, IsShared, OneByOne}
+use Rattle.camp_clients.specs.Runs.{HasOpening, InTurn, IsLocked, IsShared, OneByOne, section_of}
 
 module _ {State Call Reply : Type 0} (object : Sequential State Call Reply) where
   -- a single section that was asked over a head has answers and a history of a run one after the other
@@ -24,3 +24,10 @@ module _ {State Call Reply : Type 0} (object : Sequential State Call Reply) wher
   DoneWasAccepted = (sections : List (List Call)) (answers : List (List (Result Reply Fault)))
       (history : List (ℕ × Call)) → IsLegal object history → OneByOne object 0 [] sections answers history
       → InTurn (StepsAlone object) 0 [] sections answers history
+
+  -- the opening of a run over a head runs alone: the history begins with its accepted calls, in their order, and with
+  -- no other call between them
+  abbrev pub OpeningIsAlone : Type 0
+  OpeningIsAlone = (tries : ℕ) (sections : List (List Call)) (answers : List (List (Result Reply Fault)))
+      (history : List (ℕ × Call)) → 0 < tries → 0 < length sections → IsShared object tries sections answers history
+      → HasOpening object (section_of sections 0) (section_of answers 0) history

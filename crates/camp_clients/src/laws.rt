@@ -1,4 +1,4 @@
-ghost use Rattle.camp_clients.specs.Laws.{DoneWasAccepted, LockedIsSerial, SharedIsSerial};
+ghost use Rattle.camp_clients.specs.Laws.{DoneWasAccepted, LockedIsSerial, OpeningIsAlone, SharedIsSerial};
 
 use camp_object::Object;
 
@@ -16,4 +16,10 @@ pub fn locked_is_serial<State: Object>()
 /// what stood before it.
 pub fn done_was_accepted<State: Object>()
     ensures { DoneWasAccepted State.object }
+{}
+
+/// The opening of a run over a head runs alone: the history begins with its accepted calls, in their
+/// order, and with no other call between them.
+pub fn opening_is_alone<State: Object>()
+    ensures { OpeningIsAlone State.object }
 {}

@@ -12,7 +12,7 @@ mod sections;
 pub use comparisons::{MAX_SECTIONS, has_exactly};
 pub use faults::LockFault;
 pub use heads::{HeadRun, shared};
-pub use laws::{done_was_accepted, locked_is_serial, shared_is_serial};
+pub use laws::{done_was_accepted, locked_is_serial, opening_is_alone, shared_is_serial};
 pub use locks::locked;
 pub use one_by_one::{BookRun, serial};
 pub use sections::{Answers, ask_all};

@@ -1,0 +1,134 @@
+-- The opening of a run over a head runs alone.
+use Rattle.std.proofs.Common.{◌≡◌, ℕ, suc, ◌+◌, ◌<◌, ◌≤◌, ◌==◌, eq-eqb, true, false, cond, List, [], ◌∷◌, ◌++◌, length, Option, None, Some, Result, Ok, Err, MatchOption, refl, sym, ◌∙◌, ap, subst, inl, inr, arith}
+use Rattle.std.proofs.Math.ListN.{get_or-append}
+use Rattle.std.proofs.lemmas.Bool.{cases_lt}
+use Rattle.std.proofs.lemmas.List.{append-nil}
+use Rattle.std.proofs.lemmas.List.Elements.{All-cons, All-nil, All-same}
+use Rattle.std.specs.List.{All, AllByRecursion}
+use Rattle.camp_object.specs.Histories.{IsFront, IsAnswered, own}
+use Rattle.camp_object.specs.Objects.{Sequential}
+use Rattle.camp_object.specs.declared.faults.Fault.{Fault}
+use Rattle.camp_object.proofs.Fronts.{length-front}
+use Rattle.camp_clients.specs.Answers.{IsDone, Says, told}
+use Rattle.camp_clients.specs.Laws.{OpeningIsAlone}
+use Rattle.camp_clients.specs.Positions.{own_at, where_done, done_at}
+use Rattle.camp_clients.specs.Runs.{section_of}
+use Rattle.camp_clients.specs.Sections.{Section}
+use Rattle.camp_clients.proofs.Fronts.{says_grows, section_front}
+use Rattle.camp_clients.proofs.Histories.{front_refl}
+use Rattle.camp_clients.proofs.OneSection.{section_behind, section_is_alone}
+use Rattle.camp_clients.proofs.Positions.{own_at-append, own_at_behind}
+
+-- no position lies past a number
+abbrev AreUpTo : {Call : Type 0} → ℕ → List (ℕ × Call) → Type 0
+AreUpTo {Call} end list = AllByRecursion (λ entry. entry.0 ≤ end) list
+
+up_to_right : {Call : Type 0} (end : ℕ) (xs ys : List (ℕ × Call)) → AreUpTo end (xs ++ ys) → AreUpTo end ys
+up_to_right end [] ys all = all
+up_to_right end (x ∷ xs) ys all = up_to_right end xs ys all.1
+
+-- positions behind a number that do not lie past it are none
+none_between : {Call : Type 0} (seat end : ℕ) (h list : List (ℕ × Call)) → own_at seat end h ≡ list → AreUpTo end list → list ≡ []
+none_between seat end h [] is all = refl
+none_between seat end h (entry ∷ list) is all =
+    let behind = own_at_behind seat end h entry.0 entry.1 list is in
+    let first = all.0 in absurd (omega arith)
+
+-- a seat whose first position lies behind a front has no call in it
+none_before : {Call : Type 0} (seat before : ℕ) (h more : List (ℕ × Call))
+    → ((at : ℕ) (call : Call) (rest : List (ℕ × Call)) → own_at seat before (h ++ more) ≡ (at, call) ∷ rest → before + length h < at)
+    → own seat h ≡ []
+none_before seat before [] more = λ behind. refl
+none_before {Call = Call} seat before (entry ∷ h) more =
+    elim (entry.0 == seat)
+    as (λ b. ((at : ℕ) (call : Call) (rest : List (ℕ × Call)) → cond b ((before + 1, entry.1) ∷ own_at seat (before + 1) (h ++ more)) (own_at seat (before + 1) (h ++ more)) ≡ (at, call) ∷ rest → before + length (entry ∷ h) < at)
+    → cond b (entry.1 ∷ own seat h) (own seat h) ≡ []) [
+      | true ↦ (λ behind. absurd (let past = behind (before + 1) entry.1 (own_at seat (before + 1) (h ++ more)) refl in omega arith))
+      | false ↦ (λ behind. none_before seat (before + 1) h more (λ at call rest is. let past = behind at call rest is in omega arith))
+    ]
+
+-- what holds of all elements holds of those of a front
+all_of_front : {X : Type 0} (P : X → Type 0) (front whole : List X) (begins : IsFront front whole) → All P whole → All P front
+all_of_front P front whole begins all k d below =
+    subst P (get_or-append front begins.rest d k below)
+    (All-same P (front ++ begins.rest) whole begins.makes all k d (omega (arith, below, ap length begins.makes, length-front begins)))
+
+-- a call of a seat is one of its calls
+has_own : {Call : Type 0} (seat : ℕ) (entry : ℕ × Call) (h : List (ℕ × Call)) → entry.0 ≡ seat → own seat (entry ∷ h) ≡ [] → ⊥
+has_own seat entry h mine = rw (eq-eqb entry.0 seat mine) (λ is. cc is)
+
+-- without calls of a seat there are none behind the first
+own_tail : {Call : Type 0} (seat : ℕ) (entry : ℕ × Call) (h : List (ℕ × Call)) → own seat (entry ∷ h) ≡ [] → own seat h ≡ []
+own_tail seat entry h =
+    elim (entry.0 == seat) as (λ b. cond b (entry.1 ∷ own seat h) (own seat h) ≡ [] → own seat h ≡ [])
+    [ true ↦ (λ is. absurd (cc is)) | false ↦ (λ is. is) ]
+
+-- calls of seats below a number, none of which but the first has one, are those of the first
+all_of_first : {Call : Type 0} (seats : ℕ) (h : List (ℕ × Call)) → All (λ entry. entry.0 < seats) h
+    → ((seat : ℕ) → 0 < seat → seat < seats → own seat h ≡ []) → All (λ entry. entry.0 ≡ 0) h
+all_of_first seats [] below none = All-nil (λ entry. entry.0 ≡ 0)
+all_of_first seats (entry ∷ h) below none =
+    let first : entry.0 ≡ 0 = elim (cases_lt 0 entry.0) [
+      | inl some ↦ absurd (has_own entry.0 entry h refl (none entry.0 some (below 0 entry (omega arith))))
+      | inr past ↦ omega arith
+    ] in
+    All-cons (λ entry. entry.0 ≡ 0) entry h first
+    (all_of_first seats h (λ k d here. below (suc k) d (omega arith)) (λ seat some few. own_tail seat entry h (none seat some few)))
+
+module _ {State Call Reply : Type 0} (object : Sequential State Call Reply) (seat tries : ℕ) where
+  -- what a section tells lies in its last front
+  done_up_to : (before : List (ℕ × Call)) (call : Call) (at : Option ℕ) (reply : Reply) (next left : List (ℕ × Call)) (end : ℕ)
+      → MatchOption at (IsFront before next × IsAnswered object next call reply) (λ at. IsDone seat before call at next)
+      → length next ≤ end → AreUpTo end left → AreUpTo end (where_done at call left)
+  done_up_to before call None reply next left end says within all = all
+  done_up_to before call (Some at) reply next left end says within all = (let is = says.position in omega arith, all)
+
+  says_up_to : (before : List (ℕ × Call)) (call : Call) (answer : Result Reply Fault) (next left : List (ℕ × Call)) (end : ℕ)
+      → Says object seat tries before call answer next → length next ≤ end → AreUpTo end left
+      → AreUpTo end (where_done (told object answer) call left)
+  says_up_to before call (Ok reply) next left end says within all = done_up_to before call (object.done_at reply) reply next left end says within all
+  says_up_to before call (Err fault) next left end says within all = all
+
+  section_up_to : (first : List (ℕ × Call)) (calls : List Call) (answers : List (Result Reply Fault)) (last : List (ℕ × Call))
+      → Section (Says object seat tries) first calls answers last → AreUpTo (length last) (done_at (told object) calls answers)
+  section_up_to first [] [] last s = tt
+  section_up_to first [] (a ∷ answers) last s = absurd s
+  section_up_to first (c ∷ calls) [] last s = absurd s
+  section_up_to first (c ∷ calls) (a ∷ answers) last s =
+      says_up_to first c a s.0 (done_at (told object) calls answers) (length last) s.1
+      (length-front (section_front (Says object seat tries) (says_grows object seat tries) s.0 calls answers last s.2))
+      (section_up_to s.0 calls answers last s.2)
+
+  -- a front that holds what a section tells has all calls of its seat
+  own_at_last : (last history : List (ℕ × Call)) (calls : List Call) (answers : List (Result Reply Fault))
+      → (within : IsFront last history) → own_at seat 0 history ≡ done_at (told object) calls answers
+      → Section (Says object seat tries) [] calls answers last → own_at seat 0 last ≡ done_at (told object) calls answers
+  own_at_last last history calls answers within is s =
+      let from_end : length last ≡ 0 + length last = omega arith in
+      let parts : own_at seat 0 last ++ own_at seat (length last) within.rest ≡ done_at (told object) calls answers =
+      ap (λ n. own_at seat 0 last ++ own_at seat n within.rest) from_end ∙ sym (own_at-append seat 0 last within.rest) ∙ ap (own_at seat 0) within.makes ∙ is in
+      let all = subst (AreUpTo (length last)) (sym parts) (section_up_to [] calls answers last s) in
+      let none = none_between seat (length last) within.rest (own_at seat (length last) within.rest) refl
+      (up_to_right (length last) (own_at seat 0 last) (own_at seat (length last) within.rest) all) in
+      sym (append-nil (own_at seat 0 last)) ∙ ap (λ xs. own_at seat 0 last ++ xs) (sym none) ∙ parts
+
+pub opening_alone : {State Call Reply : Type 0} (object : Sequential State Call Reply) → OpeningIsAlone object
+opening_alone object tries sections answers history some opens run =
+    let last = run.opening.last in
+    let calls = section_of sections 0 in
+    let replies = section_of answers 0 in
+    let within = run.opening.within in
+    let below = all_of_front (λ entry. entry.0 < length sections) last history within run.exactly.no_other in
+    let mine = all_of_first (length sections) last below (λ seat client few.
+    let fronts = run.clients seat client few in
+    none_before seat 0 last within.rest (λ at call rest is.
+    let behind = section_behind object seat tries last (section_of sections seat) (section_of answers seat) fronts.last fronts.fronts at call rest
+    (sym (run.exactly.own_done seat few) ∙ ap (own_at seat 0) (sym within.makes) ∙ is) in
+    omega arith)) in
+    let own_is = own_at_last object 0 tries last history calls replies within (run.exactly.own_done 0 opens) run.opening.fronts in
+    record {
+      last = last;
+      alone = section_is_alone object 0 last mine tries some [] calls replies last (front_refl last)
+          (record { begins = record { rest = last; makes = refl }; are = own_is }) run.opening.fronts;
+      within = within;
+    }
