@@ -1,0 +1,124 @@
+use bstr::ByteSlice;
+use camp_notation::{NotationError, read_list, read_named, read_tree};
+use camp_prim::Named;
+use std::alloc::{AllocError, AllocFailed, Global};
+
+/// What the lines of a table have told so far: the primitives that have a line of their own, their
+/// inverses, and the names of other values.
+#[derive(Drop)]
+pub(crate) struct Table {
+    alloc: Global,
+    known: Vec<Named>,
+    bound: Vec<Binding>,
+}
+
+/// A name, and the text that it stands for.
+#[derive(Drop)]
+struct Binding {
+    name: Vec<u8>,
+    text: Vec<u8>,
+}
+
+/// The name of the call that a line is, and the text of its arguments.
+pub(crate) fn split_call(line: &[u8]) -> Option<(&[u8], &[u8])> {
+    if line.starts_with(b"#") {
+        return None;
+    }
+    match line.split_once_str(b"(") {
+        Some((name, rest)) if !name.contains(&b' ') => {
+            Some((name, rest.strip_suffix(b")").unwrap_or(rest)))
+        }
+        _ => None,
+    }
+}
+
+impl Table {
+    /// A table without a line.
+    pub(crate) fn new(alloc: Global) -> Table {
+        Table {
+            alloc,
+            known: Vec::new(alloc),
+            bound: Vec::new(alloc),
+        }
+    }
+
+    pub(crate) fn alloc(&self) -> Global {
+        self.alloc
+    }
+
+    pub(crate) fn known(&self) -> &[Named] {
+        &self.known
+    }
+
+    /// What a word stands for: itself, where it is bound to nothing.
+    pub(crate) fn meaning<'a>(&'a self, word: &'a [u8]) -> &'a [u8] {
+        for binding in &self.bound {
+            if binding.name.as_slice() == word {
+                return &binding.text;
+            }
+        }
+        word
+    }
+
+    /// Keeps what a line tells that is no call.
+    pub(crate) fn learn(&mut self, line: &[u8]) -> Result<(), NotationError> {
+        if line.is_empty() || line.starts_with(b"#") {
+            return Ok(());
+        }
+        if line.starts_with(b"table ") {
+            self.forget();
+            return Ok(());
+        }
+        match line.split_once_str(b" = ") {
+            Some((name, text)) if !name.contains(&b' ') => self.bind(name, text),
+            _ => self.know(line),
+        }
+    }
+
+    // A new table.
+    fn forget(&mut self) {
+        self.known.clear();
+        self.bound.clear();
+    }
+
+    // A later line of the same name counts in place of an earlier one.
+    fn bind(&mut self, name: &[u8], text: &[u8]) -> Result<(), NotationError> {
+        self.expect_value(text)?;
+        let binding = binding_of(self.alloc, name, text)?;
+        Ok(self.bound.insert(0, binding)?)
+    }
+
+    /// A text that stands for a value has to be read as one.
+    fn expect_value(&self, text: &[u8]) -> Result<(), NotationError> {
+        if text.starts_with(b"{") {
+            let _tree = read_tree(self.alloc, text)?;
+        } else {
+            let _list = read_list(self.alloc, &self.known, text)?;
+        }
+        Ok(())
+    }
+
+    fn know(&mut self, line: &[u8]) -> Result<(), NotationError> {
+        let p = read_named(self.alloc, &[], line)?;
+        let inverse = p.try_clone()?.invert();
+        self.put(p)?;
+        Ok(self.put(inverse)?)
+    }
+
+    // A later primitive of the same label counts in place of an earlier one.
+    fn put(&mut self, p: Named) -> Result<(), AllocFailed<Named>> {
+        for known in self.known.iter_mut() {
+            if known.label() == p.label() {
+                *known = p;
+                return Ok(());
+            }
+        }
+        self.known.push(p)
+    }
+}
+
+fn binding_of(alloc: Global, name: &[u8], text: &[u8]) -> Result<Binding, AllocError> {
+    let name = Vec::from_slice(alloc, name)?;
+    let text = Vec::from_slice(alloc, text)?;
+    Ok(Binding { name, text })
+}
