@@ -14,8 +14,8 @@
 //! memory, 4 where the input was not read or a line not printed, and 5 where more lines than one wanted
 //! memory.
 //!
-//! `worked N` refuses the allocation of the number N, where the program is run with the 20,000th of its
-//! allocations refused: it makes the others before.
+//! `worked N M` makes so many allocations first that the M-th of the whole run is number N behind them:
+//! where it is run with its M-th allocation refused, the number says which one that is.
 #![tactic(auto)]
 
 mod arguments;

@@ -29,20 +29,26 @@ impl Wants {
     }
 }
 
-/// The number of the allocation that is refused, where one is.
-const REFUSED: u32 = 20_000;
-
-/// Makes, and lets go, so many allocations that the refused one is of the number that the first
-/// argument tells. Without an argument it makes none.
+/// Makes, and lets go, so many allocations that the refused one, of the number that the second argument
+/// tells, is of the number that the first one tells. Without an argument it makes none.
 pub(crate) fn allocate_before(rt: &impl Env, alloc: Global) -> io::Result<()> {
+    match (number_at(rt, 1)?, number_at(rt, 2)?) {
+        (Some(number), Some(refused)) => {
+            Ok(allocate_each(alloc, refused.saturating_sub(number))?)
+        }
+        (None, None) => Ok(()),
+        _ => Err(ErrorKind::InvalidInput.into()),
+    }
+}
+
+/// The number that an argument tells, where there is one.
+fn number_at(rt: &impl Env, at: usize) -> io::Result<Option<u32>> {
     let mut digits = [0; 10];
-    let length = match rt.arg(1, &mut digits) {
-        Ok(length) => length,
-        Err(FillError::NotPresent) => return Ok(()),
-        Err(FillError::TooLong) => return Err(ErrorKind::InvalidInput.into()),
-    };
-    let number = number_of(&digits[..length])?;
-    Ok(allocate_each(alloc, REFUSED.saturating_sub(number))?)
+    match rt.arg(at, &mut digits) {
+        Ok(length) => Ok(Some(number_of(&digits[..length])?)),
+        Err(FillError::NotPresent) => Ok(None),
+        Err(FillError::TooLong) => Err(ErrorKind::InvalidInput.into()),
+    }
 }
 
 fn number_of(digits: &[u8]) -> io::Result<u32> {
