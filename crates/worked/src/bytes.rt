@@ -1,8 +1,10 @@
 //! Which bytes, and how many, names, paths and lines may have.
-use camp_base::{Line, Name, Path};
+
+use crate::arguments::Arguments;
+use crate::results::{none, word};
+use camp_base::{BaseFault, Line, Name, Path};
 use camp_notation::{NotationError, word_text};
-use std::alloc::{AllocError, Global};
-use tables::{Arguments, none, word};
+use std::alloc::Global;
 
 /// A kind of value that is made of bytes.
 #[derive(Clone, Copy)]
@@ -23,10 +25,10 @@ pub(crate) fn bytes_alone(a: &Arguments) -> Result<String, NotationError> {
     }
 }
 
-fn alone(alloc: Global, kind: Kind) -> Result<Vec<u8>, AllocError> {
+fn alone(alloc: Global, kind: Kind) -> Result<Vec<u8>, NotationError> {
     let mut bytes = Vec::new(alloc);
     for byte in 0..=255 {
-        if is_made(alloc, kind, &[byte]) {
+        if is_made(alloc, kind, &[byte])? {
             bytes.push(byte)?;
         }
     }
@@ -44,10 +46,10 @@ pub(crate) fn bytes_within(a: &Arguments) -> Result<String, NotationError> {
     }
 }
 
-fn within(alloc: Global, kind: Kind) -> Result<Vec<u8>, AllocError> {
+fn within(alloc: Global, kind: Kind) -> Result<Vec<u8>, NotationError> {
     let mut bytes = Vec::new(alloc);
     for byte in 0..=255 {
-        if is_made(alloc, kind, &[b'a', byte, b'z']) {
+        if is_made(alloc, kind, &[b'a', byte, b'z'])? {
             bytes.push(byte)?;
         }
     }
@@ -66,11 +68,11 @@ pub(crate) fn lengths(a: &Arguments) -> Result<String, NotationError> {
     }
 }
 
-fn lengths_of(alloc: Global, kind: Kind) -> Result<Vec<u32>, AllocError> {
+fn lengths_of(alloc: Global, kind: Kind) -> Result<Vec<u32>, NotationError> {
     let mut bytes = Vec::new(alloc);
     let mut lengths = Vec::new(alloc);
     for length in 0..=5_000 {
-        if is_made(alloc, kind, &bytes) {
+        if is_made(alloc, kind, &bytes)? {
             lengths.push(length)?;
         }
         bytes.push(b'a')?;
@@ -92,8 +94,7 @@ fn range_text(a: &Arguments, numbers: &[u32]) -> Result<String, NotationError> {
 }
 
 fn kind_of(a: &Arguments) -> Result<Option<Kind>, NotationError> {
-    let word = a.word(0)?;
-    Ok(match word.as_slice() {
+    Ok(match a.word(0)? {
         b"name" => Some(Kind::Name),
         b"path" => Some(Kind::Path),
         b"line" => Some(Kind::Line),
@@ -101,19 +102,27 @@ fn kind_of(a: &Arguments) -> Result<Option<Kind>, NotationError> {
     })
 }
 
-fn is_made(alloc: Global, kind: Kind, bytes: &[u8]) -> bool {
+/// Whether such a value is made of these bytes, and has them.
+fn is_made(alloc: Global, kind: Kind, bytes: &[u8]) -> Result<bool, NotationError> {
     match kind {
         Kind::Name => match Name::new(bytes) {
-            Ok(name) => name.bytes() == bytes,
-            Err(_) => false,
+            Ok(name) => Ok(name.bytes() == bytes),
+            Err(why) => refuses(why),
         },
         Kind::Path => match Path::new(alloc, bytes) {
-            Ok(path) => path.bytes() == bytes,
-            Err(_) => false,
+            Ok(path) => Ok(path.bytes() == bytes),
+            Err(why) => refuses(why),
         },
         Kind::Line => match Line::new(alloc, bytes) {
-            Ok(line) => line.bytes() == bytes,
-            Err(_) => false,
+            Ok(line) => Ok(line.bytes() == bytes),
+            Err(why) => refuses(why),
         },
+    }
+}
+
+fn refuses(why: BaseFault) -> Result<bool, NotationError> {
+    match why {
+        BaseFault::Memory => Err(NotationError::Memory),
+        _ => Ok(false),
     }
 }

@@ -1,23 +1,23 @@
-use crate::results::{change, order};
-use camp_base::Tree;
+use crate::arguments::Arguments;
+use crate::results::{Shown, both, change, joined, none, order, pair_text, word, yes_or_no};
 use camp_notation::{NotationError, lines_text, word_text};
-use camp_prim::{Hunk, Lines, Named, Primitive, commute, exchange};
+use camp_prim::{Hunk, Named, Primitive, commute, exchange};
+use camp_share::Share;
 use std::alloc::AllocError;
-use tables::{Arguments, Shown, both, joined, none, pair_text, yes_or_no};
 
 pub(crate) fn hunk(a: &Arguments) -> Result<String, NotationError> {
-    let path = a.path(0)?;
-    let line = a.number(1)?;
-    let old = side(a, 2)?;
-    let new = side(a, 3)?;
-    match Primitive::hunk(path, line, old, new) {
+    match hunk_of(a)? {
         Some(Primitive::Hunk(hunk)) => parts(a, &hunk),
         _ => none(a),
     }
 }
 
-fn side(a: &Arguments, at: usize) -> Result<Lines, NotationError> {
-    Ok(Lines::new(a.alloc(), a.lines(at)?)?)
+fn hunk_of(a: &Arguments) -> Result<Option<Primitive>, NotationError> {
+    let line = a.number(1)?;
+    let path = a.path(0)?.try_clone()?;
+    let old = a.lines(2)?.share()?;
+    let new = a.lines(3)?.share()?;
+    Ok(Primitive::hunk(path, line, old, new))
 }
 
 fn parts(a: &Arguments, hunk: &Hunk) -> Result<String, NotationError> {
@@ -46,19 +46,32 @@ pub(crate) fn read(a: &Arguments) -> Result<String, NotationError> {
     a.named(0)?.text(a)
 }
 
-pub(crate) fn invert(a: &Arguments) -> Result<String, NotationError> {
-    let p = a.named(0)?;
-    inverted(a, &p)
+pub(crate) fn copy(a: &Arguments) -> Result<String, NotationError> {
+    a.named(0)?.try_clone()?.text(a)
 }
 
-fn inverted(a: &Arguments, p: &Named) -> Result<String, NotationError> {
-    p.try_clone()?.invert().text(a)
+/// Whether a copy of what the primitive does is the same.
+pub(crate) fn copy_primitive(a: &Arguments) -> Result<String, NotationError> {
+    let p = a.named(0)?;
+    let copy = p.prim.try_clone()?;
+    yes_or_no(a, copy.is_same(&p.prim))
+}
+
+pub(crate) fn copy_hunk(a: &Arguments) -> Result<String, NotationError> {
+    match &a.named(0)?.prim {
+        Primitive::Hunk(hunk) => parts(a, &hunk.try_clone()?),
+        _ => none(a),
+    }
+}
+
+pub(crate) fn invert(a: &Arguments) -> Result<String, NotationError> {
+    a.named(0)?.try_clone()?.invert().text(a)
 }
 
 pub(crate) fn are_same(a: &Arguments) -> Result<String, NotationError> {
     let left = a.named(0)?;
     let right = a.named(1)?;
-    yes_or_no(a, left.is_same(&right))
+    yes_or_no(a, left.is_same(right))
 }
 
 pub(crate) fn compare(a: &Arguments) -> Result<String, NotationError> {
@@ -70,26 +83,30 @@ pub(crate) fn compare(a: &Arguments) -> Result<String, NotationError> {
 pub(crate) fn apply(a: &Arguments) -> Result<String, NotationError> {
     let p = a.named(0)?;
     let before = a.tree(1)?;
-    applied(a, &p, &before)
-}
-
-fn applied(a: &Arguments, p: &Named, before: &Tree) -> Result<String, NotationError> {
     let mut tree = before.try_clone()?;
     let answer = p.apply(&mut tree);
+    change(a, answer, before, &tree)
+}
+
+pub(crate) fn apply_primitive(a: &Arguments) -> Result<String, NotationError> {
+    let p = a.named(0)?;
+    let before = a.tree(1)?;
+    let mut tree = before.try_clone()?;
+    let answer = p.prim.apply(&mut tree);
     change(a, answer, before, &tree)
 }
 
 pub(crate) fn commuted(a: &Arguments) -> Result<String, NotationError> {
     let p = a.named(0)?;
     let q = a.named(1)?;
-    both(a, commute(&p, &q)?)
+    both(a, commute(p, q)?)
 }
 
 /// The two as they stand after an exchange; both as they were where they can't change places.
 pub(crate) fn exchanged(a: &Arguments) -> Result<String, NotationError> {
     let p = a.named(0)?;
     let q = a.named(1)?;
-    exchanged_copies(a, &p, &q)
+    exchanged_copies(a, p, q)
 }
 
 fn exchanged_copies(a: &Arguments, p: &Named, q: &Named) -> Result<String, NotationError> {
@@ -109,6 +126,5 @@ fn exchanged_here(
 }
 
 fn stayed(a: &Arguments, text: &str) -> Result<String, NotationError> {
-    let word = none(a)?;
-    joined(word, ": ", text)
+    joined(word(a, "none")?, ": ", text)
 }

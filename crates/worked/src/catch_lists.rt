@@ -1,24 +1,29 @@
-use crate::results::key_text;
+use crate::arguments::Arguments;
+use crate::results::{catch_list_text, joined, key_text};
 use camp_base::Name;
-use camp_catch::{NoMerge, Stuck, align, arrange, merge_lists};
+use camp_catch::{Arranged, NoMerge, Stuck, align, arrange, merge_lists};
 use camp_notation::NotationError;
 use camp_prim::Key;
 use camp_share::SharedMap;
 use std::alloc::AllocError;
-use tables::{Arguments, Shown, pair_text};
 
 pub(crate) fn read(a: &Arguments) -> Result<String, NotationError> {
-    a.catches(0)?.text(a)
+    catch_list_text(a, a.catches(0)?)
 }
 
 /// The names stand behind the list, each as a label.
 pub(crate) fn arranged(a: &Arguments) -> Result<String, NotationError> {
-    let list = a.catches(0)?;
     let names = names(a)?;
-    match arrange(a.alloc(), &list, &names)? {
-        Ok(arranged) => pair_text(a, &arranged.first, &arranged.rest),
+    match arrange(a.alloc(), a.catches(0)?, &names)? {
+        Ok(arranged) => arranged_text(a, &arranged),
         Err(stuck) => Ok(stuck_on(a, stuck)?),
     }
+}
+
+fn arranged_text(a: &Arguments, arranged: &Arranged) -> Result<String, NotationError> {
+    let first = catch_list_text(a, &arranged.first)?;
+    let rest = catch_list_text(a, &arranged.rest)?;
+    joined(first, ", ", &rest)
 }
 
 fn stuck_on(a: &Arguments, stuck: Stuck) -> Result<String, AllocError> {
@@ -29,10 +34,9 @@ fn stuck_on(a: &Arguments, stuck: Stuck) -> Result<String, AllocError> {
 
 /// The labels stand behind the list.
 pub(crate) fn aligned(a: &Arguments) -> Result<String, NotationError> {
-    let list = a.catches(0)?;
     let order = keys(a)?;
-    match align(a.alloc(), &list, &order)? {
-        Ok(aligned) => aligned.text(a),
+    match align(a.alloc(), a.catches(0)?, &order)? {
+        Ok(aligned) => catch_list_text(a, &aligned),
         Err(key) => Ok(stuck(a, key)?),
     }
 }
@@ -43,9 +47,8 @@ fn stuck(a: &Arguments, key: Key) -> Result<String, AllocError> {
 }
 
 pub(crate) fn merged(a: &Arguments) -> Result<String, NotationError> {
-    let (ours, theirs) = (a.catches(0)?, a.catches(1)?);
-    match merge_lists(a.alloc(), &ours, &theirs)? {
-        Ok(merged) => merged.text(a),
+    match merge_lists(a.alloc(), a.catches(0)?, a.catches(1)?)? {
+        Ok(merged) => catch_list_text(a, &merged),
         Err(pair) => Ok(no_merge(a, pair)?),
     }
 }

@@ -65,10 +65,20 @@ impl Table {
         if line.is_empty() || line.starts_with(b"#") {
             return Ok(());
         }
+        if line.starts_with(b"table ") {
+            self.forget();
+            return Ok(());
+        }
         match line.split_once_str(b" = ") {
             Some((name, text)) if !name.contains(&b' ') => self.bind(name, text),
             _ => self.know(line),
         }
+    }
+
+    // A new table.
+    fn forget(&mut self) {
+        self.known.clear();
+        self.bound.clear();
     }
 
     // A later line of the same name counts in place of an earlier one.

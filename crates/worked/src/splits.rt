@@ -1,0 +1,74 @@
+ghost use Rattle.std.specs.Prelude.{◌≤◌, length};
+
+use std::alloc::{AllocError, Global};
+
+/// Where a byte stands: in how many brackets, and whether between quotes.
+#[derive(Clone, Copy)]
+struct Nesting {
+    depth: u32,
+    quoted: bool,
+    escaped: bool,
+}
+
+impl Nesting {
+    fn behind(self, byte: u8) -> Nesting {
+        if self.quoted {
+            return self.behind_quoted(byte);
+        }
+        let depth = match byte {
+            b'[' | b'{' | b'(' => self.depth.saturating_add(1),
+            b']' | b'}' | b')' => self.depth.saturating_sub(1),
+            _ => self.depth,
+        };
+        Nesting {
+            depth,
+            quoted: byte == b'"',
+            escaped: false,
+        }
+    }
+
+    fn behind_quoted(self, byte: u8) -> Nesting {
+        Nesting {
+            depth: self.depth,
+            quoted: self.escaped || byte != b'"',
+            escaped: !self.escaped && byte == b'\\',
+        }
+    }
+
+    fn is_outside(self) -> bool {
+        self.depth == 0 && !self.quoted
+    }
+}
+
+/// The arguments of a text: what stands between the commas that are in no brackets and no quotes.
+pub(crate) fn split(alloc: Global, text: &[u8]) -> Result<Vec<&[u8]>, AllocError> {
+    let mut parts = Vec::new(alloc);
+    let mut rest = text;
+    for _ in 0..text.len() {
+        let (part, behind) = rest.split_at(argument_len(rest));
+        parts.push(part)?;
+        match behind {
+            [b',', b' ', others @ ..] => rest = others,
+            _ => return Ok(parts),
+        }
+    }
+    Ok(parts)
+}
+
+// How many bytes the first argument of a text has.
+fn argument_len(text: &[u8]) -> usize
+    ensures { result ≤ length text.now }
+{
+    let mut nesting = Nesting {
+        depth: 0,
+        quoted: false,
+        escaped: false,
+    };
+    for (at, byte) in text.iter().enumerate() {
+        if *byte == b',' && nesting.is_outside() {
+            return at;
+        }
+        nesting = nesting.behind(*byte);
+    }
+    text.len()
+}
