@@ -1,162 +1,88 @@
-//! Measures what calls on lists cost, in microseconds. `costs norm N` puts N hunks of one file in
-//! normal order, the least label last. `costs chain N` merges one patch with N patches that change
-//! the same line one after the other. `costs lists N` merges two lists of N patches, of which each
-//! conflicts with one of the other list. Without words it measures nothing.
+//! Measures. The first line of standard input says what is measured, and a script may stand behind it.
+//!
+//! | Line | What is told |
+//! |---|---|
+//! | `norm N` | the microseconds in which N hunks of one file are put in normal order, the least label last |
+//! | `chain N` | those in which one patch is merged with N patches that change the same line one after the other |
+//! | `lists N` | those in which two lists of N patches are merged, of which each conflicts with one of the other list |
+//! | `calls` | those in which a book answers each section of the script |
+//! | `book`, `lock`, `head` | those of a run of the script in one thread, in threads over a lock, or over a head; how many calls were done and how many were busy, and how many exchanges were lost |
+//! | `list 640 push` | nothing: makes a list, tree, file, patch or state of a size, and takes one operation on it, or `none`. What the operation allocates is the difference of two runs |
 #![tactic(auto)]
 
-ghost use Rattle.std.specs.Prelude.{◌≤◌};
+mod calls;
+mod hunks;
+mod lists;
+mod merges;
+mod names;
+mod operations;
+mod patches;
+mod runs;
+mod states;
+mod trees;
 
-use anyhow::{Result, bail, ensure};
-use camp_base::{Line, Name, Path};
-use camp_catch::{Catch, merge_lists};
-use camp_prim::{Lines, Named, Primitive};
-use camp_seq::{Seq, norm};
-use camp_share::Shared;
+use anyhow::{Result, bail};
+use bstr::ByteSlice;
+use operations::Operation;
+use runs::Way;
 use std::alloc::Global;
-use std::env;
-use std::time::Instant;
+use std::io::Read;
+use std::str;
+use std::sync::Wait;
+use std::thread::Threads;
 
 fn main(rt: HostRuntime) -> Result<()> {
-    let mut words = env::args(&rt)?;
-    let _program = words.next();
-    let Some(measure) = words.next() else {
-        return Ok(());
-    };
-    let Some(word) = words.next() else {
-        bail!("how many?");
-    };
-    let count = word.as_str().parse::<u32>()?;
-    ensure!(count <= 100_000, "at most 100000");
-    measure_by(&rt, measure.as_str(), count)
-}
-
-fn measure_by(rt: &HostRuntime, measure: &str, count: u32) -> Result<()>
-    requires { count ≤ 100_000 }
-{
-    match measure {
-        "norm" => measure_norm(rt, count),
-        "chain" => measure_chain(rt, count),
-        "lists" => measure_lists(rt, count),
-        _ => bail!("norm, chain or lists"),
+    let mut input = Vec::new(rt.alloc());
+    rt.stdin().read_to_end(&mut input)?;
+    match input.as_slice().split_once_str(b"\n") {
+        Some((line, script)) => measure(&rt, &rt, line, script),
+        None => measure(&rt, &rt, &input, b""),
     }
 }
 
-fn measure_norm(rt: &HostRuntime, count: u32) -> Result<()>
-    requires { count ≤ 100_000 }
-{
-    let list = falling_list(rt.alloc(), count)?;
-    let start = Instant::now(rt)?;
-    norm(&list)?;
-    let time = start.elapsed(rt)?.as_micros();
-    println!(rt; "norm of {count} hunks: {time} microseconds")?;
-    Ok(())
-}
-
-fn measure_chain(rt: &HostRuntime, count: u32) -> Result<()>
-    requires { count ≤ 100_000 }
-{
-    let one = patches(rt.alloc(), "one", 1, Change::Line)?;
-    let chain = patches(rt.alloc(), "chain", count, Change::Chain)?;
-    let (merged, time) = measure_merge(rt, &one, &chain)?;
-    println!(rt; "one with a chain of {count}: {merged} merged, {time} microseconds")?;
-    Ok(())
-}
-
-fn measure_lists(rt: &HostRuntime, count: u32) -> Result<()>
-    requires { count ≤ 100_000 }
-{
-    let ours = patches(rt.alloc(), "ours", count, Change::Line)?;
-    let theirs = patches(rt.alloc(), "theirs", count, Change::Line)?;
-    let (merged, time) = measure_merge(rt, &ours, &theirs)?;
-    println!(rt; "two lists of {count}: {merged} merged, {time} microseconds")?;
-    Ok(())
-}
-
-/// How many catches are merged, and the microseconds that it takes.
-fn measure_merge(
+fn measure<R: Threads + Wait + Sync>(
     rt: &HostRuntime,
-    p: &[Shared<Catch>],
-    q: &[Shared<Catch>],
-) -> Result<(usize, u128)> {
-    let start = Instant::now(rt)?;
-    let merged = merges(rt.alloc(), p, q)?;
-    Ok((merged, start.elapsed(rt)?.as_micros()))
+    threads: &R,
+    line: &[u8],
+    script: &[u8],
+) -> Result<()> {
+    let mut words = str::from_utf8(line)?.split_whitespace();
+    match (words.next(), words.next(), words.next()) {
+        (Some(way), None, _) => measure_script(rt, threads, way, script),
+        (Some(what), Some(count), None) => merges::measure(rt, what, count.parse::<u32>()?),
+        (Some(value), Some(size), Some(operation)) => {
+            operate(rt.alloc(), value, size.parse::<u32>()?, operation)?;
+            Ok(println!(rt; "done")?)
+        }
+        _ => bail!("one to three words say what is measured"),
+    }
 }
 
-/// How many catches of a list are merged with another.
-fn merges(alloc: Global, p: &[Shared<Catch>], q: &[Shared<Catch>]) -> Result<usize> {
-    let merged = merge_lists(alloc, p, q)?;
-    let Ok(catches) = merged else {
-        bail!("they do not merge");
+fn measure_script<R: Threads + Wait + Sync>(
+    rt: &HostRuntime,
+    threads: &R,
+    way: &str,
+    script: &[u8],
+) -> Result<()> {
+    match way {
+        "calls" => calls::measure(rt, script),
+        "book" => runs::measure(rt, threads, Way::Book, script),
+        "lock" => runs::measure(rt, threads, Way::Lock, script),
+        "head" => runs::measure(rt, threads, Way::Head, script),
+        _ => bail!("calls, book, lock or head"),
+    }
+}
+
+fn operate(alloc: Global, value: &str, size: u32, operation: &str) -> Result<()> {
+    let Some(operation) = Operation::of(operation) else {
+        bail!("no such operation");
     };
-    Ok(catches.len())
-}
-
-/// What the patches of a list change: each a line of its own, or all the first line, one after the
-/// other.
-#[derive(Clone, Copy)]
-enum Change {
-    Line,
-    Chain,
-}
-
-/// Plain patches under a name and a number.
-fn patches(alloc: Global, name: &str, count: u32, change: Change) -> Result<Vec<Shared<Catch>>>
-    requires { count ≤ 100_000 }
-{
-    let mut list = Vec::new(alloc);
-    for at in 0..count {
-        let patch = match change {
-            Change::Line => hunk(alloc, name, at, 1 + 2 * at, "old", name)?,
-            Change::Chain => changed(alloc, name, at)?,
-        };
-        list.push(Shared::new(alloc, Catch::Plain(patch))?)?;
+    match value {
+        "list" => lists::operate(alloc, size, operation),
+        "tree" => trees::operate(alloc, size, operation),
+        "file" => trees::operate_on_lines(alloc, size, operation),
+        "patch" => patches::operate(alloc, size, operation),
+        "state" => states::operate(alloc, size, operation),
+        _ => bail!("list, tree, file, patch or state"),
     }
-    Ok(list)
-}
-
-/// A hunk that changes the first line from what the one before has left.
-fn changed(alloc: Global, name: &str, at: u32) -> Result<Named>
-    requires { at ≤ 100_000 }
-{
-    let new = format!(in alloc; "line {}", at + 1)?;
-    if at == 0 {
-        return hunk(alloc, name, at, 1, "old", new.as_str());
-    }
-    let old = format!(in alloc; "line {at}")?;
-    hunk(alloc, name, at, 1, old.as_str(), new.as_str())
-}
-
-/// Hunks of one file, far apart, whose labels fall.
-fn falling_list(alloc: Global, count: u32) -> Result<Seq>
-    requires { count ≤ 100_000 }
-{
-    let mut list = Seq::empty(alloc);
-    for at in 0..count {
-        list.push(hunk(alloc, "p", 1_000_000 - at, 1 + 10 * at, "old", "new")?)?;
-    }
-    Ok(list)
-}
-
-/// A hunk of a line for a line, under a name and a number.
-fn hunk(alloc: Global, name: &str, number: u32, line: u32, old: &str, new: &str) -> Result<Named> {
-    let name = Name::new(format!(in alloc; "{name}-{number:07}")?.as_bytes())?;
-    let path = Path::new(alloc, b"f")?;
-    let (old, new) = (side(alloc, old)?, side(alloc, new)?);
-    let Some(prim) = Primitive::hunk(path, line, old, new) else {
-        bail!("no hunk at line {line}");
-    };
-    Ok(Named {
-        name,
-        place: 1,
-        inverse: false,
-        prim,
-    })
-}
-
-/// A side of one line.
-fn side(alloc: Global, text: &str) -> Result<Lines> {
-    let mut lines = Vec::new(alloc);
-    lines.push(Line::new(alloc, text.as_bytes())?)?;
-    Ok(Lines::new(alloc, lines)?)
 }

@@ -1,8 +1,9 @@
+use crate::hunks::lines_of;
 use crate::names::numbered;
 use crate::operations::Operation;
 use anyhow::{Result, bail};
 use camp_base::{Line, Path, Tree};
-use std::alloc::{AllocError, Global};
+use std::alloc::Global;
 
 /// Takes an operation on a tree of so many files.
 pub(crate) fn operate(alloc: Global, size: u32, operation: Operation) -> Result<()> {
@@ -44,7 +45,7 @@ fn copy(tree: &Tree) -> Result<()> {
 pub(crate) fn operate_on_lines(alloc: Global, size: u32, operation: Operation) -> Result<()> {
     let path = Path::new(alloc, b"f")?;
     let mut tree = file_of(alloc, &path, size)?;
-    let line = lines_of(alloc, 1)?;
+    let line = lines_of(alloc, 1, "line")?;
     operate_on_file(&mut tree, &path, size, &line, operation)
 }
 
@@ -66,21 +67,7 @@ fn operate_on_file(
 fn file_of(alloc: Global, path: &Path, size: u32) -> Result<Tree> {
     let mut tree = Tree::empty(alloc);
     tree.add_file(path)?;
-    let lines = lines_of(alloc, size)?;
+    let lines = lines_of(alloc, size, "line")?;
     tree.splice(path, 1, &[], &lines)?;
     Ok(tree)
-}
-
-/// So many lines, each a copy of one.
-pub(crate) fn lines_of(alloc: Global, size: u32) -> Result<Vec<Line>> {
-    let line = Line::new(alloc, b"line")?;
-    Ok(copies_of(alloc, &line, size)?)
-}
-
-fn copies_of(alloc: Global, line: &Line, size: u32) -> Result<Vec<Line>, AllocError> {
-    let mut lines = Vec::new(alloc);
-    for _ in 0..size {
-        lines.push(line.try_clone()?)?;
-    }
-    Ok(lines)
 }
