@@ -14,7 +14,7 @@ use Rattle.camp_prim.specs.declared.labels.Key.{Key}
 use Rattle.camp_prim.proofs.LabelOrder.{key_total, key_ties}
 use Rattle.camp_ctx.specs.Contexts.{Contexts, InContext}
 use Rattle.camp_catch.specs.declared.catches.Catch.{Catch}
-use Rattle.camp_catch.specs.declared.catches.Catch.TheVariants.{Plain, Conflictor}
+use Rattle.camp_catch.specs.declared.catches.Catch.TheVariants.{Plain}
 use Rattle.camp_branch.specs.Branches.{name_of}
 use Rattle.camp_branch.specs.Conflicting.{AreConflicts, AreInConflict, ConflictsWith, IsBetween}
 use Rattle.camp_branch.specs.Inside.Collecting.{names_against, names_within, ordered_by, pair_of, pairs_at, pairs_in}
@@ -68,15 +68,15 @@ listed_has_member xs key c =
 
 against : (k : Catch) (name : List ℕ) → Contains (names_against k) name → ConflictsWith k name
 against (Plain a) name c = no_member name c
-against (Conflictor r xs i) name c =
-    let key = is_image (λ (key : Key). key.name) (keys xs) name c in
-    let member = listed_has_member xs key.0 key.1 in
+against (Catch.Conflictor k) name c =
+    let key = is_image (λ (key : Key). key.name) (keys k.conflicts) name c in
+    let member = listed_has_member k.conflicts key.0 key.1 in
     (key.0, member.0, member.1, key.2)
 
 is_against : (k : Catch) (name : List ℕ) → ConflictsWith k name → Contains (names_against k) name
 is_against (Plain a) name w = absurd w
-is_against (Conflictor r xs i) name w =
-    subst (λ n. Contains (names_within xs) n) w.3 (has_image (λ (key : Key). key.name) (keys xs) w.0 (key_is_listed xs w.0 w.1 w.2))
+is_against (Catch.Conflictor k) name w =
+    subst (λ n. Contains (names_within k.conflicts) n) w.3 (has_image (λ (key : Key). key.name) (keys k.conflicts) w.0 (key_is_listed k.conflicts w.0 w.1 w.2))
 
 -- of two names, the first comes first
 first_is_less : (a b : List ℕ) → by_name a b ≡ Less → Contains (pair_of a b) (a, b)

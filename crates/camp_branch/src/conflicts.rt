@@ -38,11 +38,7 @@ fn collect_from(catch: &Catch, pairs: &mut Vec<(Name, Name)>) -> Result<(), Allo
 {
     match catch {
         Catch::Plain(_) => Ok(()),
-        Catch::Conflictor {
-            conflicts,
-            identity,
-            ..
-        } => pair_with_each(identity.name(), conflicts, pairs),
+        Catch::Conflictor(k) => pair_with_each(k.identity.name(), &k.conflicts, pairs),
     }
 }
 

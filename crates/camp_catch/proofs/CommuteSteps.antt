@@ -1,32 +1,32 @@
 -- What the bodies of commuting know at their answers.
-use Rattle.std.proofs.Common.{◌≡◌, ◌≢◌, ◌≤◌, ◌==◌, Option, None, Some, ◌⊎◌, inl, inr, List, [], ◌∷◌, length, slice_index_or, Bool, true, false, cond, refl, sym, ap, ◌∙◌, subst, arith, eqb-true}
-use Rattle.std.specs.FinMap.{get, len, remove, empty, empty_of_len, get-empty, get-insert}
-use Rattle.std.specs.List.{All}
-use Rattle.std.specs.Ordering.{eq_by_cmp}
-use Rattle.std.proofs.lemmas.Option.{same_Some, none-some}
+use Rattle.std.proofs.Common.{◌≡◌, ◌≢◌, ◌≤◌, ◌==◌, Option, None, Some, ◌⊎◌, inl, inr, List, [], ◌∷◌, length, slice_index_or, Bool, true, false, refl, sym, ap, ◌∙◌, subst, arith, eqb-true}
+use Rattle.std.specs.FinMap.{get, len, remove, empty_of_len, get-empty}
 use Rattle.camp_base.specs.Answers.{FindsPair}
 use Rattle.camp_prim.specs.Effect.{inverse_of}
 use Rattle.camp_prim.specs.Labels.{label_of, key_cmp}
 use Rattle.camp_prim.specs.declared.labels.Key.{Key}
 use Rattle.camp_prim.specs.declared.labels.Label.{Label}
 use Rattle.camp_prim.specs.declared.named.Named.{Named}
-use Rattle.camp_prim.proofs.LabelOrder.{key_total}
 use Rattle.camp_prim.proofs.Inverses.{inverse_of-inverse_of}
 use Rattle.camp_seq.specs.NormalOrder.{Norm, Splits}
 use Rattle.camp_seq.specs.Passing.{Passes, PassesAll, Fronts}
 use Rattle.camp_seq.specs.Running.{inverse_all}
 use Rattle.camp_seq.proofs.GatherSteps.{length-passes}
-use Rattle.camp_seq.proofs.ListResults.{one_pass, one_pass_of_all, one_front, one_split}
+use Rattle.camp_seq.proofs.ListResults.{one_front, one_split}
 use Rattle.camp_ctx.specs.Adding.{Adds, AddsAll, PassesBy, PassesByAll}
-use Rattle.camp_ctx.specs.Contexts.{InContext, Contexts, EachMember, bare, only, patch_key, context_key}
+use Rattle.camp_ctx.specs.Contexts.{InContext, Contexts, bare, only, patch_key, context_key}
 use Rattle.camp_ctx.proofs.AddResults.{one_add_of_all}
 use Rattle.camp_catch.specs.Commuting.{PlainPastConflictor, ConflictorPastPlain, EffectsPass, labels_undone, TwoConflictorsApart, ConflictDissolves, PlainLeavesTheSet, OnlyConflictGoes, OneOfSeveralConflicts, CommutePlainConflictor, CommuteConflictors}
+use Rattle.camp_catch.specs.Conflictors.{Becomes, against, in_conflict_with, with_conflicts, with_effect, without}
 use Rattle.camp_catch.specs.Inside.Pairs.{JoinsBehindEffects, PlainAndUndone, PlainAndFirstConflict}
-use Rattle.camp_catch.specs.Inside.Seen.{AllPassBefore, PassesBefore, BothBefore, LeavesSet, JoinsInOrder}
+use Rattle.camp_catch.specs.Inside.Seen.{JoinedBefore, LeavesSet, JoinsInOrder}
 use Rattle.camp_catch.specs.declared.catches.Catch.{Catch}
-use Rattle.camp_catch.specs.declared.catches.Catch.TheVariants.{Plain, Conflictor}
+use Rattle.camp_catch.specs.declared.catches.Catch.TheVariants.{Plain}
+use Rattle.camp_catch.specs.declared.catches.Conflictor.{Conflictor}
+use Rattle.camp_catch.proofs.CommuteCases.{its_only, lacks_its_only, not_none, only_is_one}
+use Rattle.camp_catch.proofs.Determined.{leads_nowhere}
+use Rattle.camp_catch.proofs.PartsDetermined.{LacksKey, comes_before, effects_pass, one_passes, same_only}
 use Rattle.camp_catch.proofs.ValueSteps.{is_alone}
-use Rattle.camp_catch.proofs.CommuteResults.{not_none, get_only, only_has, only_is_one, one_pass_of_effects}
 
 -- two catches are never the result
 abbrev pub NoResult : (Catch → Catch → Type 0) → Type 0
@@ -41,21 +41,6 @@ pub found_second : (One Other : Catch → Catch → Type 0) → NoResult One →
 found_second One Other never None none = λ pair w. elim w [ inl v ↦ never pair v | inr v ↦ none pair v ]
 found_second One Other never (Some pair) w = inr w
 
--- a set that lacks a label is not that of one member with it
-lacks_its_only : (ys : Contexts) (x : InContext) (key : Key) → get ys key ≡ None → ys ≡ only x → context_key x ≡ key → ⊥
-lacks_its_only ys x key lacks alone named = not_none x (get ys key) (only_has ys x key alone named) lacks
-
-at_its_label : (x y : InContext) (same : Bool) → Some x ≡ cond same (Some y) None → x ≡ y
-at_its_label x y true e = same_Some x y e
-at_its_label x y false e = absurd (none-some x (sym e))
-
--- sets of one have one member each
-same_only : (x y : InContext) → only x ≡ only y → x ≡ y
-same_only x y e =
-    let key = context_key x in
-    let none : Contexts = empty in
-    at_its_label x y _ (sym (get_only x) ∙ ap (λ m. get m key) e ∙ get-insert key_total none (context_key y) y key ∙ ap (cond (eq_by_cmp key_cmp key (context_key y)) (Some y)) (get-empty key_cmp key))
-
 -- a set with a member, and not with one alone, has several
 pub has_several : (ys : Contexts) (key : Key) (z : InContext) → get ys key ≡ Some z → ¬ (len ys ≡ 1) → 2 ≤ len ys
 has_several ys key z member not_one =
@@ -63,95 +48,53 @@ has_several ys key z member not_one =
     omega arith
 
 -- which case a plain catch before a conflictor is
-module _ (a : Named) (s : List Named) (ys : Contexts) (l : InContext) where
-  abbrev Passing : Catch → Catch → Type 0
-  Passing = PlainPastConflictor a s ys l
+module _ (a : Named) (k : Conflictor) where
+  pub plain_passes : get k.conflicts (patch_key a) ≡ None → (found : Option (Catch × Catch)) → FindsPair (PlainPastConflictor a k) found → FindsPair (CommutePlainConflictor a k) found
+  plain_passes lacks =
+      found_first (PlainPastConflictor a k) (λ k' j'. ConflictDissolves a k k' j' ⊎ PlainLeavesTheSet a k k' j') (λ pair v. elim v [
+        | inl d ↦ lacks_its_only k.conflicts (bare a) (patch_key a) lacks (its_only a k d.q d.is) refl
+        | inr d ↦ not_none d.z (get k.conflicts (patch_key a)) d.member lacks
+      ])
 
-  abbrev Dissolving : Catch → Catch → Type 0
-  Dissolving = ConflictDissolves a s ys l
+  module _ (z : InContext) (member : get k.conflicts (patch_key a) ≡ Some z) (found : Option (Catch × Catch)) where
+    in_the_set : FindsPair (λ k' j'. ConflictDissolves a k k' j' ⊎ PlainLeavesTheSet a k k' j') found → FindsPair (CommutePlainConflictor a k) found
+    in_the_set =
+        found_second (PlainPastConflictor a k) (λ k' j'. ConflictDissolves a k k' j' ⊎ PlainLeavesTheSet a k k' j') (λ pair v. not_none z (get k.conflicts (patch_key a)) member v.apart) found
 
-  abbrev Leaving : Catch → Catch → Type 0
-  Leaving = PlainLeavesTheSet a s ys l
+    pub plain_dissolves : len k.conflicts ≡ 1 → FindsPair (ConflictDissolves a k) found → FindsPair (CommutePlainConflictor a k) found
+    plain_dissolves one w =
+        in_the_set (found_first (ConflictDissolves a k) (PlainLeavesTheSet a k) (λ pair v. let several = v.several in omega arith) found w)
 
-  pub plain_passes : get ys (patch_key a) ≡ None → (found : Option (Catch × Catch)) → FindsPair Passing found → FindsPair (CommutePlainConflictor a s ys l) found
-  plain_passes lacks found w =
-      found_first Passing (λ k' j'. Dissolving k' j' ⊎ Leaving k' j') (λ pair v. elim v [
-        | inl d ↦ lacks_its_only ys (bare a) (patch_key a) lacks d.alone refl
-        | inr d ↦ not_none d.z (get ys (patch_key a)) d.member lacks
-      ]) found w
-
-  never_passes : (z : InContext) → get ys (patch_key a) ≡ Some z → NoResult Passing
-  never_passes z member pair v = not_none z (get ys (patch_key a)) member v.apart
-
-  pub plain_dissolves : (z : InContext) → get ys (patch_key a) ≡ Some z → len ys ≡ 1 → (found : Option (Catch × Catch)) → FindsPair Dissolving found → FindsPair (CommutePlainConflictor a s ys l) found
-  plain_dissolves z member one found w =
-      found_second Passing (λ k' j'. Dissolving k' j' ⊎ Leaving k' j') (never_passes z member) found (found_first Dissolving Leaving (λ pair v. let several = v.several in omega arith) found w)
-
-  pub plain_leaves : (z : InContext) → get ys (patch_key a) ≡ Some z → 2 ≤ len ys → (found : Option (Catch × Catch)) → FindsPair Leaving found → FindsPair (CommutePlainConflictor a s ys l) found
-  plain_leaves z member several found w =
-      found_second Passing (λ k' j'. Dissolving k' j' ⊎ Leaving k' j') (never_passes z member) found (found_second Dissolving Leaving (λ pair v. only_is_one ys (bare a) v.alone several) found w)
+    pub plain_leaves : 2 ≤ len k.conflicts → FindsPair (PlainLeavesTheSet a k) found → FindsPair (CommutePlainConflictor a k) found
+    plain_leaves several w =
+        in_the_set (found_second (ConflictDissolves a k) (PlainLeavesTheSet a k) (λ pair v. only_is_one k.conflicts (bare a) (its_only a k v.q v.is) several) found w)
 
 -- which case a conflictor before a conflictor is
-module _ (r : List Named) (xs : Contexts) (i : InContext) (s : List Named) (ys : Contexts) (l : InContext) where
-  abbrev Apart : Catch → Catch → Type 0
-  Apart = TwoConflictorsApart r xs i s ys l
+module _ (j k : Conflictor) where
+  pub are_apart : get k.conflicts (context_key j.identity) ≡ None → (found : Option (Catch × Catch)) → FindsPair (TwoConflictorsApart j k) found → FindsPair (CommuteConflictors j k) found
+  are_apart lacks =
+      found_first (TwoConflictorsApart j k) (λ k' j'. OnlyConflictGoes j k k' j' ⊎ OneOfSeveralConflicts j k k' j') (λ pair v. elim v [
+        | inl d ↦ lacks_its_only k.conflicts d.x (context_key j.identity) lacks d.alone d.named
+        | inr d ↦ not_none d.z (get k.conflicts (context_key j.identity)) d.member lacks
+      ])
 
-  abbrev Only : Catch → Catch → Type 0
-  Only = OnlyConflictGoes r xs i s ys l
+  module _ (z : InContext) (member : get k.conflicts (context_key j.identity) ≡ Some z) (found : Option (Catch × Catch)) where
+    has_conflict : FindsPair (λ k' j'. OnlyConflictGoes j k k' j' ⊎ OneOfSeveralConflicts j k k' j') found → FindsPair (CommuteConflictors j k) found
+    has_conflict =
+        found_second (TwoConflictorsApart j k) (λ k' j'. OnlyConflictGoes j k k' j' ⊎ OneOfSeveralConflicts j k k' j') (λ pair v. not_none z (get k.conflicts (context_key j.identity)) member v.apart) found
 
-  abbrev Several : Catch → Catch → Type 0
-  Several = OneOfSeveralConflicts r xs i s ys l
+    pub only_goes : len k.conflicts ≡ 1 → FindsPair (OnlyConflictGoes j k) found → FindsPair (CommuteConflictors j k) found
+    only_goes one w =
+        has_conflict (found_first (OnlyConflictGoes j k) (OneOfSeveralConflicts j k) (λ pair v. let several = v.several in omega arith) found w)
 
-  pub are_apart : get ys (context_key i) ≡ None → (found : Option (Catch × Catch)) → FindsPair Apart found → FindsPair (CommuteConflictors r xs i s ys l) found
-  are_apart lacks found w =
-      found_first Apart (λ k' j'. Only k' j' ⊎ Several k' j') (λ pair v. elim v [
-        | inl d ↦ lacks_its_only ys d.x (context_key i) lacks d.alone d.named
-        | inr d ↦ not_none d.z (get ys (context_key i)) d.member lacks
-      ]) found w
+    pub one_of_several : 2 ≤ len k.conflicts → FindsPair (OneOfSeveralConflicts j k) found → FindsPair (CommuteConflictors j k) found
+    one_of_several several w =
+        has_conflict (found_second (OnlyConflictGoes j k) (OneOfSeveralConflicts j k) (λ pair v. only_is_one k.conflicts v.x v.alone several) found w)
 
-  never_apart : (z : InContext) → get ys (context_key i) ≡ Some z → NoResult Apart
-  never_apart z member pair v = not_none z (get ys (context_key i)) member v.apart
-
-  pub only_goes : (z : InContext) → get ys (context_key i) ≡ Some z → len ys ≡ 1 → (found : Option (Catch × Catch)) → FindsPair Only found → FindsPair (CommuteConflictors r xs i s ys l) found
-  only_goes z member one found w =
-      found_second Apart (λ k' j'. Only k' j' ⊎ Several k' j') (never_apart z member) found (found_first Only Several (λ pair v. let several = v.several in omega arith) found w)
-
-  pub one_of_several : (z : InContext) → get ys (context_key i) ≡ Some z → 2 ≤ len ys → (found : Option (Catch × Catch)) → FindsPair Several found → FindsPair (CommuteConflictors r xs i s ys l) found
-  one_of_several z member several found w =
-      found_second Apart (λ k' j'. Only k' j' ⊎ Several k' j') (never_apart z member) found (found_second Only Several (λ pair v. only_is_one ys v.x v.alone several) found w)
-
--- a plain catch that passed the effect of a conflictor
-module _ (a : Named) (s : List Named) (ys : Contexts) (l : InContext) (passed : List Named) (a' : Named) (past : Passes a s passed a') where
-  pub no_identity : ((k : Catch) → ¬ (PassesBefore a' passed ys l k)) → NoResult (PlainPastConflictor a s ys l)
-  no_identity never pair w =
-      let same = one_pass a s w.passed passed w.a' a' w.passes past in
-      never pair.0 (
-        w.l',
-        subst (λ b. PassesBy b l w.l') same.1 w.identity,
-        record {
-          s' = w.s';
-          effect = subst (λ t. Norm t w.s') same.0 w.effect;
-          xs' = w.ys';
-          conflicts = subst (λ b. EachMember (Adds b) ys w.ys') same.1 w.conflicts;
-          is = w.second;
-        },
-      )
-
-  pub plain_past_from : get ys (patch_key a) ≡ None → (k' : Catch) → PassesBefore a' passed ys l k' → PlainPastConflictor a s ys l k' (Plain a')
-  plain_past_from lacks k' (l', identity, made) = record {
-    apart = lacks;
-    passed = passed;
-    a' = a';
-    passes = past;
-    s' = made.s';
-    effect = made.effect;
-    ys' = made.xs';
-    conflicts = made.conflicts;
-    l' = l';
-    identity = identity;
-    second = made.is;
-    first = refl;
-  }
+-- a plain catch that passed the effect of a conflictor, whose identity it does not pass
+pub no_identity : (a : Named) (k : Conflictor) (passed : List Named) (a' : Named) → Passes a k.effect passed a' → ((moved : Conflictor) → ¬ (Becomes (Norm passed) (Adds a') (PassesBy a') k moved)) → NoResult (PlainPastConflictor a k)
+no_identity a k passed a' past never pair w =
+    leads_nowhere (λ (p : List Named × Named). Becomes (Norm p.0) (Adds p.1) (PassesBy p.1) k) (one_passes a k.effect) (passed, a') past never (w.passed, w.a') w.passes w.moved w.becomes
 
 -- what a primitive comes before is as long as it was
 length-passes_all : (r s s' r' : List Named) → PassesAll r s s' r' → length s' ≡ length s
@@ -171,150 +114,60 @@ module _ (r : List Named) (b : Named) (single : List Named) (is : single ≡ b �
       let one : before ≡ copy ∷ [] = is_alone before first (comes_as_one before left w) ∙ ap (λ p. p ∷ []) (ap (λ x. slice_index_or x 0 first) (sym here) ∙ sym at ∙ sym made) in
       subst (λ t. PassesAll r (b ∷ []) t left) one (subst (λ t. PassesAll r t before left) is w)
 
--- a primitive that came before the effect of a conflictor
-module _ (r : List Named) (xs : Contexts) (i : InContext) (b b' : Named) (left : List Named) (passes : PassesAll r (b ∷ []) (b' ∷ []) left) where
-  pub identity_not_past : ((k : Catch) → ¬ (PassesBefore (inverse_of b) left xs i k)) → NoResult (ConflictorPastPlain r xs i b)
-  identity_not_past never pair w =
-      let same = one_pass_of_all r (b ∷ []) (w.b' ∷ []) (b' ∷ []) w.left left w.passes passes in
-      never pair.1 (
-        w.i',
-        w.identity,
-        record {
-          s' = w.r';
-          effect = subst (λ t. Norm t w.r') same.1 w.effect;
-          xs' = w.xs';
-          conflicts = w.conflicts;
-          is = w.first;
-        },
-      )
+-- a primitive that came before the effect of a conflictor, whose identity its inverse does not pass
+pub identity_not_past : (j : Conflictor) (b b' : Named) (left : List Named) → PassesAll j.effect (b ∷ []) (b' ∷ []) left → ((moved : Conflictor) → ¬ (Becomes (Norm left) (Adds (inverse_of b)) (PassesBy (inverse_of b)) j moved)) → NoResult (ConflictorPastPlain j b)
+identity_not_past j b b' left passes never pair w =
+    leads_nowhere (λ (p : Named × List Named). Becomes (Norm p.1) (Adds (inverse_of b)) (PassesBy (inverse_of b)) j) (comes_before j.effect b) (b', left) passes never (w.b', w.left) w.passes w.moved w.becomes
 
-  pub conflictor_past_from : (j' : Catch) → PassesBefore (inverse_of b) left xs i j' → ConflictorPastPlain r xs i b (Plain b') j'
-  conflictor_past_from j' (i', identity, made) = record {
-    b' = b';
-    left = left;
-    passes = passes;
-    r' = made.s';
-    effect = made.effect;
-    xs' = made.xs';
-    conflicts = made.conflicts;
-    i' = i';
-    identity = identity;
-    second = refl;
-    first = made.is;
-  }
+-- what is left of an effect does not pass another
+pub no_passing : (r s : List Named) (ys : Contexts) (common rr : List Named) → Splits (labels_undone r ys) r common rr → ((pair : List Named × List Named) → ¬ (PassesAll rr s pair.0 pair.1)) → (pair : List Named × List Named) → ¬ (EffectsPass r s ys pair.0 pair.1)
+no_passing r s ys common rr parted never pair w =
+    let same = one_split (labels_undone r ys) r w.common w.rr common rr w.split parted in
+    never (w.passed, w.left) (subst (λ x. PassesAll x s w.passed w.left) same.1 w.passes)
 
--- two effects that change places
-module _ (r s : List Named) (ys : Contexts) where
-  pub no_parts : ((pair : List Named × List Named) → ¬ (Splits (labels_undone r ys) r pair.0 pair.1)) → (pair : List Named × List Named) → ¬ (EffectsPass r s ys pair.0 pair.1)
-  no_parts never pair w = never (w.common, w.rr) w.split
+-- the identity of the first stands in the context of the second, or it does not
+module _ (j k : Conflictor) (key : Key) (context : List Named) (is : key ≡ context_key j.identity) (same : context ≡ k.identity.context) where
+  pub is_unseen : LacksKey key context → LacksKey (context_key j.identity) k.identity.context
+  is_unseen lacks = subst (LacksKey (context_key j.identity)) same (subst (λ x. LacksKey x context) is lacks)
 
-  module _ (common rr : List Named) (parted : Splits (labels_undone r ys) r common rr) where
-    pub no_passing : ((pair : List Named × List Named) → ¬ (PassesAll rr s pair.0 pair.1)) → (pair : List Named × List Named) → ¬ (EffectsPass r s ys pair.0 pair.1)
-    no_passing never pair w =
-        let same = one_split (labels_undone r ys) r w.common w.rr common rr w.split parted in
-        never (w.passed, w.left) (subst (λ x. PassesAll x s w.passed w.left) same.1 w.passes)
-
-    pub effects_from : (passed left effect rr' : List Named) → PassesAll rr s passed left → JoinsInOrder common passed effect → Norm left rr' → EffectsPass r s ys effect rr'
-    effects_from passed left effect rr' passes joins first = record {
-      common = common;
-      rr = rr;
-      split = parted;
-      passed = passed;
-      left = left;
-      passes = passes;
-      s' = joins.0;
-      second = joins.1;
-      first = first;
-      joined = joins.2;
-    }
-
--- no element of a list has this label
-abbrev pub LacksKey : Key → List Named → Type 0
-LacksKey key s = All (λ p. patch_key p ≢ key) s
-
--- the identity of the first stands in the context of the second
-pub is_seen : (r : List Named) (xs : Contexts) (i : InContext) (s : List Named) (ys : Contexts) (l : InContext) (key : Key) (context : List Named) → key ≡ context_key i → context ≡ l.context → ¬ (LacksKey key context) → NoResult (TwoConflictorsApart r xs i s ys l)
-is_seen r xs i s ys l key context is same among pair w =
-    among (subst (LacksKey key) (sym same) (subst (λ k. LacksKey k l.context) (sym is) w.unseen))
-
-pub is_unseen : (i l : InContext) (key : Key) (context : List Named) → key ≡ context_key i → context ≡ l.context → LacksKey key context → LacksKey (context_key i) l.context
-is_unseen i l key context is same lacks = subst (LacksKey (context_key i)) same (subst (λ k. LacksKey k context) is lacks)
+  pub is_seen : ¬ (LacksKey key context) → NoResult (TwoConflictorsApart j k)
+  is_seen among pair w =
+      among (subst (LacksKey key) (sym same) (subst (λ x. LacksKey x k.identity.context) (sym is) w.unseen))
 
 -- two conflictors apart, whose effects changed places
-module _ (r : List Named) (xs : Contexts) (i : InContext) (s : List Named) (ys : Contexts) (l : InContext) (effect rr' : List Named) (pass : EffectsPass r s ys effect rr') where
-  pub identity_stays : ((k : Catch) → ¬ (AllPassBefore rr' effect ys l k)) → NoResult (TwoConflictorsApart r xs i s ys l)
-  identity_stays never pair w =
-      let same = one_pass_of_effects r s ys w.effect w.rr' effect rr' w.effects pass in
-      never (Conflictor effect w.ys' w.l') (record {
-        xs' = w.ys';
-        conflicts = subst (λ x. EachMember (AddsAll x) ys w.ys') same.1 w.conflicts;
-        i' = w.l';
-        identity = subst (λ x. PassesByAll x l w.l') same.1 w.identity;
-        is = refl;
-      })
-
-  pub apart_from : get ys (context_key i) ≡ None → LacksKey (context_key i) l.context → (k' j' : Catch) → AllPassBefore rr' effect ys l k' → BothBefore (inverse_all s) rr' xs i j' → TwoConflictorsApart r xs i s ys l k' j'
-  apart_from lacks unseen k' j' made own = record {
-    apart = lacks;
-    unseen = unseen;
-    effect = effect;
-    rr' = rr';
-    effects = pass;
-    ys' = made.xs';
-    conflicts = made.conflicts;
-    l' = made.i';
-    identity = made.identity;
-    xs' = own.xs';
-    own_conflicts = own.conflicts;
-    i' = own.i';
-    own_identity = own.identity;
-    second = made.is;
-    first = own.is;
-  }
+pub identity_stays : (j k : Conflictor) (effect rr' : List Named) → EffectsPass j.effect k.effect k.conflicts effect rr' → ((moved : Conflictor) → ¬ (Becomes (λ s. s ≡ effect) (AddsAll rr') (PassesByAll rr') k moved)) → NoResult (TwoConflictorsApart j k)
+identity_stays j k effect rr' pass never pair w =
+    leads_nowhere (λ (e : List Named × List Named). Becomes (λ s. s ≡ e.0) (AddsAll e.1) (PassesByAll e.1) k) (effects_pass j.effect k.effect k.conflicts) (effect, rr') pass never (w.effect, w.rr') w.effects w.moved w.becomes
 
 -- one of several conflicts, where the others are what is left of the set
-module _ (r : List Named) (xs : Contexts) (i : InContext) (s : List Named) (ys : Contexts) (l : InContext) (others : Contexts) (left : others ≡ remove ys (context_key i)) where
-  pub several_from : (z : InContext) → get ys (context_key i) ≡ Some z → 2 ≤ len ys → (found : Option (Catch × Catch)) → FindsPair (JoinsBehindEffects r xs i s others l) found → FindsPair (OneOfSeveralConflicts r xs i s ys l) found
+module _ (j k : Conflictor) (others : Contexts) (left : others ≡ remove k.conflicts (context_key j.identity)) where
+  pub several_from : (z : InContext) → get k.conflicts (context_key j.identity) ≡ Some z → 2 ≤ len k.conflicts → (found : Option (Catch × Catch)) → FindsPair (JoinsBehindEffects j k others) found → FindsPair (OneOfSeveralConflicts j k) found
   several_from z member several None never = λ pair w.
       never pair (record {
         effect = w.effect;
         rr' = w.rr';
-        effects = subst (λ x. EffectsPass r s x w.effect w.rr') (sym left) w.effects;
-        second = record {
-          xs' = w.zs';
-          conflicts = subst (λ x. EachMember (AddsAll w.rr') x w.zs') (sym left) w.conflicts;
-          i' = w.l';
-          identity = w.identity;
-          is = w.second;
-        };
-        first = record {
-          xs' = w.xs';
-          conflicts = w.own_conflicts;
-          i' = w.i';
-          identity = w.own_identity;
-          is = w.first;
-        };
+        effects = subst (λ x. EffectsPass j.effect k.effect x w.effect w.rr') (sym left) w.effects;
+        moved = w.moved;
+        becomes = subst (λ x. Becomes (λ s. s ≡ w.effect) (AddsAll w.rr') (AddsAll w.rr') (with_conflicts x k) w.moved) (sym left) w.becomes;
+        own = _;
+        joined = record { moved = w.own; becomes = w.own_becomes; is = refl };
+        second = w.second;
+        first = w.first;
       })
-  several_from z member several (Some (k', j')) made =
-      let second = subst (λ x. BothBefore made.rr' made.effect x l k') left made.second in
-      record {
-        z = z;
-        member = member;
-        several = several;
-        effect = made.effect;
-        rr' = made.rr';
-        effects = subst (λ x. EffectsPass r s x made.effect made.rr') left made.effects;
-        zs' = second.xs';
-        conflicts = second.conflicts;
-        l' = second.i';
-        identity = second.identity;
-        xs' = made.first.xs';
-        own_conflicts = made.first.conflicts;
-        i' = made.first.i';
-        own_identity = made.first.identity;
-        second = second.is;
-        first = made.first.is;
-      }
+  several_from z member several (Some pair) made = record {
+    z = z;
+    member = member;
+    several = several;
+    effect = made.effect;
+    rr' = made.rr';
+    effects = subst (λ x. EffectsPass j.effect k.effect x made.effect made.rr') left made.effects;
+    moved = made.moved;
+    becomes = subst (λ x. Becomes (λ s. s ≡ made.effect) (AddsAll made.rr') (AddsAll made.rr') (with_conflicts x k) made.moved) left made.becomes;
+    own = made.joined.moved;
+    own_becomes = made.joined.becomes;
+    second = made.second;
+    first = made.first ∙ ap Catch.Conflictor made.joined.is;
+  }
 
 -- what comes to the front of an effect
 module _ (a : Named) (s : List Named) (label : Label) (labelled : label ≡ label_of (inverse_of a)) where
@@ -334,49 +187,40 @@ module _ (a : Named) (s : List Named) (label : Label) (labelled : label ≡ labe
         subst (λ y. Fronts (label_of (inverse_of a)) s y left) it (subst (λ x. Fronts x s first left) labelled comes)
 
 -- a plain catch that leaves the set of a conflictor
-module _ (a : Named) (s : List Named) (ys : Contexts) (l : InContext) where
-  pub stays_in_the_set : ((rest : List Named) → ¬ (Fronts (label_of (inverse_of a)) s (inverse_of a) rest)) → NoResult (PlainLeavesTheSet a s ys l)
-  stays_in_the_set never pair w = never w.rest w.front
-
-  pub leaves_from : (z : InContext) → get ys (patch_key a) ≡ Some z → context_key z ≡ patch_key a → 2 ≤ len ys → (rest : List Named) (key : Key) (k' j' : Catch) → Fronts (label_of (inverse_of a)) s (inverse_of a) rest → key ≡ patch_key a → LeavesSet key rest ys l k' → j' ≡ Conflictor [] (only l) z → PlainLeavesTheSet a s ys l k' j'
-  leaves_from z member named several rest key k' j' front is made beside =
-      let left = subst (λ q. LeavesSet q rest ys l k') is made in
-      record {
-        z = z;
-        member = member;
-        named = named;
-        several = several;
-        rest = rest;
-        front = front;
-        s' = left.s';
-        effect = left.effect;
-        second = left.is;
-        first = beside;
-      }
+pub leaves_from : (a : Named) (k : Conflictor) (z : InContext) → get k.conflicts (patch_key a) ≡ Some z → context_key z ≡ patch_key a → 2 ≤ len k.conflicts → (rest : List Named) (key : Key) (left beside : Conflictor) → Fronts (label_of (inverse_of a)) k.effect (inverse_of a) rest → key ≡ patch_key a → LeavesSet key rest k left → beside ≡ in_conflict_with k.identity z → PlainLeavesTheSet a k (Catch.Conflictor left) (Catch.Conflictor beside)
+leaves_from a k z member named several rest key left beside front is made alone = record {
+  z = z;
+  member = member;
+  named = named;
+  several = several;
+  rest = rest;
+  front = front;
+  s' = made.s';
+  effect = made.effect;
+  second = ap Catch.Conflictor (made.is ∙ ap (λ q. with_effect made.s' (without q k)) is);
+  first = ap Catch.Conflictor alone;
+}
 
 -- the conflict dissolves
-module _ (a : Named) (s : List Named) (ys : Contexts) (l : InContext) where
-  pub not_alone : ((x : InContext) → ¬ (ys ≡ only x)) → NoResult (ConflictDissolves a s ys l)
-  not_alone never pair w = never (bare a) w.alone
+module _ (a : Named) (k : Conflictor) where
+  pub not_alone : ((x : InContext) → ¬ (k.conflicts ≡ only x)) → NoResult (ConflictDissolves a k)
+  not_alone never pair w = never (bare a) (its_only a k w.q w.is)
 
-  pub another_alone : (x : InContext) → ys ≡ only x → ¬ (x ≡ bare a) → NoResult (ConflictDissolves a s ys l)
-  another_alone x alone other pair w = other (same_only x (bare a) (sym alone ∙ w.alone))
+  pub another_alone : (x : InContext) → k.conflicts ≡ only x → ¬ (x ≡ bare a) → NoResult (ConflictDissolves a k)
+  another_alone x alone other pair w = other (same_only k.conflicts x (bare a) alone (its_only a k w.q w.is))
 
-  pub has_context : ¬ (l ≡ bare l.patch) → NoResult (ConflictDissolves a s ys l)
-  has_context other pair w = other (w.is ∙ ap (λ (y : InContext). bare y.patch) (sym w.is))
+  pub has_context : ¬ (k.identity ≡ bare k.identity.patch) → NoResult (ConflictDissolves a k)
+  has_context other pair w =
+      let is = ap (λ (c : Conflictor). c.identity) w.is in
+      other (is ∙ ap (λ (y : InContext). bare y.patch) (sym is))
 
-  pub does_more : ¬ (s ≡ inverse_of a ∷ []) → NoResult (ConflictDissolves a s ys l)
-  does_more other pair w = other w.undoes
+  pub does_more : ¬ (k.effect ≡ inverse_of a ∷ []) → NoResult (ConflictDissolves a k)
+  does_more other pair w = other (ap (λ (c : Conflictor). c.effect) w.is)
 
-  pub dissolves_from : (x : InContext) (k' j' : Catch) → ys ≡ only x → x ≡ bare a → l ≡ bare l.patch → s ≡ inverse_of a ∷ [] → PlainAndFirstConflict l x k' j' → ConflictDissolves a s ys l k' j'
-  dissolves_from x k' j' alone is no_context undoes (patch, made) = record {
-    q = l.patch;
-    undoes = undoes;
-    alone = alone ∙ ap only is;
-    is = no_context;
-    second = patch;
-    first = made ∙ (λ t. Conflictor (inverse_of l.patch ∷ []) (only (no_context t)) (is t));
-  }
+  pub dissolves_from : (x : InContext) (q : Named) (k' j' : Catch) → k.conflicts ≡ only x → x ≡ bare a → k.identity ≡ bare k.identity.patch → k.effect ≡ inverse_of a ∷ [] → q ≡ k.identity.patch → PlainAndFirstConflict a q k' j' → ConflictDissolves a k k' j'
+  dissolves_from x q k' j' alone is no_context undoes patch (plain, made) =
+      let identity = no_context ∙ ap bare (sym patch) in
+      record { q = q; is = λ t. record { effect = undoes t; conflicts = (alone ∙ ap only is) t; identity = identity t }; second = plain; first = made }
 
 -- a list whose length tests as 0
 pub is_nothing : (s items : List Named) (test : Bool) → test ≡ (length items == 0) → test ≡ true → items ≡ s → s ≡ []
@@ -386,33 +230,27 @@ is_nothing s (p ∷ items) test is counts same =
     absurd (omega arith)
 
 -- the only conflict goes
-module _ (r : List Named) (xs : Contexts) (i : InContext) (s : List Named) (ys : Contexts) (l : InContext) where
-  pub not_the_only : ((x : InContext) → ¬ (ys ≡ only x)) → NoResult (OnlyConflictGoes r xs i s ys l)
-  not_the_only never pair w = never w.x w.alone
+module _ (j k : Conflictor) where
+  pub another_goes : (x : InContext) → k.conflicts ≡ only x → ¬ (context_key x ≡ context_key j.identity) → NoResult (OnlyConflictGoes j k)
+  another_goes x alone other pair w = other (ap context_key (same_only k.conflicts x w.x alone w.alone) ∙ w.named)
 
-  pub another_goes : (x : InContext) → ys ≡ only x → ¬ (context_key x ≡ context_key i) → NoResult (OnlyConflictGoes r xs i s ys l)
-  another_goes x alone other pair w = other (ap context_key (same_only x w.x (sym alone ∙ w.alone)) ∙ w.named)
-
-  pub has_effect : ¬ (s ≡ []) → NoResult (OnlyConflictGoes r xs i s ys l)
-  has_effect other pair w = other w.no_effect
-
-  module _ (y : InContext) (adds : AddsAll r l y) where
-    pub stays_in_conflict : ¬ (y ≡ bare y.patch) → NoResult (OnlyConflictGoes r xs i s ys l)
+  module _ (y : InContext) (adds : AddsAll j.effect k.identity y) where
+    pub stays_in_conflict : ¬ (y ≡ bare y.patch) → NoResult (OnlyConflictGoes j k)
     stays_in_conflict other pair w =
-        let same : y ≡ bare w.a = one_add_of_all r l y (bare w.a) adds w.becomes in
+        let same : y ≡ bare w.a = one_add_of_all j.effect k.identity y (bare w.a) adds w.becomes in
         other (same ∙ ap (λ (z : InContext). bare z.patch) (sym same))
 
-    pub only_goes_from : (x : InContext) (a : Named) (k' j' : Catch) → ys ≡ only x → context_key x ≡ context_key i → s ≡ [] → y ≡ bare y.patch → a ≡ y.patch → PlainAndUndone a r xs l i k' j' → OnlyConflictGoes r xs i s ys l k' j'
+    pub only_goes_from : (x : InContext) (a : Named) (k' j' : Catch) → k.conflicts ≡ only x → context_key x ≡ context_key j.identity → k.effect ≡ [] → y ≡ bare y.patch → a ≡ y.patch → PlainAndUndone a j k.identity k' j' → OnlyConflictGoes j k k' j'
     only_goes_from x a k' j' alone named no_effect no_context patch (plain, made) =
-        record {
+        let takes = made.1 in record {
           x = x;
           named = named;
           no_effect = no_effect;
           alone = alone;
           a = a;
-          becomes = subst (AddsAll r l) (no_context ∙ ap bare (sym patch)) adds;
-          effect = made.s';
-          joined = made.effect;
+          becomes = subst (AddsAll j.effect k.identity) (no_context ∙ ap bare (sym patch)) adds;
+          effect = takes.s';
+          joined = takes.effect;
           second = plain;
-          first = made.is;
+          first = made.2 ∙ ap Catch.Conflictor takes.is;
         }

@@ -16,10 +16,16 @@ use Rattle.camp_seq.proofs.ListEquivalence.{passed}
 use Rattle.camp_seq.proofs.ListRuns.{joined_runs, cut_run, equivalent_run}
 use Rattle.camp_seq.proofs.MergeGrid.{row_passes}
 use Rattle.camp_ctx.specs.Contexts.{InContext, Contexts, AreValid, Valid, only, with_member, context_key}
+use Rattle.camp_ctx.specs.Adding.{AddsAll}
+use Rattle.camp_ctx.specs.Laws.{KeepsValid}
+use Rattle.camp_ctx.proofs.AddValid.{valid_by_adding_all}
+use Rattle.camp_ctx.proofs.SetChanges.{members_valid}
 use Rattle.camp_prim.proofs.LabelOrder.{key_total}
+use Rattle.camp_catch.specs.Conflictors.{Becomes, joined_by}
 use Rattle.camp_catch.specs.Catches.{Fits, effect_of, IsSeenFrom}
 use Rattle.camp_catch.specs.declared.catches.Catch.{Catch}
-use Rattle.camp_catch.specs.declared.catches.Catch.TheVariants.{Plain, Conflictor}
+use Rattle.camp_catch.specs.declared.catches.Catch.TheVariants.{Plain}
+use Rattle.camp_catch.specs.declared.catches.Conflictor.{Conflictor}
 
 -- two catches that fit, one after the other
 abbrev pub FitBoth : Catch → Catch → Files → Files → Type 0
@@ -32,8 +38,18 @@ fit_both_as j k j' k' old new e f both =
 pub plain_fits : (a : Named) (old new : Files) → AppliesAll (a ∷ []) old new → Fits (Plain a) old new
 plain_fits a old new run = record { effect = run; seen = tt }
 
-pub conflictor_fits : (r : List Named) (xs : Contexts) (i : InContext) (old new : Files) → AppliesAll r old new → AreValid new xs → Valid new i → Fits (Conflictor r xs i) old new
-conflictor_fits r xs i old new run members identity = record { effect = run; seen = (members, identity) }
+pub conflictor_fits : (k : Conflictor) (old new : Files) → AppliesAll k.effect old new → AreValid new k.conflicts → Valid new k.identity → Fits (Catch.Conflictor k) old new
+conflictor_fits k old new run members identity = record { effect = run; seen = (members, identity) }
+
+-- a conflictor that is seen from before a step fits where the other was seen from behind it
+pub becomes_fits : (IsEffect : List Named → Type 0) (Member Identity : InContext → InContext → Type 0) (Step : Files → Files → Type 0) → KeepsValid Member Step → KeepsValid Identity Step → (j k : Conflictor) → Becomes IsEffect Member Identity j k → (old new behind : Files) → AppliesAll k.effect old new → Step new behind → IsSeenFrom behind (Catch.Conflictor j) → Fits (Catch.Conflictor k) old new
+becomes_fits IsEffect Member Identity Step members identity j k w old new behind run step seen =
+    conflictor_fits k old new run (members_valid Member Step members j.conflicts k.conflicts w.conflicts new behind step seen.0) (identity j.identity k.identity w.identity new behind step seen.1)
+
+-- the same of a conflictor with a given effect, where a list was added
+pub added_fits : (r s : List Named) (j k : Conflictor) → Becomes (λ t. t ≡ s) (AddsAll r) (AddsAll r) j k → (old new behind : Files) → AppliesAll s old new → AppliesAll r new behind → IsSeenFrom behind (Catch.Conflictor j) → Fits (Catch.Conflictor k) old new
+added_fits r s j k w old new behind run step seen =
+    becomes_fits (λ t. t ≡ s) (AddsAll r) (AddsAll r) (AppliesAll r) (valid_by_adding_all r) (valid_by_adding_all r) j k w old new behind (subst (λ t. AppliesAll t old new) (sym w.effect) run) step seen
 
 -- equivalent lists lead from the same trees
 pub along : (s t : List Named) → s ~ t → (old new : Files) → AppliesAll s old new → AppliesAll t old new
@@ -95,6 +111,11 @@ joined_valid tree xs l false members valid = inserted_valid tree xs (context_key
 -- a set that a member joins
 pub with_member_valid : (tree : Files) (xs : Contexts) (l : InContext) → AreValid tree xs → Valid tree l → AreValid tree (with_member xs l)
 with_member_valid tree xs l members valid = joined_valid tree xs l (contains_key xs (context_key l)) members valid
+
+-- a conflictor that l joins
+pub joined_fits : (k : Conflictor) (l : InContext) (old new : Files) → Fits (Catch.Conflictor k) old new → Valid new l → Fits (Catch.Conflictor (joined_by l k)) old new
+joined_fits k l old new f valid =
+    conflictor_fits (joined_by l k) old new f.effect (with_member_valid new k.conflicts l f.seen.0 valid) f.seen.1
 
 removed_at : (tree : Files) (x : Option InContext) (same : Bool) → ((v : InContext) → x ≡ Some v → Valid tree v) → (w : InContext) → cond same None x ≡ Some w → Valid tree w
 removed_at tree x true others w e = absurd (never w e)

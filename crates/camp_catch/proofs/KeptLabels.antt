@@ -9,15 +9,16 @@ use Rattle.camp_prim.specs.declared.named.Named.{Named}
 use Rattle.camp_seq.specs.Merging.{MergesOne}
 use Rattle.camp_seq.specs.Passing.{Passes, PassesAll}
 use Rattle.camp_ctx.specs.Adding.{Adds, AddsAll, PassesBy, PassesByAll, FromLast, cancel, commute, keep}
-use Rattle.camp_ctx.specs.Contexts.{InContext, Contexts, patch_key, context_key, bare}
+use Rattle.camp_ctx.specs.Contexts.{InContext, patch_key, context_key, bare}
 use Rattle.camp_catch.specs.Arranging.{ComesBefore, ArrangesBehind, ComesFirst, Align}
 use Rattle.camp_catch.specs.Catches.{catch_key}
 use Rattle.camp_catch.specs.Commuting.{CommuteCatch}
 use Rattle.camp_catch.specs.Laws.{KeepLabels, KeysPart, KeysAlign, keys_of}
-use Rattle.camp_catch.specs.Merging.{MergeCatch, PlainBesideConflictor, PlainJoinsConflictor}
+use Rattle.camp_catch.specs.Merging.{JoinsWhere, MergeCatch, MergePlainConflictor}
 use Rattle.camp_catch.specs.MergingLists.{MergesWithAll, MergeLists}
 use Rattle.camp_catch.specs.declared.catches.Catch.{Catch}
-use Rattle.camp_catch.specs.declared.catches.Catch.TheVariants.{Plain, Conflictor}
+use Rattle.camp_catch.specs.declared.catches.Catch.TheVariants.{Plain}
+use Rattle.camp_catch.specs.declared.catches.Conflictor.{Conflictor}
 
 passed_key : (p : Named) (s s' : List Named) (p' : Named) → Passes p s s' p' → patch_key p' ≡ patch_key p
 passed_key p [] s' p' w = ap patch_key w.1
@@ -69,37 +70,42 @@ KeepKeys j k k' j' = (catch_key k' ≡ catch_key k) × (catch_key j' ≡ catch_k
 pub commuted_keys : (j k k' j' : Catch) → CommuteCatch j k k' j' → KeepKeys j k k' j'
 commuted_keys (Plain a) (Plain b) k' j' w =
     (ap catch_key w.second ∙ ap key_of w.swap.anywhere.second, ap catch_key w.first ∙ ap key_of w.swap.anywhere.first)
-commuted_keys (Plain a) (Conflictor s ys l) k' j' (inl w) =
-    (ap catch_key w.second ∙ passed_context_key w.a' l w.l' w.identity, ap catch_key w.first ∙ passed_key a s w.passed w.a' w.passes)
-commuted_keys (Plain a) (Conflictor s ys l) k' j' (inr (inl w)) =
-    (ap catch_key w.second ∙ ap context_key (sym w.is), ap catch_key w.first)
-commuted_keys (Plain a) (Conflictor s ys l) k' j' (inr (inr w)) =
+commuted_keys (Plain a) (Catch.Conflictor k) k' j' (inl w) =
+    (ap catch_key w.second ∙ passed_context_key w.a' k.identity w.moved.identity w.becomes.identity, ap catch_key w.first ∙ passed_key a k.effect w.passed w.a' w.passes)
+commuted_keys (Plain a) (Catch.Conflictor k) k' j' (inr (inl w)) =
+    (ap catch_key w.second ∙ ap (λ (c : Conflictor). context_key c.identity) (sym w.is), ap catch_key w.first)
+commuted_keys (Plain a) (Catch.Conflictor k) k' j' (inr (inr w)) =
     (ap catch_key w.second, ap catch_key w.first ∙ w.named)
-commuted_keys (Conflictor r xs i) (Plain b) k' j' w =
-    (ap catch_key w.second ∙ passed_by_all_key r b w.b' w.left w.passes, ap catch_key w.first ∙ passed_context_key (inverse_of b) i w.i' w.identity)
-commuted_keys (Conflictor r xs i) (Conflictor s ys l) k' j' (inl w) =
-    (ap catch_key w.second ∙ passed_all_key w.rr' l w.l' w.identity, ap catch_key w.first ∙ added_all_key _ i w.i' w.own_identity)
-commuted_keys (Conflictor r xs i) (Conflictor s ys l) k' j' (inr (inl w)) =
-    (ap catch_key w.second ∙ added_all_key r l (bare w.a) w.becomes, ap catch_key w.first)
-commuted_keys (Conflictor r xs i) (Conflictor s ys l) k' j' (inr (inr w)) =
-    (ap catch_key w.second ∙ added_all_key w.rr' l w.l' w.identity, ap catch_key w.first ∙ added_all_key _ i w.i' w.own_identity)
+commuted_keys (Catch.Conflictor j) (Plain b) k' j' w =
+    (ap catch_key w.second ∙ passed_by_all_key j.effect b w.b' w.left w.passes, ap catch_key w.first ∙ passed_context_key (inverse_of b) j.identity w.moved.identity w.becomes.identity)
+commuted_keys (Catch.Conflictor j) (Catch.Conflictor k) k' j' (inl w) =
+    (ap catch_key w.second ∙ passed_all_key w.rr' k.identity w.moved.identity w.becomes.identity, ap catch_key w.first ∙ added_all_key _ j.identity w.own.identity w.own_becomes.identity)
+commuted_keys (Catch.Conflictor j) (Catch.Conflictor k) k' j' (inr (inl w)) =
+    (ap catch_key w.second ∙ added_all_key j.effect k.identity (bare w.a) w.becomes, ap catch_key w.first)
+commuted_keys (Catch.Conflictor j) (Catch.Conflictor k) k' j' (inr (inr w)) =
+    (ap catch_key w.second ∙ added_all_key w.rr' k.identity w.moved.identity w.becomes.identity, ap catch_key w.first ∙ added_all_key _ j.identity w.own.identity w.own_becomes.identity)
 
-beside_or_joined : (a : Named) (s : List Named) (ys : Contexts) (l : InContext) (k' j' : Catch) → PlainBesideConflictor a s ys l k' j' ⊎ PlainJoinsConflictor a s ys l k' j' → KeepKeys (Plain a) (Conflictor s ys l) k' j'
-beside_or_joined a s ys l k' j' (inl w) =
-    (ap catch_key w.after ∙ added_key _ l w.l' w.identity, ap catch_key w.beside ∙ merged_key a s w.merged w.a' w.merge)
-beside_or_joined a s ys l k' j' (inr w) =
+beside_or_joined : (a : Named) (k : Conflictor) (k' j' : Catch) → MergePlainConflictor a k k' j' → KeepKeys (Plain a) (Catch.Conflictor k) k' j'
+beside_or_joined a k k' j' (inl w) =
+    (ap catch_key w.after ∙ added_key _ k.identity w.moved.identity w.becomes.identity, ap catch_key w.beside ∙ merged_key a k.effect w.merged w.a' w.merge)
+beside_or_joined a k k' j' (inr w) =
     (ap catch_key w.after, ap catch_key w.beside ∙ added_all_key _ (bare a) w.z w.becomes)
+
+-- a conflictor that another joins keeps its own
+joined_key : (Holds : Type 0) (l : InContext) (j k : Conflictor) → JoinsWhere Holds l j k → context_key k.identity ≡ context_key j.identity
+joined_key Holds l j k (inl w) = ap (λ (c : Conflictor). context_key c.identity) w.1
+joined_key Holds l j k (inr w) = ap (λ (c : Conflictor). context_key c.identity) w.1
 
 pub merged_keys : (j k k' j' : Catch) → MergeCatch j k k' j' → KeepKeys j k k' j'
 merged_keys (Plain a) (Plain b) k' j' (inl w) =
     (ap catch_key w.after ∙ ap key_of w.merge.anywhere.second, ap catch_key w.beside ∙ ap key_of w.merge.anywhere.first)
 merged_keys (Plain a) (Plain b) k' j' (inr w) = (ap catch_key w.after, ap catch_key w.beside)
-merged_keys (Plain a) (Conflictor s ys l) k' j' w = beside_or_joined a s ys l k' j' w
-merged_keys (Conflictor r xs i) (Plain b) k' j' w =
-    let both = beside_or_joined b r xs i j' k' w in
+merged_keys (Plain a) (Catch.Conflictor k) k' j' w = beside_or_joined a k k' j' w
+merged_keys (Catch.Conflictor j) (Plain b) k' j' w =
+    let both = beside_or_joined b j j' k' w in
     (both.1, both.0)
-merged_keys (Conflictor r xs i) (Conflictor s ys l) k' j' w =
-    (ap catch_key w.after ∙ added_all_key _ l w.l' w.identity, ap catch_key w.beside ∙ added_all_key _ i w.i' w.own_identity)
+merged_keys (Catch.Conflictor j) (Catch.Conflictor k) k' j' w =
+    (ap catch_key w.after ∙ joined_key _ _ w.moved w.joined w.joins ∙ added_all_key _ k.identity w.moved.identity w.becomes.identity, ap catch_key w.beside ∙ joined_key _ _ w.own w.own_joined w.own_joins ∙ added_all_key _ j.identity w.own.identity w.own_becomes.identity)
 
 before_keys : (list : List Catch) (k k' : Catch) (list' : List Catch) → ComesBefore list k k' list' → (catch_key k' ≡ catch_key k) × (keys_of list' ≡ keys_of list)
 before_keys [] k k' list' w = (ap catch_key w.0, ap keys_of w.1)

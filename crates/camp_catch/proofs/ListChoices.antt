@@ -2,7 +2,7 @@
 use Rattle.std.proofs.Common.{◌≡◌, ◌≢◌, ◌⊎◌, inl, inr, List, [], ◌∷◌, ◌++◌, refl, subst, ℕ}
 use Rattle.camp_prim.specs.declared.labels.Key.{Key}
 use Rattle.camp_prim.proofs.SwapDecided.{Decided}
-use Rattle.camp_seq.proofs.ListsDecided.{TwoOrNone, among_or_not}
+use Rattle.camp_seq.proofs.ListsDecided.{among_or_not}
 use Rattle.camp_ctx.proofs.ContextsDecided.{keys_or_not}
 use Rattle.camp_ctx.proofs.NamedDecided.{bytes_or_not}
 use Rattle.camp_catch.specs.Arranging.{ComesBefore, StopsAt, DoNotCommute, ArrangesBehind, SticksBehind, Arrange, ArrangeSticks, IsOf, ComesFirst, Align, AlignSticks}
@@ -11,8 +11,8 @@ use Rattle.camp_catch.specs.Commuting.{CommuteCatch}
 use Rattle.camp_catch.specs.ListLaws.{HasPair, CommuteIsDecided, MergeIsDecided, CatchesAreDecided, ListsSucceedOrStick}
 use Rattle.camp_catch.specs.MergingLists.{MergesWithAll, SticksWithin, MergeLists, MergeSticks}
 use Rattle.camp_catch.specs.declared.catches.Catch.{Catch}
-use Rattle.camp_catch.proofs.CommuteDecided.{commute_or_not}
-use Rattle.camp_catch.proofs.MergeDecided.{merge_or_not}
+use Rattle.camp_catch.proofs.CommuteCases.{IsDetermined, commuting}
+use Rattle.camp_catch.proofs.MergeCases.{merging}
 use Rattle.camp_catch.proofs.ListResults.{one_first, comes_and_stops, arranges_and_sticks, aligns_and_sticks, merges_and_sticks_within, merges_and_sticks}
 
 is_of_or_not : (names : List (List ℕ)) (k : Catch) → Decided (IsOf names k)
@@ -107,14 +107,16 @@ merges_or_sticks decided (k ∷ p) q =
       | inr w ↦ inr (w.0, w.1, inl w.2)
     ]
 
-pair_or_none : {A B : Type 0} {Gives : A → B → Type 0} → TwoOrNone Gives → HasPair Gives ⊎ ((x : A) (y : B) → ¬ (Gives x y))
-pair_or_none (inl w) = inl w
-pair_or_none (inr never) = inr (λ x y w. never (x, y, w))
+pair_or_none : {Case : Catch → Catch → Type 0} → IsDetermined Case → HasPair Case ⊎ ((k' j' : Catch) → ¬ (Case k' j'))
+pair_or_none determined = elim determined.decided [
+  | inl w ↦ inl (w.0.0, w.0.1, w.1)
+  | inr never ↦ inr (λ k' j' w. never ((k', j'), w))
+]
 
 pub are_decided : CatchesAreDecided
 are_decided = record {
-  commute = λ j k. pair_or_none (commute_or_not j k);
-  merge = λ j k. pair_or_none (merge_or_not j k);
+  commute = λ j k. pair_or_none (commuting j k);
+  merge = λ j k. pair_or_none (merging j k);
 }
 
 pub arrange_or_sticks : (names : List (List ℕ)) (list : List Catch) → HasPair (Arrange names list) ⊎ HasPair (ArrangeSticks names list)

@@ -6,8 +6,8 @@ use Rattle.camp_catch.specs.Commuting.{CommuteCatch}
 use Rattle.camp_catch.specs.ListLaws.{AreEqual, ListsAreUnique, ArrangeByMembers}
 use Rattle.camp_catch.specs.MergingLists.{MergesWithAll, SticksWithin, MergeLists, MergeSticks}
 use Rattle.camp_catch.specs.declared.catches.Catch.{Catch}
-use Rattle.camp_catch.proofs.CommuteResults.{one_commuting}
-use Rattle.camp_catch.proofs.MergeResults.{one_merging}
+use Rattle.camp_catch.proofs.CommuteCases.{one_commuting}
+use Rattle.camp_catch.proofs.MergeCases.{one_merging}
 
 pub one_coming : (list : List Catch) (k k' l : Catch) (list' s : List Catch) → ComesBefore list k k' list' → ComesBefore list k l s → AreEqual k' list' l s
 one_coming [] k k' l list' s v w = (v.0 ∙ sym w.0, v.1 ∙ sym w.1)

@@ -3,22 +3,24 @@ use Rattle.std.proofs.Common.{◌≡◌, inl, inr, List, [], ◌∷◌, ◌++◌
 use Rattle.camp_base.specs.Trees.{Files}
 use Rattle.camp_prim.specs.Effect.{Applies, inverse_of}
 use Rattle.camp_prim.specs.declared.named.Named.{Named}
+use Rattle.camp_seq.specs.NormalOrder.{Norm}
 use Rattle.camp_seq.specs.Running.{AppliesAll, inverse_all}
 use Rattle.camp_seq.proofs.ListEquivalence.{ordered, split}
 use Rattle.camp_seq.proofs.ListRuns.{cut_run, runs_back}
 use Rattle.camp_seq.proofs.MergeGrid.{merge_closes, cell_is_symmetric}
 use Rattle.camp_ctx.specs.Adding.{Adds, AddsAll}
 use Rattle.camp_ctx.specs.Conflicts.{MergesBehindCommon, Conflict, common_labels}
-use Rattle.camp_ctx.specs.Contexts.{InContext, Contexts, AreValid, Valid, bare, only, with_member}
+use Rattle.camp_ctx.specs.Contexts.{InContext, Valid, bare}
 use Rattle.camp_ctx.proofs.AddValid.{valid_by_adding, valid_by_adding_all}
-use Rattle.camp_ctx.proofs.SetChanges.{members_valid}
 use Rattle.camp_ctx.proofs.ConflictLaws.{merge_behind_is_symmetric, conflict_is_symmetric}
 use Rattle.camp_catch.specs.Catches.{Fits}
+use Rattle.camp_catch.specs.Conflictors.{against, in_conflict_with, joined_by, with_effect}
 use Rattle.camp_catch.specs.Merging.{Clean, FirstConflict, PlainBesideConflictor, PlainJoinsConflictor, JoinsWhere, TwoConflictors}
 use Rattle.camp_catch.specs.Laws.{MergeKeepsEffects, MergeIsSymmetric}
 use Rattle.camp_catch.specs.declared.catches.Catch.{Catch}
-use Rattle.camp_catch.specs.declared.catches.Catch.TheVariants.{Plain, Conflictor}
-use Rattle.camp_catch.proofs.Fitting.{plain_fits, conflictor_fits, along, one_runs, one_back, row_closes, run_once, only_valid, with_member_valid}
+use Rattle.camp_catch.specs.declared.catches.Catch.TheVariants.{Plain}
+use Rattle.camp_catch.specs.declared.catches.Conflictor.{Conflictor}
+use Rattle.camp_catch.proofs.Fitting.{plain_fits, conflictor_fits, becomes_fits, added_fits, joined_fits, along, one_runs, one_back, row_closes, run_once, only_valid}
 
 -- two catches that fit, each from a tree of its own, and end in one
 abbrev pub FitMeeting : Catch → Catch → Files → Files → Type 0
@@ -28,36 +30,41 @@ meeting_as : (k j k' j' : Catch) (left right : Files) → k' ≡ k → j' ≡ j 
 meeting_as k j k' j' left right e f both =
     subst (λ x. FitMeeting k' x left right) (sym f) (subst (λ x. FitMeeting x j left right) (sym e) both)
 
-clean : (a b : Named) (k' j' : Catch) → Clean a b k' j' → (old left right : Files) → Fits (Plain a) old left → Fits (Plain b) old right → FitMeeting k' j' left right
+-- a case keeps effects
+abbrev ClosesSquares : Catch → Catch → (Catch → Catch → Type 0) → Type 0
+ClosesSquares j k Case =
+    (k' j' : Catch) → Case k' j' → (old left right : Files) → Fits j old left → Fits k old right → FitMeeting k' j' left right
+
+clean : (a b : Named) → ClosesSquares (Plain a) (Plain b) (Clean a b)
 clean a b k' j' w old left right f g =
     let cell = row_closes a (b ∷ []) (w.b' ∷ []) w.a' (w.b', w.a', [], w.merge, (refl, refl), refl) old left right f.effect g.effect in
     meeting_as (Plain w.b') (Plain w.a') k' j' left right w.after w.beside (cell.0, plain_fits w.b' left cell.0 cell.1, plain_fits w.a' right cell.0 cell.2)
 
 -- what undoes one of two patches that conflict leads back to where both began
-undoing_fits : (a b : Named) (old left right : Files) → AppliesAll (a ∷ []) old left → AppliesAll (b ∷ []) old right → Fits (Conflictor (inverse_of a ∷ []) (only (bare a)) (bare b)) left old
+undoing_fits : (a b : Named) (old left right : Files) → AppliesAll (a ∷ []) old left → AppliesAll (b ∷ []) old right → Fits (Catch.Conflictor (against a b)) left old
 undoing_fits a b old left right first second =
-    conflictor_fits (inverse_of a ∷ []) (only (bare a)) (bare b) left old (one_runs (inverse_of a) left old (one_back a old left first)) (only_valid old (bare a) (left, first)) (right, second)
+    conflictor_fits (against a b) left old (one_runs (inverse_of a) left old (one_back a old left first)) (only_valid old (bare a) (left, first)) (right, second)
 
-first_conflict : (a b : Named) (k' j' : Catch) → FirstConflict a b k' j' → (old left right : Files) → Fits (Plain a) old left → Fits (Plain b) old right → FitMeeting k' j' left right
+first_conflict : (a b : Named) → ClosesSquares (Plain a) (Plain b) (FirstConflict a b)
 first_conflict a b k' j' w old left right f g =
-    meeting_as (Conflictor (inverse_of a ∷ []) (only (bare a)) (bare b)) (Conflictor (inverse_of b ∷ []) (only (bare b)) (bare a)) k' j' left right w.after w.beside (old, undoing_fits a b old left right f.effect g.effect, undoing_fits b a old right left g.effect f.effect)
+    meeting_as (Catch.Conflictor (against a b)) (Catch.Conflictor (against b a)) k' j' left right w.after w.beside (old, undoing_fits a b old left right f.effect g.effect, undoing_fits b a old right left g.effect f.effect)
 
-plain_beside_conflictor : (a : Named) (s : List Named) (ys : Contexts) (l : InContext) (k' j' : Catch) → PlainBesideConflictor a s ys l k' j' → (old left right : Files) → Fits (Plain a) old left → Fits (Conflictor s ys l) old right → FitMeeting k' j' left right
-plain_beside_conflictor a s ys l k' j' w old left right f g =
-    let row = row_closes a s w.merged w.a' w.merge old left right f.effect g.effect in
-    let back = one_back w.a' right row.0 row.2 in
-    let effect = along w.merged w.s' (ordered w.merged w.s' w.effect) left row.0 row.1 in
-    let members = members_valid (Adds (inverse_of w.a')) (Applies (inverse_of w.a').prim) (valid_by_adding (inverse_of w.a')) ys w.ys' w.conflicts row.0 right back g.seen.0 in
-    let identity = valid_by_adding (inverse_of w.a') l w.l' w.identity row.0 right back g.seen.1 in
-    meeting_as (Conflictor w.s' w.ys' w.l') (Plain w.a') k' j' left right w.after w.beside (row.0, conflictor_fits w.s' w.ys' w.l' left row.0 effect members identity, plain_fits w.a' right row.0 row.2)
+plain_beside_conflictor : (a : Named) (k : Conflictor) → ClosesSquares (Plain a) (Catch.Conflictor k) (PlainBesideConflictor a k)
+plain_beside_conflictor a k k' j' w old left right f g =
+    let row = row_closes a k.effect w.merged w.a' w.merge old left right f.effect g.effect in
+    let undo = inverse_of w.a' in
+    let effect = along w.merged w.moved.effect (ordered w.merged w.moved.effect w.becomes.effect) left row.0 row.1 in
+    let moved = becomes_fits (Norm w.merged) (Adds undo) (Adds undo) (Applies undo.prim) (valid_by_adding undo) (valid_by_adding undo) k w.moved w.becomes left row.0 right effect (one_back w.a' right row.0 row.2) g.seen in
+    meeting_as (Catch.Conflictor w.moved) (Plain w.a') k' j' left right w.after w.beside (row.0, moved, plain_fits w.a' right row.0 row.2)
 
-plain_joins_conflictor : (a : Named) (s : List Named) (ys : Contexts) (l : InContext) (k' j' : Catch) → PlainJoinsConflictor a s ys l k' j' → (old left right : Files) → Fits (Plain a) old left → Fits (Conflictor s ys l) old right → FitMeeting k' j' left right
-plain_joins_conflictor a s ys l k' j' w old left right f g =
-    let back = runs_back s old right g.effect in
-    let valid : Valid right w.z = valid_by_adding_all (inverse_all s) (bare a) w.z w.becomes right old back (left, f.effect) in
-    let run : AppliesAll (inverse_of a ∷ s) left right = (old, one_back a old left f.effect, g.effect) in
-    let effect = along (inverse_of a ∷ s) w.effect (ordered (inverse_of a ∷ s) w.effect w.joined) left right run in
-    meeting_as (Conflictor w.effect (with_member ys w.z) l) (Conflictor [] (only l) w.z) k' j' left right w.after w.beside (right, conflictor_fits w.effect (with_member ys w.z) l left right effect (with_member_valid right ys w.z g.seen.0 valid) g.seen.1, conflictor_fits [] (only l) w.z right right refl (only_valid right l g.seen.1) valid)
+plain_joins_conflictor : (a : Named) (k : Conflictor) → ClosesSquares (Plain a) (Catch.Conflictor k) (PlainJoinsConflictor a k)
+plain_joins_conflictor a k k' j' w old left right f g =
+    let taken : Conflictor = with_effect w.effect k in
+    let back = runs_back k.effect old right g.effect in
+    let valid : Valid right w.z = valid_by_adding_all (inverse_all k.effect) (bare a) w.z w.becomes right old back (left, f.effect) in
+    let run : AppliesAll (inverse_of a ∷ k.effect) left right = (old, one_back a old left f.effect, g.effect) in
+    let effect = along (inverse_of a ∷ k.effect) w.effect (ordered (inverse_of a ∷ k.effect) w.effect w.joined) left right run in
+    meeting_as (Catch.Conflictor (joined_by w.z taken)) (Catch.Conflictor (in_conflict_with k.identity w.z)) k' j' left right w.after w.beside (right, joined_fits taken w.z left right (conflictor_fits taken left right effect g.seen.0 g.seen.1) valid, conflictor_fits (in_conflict_with k.identity w.z) right right refl (only_valid right k.identity g.seen.1) valid)
 
 -- lists that merge cleanly behind what they have in common close a square of trees
 behind_common_closes : (s t t' s' : List Named) → MergesBehindCommon s t t' s' → (old left right : Files) → AppliesAll s old left → AppliesAll t old right → (new : Files) × AppliesAll t' left new × AppliesAll s' right new
@@ -68,81 +75,72 @@ behind_common_closes s t t' s' w old left right first second =
     let same : other.0 ≡ one.0 = run_once w.common old other.0 one.0 other.1 one.1 in
     merge_closes w.s1 w.t1 t' s' w.merge one.0 left right one.2 (subst (λ tree. AppliesAll w.t1 tree right) same other.2)
 
-joins_valid : (tree : Files) (Holds : Type 0) (l : InContext) (xs ys : Contexts) → JoinsWhere Holds l xs ys → AreValid tree xs → Valid tree l → AreValid tree ys
-joins_valid tree Holds l xs ys (inl w) members valid =
-    subst (AreValid tree) (sym w.1) (with_member_valid tree xs l members valid)
-joins_valid tree Holds l xs ys (inr w) members valid = subst (AreValid tree) (sym w.1) members
+joins_fit : (Holds : Type 0) (l : InContext) (j k : Conflictor) → JoinsWhere Holds l j k → (old new : Files) → Fits (Catch.Conflictor j) old new → Valid new l → Fits (Catch.Conflictor k) old new
+joins_fit Holds l j k (inl w) old new f valid =
+    subst (λ c. Fits (Catch.Conflictor c) old new) (sym w.1) (joined_fits j l old new f valid)
+joins_fit Holds l j k (inr w) old new f valid = subst (λ c. Fits (Catch.Conflictor c) old new) (sym w.1) f
 
-two_conflictors : (r : List Named) (xs : Contexts) (i : InContext) (s : List Named) (ys : Contexts) (l : InContext) (k' j' : Catch) → TwoConflictors r xs i s ys l k' j' → (old left right : Files) → Fits (Conflictor r xs i) old left → Fits (Conflictor s ys l) old right → FitMeeting k' j' left right
-two_conflictors r xs i s ys l k' j' w old left right f g =
-    let square = behind_common_closes r s w.merged w.left w.merge old left right f.effect g.effect in
+two_conflictors : (j k : Conflictor) → ClosesSquares (Catch.Conflictor j) (Catch.Conflictor k) (TwoConflictors j k)
+two_conflictors j k k' j' w old left right f g =
+    let square = behind_common_closes j.effect k.effect w.merged w.left w.merge old left right f.effect g.effect in
     let new = square.0 in
     let effect = along w.merged w.s2 (ordered w.merged w.s2 w.effect) left new square.1 in
     let own_effect = along w.left w.r2 (ordered w.left w.r2 w.own_effect) right new square.2 in
-    let back = runs_back w.r2 right new own_effect in
-    let own_back = runs_back w.s2 left new effect in
-    let identity = valid_by_adding_all (inverse_all w.r2) l w.l' w.identity new right back g.seen.1 in
-    let own_identity = valid_by_adding_all (inverse_all w.s2) i w.i' w.own_identity new left own_back f.seen.1 in
-    let members = members_valid (AddsAll (inverse_all w.r2)) (AppliesAll (inverse_all w.r2)) (valid_by_adding_all (inverse_all w.r2)) ys w.ys' w.conflicts new right back g.seen.0 in
-    let own_members = members_valid (AddsAll (inverse_all w.s2)) (AppliesAll (inverse_all w.s2)) (valid_by_adding_all (inverse_all w.s2)) xs w.xs' w.own_conflicts new left own_back f.seen.0 in
-    meeting_as (Conflictor w.s2 w.after_set w.l') (Conflictor w.r2 w.beside_set w.i') k' j' left right w.after w.beside (new, conflictor_fits w.s2 w.after_set w.l' left new effect (joins_valid new _ w.i' w.ys' w.after_set w.joins members own_identity) identity, conflictor_fits w.r2 w.beside_set w.i' right new own_effect (joins_valid new _ w.l' w.xs' w.beside_set w.own_joins own_members identity) own_identity)
+    let moved = added_fits (inverse_all w.r2) w.s2 k w.moved w.becomes left new right effect (runs_back w.r2 right new own_effect) g.seen in
+    let own = added_fits (inverse_all w.s2) w.r2 j w.own w.own_becomes right new left own_effect (runs_back w.s2 left new effect) f.seen in
+    meeting_as (Catch.Conflictor w.joined) (Catch.Conflictor w.own_joined) k' j' left right w.after w.beside (new, joins_fit _ w.own.identity w.moved w.joined w.joins left new moved own.seen.1, joins_fit _ w.moved.identity w.own w.own_joined w.own_joins right new own moved.seen.1)
 
 -- the mirror image of a square
 mirrored : (k j : Catch) (left right : Files) → FitMeeting k j left right → FitMeeting j k right left
 mirrored k j left right both = (both.0, both.2, both.1)
 
 pub merge_keeps_effects : MergeKeepsEffects
-merge_keeps_effects (Plain a) (Plain b) k' j' (inl w) old left right f g = clean a b k' j' w old left right f g
-merge_keeps_effects (Plain a) (Plain b) k' j' (inr w) old left right f g = first_conflict a b k' j' w old left right f g
-merge_keeps_effects (Plain a) (Conflictor s ys l) k' j' (inl w) old left right f g =
-    plain_beside_conflictor a s ys l k' j' w old left right f g
-merge_keeps_effects (Plain a) (Conflictor s ys l) k' j' (inr w) old left right f g =
-    plain_joins_conflictor a s ys l k' j' w old left right f g
-merge_keeps_effects (Conflictor r xs i) (Plain b) k' j' (inl w) old left right f g =
-    mirrored j' k' right left (plain_beside_conflictor b r xs i j' k' w old right left g f)
-merge_keeps_effects (Conflictor r xs i) (Plain b) k' j' (inr w) old left right f g =
-    mirrored j' k' right left (plain_joins_conflictor b r xs i j' k' w old right left g f)
-merge_keeps_effects (Conflictor r xs i) (Conflictor s ys l) k' j' w old left right f g =
-    two_conflictors r xs i s ys l k' j' w old left right f g
+merge_keeps_effects (Plain a) (Plain b) k' j' (inl w) = clean a b k' j' w
+merge_keeps_effects (Plain a) (Plain b) k' j' (inr w) = first_conflict a b k' j' w
+merge_keeps_effects (Plain a) (Catch.Conflictor k) k' j' (inl w) = plain_beside_conflictor a k k' j' w
+merge_keeps_effects (Plain a) (Catch.Conflictor k) k' j' (inr w) = plain_joins_conflictor a k k' j' w
+merge_keeps_effects (Catch.Conflictor j) (Plain b) k' j' (inl w) = λ old left right f g.
+    mirrored j' k' right left (plain_beside_conflictor b j j' k' w old right left g f)
+merge_keeps_effects (Catch.Conflictor j) (Plain b) k' j' (inr w) = λ old left right f g.
+    mirrored j' k' right left (plain_joins_conflictor b j j' k' w old right left g f)
+merge_keeps_effects (Catch.Conflictor j) (Catch.Conflictor k) k' j' w = two_conflictors j k k' j' w
 
-pub joins_alike : (One Other : Type 0) (l : InContext) (xs ys : Contexts) → (One → Other) → (Other → One) → JoinsWhere One l xs ys → JoinsWhere Other l xs ys
-joins_alike One Other l xs ys to from (inl w) = inl (to w.0, w.1)
-joins_alike One Other l xs ys to from (inr w) = inr ((λ h. w.0 (from h)), w.1)
+pub joins_alike : (One Other : Type 0) (l : InContext) (j k : Conflictor) → (One → Other) → (Other → One) → JoinsWhere One l j k → JoinsWhere Other l j k
+joins_alike One Other l j k to from (inl w) = inl (to w.0, w.1)
+joins_alike One Other l j k to from (inr w) = inr ((λ h. w.0 (from h)), w.1)
 
-two_are_symmetric : (r : List Named) (xs : Contexts) (i : InContext) (s : List Named) (ys : Contexts) (l : InContext) (k' j' : Catch) → TwoConflictors r xs i s ys l k' j' → TwoConflictors s ys l r xs i j' k'
-two_are_symmetric r xs i s ys l k' j' w = record {
-  merged = w.left;
-  left = w.merged;
-  merge = merge_behind_is_symmetric r s w.merged w.left w.merge;
-  s2 = w.r2;
-  r2 = w.s2;
-  effect = w.own_effect;
-  own_effect = w.effect;
-  l' = w.i';
-  i' = w.l';
-  identity = w.own_identity;
-  own_identity = w.identity;
-  ys' = w.xs';
-  xs' = w.ys';
-  conflicts = w.own_conflicts;
-  own_conflicts = w.conflicts;
-  y = w.x;
-  x = w.y;
-  sees = w.own_sees;
-  own_sees = w.sees;
-  after_set = w.beside_set;
-  beside_set = w.after_set;
-  joins = joins_alike (Conflict w.x w.y) (Conflict w.y w.x) w.l' w.xs' w.beside_set (conflict_is_symmetric w.x w.y) (conflict_is_symmetric w.y w.x) w.own_joins;
-  own_joins = joins_alike (Conflict w.x w.y) (Conflict w.y w.x) w.i' w.ys' w.after_set (conflict_is_symmetric w.x w.y) (conflict_is_symmetric w.y w.x) w.joins;
-  after = w.beside;
-  beside = w.after;
-}
+two_are_symmetric : (j k : Conflictor) (k' j' : Catch) → TwoConflictors j k k' j' → TwoConflictors k j j' k'
+two_are_symmetric j k k' j' w =
+    let to = conflict_is_symmetric w.x w.y in
+    let from = conflict_is_symmetric w.y w.x in record {
+      merged = w.left;
+      left = w.merged;
+      merge = merge_behind_is_symmetric j.effect k.effect w.merged w.left w.merge;
+      s2 = w.r2;
+      r2 = w.s2;
+      effect = w.own_effect;
+      own_effect = w.effect;
+      moved = w.own;
+      own = w.moved;
+      becomes = w.own_becomes;
+      own_becomes = w.becomes;
+      y = w.x;
+      x = w.y;
+      sees = w.own_sees;
+      own_sees = w.sees;
+      joined = w.own_joined;
+      own_joined = w.joined;
+      joins = joins_alike (Conflict w.x w.y) (Conflict w.y w.x) w.moved.identity w.own w.own_joined to from w.own_joins;
+      own_joins = joins_alike (Conflict w.x w.y) (Conflict w.y w.x) w.own.identity w.moved w.joined to from w.joins;
+      after = w.beside;
+      beside = w.after;
+    }
 
 pub merging_is_symmetric : MergeIsSymmetric
 merging_is_symmetric (Plain a) (Plain b) k' j' (inl w) =
     inl (record { b' = w.a'; a' = w.b'; merge = cell_is_symmetric a b w.b' w.a' w.merge; after = w.beside; beside = w.after })
 merging_is_symmetric (Plain a) (Plain b) k' j' (inr w) =
     inr (record { conflict = λ b' a' m. w.conflict a' b' (cell_is_symmetric b a b' a' m); after = w.beside; beside = w.after })
-merging_is_symmetric (Plain a) (Conflictor s ys l) k' j' w = w
-merging_is_symmetric (Conflictor r xs i) (Plain b) k' j' w = w
-merging_is_symmetric (Conflictor r xs i) (Conflictor s ys l) k' j' w = two_are_symmetric r xs i s ys l k' j' w
+merging_is_symmetric (Plain a) (Catch.Conflictor k) k' j' w = w
+merging_is_symmetric (Catch.Conflictor j) (Plain b) k' j' w = w
+merging_is_symmetric (Catch.Conflictor j) (Catch.Conflictor k) k' j' w = two_are_symmetric j k k' j' w

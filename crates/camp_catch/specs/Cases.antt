@@ -1,11 +1,10 @@
 -- The cases of commuting exclude one another, and so do those of merging.
-use Rattle.std.specs.Prelude.{List}
 use Rattle.camp_prim.specs.declared.named.Named.{Named}
-use Rattle.camp_ctx.specs.Contexts.{InContext, Contexts}
 use Rattle.camp_catch.specs.Commuting.{PlainPastConflictor, TwoConflictorsApart, ConflictDissolves, PlainLeavesTheSet}
 use Rattle.camp_catch.specs.Commuting.{OnlyConflictGoes, OneOfSeveralConflicts}
 use Rattle.camp_catch.specs.Merging.{Clean, FirstConflict, PlainBesideConflictor, PlainJoinsConflictor}
 use Rattle.camp_catch.specs.declared.catches.Catch.{Catch}
+use Rattle.camp_catch.specs.declared.catches.Conflictor.{Conflictor}
 
 -- where the one case has a result, the other has none
 abbrev pub Exclude : (Catch → Catch → Type 0) → (Catch → Catch → Type 0) → Type 0
@@ -13,18 +12,13 @@ Exclude One Other = (k' j' k j : Catch) → One k' j' → ¬ (Other k j)
 
 -- the same of two cases of a plain catch and a conflictor
 abbrev pub PlainExclude :
-    (Named → List Named → Contexts → InContext → Catch → Catch → Type 0) →
-    (Named → List Named → Contexts → InContext → Catch → Catch → Type 0) → Type 0
-PlainExclude One Other =
-    (a : Named) (s : List Named) (ys : Contexts) (l : InContext) → Exclude (One a s ys l) (Other a s ys l)
+    (Named → Conflictor → Catch → Catch → Type 0) → (Named → Conflictor → Catch → Catch → Type 0) → Type 0
+PlainExclude One Other = (a : Named) (k : Conflictor) → Exclude (One a k) (Other a k)
 
 -- the same of two cases of two conflictors
 abbrev pub ConflictorsExclude :
-    (List Named → Contexts → InContext → List Named → Contexts → InContext → Catch → Catch → Type 0) →
-    (List Named → Contexts → InContext → List Named → Contexts → InContext → Catch → Catch → Type 0) → Type 0
-ConflictorsExclude One Other =
-    (r : List Named) (xs : Contexts) (i : InContext) (s : List Named) (ys : Contexts) (l : InContext) →
-    Exclude (One r xs i s ys l) (Other r xs i s ys l)
+    (Conflictor → Conflictor → Catch → Catch → Type 0) → (Conflictor → Conflictor → Catch → Catch → Type 0) → Type 0
+ConflictorsExclude One Other = (j k : Conflictor) → Exclude (One j k) (Other j k)
 
 -- of two cases of commuting that begin with catches of the same kinds, at most one has a result
 pub record CasesExclude : Type 0 where

@@ -6,22 +6,22 @@ use Rattle.camp_seq.specs.Running.{AppliesAll}
 use Rattle.camp_ctx.specs.Contexts.{Valid, AreValid, patch_key, context_key}
 use Rattle.camp_prim.specs.declared.labels.Key.{Key}
 use Rattle.camp_catch.specs.declared.catches.Catch.{Catch}
-use Rattle.camp_catch.specs.declared.catches.Catch.TheVariants.{Plain, Conflictor}
+use Rattle.camp_catch.specs.declared.catches.Catch.TheVariants.{Plain}
 
 -- the absolute label of a catch: that of its patch, or of its identity
 abbrev pub catch_key : Catch → Key
 catch_key (Plain a) = patch_key a
-catch_key (Conflictor r xs i) = context_key i
+catch_key (Catch.Conflictor k) = context_key k.identity
 
 -- the effect of a catch as a list
 abbrev pub effect_of : Catch → List Named
 effect_of (Plain a) = a ∷ []
-effect_of (Conflictor r xs i) = r
+effect_of (Catch.Conflictor k) = k.effect
 
 -- what a catch conflicts with, and its identity, are valid in a tree; a plain catch has neither
 abbrev pub IsSeenFrom : Files → Catch → Type 0
 IsSeenFrom tree (Plain a) = Unit {0}
-IsSeenFrom tree (Conflictor r xs i) = AreValid tree xs × Valid tree i
+IsSeenFrom tree (Catch.Conflictor k) = AreValid tree k.conflicts × Valid tree k.identity
 
 -- a catch fits a tree and leads to another: its effect does, and there its conflicts and its identity are valid
 pub record Fits (j : Catch) (old new : Files) : Type 0 where

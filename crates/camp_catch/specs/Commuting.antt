@@ -1,6 +1,6 @@
 -- When two catches, one after the other, may change places, and what they become. The letters of the cases: j is [a] or
--- (r, X, i), k is [b] or (s, Y, l); the sets X, Y, Z are xs, ys, zs. Each list that a case makes is put in normal order
--- as it is made; an inverse s^ is taken as it is. A catch is in a set where its absolute label is.
+-- (r, X, i), k is [b] or (s, Y, l); the sets X, Y, Z are conflicts, i and l identities. Each list that a case makes is put
+-- in normal order as it is made; an inverse s^ is taken as it is. A catch is in a set where its absolute label is.
 use Rattle.std.specs.Prelude.{◌≡◌, ◌≢◌, ◌⊎◌, ◌≤◌, ◌&&◌, List, [], ◌∷◌, ◌++◌, map, filter, Some, None}
 use Rattle.std.specs.List.{All}
 use Rattle.std.specs.FinMap.{get, contains_key, remove, len}
@@ -13,9 +13,11 @@ use Rattle.camp_seq.specs.NormalOrder.{Norm, Splits}
 use Rattle.camp_seq.specs.Passing.{Passes, PassesAll, Fronts}
 use Rattle.camp_seq.specs.Running.{inverse_all}
 use Rattle.camp_ctx.specs.Adding.{Adds, AddsAll, PassesBy, PassesByAll}
-use Rattle.camp_ctx.specs.Contexts.{InContext, Contexts, EachMember, bare, only, with_member, patch_key, context_key}
+use Rattle.camp_ctx.specs.Contexts.{InContext, Contexts, bare, only, patch_key, context_key}
+use Rattle.camp_catch.specs.Conflictors.{Becomes, against, in_conflict_with, joined_by, with_effect, without}
 use Rattle.camp_catch.specs.declared.catches.Catch.{Catch}
-use Rattle.camp_catch.specs.declared.catches.Catch.TheVariants.{Plain, Conflictor}
+use Rattle.camp_catch.specs.declared.catches.Catch.TheVariants.{Plain}
+use Rattle.camp_catch.specs.declared.catches.Conflictor.{Conflictor}
 
 -- both plain
 -- [a] [b] <-> [b'] [a']
@@ -28,36 +30,26 @@ pub record BothPlain (a b : Named) (k' j' : Catch) : Type 0 where
 
 -- plain past conflictor: a is not in Y; a s ~ s' a', and a' passes by l
 -- [a] (s, Y, l) <-> (s', Y', l') [a'], where a' added to Y gives Y'
-pub record PlainPastConflictor (a : Named)
-    (s : List Named) (ys : Contexts) (l : InContext) (k' j' : Catch) : Type 0 where
-  pub apart : get ys (patch_key a) ≡ None
+pub record PlainPastConflictor (a : Named) (k : Conflictor) (k' j' : Catch) : Type 0 where
+  pub apart : get k.conflicts (patch_key a) ≡ None
   pub passed : List Named
   pub a' : Named
-  pub passes : Passes a s passed a'
-  pub s' : List Named
-  pub effect : Norm passed s'
-  pub ys' : Contexts
-  pub conflicts : EachMember (Adds a') ys ys'
-  pub l' : InContext
-  pub identity : PassesBy a' l l'
-  pub second : k' ≡ Conflictor s' ys' l'
+  pub passes : Passes a k.effect passed a'
+  pub moved : Conflictor
+  pub becomes : Becomes (Norm passed) (Adds a') (PassesBy a') k moved
+  pub second : k' ≡ Catch.Conflictor moved
   pub first : j' ≡ Plain a'
 
 -- conflictor past plain: r b ~ b' r', and b^ passes by i
 -- (r, X, i) [b] <-> [b'] (r', X', i'), where b^ added to X gives X'
-pub record ConflictorPastPlain (r : List Named) (xs : Contexts) (i : InContext)
-    (b : Named) (k' j' : Catch) : Type 0 where
+pub record ConflictorPastPlain (j : Conflictor) (b : Named) (k' j' : Catch) : Type 0 where
   pub b' : Named
   pub left : List Named
-  pub passes : PassesAll r (b ∷ []) (b' ∷ []) left
-  pub r' : List Named
-  pub effect : Norm left r'
-  pub xs' : Contexts
-  pub conflicts : EachMember (Adds (inverse_of b)) xs xs'
-  pub i' : InContext
-  pub identity : PassesBy (inverse_of b) i i'
+  pub passes : PassesAll j.effect (b ∷ []) (b' ∷ []) left
+  pub moved : Conflictor
+  pub becomes : Becomes (Norm left) (Adds (inverse_of b)) (PassesBy (inverse_of b)) j moved
   pub second : k' ≡ Plain b'
-  pub first : j' ≡ Conflictor r' xs' i'
+  pub first : j' ≡ Catch.Conflictor moved
 
 -- the labels of the inverses in r whose absolute labels stand in a set
 abbrev pub labels_undone : List Named → Contexts → List Label
@@ -81,102 +73,85 @@ pub record EffectsPass (r s : List Named) (ys : Contexts) (effect rr' : List Nam
 -- two conflictors apart: j is not in Y, nor in the context of l; rr' passes by l
 -- (common rr, X, i) (s, Y, l) <-> (common s', Y', l') (rr', X', i')
 -- where rr' added to Y gives Y', and s^ added to X and i gives X' and i'
-pub record TwoConflictorsApart (r : List Named) (xs : Contexts) (i : InContext)
-    (s : List Named) (ys : Contexts) (l : InContext) (k' j' : Catch) : Type 0 where
-  pub apart : get ys (context_key i) ≡ None
-  pub unseen : All (λ p. patch_key p ≢ context_key i) l.context
+pub record TwoConflictorsApart (j k : Conflictor) (k' j' : Catch) : Type 0 where
+  pub apart : get k.conflicts (context_key j.identity) ≡ None
+  pub unseen : All (λ p. patch_key p ≢ context_key j.identity) k.identity.context
   pub effect : List Named
   pub rr' : List Named
-  pub effects : EffectsPass r s ys effect rr'
-  pub ys' : Contexts
-  pub conflicts : EachMember (AddsAll rr') ys ys'
-  pub l' : InContext
-  pub identity : PassesByAll rr' l l'
-  pub xs' : Contexts
-  pub own_conflicts : EachMember (AddsAll (inverse_all s)) xs xs'
-  pub i' : InContext
-  pub own_identity : AddsAll (inverse_all s) i i'
-  pub second : k' ≡ Conflictor effect ys' l'
-  pub first : j' ≡ Conflictor rr' xs' i'
+  pub effects : EffectsPass j.effect k.effect k.conflicts effect rr'
+  pub moved : Conflictor
+  pub becomes : Becomes (λ s. s ≡ effect) (AddsAll rr') (PassesByAll rr') k moved
+  pub own : Conflictor
+  pub own_becomes : Becomes (λ r. r ≡ rr') (AddsAll (inverse_all k.effect)) (AddsAll (inverse_all k.effect)) j own
+  pub second : k' ≡ Catch.Conflictor moved
+  pub first : j' ≡ Catch.Conflictor own
 
 -- the conflict dissolves: k conflicts with a alone, which it undoes
 -- [a] ([a^], {:a}, :q) <-> [q] ([q^], {:q}, :a)
-pub record ConflictDissolves (a : Named)
-    (s : List Named) (ys : Contexts) (l : InContext) (k' j' : Catch) : Type 0 where
+pub record ConflictDissolves (a : Named) (k : Conflictor) (k' j' : Catch) : Type 0 where
   pub q : Named
-  pub undoes : s ≡ inverse_of a ∷ []
-  pub alone : ys ≡ only (bare a)
-  pub is : l ≡ bare q
+  pub is : k ≡ against a q
   pub second : k' ≡ Plain q
-  pub first : j' ≡ Conflictor (inverse_of q ∷ []) (only (bare q)) (bare a)
+  pub first : j' ≡ Catch.Conflictor (against q a)
 
 -- plain leaves the set: a is in Y, as z with its label, and not alone; s ~ a^ s'
 -- [a] (s, Y, l) <-> (s', Y without a, l) ([], {l}, z)
-pub record PlainLeavesTheSet (a : Named)
-    (s : List Named) (ys : Contexts) (l : InContext) (k' j' : Catch) : Type 0 where
+pub record PlainLeavesTheSet (a : Named) (k : Conflictor) (k' j' : Catch) : Type 0 where
   pub z : InContext
-  pub member : get ys (patch_key a) ≡ Some z
+  pub member : get k.conflicts (patch_key a) ≡ Some z
   pub named : context_key z ≡ patch_key a
-  pub several : 2 ≤ len ys
+  pub several : 2 ≤ len k.conflicts
   pub rest : List Named
-  pub front : Fronts (label_of (inverse_of a)) s (inverse_of a) rest
+  pub front : Fronts (label_of (inverse_of a)) k.effect (inverse_of a) rest
   pub s' : List Named
   pub effect : Norm rest s'
-  pub second : k' ≡ Conflictor s' (remove ys (patch_key a)) l
-  pub first : j' ≡ Conflictor [] (only l) z
+  pub second : k' ≡ Catch.Conflictor (with_effect s' (without (patch_key a) k))
+  pub first : j' ≡ Catch.Conflictor (in_conflict_with k.identity z)
 
 -- the only conflict goes: k has no effect and conflicts with j alone; r added to l gives :a
 -- (r, X, i) ([], {x}, l) <-> [a] (a^ r, X and l, i)
-pub record OnlyConflictGoes (r : List Named) (xs : Contexts) (i : InContext)
-    (s : List Named) (ys : Contexts) (l : InContext) (k' j' : Catch) : Type 0 where
+pub record OnlyConflictGoes (j k : Conflictor) (k' j' : Catch) : Type 0 where
   pub x : InContext
-  pub named : context_key x ≡ context_key i
-  pub no_effect : s ≡ []
-  pub alone : ys ≡ only x
+  pub named : context_key x ≡ context_key j.identity
+  pub no_effect : k.effect ≡ []
+  pub alone : k.conflicts ≡ only x
   pub a : Named
-  pub becomes : AddsAll r l (bare a)
+  pub becomes : AddsAll j.effect k.identity (bare a)
   pub effect : List Named
-  pub joined : Norm (inverse_of a ∷ r) effect
+  pub joined : Norm (inverse_of a ∷ j.effect) effect
   pub second : k' ≡ Plain a
-  pub first : j' ≡ Conflictor effect (with_member xs l) i
+  pub first : j' ≡ Catch.Conflictor (with_effect effect (joined_by k.identity j))
 
 -- one of several conflicts: j is in Y, and not alone; Z is Y without j
 -- (common rr, X, i) (s, Y, l) <-> (common s', Z', l') (rr', X' and l, i')
 -- where rr' added to Z and l gives Z' and l', and s^ added to X and i gives X' and i'
-pub record OneOfSeveralConflicts (r : List Named) (xs : Contexts) (i : InContext)
-    (s : List Named) (ys : Contexts) (l : InContext) (k' j' : Catch) : Type 0 where
+pub record OneOfSeveralConflicts (j k : Conflictor) (k' j' : Catch) : Type 0 where
   pub z : InContext
-  pub member : get ys (context_key i) ≡ Some z
-  pub several : 2 ≤ len ys
+  pub member : get k.conflicts (context_key j.identity) ≡ Some z
+  pub several : 2 ≤ len k.conflicts
   pub effect : List Named
   pub rr' : List Named
-  pub effects : EffectsPass r s (remove ys (context_key i)) effect rr'
-  pub zs' : Contexts
-  pub conflicts : EachMember (AddsAll rr') (remove ys (context_key i)) zs'
-  pub l' : InContext
-  pub identity : AddsAll rr' l l'
-  pub xs' : Contexts
-  pub own_conflicts : EachMember (AddsAll (inverse_all s)) xs xs'
-  pub i' : InContext
-  pub own_identity : AddsAll (inverse_all s) i i'
-  pub second : k' ≡ Conflictor effect zs' l'
-  pub first : j' ≡ Conflictor rr' (with_member xs' l) i'
+  pub effects : EffectsPass j.effect k.effect (remove k.conflicts (context_key j.identity)) effect rr'
+  pub moved : Conflictor
+  pub becomes : Becomes (λ s. s ≡ effect) (AddsAll rr') (AddsAll rr') (without (context_key j.identity) k) moved
+  pub own : Conflictor
+  pub own_becomes : Becomes (λ r. r ≡ rr') (AddsAll (inverse_all k.effect)) (AddsAll (inverse_all k.effect)) j own
+  pub second : k' ≡ Catch.Conflictor moved
+  pub first : j' ≡ Catch.Conflictor (joined_by k.identity own)
 
 -- a plain catch before a conflictor
-abbrev pub CommutePlainConflictor : Named → List Named → Contexts → InContext → Catch → Catch → Type 0
-CommutePlainConflictor a s ys l k' j' =
-    PlainPastConflictor a s ys l k' j' ⊎ (ConflictDissolves a s ys l k' j' ⊎ PlainLeavesTheSet a s ys l k' j')
+abbrev pub CommutePlainConflictor : Named → Conflictor → Catch → Catch → Type 0
+CommutePlainConflictor a k k' j' =
+    PlainPastConflictor a k k' j' ⊎ (ConflictDissolves a k k' j' ⊎ PlainLeavesTheSet a k k' j')
 
 -- a conflictor before a conflictor
-abbrev pub CommuteConflictors :
-    List Named → Contexts → InContext → List Named → Contexts → InContext → Catch → Catch → Type 0
-CommuteConflictors r xs i s ys l k' j' =
-    TwoConflictorsApart r xs i s ys l k' j'
-    ⊎ (OnlyConflictGoes r xs i s ys l k' j' ⊎ OneOfSeveralConflicts r xs i s ys l k' j')
+abbrev pub CommuteConflictors : Conflictor → Conflictor → Catch → Catch → Type 0
+CommuteConflictors j k k' j' =
+    TwoConflictorsApart j k k' j' ⊎ (OnlyConflictGoes j k k' j' ⊎ OneOfSeveralConflicts j k k' j')
 
 -- j k <-> k' j': one of the cases of their kinds holds
 abbrev pub CommuteCatch : Catch → Catch → Catch → Catch → Type 0
 CommuteCatch (Plain a) (Plain b) k' j' = BothPlain a b k' j'
-CommuteCatch (Plain a) (Conflictor s ys l) k' j' = CommutePlainConflictor a s ys l k' j'
-CommuteCatch (Conflictor r xs i) (Plain b) k' j' = ConflictorPastPlain r xs i b k' j'
-CommuteCatch (Conflictor r xs i) (Conflictor s ys l) k' j' = CommuteConflictors r xs i s ys l k' j'
+CommuteCatch (Plain a) (Catch.Conflictor k) k' j' = CommutePlainConflictor a k k' j'
+CommuteCatch (Catch.Conflictor j) (Plain b) k' j' = ConflictorPastPlain j b k' j'
+CommuteCatch (Catch.Conflictor j) (Catch.Conflictor k) k' j' = CommuteConflictors j k k' j'

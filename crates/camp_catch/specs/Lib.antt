@@ -2,6 +2,7 @@ pub mod Arranging
 pub mod Cases
 pub mod Catches
 pub mod Commuting
+pub mod Conflictors
 pub mod Inside
 pub mod Laws
 pub mod ListLaws

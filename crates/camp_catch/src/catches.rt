@@ -13,13 +13,16 @@ use std::slice;
 #[derive(Drop)]
 pub enum Catch {
     Plain(Named),
-    /// A patch in conflict. It has the effect; what it conflicts with, and itself, are seen from the
-    /// state after that.
-    Conflictor {
-        effect: Seq,
-        conflicts: CtxSet,
-        identity: Contexted,
-    },
+    Conflictor(Conflictor),
+}
+
+/// A patch in conflict. It has the effect; what it conflicts with, and itself, are seen from the state
+/// after that.
+#[derive(Drop)]
+pub struct Conflictor {
+    pub effect: Seq,
+    pub conflicts: CtxSet,
+    pub identity: Contexted,
 }
 
 impl Catch {
@@ -29,7 +32,7 @@ impl Catch {
     {
         match self {
             Catch::Plain(patch) => &patch.name,
-            Catch::Conflictor { identity, .. } => identity.name(),
+            Catch::Conflictor(conflictor) => conflictor.identity.name(),
         }
     }
 
@@ -39,7 +42,7 @@ impl Catch {
     {
         match self {
             Catch::Plain(patch) => patch.place,
-            Catch::Conflictor { identity, .. } => identity.place(),
+            Catch::Conflictor(conflictor) => conflictor.identity.place(),
         }
     }
 
@@ -49,7 +52,7 @@ impl Catch {
     {
         match self {
             Catch::Plain(patch) => patch.label().key(),
-            Catch::Conflictor { identity, .. } => identity.key(),
+            Catch::Conflictor(conflictor) => conflictor.identity.key(),
         }
     }
 
@@ -59,7 +62,7 @@ impl Catch {
     {
         match self {
             Catch::Plain(patch) => slice::from_ref(patch),
-            Catch::Conflictor { effect, .. } => effect.items(),
+            Catch::Conflictor(conflictor) => conflictor.effect.items(),
         }
     }
 
@@ -68,15 +71,7 @@ impl Catch {
     {
         match self {
             Catch::Plain(patch) => Ok(Catch::Plain(patch.try_clone()?)),
-            Catch::Conflictor {
-                effect,
-                conflicts,
-                identity,
-            } => Ok(Catch::Conflictor {
-                effect: effect.try_clone()?,
-                conflicts: conflicts.try_clone()?,
-                identity: identity.try_clone()?,
-            }),
+            Catch::Conflictor(conflictor) => Ok(Catch::Conflictor(conflictor.try_clone()?)),
         }
     }
 
@@ -87,28 +82,37 @@ impl Catch {
     {
         match (self, other) {
             (Catch::Plain(a), Catch::Plain(b)) => a.is_same(b),
-            (
-                Catch::Conflictor {
-                    effect: r,
-                    conflicts: xs,
-                    identity: i,
-                },
-                Catch::Conflictor {
-                    effect: s,
-                    conflicts: ys,
-                    identity: l,
-                },
-            ) => {
-                if !i.is_same(l) {
-                    return false;
-                }
-                if !r.is_same(s) {
-                    return false;
-                }
-                xs.is_same(ys)
-            }
+            (Catch::Conflictor(j), Catch::Conflictor(k)) => j.is_same(k),
             _ => false,
         }
+    }
+}
+
+impl Conflictor {
+    pub fn try_clone(&self) -> Result<Conflictor, AllocError>
+        ensures { IfOk result (λ copy. copy ≡ self.now) }
+    {
+        let effect = self.effect.try_clone()?;
+        let conflicts = self.conflicts.try_clone()?;
+        let identity = self.identity.try_clone()?;
+        Ok(Conflictor {
+            effect,
+            conflicts,
+            identity,
+        })
+    }
+
+    /// Whether the two have the same parts. It takes no memory.
+    pub fn is_same(&self, other: &Conflictor) -> bool
+        ensures { IsTrue result ↔ (self.now ≡ other.now) }
+    {
+        if !self.identity.is_same(&other.identity) {
+            return false;
+        }
+        if !self.effect.is_same(&other.effect) {
+            return false;
+        }
+        self.conflicts.is_same(&other.conflicts)
     }
 }
 

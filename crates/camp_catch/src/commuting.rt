@@ -3,19 +3,19 @@ ghost use Rattle.std.specs.FinMap.{get, len};
 ghost use Rattle.camp_base.specs.Answers.{Finds, FindsPair};
 ghost use Rattle.camp_prim.specs.Effect.{inverse_of};
 ghost use Rattle.camp_prim.specs.Labels.{label_of};
+ghost use Rattle.camp_seq.specs.NormalOrder.{Norm};
 ghost use Rattle.camp_seq.specs.Passing.{Fronts, PassesAll};
+ghost use Rattle.camp_ctx.specs.Adding.{Adds, PassesBy};
 ghost use Rattle.camp_ctx.specs.Contexts.{context_key, patch_key};
 ghost use Rattle.camp_catch.specs.Commuting.{BothPlain, CommuteCatch, CommutePlainConflictor, ConflictDissolves, ConflictorPastPlain, PlainLeavesTheSet, PlainPastConflictor};
+ghost use Rattle.camp_catch.specs.Conflictors.{Becomes};
 ghost use Rattle.camp_catch.specs.Inside.Pairs.{PlainAndFirstConflict};
-ghost use Rattle.camp_catch.specs.Inside.Seen.{PassesBefore};
 
-use crate::Catch;
 use crate::conflictors::commute_conflictors;
-use crate::seen::{
-    has_no_context, in_conflict_with, in_first_conflict, passes_before, without_member,
-};
+use crate::seen::{against, has_no_context, in_conflict_with, passes_before, without_member};
 use crate::values::{inverse, is_bare, one, undoes};
-use camp_ctx::{Contexted, CtxSet};
+use crate::{Catch, Conflictor};
+use camp_ctx::Contexted;
 use camp_prim::Named;
 use camp_seq::{Seq, front, past, past_all};
 use std::alloc::{AllocError, Global};
@@ -25,47 +25,11 @@ use std::alloc::{AllocError, Global};
 pub fn commute(alloc: Global, j: &Catch, k: &Catch) -> Result<Option<(Catch, Catch)>, AllocError>
     ensures exact { IfOk result (FindsPair (CommuteCatch j.now k.now)) }
 {
-    match j {
-        Catch::Plain(a) => commute_plain(alloc, a, k),
-        Catch::Conflictor {
-            effect,
-            conflicts,
-            identity,
-        } => commute_conflictor(alloc, effect, conflicts, identity, k),
-    }
-}
-
-/// A plain catch before another catch.
-fn commute_plain(alloc: Global, a: &Named, k: &Catch) -> Result<Option<(Catch, Catch)>, AllocError>
-    ensures { IfOk result (FindsPair (CommuteCatch (Catch.Plain a.now) k.now)) }
-{
-    match k {
-        Catch::Plain(b) => both_plain(a, b),
-        Catch::Conflictor {
-            effect,
-            conflicts,
-            identity,
-        } => plain_before_conflictor(alloc, a, effect, conflicts, identity),
-    }
-}
-
-/// A conflictor before another catch.
-fn commute_conflictor(
-    alloc: Global,
-    r: &Seq,
-    xs: &CtxSet,
-    i: &Contexted,
-    k: &Catch,
-) -> Result<Option<(Catch, Catch)>, AllocError>
-    ensures { IfOk result (FindsPair (CommuteCatch (Catch.Conflictor r.now xs.now i.now) k.now)) }
-{
-    match k {
-        Catch::Plain(b) => conflictor_past_plain(alloc, r, xs, i, b),
-        Catch::Conflictor {
-            effect,
-            conflicts,
-            identity,
-        } => commute_conflictors(alloc, r, xs, i, effect, conflicts, identity),
+    match (j, k) {
+        (Catch::Plain(a), Catch::Plain(b)) => both_plain(a, b),
+        (Catch::Plain(a), Catch::Conflictor(k)) => plain_before_conflictor(alloc, a, k),
+        (Catch::Conflictor(j), Catch::Plain(b)) => conflictor_past_plain(alloc, j, b),
+        (Catch::Conflictor(j), Catch::Conflictor(k)) => commute_conflictors(alloc, j, k),
     }
 }
 
@@ -84,15 +48,13 @@ fn both_plain(a: &Named, b: &Named) -> Result<Option<(Catch, Catch)>, AllocError
 fn plain_before_conflictor(
     alloc: Global,
     a: &Named,
-    s: &Seq,
-    ys: &CtxSet,
-    l: &Contexted,
+    k: &Conflictor,
 ) -> Result<Option<(Catch, Catch)>, AllocError>
-    ensures { IfOk result (FindsPair (CommutePlainConflictor a.now s.now ys.now l.now)) }
+    ensures { IfOk result (FindsPair (CommutePlainConflictor a.now k.now)) }
 {
-    match ys.get(&a.label().key()) {
-        None => plain_past_conflictor(a, s, ys, l),
-        Some(z) => plain_in_the_set(alloc, a, s, ys, l, z),
+    match k.conflicts.get(&a.label().key()) {
+        None => plain_past_conflictor(a, k),
+        Some(z) => plain_in_the_set(alloc, a, k, z),
     }
 }
 
@@ -100,60 +62,51 @@ fn plain_before_conflictor(
 fn plain_in_the_set(
     alloc: Global,
     a: &Named,
-    s: &Seq,
-    ys: &CtxSet,
-    l: &Contexted,
+    k: &Conflictor,
     z: &Contexted,
 ) -> Result<Option<(Catch, Catch)>, AllocError>
-    requires { get ys.now (patch_key a.now) ≡ Some z.now }
-    ensures { IfOk result (FindsPair (CommutePlainConflictor a.now s.now ys.now l.now)) }
+    requires { get k.now.conflicts (patch_key a.now) ≡ Some z.now }
+    ensures { IfOk result (FindsPair (CommutePlainConflictor a.now k.now)) }
 {
-    if ys.len() == 1 {
-        conflict_dissolves(alloc, a, s, ys, l)
+    if k.conflicts.len() == 1 {
+        conflict_dissolves(alloc, a, k)
     } else {
-        plain_leaves_the_set(alloc, a, s, ys, l, z)
+        plain_leaves_the_set(alloc, a, k, z)
     }
 }
 
 /// `[a] (s, Y, l) <-> (s', Y', l') [a']`, where `a'` added to `Y` gives `Y'`
-fn plain_past_conflictor(
-    a: &Named,
-    s: &Seq,
-    ys: &CtxSet,
-    l: &Contexted,
-) -> Result<Option<(Catch, Catch)>, AllocError>
-    requires { get ys.now (patch_key a.now) ≡ None }
-    ensures { IfOk result (FindsPair (PlainPastConflictor a.now s.now ys.now l.now)) }
+fn plain_past_conflictor(a: &Named, k: &Conflictor) -> Result<Option<(Catch, Catch)>, AllocError>
+    requires { get k.now.conflicts (patch_key a.now) ≡ None }
+    ensures { IfOk result (FindsPair (PlainPastConflictor a.now k.now)) }
 {
-    let behind = past(a, s)?;
+    let behind = past(a, &k.effect)?;
     let Some((passed, a)) = behind else {
         return Ok(None);
     };
-    let made = passes_before(&a, &passed, ys, l)?;
+    let made = passes_before(&a, &passed, k)?;
     match made {
         None => Ok(None),
-        Some(second) => Ok(Some((second, Catch::Plain(a)))),
+        Some(moved) => Ok(Some((Catch::Conflictor(moved), Catch::Plain(a)))),
     }
 }
 
 /// `(r, X, i) [b] <-> [b'] (r', X', i')`, where `b^` added to `X` gives `X'`
 fn conflictor_past_plain(
     alloc: Global,
-    r: &Seq,
-    xs: &CtxSet,
-    i: &Contexted,
+    j: &Conflictor,
     b: &Named,
 ) -> Result<Option<(Catch, Catch)>, AllocError>
-    ensures { IfOk result (FindsPair (ConflictorPastPlain r.now xs.now i.now b.now)) }
+    ensures { IfOk result (FindsPair (ConflictorPastPlain j.now b.now)) }
 {
-    let behind = comes_before(alloc, r, b)?;
+    let behind = comes_before(alloc, &j.effect, b)?;
     let Some((second, left)) = behind else {
         return Ok(None);
     };
-    let made = inverse_passes_before(b, &left, xs, i)?;
+    let made = inverse_passes_before(b, &left, j)?;
     match made {
         None => Ok(None),
-        Some(first) => Ok(Some((Catch::Plain(second), first))),
+        Some(moved) => Ok(Some((Catch::Plain(second), Catch::Conflictor(moved)))),
     }
 }
 
@@ -162,13 +115,13 @@ fn conflictor_past_plain(
 fn inverse_passes_before(
     b: &Named,
     s: &Seq,
-    xs: &CtxSet,
-    i: &Contexted,
-) -> Result<Option<Catch>, AllocError>
-    ensures { IfOk result (Finds (PassesBefore (inverse_of b.now) s.now xs.now i.now)) }
+    j: &Conflictor,
+) -> Result<Option<Conflictor>, AllocError>
+    ensures { IfOk result (Finds
+        (Becomes (Norm s.now) (Adds (inverse_of b.now)) (PassesBy (inverse_of b.now)) j.now)) }
 {
     let back = inverse(b)?;
-    passes_before(&back, s, xs, i)
+    passes_before(&back, s, j)
 }
 
 /// `Some((b', r'))` where `r` and then `b` are the same as `b'` and then `r'`. None where `b` can't
@@ -189,63 +142,59 @@ fn comes_before(alloc: Global, r: &Seq, b: &Named) -> Result<Option<(Named, Seq)
 fn conflict_dissolves(
     alloc: Global,
     a: &Named,
-    s: &Seq,
-    ys: &CtxSet,
-    l: &Contexted,
+    k: &Conflictor,
 ) -> Result<Option<(Catch, Catch)>, AllocError>
-    ensures { IfOk result (FindsPair (ConflictDissolves a.now s.now ys.now l.now)) }
+    ensures { IfOk result (FindsPair (ConflictDissolves a.now k.now)) }
 {
-    let Some(x) = ys.sole() else {
+    let Some(x) = k.conflicts.sole() else {
         return Ok(None);
     };
     if !is_bare(x, a) {
         return Ok(None);
     }
-    if !has_no_context(l) {
+    if !has_no_context(&k.identity) {
         return Ok(None);
     }
-    let undone = undoes(s, a)?;
+    let undone = undoes(&k.effect, a)?;
     if !undone {
         return Ok(None);
     }
-    let pair = plain_and_first_conflict(alloc, l, x)?;
+    let pair = plain_and_first_conflict(alloc, a, k.identity.patch())?;
     Ok(Some(pair))
 }
 
-/// `[q] ([q^], {:q}, z)`, for a `:q`
+/// `[q] ([q^], {:q}, :a)`
 fn plain_and_first_conflict(
     alloc: Global,
-    l: &Contexted,
-    z: &Contexted,
+    a: &Named,
+    q: &Named,
 ) -> Result<(Catch, Catch), AllocError>
-    ensures { IfOk result (λ pair. PlainAndFirstConflict l.now z.now pair.0 pair.1) }
+    ensures { IfOk result (λ pair. PlainAndFirstConflict a.now q.now pair.0 pair.1) }
 {
-    let first = in_first_conflict(alloc, l, z)?;
-    let second = l.patch().try_clone()?;
-    Ok((Catch::Plain(second), first))
+    let first = against(alloc, q, a)?;
+    let second = q.try_clone()?;
+    Ok((Catch::Plain(second), Catch::Conflictor(first)))
 }
 
 /// `[a] (s, Y, l) <-> (s', Y without a, l) ([], {l}, z)`, where `s ~ a^ s'`
 fn plain_leaves_the_set(
     alloc: Global,
     a: &Named,
-    s: &Seq,
-    ys: &CtxSet,
-    l: &Contexted,
+    k: &Conflictor,
     z: &Contexted,
 ) -> Result<Option<(Catch, Catch)>, AllocError>
-    requires member { get ys.now (patch_key a.now) ≡ Some z.now }
+    requires member { get k.now.conflicts (patch_key a.now) ≡ Some z.now }
     requires named { context_key z.now ≡ patch_key a.now }
-    requires several { 2 ≤ len ys.now }
-    ensures { IfOk result (FindsPair (PlainLeavesTheSet a.now s.now ys.now l.now)) }
+    requires several { 2 ≤ len k.now.conflicts }
+    ensures { IfOk result (FindsPair (PlainLeavesTheSet a.now k.now)) }
 {
-    let found = behind_inverse(a, s)?;
+    let found = behind_inverse(a, &k.effect)?;
     let Some(rest) = found else {
         return Ok(None);
     };
-    let second = without_member(&a.label().key(), &rest, ys, l)?;
-    let first = in_conflict_with(alloc, l, z)?;
-    Ok(Some((second, first)))
+    let second = without_member(&a.label().key(), &rest, k)?;
+    let first = in_conflict_with(alloc, &k.identity, z)?;
+    Ok(Some((Catch::Conflictor(second), Catch::Conflictor(first))))
 }
 
 /// `Some(rest)` where `s` is the same as the inverse of `a` and then `rest`. None where what comes

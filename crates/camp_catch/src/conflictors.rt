@@ -7,11 +7,11 @@ ghost use Rattle.camp_catch.specs.Commuting.{CommuteConflictors, EffectsPass, On
 ghost use Rattle.camp_catch.specs.Inside.Pairs.{JoinsBehindEffects, PlainAndUndone};
 ghost use Rattle.camp_catch.specs.Inside.Seen.{JoinsInOrder};
 
-use crate::Catch;
 use crate::seen::{
-    all_pass_before, both_before, both_behind, has_no_context, joined_behind, takes_back,
+    all_pass_before, both_behind, has_no_context, joined_behind, others_before, takes_back,
 };
 use crate::values::is_undone;
+use crate::{Catch, Conflictor};
 use camp_ctx::{Contexted, CtxSet, join};
 use camp_prim::{Key, Label, Named};
 use camp_seq::{Seq, norm, past_all, split};
@@ -20,95 +20,79 @@ use std::alloc::{AllocError, Global};
 /// Two conflictors: the first is not in the second's set, or it is.
 pub(crate) fn commute_conflictors(
     alloc: Global,
-    r: &Seq,
-    xs: &CtxSet,
-    i: &Contexted,
-    s: &Seq,
-    ys: &CtxSet,
-    l: &Contexted,
+    j: &Conflictor,
+    k: &Conflictor,
 ) -> Result<Option<(Catch, Catch)>, AllocError>
-    ensures { IfOk result (FindsPair (CommuteConflictors r.now xs.now i.now s.now ys.now l.now)) }
+    ensures { IfOk result (FindsPair (CommuteConflictors j.now k.now)) }
 {
-    match ys.get(&i.key()) {
-        None => two_conflictors_apart(alloc, r, xs, i, s, ys, l),
-        Some(_) => conflictor_in_the_set(alloc, r, xs, i, s, ys, l),
+    match k.conflicts.get(&j.identity.key()) {
+        None => two_conflictors_apart(alloc, j, k),
+        Some(_) => conflictor_in_the_set(alloc, j, k),
     }
 }
 
 /// Two conflictors, the first of which is in the second's set, alone or as one of several.
 fn conflictor_in_the_set(
     alloc: Global,
-    r: &Seq,
-    xs: &CtxSet,
-    i: &Contexted,
-    s: &Seq,
-    ys: &CtxSet,
-    l: &Contexted,
+    j: &Conflictor,
+    k: &Conflictor,
 ) -> Result<Option<(Catch, Catch)>, AllocError>
-    requires { (z : InContext) × (get ys.now (context_key i.now) ≡ Some z) }
-    ensures { IfOk result (FindsPair (CommuteConflictors r.now xs.now i.now s.now ys.now l.now)) }
+    requires { (z : InContext) × (get k.now.conflicts (context_key j.now.identity) ≡ Some z) }
+    ensures { IfOk result (FindsPair (CommuteConflictors j.now k.now)) }
 {
-    if ys.len() == 1 {
-        only_conflict_goes(alloc, r, xs, i, s, ys, l)
+    if k.conflicts.len() == 1 {
+        only_conflict_goes(alloc, j, k)
     } else {
-        one_of_several_conflicts(alloc, r, xs, i, s, ys, l)
+        one_of_several_conflicts(alloc, j, k)
     }
 }
 
 /// `(common rr, X, i) (s, Y, l) <-> (common s', Y', l') (rr', X', i')`
 fn two_conflictors_apart(
     alloc: Global,
-    r: &Seq,
-    xs: &CtxSet,
-    i: &Contexted,
-    s: &Seq,
-    ys: &CtxSet,
-    l: &Contexted,
+    j: &Conflictor,
+    k: &Conflictor,
 ) -> Result<Option<(Catch, Catch)>, AllocError>
-    requires { get ys.now (context_key i.now) ≡ None }
-    ensures { IfOk result (FindsPair (TwoConflictorsApart r.now xs.now i.now s.now ys.now l.now)) }
+    requires { get k.now.conflicts (context_key j.now.identity) ≡ None }
+    ensures { IfOk result (FindsPair (TwoConflictorsApart j.now k.now)) }
 {
-    if !lacks_key(l.context().items(), &i.key()) {
+    if !lacks_key(k.identity.context().items(), &j.identity.key()) {
         return Ok(None);
     }
-    let passed = effects_pass(alloc, r, s, ys)?;
+    let passed = effects_pass(alloc, &j.effect, &k.effect, &k.conflicts)?;
     let Some((effect, rest)) = passed else {
         return Ok(None);
     };
-    let moved = all_pass_before(&rest, effect, ys, l)?;
-    let Some(second) = moved else {
+    let found = all_pass_before(&rest, effect, k)?;
+    let Some(moved) = found else {
         return Ok(None);
     };
-    let first = both_behind(s, rest, xs, i)?;
-    Ok(Some((second, first)))
+    let own = both_behind(&k.effect, rest, j)?;
+    Ok(Some((Catch::Conflictor(moved), Catch::Conflictor(own))))
 }
 
 /// `(r, X, i) ([], {x}, l) <-> [a] (a^ r, X and l, i)`, where `r` added to `l` gives `:a`
 fn only_conflict_goes(
     alloc: Global,
-    r: &Seq,
-    xs: &CtxSet,
-    i: &Contexted,
-    s: &Seq,
-    ys: &CtxSet,
-    l: &Contexted,
+    j: &Conflictor,
+    k: &Conflictor,
 ) -> Result<Option<(Catch, Catch)>, AllocError>
-    ensures { IfOk result (FindsPair (OnlyConflictGoes r.now xs.now i.now s.now ys.now l.now)) }
+    ensures { IfOk result (FindsPair (OnlyConflictGoes j.now k.now)) }
 {
-    let Some(x) = ys.sole() else {
+    let Some(x) = k.conflicts.sole() else {
         return Ok(None);
     };
-    if !has_key(x.patch(), &i.key()) {
+    if !has_key(x.patch(), &j.identity.key()) {
         return Ok(None);
     }
-    if !s.items().is_empty() {
+    if !k.effect.items().is_empty() {
         return Ok(None);
     }
-    let seen = Contexted::add(r, l)?;
+    let seen = Contexted::add(&j.effect, &k.identity)?;
     if !has_no_context(&seen) {
         return Ok(None);
     }
-    let pair = plain_and_undone(alloc, seen.patch(), r, xs, l, i)?;
+    let pair = plain_and_undone(alloc, seen.patch(), j, &k.identity)?;
     Ok(Some(pair))
 }
 
@@ -116,56 +100,47 @@ fn only_conflict_goes(
 fn plain_and_undone(
     alloc: Global,
     a: &Named,
-    r: &Seq,
-    xs: &CtxSet,
+    j: &Conflictor,
     l: &Contexted,
-    i: &Contexted,
 ) -> Result<(Catch, Catch), AllocError>
-    ensures { IfOk result (λ pair. PlainAndUndone a.now r.now xs.now l.now i.now pair.0 pair.1) }
+    ensures { IfOk result (λ pair. PlainAndUndone a.now j.now l.now pair.0 pair.1) }
 {
-    let first = takes_back(alloc, a, r, xs, l, i)?;
+    let first = takes_back(alloc, a, j, l)?;
     let second = a.try_clone()?;
-    Ok((Catch::Plain(second), first))
+    Ok((Catch::Plain(second), Catch::Conflictor(first)))
 }
 
 /// `(common rr, X, i) (s, Y, l) <-> (common s', Z', l') (rr', X' and l, i')`, where `Z` is `Y`
 /// without `j`
 fn one_of_several_conflicts(
     alloc: Global,
-    r: &Seq,
-    xs: &CtxSet,
-    i: &Contexted,
-    s: &Seq,
-    ys: &CtxSet,
-    l: &Contexted,
+    j: &Conflictor,
+    k: &Conflictor,
 ) -> Result<Option<(Catch, Catch)>, AllocError>
-    requires member { (z : InContext) × (get ys.now (context_key i.now) ≡ Some z) }
-    requires several { 2 ≤ len ys.now }
-    ensures { IfOk result (FindsPair (OneOfSeveralConflicts r.now xs.now i.now s.now ys.now l.now)) }
+    requires member { (z : InContext) × (get k.now.conflicts (context_key j.now.identity) ≡ Some z) }
+    requires several { 2 ≤ len k.now.conflicts }
+    ensures { IfOk result (FindsPair (OneOfSeveralConflicts j.now k.now)) }
 {
-    let others = ys.without(&i.key())?;
-    joins_behind_effects(alloc, r, xs, i, s, &others, l)
+    let others = k.conflicts.without(&j.identity.key())?;
+    joins_behind_effects(alloc, j, k, &others)
 }
 
 /// `(common rr, X, i) (s, Z, l) <-> (common s', Z', l') (rr', X' and l, i')`
 fn joins_behind_effects(
     alloc: Global,
-    r: &Seq,
-    xs: &CtxSet,
-    i: &Contexted,
-    s: &Seq,
-    zs: &CtxSet,
-    l: &Contexted,
+    j: &Conflictor,
+    k: &Conflictor,
+    others: &CtxSet,
 ) -> Result<Option<(Catch, Catch)>, AllocError>
-    ensures { IfOk result (FindsPair (JoinsBehindEffects r.now xs.now i.now s.now zs.now l.now)) }
+    ensures { IfOk result (FindsPair (JoinsBehindEffects j.now k.now others.now)) }
 {
-    let passed = effects_pass(alloc, r, s, zs)?;
+    let passed = effects_pass(alloc, &j.effect, &k.effect, others)?;
     let Some((effect, rest)) = passed else {
         return Ok(None);
     };
-    let second = both_before(&rest, effect, zs, l)?;
-    let first = joined_behind(s, rest, xs, i, l)?;
-    Ok(Some((second, first)))
+    let moved = others_before(&rest, effect, k, others)?;
+    let own = joined_behind(&k.effect, rest, j, &k.identity)?;
+    Ok(Some((Catch::Conflictor(moved), Catch::Conflictor(own))))
 }
 
 /// Two effects change places, but for what the first undoes of a set, which stays first.

@@ -17,7 +17,7 @@ mod values;
 
 pub use aligning::align;
 pub use arranging::{Arranged, Stuck, arrange};
-pub use catches::Catch;
+pub use catches::{Catch, Conflictor};
 pub use commuting::commute;
 pub use laws::{
     arrange_goes_by_members, cases_exclude_one_another, catches_are_decided, commute_is_unique,

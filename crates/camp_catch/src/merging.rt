@@ -1,4 +1,4 @@
-ghost use Rattle.std.specs.Prelude.{◌≡◌, [], ◌∷◌, IfOk};
+ghost use Rattle.std.specs.Prelude.{◌≡◌, IfOk};
 ghost use Rattle.camp_base.specs.Answers.{FindsPair};
 ghost use Rattle.camp_prim.specs.Effect.{inverse_of};
 ghost use Rattle.camp_prim.specs.Swaps.{Swap};
@@ -8,16 +8,16 @@ ghost use Rattle.camp_seq.specs.Passing.{Passes};
 ghost use Rattle.camp_seq.specs.Running.{inverse_all};
 ghost use Rattle.camp_ctx.specs.Adding.{AddsAll};
 ghost use Rattle.camp_ctx.specs.Conflicts.{Conflict};
-ghost use Rattle.camp_ctx.specs.Contexts.{InContext, bare, only};
+ghost use Rattle.camp_ctx.specs.Contexts.{InContext, bare};
 ghost use Rattle.camp_catch.specs.Inside.Pairs.{JoinsAs};
-ghost use Rattle.camp_catch.specs.Inside.TwoConflictors.{EffectsMerge, JoinsBehind, TellsConflict};
+ghost use Rattle.camp_catch.specs.Inside.TwoConflictors.{EffectsMerge, JoinEachOther, TellsConflict};
 ghost use Rattle.camp_catch.specs.Merging.{Clean, FirstConflict, MergeCatch, MergePlainConflictor, Mirror, PlainBesideConflictor, PlainJoinsConflictor, TwoConflictors};
-ghost use Rattle.camp_catch.specs.declared.catches.Catch.TheVariants.{Plain, Conflictor};
+ghost use Rattle.camp_catch.specs.declared.catches.Catch.TheVariants.{Plain};
 
-use crate::Catch;
-use crate::seen::{in_conflict_with, in_first_conflict, one_before, takes_back};
+use crate::seen::{against, both_behind, in_conflict_with, joined, one_before, takes_back};
 use crate::values::{bare, inverse};
-use camp_ctx::{Contexted, CtxSet, conflict, merge_behind_common};
+use crate::{Catch, Conflictor};
+use camp_ctx::{Contexted, conflict, merge_behind_common};
 use camp_prim::{Named, commute};
 use camp_seq::{Seq, invert_all, norm, past};
 use std::alloc::{AllocError, Global};
@@ -28,47 +28,11 @@ use std::alloc::{AllocError, Global};
 pub fn merge(alloc: Global, j: &Catch, k: &Catch) -> Result<Option<(Catch, Catch)>, AllocError>
     ensures exact { IfOk result (FindsPair (MergeCatch j.now k.now)) }
 {
-    match j {
-        Catch::Plain(a) => merge_plain(alloc, a, k),
-        Catch::Conflictor {
-            effect,
-            conflicts,
-            identity,
-        } => merge_conflictor(alloc, effect, conflicts, identity, k),
-    }
-}
-
-/// A plain catch and another.
-fn merge_plain(alloc: Global, a: &Named, k: &Catch) -> Result<Option<(Catch, Catch)>, AllocError>
-    ensures exact { IfOk result (FindsPair (MergeCatch (Plain a.now) k.now)) }
-{
-    match k {
-        Catch::Plain(b) => both_plain(alloc, a, b),
-        Catch::Conflictor {
-            effect,
-            conflicts,
-            identity,
-        } => plain_and_conflictor(alloc, a, effect, conflicts, identity),
-    }
-}
-
-/// A conflictor and another catch.
-fn merge_conflictor(
-    alloc: Global,
-    r: &Seq,
-    xs: &CtxSet,
-    i: &Contexted,
-    k: &Catch,
-) -> Result<Option<(Catch, Catch)>, AllocError>
-    ensures exact { IfOk result (FindsPair (MergeCatch (Conflictor r.now xs.now i.now) k.now)) }
-{
-    match k {
-        Catch::Plain(b) => mirror(alloc, r, xs, i, b),
-        Catch::Conflictor {
-            effect,
-            conflicts,
-            identity,
-        } => two_conflictors(alloc, r, xs, i, effect, conflicts, identity),
+    match (j, k) {
+        (Catch::Plain(a), Catch::Plain(b)) => both_plain(alloc, a, b),
+        (Catch::Plain(a), Catch::Conflictor(k)) => plain_and_conflictor(alloc, a, k),
+        (Catch::Conflictor(j), Catch::Plain(b)) => mirror(alloc, j, b),
+        (Catch::Conflictor(j), Catch::Conflictor(k)) => two_conflictors(alloc, j, k),
     }
 }
 
@@ -107,19 +71,9 @@ fn first_conflict(alloc: Global, a: &Named, b: &Named) -> Result<(Catch, Catch),
     requires { (b' a' : Named) → ¬ (Merges a.now b.now b' a') }
     ensures { IfOk result (λ pair. FirstConflict a.now b.now pair.0 pair.1) }
 {
-    let after = conflictor_with(alloc, a, b)?;
-    let beside = conflictor_with(alloc, b, a)?;
-    Ok((after, beside))
-}
-
-/// `([a^], {:a}, :b)`
-fn conflictor_with(alloc: Global, a: &Named, b: &Named) -> Result<Catch, AllocError>
-    ensures { IfOk result (λ made.
-        made ≡ Conflictor (inverse_of a.now ∷ []) (only (bare a.now)) (bare b.now)) }
-{
-    let own = bare(alloc, a)?;
-    let other = bare(alloc, b)?;
-    in_first_conflict(alloc, &own, &other)
+    let after = against(alloc, a, b)?;
+    let beside = against(alloc, b, a)?;
+    Ok((Catch::Conflictor(after), Catch::Conflictor(beside)))
 }
 
 /// A plain catch and a conflictor: it joins the conflictor where it conflicts with what that is, as
@@ -127,39 +81,32 @@ fn conflictor_with(alloc: Global, a: &Named, b: &Named) -> Result<Catch, AllocEr
 fn plain_and_conflictor(
     alloc: Global,
     a: &Named,
-    s: &Seq,
-    ys: &CtxSet,
-    l: &Contexted,
+    k: &Conflictor,
 ) -> Result<Option<(Catch, Catch)>, AllocError>
-    ensures exact { IfOk result (FindsPair (MergePlainConflictor a.now s.now ys.now l.now)) }
+    ensures exact { IfOk result (FindsPair (MergePlainConflictor a.now k.now)) }
 {
     let own = bare(alloc, a)?;
-    let seen = Contexted::add(s, l)?;
+    let seen = Contexted::add(&k.effect, &k.identity)?;
     let in_conflict = conflict(&own, &seen)?;
     if in_conflict {
-        let joined = plain_joins_conflictor(alloc, a, s, ys, l)?;
+        let joined = plain_joins_conflictor(alloc, a, k)?;
         return Ok(Some(joined));
     }
-    let beside = plain_beside_conflictor(a, s, ys, l)?;
+    let beside = plain_beside_conflictor(a, k)?;
     Ok(beside)
 }
 
 /// `[a] | (s, Y, l) -> (s', Y', l') | [a']`, where `a'^` added to `Y` and `l` gives `Y'` and `l'`
-fn plain_beside_conflictor(
-    a: &Named,
-    s: &Seq,
-    ys: &CtxSet,
-    l: &Contexted,
-) -> Result<Option<(Catch, Catch)>, AllocError>
-    requires { (seen : InContext) × AddsAll s.now l.now seen × (¬ (Conflict (bare a.now) seen)) }
-    ensures exact { IfOk result (FindsPair (PlainBesideConflictor a.now s.now ys.now l.now)) }
+fn plain_beside_conflictor(a: &Named, k: &Conflictor) -> Result<Option<(Catch, Catch)>, AllocError>
+    requires { (seen : InContext) × AddsAll k.now.effect k.now.identity seen × (¬ (Conflict (bare a.now) seen)) }
+    ensures exact { IfOk result (FindsPair (PlainBesideConflictor a.now k.now)) }
 {
-    let passed = past_inverse(a, s)?;
+    let passed = past_inverse(a, &k.effect)?;
     let Some((merged, back)) = passed else {
         return Ok(None);
     };
-    let after = one_before(&back, &merged, ys, l)?;
-    Ok(Some((after, Catch::Plain(back.invert()))))
+    let moved = one_before(&back, &merged, k)?;
+    Ok(Some((Catch::Conflictor(moved), Catch::Plain(back.invert()))))
 }
 
 /// `a^ s <-> s' a'^`
@@ -174,31 +121,27 @@ fn past_inverse(a: &Named, s: &Seq) -> Result<Option<(Seq, Named)>, AllocError>
 fn plain_joins_conflictor(
     alloc: Global,
     a: &Named,
-    s: &Seq,
-    ys: &CtxSet,
-    l: &Contexted,
+    k: &Conflictor,
 ) -> Result<(Catch, Catch), AllocError>
-    requires { (seen : InContext) × AddsAll s.now l.now seen × Conflict (bare a.now) seen }
-    ensures { IfOk result (λ pair. PlainJoinsConflictor a.now s.now ys.now l.now pair.0 pair.1) }
+    requires { (seen : InContext) × AddsAll k.now.effect k.now.identity seen × Conflict (bare a.now) seen }
+    ensures { IfOk result (λ pair. PlainJoinsConflictor a.now k.now pair.0 pair.1) }
 {
-    let z = bare_behind(alloc, a, s)?;
-    joins_as(alloc, a, s, ys, l, &z)
+    let z = bare_behind(alloc, a, &k.effect)?;
+    joins_as(alloc, a, k, &z)
 }
 
 /// `[a] | (s, Y, l) -> (a^ s, Y and z, l) | ([], {l}, z)`
 fn joins_as(
     alloc: Global,
     a: &Named,
-    s: &Seq,
-    ys: &CtxSet,
-    l: &Contexted,
+    k: &Conflictor,
     z: &Contexted,
 ) -> Result<(Catch, Catch), AllocError>
-    ensures { IfOk result (λ pair. JoinsAs a.now s.now ys.now l.now z.now pair.0 pair.1) }
+    ensures { IfOk result (λ pair. JoinsAs a.now k.now z.now pair.0 pair.1) }
 {
-    let after = takes_back(alloc, a, s, ys, z, l)?;
-    let beside = in_conflict_with(alloc, l, z)?;
-    Ok((after, beside))
+    let taken = takes_back(alloc, a, k, z)?;
+    let beside = in_conflict_with(alloc, &k.identity, z)?;
+    Ok((Catch::Conflictor(taken), Catch::Conflictor(beside)))
 }
 
 /// `:a` as it is seen behind a list
@@ -210,16 +153,10 @@ fn bare_behind(alloc: Global, a: &Named, list: &Seq) -> Result<Contexted, AllocE
 }
 
 /// `(r, X, i) | [b]`, as `[b] | (r, X, i)` with the two results exchanged
-fn mirror(
-    alloc: Global,
-    r: &Seq,
-    xs: &CtxSet,
-    i: &Contexted,
-    b: &Named,
-) -> Result<Option<(Catch, Catch)>, AllocError>
-    ensures exact { IfOk result (FindsPair (Mirror r.now xs.now i.now b.now)) }
+fn mirror(alloc: Global, j: &Conflictor, b: &Named) -> Result<Option<(Catch, Catch)>, AllocError>
+    ensures exact { IfOk result (FindsPair (Mirror j.now b.now)) }
 {
-    let merged = plain_and_conflictor(alloc, b, r, xs, i)?;
+    let merged = plain_and_conflictor(alloc, b, j)?;
     match merged {
         None => Ok(None),
         Some((beside, after)) => Ok(Some((after, beside))),
@@ -230,35 +167,20 @@ fn mirror(
 /// `Y'` and `l'`, and `s2^` to `X` and `i` gives `X'` and `i'`
 fn two_conflictors(
     alloc: Global,
-    r: &Seq,
-    xs: &CtxSet,
-    i: &Contexted,
-    s: &Seq,
-    ys: &CtxSet,
-    l: &Contexted,
+    j: &Conflictor,
+    k: &Conflictor,
 ) -> Result<Option<(Catch, Catch)>, AllocError>
-    ensures exact { IfOk result (FindsPair (TwoConflictors r.now xs.now i.now s.now ys.now l.now)) }
+    ensures exact { IfOk result (FindsPair (TwoConflictors j.now k.now)) }
 {
-    let merged = merged_effects(alloc, r, s)?;
+    let merged = merged_effects(alloc, &j.effect, &k.effect)?;
     let Some((s2, r2)) = merged else {
         return Ok(None);
     };
-    let in_conflict = conflict_before(r, i, s, l)?;
-    let own_identity = seen_behind(&s2, i)?;
-    let identity = seen_behind(&r2, l)?;
-    let conflicts = joined_behind(&r2, ys, in_conflict, &own_identity)?;
-    let own_conflicts = joined_behind(&s2, xs, in_conflict, &identity)?;
-    let after = Catch::Conflictor {
-        effect: s2,
-        conflicts,
-        identity,
-    };
-    let beside = Catch::Conflictor {
-        effect: r2,
-        conflicts: own_conflicts,
-        identity: own_identity,
-    };
-    Ok(Some((after, beside)))
+    let in_conflict = conflict_before(j, k)?;
+    let moved = both_behind(&r2, s2, k)?;
+    let own = both_behind(&moved.effect, r2, j)?;
+    let pair = joined_where(in_conflict, moved, own)?;
+    Ok(Some(pair))
 }
 
 /// `r | s -> s2 | r2`: two effects merged behind what they have in common, in normal order.
@@ -272,12 +194,12 @@ fn merged_effects(alloc: Global, r: &Seq, s: &Seq) -> Result<Option<(Seq, Seq)>,
     Ok(Some((norm(&merged)?, norm(&left)?)))
 }
 
-/// Whether two identities conflict, as seen before the effects.
-fn conflict_before(r: &Seq, i: &Contexted, s: &Seq, l: &Contexted) -> Result<bool, AllocError>
-    ensures { IfOk result (TellsConflict r.now i.now s.now l.now) }
+/// Whether two conflictors conflict: their identities do, as seen before the effects.
+fn conflict_before(j: &Conflictor, k: &Conflictor) -> Result<bool, AllocError>
+    ensures { IfOk result (TellsConflict j.now k.now) }
 {
-    let x = Contexted::add(r, i)?;
-    let y = Contexted::add(s, l)?;
+    let x = Contexted::add(&j.effect, &j.identity)?;
+    let y = Contexted::add(&k.effect, &k.identity)?;
     conflict(&x, &y)
 }
 
@@ -289,21 +211,23 @@ fn seen_behind(list: &Seq, x: &Contexted) -> Result<Contexted, AllocError>
     Contexted::add(&back, x)
 }
 
-/// The members that are seen before a list, as they are seen behind the list, and one more where the
-/// two conflictors are in conflict.
-fn joined_behind(
-    list: &Seq,
-    set: &CtxSet,
+/// Two conflictors, each in conflict with the other's identity too where they are in conflict.
+fn joined_where(
     in_conflict: bool,
-    member: &Contexted,
-) -> Result<CtxSet, AllocError>
-    ensures { IfOk result (JoinsBehind list.now set.now in_conflict member.now) }
+    moved: Conflictor,
+    own: Conflictor,
+) -> Result<(Catch, Catch), AllocError>
+    ensures { IfOk result (λ pair. JoinEachOther in_conflict moved own pair.0 pair.1) }
 {
-    let back = invert_all(list)?;
-    let seen = CtxSet::add(&back, set)?;
-    if in_conflict {
-        let joined = seen.insert(member)?;
-        return Ok(joined);
+    if !in_conflict {
+        return Ok((Catch::Conflictor(moved), Catch::Conflictor(own)));
     }
-    Ok(seen)
+    let conflicts = moved.conflicts.insert(&own.identity)?;
+    let beside = joined(own, &moved.identity)?;
+    let joined = Conflictor {
+        effect: moved.effect,
+        conflicts,
+        identity: moved.identity,
+    };
+    Ok((Catch::Conflictor(joined), Catch::Conflictor(beside)))
 }

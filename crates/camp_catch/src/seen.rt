@@ -1,13 +1,15 @@
-ghost use Rattle.std.specs.Prelude.{◌≡◌, ◌↔◌, [], ◌∷◌, IfOk, IsTrue};
+ghost use Rattle.std.specs.Prelude.{◌≡◌, ◌↔◌, ◌∷◌, IfOk, IsTrue};
 ghost use Rattle.camp_base.specs.Answers.{Finds};
 ghost use Rattle.camp_prim.specs.Effect.{inverse_of};
 ghost use Rattle.camp_seq.specs.NormalOrder.{Norm};
 ghost use Rattle.camp_seq.specs.Running.{inverse_all};
-ghost use Rattle.camp_ctx.specs.Contexts.{bare, only};
-ghost use Rattle.camp_catch.specs.Inside.Seen.{AllPassBefore, BothBefore, JoinedBefore, LeavesSet, OneBefore, PassesBefore, SetBefore, TakesBack};
+ghost use Rattle.camp_ctx.specs.Adding.{Adds, AddsAll, PassesBy, PassesByAll};
+ghost use Rattle.camp_ctx.specs.Contexts.{bare};
+ghost use Rattle.camp_catch.specs.Conflictors.{Becomes, against, in_conflict_with, joined_by, with_conflicts};
+ghost use Rattle.camp_catch.specs.Inside.Seen.{JoinedBefore, LeavesSet, TakesBack};
 
-use crate::Catch;
-use crate::values::{alone, inverse, undone};
+use crate::Conflictor;
+use crate::values::{alone, bare, bare_alone, inverse, undone};
 use camp_ctx::{Contexted, CtxSet, join};
 use camp_prim::{Key, Named};
 use camp_seq::{Seq, invert_all, norm};
@@ -15,12 +17,12 @@ use std::alloc::{AllocError, Global};
 use std::slice;
 
 /// `(s', X', i)`, where `s'` is `s` in normal order, and `a` added to `X` gives `X'`
-fn set_before(a: &Named, s: &Seq, xs: &CtxSet, i: Contexted) -> Result<Catch, AllocError>
-    ensures { IfOk result (SetBefore a.now s.now xs.now i) }
+fn set_before(a: &Named, s: &Seq, k: &Conflictor, i: Contexted) -> Result<Conflictor, AllocError>
+    ensures { IfOk result (Becomes (Norm s.now) (Adds a.now) (λ old new. new ≡ i) k.now) }
 {
     let effect = norm(s)?;
-    let conflicts = CtxSet::add_one(a, xs)?;
-    Ok(Catch::Conflictor {
+    let conflicts = CtxSet::add_one(a, &k.conflicts)?;
+    Ok(Conflictor {
         effect,
         conflicts,
         identity: i,
@@ -32,45 +34,45 @@ fn set_before(a: &Named, s: &Seq, xs: &CtxSet, i: Contexted) -> Result<Catch, Al
 pub(crate) fn passes_before(
     a: &Named,
     s: &Seq,
-    xs: &CtxSet,
-    i: &Contexted,
-) -> Result<Option<Catch>, AllocError>
-    ensures { IfOk result (Finds (PassesBefore a.now s.now xs.now i.now)) }
+    k: &Conflictor,
+) -> Result<Option<Conflictor>, AllocError>
+    ensures { IfOk result (Finds (Becomes (Norm s.now) (Adds a.now) (PassesBy a.now) k.now)) }
 {
-    let moved = Contexted::past_one(a, i)?;
+    let moved = Contexted::past_one(a, &k.identity)?;
     let Some(identity) = moved else {
         return Ok(None);
     };
-    let made = set_before(a, s, xs, identity)?;
+    let made = set_before(a, s, k, identity)?;
     Ok(Some(made))
 }
 
 /// `(s', X', i')`, where `s'` is `s` in normal order, and `a` added to `X` and `i` gives `X'` and `i'`
-pub(crate) fn one_before(
-    a: &Named,
-    s: &Seq,
-    xs: &CtxSet,
-    i: &Contexted,
-) -> Result<Catch, AllocError>
-    ensures { IfOk result (OneBefore a.now s.now xs.now i.now) }
+pub(crate) fn one_before(a: &Named, s: &Seq, k: &Conflictor) -> Result<Conflictor, AllocError>
+    ensures { IfOk result (Becomes (Norm s.now) (Adds a.now) (Adds a.now) k.now) }
 {
-    let effect = norm(s)?;
-    let conflicts = CtxSet::add_one(a, xs)?;
-    let identity = Contexted::add_one(a, i)?;
-    Ok(Catch::Conflictor {
-        effect,
-        conflicts,
-        identity,
-    })
+    let identity = Contexted::add_one(a, &k.identity)?;
+    set_before(a, s, k, identity)
 }
 
 /// `(s, X', i')`, where `r` added to `X` and `i` gives `X'` and `i'`
-pub(crate) fn both_before(r: &Seq, s: Seq, xs: &CtxSet, i: &Contexted) -> Result<Catch, AllocError>
-    ensures { IfOk result (BothBefore r.now s xs.now i.now) }
+pub(crate) fn both_before(r: &Seq, s: Seq, k: &Conflictor) -> Result<Conflictor, AllocError>
+    ensures { IfOk result (Becomes (λ t. t ≡ s) (AddsAll r.now) (AddsAll r.now) k.now) }
 {
-    let conflicts = CtxSet::add(r, xs)?;
-    let identity = Contexted::add(r, i)?;
-    Ok(Catch::Conflictor {
+    others_before(r, s, k, &k.conflicts)
+}
+
+/// The same of a conflictor with other conflicts in place of its own.
+pub(crate) fn others_before(
+    r: &Seq,
+    s: Seq,
+    k: &Conflictor,
+    others: &CtxSet,
+) -> Result<Conflictor, AllocError>
+    ensures { IfOk result (Becomes (λ t. t ≡ s) (AddsAll r.now) (AddsAll r.now) (with_conflicts others.now k.now)) }
+{
+    let conflicts = CtxSet::add(r, others)?;
+    let identity = Contexted::add(r, &k.identity)?;
+    Ok(Conflictor {
         effect: s,
         conflicts,
         identity,
@@ -78,28 +80,27 @@ pub(crate) fn both_before(r: &Seq, s: Seq, xs: &CtxSet, i: &Contexted) -> Result
 }
 
 /// `(s, X', i')`, where `r^` added to `X` and `i` gives `X'` and `i'`
-pub(crate) fn both_behind(r: &Seq, s: Seq, xs: &CtxSet, i: &Contexted) -> Result<Catch, AllocError>
-    ensures { IfOk result (BothBefore (inverse_all r.now) s xs.now i.now) }
+pub(crate) fn both_behind(r: &Seq, s: Seq, k: &Conflictor) -> Result<Conflictor, AllocError>
+    ensures { IfOk result (Becomes (λ t. t ≡ s) (AddsAll (inverse_all r.now)) (AddsAll (inverse_all r.now)) k.now) }
 {
     let back = invert_all(r)?;
-    both_before(&back, s, xs, i)
+    both_before(&back, s, k)
 }
 
 /// `Some((s, X', i'))`, where `r` added to `X` gives `X'`, and `r` passes by `i`. None where it can't.
 pub(crate) fn all_pass_before(
     r: &Seq,
     s: Seq,
-    xs: &CtxSet,
-    i: &Contexted,
-) -> Result<Option<Catch>, AllocError>
-    ensures { IfOk result (Finds (AllPassBefore r.now s xs.now i.now)) }
+    k: &Conflictor,
+) -> Result<Option<Conflictor>, AllocError>
+    ensures { IfOk result (Finds (Becomes (λ t. t ≡ s) (AddsAll r.now) (PassesByAll r.now) k.now)) }
 {
-    let moved = Contexted::past(r, i)?;
+    let moved = Contexted::past(r, &k.identity)?;
     let Some(identity) = moved else {
         return Ok(None);
     };
-    let conflicts = CtxSet::add(r, xs)?;
-    Ok(Some(Catch::Conflictor {
+    let conflicts = CtxSet::add(r, &k.conflicts)?;
+    Ok(Some(Conflictor {
         effect: s,
         conflicts,
         identity,
@@ -110,51 +111,36 @@ pub(crate) fn all_pass_before(
 pub(crate) fn joined_behind(
     r: &Seq,
     s: Seq,
-    xs: &CtxSet,
-    i: &Contexted,
+    k: &Conflictor,
     l: &Contexted,
-) -> Result<Catch, AllocError>
-    ensures { IfOk result (JoinedBefore (inverse_all r.now) s xs.now i.now l.now) }
+) -> Result<Conflictor, AllocError>
+    ensures { IfOk result (JoinedBefore (inverse_all r.now) s k.now l.now) }
 {
-    let back = invert_all(r)?;
-    joined_before(&back, s, xs, i, l)
+    let moved = both_behind(r, s, k)?;
+    joined(moved, l)
 }
 
-/// `(s, X' and l, i')`, where `r` added to `X` and `i` gives `X'` and `i'`
-fn joined_before(
-    r: &Seq,
-    s: Seq,
-    xs: &CtxSet,
-    i: &Contexted,
-    l: &Contexted,
-) -> Result<Catch, AllocError>
-    ensures { IfOk result (JoinedBefore r.now s xs.now i.now l.now) }
+/// `(r, X and l, i)`
+pub(crate) fn joined(mut k: Conflictor, l: &Contexted) -> Result<Conflictor, AllocError>
+    ensures { IfOk result (λ made. made ≡ joined_by l.now k) }
 {
-    let others = CtxSet::add(r, xs)?;
-    let conflicts = others.insert(l)?;
-    let identity = Contexted::add(r, i)?;
-    Ok(Catch::Conflictor {
-        effect: s,
-        conflicts,
-        identity,
-    })
+    k.conflicts = k.conflicts.insert(l)?;
+    Ok(k)
 }
 
-/// `(s', X and l, i)`, where `s'` is `a^ s` in normal order
+/// `(s', X and l, i)`, where `s'` is `a^ r` in normal order
 pub(crate) fn takes_back(
     alloc: Global,
     a: &Named,
-    s: &Seq,
-    xs: &CtxSet,
+    k: &Conflictor,
     l: &Contexted,
-    i: &Contexted,
-) -> Result<Catch, AllocError>
-    ensures { IfOk result (TakesBack a.now s.now xs.now l.now i.now) }
+) -> Result<Conflictor, AllocError>
+    ensures { IfOk result (TakesBack a.now k.now l.now) }
 {
-    let effect = with_undone(alloc, a, s)?;
-    let conflicts = xs.insert(l)?;
-    let identity = i.try_clone()?;
-    Ok(Catch::Conflictor {
+    let effect = with_undone(alloc, a, &k.effect)?;
+    let conflicts = k.conflicts.insert(l)?;
+    let identity = k.identity.try_clone()?;
+    Ok(Conflictor {
         effect,
         conflicts,
         identity,
@@ -178,36 +164,27 @@ fn undone_before(alloc: Global, a: &Named, s: &Seq) -> Result<Seq, AllocError>
 }
 
 /// `(s', X without a label, i)`, where `s'` is `s` in normal order
-pub(crate) fn without_member(
-    key: &Key,
-    s: &Seq,
-    xs: &CtxSet,
-    i: &Contexted,
-) -> Result<Catch, AllocError>
-    ensures { IfOk result (LeavesSet key.now s.now xs.now i.now) }
+pub(crate) fn without_member(key: &Key, s: &Seq, k: &Conflictor) -> Result<Conflictor, AllocError>
+    ensures { IfOk result (LeavesSet key.now s.now k.now) }
 {
     let effect = norm(s)?;
-    let conflicts = xs.without(key)?;
-    let identity = i.try_clone()?;
-    Ok(Catch::Conflictor {
+    let conflicts = k.conflicts.without(key)?;
+    let identity = k.identity.try_clone()?;
+    Ok(Conflictor {
         effect,
         conflicts,
         identity,
     })
 }
 
-/// `([q^], {:q}, i)`, for a `:q`
-pub(crate) fn in_first_conflict(
-    alloc: Global,
-    l: &Contexted,
-    i: &Contexted,
-) -> Result<Catch, AllocError>
-    ensures { IfOk result (λ k. k ≡ Catch.Conflictor (inverse_of l.now.patch ∷ []) (only l.now) i.now) }
+/// `([a^], {:a}, :b)`
+pub(crate) fn against(alloc: Global, a: &Named, b: &Named) -> Result<Conflictor, AllocError>
+    ensures { IfOk result (λ made. made ≡ against a.now b.now) }
 {
-    let effect = undone(alloc, l.patch())?;
-    let conflicts = alone(alloc, l)?;
-    let identity = i.try_clone()?;
-    Ok(Catch::Conflictor {
+    let effect = undone(alloc, a)?;
+    let conflicts = bare_alone(alloc, a)?;
+    let identity = bare(alloc, b)?;
+    Ok(Conflictor {
         effect,
         conflicts,
         identity,
@@ -219,12 +196,12 @@ pub(crate) fn in_conflict_with(
     alloc: Global,
     l: &Contexted,
     i: &Contexted,
-) -> Result<Catch, AllocError>
-    ensures { IfOk result (λ k. k ≡ Catch.Conflictor [] (only l.now) i.now) }
+) -> Result<Conflictor, AllocError>
+    ensures { IfOk result (λ made. made ≡ in_conflict_with l.now i.now) }
 {
     let conflicts = alone(alloc, l)?;
     let identity = i.try_clone()?;
-    Ok(Catch::Conflictor {
+    Ok(Conflictor {
         effect: Seq::empty(alloc),
         conflicts,
         identity,

@@ -47,6 +47,14 @@ pub(crate) fn alone(alloc: Global, x: &Contexted) -> Result<CtxSet, AllocError>
     CtxSet::empty(alloc).insert(x)
 }
 
+/// `{:p}`
+pub(crate) fn bare_alone(alloc: Global, p: &Named) -> Result<CtxSet, AllocError>
+    ensures { IfOk result (λ set. set ≡ only (bare p.now)) }
+{
+    let own = bare(alloc, p)?;
+    alone(alloc, &own)
+}
+
 /// Whether a list is the inverse of `a` and no more.
 pub(crate) fn undoes(s: &Seq, a: &Named) -> Result<bool, AllocError>
     ensures { IfOk result (λ found. IsTrue found ↔ (s.now ≡ inverse_of a.now ∷ [])) }

@@ -2,7 +2,7 @@
 use Rattle.std.specs.Prelude.{ℕ, List, [], ◌∷◌, ◌++◌, codes}
 use Rattle.camp_prim.specs.declared.named.Named.{Named}
 use Rattle.camp_catch.specs.declared.catches.Catch.{Catch}
-use Rattle.camp_catch.specs.declared.catches.Catch.TheVariants.{Plain, Conflictor}
+use Rattle.camp_catch.specs.declared.catches.Catch.TheVariants.{Plain}
 use Rattle.camp_notation.specs.Words.{row}
 use Rattle.camp_notation.specs.Patches.{named_text}
 use Rattle.camp_notation.specs.Lists.{list_text}
@@ -11,8 +11,9 @@ use Rattle.camp_notation.specs.Contexts.{contexted_text, set_text}
 -- a plain catch as [PATCH], a conflictor as (EFFECT, SET, IDENTITY)
 abbrev pub catch_text : List Named → Catch → List ℕ
 catch_text known (Plain a) = 91 ∷ named_text known a ++ 93 ∷ []
-catch_text known (Conflictor r xs i) =
-    40 ∷ list_text known r ++ codes ", " ++ set_text known xs ++ codes ", " ++ contexted_text known i ++ 41 ∷ []
+catch_text known (Catch.Conflictor k) =
+    40 ∷ list_text known k.effect ++ codes ", " ++ set_text known k.conflicts ++ codes ", "
+    ++ contexted_text known k.identity ++ 41 ∷ []
 
 -- the catches in a row, between brackets
 abbrev pub catches_text : List Named → List Catch → List ℕ

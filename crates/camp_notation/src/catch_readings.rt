@@ -5,7 +5,7 @@ use crate::context_readings::{read_member, read_members};
 use crate::cursors::Cursor;
 use crate::readings::{read_item, read_items};
 use crate::{NotationError, catch_text, catches_text};
-use camp_catch::Catch;
+use camp_catch::{Catch, Conflictor};
 use camp_prim::Named;
 use camp_share::Shared;
 use std::alloc::Global;
@@ -104,9 +104,9 @@ fn read_conflictor(
     cursor.expect(b", ", ',')?;
     let identity = read_member(alloc, known, cursor)?;
     cursor.expect(b")", ')')?;
-    Ok(Catch::Conflictor {
+    Ok(Catch::Conflictor(Conflictor {
         effect,
         conflicts,
         identity,
-    })
+    }))
 }

@@ -5,10 +5,8 @@ use crate::contexts::{append_contexted, append_set};
 use crate::lists::append_list;
 use crate::patches::append_named;
 use crate::words::append_separator;
-use camp_catch::Catch;
-use camp_ctx::{Contexted, CtxSet};
+use camp_catch::{Catch, Conflictor};
 use camp_prim::Named;
-use camp_seq::Seq;
 use camp_share::Shared;
 use std::alloc::{AllocError, Global};
 
@@ -55,11 +53,7 @@ fn append_catch(text: &mut String, known: &[Named], j: &Catch) -> Result<(), All
 {
     match j {
         Catch::Plain(a) => append_plain_catch(text, known, a),
-        Catch::Conflictor {
-            effect,
-            conflicts,
-            identity,
-        } => append_conflictor(text, known, effect, conflicts, identity),
+        Catch::Conflictor(k) => append_conflictor(text, known, k),
     }
 }
 
@@ -74,18 +68,16 @@ fn append_plain_catch(text: &mut String, known: &[Named], a: &Named) -> Result<(
 fn append_conflictor(
     text: &mut String,
     known: &[Named],
-    r: &Seq,
-    xs: &CtxSet,
-    i: &Contexted,
+    k: &Conflictor,
 ) -> Result<(), AllocError>
     ensures { OnOk result
-        (string_bytes text.new ≡ string_bytes text.old ++ catch_text known.now (Catch.Conflictor r.now xs.now i.now)) }
+        (string_bytes text.new ≡ string_bytes text.old ++ catch_text known.now (Catch.Conflictor k.now)) }
 {
     text.push('(')?;
-    append_list(text, known, r.items())?;
+    append_list(text, known, k.effect.items())?;
     text.push_str(", ")?;
-    append_set(text, known, xs)?;
+    append_set(text, known, &k.conflicts)?;
     text.push_str(", ")?;
-    append_contexted(text, known, i)?;
+    append_contexted(text, known, &k.identity)?;
     text.push(')')
 }

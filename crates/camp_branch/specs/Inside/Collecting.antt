@@ -8,7 +8,7 @@ use Rattle.std.specs.declared.cmp.Ordering.{Ordering}
 use Rattle.std.specs.declared.cmp.Ordering.TheVariants.{Less, Equal, Greater}
 use Rattle.camp_ctx.specs.Contexts.{Contexts}
 use Rattle.camp_catch.specs.declared.catches.Catch.{Catch}
-use Rattle.camp_catch.specs.declared.catches.Catch.TheVariants.{Plain, Conflictor}
+use Rattle.camp_catch.specs.declared.catches.Catch.TheVariants.{Plain}
 use Rattle.camp_branch.specs.Branches.{name_of}
 
 -- two names, the lesser first, where one is
@@ -28,7 +28,7 @@ names_within xs = map (λ key. key.name) (keys xs)
 -- the names of the patches in the set of a catch
 abbrev pub names_against : Catch → List (List ℕ)
 names_against (Plain a) = []
-names_against (Conflictor r xs i) = names_within xs
+names_against (Catch.Conflictor k) = names_within k.conflicts
 
 -- the conflicts of a catch
 abbrev pub pairs_at : Catch → List (List ℕ × List ℕ)

@@ -1,6 +1,7 @@
-use Rattle.std.proofs.Common.{ap, ◌∙◌}
+use Rattle.std.proofs.Common.{ap}
+use Rattle.camp_catch.specs.declared.catches.Catch.{Catch}
 use Rattle.camp_catch.specs.declared.catches.Catch.TheVariants.{Plain}
 use Rattle.camp_catch.proofs.commuting.plain_and_first_conflict.Goals as goal
 
 pub returns : goal.returns
-returns c = (ap Plain (c.in_ok-second.ensures ∙ c.patch.ensures), c.in_ok-first.ensures)
+returns c = (ap Plain c.in_ok-second.ensures, ap Catch.Conflictor c.in_ok-first.ensures)

@@ -1,4 +1,5 @@
-use Rattle.camp_catch.proofs.CommuteSteps.{no_identity, plain_past_from}
+use Rattle.std.proofs.Common.{refl}
+use Rattle.camp_catch.proofs.CommuteSteps.{no_identity}
 use Rattle.camp_catch.proofs.commuting.plain_past_conflictor.Goals as goal
 
 pub returns-in_default : goal.returns-in_default
@@ -10,10 +11,10 @@ pub returns-in-None : goal.returns-in-None
 returns-in-None c =
     let past = rw c.in-Some.is at c.in_ok-behind.ensures.exact in
     let never = rw c.in-None.is at c.in_ok-made.ensures in
-    no_identity c.args.a.now c.args.s.now c.args.ys.now c.args.l.now _ _ past never
+    no_identity c.args.a.now c.args.k.now _ _ past never
 
 pub returns : goal.returns
 returns c =
     let past = rw c.in-Some.is at c.in_ok-behind.ensures.exact in
     let made = rw c.in-Some-made.is at c.in_ok-made.ensures in
-    plain_past_from c.args.a.now c.args.s.now c.args.ys.now c.args.l.now _ _ past c.requires _ made
+    record { apart = c.requires; passed = _; a' = _; passes = past; moved = _; becomes = made; second = refl; first = refl }

@@ -1,3 +1,4 @@
+use Rattle.std.proofs.Common.{refl}
 use Rattle.camp_catch.proofs.conflictors.joins_behind_effects.Goals as goal
 
 pub returns-in_default : goal.returns-in_default
@@ -8,4 +9,4 @@ returns-in_default c =
 pub returns : goal.returns
 returns c =
     let pass = rw c.in-Some.is at c.in_ok-passed.ensures in
-    record { effect = _; rr' = _; effects = pass; second = c.in_ok-second.ensures; first = c.in_ok-first.ensures }
+    record { effect = _; rr' = _; effects = pass; moved = _; becomes = c.in_ok-moved.ensures; own = _; joined = c.in_ok-own.ensures; second = refl; first = refl }

@@ -1,4 +1,4 @@
-use Rattle.camp_catch.proofs.CommuteResults.{cases_exclude}
+use Rattle.camp_catch.proofs.CommuteCases.{cases_exclude}
 use Rattle.camp_catch.proofs.laws.cases_exclude_one_another.Goals as goal
 
 pub returns : goal.returns

@@ -1,4 +1,4 @@
-use Rattle.camp_catch.proofs.MergeResults.{one_merging}
+use Rattle.camp_catch.proofs.MergeCases.{one_merging}
 use Rattle.camp_catch.proofs.laws.merge_is_unique.Goals as goal
 
 pub returns : goal.returns

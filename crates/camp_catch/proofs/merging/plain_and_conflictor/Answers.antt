@@ -20,4 +20,4 @@ returns c =
     let seen = c.in_ok-seen.seen in
     let apart : ¬ (Conflict (bare c.args.a.now) seen) =
     λ conflict. let yes = c.in_ok-in_conflict.ensures.1 (subst (λ x. Conflict x seen) (sym c.in_ok-own.ensures) conflict) in cc in
-    record { exact = only_beside c.args.a.now c.args.s.now c.args.ys.now c.args.l.now seen c.in_ok-seen.ensures apart c.in_ok-beside.beside c.in_ok-beside.ensures.exact }
+    record { exact = only_beside c.args.a.now c.args.k.now seen c.in_ok-seen.ensures apart c.in_ok-beside.beside c.in_ok-beside.ensures.exact }

@@ -1,7 +1,8 @@
-use Rattle.std.proofs.Common.{IfOk, subst}
-use Rattle.camp_catch.specs.Inside.Seen.{BothBefore}
+use Rattle.std.proofs.Common.{◌≡◌, IfOk, subst}
+use Rattle.camp_ctx.specs.Adding.{AddsAll}
+use Rattle.camp_catch.specs.Conflictors.{Becomes}
 use Rattle.camp_catch.proofs.seen.both_behind.Goals as goal
 
 pub returns : goal.returns
 returns c =
-    subst (λ b. IfOk c.both_before.result (BothBefore b c.args.s c.args.xs.now c.args.i.now)) c.in_ok-back.ensures c.both_before.ensures
+    subst (λ b. IfOk c.both_before.result (Becomes (λ t. t ≡ c.args.s) (AddsAll b) (AddsAll b) c.args.k.now)) c.in_ok-back.ensures c.both_before.ensures

@@ -1,7 +1,6 @@
-use Rattle.std.proofs.Common.{IfOk, subst}
-use Rattle.camp_catch.specs.Inside.Seen.{JoinedBefore}
+use Rattle.std.proofs.lemmas.Result.{IfOk-weaker}
 use Rattle.camp_catch.proofs.seen.joined_behind.Goals as goal
 
 pub returns : goal.returns
 returns c =
-    subst (λ b. IfOk c.joined_before.result (JoinedBefore b c.args.s c.args.xs.now c.args.i.now c.args.l.now)) c.in_ok-back.ensures c.joined_before.ensures
+    IfOk-weaker c.joined.result _ _ (λ made is. record { moved = c.in_ok-moved.moved; becomes = c.in_ok-moved.ensures; is = is }) c.joined.ensures

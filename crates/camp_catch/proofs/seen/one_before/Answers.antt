@@ -1,13 +1,8 @@
-use Rattle.std.proofs.Common.{refl}
+use Rattle.std.proofs.Common.{sym, subst}
+use Rattle.std.proofs.lemmas.Result.{IfOk-weaker}
+use Rattle.camp_ctx.specs.Adding.{Adds}
 use Rattle.camp_catch.proofs.seen.one_before.Goals as goal
 
 pub returns : goal.returns
-returns c = record {
-  s' = c.in_ok-effect.effect;
-  effect = c.in_ok-effect.ensures.order;
-  xs' = c.in_ok-conflicts.conflicts;
-  conflicts = c.in_ok-conflicts.ensures;
-  i' = c.in_ok-identity.identity;
-  identity = c.in_ok-identity.ensures;
-  is = refl;
-}
+returns c =
+    IfOk-weaker c.set_before.result _ _ (λ made w. record { effect = w.effect; conflicts = w.conflicts; identity = subst (Adds c.args.a.now c.args.k.now.identity) (sym w.identity) c.in_ok-identity.ensures }) c.set_before.ensures

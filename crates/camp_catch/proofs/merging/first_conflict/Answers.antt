@@ -1,0 +1,6 @@
+use Rattle.std.proofs.Common.{ap}
+use Rattle.camp_catch.specs.declared.catches.Catch.{Catch}
+use Rattle.camp_catch.proofs.merging.first_conflict.Goals as goal
+
+pub returns : goal.returns
+returns c = record { conflict = c.requires; after = ap Catch.Conflictor c.in_ok-after.ensures; beside = ap Catch.Conflictor c.in_ok-beside.ensures }
