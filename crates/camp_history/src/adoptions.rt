@@ -80,7 +80,7 @@ impl<State: Object> Seat<State> {
 }
 
 impl<State: Object> Head<State> {
-    ghost use Rattle.camp_object.specs.Histories.{IsLegal};
+    ghost use Rattle.camp_object.specs.Histories.{replay, IsLegal};
     ghost use Rattle.camp_row.specs.Known.{Leads};
     ghost use Rattle.camp_history.specs.Seats.{IsSeatOf, asked, history_of};
     ghost use Rattle.camp_history.specs.Inside.Steps.{entries_of, SeesMore};
@@ -202,10 +202,10 @@ impl<State: Object> Head<State> {
         ensures legal { IsLegal State.object (history_of seat.new) }
     {
         seat.is_whole();
-        let answer = match self.longest(seat, trail) {
-            Some(version) => seat.adopt(&self.row, trail, version),
-            None => Ok(()),
+        let Some(version) = self.longest(seat, trail) else {
+            return Ok(());
         };
+        let answer = seat.adopt(&self.row, trail, version);
         seat.is_whole();
         answer
     }
@@ -231,14 +231,16 @@ impl<State: Object> Head<State> {
     }
 
     /// Puts a version that was made for the last call that a seat has seen.
-    pub(crate) fn put(&self, seat: &mut Seat<State>, made: Made<State>)
+    pub(crate) fn put(&self, seat: &mut Seat<State>, made: Option<Made<State>>)
         requires seat { IsSeatOf self.now seat.old }
-        requires made { IsMade self.now (history_of seat.old) made }
+        requires made { IfSome made (IsMade self.now (history_of seat.old)) }
         ensures seat { IsSeatOf self.now seat.new }
         ensures known { seat.new.known ≡ seat.old.known }
         ensures marks { seat.new.marks ≡ seat.old.marks }
     {
-        let Made { version, front } = made;
+        let Some(Made { version, front }) = made else {
+            return;
+        };
         if let Some(slot) = self.slot_at(seat.position()) {
             let _put = slot.set(version);
         }

@@ -114,14 +114,12 @@ impl<State: Object> Head<State> {
         if seat.accepted() == self.row.per_seat() {
             return Err(Fault::Full);
         }
-        let next = Shared::new(*seat.marks.allocator(), next)?;
-        let made = self.version_for(seat, call, &next)?;
-        if !seat.publish(&self.row, call, next, gate, lost)? {
+        let state = Shared::new(*seat.marks.allocator(), next)?;
+        let made = self.version_for(seat, call, &state)?;
+        if !seat.publish(&self.row, call, state, gate, lost)? {
             return Ok(None);
         }
-        if let Some(made) = made {
-            self.put(seat, made);
-        }
+        self.put(seat, made);
         Ok(Some(State::done(seat.position())))
     }
 }

@@ -157,13 +157,13 @@ impl<State: Object> Head<State> {
         let Decided::Next(state) = seat.state.decide(self.calls.value(&call))? else {
             return Err(AllocError);
         };
-        let state = Shared::new(*seat.marks.allocator(), state)?;
+        let next_state = Shared::new(*seat.marks.allocator(), state)?;
         self.row.advance(&mut seat.pass, next);
         seat.marks.push_reserved(Mark {
             seat: entry.seat,
             call,
         });
-        seat.state = state;
+        seat.state = next_state;
         Ok(())
     }
 
