@@ -54,4 +54,3 @@ returns-clause-asks g c =
     ap (map asked) made
     ∙ made_asks seat c.self.invariant.begins c.args.call.now
     ∙ ap (λ seat. history_of seat ++ (seat.known.number, c.args.call.now.value) ∷ []) c.self.view_is
-
