@@ -171,7 +171,7 @@ fn run_client<R: Wait, State: Object, G: Gate>(
 }
 
 /// Each client asks its section in a thread of its own.
-fn run_clients<R: Threads + Wait + Sync, State: Object + Send, G: Gate + Sync>(
+fn run_clients<R: Threads + Wait + Sync, State: Object + Send + Sync, G: Gate + Sync>(
     rt: &R,
     alloc: Global,
     head: &Head<State>,
@@ -252,11 +252,12 @@ fn open<State: Object>(
     seats: u32,
     per_seat: u32,
     tries: u32,
+    every: u32,
 ) -> Result<(Head<State>, Vec<Seat<State>>), AllocError>
-    requires { IsInRange seats per_seat tries 0 }
+    requires { IsInRange seats per_seat tries every }
     ensures { IfOk result (λ made. IsOpened seats per_seat tries made.0 made.1.items) }
 {
-    match Head::new(alloc, seats, per_seat, tries, 0) {
+    match Head::new(alloc, seats, per_seat, tries, every) {
         Ok(made) => Ok(made),
         Err(_) => Err(AllocError),
     }
@@ -264,12 +265,14 @@ fn open<State: Object>(
 
 /// Asks sections of calls over a head with a seat for each, section k at seat k: the first alone,
 /// and then each further one in a thread of its own, whose seat has met seat 0. Afterwards seat 0
-/// meets every seat, and every seat meets seat 0; what seat 0 has seen is the history.
-pub fn shared<R: Threads + Wait + Sync, State: Object + Send, G: Gate + Sync>(
+/// meets every seat, and every seat meets seat 0; what seat 0 has seen is the history. The head keeps
+/// a version for each position that is a multiple of `every`, 0 to 4,096; none for 0.
+pub fn shared<R: Threads + Wait + Sync, State: Object + Send + Sync, G: Gate + Sync>(
     rt: &R,
     alloc: Global,
     sections: &[Vec<State::Call>],
     tries: u32,
+    every: u32,
     gate: &G,
 ) -> Result<HeadRun<State>, AllocError>
 where
@@ -278,11 +281,12 @@ where
     requires sections { (0 < length sections.now) × (length sections.now ≤ 64) }
     requires writing { All (λ calls. count_by State.object.is_writing calls.items ≤ 65536) sections.now }
     requires tries { (0 < tries) × (tries ≤ 1000) }
+    requires every { every ≤ 4096 }
     ensures { IfOk result (λ run.
         IsShared State.object tries (lists_of sections.now) (lists_of run.answers.items) run.history.items) }
 {
     let per_seat = most_writing::<State>(sections);
-    let (head, mut seats) = open::<State>(alloc, sections.len() as u32, per_seat, tries)?;
+    let (head, mut seats) = open::<State>(alloc, sections.len() as u32, per_seat, tries, every)?;
     let opener = seats.remove(0);
     let clients = new_clients(alloc, seats)?;
     over_head::<R, State, G>(rt, alloc, &head, gate, sections, opener, clients)
@@ -290,7 +294,7 @@ where
 
 /// Asks sections of calls over a head, section k at seat k: the first alone, and then each further
 /// one in a thread of its own.
-fn over_head<R: Threads + Wait + Sync, State: Object + Send, G: Gate + Sync>(
+fn over_head<R: Threads + Wait + Sync, State: Object + Send + Sync, G: Gate + Sync>(
     rt: &R,
     alloc: Global,
     head: &Head<State>,

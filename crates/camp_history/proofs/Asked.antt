@@ -1,6 +1,7 @@
 -- Lemmas on the answers to a call at a seat.
-use Rattle.std.proofs.Common.{◌≡◌, ◌≢◌, ℕ, suc, ◌+◌, ◌<◌, ◌≤◌, true, false, List, [], ◌∷◌, ◌++◌, length, map, All, Option, None, Some, Result, Ok, Err, refl, sym, ◌∙◌, ap, subst, arith, add-one}
+use Rattle.std.proofs.Common.{◌≡◌, ◌≢◌, ℕ, suc, ◌+◌, ◌<◌, ◌≤◌, true, false, List, [], ◌∷◌, ◌++◌, length, map, All, Option, None, Some, Result, Ok, Err, IsErrAnd, refl, sym, ◌∙◌, ap, subst, arith, add-one}
 use Rattle.std.proofs.lemmas.List.{length-append, append-nil, append_assoc, map-append}
+use Rattle.std.proofs.lemmas.List.Elements.{All-same}
 use Rattle.boxcar.specs.Table.{Where, Shows}
 use Rattle.camp_object.specs.Objects.{Sequential, IsLawful}
 use Rattle.camp_object.specs.Histories.{IsFront, replay, IsLegal, IsAccepted, own}
@@ -8,13 +9,14 @@ use Rattle.camp_object.specs.Deciding.{Decides}
 use Rattle.camp_object.specs.Asking.{Caller, Ask, AddsNothing, Loses, IsNotBusy}
 use Rattle.camp_object.specs.declared.objects.Decided.TheVariants.{Next, Answer}
 use Rattle.camp_object.specs.declared.faults.Fault.{Fault}
+use Rattle.camp_object.specs.declared.faults.Fault.TheVariants.{Memory}
 use Rattle.camp_object.proofs.Fronts.{front_self}
 use Rattle.camp_object.proofs.Replays.{replay_accepted, accepted_at, some_is_some}
-use Rattle.camp_object.proofs.Asks.{ask_done, ask_since, loses_more, never_busy_among_own}
+use Rattle.camp_object.proofs.Asks.{ask_done, ask_memory, ask_since, loses_more, never_busy_among_own}
 use Rattle.camp_history.specs.Seats.{HeadId, Seated, asked, history_of, IsSeatOf, caller_at}
-use Rattle.camp_history.specs.Inside.Steps.{entry_of, entries_of, DecidesAt, SeesMore, FindsMore, Publishes, LosesOne}
+use Rattle.camp_history.specs.Inside.Steps.{entry_of, entries_of, DecidesAt, SeesMore, FindsMore, Publishes, LosesOne, Attempts}
 use Rattle.camp_history.specs.declared.marks.Mark.{Mark}
-use Rattle.camp_history.proofs.Seeing.{history_more, all_more, history_front}
+use Rattle.camp_history.proofs.Seeing.{history_more, all_more, history_front, sees_more_self}
 
 -- a seat that sees more adds nothing of its own
 pub adds_nothing : {Call : Type 0} (head : HeadId) {old new : Seated Call} → SeesMore old new → AddsNothing (caller_at head old) (history_of old) (history_of new)
@@ -40,11 +42,23 @@ module _ {State Call Reply : Type 0} (object : Sequential State Call Reply) wher
       ask_done object lawful (caller_at head old) (history_of old) (history_of old) (history_of new) call.value at reply
       (front_self (history_of old)) refl accepted (λ _. room) (λ _. refl) (history_more old.marks new.marks (record { seat = old.known.number; call = call }) publishes.marks) position is
 
+-- an attempt that fails for want of memory
+pub attempts_nothing : {State Call Reply : Type 0} (object : Sequential State Call Reply) (head : HeadId) (old new : Seated Call) (call : Call) (answer : Result (Option Reply) Fault)
+    → IsErrAnd answer (λ fault. fault ≡ Memory) → IsLegal object (history_of old) → new ≡ old → Attempts object head old call answer new
+attempts_nothing object head old new call (Ok reply) memory legal same = absurd memory
+attempts_nothing {Call = Call} object head old new call (Err fault) memory legal same =
+    let Asks : Fault → Type 0 = λ fault. Ask object (caller_at head old) (history_of old) call (Err fault) (history_of new) in
+    let Stays : Seated Call → Type 0 = λ seat. Ask object (caller_at head old) (history_of old) call (Err Memory) (history_of seat) in
+    subst Asks (sym memory) (
+    subst Stays (sym same) (ask_memory object (caller_at head old) (history_of old) (history_of old) call (front_self (history_of old)) (adds_nothing head (sees_more_self old)) legal)
+    )
+
 -- a seat that published is one of its head
 pub seat_published : {Call : Type 0} (head : HeadId) (old new : Seated Call) (call : Where Call) → IsSeatOf head old → Shows head.store call → Publishes old call new → IsSeatOf head new
 seat_published head old new call of shows publishes = record {
   row = publishes.row ∙ of.row;
   stored = all_more old.marks new.marks (record { seat = old.known.number; call = call }) publishes.marks (λ mark. Shows head.store mark.call) of.stored shows;
+  front_stored = All-same (λ mark. Shows head.store mark.call) new.front old.front publishes.front of.front_stored;
 }
 
 -- a seat that found more has seen no more

@@ -3,3 +3,4 @@ pub mod Seeing
 pub mod Asked
 pub mod Compared
 pub mod Together
+pub mod Versioned

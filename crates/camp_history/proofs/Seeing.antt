@@ -1,7 +1,7 @@
 -- Lemmas on what a seat sees.
 use Rattle.std.proofs.Common.{◌≡◌, ◌≢◌, ℕ, ◌+◌, ◌<◌, ◌≤◌, List, [], ◌∷◌, ◌++◌, length, map, All, Option, None, Some, refl, sym, ◌∙◌, ap, subst, arith}
 use Rattle.std.proofs.lemmas.List.Elements.{All-push, All-same}
-use Rattle.std.proofs.lemmas.List.{map-append, length-map}
+use Rattle.std.proofs.lemmas.List.{append_assoc, map-append, length-map}
 use Rattle.boxcar.specs.Table.{Shows}
 use Rattle.camp_object.specs.Objects.{Sequential, IsLawful}
 use Rattle.camp_object.specs.Histories.{IsFront, replay, own}
@@ -25,6 +25,10 @@ module _ {Call : Type 0} (marks now : List (Mark Call)) (mark : Mark Call) (grow
 
   pub history_more : map asked now ≡ map asked marks ++ asked mark ∷ []
   history_more = ap (map asked) grows ∙ map_more asked marks mark
+
+  pub begins_more : (list : List (ℕ × Call)) → IsFront list (map asked marks) → IsFront list (map asked now)
+  begins_more list begins =
+      record { rest = begins.rest ++ asked mark ∷ []; makes = sym (append_assoc list begins.rest (asked mark ∷ [])) ∙ ap (λ l. l ++ asked mark ∷ []) begins.makes ∙ sym history_more }
 
   pub all_more : (P : Mark Call → Type 0) → All P marks → P mark → All P now
   all_more P all here = All-same P now (marks ++ mark ∷ []) grows (All-push P marks mark all here)

@@ -24,7 +24,7 @@ shorter (suc m) (suc n) = elim (shorter m n) [
 ]
 
 -- a history that has as many calls of a seat as its front has no others
-own_front : {Call : Type 0} (seat : ℕ) (front whole : List (ℕ × Call)) → IsFront front whole → length (own seat whole) ≡ length (own seat front) → own seat whole ≡ own seat front
+pub own_front : {Call : Type 0} (seat : ℕ) (front whole : List (ℕ × Call)) → IsFront front whole → length (own seat whole) ≡ length (own seat front) → own seat whole ≡ own seat front
 own_front seat front whole begins same =
     let parts : own seat whole ≡ own seat front ++ own seat begins.rest = ap (own seat) (sym begins.makes) ∙ own-append seat front begins.rest in
     let lengths : length (own seat whole) ≡ length (own seat front ++ own seat begins.rest) = ap length parts in

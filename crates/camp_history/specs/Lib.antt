@@ -3,3 +3,4 @@ pub mod Kept
 pub mod Meeting
 pub mod Opening
 pub mod Seats
+pub mod Versions

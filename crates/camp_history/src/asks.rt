@@ -9,6 +9,7 @@ use crate::kept::{Kept, Place};
 use crate::seats::Seat;
 use boxcar::Pushed;
 use camp_object::{Decided, Fault, Object};
+use camp_share::Shared;
 
 impl<State: Object> Head<State> {
     ghost use Rattle.camp_history.specs.Kept.{IsKeptBy};
@@ -113,9 +114,12 @@ impl<State: Object> Head<State> {
         if seat.accepted() == self.row.per_seat() {
             return Err(Fault::Full);
         }
-        if !seat.publish(&self.row, call, next, gate, lost)? {
+        let state = Shared::new(*seat.marks.allocator(), next)?;
+        let made = self.version_for(seat, call, &state)?;
+        if !seat.publish(&self.row, call, state, gate, lost)? {
             return Ok(None);
         }
+        self.put(seat, made);
         Ok(Some(State::done(seat.position())))
     }
 }

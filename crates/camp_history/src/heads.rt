@@ -1,4 +1,4 @@
-ghost use Rattle.std.specs.Prelude.{◌≡◌, ◌↔◌, [], map, All, IfOk, IfErr, IsOk, IsTrue};
+ghost use Rattle.std.specs.Prelude.{◌≡◌, ◌≤◌, ◌↔◌, [], map, All, IfOk, IfErr, IsOk, IsTrue};
 ghost use Rattle.camp_history.specs.Opening.{IsInRange};
 ghost use Rattle.camp_history.specs.Seats.{unseen};
 ghost use Rattle.camp_object.specs.declared.faults.Fault.TheVariants.{Memory};
@@ -6,8 +6,10 @@ ghost use Rattle.camp_object.specs.declared.faults.Fault.TheVariants.{Memory};
 use crate::faults::HeadFault;
 use crate::kept::{Kept, Place};
 use crate::seats::Seat;
+use crate::versions::{Slot, slots_of};
 use camp_object::{Fault, Object};
 use camp_row::{Pass, Row};
+use camp_share::{Shared, SharedList};
 use std::alloc::{AllocError, Global};
 use std::marker::Model;
 use std::sync::Wait;
@@ -18,6 +20,8 @@ pub struct Head<State: Object> {
     pub(crate) row: Row,
     pub(crate) calls: boxcar::Vec<State::Call>,
     pub(crate) tries: u32,
+    pub(crate) every: u32,
+    pub(crate) versions: Vec<Slot<State>>,
 }
 
 impl<State: Object> Model for Head<State> {
@@ -41,6 +45,14 @@ fn is_in_range(seats: u32, per_seat: u32, tries: u32, every: u32) -> bool
         && every <= 4_096
 }
 
+/// A slot for each position up to `seats * per_seat` that is a multiple of `every`; none for 0.
+fn slot_count(seats: u32, per_seat: u32, every: u32) -> usize
+    requires { (seats ≤ 64) × (per_seat ≤ 65536) }
+{
+    let most = seats as usize * per_seat as usize;
+    most.checked_div(every as usize).unwrap_or(0)
+}
+
 /// A seat for each pass, which has seen nothing.
 fn seats_of<State: Object>(alloc: Global, passes: Vec<Pass>) -> Result<Vec<Seat<State>>, AllocError>
     requires { All (λ known. known.seen ≡ []) passes.items }
@@ -60,7 +72,9 @@ fn seat_of<State: Object>(alloc: Global, pass: Pass) -> Result<Seat<State>, Allo
     Ok(Seat {
         pass,
         marks: Vec::new(alloc),
-        state: State::initial(alloc)?,
+        state: Shared::new(alloc, State::initial(alloc)?)?,
+        front: SharedList::new(alloc),
+        adopted: 0,
     })
 }
 
@@ -71,7 +85,8 @@ impl<State: Object> Head<State> {
 
     /// A head for so many seats, each of which has at most `per_seat` accepted calls, and the seats,
     /// numbered from 0. A call that writes gives up after `tries` lost exchanges. The numbers are 1
-    /// to 64, 1 to 65,536, 1 to 1,000 and 0 to 4,096. No versions are kept yet, whatever `every` is.
+    /// to 64, 1 to 65,536, 1 to 1,000 and 0 to 4,096. A version is kept for each position that is a
+    /// multiple of `every`; where that is 0, none.
     pub fn new(
         alloc: Global,
         seats: u32,
@@ -87,7 +102,16 @@ impl<State: Object> Head<State> {
         let (row, passes) = Row::new(alloc, seats, per_seat)?;
         let all = seats_of(alloc, passes)?;
         let calls = boxcar::Vec::new(alloc)?;
-        Ok((Head { row, calls, tries }, all))
+        let count = slot_count(seats, per_seat, every);
+        let versions = slots_of(alloc, &calls, count)?;
+        let head = Head {
+            row,
+            calls,
+            tries,
+            every,
+            versions,
+        };
+        Ok((head, all))
     }
 
     /// A copy of a call, which may then be asked at any seat. The only fault is want of memory.

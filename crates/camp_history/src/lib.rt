@@ -1,6 +1,7 @@
 //! One growing history for many threads: a head, and seats at which they ask.
 #![tactic(auto)]
 
+mod adoptions;
 mod asks;
 mod desks;
 mod faults;
@@ -10,6 +11,7 @@ mod kept;
 mod marks;
 mod meets;
 mod seats;
+mod versions;
 mod walks;
 
 pub use desks::HeadDesk;

@@ -3,6 +3,7 @@ ghost use Rattle.std.specs.Prelude.{◌≡◌, ◌<◌, ◌≤◌, length, All};
 use crate::marks::Mark;
 use camp_object::Object;
 use camp_row::Pass;
+use camp_share::{Shared, SharedList};
 use std::marker::Model;
 
 /// Where one caller asks a head. It can go to another thread. Contracts see it as `Seated`.
@@ -10,7 +11,10 @@ use std::marker::Model;
 pub struct Seat<State: Object> {
     pub(crate) pass: Pass,
     pub(crate) marks: Vec<Mark<State::Call>>,
-    pub(crate) state: State,
+    pub(crate) state: Shared<State>,
+    /// The list of the last version that it made or took over.
+    pub(crate) front: SharedList<Mark<State::Call>>,
+    pub(crate) adopted: u32,
 }
 
 impl<State: Object> Model for Seat<State> {
@@ -52,5 +56,10 @@ impl<State: Object> Seat<State> {
         ensures within { result ≤ self.now.known.row.per_seat }
     {
         self.pass.turns()
+    }
+
+    /// How many versions it took over. It stays at 4,294,967,295.
+    pub fn adopted(&self) -> u32 {
+        self.adopted
     }
 }

@@ -9,6 +9,7 @@ use crate::seats::Seat;
 use boxcar::Pushed;
 use camp_object::{Decided, Fault, Object};
 use camp_row::{Next, Row, Trail};
+use camp_share::Shared;
 use std::alloc::AllocError;
 
 impl<State: Object> Seat<State> {
@@ -42,13 +43,27 @@ impl<State: Object> Seat<State> {
         requires { (self.old.known.row ≡ row.now) × (other.known.row ≡ row.now) }
         ensures self_finds { Finds self.old.known self.new.known }
         ensures self_marks { self.new.marks ≡ self.old.marks }
+        ensures self_front { self.new.front ≡ self.old.front }
         ensures other_finds { Finds other.known result.known }
         ensures other_marks { result.marks ≡ other.marks }
+        ensures other_front { result.front ≡ other.front }
         ensures one_chain { result.known.ahead ≡ self.new.known.ahead }
     {
-        let Seat { pass, marks, state } = other;
+        let Seat {
+            pass,
+            marks,
+            state,
+            front,
+            adopted,
+        } = other;
         let pass = row.meet(&mut self.pass, pass);
-        Seat { pass, marks, state }
+        Seat {
+            pass,
+            marks,
+            state,
+            front,
+            adopted,
+        }
     }
 
     /// What it has seen at a place of the history.
@@ -94,7 +109,7 @@ impl<State: Object> Seat<State> {
         &mut self,
         row: &Row,
         call: &Pushed<State::Call>,
-        next: State,
+        next: Shared<State>,
         gate: &G,
         lost: u32,
     ) -> Result<bool, AllocError>
@@ -142,12 +157,13 @@ impl<State: Object> Head<State> {
         let Decided::Next(state) = seat.state.decide(self.calls.value(&call))? else {
             return Err(AllocError);
         };
+        let next_state = Shared::new(*seat.marks.allocator(), state)?;
         self.row.advance(&mut seat.pass, next);
         seat.marks.push_reserved(Mark {
             seat: entry.seat,
             call,
         });
-        seat.state = state;
+        seat.state = next_state;
         Ok(())
     }
 
@@ -162,6 +178,7 @@ impl<State: Object> Head<State> {
     {
         seat.is_whole();
         let mut trail = seat.walk(&self.row)?;
+        self.adopt(seat, &mut trail)?;
         while let Some(next) = seat.next(&self.row, &mut trail) {
             self.see(seat, next)?;
         }

@@ -7,4 +7,5 @@ pub mod Meeting
 pub mod PassOfRow
 pub mod Publishing
 pub mod Ruling
+pub mod TrailPlaces
 pub mod TrailSteps

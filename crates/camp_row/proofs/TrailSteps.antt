@@ -96,7 +96,7 @@ climbs_first p word stack word_is none front = record {
   cells = none;
 }
 
-length-cells_back : (seats : ℕ) (before left : List Entry) → length (cells_back seats before left) ≡ length left
+pub length-cells_back : (seats : ℕ) (before left : List Entry) → length (cells_back seats before left) ≡ length left
 length-cells_back seats before [] = refl
 length-cells_back seats before (e ∷ left) = let more = length_push (cells_back seats (before ++ e ∷ []) left) (cell_of seats before e) in let rest = length-cells_back seats (before ++ e ∷ []) left in omega arith
 

@@ -1,4 +1,4 @@
-ghost use Rattle.std.specs.Prelude.{◌≡◌, ◌≢◌, ◌+◌, ◌*◌, ◌<◌, ◌≤◌, [], ◌∷◌, ◌++◌, length, map, IfOk, MatchOption, MatchBool};
+ghost use Rattle.std.specs.Prelude.{◌≡◌, ◌≢◌, ◌+◌, ◌*◌, ◌<◌, ◌≤◌, [], ◌∷◌, ◌++◌, length, map, take, slice_get, Some, IfOk, MatchOption, MatchBool};
 ghost use Rattle.std.specs.List.{range_with_len};
 ghost use Rattle.camp_row.specs.Inside.Rule.{parent_word, place_word};
 
@@ -156,6 +156,24 @@ impl Row {
         })
     }
 
+    /// The entry at a place of the trail, counted from the one that comes next. Nothing more is seen.
+    pub fn entry_at(&self, pass: &mut Pass, trail: &Trail, index: usize) -> Entry
+        requires row { pass.old.row ≡ self.now }
+        requires leads { Leads pass.old pass.old.seen trail.now }
+        requires index { index < length trail.now }
+        ensures same { pass.new ≡ pass.old }
+        ensures entry { slice_get pass.old.ahead (length pass.old.seen + index) ≡ Some result }
+        ensures seat_below { result.seat < self.now.seats }
+    {
+        let cell = trail.cells[trail.cells.len() - 1 - index];
+        let place = self
+            .table
+            .shared
+            .load::<Walk>(&mut pass.seat, place_word(cell)) as usize;
+        let seat = (cell % self.seats as usize) as u32;
+        Entry { seat, place }
+    }
+
     /// Sees one entry more.
     pub fn advance(&self, pass: &mut Pass, next: Next)
         requires row { pass.old.row ≡ self.now }
@@ -166,6 +184,22 @@ impl Row {
             .shared
             .load::<Advance>(&mut pass.seat, place_word(next.cell));
         pass.last = next.cell as u64 + 1;
+    }
+
+    /// Sees so many entries more.
+    pub fn advance_by(&self, pass: &mut Pass, trail: &mut Trail, count: usize)
+        requires row { pass.old.row ≡ self.now }
+        requires leads { Leads pass.old pass.old.seen trail.old }
+        requires count { count ≤ length trail.old }
+        ensures seen { pass.new ≡ record pass.old { seen = take (length pass.old.seen + count) pass.old.ahead } }
+        ensures leads { Leads pass.new pass.new.seen trail.new }
+    {
+        for _ in 0..count {
+            let Some(next) = self.next(pass, trail) else {
+                return;
+            };
+            self.advance(pass, next);
+        }
     }
 
     // The seat's next cell.

@@ -1,3 +1,5 @@
+ghost use Rattle.std.specs.Prelude.{◌≡◌, length};
+
 use crate::entries::Entry;
 use std::marker::Model;
 
@@ -14,6 +16,15 @@ impl Model for Trail {
     ghost Value = { List ℕ };
 
     ghost view = { λ trail. trail.cells.items };
+}
+
+impl Trail {
+    /// How many entries it leads to.
+    pub fn len(&self) -> usize
+        ensures { result ≡ length self.now }
+    {
+        self.cells.len()
+    }
 }
 
 /// The entry that comes next, and its cell.

@@ -15,6 +15,9 @@ use std::io::{Read, Write};
 use std::sync::Wait;
 use std::thread::Threads;
 
+/// The head keeps a version for each so many calls.
+const EVERY: u32 = 64;
+
 /// Reads a whole script and asks its sections over a head, section k at seat k: the opening first, and
 /// then each client in a thread of its own, whose calls give up after `tries` lost exchanges, 1 to
 /// 1,000. The gate is told of each call, by its number in its section, and of each exchange. Writes
@@ -52,6 +55,6 @@ fn head_output<T: Threads + Wait + Sync, R: Read, G: Gate + Sync>(
     ensures not_foreign { IfErr result IsNotForeign }
 {
     let script = read_input(alloc, reader)?;
-    let run = shared::<T, State, G>(rt, alloc, script.sections(), tries, gate)?;
+    let run = shared::<T, State, G>(rt, alloc, script.sections(), tries, EVERY, gate)?;
     Ok(text_of(alloc, &run.answers, &run.history, history)?)
 }

@@ -156,7 +156,7 @@ fn share_once<R: Threads + Wait + Sync>(
     let gate = InTurn {
         has_ended: AtomicU64::new(0),
     };
-    match shared::<R, Numbers, InTurn>(rt, alloc, sections, 3, &gate) {
+    match shared::<R, Numbers, InTurn>(rt, alloc, sections, 3, 1, &gate) {
         Ok(run) => Ok(Some(run)),
         Err(_) => Ok(None),
     }

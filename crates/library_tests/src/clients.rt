@@ -187,7 +187,7 @@ fn one_client_waits_for_the_other(rt: HostRuntime) -> Result<(), Fail> {
     };
     let sections = two_clients(rt.alloc())?;
     assert!(rt; sections.len() == 3 && has_room(&sections));
-    let run = shared::<HostRuntime, Numbers, SecondFirst>(&rt, rt.alloc(), &sections, 100, &gate)?;
+    let run = shared::<HostRuntime, Numbers, SecondFirst>(&rt, rt.alloc(), &sections, 100, 0, &gate)?;
     assert_eq!(rt; gate.gave_up.load(Ordering::SeqCst), 0);
     assert_eq!(rt; run.answers.len(), 3);
     assert!(rt; run.answers[1].as_slice() == [Ok(Done(4))].as_slice());
@@ -204,7 +204,7 @@ fn both_clients_wait_for_each_other(rt: HostRuntime) -> Result<(), Fail> {
     };
     let sections = two_clients(rt.alloc())?;
     assert!(rt; sections.len() == 3 && has_room(&sections));
-    let run = shared::<HostRuntime, Numbers, BothThere>(&rt, rt.alloc(), &sections, 100, &gate)?;
+    let run = shared::<HostRuntime, Numbers, BothThere>(&rt, rt.alloc(), &sections, 100, 1, &gate)?;
     assert_eq!(rt; gate.gave_up.load(Ordering::SeqCst), 0);
     assert_positions(&rt, rt.alloc(), &run.answers, 4)?;
     Ok(())
@@ -224,7 +224,7 @@ fn a_single_section_goes_the_same_three_ways(rt: HostRuntime) -> Result<(), Fail
     let alloc = rt.alloc();
     let sections = vec![in alloc; vec![in alloc; Insert(5), Insert(3), Insert(5), Show]?]?;
     assert!(rt; sections.len() == 1 && has_room(&sections));
-    let wanted = shared::<HostRuntime, Numbers, NoGate>(&rt, alloc, &sections, 1, &NoGate)?;
+    let wanted = shared::<HostRuntime, Numbers, NoGate>(&rt, alloc, &sections, 1, 2, &NoGate)?;
     let one = serial::<Numbers>(alloc, &sections)?;
     assert!(rt; is_run(&one, &wanted.answers, &wanted.history));
     let two = locked::<HostRuntime, Numbers>(&rt, alloc, &sections)?;
@@ -237,7 +237,7 @@ fn eight_clients_over_a_head(rt: HostRuntime) -> Result<(), Fail> {
     let sections = eight_clients(rt.alloc())?;
     assert_eq!(rt; sections.len(), 9);
     assert!(rt; has_room(&sections));
-    let run = shared::<HostRuntime, Numbers, NoGate>(&rt, rt.alloc(), &sections, 1_000, &NoGate)?;
+    let run = shared::<HostRuntime, Numbers, NoGate>(&rt, rt.alloc(), &sections, 1_000, 64, &NoGate)?;
     assert_eq!(rt; run.history.len(), 408);
     assert_positions(&rt, rt.alloc(), &run.answers, 408)?;
     Ok(())

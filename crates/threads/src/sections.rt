@@ -28,6 +28,9 @@ fn has_room(sections: &[Vec<NumberCall>]) -> bool
     sections.iter().all(|calls| calls.len() <= 65_536)
 }
 
+/// How many calls lie between two versions.
+const EVERY: u32 = 2;
+
 /// The first section alone, and then each further one in a thread of its own.
 pub(crate) fn run<R: Threads + Wait + Sync, G: Gate + Sync>(
     rt: &R,
@@ -39,5 +42,5 @@ pub(crate) fn run<R: Threads + Wait + Sync, G: Gate + Sync>(
     ensure!((1..=64).contains(&sections.len()), "1 to 64 sections");
     ensure!((1..=1_000).contains(&tries), "1 to 1000 tries");
     ensure!(has_room(sections), "at most 65536 calls in a section");
-    Ok(shared::<R, Numbers, G>(rt, alloc, sections, tries, gate)?)
+    Ok(shared::<R, Numbers, G>(rt, alloc, sections, tries, EVERY, gate)?)
 }

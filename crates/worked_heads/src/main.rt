@@ -8,6 +8,7 @@
 //! | `SEAT COMMAND` | a command of scripts, which is kept and then asked at a seat |
 //! | `meet SEAT SEAT` | the first seat meets the second, and has then seen what that one has |
 //! | `seen SEAT` | how many calls the seat has seen, and how many of its own were accepted |
+//! | `adopted SEAT` | how many versions the seat took over |
 //! | `history SEAT` | what the seat has seen, call by call |
 #![tactic(auto)]
 
@@ -88,6 +89,9 @@ fn play_words<R: Wait>(
             meet(seating, number(first)?, number(second)?, text)
         }
         [word, seat] if *word == b"seen".as_slice() => append_seen(seating, number(seat)?, text),
+        [word, seat] if *word == b"adopted".as_slice() => {
+            append_adopted(seating, number(seat)?, text)
+        }
         [word, seat] if *word == b"history".as_slice() => {
             tell_history(seating, number(seat)?, text)
         }
@@ -128,6 +132,13 @@ fn meet(seating: &mut Seating, first: u32, second: u32, text: &mut Vec<u8>) -> R
 {
     seating.meet(first, second)?;
     Ok(writeln!(text, "met")?)
+}
+
+fn append_adopted(seating: &Seating, number: u32, text: &mut Vec<u8>) -> Result<()>
+    requires { All (IsSeatOf seating.now.head) seating.now.seats.items }
+{
+    let adopted = seating.seat(number)?.adopted();
+    Ok(writeln!(text, "adopted {adopted}")?)
 }
 
 fn append_seen(seating: &Seating, number: u32, text: &mut Vec<u8>) -> Result<()>

@@ -32,6 +32,7 @@ pub record SeesNext {Call : Type 0} (old : Seated Call) (entry : Entry) (new : S
   pub mark : Mark Call
   pub is : entry_of mark ≡ entry
   pub marks : new.marks ≡ old.marks ++ mark ∷ []
+  pub front : new.front ≡ old.front
   pub known : new.known ≡ record old.known { seen = old.known.seen ++ entry ∷ [] }
 
 -- a seat sees more: its pass is to the same seat of the row, and no call that it sees newly is its own
@@ -46,12 +47,14 @@ pub record Publishes {Call : Type 0} (old : Seated Call) (call : Where Call) (ne
   pub number : new.known.number ≡ old.known.number
   pub row : new.known.row ≡ old.known.row
   pub marks : new.marks ≡ old.marks ++ record { seat = old.known.number; call = call } ∷ []
+  pub front : new.front ≡ old.front
 
 -- the chain was longer than what the seat has seen, and was found
 pub record FindsMore {Call : Type 0} (old new : Seated Call) : Type 0 where
   pub number : new.known.number ≡ old.known.number
   pub row : new.known.row ≡ old.known.row
   pub marks : new.marks ≡ old.marks
+  pub front : new.front ≡ old.front
   pub longer : IsShorter (entries_of new) new.known.ahead
 
 -- the exchange was lost, at a history at which the call is accepted

@@ -13,7 +13,7 @@ seats_of-requires g c =
     (All-map (λ known. known.seen ≡ []) (newcomer c.in_ok-row.row) (range_with_len 0 c.args.seats) (λ k d lt. refl))
 
 -- the seats are those of their numbers
-numbered : (g : Over) (c : goal.In_ok-calls g) → c.in_ok-all.all.items ≡ map (λ number. unseen (newcomer c.in_ok-row.row number)) (range_with_len 0 c.args.seats)
+numbered : (g : Over) (c : goal.In_ok-versions g) → c.in_ok-all.all.items ≡ map (λ number. unseen (newcomer c.in_ok-row.row number)) (range_with_len 0 c.args.seats)
 numbered g c =
     c.in_ok-all.ensures ∙ ap (map unseen) c.in_ok-row.ensures.passes ∙ map-map unseen (newcomer c.in_ok-row.row) (range_with_len 0 c.args.seats)
 
@@ -28,7 +28,7 @@ returns g c =
         all = numbered g c;
         are_seats =
             All-same (IsSeatOf head) c.in_ok-all.all.items (map (λ number. unseen (newcomer c.in_ok-row.row number)) (range_with_len 0 c.args.seats)) (numbered g c) (
-            All-map (IsSeatOf head) (λ number. unseen (newcomer c.in_ok-row.row number)) (range_with_len 0 c.args.seats) (λ k d below. record { row = refl; stored = λ i mark none. absurd (omega arith) })
+            All-map (IsSeatOf head) (λ number. unseen (newcomer c.in_ok-row.row number)) (range_with_len 0 c.args.seats) (λ k d below. record { row = refl; stored = λ i mark none. absurd (omega arith); front_stored = λ i mark none. absurd (omega arith) })
             );
       },
     )

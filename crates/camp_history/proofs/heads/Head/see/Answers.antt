@@ -1,4 +1,4 @@
-use Rattle.std.proofs.Common.{◌≡◌, [], Some, ℕ, ◌<◌, ◌∷◌, ◌++◌, All, length, refl, sym, ◌∙◌, ap, map, arith}
+use Rattle.std.proofs.Common.{◌≡◌, [], Some, ℕ, ◌<◌, ◌∷◌, ◌++◌, All, length, refl, sym, ◌∙◌, ap, map, subst, arith}
 use Rattle.std.proofs.lemmas.List.{length-map}
 use Rattle.std.proofs.lemmas.List.Elements.{All-same}
 use Rattle.boxcar.specs.Table.{Shows}
@@ -9,14 +9,15 @@ use Rattle.camp_object.proofs.Replays.{count-replay, replay_accepted, some_is_so
 use Rattle.camp_history.specs.Seats.{asked}
 use Rattle.camp_history.specs.Inside.Steps.{entry_of}
 use Rattle.camp_history.specs.declared.marks.Mark.{Mark}
-use Rattle.camp_history.proofs.Seeing.{entries_more, history_more, all_more, few_marks}
+use Rattle.camp_history.proofs.Seeing.{entries_more, history_more, begins_more, all_more, few_marks}
 use Rattle.camp_history.proofs.heads.Head.see.Given.{Over}
 use Rattle.camp_history.proofs.heads.Head.see.Goals as goal
 
 pub decide-requires : goal.decide-requires
 decide-requires g c =
     let marks = c.seat.inside.marks in
-    few_marks g.State.Object.object g.met.State.Object.lawful marks.items c.seat.inside.state marks.len marks.cap marks.ok marks.small c.seat.invariant.replays
+    let Few : g.row.State.Denot → Type 0 = λ state. g.State.Object.object.count state < 18446744073709551615 in
+    subst Few (sym c.deref.ensures) (few_marks g.State.Object.object g.met.State.Object.lawful marks.items c.seat.inside.state marks.len marks.cap marks.ok marks.small c.seat.invariant.replays)
 
 -- the mark that is pushed
 pushed : (g : Over) (c : goal.After-drop-seat-inside g) → Mark g.row.State-Call.Denot
@@ -39,18 +40,19 @@ accepts : (g : Over) (c : goal.After-drop-seat-inside g) → g.State.Object.obje
 accepts g c =
     let value : c.value.result.now ≡ c.in-Some.call.value = c.value.ensures in
     let is : c.in_ok-state.field-0 ≡ Next c.in-Next.state = c.in-Next.is in
-    let decides : Decides g.State.Object.object c.seat.inside.state c.value.result.now c.in_ok-state.field-0 = c.in_ok-state.ensures in
+    let decides : Decides g.State.Object.object c.seat.inside.state c.value.result.now c.in_ok-state.field-0 = rw (← c.deref.ensures) c.in_ok-state.ensures in
     let next : g.State.Object.object.after c.seat.inside.state c.value.result.now ≡ Some c.in-Next.state = rw is at decides in
     ap (g.State.Object.object.after c.seat.inside.state) (sym value) ∙ next
 
 seen : (g : Over) (c : goal.After-drop-seat-inside g) → c.advance.new.pass ≡ record c.seat.inside.pass { seen = c.seat.inside.pass.seen ++ c.args.next.entry ∷ [] }
 seen g c = c.advance.ensures
 
-replays : (g : Over) (c : goal.After-drop-seat-inside g) → replay g.State.Object.object (map asked c.push_reserved.new.self.items) ≡ Some c.in-Next.state
+replays : (g : Over) (c : goal.After-drop-seat-inside g) → replay g.State.Object.object (map asked c.push_reserved.new.self.items) ≡ Some c.in_ok-next_state.next_state
 unfolding pushed
 replays g c =
     ap (replay g.State.Object.object) (history_more c.seat.inside.marks.items c.push_reserved.new.self.items (pushed g c) (stands g c))
     ∙ replay_accepted g.State.Object.object (map asked c.seat.inside.marks.items) (asked (pushed g c)) c.seat.inside.state c.in-Next.state c.seat.invariant.replays (accepts g c)
+    ∙ ap Some (sym c.in_ok-next_state.ensures)
 
 below : (g : Over) (c : goal.After-drop-seat-inside g) → c.args.next.entry.seat < c.seat.inside.pass.row.seats
 below g c =
@@ -77,6 +79,7 @@ invariant_of-seat-2 g c =
           (ap (λ entry. c.seat.inside.pass.seen ++ entry ∷ []) (sym (is_next g c)));
       below = all_more c.seat.inside.marks.items c.push_reserved.new.self.items (pushed g c) (stands g c) (λ mark. mark.seat < c.seat.inside.pass.row.seats) c.seat.invariant.below (below g c);
       replays = replays g c;
+      begins = begins_more c.seat.inside.marks.items c.push_reserved.new.self.items (pushed g c) (stands g c) (map asked c.seat.inside.front) c.seat.invariant.begins;
     }
     )
 
@@ -85,12 +88,13 @@ unfolding pushed
 returns-clause-of g c = record {
   row = ap (λ known. known.row) (seen g c) ∙ (ap (λ seat. seat.known.row) c.seat.view_is ∙ c.requires.of.row);
   stored = all_more c.seat.inside.marks.items c.push_reserved.new.self.items (pushed g c) (stands g c) (λ mark. Shows c.args.self.now.store mark.call) (stored g c) (shown g c);
+  front_stored = All-same (λ mark. Shows c.args.self.now.store mark.call) c.seat.inside.front c.args.seat.now.front (ap (λ seat. seat.front) c.seat.view_is) c.requires.of.front_stored;
 }
 
 pub returns-clause-ok : goal.returns-clause-ok
 unfolding pushed
 returns-clause-ok g c =
-    rw (← c.seat.view_is) (record { mark = pushed g c; is = is_next g c; marks = stands g c; known = seen g c })
+    rw (← c.seat.view_is) (record { mark = pushed g c; is = is_next g c; marks = stands g c; front = refl; known = seen g c })
 
 pub returns-clause-legal : goal.returns-clause-legal
 returns-clause-legal g c = some_is_some (replays g c)

@@ -6,7 +6,7 @@ use Rattle.camp_history.specs.Seats.{asked, history_of}
 use Rattle.camp_history.specs.Inside.Steps.{entry_of}
 use Rattle.camp_history.specs.declared.marks.Mark.{Mark}
 use Rattle.camp_history.proofs.Marked.{length-own}
-use Rattle.camp_history.proofs.Seeing.{entries_more, history_more, all_more}
+use Rattle.camp_history.proofs.Seeing.{entries_more, history_more, begins_more, all_more}
 use Rattle.camp_history.proofs.seats.Seat.publish.Given.{Over}
 use Rattle.camp_history.proofs.seats.Seat.publish.Goals as goal
 
@@ -70,5 +70,6 @@ invariant_of-self-2 g c =
           ap (replay g.State.Object.object) (history_more c.self.inside.marks.items c.push_reserved.new.self.items (pushed g c) (stands g c))
           ∙ ap (λ seat. replay g.State.Object.object (history_of seat ++ (seat.known.number, c.args.call.now.value) ∷ [])) c.self.view_is
           ∙ c.requires.next;
+      begins = begins_more c.self.inside.marks.items c.push_reserved.new.self.items (pushed g c) (stands g c) (map asked c.self.inside.front) c.self.invariant.begins;
     }
     )

@@ -1,0 +1,12 @@
+use Rattle.std.proofs.Common.{◌≡◌, ◌+◌, ◌++◌, length, map, take, drop, All}
+use Rattle.boxcar.specs.Table.{Shows}
+use Rattle.camp_history.specs.Seats.{asked}
+use Rattle.camp_history.proofs.heads.Head.begins.Given as goal
+
+abbrev pub invariant-loop-mark : goal.invariant-loop-mark
+invariant-loop-mark g l = record {
+  same : map asked (take l.mark-index l.mark-items) ++ map asked l.others ≡ map asked l.version;
+  long : l.mark-index + length l.others ≡ length l.version;
+  rest : l.others ≡ drop l.mark-index l.version;
+  stored : All (λ mark. Shows l.self.store mark.call) l.others;
+}

@@ -1,0 +1,46 @@
+use Rattle.std.proofs.Common.{◌≡◌, ◌≢◌, ◌<◌, ◌≤◌, ◌+◌, [], ◌∷◌, ◌++◌, sym, ◌∙◌, ap, subst, length, map, take, drop, All, List, arith}
+use Rattle.std.proofs.lemmas.List.Elements.{All-same, All-push}
+use Rattle.camp_row.specs.Chains as chain
+use Rattle.camp_row.specs.declared.entries.Entry.{Entry}
+use Rattle.camp_history.specs.Versions.{news}
+use Rattle.camp_history.specs.Inside.Steps.{entry_of}
+use Rattle.camp_history.specs.declared.marks.Mark.{Mark}
+use Rattle.camp_history.proofs.Versioned.{drop_step, take_step, all_taken, one_more_comes}
+use Rattle.camp_history.proofs.heads.Head.leads_on.Goals as goal
+
+pub loop-mark-preserved : goal.loop-mark-preserved
+loop-mark-preserved g c =
+    let past = c.loop-mark.invariant in
+    let seat = c.args.seat.now in
+    let list = news seat c.args.version.now in
+    let i = c.loop-mark.index in
+    let mark = c.in-Some.mark.now in
+    let left = c.next.new.self in
+    let entry = c.entry_at-entry.result in
+    let at = c.entry_at-entry.ensures in
+    let first = sym past.rest ∙ c.in-Some.ensures.steps in
+    let place : entry.place ≡ mark.call.index = c.if-entry-index.false ∙ c.index.ensures in
+    let is : entry ≡ entry_of mark = λ k. record { seat = c.if-entry-mark.false k; place = place k } in
+    let index = c.if-index-len.false in
+    let len = c.len-in-Some.ensures in
+    let within = past.within in
+    let other : i ≢ length c.args.trail.now = λ same. index (same ∙ sym len) in
+    let Below : Mark g.row.State-Call.Denot → Type 0 = λ mark. mark.seat < seat.known.row.seats in
+    record {
+      same = at.same ∙ past.same;
+      rest = sym (drop_step list left i mark first);
+      within = omega (arith, other);
+      ahead = one_more_comes seat.known.seen seat.known.ahead list left i mark entry first past.ahead (rw (← past.same) at.entry) is;
+      below = All-same Below (take (i + 1) list) (take i list ++ mark ∷ []) (take_step list left i mark first) (All-push Below (take i list) mark past.below (rw (← past.same, ← c.if-entry-mark.false) at.below));
+    }
+
+pub returns-clause-goes_on : goal.returns-clause-goes_on
+returns-clause-goes_on g c = λ yes.
+    let past = c.loop-mark.invariant in
+    let seat = c.args.seat.now in
+    let list = news seat c.args.version.now in
+    let i = c.loop-mark.index in
+    let all : take i list ≡ list = all_taken list i (sym past.rest ∙ c.in_default.ensures.steps.0) in
+    let Comes : List (Mark g.row.State-Call.Denot) → Type 0 = λ list. chain.IsFront (seat.known.seen ++ map entry_of list) seat.known.ahead in
+    let Below : List (Mark g.row.State-Call.Denot) → Type 0 = λ list. All (λ mark. mark.seat < seat.known.row.seats) list in
+    record { asks = c.requires.begins; ahead = subst Comes all past.ahead; below = subst Below all past.below }

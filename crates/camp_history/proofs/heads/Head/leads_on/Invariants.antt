@@ -1,0 +1,17 @@
+use Rattle.std.proofs.Common.{◌≡◌, ◌<◌, ◌≤◌, ◌++◌, length, map, take, drop, All}
+use Rattle.camp_row.specs.Chains as chain
+use Rattle.camp_history.specs.Versions.{news}
+use Rattle.camp_history.specs.Inside.Steps.{entry_of}
+use Rattle.camp_history.proofs.heads.Head.leads_on.Given as goal
+
+abbrev pub invariant-loop-mark : goal.invariant-loop-mark
+invariant-loop-mark g l = record {
+  same : l.seat ≡ l.fn.seat;
+  rest : l.news ≡ drop l.index (news l.fn.seat l.version);
+  within : l.index ≤ length l.trail;
+  ahead : chain.IsFront (l.fn.seat.known.seen ++ map entry_of (take l.index (news l.fn.seat l.version))) l.fn.seat.known.ahead;
+  below : All (λ mark. mark.seat < l.fn.seat.known.row.seats) (take l.index (news l.fn.seat l.version));
+}
+
+abbrev pub decreases-loop-mark : goal.decreases-loop-mark
+decreases-loop-mark g l = length l.news

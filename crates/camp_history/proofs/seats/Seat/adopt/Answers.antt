@@ -1,0 +1,92 @@
+use Rattle.std.proofs.Common.{◌≡◌, ◌≤◌, ◌+◌, ◌++◌, Some, sym, ◌∙◌, ap, map, length, subst, arith, IsOk, is_ok, slice_range, take, vec_len, vec_capacity, if◌then◌else◌}
+use Rattle.std.proofs.lemmas.List.{length-map}
+use Rattle.camp_object.specs.Histories.{IsFront, replay}
+use Rattle.camp_object.proofs.Fronts.{front_self}
+use Rattle.camp_row.specs.Known.{Leads}
+use Rattle.camp_history.specs.Seats.{Seated, asked, history_of}
+use Rattle.camp_history.specs.Versions.{news, GoesOn, Adopts}
+use Rattle.camp_history.specs.Inside.SeatFields.{seated}
+use Rattle.camp_history.specs.Inside.Steps.{entry_of}
+use Rattle.camp_history.proofs.Versioned.{news_are, news_within, appended, adopts, adopted_places, adopted_below, adopted_asks}
+use Rattle.camp_history.proofs.seats.Seat.adopt.Goals as goal
+
+pub advance_by-requires-clause-count : goal.advance_by-requires-clause-count
+advance_by-requires-clause-count g c =
+    let seat = seated c.self.inside in
+    let version = c.args.version.now in
+    let version_is : c.version.inside.marks ≡ version = c.version.view_is in
+    let goes : GoesOn seat version = subst (λ seat. GoesOn seat version) (sym c.self.view_is) c.requires.goes_on in
+    let from : c.len.result ≡ length seat.marks = c.len.ensures ∙ c.self.inside.marks.ok.0 in
+    let to : c.len-2.result ≡ length version = c.len-2.ensures ∙ ap length version_is in
+    let copied : c.in_ok-copied.field-0 ≡ slice_range c.version.inside.marks c.len.result c.len-2.result = c.in_ok-copied.ensures in
+    let list : c.in_ok-news.news.items ≡ news seat version =
+    news_are seat version c.in_ok-news.news.items c.in_ok-copied.field-0 c.len.result c.len-2.result from to (copied ∙ ap (λ marks. slice_range marks c.len.result c.len-2.result) version_is) c.in_ok-news.ensures
+    in
+    let count : c.len-4.result ≡ length (news seat version) = c.len-4.ensures ∙ c.in_ok-news.news.ok.0 ∙ ap length list in
+    let leads : Leads seat.known seat.known.seen c.args.trail.now = subst (λ seat. Leads seat.known seat.known.seen c.args.trail.now) (sym c.self.view_is) c.requires.leads in
+    omega (arith, news_within seat.known c.args.trail.now (map entry_of (news seat version)) leads goes.ahead, length-map (news seat version) entry_of)
+
+pub invariant_of-self-2 : goal.invariant_of-self-2
+invariant_of-self-2 g c =
+    let seat = seated c.self.inside in
+    let version = c.args.version.now in
+    let version_is : c.version.inside.marks ≡ version = c.version.view_is in
+    let goes : GoesOn seat version = subst (λ seat. GoesOn seat version) (sym c.self.view_is) c.requires.goes_on in
+    let from : c.len.result ≡ length seat.marks = c.len.ensures ∙ c.self.inside.marks.ok.0 in
+    let to : c.len-2.result ≡ length version = c.len-2.ensures ∙ ap length version_is in
+    let copied : c.in_ok-copied.field-0 ≡ slice_range c.version.inside.marks c.len.result c.len-2.result = c.in_ok-copied.ensures in
+    let list : c.in_ok-news.news.items ≡ news seat version =
+    news_are seat version c.in_ok-news.news.items c.in_ok-copied.field-0 c.len.result c.len-2.result from to (copied ∙ ap (λ marks. slice_range marks c.len.result c.len-2.result) version_is) c.in_ok-news.ensures
+    in
+    let count : c.len-4.result ≡ length (news seat version) = c.len-4.ensures ∙ c.in_ok-news.news.ok.0 ∙ ap length list in
+    let ok : vec_len c.reserve.new.self + vec_len c.in_ok-news.news ≤ vec_capacity c.reserve.new.self → IsOk c.append-room.result = c.append-room.ensures.succeeds in
+    let items : c.append-room.new.self.items ≡ (if is_ok c.append-room.result then c.reserve.new.self.items ++ c.in_ok-news.news.items else c.reserve.new.self.items) = c.append-room.ensures.items in
+    let room : vec_len c.reserve.new.self + c.len-3.result ≤ vec_capacity c.reserve.new.self = c.in_ok-reserve.ensures.ok in
+    let kept : c.reserve.new.self.items ≡ c.self.inside.marks.items = c.in_ok-reserve.ensures.items in
+    let more : c.len-3.result ≡ vec_len c.in_ok-news.news = c.len-3.ensures in
+    let grows : c.append-room.new.self.items ≡ seat.marks ++ news seat version =
+    appended c.append-room.result c.append-room.new.self.items c.reserve.new.self.items c.in_ok-news.news.items (ok (omega arith)) items ∙ (λ k. kept k ++ list k)
+    in
+    let front : c.in_ok-front.front ≡ version = c.in_ok-front.ensures ∙ version_is in
+    let known : c.advance_by.new.pass ≡ record c.self.inside.pass { seen = take (length c.self.inside.pass.seen + c.len-4.result) c.self.inside.pass.ahead } = c.advance_by.ensures.seen in
+    let object = g.State.Object.object in
+    let marks = c.append-room.new.self.items in
+    let asks : map asked version ≡ map asked marks = adopted_asks seat version marks goes grows in
+    let state : replay object (map asked version) ≡ Some c.in_ok-state.state = ap (λ marks. replay object (map asked marks)) (sym version_is) ∙ c.version.invariant ∙ ap Some (sym c.in_ok-state.ensures) in
+    record {
+      places = adopted_places seat version marks c.advance_by.new.pass c.len-4.result goes grows count known c.self.invariant.places;
+      below = adopted_below seat version marks c.advance_by.new.pass c.len-4.result goes grows count known c.self.invariant.below;
+      replays = ap (replay object) (sym asks) ∙ state;
+      begins = subst (λ list. IsFront list (map asked marks)) (sym (ap (map asked) front ∙ asks)) (front_self (map asked marks));
+    }
+
+pub returns-clause-ok : goal.returns-clause-ok
+returns-clause-ok g c =
+    let seat = seated c.self.inside in
+    let version = c.args.version.now in
+    let version_is : c.version.inside.marks ≡ version = c.version.view_is in
+    let goes : GoesOn seat version = subst (λ seat. GoesOn seat version) (sym c.self.view_is) c.requires.goes_on in
+    let from : c.len.result ≡ length seat.marks = c.len.ensures ∙ c.self.inside.marks.ok.0 in
+    let to : c.len-2.result ≡ length version = c.len-2.ensures ∙ ap length version_is in
+    let copied : c.in_ok-copied.field-0 ≡ slice_range c.version.inside.marks c.len.result c.len-2.result = c.in_ok-copied.ensures in
+    let list : c.in_ok-news.news.items ≡ news seat version =
+    news_are seat version c.in_ok-news.news.items c.in_ok-copied.field-0 c.len.result c.len-2.result from to (copied ∙ ap (λ marks. slice_range marks c.len.result c.len-2.result) version_is) c.in_ok-news.ensures
+    in
+    let count : c.len-4.result ≡ length (news seat version) = c.len-4.ensures ∙ c.in_ok-news.news.ok.0 ∙ ap length list in
+    let ok : vec_len c.reserve.new.self + vec_len c.in_ok-news.news ≤ vec_capacity c.reserve.new.self → IsOk c.append-room.result = c.append-room.ensures.succeeds in
+    let items : c.append-room.new.self.items ≡ (if is_ok c.append-room.result then c.reserve.new.self.items ++ c.in_ok-news.news.items else c.reserve.new.self.items) = c.append-room.ensures.items in
+    let room : vec_len c.reserve.new.self + c.len-3.result ≤ vec_capacity c.reserve.new.self = c.in_ok-reserve.ensures.ok in
+    let kept : c.reserve.new.self.items ≡ c.self.inside.marks.items = c.in_ok-reserve.ensures.items in
+    let more : c.len-3.result ≡ vec_len c.in_ok-news.news = c.len-3.ensures in
+    let grows : c.append-room.new.self.items ≡ seat.marks ++ news seat version =
+    appended c.append-room.result c.append-room.new.self.items c.reserve.new.self.items c.in_ok-news.news.items (ok (omega arith)) items ∙ (λ k. kept k ++ list k)
+    in
+    let front : c.in_ok-front.front ≡ version = c.in_ok-front.ensures ∙ version_is in
+    let known : c.advance_by.new.pass ≡ record c.self.inside.pass { seen = take (length c.self.inside.pass.seen + c.len-4.result) c.self.inside.pass.ahead } = c.advance_by.ensures.seen in
+    let adopts : Adopts seat version (record { known = c.advance_by.new.pass; marks = c.append-room.new.self.items; front = version }) =
+    adopts seat version c.append-room.new.self.items c.advance_by.new.pass c.len-4.result goes grows count known
+    in
+    let was : Adopts c.args.self.now version (record { known = c.advance_by.new.pass; marks = c.append-room.new.self.items; front = version }) =
+    subst (λ seat. Adopts seat version (record { known = c.advance_by.new.pass; marks = c.append-room.new.self.items; front = version })) c.self.view_is adopts
+    in
+    subst (λ front. Adopts c.args.self.now version (record { known = c.advance_by.new.pass; marks = c.append-room.new.self.items; front = front })) (sym front) was
