@@ -1,21 +1,40 @@
 use crate::arguments::Arguments;
 use crate::calls::call;
+use crate::entries::entry_len;
+use crate::plays::{Stage, is_play};
 use crate::results::word;
 use crate::tables::{Table, split_call};
 use crate::wants::{Wants, allocate};
 use bstr::ByteSlice;
 use camp_notation::NotationError;
-use std::alloc::Global;
-use std::io::ErrorKind;
-use std::{io, str};
+use camp_script::write_text;
+use std::alloc::{AllocError, Global};
+use std::io;
+use std::io::Write;
+use std::sync::Wait;
+use std::thread::Threads;
 
-/// Prints a table line by line, each call with its result below it. Tells which lines wanted memory.
-pub(crate) fn print_table(rt: &impl Print, alloc: Global, input: &[u8]) -> io::Result<Wants> {
+/// Prints tables entry by entry, each call with its result below it. Tells which entries wanted memory.
+pub(crate) fn print_tables<R: Threads + Wait + Sync, W: Write>(
+    rt: &R,
+    alloc: Global,
+    input: &[u8],
+    out: &mut W,
+) -> io::Result<Wants> {
+    let lines = lines_of(alloc, input)?;
     let mut table = Table::new(alloc);
+    let mut stage = Stage::new(alloc)?;
     let mut wants = Wants::new();
-    for line in input.lines() {
-        print_line(rt, line)?;
-        print_result(rt, answer(&mut table, line, &mut wants))?;
+    let mut at = 0;
+    for _ in 0..lines.len() {
+        if at >= lines.len() {
+            break;
+        }
+        let rest = &lines[at..];
+        let length = entry_len(rest);
+        let text = play(rt, &mut table, &mut stage, &rest[..length], &mut wants)?;
+        write_text(out, &text)?;
+        at += length;
     }
     if allocate(alloc).is_err() {
         wants.note();
@@ -23,12 +42,33 @@ pub(crate) fn print_table(rt: &impl Print, alloc: Global, input: &[u8]) -> io::R
     Ok(wants)
 }
 
-/// The result of a line, where it is a call.
-fn answer(
+fn lines_of(alloc: Global, input: &[u8]) -> Result<Vec<&[u8]>, AllocError> {
+    let mut lines = Vec::new(alloc);
+    for line in input.lines() {
+        lines.push(line)?;
+    }
+    Ok(lines)
+}
+
+/// The lines of an entry, and behind them what comes of it.
+fn play<R: Threads + Wait + Sync>(
+    rt: &R,
     table: &mut Table,
-    line: &[u8],
+    stage: &mut Stage,
+    entry: &[&[u8]],
     wants: &mut Wants,
-) -> Result<Option<String>, NotationError> {
+) -> Result<Vec<u8>, AllocError> {
+    match entry {
+        [line] if !is_play(line) => {
+            let answer = answer(table, line, wants);
+            text_again(table.alloc(), line, &answer, wants)
+        }
+        _ => stage.play(rt, table.alloc(), entry, wants),
+    }
+}
+
+/// The result of a line, where it is a call.
+fn answer(table: &mut Table, line: &[u8], wants: &mut Wants) -> Answer {
     match split_call(line) {
         Some((name, text)) => Ok(Some(ask(table, name, text, wants)?)),
         None => {
@@ -89,18 +129,38 @@ fn ask_again(name: &[u8], arguments: &Arguments) -> Result<String, NotationError
     }
 }
 
-fn print_line(rt: &impl Print, line: &[u8]) -> io::Result<()> {
-    match str::from_utf8(line) {
-        Ok(text) => println!(rt; "{text}"),
-        Err(_) => Err(ErrorKind::InvalidData.into()),
+/// A result of a call, or in which words the line is refused.
+type Answer = Result<Option<String>, NotationError>;
+
+fn text_again(
+    alloc: Global,
+    line: &[u8],
+    answer: &Answer,
+    wants: &mut Wants,
+) -> Result<Vec<u8>, AllocError> {
+    match text_of(alloc, line, answer) {
+        Ok(text) => Ok(text),
+        Err(_) => {
+            wants.note();
+            text_of(alloc, line, answer)
+        }
     }
 }
 
-// The result of a call, or in which words the line is refused.
-fn print_result(rt: &impl Print, answer: Result<Option<String>, NotationError>) -> io::Result<()> {
+fn text_of(alloc: Global, line: &[u8], answer: &Answer) -> Result<Vec<u8>, AllocError> {
+    let mut text = Vec::from_slice(alloc, line)?;
+    text.push(b'\n')?;
     match answer {
-        Ok(Some(text)) => println!(rt; "= {text}"),
-        Ok(None) => Ok(()),
-        Err(fault) => println!(rt; "= {fault}"),
+        Ok(Some(words)) => append_result(&mut text, words)?,
+        Ok(None) => {}
+        Err(fault) => append_result(&mut text, &format!(in alloc; "{fault}")?)?,
     }
+    Ok(text)
+}
+
+fn append_result(text: &mut Vec<u8>, words: &str) -> Result<(), AllocError> {
+    text.extend_from_slice(b"= ")?;
+    text.extend_from_slice(words.as_bytes())?;
+    text.push(b'\n')?;
+    Ok(())
 }

@@ -8,6 +8,12 @@
 //! | `p f 1 [one] -> [uno]` | a primitive, which is known as `p` from here on, and its inverse as `p^` |
 //! | `s = [a add f, p]` | a list or a tree, which is called `s` from here on |
 //! | `commute(p, q)` | a call |
+//! | `book` | a new book, which is asked the commands below |
+//! | `head SEATS PER_SEAT TRIES EVERY` | a new head, at whose seats the commands below are asked |
+//! | `SEAT COMMAND`, `repeat COUNT SEAT COMMAND` | a command of scripts, with its body below it |
+//! | `history`, `history SEAT` | the accepted calls of the book, or what a seat has seen |
+//! | `seen SEAT`, `meet SEAT SEAT` | how much a seat has seen; the first seat meets the second |
+//! | `run book`, `run locked`, `run head` | the script below, up to an empty line |
 //!
 //! The notation is that of `camp_notation`. A call that wants memory is made again, where its arguments
 //! are as they were. The exit status tells what was wanted: 0 where nothing was, 3 where one line wanted
@@ -20,18 +26,27 @@
 
 mod arguments;
 mod bases;
+mod books;
 mod bytes;
 mod calls;
 mod catch_lists;
 mod catches;
+mod commands;
 mod contexts;
+mod entries;
+mod faults;
+mod heads;
 mod kinds;
 mod lines;
 mod lists;
 mod numbers;
 mod places;
+mod plays;
 mod primitives;
 mod results;
+mod runs;
+mod same;
+mod seatings;
 mod sets;
 mod shares;
 mod splits;
@@ -40,22 +55,31 @@ mod trees;
 mod values;
 mod wants;
 
-use lines::print_table;
+use lines::print_tables;
+use std::alloc::Global;
+use std::env::Env;
 use std::io;
-use std::io::Read;
+use std::io::{Read, Write};
 use std::process::ExitCode;
+use std::sync::Wait;
+use std::thread::Threads;
 use wants::{Wants, allocate_before};
 
 fn main(rt: HostRuntime) -> ExitCode {
-    match run(&rt) {
+    match run(&rt, rt.alloc(), &mut rt.stdin(), &mut rt.stdout()) {
         Ok(wants) => ExitCode::from(wants.status()),
         Err(_) => ExitCode::from(4),
     }
 }
 
-fn run(rt: &HostRuntime) -> io::Result<Wants> {
-    allocate_before(rt, rt.alloc())?;
-    let mut input = Vec::new(rt.alloc());
-    rt.stdin().read_to_end(&mut input)?;
-    print_table(rt, rt.alloc(), &input)
+fn run<T: Env + Threads + Wait + Sync, R: Read, W: Write>(
+    rt: &T,
+    alloc: Global,
+    reader: &mut R,
+    writer: &mut W,
+) -> io::Result<Wants> {
+    allocate_before(rt, alloc)?;
+    let mut input = Vec::new(alloc);
+    reader.read_to_end(&mut input)?;
+    print_tables(rt, alloc, &input, writer)
 }

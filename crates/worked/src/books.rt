@@ -1,0 +1,121 @@
+use crate::commands::Command;
+use crate::faults::PlayFault;
+use crate::same::is_same_state;
+use crate::wants::Wants;
+use camp_repo::{Book, Call, Fault, Reply, State};
+use camp_script::{append_history, append_reply};
+use std::alloc::{AllocError, Global};
+
+/// What is answered to a call.
+pub(crate) type Answer = Result<Reply, Fault>;
+
+/// Asks a book a command, each of its times, and appends the last reply.
+pub(crate) fn ask(
+    alloc: Global,
+    book: &mut Book<State>,
+    command: Command<'_>,
+    text: &mut Vec<u8>,
+    wants: &mut Wants,
+) -> Result<(), PlayFault> {
+    for time in 1..=command.count {
+        let call = call_again(alloc, command, time, wants)?;
+        let answer = ask_again(book, command.seat, &call, wants)?;
+        if time == command.count {
+            append_again(text, &answer, wants)?;
+        }
+    }
+    Ok(())
+}
+
+/// The call of a command, read again where that wanted memory.
+pub(crate) fn call_again(
+    alloc: Global,
+    command: Command<'_>,
+    time: u32,
+    wants: &mut Wants,
+) -> Result<Call, PlayFault> {
+    match command.call(alloc, time) {
+        Err(PlayFault::Memory) => {
+            wants.note();
+            command.call(alloc, time)
+        }
+        read => read,
+    }
+}
+
+/// Asks a book, and asks it again where the call wanted memory and left the book as it was.
+fn ask_again(
+    book: &mut Book<State>,
+    seat: u32,
+    call: &Call,
+    wants: &mut Wants,
+) -> Result<Answer, PlayFault> {
+    let before = state_again(book, wants)?;
+    let length = book.history().len();
+    if let Ok(reply) = book.ask(seat, call) {
+        return Ok(Ok(reply));
+    }
+    wants.note();
+    if book.history().len() != length || !is_same_state(book.state(), &before, book.history()) {
+        return Err(PlayFault::Wrong("out of memory, and another book"));
+    }
+    Ok(book.ask(seat, call))
+}
+
+fn state_again(book: &Book<State>, wants: &mut Wants) -> Result<State, AllocError> {
+    match book.state().try_clone() {
+        Ok(state) => Ok(state),
+        Err(_) => {
+            wants.note();
+            book.state().try_clone()
+        }
+    }
+}
+
+/// Appends an answer, again where that wanted memory and left the text as it was.
+fn append_again(text: &mut Vec<u8>, answer: &Answer, wants: &mut Wants) -> Result<(), PlayFault> {
+    if let Err(Fault::Memory) = answer {
+        return Err(PlayFault::Memory);
+    }
+    let length = text.len();
+    if append_reply(text, answer).is_ok() {
+        return Ok(());
+    }
+    wants.note();
+    expect_kept(text, length)?;
+    Ok(append_reply(text, answer)?)
+}
+
+/// Appends accepted calls, again where that wanted memory and left the text as it was.
+pub(crate) fn append_history_again(
+    text: &mut Vec<u8>,
+    history: &[(u32, Call)],
+    wants: &mut Wants,
+) -> Result<(), PlayFault> {
+    let length = text.len();
+    if append_history(text, history).is_ok() {
+        return Ok(());
+    }
+    wants.note();
+    expect_kept(text, length)?;
+    Ok(append_history(text, history)?)
+}
+
+fn expect_kept(text: &[u8], length: usize) -> Result<(), PlayFault> {
+    if text.len() == length {
+        Ok(())
+    } else {
+        Err(PlayFault::Wrong("out of memory, and another text"))
+    }
+}
+
+/// A new book.
+pub(crate) fn book_again(alloc: Global, wants: &mut Wants) -> Result<Book<State>, AllocError> {
+    match Book::new(alloc) {
+        Ok(book) => Ok(book),
+        Err(_) => {
+            wants.note();
+            Book::new(alloc)
+        }
+    }
+}

@@ -1,0 +1,147 @@
+use crate::faults::PlayFault;
+use bstr::ByteSlice;
+use camp_base::Name;
+use camp_call::{Call, Names};
+use camp_script::{Script, read_script};
+use std::alloc::{AllocError, Global};
+use std::str;
+
+/// A command that is asked at a seat, so many times, and the lines that it is made of.
+#[derive(Clone, Copy)]
+pub(crate) struct Command<'a> {
+    pub(crate) seat: u32,
+    pub(crate) count: u32,
+    first: &'a [u8],
+    body: &'a [&'a [u8]],
+}
+
+/// The command of an entry: `SEAT COMMAND`, or `repeat COUNT SEAT COMMAND`.
+pub(crate) fn command_of<'a>(entry: &'a [&'a [u8]]) -> Result<Command<'a>, PlayFault> {
+    let Some((first, body)) = entry.split_first() else {
+        return Err(NO_COMMAND);
+    };
+    let (count, first) = match first.strip_prefix(b"repeat ") {
+        Some(rest) => number_before(rest)?,
+        None => (1, *first),
+    };
+    let (seat, first) = number_before(first)?;
+    Ok(Command {
+        seat,
+        count,
+        first,
+        body,
+    })
+}
+
+const NO_COMMAND: PlayFault = PlayFault::Wrong("no command");
+
+/// The number that a line begins with, and what stands behind it.
+fn number_before(line: &[u8]) -> Result<(u32, &[u8]), PlayFault> {
+    match line.split_once_str(b" ") {
+        Some((word, rest)) => Ok((number(word)?, rest)),
+        None => Err(NO_COMMAND),
+    }
+}
+
+/// The number that a word tells.
+pub(crate) fn number(word: &[u8]) -> Result<u32, PlayFault> {
+    let Ok(text) = str::from_utf8(word) else {
+        return Err(NO_COMMAND);
+    };
+    match text.parse::<u32>() {
+        Ok(number) => Ok(number),
+        Err(_) => Err(NO_COMMAND),
+    }
+}
+
+impl<'a> Command<'a> {
+    /// The call of the command. Each `%` of its first line stands for how often it was asked.
+    pub(crate) fn call(self, alloc: Global, time: u32) -> Result<Call, PlayFault> {
+        match listless(alloc, self.first)? {
+            Some(call) => Ok(call),
+            None => {
+                let text = self.text(alloc, time)?;
+                only_call(read_script(alloc, &text)?)
+            }
+        }
+    }
+
+    fn text(self, alloc: Global, time: u32) -> Result<Vec<u8>, PlayFault> {
+        let mut text = Vec::new(alloc);
+        append_first(&mut text, self.first, time)?;
+        for line in self.body {
+            append_line(&mut text, line)?;
+        }
+        Ok(text)
+    }
+}
+
+fn append_first(text: &mut Vec<u8>, line: &[u8], time: u32) -> Result<(), AllocError> {
+    let number = format!(in *text.allocator(); "{time}")?;
+    for byte in line {
+        match *byte {
+            b'%' => text.extend_from_slice(number.as_bytes())?,
+            byte => text.push(byte)?,
+        }
+    }
+    text.push(b'\n')?;
+    Ok(())
+}
+
+/// A line of a body, or `repeat COUNT LINE`, which stands for so many.
+fn append_line(text: &mut Vec<u8>, line: &[u8]) -> Result<(), PlayFault> {
+    let (count, line) = match line.strip_prefix(b"repeat ") {
+        Some(rest) => number_before(rest)?,
+        None => (1, line),
+    };
+    for _ in 0..count {
+        text.extend_from_slice(line)?;
+        text.push(b'\n')?;
+    }
+    Ok(())
+}
+
+fn only_call(script: Script) -> Result<Call, PlayFault> {
+    let mut sections = script.into_sections();
+    let Some(mut calls) = sections.pop() else {
+        return Err(NO_COMMAND);
+    };
+    match calls.pop() {
+        Some(call) if calls.is_empty() && sections.is_empty() => Ok(call),
+        _ => Err(NO_COMMAND),
+    }
+}
+
+/// The calls that no script has: with an empty list of names, as `pull-listed FROM TO` and
+/// `obliterate-listed BRANCH`.
+fn listless(alloc: Global, line: &[u8]) -> Result<Option<Call>, PlayFault> {
+    match line.split_once_str(b" ") {
+        Some((b"pull-listed", branches)) => Ok(Some(listless_pull(alloc, branches)?)),
+        Some((b"obliterate-listed", branch)) => Ok(Some(listless_obliterate(alloc, branch)?)),
+        _ => Ok(None),
+    }
+}
+
+fn listless_pull(alloc: Global, branches: &[u8]) -> Result<Call, PlayFault> {
+    let Some((from, to)) = branches.split_once_str(b" ") else {
+        return Err(NO_COMMAND);
+    };
+    let (Ok(from), Ok(to)) = (Name::new(from), Name::new(to)) else {
+        return Err(NO_COMMAND);
+    };
+    let names = Some(no_names(alloc));
+    Ok(Call::Pull { from, to, names })
+}
+
+fn listless_obliterate(alloc: Global, branch: &[u8]) -> Result<Call, PlayFault> {
+    let Ok(branch) = Name::new(branch) else {
+        return Err(NO_COMMAND);
+    };
+    let names = no_names(alloc);
+    Ok(Call::Obliterate { branch, names })
+}
+
+fn no_names(alloc: Global) -> Names {
+    let names = Vec::new(alloc);
+    Names::new(names)
+}

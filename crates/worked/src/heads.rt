@@ -1,0 +1,130 @@
+use crate::books::{Answer, append_history_again, call_again};
+use crate::commands::Command;
+use crate::faults::PlayFault;
+use crate::runs::append_again;
+use crate::seatings::{Seating, Seen};
+use crate::wants::Wants;
+use camp_head::{Fault, HeadFault};
+use camp_repo::Call;
+use camp_script::write_reply;
+use std::alloc::{AllocError, Global};
+use std::sync::Wait;
+
+/// A head with its seats, made again where that wanted memory.
+pub(crate) fn open(
+    alloc: Global,
+    sizes: [u32; 4],
+    wants: &mut Wants,
+) -> Result<Seating, HeadFault> {
+    match Seating::new(alloc, sizes) {
+        Err(HeadFault::Memory) => {
+            wants.note();
+            Seating::new(alloc, sizes)
+        }
+        made => made,
+    }
+}
+
+/// Asks a command at a seat, each of its times, and writes the last answer behind a text.
+pub(crate) fn ask<R: Wait>(
+    rt: &R,
+    alloc: Global,
+    seating: &mut Seating,
+    command: Command<'_>,
+    text: &mut Vec<u8>,
+    wants: &mut Wants,
+) -> Result<(), PlayFault> {
+    for time in 1..=command.count {
+        let call = call_again(alloc, command, time, wants)?;
+        let answer = ask_again(rt, seating, command.seat, &call, wants)?;
+        if time == command.count {
+            write_again(alloc, text, &answer, wants)?;
+        }
+    }
+    Ok(())
+}
+
+/// Asks at a seat, and asks again where the call wanted memory and left the seat with as many accepted
+/// calls and no less seen.
+fn ask_again<R: Wait>(
+    rt: &R,
+    seating: &mut Seating,
+    seat: u32,
+    call: &Call,
+    wants: &mut Wants,
+) -> Result<Answer, PlayFault> {
+    let before = seating.seen(seat)?;
+    let answer = seating.ask(rt, seat, call)?;
+    let is_wanting = matches!(answer, Err(Fault::Memory));
+    if !is_wanting {
+        return Ok(answer);
+    }
+    wants.note();
+    if before.is_kept_in(seating.seen(seat)?) {
+        seating.ask(rt, seat, call)
+    } else {
+        Err(PlayFault::Wrong("out of memory, and another seat"))
+    }
+}
+
+/// Writes an answer behind a text, again where that wanted memory and wrote nothing.
+fn write_again(
+    alloc: Global,
+    text: &mut Vec<u8>,
+    answer: &Answer,
+    wants: &mut Wants,
+) -> Result<(), PlayFault> {
+    if let Err(Fault::Memory) = answer {
+        return Err(PlayFault::Memory);
+    }
+    let length = text.len();
+    if write_reply(alloc, answer, text).is_ok() {
+        return Ok(());
+    }
+    wants.note();
+    if text.len() != length {
+        return Err(PlayFault::Wrong("out of memory, and another text"));
+    }
+    Ok(write_reply(alloc, answer, text)?)
+}
+
+/// Tells how many calls a seat has seen, and how many of its own were accepted.
+pub(crate) fn tell_seen(
+    alloc: Global,
+    seating: &Seating,
+    number: u32,
+    text: &mut Vec<u8>,
+    wants: &mut Wants,
+) -> Result<(), PlayFault> {
+    let seen = seating.seen(number)?;
+    let words = match seen_text(alloc, seen) {
+        Ok(words) => words,
+        Err(_) => {
+            wants.note();
+            seen_text(alloc, seen)?
+        }
+    };
+    append_again(text, words.as_bytes(), wants)
+}
+
+fn seen_text(alloc: Global, seen: Seen) -> Result<String, AllocError> {
+    let (position, accepted) = (seen.position, seen.accepted);
+    format!(in alloc; "position {position} accepted {accepted}\n")
+}
+
+/// Tells what a seat has seen, call by call.
+pub(crate) fn tell_history(
+    seating: &Seating,
+    number: u32,
+    text: &mut Vec<u8>,
+    wants: &mut Wants,
+) -> Result<(), PlayFault> {
+    let history = match seating.history(number) {
+        Err(PlayFault::Memory) => {
+            wants.note();
+            seating.history(number)?
+        }
+        told => told?,
+    };
+    append_history_again(text, &history, wants)
+}

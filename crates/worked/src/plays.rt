@@ -1,0 +1,200 @@
+use crate::commands::{command_of, number};
+use crate::entries::is_command;
+use crate::faults::PlayFault;
+use crate::runs::{append_again, joined, run, way_of};
+use crate::seatings::Seating;
+use crate::wants::Wants;
+use crate::{books, heads};
+use bstr::ByteSlice;
+use camp_head::HeadFault;
+use camp_repo::{Book, State};
+use std::alloc::{AllocError, Global};
+use std::sync::Wait;
+use std::thread::Threads;
+
+/// What commands are asked of: a book, or a head where one was made later.
+#[derive(Drop)]
+pub(crate) struct Stage {
+    book: Book<State>,
+    seating: Option<Seating>,
+}
+
+/// Whether an entry is none of a table of values: it begins with one of these words, or is a command.
+pub(crate) fn is_play(line: &[u8]) -> bool {
+    let word = match line.split_once_str(b" ") {
+        Some((word, _)) => word,
+        None => line,
+    };
+    matches!(
+        word,
+        b"book" | b"head" | b"history" | b"meet" | b"seen" | b"run"
+    ) || is_command(line)
+}
+
+impl Stage {
+    /// A new book.
+    pub(crate) fn new(alloc: Global) -> Result<Stage, AllocError> {
+        Ok(Stage {
+            book: Book::new(alloc)?,
+            seating: None,
+        })
+    }
+
+    /// The lines of an entry, and behind them what is answered.
+    pub(crate) fn play<R: Threads + Wait + Sync>(
+        &mut self,
+        rt: &R,
+        alloc: Global,
+        entry: &[&[u8]],
+        wants: &mut Wants,
+    ) -> Result<Vec<u8>, AllocError> {
+        let mut text = echo_again(alloc, entry, wants)?;
+        if let Err(fault) = self.answer(rt, alloc, entry, &mut text, wants) {
+            append_fault(alloc, &mut text, fault)?;
+        }
+        Ok(text)
+    }
+
+    fn answer<R: Threads + Wait + Sync>(
+        &mut self,
+        rt: &R,
+        alloc: Global,
+        entry: &[&[u8]],
+        text: &mut Vec<u8>,
+        wants: &mut Wants,
+    ) -> Result<(), PlayFault> {
+        let Some((first, rest)) = entry.split_first() else {
+            return Ok(());
+        };
+        if let Some(way) = way_of(first) {
+            return run(rt, alloc, way, rest, text, wants);
+        }
+        if is_command(first) {
+            return self.ask(rt, alloc, entry, text, wants);
+        }
+        self.do_line(alloc, first, text, wants)
+    }
+
+    fn ask<R: Wait>(
+        &mut self,
+        rt: &R,
+        alloc: Global,
+        entry: &[&[u8]],
+        text: &mut Vec<u8>,
+        wants: &mut Wants,
+    ) -> Result<(), PlayFault> {
+        let command = command_of(entry)?;
+        match &mut self.seating {
+            Some(seating) => heads::ask(rt, alloc, seating, command, text, wants),
+            None => books::ask(alloc, &mut self.book, command, text, wants),
+        }
+    }
+
+    /// Does what a line says that is no command.
+    fn do_line(
+        &mut self,
+        alloc: Global,
+        line: &[u8],
+        text: &mut Vec<u8>,
+        wants: &mut Wants,
+    ) -> Result<(), PlayFault> {
+        let (word, rest) = line.split_once_str(b" ").unwrap_or((line, b""));
+        match word {
+            b"book" => self.begin(alloc, wants),
+            b"head" => self.open(alloc, rest, text, wants),
+            b"history" => self.tell_history(rest, text, wants),
+            b"meet" => self.meet(rest, text, wants),
+            b"seen" => heads::tell_seen(alloc, self.seating()?, number(rest)?, text, wants),
+            _ => Err(NO_LINE),
+        }
+    }
+
+    fn begin(&mut self, alloc: Global, wants: &mut Wants) -> Result<(), PlayFault> {
+        self.book = books::book_again(alloc, wants)?;
+        self.seating = None;
+        Ok(())
+    }
+
+    fn open(
+        &mut self,
+        alloc: Global,
+        sizes: &[u8],
+        text: &mut Vec<u8>,
+        wants: &mut Wants,
+    ) -> Result<(), PlayFault> {
+        match heads::open(alloc, sizes_of(sizes)?, wants) {
+            Ok(seating) => {
+                self.seating = Some(seating);
+                Ok(())
+            }
+            Err(HeadFault::BadSize) => append_again(text, b"bad size\n", wants),
+            Err(HeadFault::Memory) => Err(PlayFault::Memory),
+        }
+    }
+
+    fn tell_history(
+        &self,
+        seat: &[u8],
+        text: &mut Vec<u8>,
+        wants: &mut Wants,
+    ) -> Result<(), PlayFault> {
+        if seat.is_empty() {
+            books::append_history_again(text, self.book.history(), wants)
+        } else {
+            heads::tell_history(self.seating()?, number(seat)?, text, wants)
+        }
+    }
+
+    fn meet(
+        &mut self,
+        seats: &[u8],
+        text: &mut Vec<u8>,
+        wants: &mut Wants,
+    ) -> Result<(), PlayFault> {
+        let Some((first, second)) = seats.split_once_str(b" ") else {
+            return Err(NO_LINE);
+        };
+        let (first, second) = (number(first)?, number(second)?);
+        match &mut self.seating {
+            Some(seating) => seating.meet(first, second, wants)?,
+            None => return Err(NO_LINE),
+        }
+        append_again(text, b"met\n", wants)
+    }
+
+    fn seating(&self) -> Result<&Seating, PlayFault> {
+        match &self.seating {
+            Some(seating) => Ok(seating),
+            None => Err(NO_LINE),
+        }
+    }
+}
+
+const NO_LINE: PlayFault = PlayFault::Wrong("no such line");
+
+fn sizes_of(words: &[u8]) -> Result<[u32; 4], PlayFault> {
+    let (seats, rest) = words.split_once_str(b" ").ok_or(NO_LINE)?;
+    let (per_seat, rest) = rest.split_once_str(b" ").ok_or(NO_LINE)?;
+    let (tries, every) = rest.split_once_str(b" ").ok_or(NO_LINE)?;
+    Ok([
+        number(seats)?,
+        number(per_seat)?,
+        number(tries)?,
+        number(every)?,
+    ])
+}
+
+fn echo_again(alloc: Global, entry: &[&[u8]], wants: &mut Wants) -> Result<Vec<u8>, AllocError> {
+    match joined(alloc, entry) {
+        Ok(text) => Ok(text),
+        Err(_) => {
+            wants.note();
+            joined(alloc, entry)
+        }
+    }
+}
+
+fn append_fault(alloc: Global, text: &mut Vec<u8>, fault: PlayFault) -> Result<(), AllocError> {
+    let words = format!(in alloc; "fault: {fault}\n")?;
+    text.extend_from_slice(words.as_bytes())
+}

@@ -1,0 +1,99 @@
+use crate::faults::PlayFault;
+use crate::wants::Wants;
+use camp_run::{NoGate, RunFault, run_book, run_head, run_locked};
+use std::alloc::{AllocError, Global};
+use std::sync::Wait;
+use std::thread::Threads;
+
+/// How a script is run.
+#[derive(Clone, Copy)]
+pub(crate) enum Way {
+    /// In one thread.
+    Book,
+    /// In threads over a lock.
+    Locked,
+    /// In threads over a head, where a call is given up after 100 lost exchanges.
+    Head,
+}
+
+/// The way that a line tells.
+pub(crate) fn way_of(line: &[u8]) -> Option<Way> {
+    match line {
+        b"run book" => Some(Way::Book),
+        b"run locked" => Some(Way::Locked),
+        b"run head" => Some(Way::Head),
+        _ => None,
+    }
+}
+
+/// Runs a script, again where the run, or its writer, wanted memory and nothing was written, and appends
+/// what it writes.
+pub(crate) fn run<R: Threads + Wait + Sync>(
+    rt: &R,
+    alloc: Global,
+    way: Way,
+    lines: &[&[u8]],
+    text: &mut Vec<u8>,
+    wants: &mut Wants,
+) -> Result<(), PlayFault> {
+    let script = script_again(alloc, lines, wants)?;
+    let mut written = Vec::new(alloc);
+    match run_once(rt, alloc, way, &script, &mut written) {
+        Ok(()) => append_again(text, &written, wants),
+        Err(RunFault::Memory | RunFault::Write) if written.is_empty() => {
+            wants.note();
+            run_once(rt, alloc, way, &script, &mut written)?;
+            append_again(text, &written, wants)
+        }
+        Err(RunFault::Memory) => Err(PlayFault::Wrong("out of memory, and a text")),
+        Err(fault) => Err(PlayFault::from(fault)),
+    }
+}
+
+fn run_once<R: Threads + Wait + Sync>(
+    rt: &R,
+    alloc: Global,
+    way: Way,
+    script: &[u8],
+    written: &mut Vec<u8>,
+) -> Result<(), RunFault> {
+    let mut reader = script;
+    match way {
+        Way::Book => run_book(alloc, &mut reader, written, true),
+        Way::Locked => run_locked(rt, alloc, &mut reader, written, true),
+        Way::Head => run_head(rt, alloc, &mut reader, written, true, 100, &NoGate),
+    }
+}
+
+fn script_again(alloc: Global, lines: &[&[u8]], wants: &mut Wants) -> Result<Vec<u8>, AllocError> {
+    match joined(alloc, lines) {
+        Ok(script) => Ok(script),
+        Err(_) => {
+            wants.note();
+            joined(alloc, lines)
+        }
+    }
+}
+
+/// Lines as one text.
+pub(crate) fn joined(alloc: Global, lines: &[&[u8]]) -> Result<Vec<u8>, AllocError> {
+    let mut text = Vec::new(alloc);
+    for line in lines {
+        text.extend_from_slice(line)?;
+        text.push(b'\n')?;
+    }
+    Ok(text)
+}
+
+/// Appends bytes, again where that wanted memory.
+pub(crate) fn append_again(
+    text: &mut Vec<u8>,
+    written: &[u8],
+    wants: &mut Wants,
+) -> Result<(), PlayFault> {
+    if text.extend_from_slice(written).is_err() {
+        wants.note();
+        text.extend_from_slice(written)?;
+    }
+    Ok(())
+}
