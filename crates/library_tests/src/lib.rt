@@ -1,9 +1,15 @@
-//! Tests of libraries that know nothing of patches, by their public functions.
+//! Tests of libraries by their public functions.
 #![tactic(auto)]
 
 #[cfg(test)]
 mod clients;
 #[cfg(test)]
+mod ends;
+#[cfg(test)]
 mod objects;
 #[cfg(test)]
+mod options;
+#[cfg(test)]
 mod shares;
+#[cfg(test)]
+mod texts;

@@ -1,6 +1,5 @@
-//! Worked examples of runs: scripts that are run in one thread, in threads over a lock, and in threads
-//! over a head with gates. Reads blocks of lines from standard input, prints each line, and below each
-//! block what its run gives.
+//! Scripts that are run in one thread, in threads over a lock, and in threads over a head with gates.
+//! Reads blocks of lines from standard input, prints each line, and below each block what it gives.
 //!
 //! | Line | Meaning |
 //! |---|---|
@@ -9,18 +8,26 @@
 //! | `locked SHOWS` | the script over a lock |
 //! | `head TRIES SHOWS` | the script over a head |
 //! | `wait MOMENT SEAT NUMBER until MOMENT SEAT NUMBER` | a gate that waits at one moment until another has come; a moment is `before`, `exchange` or `after` |
-//! | `clients CLIENTS RECORDS` | a script of so many clients with so many records each |
+//! | `orders TRIES` | the script of two clients over a head, in every order in which they can take turns |
+//! | `drawn RUNS` | so many scripts that are drawn by lot, over a head |
+//! | `clients CLIENTS RECORDS` | a script of so many clients with so many records each, on branches of their own |
+//! | `race CLIENTS RECORDS` | so many clients with so many records each, on one branch |
 //! | any other | a line of the script |
 //! | nothing | the end of the block |
 //!
-//! SHOWS is `output`, the answers and the history; `counts`, how many answers were `ok` and `busy`,
-//! where the history agrees with each; or `open`, the same check without the counts.
+//! SHOWS is `output`, the answers and the history; `counts`, how many calls were accepted, refused and
+//! busy, where the replay of the history agrees with each answer; or `open`, the same replay without
+//! the counts.
 #![tactic(auto)]
 
+mod batons;
 mod blocks;
-mod checks;
 mod gates;
+mod orders;
+mod players;
+mod replays;
 mod runs;
+mod scripts;
 
 use anyhow::Result;
 use blocks::Block;

@@ -1,8 +1,8 @@
-use camp_history::Gate;
+use camp_run::Gate;
 use std::sync::atomic::{AtomicU64, Ordering};
 use std::thread;
 
-/// Lets seats take turns in an order that is told before. A turn leads from one gate of a seat to its
+/// Lets clients take turns in an order that is told before. A turn leads from one gate of a seat to its
 /// next one, so that it catches up and decides, or makes one exchange and decides anew.
 #[derive(Drop)]
 pub(crate) struct Baton<'a> {
@@ -37,8 +37,12 @@ impl<'a> Baton<'a> {
         }
     }
 
-    /// Waits for a turn of the seat, and gives up after 10,000,000 looks.
+    /// Waits for a turn of the seat, and gives up after 10,000,000 looks. The opening, at seat 0, waits
+    /// for none.
     fn take_turn(&self, seat: u32) {
+        if seat == 0 {
+            return;
+        }
         for _ in 0..10_000_000u32 {
             let over = self.over.load(Ordering::SeqCst);
             if self.turns.get(over as usize) == Some(&seat) {
