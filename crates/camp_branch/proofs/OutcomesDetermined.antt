@@ -6,8 +6,7 @@ use Rattle.camp_catch.specs.Laws.{keys_of}
 use Rattle.camp_catch.specs.ListLaws.{GivesOnePair, HasPair, OneOf}
 use Rattle.camp_catch.specs.MergingLists.{MergeLists, MergeSticks}
 use Rattle.camp_catch.specs.declared.catches.Catch.{Catch}
-use Rattle.camp_catch.proofs.ListChoices.{lists_succeed_or_stick}
-use Rattle.camp_catch.proofs.ListResults.{lists_are_unique}
+use Rattle.camp_catch.proofs.ListResults.{lists_are_unique, lists_succeed_or_stick}
 use Rattle.camp_catch.proofs.SameCatches.{catch_or_not}
 use Rattle.camp_branch.specs.Branches.{name_of}
 use Rattle.camp_branch.specs.Laws.{ExactlyOne, OutcomesAreDetermined}

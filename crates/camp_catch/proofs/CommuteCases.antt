@@ -1,5 +1,5 @@
 -- The cases of commuting exclude one another, and each is determined.
-use Rattle.std.proofs.Common.{◌≡◌, ◌⊎◌, ◌≤◌, Option, None, Some, inl, inr, List, [], ◌∷◌, cond, true, is_some, ◌+◌, refl, sym, ap, ◌∙◌, subst, arith}
+use Rattle.std.proofs.Common.{◌≡◌, ◌≤◌, Option, None, Some, inl, inr, [], ◌∷◌, cond, true, is_some, ◌+◌, refl, sym, ap, ◌∙◌, subst, arith}
 use Rattle.std.specs.Cmp.{Equal-is, tied_itself}
 use Rattle.std.specs.FinMap.{get, remove, empty, len, get-empty, get-insert, len-empty, len-insert}
 use Rattle.std.specs.Ordering.{eq_by_cmp}

@@ -1,7 +1,7 @@
 -- Commuting keeps effects: each case is a path of trees.
-use Rattle.std.proofs.Common.{◌≡◌, inl, inr, List, [], ◌∷◌, ◌++◌, refl, sym, ap, subst}
+use Rattle.std.proofs.Common.{◌≡◌, inl, inr, List, [], ◌∷◌, ◌++◌, refl, sym, subst}
 use Rattle.std.proofs.lemmas.List.{append_assoc}
-use Rattle.std.specs.FinMap.{get, remove}
+use Rattle.std.specs.FinMap.{remove}
 use Rattle.camp_base.specs.Trees.{Files}
 use Rattle.camp_prim.specs.Effect.{Applies, inverse_of}
 use Rattle.camp_prim.specs.Labels.{label_of}
@@ -13,9 +13,9 @@ use Rattle.camp_seq.specs.Running.{AppliesAll, inverse_all}
 use Rattle.camp_seq.proofs.ListEquivalence.{equal_are, before, behind, after_one, swapped, passed, all_passed, fronted, ordered, split, joined}
 use Rattle.camp_seq.proofs.ListRuns.{runs_back}
 use Rattle.camp_ctx.specs.Adding.{Adds, AddsAll, PassesBy, PassesByAll}
-use Rattle.camp_ctx.specs.Contexts.{Contexts, AreValid, Valid, bare, patch_key, context_key}
+use Rattle.camp_ctx.specs.Contexts.{Contexts, Valid, bare, patch_key, context_key}
 use Rattle.camp_ctx.proofs.AddValid.{valid_by_adding, valid_by_adding_all, valid_by_passing, valid_by_passing_all}
-use Rattle.camp_catch.specs.Catches.{Fits, IsSeenFrom}
+use Rattle.camp_catch.specs.Catches.{Fits}
 use Rattle.camp_catch.specs.Commuting.{BothPlain, PlainPastConflictor, ConflictorPastPlain, EffectsPass, labels_undone, TwoConflictorsApart, ConflictDissolves, PlainLeavesTheSet, OnlyConflictGoes, OneOfSeveralConflicts}
 use Rattle.camp_catch.specs.Conflictors.{against, in_conflict_with, joined_by, with_effect, without}
 use Rattle.camp_catch.specs.Laws.{CommuteKeepsEffects}

@@ -1,5 +1,5 @@
 -- What the bodies of commuting know at their answers.
-use Rattle.std.proofs.Common.{◌≡◌, ◌≢◌, ◌≤◌, ◌==◌, Option, None, Some, ◌⊎◌, inl, inr, List, [], ◌∷◌, length, slice_index_or, Bool, true, false, refl, sym, ap, ◌∙◌, subst, arith, eqb-true}
+use Rattle.std.proofs.Common.{◌≡◌, ◌≤◌, ◌==◌, Option, None, Some, ◌⊎◌, inl, inr, List, [], ◌∷◌, length, Bool, true, refl, sym, ap, ◌∙◌, subst, arith, eqb-true}
 use Rattle.std.specs.FinMap.{get, len, remove, empty_of_len, get-empty}
 use Rattle.camp_base.specs.Answers.{FindsPair}
 use Rattle.camp_prim.specs.Effect.{inverse_of}
@@ -10,23 +10,20 @@ use Rattle.camp_prim.specs.declared.named.Named.{Named}
 use Rattle.camp_prim.proofs.Inverses.{inverse_of-inverse_of}
 use Rattle.camp_seq.specs.NormalOrder.{Norm, Splits}
 use Rattle.camp_seq.specs.Passing.{Passes, PassesAll, Fronts}
-use Rattle.camp_seq.specs.Running.{inverse_all}
 use Rattle.camp_seq.proofs.GatherSteps.{length-passes}
 use Rattle.camp_seq.proofs.ListResults.{one_front, one_split}
 use Rattle.camp_ctx.specs.Adding.{Adds, AddsAll, PassesBy, PassesByAll}
 use Rattle.camp_ctx.specs.Contexts.{InContext, Contexts, bare, only, patch_key, context_key}
 use Rattle.camp_ctx.proofs.AddResults.{one_add_of_all}
 use Rattle.camp_catch.specs.Commuting.{PlainPastConflictor, ConflictorPastPlain, EffectsPass, labels_undone, TwoConflictorsApart, ConflictDissolves, PlainLeavesTheSet, OnlyConflictGoes, OneOfSeveralConflicts, CommutePlainConflictor, CommuteConflictors}
-use Rattle.camp_catch.specs.Conflictors.{Becomes, against, in_conflict_with, with_conflicts, with_effect, without}
+use Rattle.camp_catch.specs.Conflictors.{Becomes, in_conflict_with, with_conflicts, with_effect, without}
 use Rattle.camp_catch.specs.Inside.Pairs.{JoinsBehindEffects, PlainAndUndone, PlainAndFirstConflict}
-use Rattle.camp_catch.specs.Inside.Seen.{JoinedBefore, LeavesSet, JoinsInOrder}
+use Rattle.camp_catch.specs.Inside.Seen.{LeavesSet}
 use Rattle.camp_catch.specs.declared.catches.Catch.{Catch}
-use Rattle.camp_catch.specs.declared.catches.Catch.TheVariants.{Plain}
 use Rattle.camp_catch.specs.declared.catches.Conflictor.{Conflictor}
 use Rattle.camp_catch.proofs.CommuteCases.{its_only, lacks_its_only, not_none, only_is_one}
 use Rattle.camp_catch.proofs.Determined.{leads_nowhere}
 use Rattle.camp_catch.proofs.PartsDetermined.{LacksKey, comes_before, effects_pass, one_passes, same_only}
-use Rattle.camp_catch.proofs.ValueSteps.{is_alone}
 
 -- two catches are never the result
 abbrev pub NoResult : (Catch → Catch → Type 0) → Type 0
@@ -97,22 +94,9 @@ no_identity a k passed a' past never pair w =
     leads_nowhere (λ (p : List Named × Named). Becomes (Norm p.0) (Adds p.1) (PassesBy p.1) k) (one_passes a k.effect) (passed, a') past never (w.passed, w.a') w.passes w.moved w.becomes
 
 -- what a primitive comes before is as long as it was
-length-passes_all : (r s s' r' : List Named) → PassesAll r s s' r' → length s' ≡ length s
+pub length-passes_all : (r s s' r' : List Named) → PassesAll r s s' r' → length s' ≡ length s
 length-passes_all [] s s' r' w = ap (λ x. length x) w.0
 length-passes_all (p ∷ r) s s' r' w = length-passes p w.0 s' w.1 w.4 ∙ length-passes_all r s w.0 w.2 w.3
-
--- a list of one that passed another
-module _ (r : List Named) (b : Named) (single : List Named) (is : single ≡ b ∷ []) where
-  pub never_comes : ((pair : List Named × List Named) → ¬ (PassesAll r single pair.0 pair.1)) → (pair : Named × List Named) → ¬ (PassesAll r (b ∷ []) (pair.0 ∷ []) pair.1)
-  never_comes never pair w = never (pair.0 ∷ [], pair.1) (subst (λ t. PassesAll r t (pair.0 ∷ []) pair.1) (sym is) w)
-
-  pub comes_as_one : (before left : List Named) → PassesAll r single before left → length before ≡ 1
-  comes_as_one before left w = length-passes_all r single before left w ∙ ap (λ x. length x) is
-
-  pub comes_from : (before left items : List Named) (first copy : Named) → PassesAll r single before left → items ≡ before → first ≡ slice_index_or items 0 first → copy ≡ first → PassesAll r (b ∷ []) (copy ∷ []) left
-  comes_from before left items first copy w here at made =
-      let one : before ≡ copy ∷ [] = is_alone before first (comes_as_one before left w) ∙ ap (λ p. p ∷ []) (ap (λ x. slice_index_or x 0 first) (sym here) ∙ sym at ∙ sym made) in
-      subst (λ t. PassesAll r (b ∷ []) t left) one (subst (λ t. PassesAll r t before left) is w)
 
 -- a primitive that came before the effect of a conflictor, whose identity its inverse does not pass
 pub identity_not_past : (j : Conflictor) (b b' : Named) (left : List Named) → PassesAll j.effect (b ∷ []) (b' ∷ []) left → ((moved : Conflictor) → ¬ (Becomes (Norm left) (Adds (inverse_of b)) (PassesBy (inverse_of b)) j moved)) → NoResult (ConflictorPastPlain j b)

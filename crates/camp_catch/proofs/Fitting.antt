@@ -1,5 +1,5 @@
 -- Catches that fit one after the other, and what keeps the members of sets valid.
-use Rattle.std.proofs.Common.{◌≡◌, Bool, true, false, cond, Option, None, Some, List, [], ◌∷◌, ◌++◌, refl, sym, subst, ap}
+use Rattle.std.proofs.Common.{◌≡◌, Bool, true, false, cond, Option, None, Some, List, [], ◌∷◌, ◌++◌, refl, sym, subst}
 use Rattle.std.specs.FinMap.{get, contains_key, remove, insert, empty, get-empty, get-insert, get-remove}
 use Rattle.std.specs.Ordering.{eq_by_cmp}
 use Rattle.camp_base.specs.Trees.{Files}
@@ -10,7 +10,7 @@ use Rattle.camp_prim.specs.declared.named.Named.{Named}
 use Rattle.camp_prim.proofs.Applied.{applies_once}
 use Rattle.camp_prim.proofs.Inverses.{leads_back, inverse_of-inverse_of}
 use Rattle.camp_seq.specs.Equivalence.{◌~◌}
-use Rattle.camp_seq.specs.Running.{AppliesAll, inverse_all}
+use Rattle.camp_seq.specs.Running.{AppliesAll}
 use Rattle.camp_seq.specs.Merging.{MergesOne}
 use Rattle.camp_seq.proofs.ListEquivalence.{passed}
 use Rattle.camp_seq.proofs.ListRuns.{joined_runs, cut_run, equivalent_run}
@@ -22,7 +22,7 @@ use Rattle.camp_ctx.proofs.AddValid.{valid_by_adding_all}
 use Rattle.camp_ctx.proofs.SetChanges.{members_valid}
 use Rattle.camp_prim.proofs.LabelOrder.{key_total}
 use Rattle.camp_catch.specs.Conflictors.{Becomes, joined_by}
-use Rattle.camp_catch.specs.Catches.{Fits, effect_of, IsSeenFrom}
+use Rattle.camp_catch.specs.Catches.{Fits, IsSeenFrom}
 use Rattle.camp_catch.specs.declared.catches.Catch.{Catch}
 use Rattle.camp_catch.specs.declared.catches.Catch.TheVariants.{Plain}
 use Rattle.camp_catch.specs.declared.catches.Conflictor.{Conflictor}

@@ -1,5 +1,5 @@
 -- Commuting and merging keep labels, and so do arranging, aligning and merging lists.
-use Rattle.std.proofs.Common.{◌≡◌, ◌⊎◌, inl, inr, append-nil, List, [], ◌∷◌, ◌++◌, map, refl, sym, ap, ◌∙◌, subst, ℕ, Contains}
+use Rattle.std.proofs.Common.{◌≡◌, inl, inr, append-nil, List, [], ◌∷◌, ◌++◌, map, refl, sym, ap, ◌∙◌, subst, ℕ}
 use Rattle.std.proofs.lemmas.List.{map-append, append_assoc}
 use Rattle.camp_prim.specs.Effect.{inverse_of}
 use Rattle.camp_prim.specs.Labels.{label_of, key_of}
@@ -8,8 +8,9 @@ use Rattle.camp_prim.specs.declared.labels.Label.{Label}
 use Rattle.camp_prim.specs.declared.named.Named.{Named}
 use Rattle.camp_seq.specs.Merging.{MergesOne}
 use Rattle.camp_seq.specs.Passing.{Passes, PassesAll}
-use Rattle.camp_ctx.specs.Adding.{Adds, AddsAll, PassesBy, PassesByAll, FromLast, cancel, commute, keep}
+use Rattle.camp_ctx.specs.Adding.{Adds, PassesBy, PassesByAll}
 use Rattle.camp_ctx.specs.Contexts.{InContext, patch_key, context_key, bare}
+use Rattle.camp_ctx.proofs.AddResults.{same_key_of_sum}
 use Rattle.camp_catch.specs.Arranging.{ComesBefore, ArrangesBehind, ComesFirst, Align}
 use Rattle.camp_catch.specs.Catches.{catch_key}
 use Rattle.camp_catch.specs.Commuting.{CommuteCatch}
@@ -45,23 +46,15 @@ merged_key : (a : Named) (s s' : List Named) (a' : Named) → MergesOne a s s' a
 merged_key a [] s' a' w = ap patch_key w.1
 merged_key a (b ∷ s) s' a' w = merged_key w.1 s w.2 a' w.4 ∙ ap key_of w.3.anywhere.first
 
-pub added_key : (a : Named) (x y : InContext) → Adds a x y → context_key y ≡ context_key x
-added_key a x y (cancel w) = ap patch_key w.patch
-added_key a x y (commute never w) = ap key_of w.past_patch.anywhere.second
-added_key a x y (keep never none w) = ap patch_key w.patch
+added_key : (a : Named) (x y : InContext) → Adds a x y → context_key y ≡ context_key x
+added_key a x y w = same_key_of_sum (a ∷ []) x y (x, refl, w)
 
 passed_context_key : (a : Named) (x y : InContext) → PassesBy a x y → context_key y ≡ context_key x
 passed_context_key a x y w = ap key_of w.past_patch.anywhere.second
 
-key_from_last : (Change : Named → InContext → InContext → Type 0) → ((a : Named) (x y : InContext) → Change a x y → context_key y ≡ context_key x) → (r : List Named) (x y : InContext) → FromLast Change r x y → context_key y ≡ context_key x
-key_from_last Change keeps [] x y w = ap context_key w
-key_from_last Change keeps (a ∷ r) x y w = keeps a w.0 y w.2 ∙ key_from_last Change keeps r x w.0 w.1
-
-pub added_all_key : (r : List Named) (x y : InContext) → AddsAll r x y → context_key y ≡ context_key x
-added_all_key = key_from_last Adds added_key
-
 passed_all_key : (r : List Named) (x y : InContext) → PassesByAll r x y → context_key y ≡ context_key x
-passed_all_key = key_from_last PassesBy passed_context_key
+passed_all_key [] x y w = ap context_key w
+passed_all_key (a ∷ r) x y w = passed_context_key a w.0 y w.2 ∙ passed_all_key r x w.0 w.1
 
 -- both labels are kept
 abbrev pub KeepKeys : Catch → Catch → Catch → Catch → Type 0
@@ -79,17 +72,17 @@ commuted_keys (Plain a) (Catch.Conflictor k) k' j' (inr (inr w)) =
 commuted_keys (Catch.Conflictor j) (Plain b) k' j' w =
     (ap catch_key w.second ∙ passed_by_all_key j.effect b w.b' w.left w.passes, ap catch_key w.first ∙ passed_context_key (inverse_of b) j.identity w.moved.identity w.becomes.identity)
 commuted_keys (Catch.Conflictor j) (Catch.Conflictor k) k' j' (inl w) =
-    (ap catch_key w.second ∙ passed_all_key w.rr' k.identity w.moved.identity w.becomes.identity, ap catch_key w.first ∙ added_all_key _ j.identity w.own.identity w.own_becomes.identity)
+    (ap catch_key w.second ∙ passed_all_key w.rr' k.identity w.moved.identity w.becomes.identity, ap catch_key w.first ∙ same_key_of_sum _ j.identity w.own.identity w.own_becomes.identity)
 commuted_keys (Catch.Conflictor j) (Catch.Conflictor k) k' j' (inr (inl w)) =
-    (ap catch_key w.second ∙ added_all_key j.effect k.identity (bare w.a) w.becomes, ap catch_key w.first)
+    (ap catch_key w.second ∙ same_key_of_sum j.effect k.identity (bare w.a) w.becomes, ap catch_key w.first)
 commuted_keys (Catch.Conflictor j) (Catch.Conflictor k) k' j' (inr (inr w)) =
-    (ap catch_key w.second ∙ added_all_key w.rr' k.identity w.moved.identity w.becomes.identity, ap catch_key w.first ∙ added_all_key _ j.identity w.own.identity w.own_becomes.identity)
+    (ap catch_key w.second ∙ same_key_of_sum w.rr' k.identity w.moved.identity w.becomes.identity, ap catch_key w.first ∙ same_key_of_sum _ j.identity w.own.identity w.own_becomes.identity)
 
 beside_or_joined : (a : Named) (k : Conflictor) (k' j' : Catch) → MergePlainConflictor a k k' j' → KeepKeys (Plain a) (Catch.Conflictor k) k' j'
 beside_or_joined a k k' j' (inl w) =
     (ap catch_key w.after ∙ added_key _ k.identity w.moved.identity w.becomes.identity, ap catch_key w.beside ∙ merged_key a k.effect w.merged w.a' w.merge)
 beside_or_joined a k k' j' (inr w) =
-    (ap catch_key w.after, ap catch_key w.beside ∙ added_all_key _ (bare a) w.z w.becomes)
+    (ap catch_key w.after, ap catch_key w.beside ∙ same_key_of_sum _ (bare a) w.z w.becomes)
 
 -- a conflictor that another joins keeps its own
 joined_key : (Holds : Type 0) (l : InContext) (j k : Conflictor) → JoinsWhere Holds l j k → context_key k.identity ≡ context_key j.identity
@@ -105,7 +98,7 @@ merged_keys (Catch.Conflictor j) (Plain b) k' j' w =
     let both = beside_or_joined b j j' k' w in
     (both.1, both.0)
 merged_keys (Catch.Conflictor j) (Catch.Conflictor k) k' j' w =
-    (ap catch_key w.after ∙ joined_key _ _ w.moved w.joined w.joins ∙ added_all_key _ k.identity w.moved.identity w.becomes.identity, ap catch_key w.beside ∙ joined_key _ _ w.own w.own_joined w.own_joins ∙ added_all_key _ j.identity w.own.identity w.own_becomes.identity)
+    (ap catch_key w.after ∙ joined_key _ _ w.moved w.joined w.joins ∙ same_key_of_sum _ k.identity w.moved.identity w.becomes.identity, ap catch_key w.beside ∙ joined_key _ _ w.own w.own_joined w.own_joins ∙ same_key_of_sum _ j.identity w.own.identity w.own_becomes.identity)
 
 before_keys : (list : List Catch) (k k' : Catch) (list' : List Catch) → ComesBefore list k k' list' → (catch_key k' ≡ catch_key k) × (keys_of list' ≡ keys_of list)
 before_keys [] k k' list' w = (ap catch_key w.0, ap keys_of w.1)

@@ -4,7 +4,6 @@ pub mod CommuteSteps
 pub mod Determined
 pub mod Fitting
 pub mod KeptLabels
-pub mod ListChoices
 pub mod ListEffects
 pub mod ListResults
 pub mod MergeCases
@@ -14,4 +13,5 @@ pub mod MergeSteps
 pub mod MoveSteps
 pub mod PartsDetermined
 pub mod SameCatches
+pub mod Settled
 pub mod ValueSteps

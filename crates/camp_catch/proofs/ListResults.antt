@@ -1,180 +1,130 @@
--- What lists of catches become is determined: one result at most, one place at most to stick, and never both.
-use Rattle.std.proofs.Common.{◌≡◌, ◌↔◌, inl, inr, List, [], ◌∷◌, ◌++◌, refl, sym, ap, ◌∙◌, subst, ℕ, Contains}
+-- What lists of catches become is determined: one result, or one place where they stick, and never both.
+use Rattle.std.proofs.Common.{◌≡◌, ◌↔◌, ◌⊎◌, inl, inr, List, [], ◌∷◌, ◌++◌, refl, ap, ℕ, Contains}
 use Rattle.camp_prim.specs.declared.labels.Key.{Key}
-use Rattle.camp_catch.specs.Arranging.{ComesBefore, StopsAt, ArrangesBehind, SticksBehind, ComesFirst, Align, AlignSticks}
-use Rattle.camp_catch.specs.Commuting.{CommuteCatch}
-use Rattle.camp_catch.specs.ListLaws.{AreEqual, ListsAreUnique, ArrangeByMembers}
+use Rattle.camp_prim.proofs.SwapDecided.{Decided}
+use Rattle.camp_seq.proofs.ListsDecided.{among_or_not}
+use Rattle.camp_ctx.proofs.ContextsDecided.{keys_or_not}
+use Rattle.camp_ctx.proofs.NamedDecided.{bytes_or_not}
+use Rattle.camp_catch.specs.Arranging.{ComesBefore, StopsAt, ArrangesBehind, SticksBehind, IsOf, ComesFirst, Align, AlignSticks}
+use Rattle.camp_catch.specs.Catches.{catch_key}
+use Rattle.camp_catch.specs.ListLaws.{ArrangeByMembers, CatchesAreDecided, GivesOnePair, HasPair, ListsAreUnique, ListsSucceedOrStick, OneOf}
 use Rattle.camp_catch.specs.MergingLists.{MergesWithAll, SticksWithin, MergeLists, MergeSticks}
 use Rattle.camp_catch.specs.declared.catches.Catch.{Catch}
-use Rattle.camp_catch.proofs.CommuteCases.{one_commuting}
-use Rattle.camp_catch.proofs.MergeCases.{one_merging}
+use Rattle.camp_catch.proofs.CommuteCases.{IsDetermined, commuting}
+use Rattle.camp_catch.proofs.Determined.{Determined, chain, either, just, made_of, not_or_not, where_holds}
+use Rattle.camp_catch.proofs.MergeCases.{merging}
+use Rattle.camp_catch.proofs.Settled.{Settled, at_once, beside, by_cases, next, settled_as, settles}
 
-pub one_coming : (list : List Catch) (k k' l : Catch) (list' s : List Catch) → ComesBefore list k k' list' → ComesBefore list k l s → AreEqual k' list' l s
-one_coming [] k k' l list' s v w = (v.0 ∙ sym w.0, v.1 ∙ sym w.1)
-one_coming (j ∷ list) k k' l list' s v w =
-    let rest = one_coming list k v.0 w.0 v.2 w.2 v.3 w.3 in
-    let pair = one_commuting j w.0 k' v.1 l w.1 (subst (λ x. CommuteCatch j x k' v.1) rest.0 v.4) w.4 in
-    (pair.0, v.5 ∙ (λ t. pair.1 t ∷ rest.1 t) ∙ sym w.5)
+-- the two catches that come of a pair, or the labels where none do
+pub coming : (list : List Catch) (k : Catch) → Settled (λ (p : Catch × List Catch). ComesBefore list k p.0 p.1) (StopsAt list k)
+coming [] k =
+    settled_as (at_once (k, [])) (λ x. x) (λ x e. (ap (λ (p : Catch × List Catch). p.0) e, ap (λ (p : Catch × List Catch). p.1) e)) (λ y w. (y, (λ t. (w.0 t, w.1 t)), refl)) (λ on w. w) (λ on w. w)
+coming (j ∷ list) k =
+    settled_as (next (coming list k) (λ p w. settles (commuting j p.0) (catch_key j))) (λ x. (x.1.0, x.1.1 ∷ x.0.1)) (λ x w. (x.0.0, x.1.1, x.0.1, w.0, w.1, refl)) (λ y c. (((c.0, c.2), (y.0, c.1)), (c.3, c.4), λ t. (y.0, c.5 t))) (λ on v. elim v [
+      | inl s ↦ inl s
+      | inr s ↦ let none = s.2 in inr (s.0.0, s.0.1, s.1, (λ k' j' w. none.0 (k', j') w), none.1)
+    ]) (λ on v. elim v [
+      | inl s ↦ inl s
+      | inr s ↦ inr ((s.0, s.1), s.2, ((λ x w. s.3 x.0 x.1 w), s.4))
+    ])
 
-pub comes_and_stops : (list : List Catch) (k k' : Catch) (list' : List Catch) (on : Key) → ComesBefore list k k' list' → StopsAt list k on → ⊥
-comes_and_stops [] k k' list' on v w = w
-comes_and_stops (j ∷ list) k k' list' on v (inl w) = comes_and_stops list k v.0 v.2 on v.3 w
-comes_and_stops (j ∷ list) k k' list' on v (inr w) =
-    let same = one_coming list k v.0 w.0 v.2 w.1 v.3 w.2 in
-    w.3 k' v.1 (subst (λ x. CommuteCatch j x k' v.1) same.0 v.4)
+is_of_or_not : (names : List (List ℕ)) (k : Catch) → Decided (IsOf names k)
+is_of_or_not names k = among_or_not bytes_or_not names (catch_key k).name
 
-pub one_stop : (list : List Catch) (k : Catch) (on other : Key) → StopsAt list k on → StopsAt list k other → on ≡ other
-one_stop [] k on other v w = absurd v
-one_stop (j ∷ list) k on other (inl v) (inl w) = one_stop list k on other v w
-one_stop (j ∷ list) k on other (inl v) (inr w) = absurd (comes_and_stops list k w.0 w.1 on w.2 v)
-one_stop (j ∷ list) k on other (inr v) (inl w) = absurd (comes_and_stops list k v.0 v.1 other v.2 w)
-one_stop (j ∷ list) k on other (inr v) (inr w) = v.4 ∙ sym w.4
+arranging : (names : List (List ℕ)) (rest list : List Catch) → Settled (λ (p : List Catch × List Catch). ArrangesBehind names rest list p.0 p.1) (λ (s : Key × Key). SticksBehind names rest list s.0 s.1)
+arranging names rest [] =
+    settled_as (at_once ([], rest)) (λ x. x) (λ x e. (ap (λ (p : List Catch × List Catch). p.0) e, ap (λ (p : List Catch × List Catch). p.1) e)) (λ y w. (y, (λ t. (w.0 t, w.1 t)), refl)) (λ on w. w) (λ on w. w)
+arranging names rest (k ∷ list) =
+    let come = settled_as (next (beside (catch_key k) (coming rest k)) (λ p w. arranging names p.1 list)) (λ x. (x.0.0 ∷ x.1.0, x.1.1)) (λ x w. (x.0.0, x.0.1, x.1.0, w.0, w.1, refl)) (λ y c. (((c.0, c.1), (c.2, y.1)), (c.3, c.4), λ t. (c.5 t, y.1))) (λ on v. v) (λ on v. v) in
+    settled_as (by_cases (is_of_or_not names k) come (arranging names (rest ++ k ∷ []) list)) (λ x. x) (λ x w. w) (λ y w. (y, w, refl)) (λ s v. elim v [
+      | inl w ↦ elim w.1 [ inl u ↦ inl (w.0, u.0, u.1) | inr u ↦ inr (inl (w.0, (u.0.0, u.0.1, u.1, u.2))) ]
+      | inr w ↦ inr (inr w)
+    ]) (λ s v. elim v [
+      | inl w ↦ inl (w.0, inl (w.1, w.2))
+      | inr u ↦ elim u [ inl w ↦ let come = w.1 in inl (w.0, inr ((come.0, come.1), come.2, come.3)) | inr w ↦ inr w ]
+    ])
 
-one_arranging : (names : List (List ℕ)) (rest list first others s t : List Catch) → ArrangesBehind names rest list first others → ArrangesBehind names rest list s t → AreEqual first others s t
-one_arranging names rest [] first others s t v w = (v.0 ∙ sym w.0, v.1 ∙ sym w.1)
-one_arranging names rest (k ∷ list) first others s t (inl v) (inl w) =
-    let one = v.1 in
-    let two = w.1 in
-    let same = one_coming rest k one.0 two.0 one.1 two.1 one.3 two.3 in
-    let more = one_arranging names two.1 list one.2 others two.2 t (subst (λ r. ArrangesBehind names r list one.2 others) same.1 one.4) two.4 in
-    (one.5 ∙ (λ i. same.0 i ∷ more.0 i) ∙ sym two.5, more.1)
-one_arranging names rest (k ∷ list) first others s t (inl v) (inr w) = absurd (w.0 v.0)
-one_arranging names rest (k ∷ list) first others s t (inr v) (inl w) = absurd (v.0 w.0)
-one_arranging names rest (k ∷ list) first others s t (inr v) (inr w) =
-    one_arranging names (rest ++ k ∷ []) list first others s t v.1 w.1
+pub first_of : (key : Key) (list : List Catch) → Determined (λ (p : Catch × List Catch). ComesFirst key list p.0 p.1)
+first_of key [] = record { one = λ x y v w. absurd v; decided = inr (λ w. w.1) }
+first_of key (j ∷ list) =
+    let is = keys_or_not (catch_key j) key in
+    let here = where_holds is (λ same. just (j, list)) in
+    let there = where_holds (not_or_not is) (λ other. chain (first_of key list) (λ p w. commuting j p.0)) in
+    either (λ x y v w. w.0 v.0) (made_of here (λ x. x) (λ x w. (w.0, ap (λ (p : Catch × List Catch). p.0) w.1, ap (λ (p : Catch × List Catch). p.1) w.1)) (λ y w. (y, (w.0, λ t. (w.1 t, w.2 t)), refl))) (made_of there (λ x. (x.1.0, x.1.1 ∷ x.0.1)) (λ x w. let come = w.1 in (w.0, (x.0.0, x.1.1, x.0.1, come.0, come.1, refl))) (λ y w. let c = w.1 in (((c.0, c.2), (y.0, c.1)), (w.0, (c.3, c.4)), λ t. (y.0, c.5 t))))
 
-pub arranges_and_sticks : (names : List (List ℕ)) (rest list first others : List Catch) (patch on : Key) → ArrangesBehind names rest list first others → SticksBehind names rest list patch on → ⊥
-arranges_and_sticks names rest [] first others patch on v w = w
-arranges_and_sticks names rest (k ∷ list) first others patch on (inl v) (inl w) =
-    let one = v.1 in
-    comes_and_stops rest k one.0 one.1 on one.3 w.1
-arranges_and_sticks names rest (k ∷ list) first others patch on (inl v) (inr (inl w)) =
-    let one = v.1 in
-    let two = w.1 in
-    let same = one_coming rest k one.0 two.0 one.1 two.1 one.3 two.2 in
-    arranges_and_sticks names two.1 list one.2 others patch on (subst (λ r. ArrangesBehind names r list one.2 others) same.1 one.4) two.3
-arranges_and_sticks names rest (k ∷ list) first others patch on (inl v) (inr (inr w)) = w.0 v.0
-arranges_and_sticks names rest (k ∷ list) first others patch on (inr v) (inl w) = v.0 w.0
-arranges_and_sticks names rest (k ∷ list) first others patch on (inr v) (inr (inl w)) = v.0 w.0
-arranges_and_sticks names rest (k ∷ list) first others patch on (inr v) (inr (inr w)) =
-    arranges_and_sticks names (rest ++ k ∷ []) list first others patch on v.1 w.1
+aligning : (order : List Key) (list : List Catch) → Settled (Align order list) (AlignSticks order list)
+aligning [] list = at_once list
+aligning (key ∷ order) list =
+    settled_as (next (settles (first_of key list) key) (λ p w. aligning order p.1)) (λ x. x.0.0 ∷ x.1) (λ x w. (x.0.0, x.0.1, x.1, w.0, w.1, refl)) (λ y c. (((c.0, c.1), c.2), (c.3, c.4), c.5)) (λ on v. elim v [
+      | inl s ↦ inl ((λ k others w. s.0 (k, others) w), s.1)
+      | inr s ↦ inr (s.0.0, s.0.1, s.1, s.2)
+    ]) (λ on v. elim v [
+      | inl s ↦ inl ((λ x w. s.0 x.0 x.1 w), s.1)
+      | inr s ↦ inr ((s.0, s.1), s.2, s.3)
+    ])
 
-one_sticking : (names : List (List ℕ)) (rest list : List Catch) (patch on p o : Key) → SticksBehind names rest list patch on → SticksBehind names rest list p o → AreEqual patch on p o
-one_sticking names rest [] patch on p o v w = absurd v
-one_sticking names rest (k ∷ list) patch on p o (inl v) (inl w) = (v.2 ∙ sym w.2, one_stop rest k on o v.1 w.1)
-one_sticking names rest (k ∷ list) patch on p o (inl v) (inr (inl w)) =
-    let two = w.1 in
-    absurd (comes_and_stops rest k two.0 two.1 on two.2 v.1)
-one_sticking names rest (k ∷ list) patch on p o (inl v) (inr (inr w)) = absurd (w.0 v.0)
-one_sticking names rest (k ∷ list) patch on p o (inr (inl v)) (inl w) =
-    let one = v.1 in
-    absurd (comes_and_stops rest k one.0 one.1 o one.2 w.1)
-one_sticking names rest (k ∷ list) patch on p o (inr (inl v)) (inr (inl w)) =
-    let one = v.1 in
-    let two = w.1 in
-    let same = one_coming rest k one.0 two.0 one.1 two.1 one.2 two.2 in
-    one_sticking names two.1 list patch on p o (subst (λ r. SticksBehind names r list patch on) same.1 one.3) two.3
-one_sticking names rest (k ∷ list) patch on p o (inr (inl v)) (inr (inr w)) = absurd (w.0 v.0)
-one_sticking names rest (k ∷ list) patch on p o (inr (inr v)) (inl w) = absurd (v.0 w.0)
-one_sticking names rest (k ∷ list) patch on p o (inr (inr v)) (inr (inl w)) = absurd (v.0 w.0)
-one_sticking names rest (k ∷ list) patch on p o (inr (inr v)) (inr (inr w)) =
-    one_sticking names (rest ++ k ∷ []) list patch on p o v.1 w.1
+merging_with_all : (q : List Catch) (k : Catch) → Settled (λ (p : Catch × List Catch). MergesWithAll q k p.0 p.1) (λ (s : Key × Key). SticksWithin q k s.0 s.1)
+merging_with_all [] k =
+    settled_as (at_once (k, [])) (λ x. x) (λ x e. (ap (λ (p : Catch × List Catch). p.0) e, ap (λ (p : Catch × List Catch). p.1) e)) (λ y w. (y, (λ t. (w.0 t, w.1 t)), refl)) (λ on w. w) (λ on w. w)
+merging_with_all (j ∷ q) k =
+    settled_as (next (settles (merging j k) (catch_key j, catch_key k)) (λ p w. merging_with_all q p.0)) (λ x. (x.1.0, x.0.1 ∷ x.1.1)) (λ x w. (x.0.0, x.0.1, x.1.1, w.0, w.1, refl)) (λ y c. (((c.0, c.1), (y.0, c.2)), (c.3, c.4), λ t. (y.0, c.5 t))) (λ s v. elim v [
+      | inl w ↦ inl ((λ k' j' m. w.0 (k', j') m), ap (λ (p : Key × Key). p.0) w.1, ap (λ (p : Key × Key). p.1) w.1)
+      | inr w ↦ inr (w.0.0, w.0.1, w.1, w.2)
+    ]) (λ s v. elim v [
+      | inl w ↦ inl ((λ x m. w.0 x.0 x.1 m), λ t. (w.1 t, w.2 t))
+      | inr w ↦ inr ((w.0, w.1), w.2, w.3)
+    ])
 
-pub one_first : (key : Key) (list : List Catch) (k' l : Catch) (others s : List Catch) → ComesFirst key list k' others → ComesFirst key list l s → AreEqual k' others l s
-one_first key [] k' l others s v w = absurd v
-one_first key (j ∷ list) k' l others s (inl v) (inl w) = (v.1 ∙ sym w.1, v.2 ∙ sym w.2)
-one_first key (j ∷ list) k' l others s (inl v) (inr w) = absurd (w.0 v.0)
-one_first key (j ∷ list) k' l others s (inr v) (inl w) = absurd (v.0 w.0)
-one_first key (j ∷ list) k' l others s (inr v) (inr w) =
-    let one = v.1 in
-    let two = w.1 in
-    let same = one_first key list one.0 two.0 one.2 two.2 one.3 two.3 in
-    let pair = one_commuting j two.0 k' one.1 l two.1 (subst (λ x. CommuteCatch j x k' one.1) same.0 one.4) two.4 in
-    (pair.0, one.5 ∙ (λ t. pair.1 t ∷ same.1 t) ∙ sym two.5)
+merging_lists : (p q : List Catch) → Settled (λ (r : List Catch × List Catch). MergeLists p q r.0 r.1) (λ (s : Key × Key). MergeSticks p q s.0 s.1)
+merging_lists [] q =
+    settled_as (at_once ([], q)) (λ x. x) (λ x e. (ap (λ (p : List Catch × List Catch). p.0) e, ap (λ (p : List Catch × List Catch). p.1) e)) (λ y w. (y, (λ t. (w.0 t, w.1 t)), refl)) (λ on w. w) (λ on w. w)
+merging_lists (k ∷ p) q =
+    settled_as (next (merging_with_all q k) (λ r w. merging_lists p r.1)) (λ x. (x.0.0 ∷ x.1.0, x.1.1)) (λ x w. (x.0.0, x.0.1, x.1.0, w.0, w.1, refl)) (λ y c. (((c.0, c.1), (c.2, y.1)), (c.3, c.4), λ t. (c.5 t, y.1))) (λ s v. elim v [ inl w ↦ inl w | inr w ↦ inr (w.0.0, w.0.1, w.1, w.2) ]) (λ s v. elim v [ inl w ↦ inl w | inr w ↦ inr ((w.0, w.1), w.2, w.3) ])
 
-one_aligning : (order : List Key) (list aligned other : List Catch) → Align order list aligned → Align order list other → aligned ≡ other
-one_aligning [] list aligned other v w = v ∙ sym w
-one_aligning (key ∷ order) list aligned other v w =
-    let same = one_first key list v.0 w.0 v.1 w.1 v.3 w.3 in
-    let rest = one_aligning order w.1 v.2 w.2 (subst (λ s. Align order s v.2) same.1 v.4) w.4 in
-    v.5 ∙ (λ t. same.0 t ∷ rest t) ∙ sym w.5
-
-pub aligns_and_sticks : (order : List Key) (list aligned : List Catch) (stuck : Key) → Align order list aligned → AlignSticks order list stuck → ⊥
-aligns_and_sticks [] list aligned stuck v w = w
-aligns_and_sticks (key ∷ order) list aligned stuck v (inl w) = w.0 v.0 v.1 v.3
-aligns_and_sticks (key ∷ order) list aligned stuck v (inr w) =
-    let same = one_first key list v.0 w.0 v.1 w.1 v.3 w.2 in
-    aligns_and_sticks order w.1 v.2 stuck (subst (λ s. Align order s v.2) same.1 v.4) w.3
-
-one_align_stick : (order : List Key) (list : List Catch) (stuck other : Key) → AlignSticks order list stuck → AlignSticks order list other → stuck ≡ other
-one_align_stick [] list stuck other v w = absurd v
-one_align_stick (key ∷ order) list stuck other (inl v) (inl w) = v.1 ∙ sym w.1
-one_align_stick (key ∷ order) list stuck other (inl v) (inr w) = absurd (v.0 w.0 w.1 w.2)
-one_align_stick (key ∷ order) list stuck other (inr v) (inl w) = absurd (w.0 v.0 v.1 v.2)
-one_align_stick (key ∷ order) list stuck other (inr v) (inr w) =
-    let same = one_first key list v.0 w.0 v.1 w.1 v.2 w.2 in
-    one_align_stick order w.1 stuck other (subst (λ s. AlignSticks order s stuck) same.1 v.3) w.3
-
-one_row : (q : List Catch) (k k' l : Catch) (q' s : List Catch) → MergesWithAll q k k' q' → MergesWithAll q k l s → AreEqual k' q' l s
-one_row [] k k' l q' s v w = (v.0 ∙ sym w.0, v.1 ∙ sym w.1)
-one_row (j ∷ q) k k' l q' s v w =
-    let pair = one_merging j k v.0 v.1 w.0 w.1 v.3 w.3 in
-    let rest = one_row q w.0 k' l v.2 w.2 (subst (λ x. MergesWithAll q x k' v.2) pair.0 v.4) w.4 in
-    (rest.0, v.5 ∙ (λ t. pair.1 t ∷ rest.1 t) ∙ sym w.5)
-
-pub merges_and_sticks_within : (q : List Catch) (k k' : Catch) (q' : List Catch) (left right : Key) → MergesWithAll q k k' q' → SticksWithin q k left right → ⊥
-merges_and_sticks_within [] k k' q' left right v w = w
-merges_and_sticks_within (j ∷ q) k k' q' left right v (inl w) = w.0 v.0 v.1 v.3
-merges_and_sticks_within (j ∷ q) k k' q' left right v (inr w) =
-    let pair = one_merging j k v.0 v.1 w.0 w.1 v.3 w.2 in
-    merges_and_sticks_within q w.0 k' v.2 left right (subst (λ x. MergesWithAll q x k' v.2) pair.0 v.4) w.3
-
-one_stick_within : (q : List Catch) (k : Catch) (left x right y : Key) → SticksWithin q k left right → SticksWithin q k x y → AreEqual left right x y
-one_stick_within [] k left x right y v w = absurd v
-one_stick_within (j ∷ q) k left x right y (inl v) (inl w) = (v.1 ∙ sym w.1, v.2 ∙ sym w.2)
-one_stick_within (j ∷ q) k left x right y (inl v) (inr w) = absurd (v.0 w.0 w.1 w.2)
-one_stick_within (j ∷ q) k left x right y (inr v) (inl w) = absurd (w.0 v.0 v.1 v.2)
-one_stick_within (j ∷ q) k left x right y (inr v) (inr w) =
-    let pair = one_merging j k v.0 v.1 w.0 w.1 v.2 w.2 in
-    one_stick_within q w.0 left x right y (subst (λ n. SticksWithin q n left right) pair.0 v.3) w.3
-
-one_grid : (p q p' s q' t : List Catch) → MergeLists p q p' q' → MergeLists p q s t → AreEqual p' q' s t
-one_grid [] q p' s q' t v w = (v.0 ∙ sym w.0, v.1 ∙ sym w.1)
-one_grid (k ∷ p) q p' s q' t v w =
-    let row = one_row q k v.0 w.0 v.1 w.1 v.3 w.3 in
-    let rest = one_grid p w.1 v.2 w.2 q' t (subst (λ x. MergeLists p x v.2 q') row.1 v.4) w.4 in
-    (v.5 ∙ (λ i. row.0 i ∷ rest.0 i) ∙ sym w.5, rest.1)
-
-pub merges_and_sticks : (p q p' q' : List Catch) (left right : Key) → MergeLists p q p' q' → MergeSticks p q left right → ⊥
-merges_and_sticks [] q p' q' left right v w = w
-merges_and_sticks (k ∷ p) q p' q' left right v (inl w) = merges_and_sticks_within q k v.0 v.1 left right v.3 w
-merges_and_sticks (k ∷ p) q p' q' left right v (inr w) =
-    let row = one_row q k v.0 w.0 v.1 w.1 v.3 w.2 in
-    merges_and_sticks p w.1 v.2 q' left right (subst (λ x. MergeLists p x v.2 q') row.1 v.4) w.3
-
-one_merge_stick : (p q : List Catch) (left x right y : Key) → MergeSticks p q left right → MergeSticks p q x y → AreEqual left right x y
-one_merge_stick [] q left x right y v w = absurd v
-one_merge_stick (k ∷ p) q left x right y (inl v) (inl w) = one_stick_within q k left x right y v w
-one_merge_stick (k ∷ p) q left x right y (inl v) (inr w) =
-    absurd (merges_and_sticks_within q k w.0 w.1 left right w.2 v)
-one_merge_stick (k ∷ p) q left x right y (inr v) (inl w) = absurd (merges_and_sticks_within q k v.0 v.1 x y v.2 w)
-one_merge_stick (k ∷ p) q left x right y (inr v) (inr w) =
-    let row = one_row q k v.0 w.0 v.1 w.1 v.2 w.2 in
-    one_merge_stick p w.1 left x right y (subst (λ s. MergeSticks p s left right) row.1 v.3) w.3
+one_pair : {X Y : Type 0} (Gives : X → Y → Type 0) → ((p q : X × Y) → Gives p.0 p.1 → Gives q.0 q.1 → p ≡ q) → GivesOnePair Gives
+one_pair {X} {Y} Gives one x z y w v u =
+    let same = one (x, y) (z, w) v u in
+    (ap (λ (p : X × Y). p.0) same, ap (λ (p : X × Y). p.1) same)
 
 pub lists_are_unique : ListsAreUnique
 lists_are_unique = record {
-  comes_before = one_coming;
-  stops_at = one_stop;
-  arranged = λ names list first s rest t v w. one_arranging names [] list first rest s t v w;
-  arrange_sticks = λ names list patch p on o v w. one_sticking names [] list patch on p o v w;
-  comes_first = one_first;
-  aligned = one_aligning;
-  align_sticks = one_align_stick;
-  merged_with_all = one_row;
-  sticks_within = one_stick_within;
-  merged = one_grid;
-  merge_sticks = one_merge_stick;
+  comes_before = λ list k. one_pair (ComesBefore list k) (coming list k).one;
+  stops_at = λ list k. (coming list k).one_stick;
+  arranged = λ names list. one_pair (ArrangesBehind names [] list) (arranging names [] list).one;
+  arrange_sticks = λ names list. one_pair (SticksBehind names [] list) (arranging names [] list).one_stick;
+  comes_first = λ key list. one_pair (ComesFirst key list) (first_of key list).one;
+  aligned = λ order list. (aligning order list).one;
+  align_sticks = λ order list. (aligning order list).one_stick;
+  merged_with_all = λ q k. one_pair (MergesWithAll q k) (merging_with_all q k).one;
+  sticks_within = λ q k. one_pair (SticksWithin q k) (merging_with_all q k).one_stick;
+  merged = λ p q. one_pair (MergeLists p q) (merging_lists p q).one;
+  merge_sticks = λ p q. one_pair (MergeSticks p q) (merging_lists p q).one_stick;
+}
+
+pair_or_none : {Case : Catch → Catch → Type 0} → IsDetermined Case → HasPair Case ⊎ ((k' j' : Catch) → ¬ (Case k' j'))
+pair_or_none determined = elim determined.decided [
+  | inl w ↦ inl (w.0.0, w.0.1, w.1)
+  | inr never ↦ inr (λ k' j' w. never ((k', j'), w))
+]
+
+pub are_decided : CatchesAreDecided
+are_decided = record {
+  commute = λ j k. pair_or_none (commuting j k);
+  merge = λ j k. pair_or_none (merging j k);
+}
+
+one_of : {X Y Z W : Type 0} {Done : X → Y → Type 0} {Sticks : Z → W → Type 0} → Settled (λ (p : X × Y). Done p.0 p.1) (λ (s : Z × W). Sticks s.0 s.1) → OneOf (HasPair Done) (HasPair Sticks)
+one_of d = (elim d.either [ inl w ↦ inl (w.0.0, w.0.1, w.1) | inr w ↦ inr (w.0.0, w.0.1, w.1) ], λ v w. d.apart (v.0, v.1) (w.0, w.1) v.2 w.2)
+
+pub lists_succeed_or_stick : ListsSucceedOrStick
+lists_succeed_or_stick = record {
+  comes_before = λ list k.
+      let d = coming list k in
+      (elim d.either [ inl w ↦ inl (w.0.0, w.0.1, w.1) | inr w ↦ inr w ], λ v w. d.apart (v.0, v.1) w.0 v.2 w.1);
+  arranges = λ names list. one_of (arranging names [] list);
+  aligns = λ order list. let d = aligning order list in (d.either, λ v w. d.apart v.0 w.0 v.1 w.1);
+  merges_with_all = λ q k. one_of (merging_with_all q k);
+  merges = λ p q. one_of (merging_lists p q);
 }
 
 -- two lists of names have the same names

@@ -1,5 +1,5 @@
 -- The cases of merging exclude one another, and each is determined.
-use Rattle.std.proofs.Common.{◌≡◌, ◌⊎◌, List, ◌∷◌, refl, sym, ap, ◌∙◌, subst, inl, inr}
+use Rattle.std.proofs.Common.{List, ◌∷◌, refl, sym, ap, subst}
 use Rattle.camp_prim.specs.Effect.{inverse_of}
 use Rattle.camp_prim.specs.Swaps.{Swap}
 use Rattle.camp_prim.specs.declared.named.Named.{Named}
@@ -9,7 +9,7 @@ use Rattle.camp_prim.proofs.SwapUnique.{swap_unique}
 use Rattle.camp_seq.specs.Merging.{Merges, MergesOne}
 use Rattle.camp_seq.specs.Running.{inverse_all}
 use Rattle.camp_seq.proofs.MergeGrid.{row_passes, passes_row}
-use Rattle.camp_ctx.specs.Conflicts.{Conflict, MergesBehindCommon}
+use Rattle.camp_ctx.specs.Conflicts.{Conflict}
 use Rattle.camp_ctx.specs.Contexts.{InContext, bare}
 use Rattle.camp_ctx.proofs.AddResults.{one_add_of_all}
 use Rattle.camp_ctx.proofs.ConflictLaws.{one_merge_behind}

@@ -8,7 +8,7 @@ use Rattle.camp_seq.specs.Running.{AppliesAll, inverse_all}
 use Rattle.camp_seq.proofs.ListEquivalence.{ordered, split}
 use Rattle.camp_seq.proofs.ListRuns.{cut_run, runs_back}
 use Rattle.camp_seq.proofs.MergeGrid.{merge_closes, cell_is_symmetric}
-use Rattle.camp_ctx.specs.Adding.{Adds, AddsAll}
+use Rattle.camp_ctx.specs.Adding.{Adds}
 use Rattle.camp_ctx.specs.Conflicts.{MergesBehindCommon, Conflict, common_labels}
 use Rattle.camp_ctx.specs.Contexts.{InContext, Valid, bare}
 use Rattle.camp_ctx.proofs.AddValid.{valid_by_adding, valid_by_adding_all}

@@ -1,5 +1,5 @@
 -- How a merge of two lists goes on, catch after catch.
-use Rattle.std.proofs.Common.{◌≡◌, List, [], ◌∷◌, ◌++◌, length, refl, sym, subst, inl, inr, arith}
+use Rattle.std.proofs.Common.{◌≡◌, List, [], ◌∷◌, ◌++◌, length, refl, sym, subst, inr, arith}
 use Rattle.std.proofs.lemmas.List.{append_assoc}
 use Rattle.camp_prim.specs.declared.labels.Key.{Key}
 use Rattle.camp_catch.specs.Merging.{MergeCatch}

@@ -9,7 +9,6 @@ use Rattle.camp_prim.specs.declared.named.Named.{Named}
 use Rattle.camp_prim.proofs.SwapDecided.{Decided, decided_by}
 use Rattle.camp_seq.specs.NormalOrder.{Norm, Splits}
 use Rattle.camp_seq.specs.Passing.{Passes, PassesAll, Fronts}
-use Rattle.camp_seq.specs.Running.{inverse_all}
 use Rattle.camp_seq.proofs.ListResults.{one_pass, one_pass_of_all, one_front, one_order, one_split}
 use Rattle.camp_seq.proofs.ListsDecided.{passes_or_not, all_pass_or_not, splits_or_not}
 use Rattle.camp_seq.proofs.NormalOrders.{has_normal_order}

@@ -1,6 +1,6 @@
 -- What bodies know of lists of one, and of sets of one.
 use Rattle.std.proofs.Common.{◌≡◌, cond, is_some, List, [], ◌∷◌, length, refl, sym, ap, ◌∙◌, arith}
-use Rattle.std.specs.FinMap.{empty, get, contains_key, insert, get-empty}
+use Rattle.std.specs.FinMap.{empty, insert, get-empty}
 use Rattle.std.specs.List.{slice_index_or}
 use Rattle.camp_prim.specs.Labels.{key_cmp}
 use Rattle.camp_prim.specs.Effect.{inverse_of}

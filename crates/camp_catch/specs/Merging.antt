@@ -1,6 +1,6 @@
 -- What two catches that begin in one state become one after the other: k' after j, and j' after k. The letters are
 -- those of commuting; each list that a case makes is put in normal order as it is made.
-use Rattle.std.specs.Prelude.{◌≡◌, ◌⊎◌, List, [], ◌∷◌}
+use Rattle.std.specs.Prelude.{◌≡◌, ◌⊎◌, List, ◌∷◌}
 use Rattle.camp_prim.specs.Effect.{inverse_of}
 use Rattle.camp_prim.specs.declared.named.Named.{Named}
 use Rattle.camp_seq.specs.Merging.{Merges, MergesOne}

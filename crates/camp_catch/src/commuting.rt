@@ -1,4 +1,4 @@
-ghost use Rattle.std.specs.Prelude.{◌≡◌, ◌≤◌, [], ◌∷◌, IfOk, None, Some};
+ghost use Rattle.std.specs.Prelude.{◌≡◌, ◌≤◌, [], ◌∷◌, length, IfOk, None, Some};
 ghost use Rattle.std.specs.FinMap.{get, len};
 ghost use Rattle.camp_base.specs.Answers.{Finds, FindsPair};
 ghost use Rattle.camp_prim.specs.Effect.{inverse_of};
@@ -129,13 +129,29 @@ fn inverse_passes_before(
 fn comes_before(alloc: Global, r: &Seq, b: &Named) -> Result<Option<(Named, Seq)>, AllocError>
     ensures { IfOk result (FindsPair (λ b' left. PassesAll r.now (b.now ∷ []) (b' ∷ []) left)) }
 {
-    let single = one(alloc, b)?;
-    let behind = past_all(r, &single)?;
+    let behind = passes_one(alloc, r, b)?;
     let Some((before, left)) = behind else {
         return Ok(None);
     };
-    let first = before.items()[0].try_clone()?;
+    let first = first_of(before.items())?;
     Ok(Some((first, left)))
+}
+
+/// The same, where `b'` is a list of one.
+fn passes_one(alloc: Global, r: &Seq, b: &Named) -> Result<Option<(Seq, Seq)>, AllocError>
+    ensures { IfOk result (FindsPair (PassesAll r.now (b.now ∷ []))) }
+{
+    let single = one(alloc, b)?;
+    let behind = past_all(r, &single)?;
+    Ok(behind)
+}
+
+/// The one element of a list.
+fn first_of(list: &[Named]) -> Result<Named, AllocError>
+    requires { length list.now ≡ 1 }
+    ensures { IfOk result (λ first. list.now ≡ first ∷ []) }
+{
+    list[0].try_clone()
 }
 
 /// `[a] ([a^], {:a}, :q) <-> [q] ([q^], {:q}, :a)`

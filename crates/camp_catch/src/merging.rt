@@ -222,12 +222,7 @@ fn joined_where(
     if !in_conflict {
         return Ok((Catch::Conflictor(moved), Catch::Conflictor(own)));
     }
-    let conflicts = moved.conflicts.insert(&own.identity)?;
-    let beside = joined(own, &moved.identity)?;
-    let joined = Conflictor {
-        effect: moved.effect,
-        conflicts,
-        identity: moved.identity,
-    };
-    Ok((Catch::Conflictor(joined), Catch::Conflictor(beside)))
+    let first = joined(moved, &own.identity)?;
+    let second = joined(own, &first.identity)?;
+    Ok((Catch::Conflictor(first), Catch::Conflictor(second)))
 }

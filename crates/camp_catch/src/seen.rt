@@ -121,11 +121,15 @@ pub(crate) fn joined_behind(
 }
 
 /// `(r, X and l, i)`
-pub(crate) fn joined(mut k: Conflictor, l: &Contexted) -> Result<Conflictor, AllocError>
+pub(crate) fn joined(k: Conflictor, l: &Contexted) -> Result<Conflictor, AllocError>
     ensures { IfOk result (λ made. made ≡ joined_by l.now k) }
 {
-    k.conflicts = k.conflicts.insert(l)?;
-    Ok(k)
+    let conflicts = k.conflicts.insert(l)?;
+    Ok(Conflictor {
+        effect: k.effect,
+        conflicts,
+        identity: k.identity,
+    })
 }
 
 /// `(s', X and l, i)`, where `s'` is `a^ r` in normal order
@@ -160,7 +164,14 @@ fn undone_before(alloc: Global, a: &Named, s: &Seq) -> Result<Seq, AllocError>
     ensures { IfOk result (λ joined. joined ≡ inverse_of a.now ∷ s.now) }
 {
     let back = inverse(a)?;
-    join(alloc, slice::from_ref(&back), s.items())
+    in_front(alloc, &back, s)
+}
+
+/// `p s`
+fn in_front(alloc: Global, p: &Named, s: &Seq) -> Result<Seq, AllocError>
+    ensures { IfOk result (λ joined. joined ≡ p.now ∷ s.now) }
+{
+    join(alloc, slice::from_ref(p), s.items())
 }
 
 /// `(s', X without a label, i)`, where `s'` is `s` in normal order

@@ -1,8 +1,8 @@
-use Rattle.std.proofs.Common.{◌≡◌, ◌++◌, ◌∷◌, length, set, get_or, take, drop, refl, sym, ap, ◌∙◌, subst}
+use Rattle.std.proofs.Common.{◌++◌, ◌∷◌, length, set, get_or, take, drop, sym, ap, ◌∙◌, subst}
 use Rattle.std.proofs.lemmas.List.{take_at, drop_at}
 use Rattle.camp_seq.proofs.ListSteps.{turned_right}
 use Rattle.camp_catch.specs.Arranging.{ComesBefore, ComesFirst, StopsAt}
-use Rattle.camp_catch.proofs.ListResults.{comes_and_stops}
+use Rattle.camp_catch.proofs.ListResults.{coming}
 use Rattle.camp_catch.proofs.MoveSteps.{none_first, first_from, before_from}
 use Rattle.camp_catch.proofs.aligning.come_first.Goals as goal
 
@@ -25,7 +25,7 @@ returns-in-Err c =
     record {
       exact = λ any m.
           let came = before_from key w.before w.first w.after m.0 m.1 w.lacks w.labelled (subst (λ x. ComesFirst key x m.0 m.1) w.is m.2) in
-          comes_and_stops w.before w.first m.0 came.0 on came.1 stops;
+          (coming w.before w.first).apart (m.0, came.0) on came.1 stops;
     }
 
 pub returns-in-Ok : goal.returns-in-Ok

@@ -1,4 +1,4 @@
-use Rattle.std.proofs.Common.{◌≡◌, ◌+◌, ◌∷◌, ◌++◌, List, [], length, take, drop, refl, sym, ap, subst, ◌∙◌, arith, append-nil}
+use Rattle.std.proofs.Common.{◌≡◌, ◌+◌, ◌∷◌, List, [], take, drop, refl, subst, arith}
 use Rattle.std.proofs.lemmas.List.{drop_all, take_rest, take-append-drop}
 use Rattle.camp_prim.specs.declared.labels.Key.{Key}
 use Rattle.camp_seq.proofs.OrderSteps.{rest_written}

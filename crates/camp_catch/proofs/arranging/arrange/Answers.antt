@@ -1,4 +1,4 @@
-use Rattle.std.proofs.Common.{◌≡◌, ◌+◌, ◌∷◌, ◌++◌, List, [], length, drop, refl, sym, ap, subst, ◌∙◌, inl, true≢false, arith, append-nil}
+use Rattle.std.proofs.Common.{◌≡◌, ◌+◌, ◌∷◌, List, [], length, drop, refl, sym, ap, subst, ◌∙◌, inl, true≢false, arith, append-nil}
 use Rattle.std.proofs.lemmas.List.{drop_all, with_items_is}
 use Rattle.std.specs.Cmp.Lexicographic.{slice_cmp}
 use Rattle.std.specs.FinMap.{keys}

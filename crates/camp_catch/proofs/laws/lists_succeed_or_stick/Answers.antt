@@ -1,4 +1,4 @@
-use Rattle.camp_catch.proofs.ListChoices.{lists_succeed_or_stick}
+use Rattle.camp_catch.proofs.ListResults.{lists_succeed_or_stick}
 use Rattle.camp_catch.proofs.laws.lists_succeed_or_stick.Goals as goal
 
 pub returns : goal.returns

@@ -1,5 +1,6 @@
-use Rattle.std.proofs.Common.{ap, inl, inr, refl}
-use Rattle.camp_catch.specs.Conflictors.{with_conflicts}
+use Rattle.std.proofs.Common.{ap, inl, inr, refl, ◌∙◌}
+use Rattle.camp_catch.specs.Conflictors.{joined_by}
+use Rattle.camp_catch.specs.declared.catches.Conflictor.{Conflictor}
 use Rattle.camp_catch.proofs.merging.joined_where.Goals as goal
 
 pub returns-then-not-in_conflict : goal.returns-then-not-in_conflict
@@ -10,5 +11,5 @@ returns-then-not-in_conflict c =
 pub returns : goal.returns
 returns c =
     let yes = c.if-not-in_conflict.false in
-    let joins = ap (λ set. with_conflicts set c.args.moved) c.in_ok-conflicts.ensures in
-    record { joined = _; own_joined = _; joins = inl (yes, joins); own_joins = inl (yes, c.in_ok-beside.ensures); after = refl; beside = refl }
+    let second = c.in_ok-second.ensures ∙ ap (λ (f : Conflictor). joined_by f.identity c.args.own) c.in_ok-first.ensures in
+    record { joined = _; own_joined = _; joins = inl (yes, c.in_ok-first.ensures); own_joins = inl (yes, second); after = refl; beside = refl }
