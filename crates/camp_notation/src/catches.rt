@@ -65,11 +65,7 @@ fn append_plain_catch(text: &mut String, known: &[Named], a: &Named) -> Result<(
     text.push(']')
 }
 
-fn append_conflictor(
-    text: &mut String,
-    known: &[Named],
-    k: &Conflictor,
-) -> Result<(), AllocError>
+fn append_conflictor(text: &mut String, known: &[Named], k: &Conflictor) -> Result<(), AllocError>
     ensures { OnOk result
         (string_bytes text.new ≡ string_bytes text.old ++ catch_text known.now (Catch.Conflictor k.now)) }
 {
