@@ -13,6 +13,7 @@ pub mod NamesKept
 pub mod NewEnds
 pub mod OutcomesDetermined
 pub mod PullSteps
+pub mod SharedFronts
 pub mod SortedPairs
 pub mod Steps
 pub mod Undone

@@ -1,5 +1,5 @@
 -- The names that a pull, or an obliteration, goes by, and those of what it gives.
-use Rattle.std.proofs.Common.{◌≡◌, ℕ, Bool, true, false, not, cond, ◌||◌, ◌&&◌, List, [], ◌∷◌, ◌++◌, map, filter, bytes_eq, Ok, Err, refl, sym, ap, ◌∙◌, subst, inl, inr}
+use Rattle.std.proofs.Common.{◌≡◌, ℕ, Bool, true, false, not, cond, ◌||◌, ◌&&◌, List, [], ◌∷◌, map, filter, bytes_eq, Ok, Err, refl, sym, ap, ◌∙◌, subst, inl, inr}
 use Rattle.std.specs.Prelude.{◌↔◌, Contains}
 use Rattle.std.specs.FinMap.{contains_key, keys}
 use Rattle.camp_catch.specs.Arranging.{Arrange}
@@ -107,12 +107,3 @@ pull_by_set from to wanted common outcome has =
 pub common_by : (index other common : Names) (from to theirs ours : List Catch) → ((n : List ℕ) → contains_key index n ≡ has_patch theirs n) → theirs ≡ from → ((n : List ℕ) → contains_key other n ≡ has_patch ours n) → ours ≡ to → ((n : List ℕ) → contains_key common n ≡ (is_among (keys index) n && contains_key other n)) → (n : List ℕ) → contains_key common n ≡ (has_patch from n && has_patch to n)
 common_by index other common from to theirs ours named is named_too is_too has n =
     has n ∙ (λ i. (sym (has_listed index n) ∙ named n ∙ ap (λ l. has_patch l n) is) i && (named_too n ∙ ap (λ l. has_patch l n) is_too) i)
-
-module _ (from to : List Catch) (wanted : List (List ℕ)) (common : Names) (has : (n : List ℕ) → contains_key common n ≡ (has_patch from n && has_patch to n)) (theirs ours : List Catch) (is : theirs ≡ from) (is_too : ours ≡ to) where
-  pub pull_goes : (taken : List Catch) → PullBy (keys common) theirs ours wanted (Ok (ours ++ taken)) → PullGives from to wanted (Ok (to ++ taken))
-  pull_goes taken w =
-      pull_by_set from to wanted common (Ok (to ++ taken)) has (subst (λ l. PullBy (keys common) from l wanted (Ok (l ++ taken))) is_too (subst (λ l. PullBy (keys common) l ours wanted (Ok (ours ++ taken))) is w))
-
-  pub pull_blocked : (blocked : Blocked) → PullBy (keys common) theirs ours wanted (Err blocked) → PullGives from to wanted (Err blocked)
-  pull_blocked blocked w =
-      pull_by_set from to wanted common (Err blocked) has (subst (λ l. PullBy (keys common) from l wanted (Err blocked)) is_too (subst (λ l. PullBy (keys common) l ours wanted (Err blocked)) is w))

@@ -147,9 +147,10 @@ impl Branch {
         ensures exact { IfOk result (λ outcome. PullGives from.now self.now (names_in wanted.now) outcome) }
     {
         let alloc = self.catches.allocator();
+        let front = name_sets::same_front(&from.catches, &self.catches);
         let common = name_sets::common(&from.names, &self.names)?;
-        let theirs = from.catches.to_vec()?;
-        let ours = self.catches.to_vec()?;
+        let theirs = behind(&from.catches, front)?;
+        let ours = behind(&self.catches, front)?;
         let taken = pull(alloc, &theirs, &ours, &common, wanted)?;
         match taken {
             Ok(taken) => Ok(Ok(self.with_taken(&taken)?)),
@@ -214,6 +215,17 @@ impl Branch {
             tree,
         })
     }
+}
+
+/// The catches from a place on.
+fn behind(
+    catches: &SharedList<Shared<Catch>>,
+    start: usize,
+) -> Result<Vec<Shared<Catch>>, AllocError>
+    requires { start ≤ length catches.now }
+    ensures { IfOk result (λ list. list.items ≡ drop start catches.now) }
+{
+    catches.copied(start, catches.len())?.to_vec()
 }
 
 /// The list with a plain catch behind it for each change, at places from 1.

@@ -1,7 +1,7 @@
 ghost use Rattle.std.specs.Prelude.{◌≡◌, ◌&&◌, ◌||◌, ℕ, List, not, map, IfOk};
 ghost use Rattle.camp_branch.specs.Branches.{is_among, name_of};
 ghost use Rattle.camp_branch.specs.Fields.{has_name, names_in};
-ghost use Rattle.camp_branch.specs.Inside.Fronts.{front_of};
+ghost use Rattle.camp_branch.specs.Inside.Fronts.{front_of, StartAlike};
 
 use camp_base::Name;
 use camp_catch::Catch;
@@ -60,6 +60,28 @@ pub(crate) fn front(catches: &SharedList<Shared<Catch>>, names: &SharedMap<Name,
             return front;
         }
         front += 1;
+    }
+    end
+}
+
+/// How many catches two lists begin with that are the same in both.
+pub(crate) fn same_front(
+    list: &SharedList<Shared<Catch>>,
+    others: &SharedList<Shared<Catch>>,
+) -> usize
+    ensures { StartAlike list.now others.now result }
+{
+    let end = list.len();
+    let mut rest = others.iter();
+    let mut same = 0;
+    for catch in list.iter() {
+        let Some(other) = rest.next() else {
+            return same;
+        };
+        if !catch.is_same(other) {
+            return same;
+        }
+        same += 1;
     }
     end
 }

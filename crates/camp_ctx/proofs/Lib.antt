@@ -6,6 +6,7 @@ pub mod ConflictLaws
 pub mod ConflictSteps
 pub mod ContextsDecided
 pub mod EntrySteps
+pub mod LinkSteps
 pub mod NamedDecided
 pub mod SetChanges
 pub mod SetSteps

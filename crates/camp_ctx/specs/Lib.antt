@@ -1,4 +1,5 @@
 pub mod Adding
 pub mod Conflicts
 pub mod Contexts
+pub mod Inside
 pub mod Laws

@@ -7,9 +7,10 @@ ghost use Rattle.camp_seq.specs.NormalOrder.{Norm};
 ghost use Rattle.camp_ctx.specs.Adding.{Adds, AddsAll, Cancels, Keeps, PassesBy, PassesByAll};
 
 use crate::conflicts::has_label;
+use crate::links::linked;
 use crate::{Contexted, join};
 use camp_prim::{Named, commute};
-use camp_seq::{Seq, front, norm, past};
+use camp_seq::{Seq, front, ordered, past};
 use std::alloc::{AllocError, Global};
 use std::slice;
 
@@ -20,8 +21,8 @@ impl Contexted {
         ensures { IfOk result (λ y. AddsAll r.now x.now y) }
     {
         let items = r.items();
-        let mut sum = x.try_clone()?;
-        for at in (0..items.len()).rev() {
+        let (start, mut sum) = linked(items, x)?;
+        for at in (0..start).rev() {
             sum = Contexted::add_one(&items[at], &sum)?;
         }
         Ok(sum)
@@ -73,7 +74,7 @@ impl Contexted {
         let Some(patch) = swapped else {
             return Ok(None);
         };
-        let before = in_order(x.allocator(), &context, patch)?;
+        let before = in_order(x.allocator(), context, patch)?;
         Ok(Some(before))
     }
 }
@@ -107,7 +108,7 @@ fn cancelled(a: &Named, x: &Contexted) -> Result<Option<Contexted>, AllocError>
         return Ok(None);
     }
     let patch = x.patch().try_clone()?;
-    let left = in_order(x.allocator(), &rest, patch)?;
+    let left = in_order(x.allocator(), rest, patch)?;
     Ok(Some(left))
 }
 
@@ -124,13 +125,12 @@ fn kept(a: &Named, x: &Contexted) -> Result<Contexted, AllocError>
 {
     let whole = join(x.allocator(), slice::from_ref(a), x.context().items())?;
     let patch = x.patch().try_clone()?;
-    in_order(x.allocator(), &whole, patch)
+    in_order(x.allocator(), whole, patch)
 }
 
 /// A patch behind a context, which is put in normal order.
-fn in_order(alloc: Global, context: &Seq, patch: Named) -> Result<Contexted, AllocError>
-    ensures { IfOk result (λ y. Norm context.now y.context × (y.patch ≡ patch)) }
+fn in_order(alloc: Global, context: Seq, patch: Named) -> Result<Contexted, AllocError>
+    ensures { IfOk result (λ y. Norm context y.context × (y.patch ≡ patch)) }
 {
-    let context = norm(context)?;
-    Contexted::new(alloc, context, patch)
+    Contexted::new(alloc, ordered(context), patch)
 }

@@ -7,6 +7,7 @@ mod contexted;
 mod joins;
 mod keys;
 mod laws;
+mod links;
 mod sets;
 
 pub use conflicts::{conflict, merge_behind_common};

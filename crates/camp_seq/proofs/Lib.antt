@@ -16,6 +16,7 @@ pub mod MergeSteps
 pub mod NormalForms
 pub mod NormalOrders
 pub mod OrderSteps
+pub mod OwnOrders
 pub mod PassingSteps
 pub mod PlacingSteps
 pub mod Reaching

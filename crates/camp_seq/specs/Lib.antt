@@ -1,3 +1,4 @@
+pub mod Chains
 pub mod Equivalence
 pub mod Inside
 pub mod Laws

@@ -1,6 +1,7 @@
 //! Lists of labelled primitives, up to swaps of neighbours.
 #![tactic(auto)]
 
+mod chains;
 mod fronts;
 mod insertions;
 mod laws;
@@ -13,6 +14,7 @@ mod runs;
 mod seqs;
 mod splits;
 
+pub use chains::{can_swap, is_chain};
 pub use fronts::front;
 pub use laws::{
     clean_merge_closes, clean_merge_is_equivalent, clean_merge_is_passing_the_inverse,
@@ -21,7 +23,7 @@ pub use laws::{
 };
 pub use merges::{clean_merge, invert_all};
 pub use normal_forms::{normal_order_is_a_normal_form, six_orders_of_three_agree};
-pub use orders::norm;
+pub use orders::{norm, ordered};
 pub use passes::{past, past_all};
 pub use rooms::{has_room, reach_gives_room};
 pub use runs::apply_all;

@@ -3,12 +3,15 @@ ghost use Rattle.std.specs.Ordering.{is_lt};
 ghost use Rattle.std.specs.declared.cmp.Ordering.TheVariants.{Less};
 ghost use Rattle.camp_prim.specs.declared.named.Named.{Named};
 ghost use Rattle.camp_prim.specs.Labels.{label_cmp, label_of};
+ghost use Rattle.camp_seq.specs.Inside.Ascending.{Ascends};
+ghost use Rattle.camp_seq.specs.Inside.Insertions.{StartsAfter};
 ghost use Rattle.camp_seq.specs.Inside.LeastLabels.{is_above, LeastAbove, Settles, StartsAbove};
 ghost use Rattle.camp_seq.specs.Equivalence.{◌~◌};
 ghost use Rattle.camp_seq.specs.NormalOrder.{Norm};
 ghost use Rattle.camp_seq.specs.Room.{HasRoom};
 
 use crate::Seq;
+use crate::chains::is_chain;
 use crate::fronts::bring;
 use crate::insertions::order_by_insertion;
 use crate::rooms::surely_has_room;
@@ -28,6 +31,14 @@ pub fn norm(s: &Seq) -> Result<Seq, AllocError>
     Ok(ordered)
 }
 
+/// The list in normal order, in its place in memory. It takes no memory.
+pub fn ordered(mut s: Seq) -> Seq
+    ensures { Norm s result }
+{
+    order(&mut s.items);
+    s
+}
+
 fn ordered_copy(s: &Seq) -> Result<Seq, AllocError>
     ensures { IfOk result (λ ordered. Norm s.now ordered) }
 {
@@ -38,15 +49,51 @@ fn ordered_copy(s: &Seq) -> Result<Seq, AllocError>
 
 /// Puts a list in normal order. It takes no memory.
 ///
-/// A list whose hunks stay in range in any order is ordered by insertion: n elements take at most
+/// A list whose labels ascend, or in which no two neighbours swap, stays as it is. Of the others, a
+/// list whose hunks stay in range in any order is ordered by insertion: n elements take at most
 /// n * (n - 1) exchanges. Another, with hunks near the limit of 2^30, is ordered by selection.
 pub(crate) fn order(items: &mut [Named])
     ensures { Norm items.old items.new }
 {
+    if is_own_order(items) {
+        return;
+    }
     if surely_has_room(items) {
         order_by_insertion(items);
     } else {
         order_by_selection(items);
+    }
+}
+
+/// Whether one look at each two neighbours tells that a list is its own normal order.
+fn is_own_order(items: &[Named]) -> bool
+    ensures { IsTrue result → Norm items.now items.now }
+{
+    if ascends(items) {
+        return true;
+    }
+    is_chain(items)
+}
+
+/// Whether no label is greater than the one behind it.
+fn ascends(items: &[Named]) -> bool
+    ensures { IsTrue result → Ascends items.now }
+{
+    for at in (0..items.len()).rev() {
+        if !starts_after(&items[at].label(), &items[at + 1..]) {
+            return false;
+        }
+    }
+    true
+}
+
+/// Whether the first label of a list is not less than this one, or there is none.
+fn starts_after(label: &Label, s: &[Named]) -> bool
+    ensures { IsTrue result → StartsAfter label.now s.now }
+{
+    match s.first() {
+        None => true,
+        Some(q) => !is_less(&q.label(), label),
     }
 }
 

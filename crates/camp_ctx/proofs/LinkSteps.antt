@@ -1,0 +1,41 @@
+-- What neither swaps nor cancels with its neighbour is kept before the context.
+use Rattle.std.proofs.Common.{List, [], ◌∷◌, ◌++◌, refl, subst}
+use Rattle.camp_prim.specs.Effect.{inverse_of}
+use Rattle.camp_prim.specs.Labels.{label_of}
+use Rattle.camp_prim.specs.Swaps.{Swap}
+use Rattle.camp_prim.specs.declared.named.Named.{Named}
+use Rattle.camp_seq.specs.Chains.{Chain}
+use Rattle.camp_seq.proofs.OwnOrders.{chain_is_ordered, front_of_chain}
+use Rattle.camp_ctx.specs.Adding.{Adds, AddsAll, Cancels, GivesNone, PassesBy, keep}
+use Rattle.camp_ctx.specs.Contexts.{InContext}
+use Rattle.camp_ctx.specs.Inside.Links.{Links}
+
+abbrev at : List Named → Named → InContext
+at s patch = record { context = s; patch = patch }
+
+no_cancel : (a : Named) (s : List Named) (patch : Named) → Chain s → Links a s patch → GivesNone (Cancels a) (at s patch)
+no_cancel a [] patch c l y w = w.front
+no_cancel a (q ∷ s) patch c l y w = l.1 (front_of_chain (label_of (inverse_of a)) q s (inverse_of a) w.rest c w.front).0
+
+no_passing : (a : Named) (s : List Named) (patch : Named) → Links a s patch → GivesNone (PassesBy a) (at s patch)
+no_passing a [] patch l y w =
+    l (y.patch, (w.a'', subst (λ b. Swap b patch y.patch w.a'') w.past_context.1 w.past_patch))
+no_passing a (q ∷ s) patch l y w = l.0 (w.past_context.0, (w.past_context.1, w.past_context.3))
+
+chain_more : (a : Named) (s : List Named) (patch : Named) → Chain s → Links a s patch → Chain (a ∷ s)
+chain_more a [] patch c l = (tt, tt)
+chain_more a (q ∷ s) patch c l = (l.0, c)
+
+-- a chain with one primitive more before it
+pub record Linked (r s : List Named) (patch : Named) : Type 0 where
+  pub chain : Chain (r ++ s)
+  pub added : AddsAll r (at s patch) (at (r ++ s) patch)
+
+pub linked_none : (s : List Named) (patch : Named) → Chain s → Linked [] s patch
+linked_none s patch c = record { chain = c; added = refl }
+
+pub linked_more : (a : Named) (r s : List Named) (patch : Named) → Links a (r ++ s) patch → Linked r s patch → Linked (a ∷ r) s patch
+linked_more a r s patch l w =
+    let chain = chain_more a (r ++ s) patch w.chain l in
+    let one : Adds a (at (r ++ s) patch) (at (a ∷ (r ++ s)) patch) = keep (no_cancel a (r ++ s) patch w.chain l) (no_passing a (r ++ s) patch l) (record { context = chain_is_ordered (a ∷ (r ++ s)) chain; patch = refl }) in
+    record { chain = chain; added = (at (r ++ s) patch, w.added, one) }

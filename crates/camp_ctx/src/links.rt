@@ -1,0 +1,67 @@
+ghost use Rattle.std.specs.Prelude.{◌≡◌, ◌≢◌, ◌≤◌, ◌++◌, ◌↔◌, length, drop, IfOk, IsTrue};
+ghost use Rattle.camp_prim.specs.Effect.{inverse_of};
+ghost use Rattle.camp_prim.specs.Labels.{label_of};
+ghost use Rattle.camp_seq.specs.Chains.{CanSwap};
+ghost use Rattle.camp_ctx.specs.Adding.{AddsAll};
+ghost use Rattle.camp_ctx.specs.Inside.Links.{Links, LinksFrom};
+
+use crate::{Contexted, join};
+use camp_prim::Named;
+use camp_seq::{can_swap, is_chain};
+use std::alloc::AllocError;
+
+/// The part of a list that is put before a context as it stands, from a place on, and the sum with
+/// it. What stands before that place is yet to be added.
+pub(crate) fn linked(r: &[Named], x: &Contexted) -> Result<(usize, Contexted), AllocError>
+    ensures within { IfOk result (λ found. found.0 ≤ length r.now) }
+    ensures added { IfOk result (λ found. AddsAll (drop found.0 r.now) x.now found.1) }
+{
+    let start = links_from(r, x.context().items(), x.patch());
+    if start == r.len() {
+        return Ok((start, x.try_clone()?));
+    }
+    let context = join(x.allocator(), &r[start..], x.context().items())?;
+    let patch = x.patch().try_clone()?;
+    let sum = Contexted::new(x.allocator(), context, patch)?;
+    Ok((start, sum))
+}
+
+/// From which place on the elements of a list are put before a context as they stand: no two
+/// neighbours swap or cancel.
+fn links_from(r: &[Named], s: &[Named], patch: &Named) -> usize
+    ensures { LinksFrom r.now s.now patch.now result }
+{
+    if !is_chain(s) {
+        return r.len();
+    }
+    for at in (0..r.len()).rev() {
+        if !links(&r[at], &r[at + 1..], s, patch) {
+            return at + 1;
+        }
+    }
+    0
+}
+
+/// Whether a primitive neither swaps with what stands behind it nor is taken away with it. Behind it
+/// stand two lists and the patch.
+fn links(a: &Named, r: &[Named], s: &[Named], patch: &Named) -> bool
+    ensures { IsTrue result ↔ Links a.now (r.now ++ s.now) patch.now }
+{
+    match r.first() {
+        Some(q) => holds(a, q),
+        None => match s.first() {
+            Some(q) => holds(a, q),
+            None => !can_swap(a, patch),
+        },
+    }
+}
+
+/// Whether two neighbours neither swap nor are inverse by their labels.
+fn holds(a: &Named, q: &Named) -> bool
+    ensures { IsTrue result ↔ (¬ (CanSwap a.now q.now) × (label_of q.now ≢ label_of (inverse_of a.now))) }
+{
+    if q.label() == a.label().opposite() {
+        return false;
+    }
+    !can_swap(a, q)
+}

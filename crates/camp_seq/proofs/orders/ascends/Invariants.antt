@@ -1,0 +1,6 @@
+use Rattle.std.proofs.Common.{drop}
+use Rattle.camp_seq.specs.Inside.Ascending.{Ascends}
+use Rattle.camp_seq.proofs.orders.ascends.Given as goal
+
+abbrev pub invariant-loop-at : goal.invariant-loop-at
+invariant-loop-at l = Ascends (drop l.at l.items)

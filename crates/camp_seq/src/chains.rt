@@ -1,0 +1,37 @@
+ghost use Rattle.std.specs.Prelude.{◌↔◌, IsTrue};
+ghost use Rattle.camp_seq.specs.Chains.{CanSwap, Chain, StaysBefore};
+
+use camp_prim::{Named, commute};
+
+/// Whether no two neighbours of a list swap. It takes no memory.
+pub fn is_chain(items: &[Named]) -> bool
+    ensures { IsTrue result ↔ Chain items.now }
+{
+    for at in (0..items.len()).rev() {
+        if !stays_before(&items[at], &items[at + 1..]) {
+            return false;
+        }
+    }
+    true
+}
+
+/// Whether two neighbours change places. It takes no memory.
+pub fn can_swap(p: &Named, q: &Named) -> bool
+    ensures { IsTrue result ↔ CanSwap p.now q.now }
+{
+    match commute(p, q) {
+        Ok(None) => false,
+        Ok(Some(_)) => true,
+        Err(_) => true,
+    }
+}
+
+/// Whether the first element of a list does not swap with the one before it, or there is none.
+fn stays_before(p: &Named, s: &[Named]) -> bool
+    ensures { IsTrue result ↔ StaysBefore p.now s.now }
+{
+    match s.first() {
+        None => true,
+        Some(q) => !can_swap(p, q),
+    }
+}
