@@ -7,7 +7,9 @@ use Rattle.camp_script.specs.Commands.{Command, command, short_command, pull_lin
 use Rattle.camp_script.specs.Gives.{GivesLine}
 use Rattle.camp_script.specs.Changes.{GroupLine, change_of, group_line_of}
 use Rattle.camp_script.specs.Inside.Progress.{Progress, OpenRecord}
-use Rattle.camp_script.specs.Inside.Steps.{obeyed, heeded}
+use Rattle.camp_script.specs.Inside.Asking.{Asks}
+use Rattle.camp_script.specs.Inside.Steps.{heeded}
+use Rattle.camp_script.specs.declared.commands.Asked.{Asked}
 use Rattle.camp_script.specs.declared.faults.LineFault.{LineFault}
 use Rattle.camp_script.specs.declared.faults.ScriptFault.{ScriptFault}
 
@@ -27,26 +29,26 @@ six_are_enough_in_group line count word (a ∷ b ∷ []) = refl
 six_are_enough_in_group line count word (a ∷ b ∷ c ∷ words) = refl
 
 -- what a line asks for, where its first word is known or not
-module _ (line : ℕ) (progress : Progress) (word : List ℕ) (result : Result Progress ScriptFault) where
-  abbrev Obeys : Result Command LineFault → Type 0
-  Obeys asked = GivesLine result (obeyed line progress asked)
+module _ (line : ℕ) (progress : Progress) (word : List ℕ) (result : Result Asked ScriptFault) where
+  abbrev IsAsked : Result Command LineFault → Type 0
+  IsAsked reading = Asks line progress result reading
 
-  pub pulls : (words : List (List ℕ)) → bytes_eq word (codes "pull") ≡ true → Obeys (pull_line line words) → Obeys (command line word words)
-  pulls words is given = subst Obeys (sym (cond-true _ _ _ is)) given
+  pub pulls : (words : List (List ℕ)) → bytes_eq word (codes "pull") ≡ true → IsAsked (pull_line line words) → IsAsked (command line word words)
+  pulls words is given = subst IsAsked (sym (cond-true _ _ _ is)) given
 
-  pub obliterates : (words : List (List ℕ)) → bytes_eq word (codes "pull") ≡ false → bytes_eq word (codes "obliterate") ≡ true → Obeys (obliterate_line line words) → Obeys (command line word words)
-  obliterates words other is given = subst Obeys (sym (cond-false _ _ _ other ∙ cond-true _ _ _ is)) given
+  pub obliterates : (words : List (List ℕ)) → bytes_eq word (codes "pull") ≡ false → bytes_eq word (codes "obliterate") ≡ true → IsAsked (obliterate_line line words) → IsAsked (command line word words)
+  obliterates words other is given = subst IsAsked (sym (cond-false _ _ _ other ∙ cond-true _ _ _ is)) given
 
   -- a command without a list of names
-  pub short : (words all : List (List ℕ)) → words ≡ take 6 all → bytes_eq word (codes "pull") ≡ false → bytes_eq word (codes "obliterate") ≡ false → Obeys (short_command line word words) → Obeys (command line word all)
+  pub short : (words all : List (List ℕ)) → words ≡ take 6 all → bytes_eq word (codes "pull") ≡ false → bytes_eq word (codes "obliterate") ≡ false → IsAsked (short_command line word words) → IsAsked (command line word all)
   short words all first other neither given =
-      subst Obeys (ap (short_command line word) first ∙ six_are_enough line word all ∙ sym (cond-false _ _ _ other ∙ cond-false _ _ _ neither)) given
+      subst IsAsked (ap (short_command line word) first ∙ six_are_enough line word all ∙ sym (cond-false _ _ _ other ∙ cond-false _ _ _ neither)) given
 
-  pub records : (words : List (List ℕ)) → bytes_eq word (codes "branch") ≡ false → bytes_eq word (codes "record") ≡ true → Obeys (record_line line words) → Obeys (short_command line word words)
-  records words other is given = subst Obeys (sym (cond-false _ _ _ other ∙ cond-true _ _ _ is)) given
+  pub records : (words : List (List ℕ)) → bytes_eq word (codes "branch") ≡ false → bytes_eq word (codes "record") ≡ true → IsAsked (record_line line words) → IsAsked (short_command line word words)
+  records words other is given = subst IsAsked (sym (cond-false _ _ _ other ∙ cond-true _ _ _ is)) given
 
-  pub questions : (words : List (List ℕ)) → bytes_eq word (codes "branch") ≡ false → bytes_eq word (codes "record") ≡ false → bytes_eq word (codes "client") ≡ false → Obeys (question line word words) → Obeys (short_command line word words)
-  questions words a b c given = subst Obeys (sym (cond-false _ _ _ a ∙ cond-false _ _ _ b ∙ cond-false _ _ _ c)) given
+  pub questions : (words : List (List ℕ)) → bytes_eq word (codes "branch") ≡ false → bytes_eq word (codes "record") ≡ false → bytes_eq word (codes "client") ≡ false → IsAsked (question line word words) → IsAsked (short_command line word words)
+  questions words a b c given = subst IsAsked (sym (cond-false _ _ _ a ∙ cond-false _ _ _ b ∙ cond-false _ _ _ c)) given
 
 -- a line of a group, by its first words
 pub group_words : (line count : ℕ) (progress : Progress) (begun : OpenRecord) (word : List ℕ) (words all bytes : List (List ℕ)) (result : Result Progress ScriptFault)

@@ -2,6 +2,7 @@
 use Rattle.std.proofs.Common.{◌≡◌, ℕ, ◌+◌, ◌-◌, ◌<◌, List, [], ◌∷◌, ◌++◌, length, get_or, take, drop, map, refl, sym, ap, subst, ◌∙◌, append_assoc, append-nil, arith, Result}
 use Rattle.std.proofs.lemmas.List.{get_or-map, length-map, length-take, take_rest}
 use Rattle.std.proofs.lemmas.List.Elements.{All-tail}
+use Rattle.std.proofs.lemmas.Grind.{flat_map-append}
 use Rattle.std.proofs.lemmas.List.Concat.{flat_map-cons}
 use Rattle.std.specs.Borrow.{Bor}
 use Rattle.std.specs.List.{All, flat_map, join_with_byte}
@@ -23,15 +24,19 @@ joined : (first : List ℕ) (words : List (List ℕ)) → join_with_byte 32 (fir
 joined first [] = sym (append-nil first)
 joined first (word ∷ words) = ap (λ t. first ++ (32 ∷ t)) (joined word words) ∙ ap (λ t. first ++ t) (sym (flat_map-cons (λ (w : List ℕ). 32 ∷ w) word words))
 
-regrouped : (o a s w e : List ℕ) → (((o ++ a) ++ (s ++ [])) ++ w) ++ e ≡ o ++ ((a ++ (s ++ w)) ++ e)
-regrouped o a s w e = simp (append_assoc, append-nil)
+regrouped : (o a w e : List ℕ) → ((o ++ a) ++ w) ++ e ≡ o ++ ((a ++ w) ++ e)
+regrouped o a w e = simp append_assoc
 
--- a position, a seat, the words of a call, and the end of the line
+-- a word, those behind it, and the end of the line
+pub line_done : (old first : List ℕ) (rest : List (List ℕ)) (a b c : List ℕ) → a ≡ old ++ first → b ≡ a ++ spaced rest → c ≡ b ++ 10 ∷ [] → c ≡ old ++ line_text (first ∷ rest)
+line_done old first rest a b c one all ends =
+    ends ∙ ap (λ t. t ++ 10 ∷ []) (all ∙ ap (λ t. t ++ spaced rest) one) ∙ regrouped old first (spaced rest) (10 ∷ []) ∙ ap (λ t. old ++ (t ++ 10 ∷ [])) (sym (joined first rest))
+
+-- a word, a second one, those behind it, and the end of the line
 pub entry_done : (old at seat : List ℕ) (words : List (List ℕ)) (a b c d : List ℕ) → a ≡ old ++ at → b ≡ a ++ spaced (seat ∷ []) → c ≡ b ++ spaced words → d ≡ c ++ 10 ∷ [] → d ≡ old ++ line_text (at ∷ seat ∷ words)
 entry_done old at seat words a b c d first second third last =
-    last ∙ ap (λ t. t ++ 10 ∷ []) (third ∙ ap (λ t. t ++ spaced words) (second ∙ ap (λ t. t ++ spaced (seat ∷ [])) first ∙ ap (λ t. (old ++ at) ++ t) (flat_map-cons (λ (w : List ℕ). 32 ∷ w) seat [])))
-    ∙ regrouped old at (32 ∷ seat) (spaced words) (10 ∷ [])
-    ∙ ap (λ t. old ++ (t ++ 10 ∷ [])) (sym (joined at (seat ∷ words) ∙ ap (λ t. at ++ t) (flat_map-cons (λ (w : List ℕ). 32 ∷ w) seat words)))
+    let both = append_assoc a (spaced (seat ∷ [])) (spaced words) ∙ ap (λ t. a ++ t) (sym (flat_map-append (λ (w : List ℕ). 32 ∷ w) (seat ∷ []) words)) in
+    line_done old at (seat ∷ words) a c d first (third ∙ ap (λ t. t ++ spaced words) second ∙ both) last
 
 -- one more call at the end of a history
 entries_text-append : (at : ℕ) (done : List (ℕ × Call)) (entry : ℕ × Call) → entries_text at (done ++ entry ∷ []) ≡ entries_text at done ++ entry_text (at + length done) entry

@@ -1,5 +1,5 @@
 -- A line where a record is open, or none; and the line `end`.
-use Rattle.std.proofs.Common.{◌≡◌, ℕ, ◌+◌, ◌^◌, ◌==◌, nat_lt, true, false, cond, List, [], ◌∷◌, ◌++◌, length, length-append, arith, refl, sym, ap, subst, ◌∙◌, Option, None, Some, Result, Ok}
+use Rattle.std.proofs.Common.{◌≡◌, ℕ, ◌+◌, ◌==◌, true, false, cond, List, [], ◌∷◌, ◌++◌, length, length-append, arith, refl, sym, ap, subst, ◌∙◌, Option, None, Some, Result, Ok, Err}
 use Rattle.std.proofs.lemmas.Bool.{cond-false}
 use Rattle.std.proofs.lemmas.Bool.Decides.{nat_tests}
 use Rattle.camp_prim.specs.Hunks.{Edit}
@@ -7,13 +7,14 @@ use Rattle.camp_prim.specs.declared.primitives.Primitive.{Primitive}
 use Rattle.camp_prim.specs.declared.primitives.Primitive.TheVariants.{Hunk}
 use Rattle.camp_call.specs.declared.calls.Call.{Call}
 use Rattle.camp_script.specs.Commands.{command_of}
-use Rattle.camp_script.specs.Gives.{GivesLine, HasNoFault}
+use Rattle.camp_script.specs.Gives.{GivesLine, IsFaultIn, HasNoFault}
 use Rattle.camp_script.specs.Lines.{words_of}
 use Rattle.camp_script.specs.Words.{◌>>=◌}
 use Rattle.camp_script.specs.Inside.Progress.{OpenEdit, OpenRecord, Progress, with_record, with_one_more, after_record, after_change}
-use Rattle.camp_script.specs.Inside.Steps.{obeyed, after_end, after_line, after_record_line}
+use Rattle.camp_script.specs.Inside.Steps.{obeyed, after_line, after_record_line}
 use Rattle.camp_script.specs.declared.faults.LineFault.{LineFault}
 use Rattle.camp_script.specs.declared.faults.ScriptFault.{ScriptFault}
+use Rattle.camp_script.specs.declared.faults.ScriptFault.TheVariants.{Line, Memory, Write}
 
 -- progress with these sections, these calls and no record open
 abbrev bare : List (List Call) → List Call → Progress
@@ -69,10 +70,16 @@ change_has_no_fault line p begun change =
       | false ↦ subst HasNoFault (sym (cond-false (length (begun.changes ++ change ∷ []) == 0) _ _ (some_change begun.changes change))) tt
     ]
 
--- a body with lines, not too many, ends without a fault
-pub end_has_no_fault : (line : ℕ) (p : Progress) (begun : OpenRecord) (body : OpenEdit) → (length body.edit.old + length body.edit.new == 0) ≡ false
-    → nat_lt (2 ^ 30) (body.edit.line + length body.edit.old + length body.edit.new) ≡ false → HasNoFault (after_end line p begun body)
-end_has_no_fault line p begun body some near =
-    subst HasNoFault
-    (sym (ap (λ (r : Result Edit LineFault). r >>= λ edit. after_change line p begun (Hunk edit)) (cond-false (length body.edit.old + length body.edit.new == 0) _ _ some ∙ cond-false _ _ _ near)))
-    (change_has_no_fault line p begun (Hunk body.edit))
+-- a body that ends, and the change that comes of it
+module _ (line : ℕ) (p : Progress) (begun : OpenRecord) where
+  pub end_goes_on : (r : Result Edit LineFault) (change : Primitive) → (r >>= λ edit. Ok (Hunk edit)) ≡ Ok change → (r >>= λ edit. after_change line p begun (Hunk edit)) ≡ after_change line p begun change
+  end_goes_on (Ok edit) change is = ap (λ (r : Result Primitive LineFault). r >>= after_change line p begun) is
+  end_goes_on (Err fault) change is = ap (λ (r : Result Primitive LineFault). r >>= after_change line p begun) is
+
+  pub end_fails : (r : Result Edit LineFault) (fault : ScriptFault) → IsFaultIn fault (r >>= λ edit. Ok (Hunk edit)) → IsFaultIn fault (r >>= λ edit. after_change line p begun (Hunk edit))
+  end_fails (Ok edit) (Line fault) h = ap (λ (r : Result Primitive LineFault). r >>= after_change line p begun) h
+  end_fails (Err other) (Line fault) h = ap (λ (r : Result Primitive LineFault). r >>= after_change line p begun) h
+  end_fails (Ok edit) Memory h = change_has_no_fault line p begun (Hunk edit)
+  end_fails (Err other) Memory h = h
+  end_fails (Ok edit) Write h = h
+  end_fails (Err other) Write h = h

@@ -1,13 +1,11 @@
 -- Texts that grow part by part.
-use Rattle.std.proofs.Common.{◌≡◌, ℕ, ◌+◌, ◌-◌, ◌<◌, ◌≤◌, List, [], ◌∷◌, ◌++◌, length, take, drop, map, codes, refl, sym, ap, ◌∙◌, append_assoc, append-nil, take-append-drop, None, Some, Result, Ok, Err, arith, lit<, lit≤}
+use Rattle.std.proofs.Common.{◌≡◌, ℕ, ◌+◌, ◌-◌, ◌<◌, ◌≤◌, List, [], ◌∷◌, ◌++◌, length, take, drop, codes, refl, sym, ap, ◌∙◌, append_assoc, append-nil, take-append-drop, None, Some, Result, Ok, Err, arith}
 use Rattle.std.proofs.lemmas.List.{take_more, take_rest, take_all}
 use Rattle.std.proofs.lemmas.Grind.{flat_map-append}
 use Rattle.std.proofs.lemmas.List.Concat.{flat_map-cons}
 use Rattle.std.proofs.lemmas.Option.{slice_get-get_or, slice_get_within, get_or_from_slice_get, none-some}
 use Rattle.std.specs.Fmt.{decimal}
-use Rattle.std.proofs.lemmas.Fmt.{decimal_digit, decimal_step}
-use Rattle.std.specs.Borrow.{Bor}
-use Rattle.std.specs.List.{flat_map, join_with_byte, slice_get}
+use Rattle.std.specs.List.{flat_map, slice_get}
 use Rattle.std.specs.Result.{IsErr}
 use Rattle.std.specs.FinMap.{entries, len, len-entries}
 use Rattle.camp_base.specs.Trees.{Files}
@@ -22,17 +20,6 @@ kept old bytes more now new (Err other) is grown same = (more, same ∙ grown)
 pub kept_further : {E : Type 0} (old bytes more last now later new : List ℕ) (result : Result (Unit {0}) E) → IsErr result → now ≡ old ++ more → later ≡ now ++ last → new ≡ later → Extends old bytes result new
 kept_further old bytes more last now later new result is grown further same =
     kept old bytes (more ++ last) later new result is (further ∙ ap (λ t. t ++ last) grown ∙ append_assoc old more last) same
-
-joined : (c : ℕ) (first : List ℕ) (rest : List (Bor (List ℕ))) → join_with_byte c (first ∷ map (λ word. word.now) rest) ≡ first ++ flat_map (λ word. c ∷ word.now) rest
-joined c first [] = sym (append-nil first)
-joined c first (word ∷ rest) = ap (λ t. first ++ (c ∷ t)) (joined c word.now rest) ∙ ap (λ t. first ++ t) (sym (flat_map-cons (λ (w : Bor (List ℕ)). c ∷ w.now) word rest))
-
--- all words of a line, and the end of it
-pub line_done : (old first now new : List ℕ) (rest : List (Bor (List ℕ))) (i : ℕ) → now ≡ old ++ (first ++ flat_map (λ word. 32 ∷ word.now) (take i rest)) → length rest ≤ i → new ≡ now ++ 10 ∷ [] → new ≡ old ++ line_text (first ∷ map (λ word. word.now) rest)
-line_done old first now new rest i so past ends =
-    let all = ap (λ ws. first ++ flat_map (λ (word : Bor (List ℕ)). 32 ∷ word.now) ws) (take_all i rest past) in
-    ends ∙ ap (λ t. t ++ 10 ∷ []) (so ∙ ap (λ t. old ++ t) (all ∙ sym (joined 32 first rest)))
-    ∙ append_assoc old (join_with_byte 32 (first ∷ map (λ word. word.now) rest)) (10 ∷ [])
 
 -- one more piece of a text
 pub one_more : {X : Type 0} (f : X → List ℕ) (old now new : List ℕ) (xs : List X) (i : ℕ) (x : X) → now ≡ old ++ flat_map f (take i xs) → slice_get xs i ≡ Some x → new ≡ now ++ f x → new ≡ old ++ flat_map f (take (i + 1) xs)
@@ -82,37 +69,3 @@ tree_done tree old count begun now n i counts begins so is past =
 pub moved_on : (all done rest : List ℕ) (n : ℕ) → all ≡ done ++ rest → all ≡ (done ++ take n rest) ++ take (length rest - n) (drop n rest)
 moved_on all done rest n is =
     is ∙ ap (λ t. done ++ t) (sym (take-append-drop n rest)) ∙ sym (append_assoc done (take n rest) (drop n rest)) ∙ ap (λ t. (done ++ take n rest) ++ t) (sym (take_rest rest n))
-
--- the numbers of refusals
-pub decimal-four : decimal 4 ≡ 52 ∷ []
-decimal-four = decimal_digit 4 (lit< tt)
-
-pub decimal-five : decimal 5 ≡ 53 ∷ []
-decimal-five = decimal_digit 5 (lit< tt)
-
-pub decimal-six : decimal 6 ≡ 54 ∷ []
-decimal-six = decimal_digit 6 (lit< tt)
-
-pub decimal-seven : decimal 7 ≡ 55 ∷ []
-decimal-seven = decimal_digit 7 (lit< tt)
-
-pub decimal-eight : decimal 8 ≡ 56 ∷ []
-decimal-eight = decimal_digit 8 (lit< tt)
-
-pub decimal-nine : decimal 9 ≡ 57 ∷ []
-decimal-nine = decimal_digit 9 (lit< tt)
-
-pub decimal-ten : decimal 10 ≡ 49 ∷ 48 ∷ []
-decimal-ten = decimal_step 10 (lit≤ tt) (lit< tt) ∙ ap (λ t. t ++ 48 ∷ []) (decimal_digit 1 (lit< tt))
-
-pub decimal-eleven : decimal 11 ≡ 49 ∷ 49 ∷ []
-decimal-eleven = decimal_step 11 (lit≤ tt) (lit< tt) ∙ ap (λ t. t ++ 49 ∷ []) (decimal_digit 1 (lit< tt))
-
-pub decimal-twelve : decimal 12 ≡ 49 ∷ 50 ∷ []
-decimal-twelve = decimal_step 12 (lit≤ tt) (lit< tt) ∙ ap (λ t. t ++ 50 ∷ []) (decimal_digit 1 (lit< tt))
-
-pub decimal-thirteen : decimal 13 ≡ 49 ∷ 51 ∷ []
-decimal-thirteen = decimal_step 13 (lit≤ tt) (lit< tt) ∙ ap (λ t. t ++ 51 ∷ []) (decimal_digit 1 (lit< tt))
-
-pub decimal-fourteen : decimal 14 ≡ 49 ∷ 52 ∷ []
-decimal-fourteen = decimal_step 14 (lit≤ tt) (lit< tt) ∙ ap (λ t. t ++ 52 ∷ []) (decimal_digit 1 (lit< tt))

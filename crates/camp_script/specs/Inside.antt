@@ -1,4 +1,5 @@
 -- Words that serve only private functions and the model of a reader.
+pub mod Asking
 pub mod Files
 pub mod Progress
 pub mod ReadingFields

@@ -1,10 +1,12 @@
 //! Lines outside groups and bodies.
-ghost use Rattle.std.specs.Prelude.{◌≡◌, ◌≢◌, ◌∷◌, [], false, IfErr, IfOk, map};
+ghost use Rattle.std.specs.Prelude.{◌≡◌, ◌≢◌, ◌≤◌, ◌∷◌, [], false, IfErr, IfOk, map};
 ghost use Rattle.camp_script.specs.Gives.{GivesLine};
 ghost use Rattle.camp_script.specs.Inside.Files.{change_at};
 ghost use Rattle.camp_script.specs.Lines.{is_skipped, words_of};
+ghost use Rattle.camp_script.specs.Commands as command;
 ghost use Rattle.camp_script.specs.Commands.{branch_line, whole_record, edit_record, group_record, record_line, pull_line, obliterate_line, branch_at, question, short_command, command, command_of, listed};
-ghost use Rattle.camp_script.specs.Inside.Steps.{obeyed};
+ghost use Rattle.camp_script.specs.Inside.Asking.{Asks, IsCounted, command_asked};
+ghost use Rattle.camp_script.specs.Inside.Steps.{obey, obeyed};
 
 use crate::faults::{FaultKind, ScriptFault, at_line};
 use crate::lines::{Words, first_words, is_comment};
@@ -13,10 +15,27 @@ use crate::records::{OpenEdit, OpenRecord, WholeFile};
 use crate::words::{
     name_at, names_at, no_words, number_at, one_word, path_at, test_names, three_words, two_words,
 };
-use camp_base::Name;
+use camp_base::{Name, Path};
 use camp_call::{Call, Changes, Names};
 use camp_prim::Primitive;
 use std::alloc::{AllocError, Global};
+
+/// What a command asks for: a call, the record of an edit or of a group, or the section of the next client.
+#[derive(Drop)]
+pub(crate) enum Asked {
+    Call(Call),
+    Edit {
+        branch: Name,
+        name: Name,
+        path: Path,
+        line: u32,
+    },
+    Group {
+        branch: Name,
+        name: Name,
+    },
+    Section,
+}
 
 impl Reading {
     /// A line outside groups and bodies.
@@ -43,6 +62,77 @@ impl Reading {
     ) -> Result<Reading, ScriptFault>
         ensures { GivesLine result (obeyed number self (command number word.now words.entry)) }
     {
+        let asked = self.asked_by(number, word, words)?;
+        self.obey(number, asked)
+    }
+
+    // Does what a line asks for.
+    fn obey(self, number: u64, asked: Asked) -> Result<Reading, ScriptFault>
+        requires { IsCounted asked }
+        ensures { GivesLine result (obey number self (command_asked asked)) }
+    {
+        match asked {
+            Asked::Call(call) => self.follow(number, call),
+            Asked::Section => self.next_section(number),
+            Asked::Group { branch, name } => self.begin_group(number, branch, name),
+            Asked::Edit {
+                branch,
+                name,
+                path,
+                line,
+            } => self.begin_edit(number, branch, name, path, line),
+        }
+    }
+
+    fn begin_group(self, number: u64, branch: Name, name: Name) -> Result<Reading, ScriptFault>
+        ensures { GivesLine result (obey number self (command.BeginGroup branch name)) }
+    {
+        self.test_room(number)?;
+        let changes = Vec::new(self.allocator());
+        Ok(self.with_record(OpenRecord {
+            branch,
+            name,
+            opened: number,
+            grouped: true,
+            changes,
+            open_edit: None,
+        }))
+    }
+
+    fn begin_edit(
+        self,
+        number: u64,
+        branch: Name,
+        name: Name,
+        path: Path,
+        line: u32,
+    ) -> Result<Reading, ScriptFault>
+        requires { 1 ≤ line }
+        ensures { GivesLine result (obey number self (command.BeginEdit branch name path line)) }
+    {
+        self.test_room(number)?;
+        let alloc = self.allocator();
+        let open_edit = Some(OpenEdit {
+            path,
+            line,
+            opened: number,
+            old: Vec::new(alloc),
+            new: Vec::new(alloc),
+        });
+        Ok(self.with_record(OpenRecord {
+            branch,
+            name,
+            opened: number,
+            grouped: false,
+            changes: Vec::new(alloc),
+            open_edit,
+        }))
+    }
+
+    // What a command asks for: its first word, and those behind it.
+    fn asked_by(&self, number: u64, word: &[u8], words: Words<'_>) -> Result<Asked, ScriptFault>
+        ensures { Asks number self.now result (command number word.now words.entry) }
+    {
         if word == b"pull".as_slice() {
             return self.read_pull(number, words);
         }
@@ -55,12 +145,12 @@ impl Reading {
 
     // A command without a list of names.
     fn read_short_command(
-        self,
+        &self,
         number: u64,
         word: &[u8],
         words: &[&[u8]],
-    ) -> Result<Reading, ScriptFault>
-        ensures { GivesLine result (obeyed number self (short_command number word.now (map (λ word. word.now) words.now))) }
+    ) -> Result<Asked, ScriptFault>
+        ensures { Asks number self.now result (short_command number word.now (map (λ word. word.now) words.now)) }
     {
         if word == b"branch".as_slice() {
             return self.read_branch(number, words);
@@ -70,22 +160,22 @@ impl Reading {
         }
         if word == b"client".as_slice() {
             no_words(number, words)?;
-            return self.next_section(number);
+            return Ok(Asked::Section);
         }
         self.read_question(number, word, words)
     }
 
-    fn read_branch(self, number: u64, words: &[&[u8]]) -> Result<Reading, ScriptFault>
-        ensures { GivesLine result (obeyed number self (branch_line number (map (λ word. word.now) words.now))) }
+    fn read_branch(&self, number: u64, words: &[&[u8]]) -> Result<Asked, ScriptFault>
+        ensures { Asks number self.now result (branch_line number (map (λ word. word.now) words.now)) }
     {
         let (new, from) = two_words(number, words)?;
         let new = name_at(number, new)?;
         let from = name_at(number, from)?;
-        self.follow(number, Call::Branch { new, from })
+        Ok(Asked::Call(Call::Branch { new, from }))
     }
 
-    fn read_record(self, number: u64, words: &[&[u8]]) -> Result<Reading, ScriptFault>
-        ensures { GivesLine result (obeyed number self (record_line number (map (λ word. word.now) words.now))) }
+    fn read_record(&self, number: u64, words: &[&[u8]]) -> Result<Asked, ScriptFault>
+        ensures { Asks number self.now result (record_line number (map (λ word. word.now) words.now)) }
     {
         let (branch, name, change, rest) = three_words(number, words)?;
         if change == b"add".as_slice() {
@@ -108,80 +198,60 @@ impl Reading {
     }
 
     fn read_whole(
-        self,
+        &self,
         number: u64,
         file: WholeFile,
         branch: &[u8],
         name: &[u8],
         path: &[u8],
-    ) -> Result<Reading, ScriptFault>
-        ensures { GivesLine result (obeyed number self (whole_record (change_at file) number branch.now name.now path.now)) }
+    ) -> Result<Asked, ScriptFault>
+        ensures { Asks number self.now result (whole_record (change_at file) number branch.now name.now path.now) }
     {
-        let alloc = self.allocator();
         let branch = name_at(number, branch)?;
         let name = name_at(number, name)?;
-        let path = path_at(alloc, number, path)?;
+        let path = path_at(self.allocator(), number, path)?;
         self.test_room(number)?;
-        let changes = one_change(alloc, file.at(path?))?;
-        self.with_call(Call::Record {
+        let changes = one_change(self.allocator(), file.at(path?))?;
+        Ok(Asked::Call(Call::Record {
             branch,
             name,
             changes,
-        })
+        }))
     }
 
     fn read_edit(
-        self,
+        &self,
         number: u64,
         branch: &[u8],
         name: &[u8],
         path: &[u8],
         line: &[u8],
-    ) -> Result<Reading, ScriptFault>
-        ensures { GivesLine result (obeyed number self (edit_record number branch.now name.now path.now line.now)) }
+    ) -> Result<Asked, ScriptFault>
+        ensures { Asks number self.now result (edit_record number branch.now name.now path.now line.now) }
     {
-        let alloc = self.allocator();
         let branch = name_at(number, branch)?;
         let name = name_at(number, name)?;
-        let path = path_at(alloc, number, path)?;
+        let path = path_at(self.allocator(), number, path)?;
         let line = number_at(number, line)?;
         self.test_room(number)?;
-        let open_edit = Some(OpenEdit {
+        Ok(Asked::Edit {
+            branch,
+            name,
             path: path?,
             line,
-            opened: number,
-            old: Vec::new(alloc),
-            new: Vec::new(alloc),
-        });
-        Ok(self.with_record(OpenRecord {
-            branch,
-            name,
-            opened: number,
-            grouped: false,
-            changes: Vec::new(alloc),
-            open_edit,
-        }))
+        })
     }
 
-    fn read_group(self, number: u64, branch: &[u8], name: &[u8]) -> Result<Reading, ScriptFault>
-        ensures { GivesLine result (obeyed number self (group_record number branch.now name.now)) }
+    fn read_group(&self, number: u64, branch: &[u8], name: &[u8]) -> Result<Asked, ScriptFault>
+        ensures { Asks number self.now result (group_record number branch.now name.now) }
     {
-        let alloc = self.allocator();
         let branch = name_at(number, branch)?;
         let name = name_at(number, name)?;
-        self.test_room(number)?;
-        Ok(self.with_record(OpenRecord {
-            branch,
-            name,
-            opened: number,
-            grouped: true,
-            changes: Vec::new(alloc),
-            open_edit: None,
-        }))
+        Ok(Asked::Group { branch, name })
     }
 
-    fn read_pull(self, number: u64, mut words: Words<'_>) -> Result<Reading, ScriptFault>
-        ensures { GivesLine result (obeyed number self (pull_line number words.entry)) }
+    fn read_pull(&self, number: u64, mut words: Words<'_>) -> Result<Asked, ScriptFault>
+        ensures { Asks number self.now result (pull_line number words.entry) }
     {
         let Some(from) = words.next() else {
             return Err(at_line(number, FaultKind::WrongNumberOfWords));
@@ -195,11 +265,11 @@ impl Reading {
         self.test_room(number)?;
         let names = names_at(self.allocator(), number, words)?;
         let names = listed(names);
-        self.with_call(Call::Pull { from, to, names })
+        Ok(Asked::Call(Call::Pull { from, to, names }))
     }
 
-    fn read_obliterate(self, number: u64, mut words: Words<'_>) -> Result<Reading, ScriptFault>
-        ensures { GivesLine result (obeyed number self (obliterate_line number words.entry)) }
+    fn read_obliterate(&self, number: u64, mut words: Words<'_>) -> Result<Asked, ScriptFault>
+        ensures { Asks number self.now result (obliterate_line number words.entry) }
     {
         let Some(branch) = words.next() else {
             return Err(at_line(number, FaultKind::WrongNumberOfWords));
@@ -211,28 +281,23 @@ impl Reading {
         test_names(number, words.again())?;
         self.test_room(number)?;
         let names = names_at(self.allocator(), number, words)?;
-        self.with_call(Call::Obliterate { branch, names })
+        Ok(Asked::Call(Call::Obliterate { branch, names }))
     }
 
-    fn read_question(
-        self,
-        number: u64,
-        word: &[u8],
-        words: &[&[u8]],
-    ) -> Result<Reading, ScriptFault>
-        ensures { GivesLine result (obeyed number self (question number word.now (map (λ word. word.now) words.now))) }
+    fn read_question(&self, number: u64, word: &[u8], words: &[&[u8]]) -> Result<Asked, ScriptFault>
+        ensures { Asks number self.now result (question number word.now (map (λ word. word.now) words.now)) }
     {
         if word == b"tree".as_slice() {
             let branch = branch_at(number, words)?;
-            return self.follow(number, Call::Tree(branch));
+            return Ok(Asked::Call(Call::Tree(branch)));
         }
         if word == b"conflicts".as_slice() {
             let branch = branch_at(number, words)?;
-            return self.follow(number, Call::Conflicts(branch));
+            return Ok(Asked::Call(Call::Conflicts(branch)));
         }
         if word == b"names".as_slice() {
             let branch = branch_at(number, words)?;
-            return self.follow(number, Call::Names(branch));
+            return Ok(Asked::Call(Call::Names(branch)));
         }
         Err(at_line(number, FaultKind::UnknownCommand))
     }

@@ -1,29 +1,39 @@
 //! Lines of groups and of bodies.
-ghost use Rattle.std.specs.Prelude.{◌≡◌, ◌≤◌, ◌<◌, ◌+◌, ◌^◌, ◌∷◌, [], if◌then◌else◌, false, IfErr, IfOk, Ok, Some, length, map, nat_lt};
+ghost use Rattle.std.specs.Prelude.{◌≡◌, ◌≢◌, ◌≤◌, ◌<◌, ◌+◌, ◌^◌, ◌∷◌, [], if◌then◌else◌, false, IfErr, IfOk, Ok, Some, length, map, nat_lt};
 ghost use Rattle.std.specs.Option.{option_map};
 ghost use Rattle.camp_base.specs.Bytes.{is_line};
+ghost use Rattle.camp_prim.specs.Hunks.{IsInRange};
 ghost use Rattle.camp_script.specs.declared.faults.FaultKind.TheVariants as kind;
 ghost use Rattle.camp_script.specs.Faults.{fault_at};
 ghost use Rattle.camp_script.specs.Gives.{GivesLine, IsFaultIn};
 ghost use Rattle.camp_script.specs.Inside.Files.{change_at};
 ghost use Rattle.camp_script.specs.Inside.ReadingFields.{open_record_of, open_edit_of, edit_so_far, IsOpen, HasRoomFor};
 ghost use Rattle.camp_script.specs.Lines.{is_skipped, words_of};
-ghost use Rattle.camp_script.specs.Changes.{whole_change, edit_change, change_of, group_line_of, grown};
-ghost use Rattle.camp_script.specs.Inside.Progress.{after_change};
-ghost use Rattle.camp_script.specs.Inside.Steps.{heeded, after_end, after_body, after_record_line, SaysIn};
+ghost use Rattle.camp_script.specs.Changes.{whole_change, edit_change, change_of, group_line_of, grown, ended};
+ghost use Rattle.camp_script.specs.Inside.Asking.{HasRoomToAdd, Tells, ended_change, line_told};
+ghost use Rattle.camp_script.specs.Inside.Progress.{after_change, with_edit, with_one_more, with_record};
+ghost use Rattle.camp_script.specs.Inside.Steps.{heed, heeded, after_end, after_body, after_record_line, SaysIn};
 
 use crate::faults::{FaultKind, ScriptFault, at_line};
 use crate::lines::{Words, first_words, is_comment};
 use crate::readings::Reading;
 use crate::records::{OpenEdit, OpenRecord, WholeFile};
 use crate::words::{no_words, number_at, one_word, path_at, two_words};
-use camp_base::{BaseFault, Line};
+use camp_base::{BaseFault, Line, Path};
 use camp_call::MAX_CHANGES;
 use camp_prim::{Lines, Primitive};
 use std::alloc::Global;
 
 /// The greatest sum of the line of an edit and the numbers of its old and of its new lines.
 const MAX_REACH: usize = 1 << 30;
+
+/// What a line of a group tells: a change of a whole file, an edit whose body follows, or that the group is done.
+#[derive(Drop)]
+pub(crate) enum Told {
+    Change(Primitive),
+    Edit { path: Path, line: u32 },
+    Done,
+}
 
 impl Reading {
     /// A line of a record whose changes follow.
@@ -76,70 +86,112 @@ impl Reading {
         requires { IsOpen self.calls begun }
         ensures { GivesLine result (heeded number self (open_record_of begun) (change_of number (length begun.changes.items) word.now (map (λ word. word.now) words.now))) }
     {
-        if word == b"add".as_slice() {
-            let path = one_word(number, words)?;
-            return self.add_whole(number, begun, WholeFile::Add, path);
+        let told = self.told_by(number, &begun, word, words)?;
+        self.heed(number, begun, told)
+    }
+
+    // Does what a line of a group tells.
+    fn heed(self, number: u64, begun: OpenRecord, told: Told) -> Result<Reading, ScriptFault>
+        requires open { IsOpen self.calls begun }
+        requires room { HasRoomToAdd (length begun.changes.items) told }
+        ensures { GivesLine result (heed number self (open_record_of begun) (line_told told)) }
+    {
+        match told {
+            Told::Change(change) => self.add_change(begun, change),
+            Told::Edit { path, line } => Ok(self.open_edit(number, begun, path, line)),
+            Told::Done => self.end_record(number, begun),
         }
-        if word == b"remove".as_slice() {
-            let path = one_word(number, words)?;
-            return self.add_whole(number, begun, WholeFile::Remove, path);
-        }
-        if word == b"edit".as_slice() {
-            let (path, line) = two_words(number, words)?;
-            return self.open_edit(number, begun, path, line);
-        }
-        if word == b"done".as_slice() {
-            no_words(number, words)?;
-            return self.end_record(number, begun);
-        }
-        Err(at_line(number, FaultKind::BadGroup))
     }
 
     // A change of a whole file in a group.
-    fn add_whole(
-        self,
-        number: u64,
-        mut begun: OpenRecord,
-        file: WholeFile,
-        path: &[u8],
-    ) -> Result<Reading, ScriptFault>
-        requires { IsOpen self.calls begun }
-        ensures { GivesLine result (heeded number self (open_record_of begun) (whole_change (change_at file) number (length begun.changes.items) path.now)) }
+    fn add_change(self, mut begun: OpenRecord, change: Primitive) -> Result<Reading, ScriptFault>
+        requires open { IsOpen self.calls begun }
+        requires room { length begun.changes.items < 64 }
+        ensures { GivesLine result (Ok (with_record self (with_one_more (open_record_of begun) change))) }
     {
-        if begun.changes.len() >= MAX_CHANGES {
-            return Err(at_line(number, FaultKind::BadGroup));
-        }
-        let path = path_at(self.allocator(), number, path)??;
-        begun.changes.push(file.at(path))?;
+        begun.changes.push(change)?;
         begun.open_edit = None;
         Ok(self.with_record(begun))
     }
 
     // The head of an edit in a group.
-    fn open_edit(
-        self,
-        number: u64,
-        mut begun: OpenRecord,
-        path: &[u8],
-        line: &[u8],
-    ) -> Result<Reading, ScriptFault>
-        requires { IsOpen self.calls begun }
-        ensures { GivesLine result (heeded number self (open_record_of begun) (edit_change number (length begun.changes.items) path.now line.now)) }
+    fn open_edit(self, number: u64, mut begun: OpenRecord, path: Path, line: u32) -> Reading
+        requires open { IsOpen self.calls begun }
+        requires room { length begun.changes.items < 64 }
+        requires counted { 1 ≤ line }
+        ensures { result ≡ with_record self (with_edit (open_record_of begun) path line number) }
     {
-        if begun.changes.len() >= MAX_CHANGES {
-            return Err(at_line(number, FaultKind::BadGroup));
-        }
         let alloc = self.allocator();
-        let path = path_at(alloc, number, path)?;
-        let line = number_at(number, line)?;
         begun.open_edit = Some(OpenEdit {
-            path: path?,
+            path,
             line,
             opened: number,
             old: Vec::new(alloc),
             new: Vec::new(alloc),
         });
-        Ok(self.with_record(begun))
+        self.with_record(begun)
+    }
+
+    // What a line of a group tells: its first word, and those behind it.
+    fn told_by(
+        &self,
+        number: u64,
+        begun: &OpenRecord,
+        word: &[u8],
+        words: &[&[u8]],
+    ) -> Result<Told, ScriptFault>
+        ensures { Tells number self.now (open_record_of begun.now) result (change_of number (length begun.now.changes.items) word.now (map (λ word. word.now) words.now)) }
+    {
+        if word == b"add".as_slice() {
+            let path = one_word(number, words)?;
+            return self.tell_whole(number, begun, WholeFile::Add, path);
+        }
+        if word == b"remove".as_slice() {
+            let path = one_word(number, words)?;
+            return self.tell_whole(number, begun, WholeFile::Remove, path);
+        }
+        if word == b"edit".as_slice() {
+            let (path, line) = two_words(number, words)?;
+            return self.tell_edit(number, begun, path, line);
+        }
+        if word == b"done".as_slice() {
+            no_words(number, words)?;
+            return Ok(Told::Done);
+        }
+        Err(at_line(number, FaultKind::BadGroup))
+    }
+
+    fn tell_whole(
+        &self,
+        number: u64,
+        begun: &OpenRecord,
+        file: WholeFile,
+        path: &[u8],
+    ) -> Result<Told, ScriptFault>
+        ensures { Tells number self.now (open_record_of begun.now) result (whole_change (change_at file) number (length begun.now.changes.items) path.now) }
+    {
+        if begun.changes.len() >= MAX_CHANGES {
+            return Err(at_line(number, FaultKind::BadGroup));
+        }
+        let path = path_at(self.allocator(), number, path)??;
+        Ok(Told::Change(file.at(path)))
+    }
+
+    fn tell_edit(
+        &self,
+        number: u64,
+        begun: &OpenRecord,
+        path: &[u8],
+        line: &[u8],
+    ) -> Result<Told, ScriptFault>
+        ensures { Tells number self.now (open_record_of begun.now) result (edit_change number (length begun.now.changes.items) path.now line.now) }
+    {
+        if begun.changes.len() >= MAX_CHANGES {
+            return Err(at_line(number, FaultKind::BadGroup));
+        }
+        let path = path_at(self.allocator(), number, path)?;
+        let line = number_at(number, line)?;
+        Ok(Told::Edit { path: path?, line })
     }
 
     // A line of the body of an edit.
@@ -148,7 +200,7 @@ impl Reading {
         number: u64,
         line: &[u8],
         mut begun: OpenRecord,
-        edit: OpenEdit,
+        mut edit: OpenEdit,
     ) -> Result<Reading, ScriptFault>
         requires open { IsOpen self.calls begun }
         requires room { HasRoomFor begun.changes.items (Some edit) }
@@ -157,7 +209,7 @@ impl Reading {
         if line == b"end".as_slice() {
             return self.end_edit(number, begun, edit);
         }
-        let edit = grow(self.allocator(), number, line, edit)?;
+        grow(self.allocator(), number, line, &mut edit)?;
         begun.open_edit = Some(edit);
         Ok(self.with_record(begun))
     }
@@ -173,24 +225,7 @@ impl Reading {
         requires room { HasRoomFor begun.changes.items (Some edit) }
         ensures { GivesLine result (after_end number self (open_record_of begun) (open_edit_of edit)) }
     {
-        let OpenEdit {
-            path,
-            line,
-            opened: _,
-            old,
-            new,
-        } = edit;
-        if old.is_empty() && new.is_empty() {
-            return Err(at_line(number, FaultKind::BadEdit));
-        }
-        if reaches_too_far(line, old.len(), new.len()) {
-            return Err(at_line(number, FaultKind::BadNumber));
-        }
-        let alloc = self.allocator();
-        let (old, new) = (Lines::new(alloc, old)?, Lines::new(alloc, new)?);
-        let Some(change) = Primitive::hunk(path, line, old, new) else {
-            unreachable!();
-        };
+        let change = close(self.allocator(), number, edit)?;
         self.end_change(number, begun, change)
     }
 
@@ -214,6 +249,43 @@ impl Reading {
     }
 }
 
+// The change of an edit whose `end` stands at a line.
+fn close(alloc: Global, number: u64, edit: OpenEdit) -> Result<Primitive, ScriptFault>
+    requires { 1 ≤ edit.line }
+    ensures { GivesLine result (ended_change number (edit_so_far edit)) }
+{
+    test_body(number, &edit)?;
+    let OpenEdit {
+        path,
+        line,
+        opened: _,
+        old,
+        new,
+    } = edit;
+    let (old, new) = (Lines::new(alloc, old)?, Lines::new(alloc, new)?);
+    let Some(change) = Primitive::hunk(path, line, old, new) else {
+        unreachable!();
+    };
+    Ok(change)
+}
+
+// The body of an edit may end here.
+fn test_body(number: u64, edit: &OpenEdit) -> Result<(), ScriptFault>
+    requires { 1 ≤ edit.now.line }
+    ensures passed { IfOk result (λ _. ended number (edit_so_far edit.now) ≡ Ok (edit_so_far edit.now)) }
+    ensures range { IfOk result (λ _. IsInRange (edit_so_far edit.now)) }
+    ensures fault { IfErr result (λ fault. IsFaultIn fault (ended number (edit_so_far edit.now))) }
+    ensures told { IfErr result (λ fault. fault ≢ ScriptFault.Memory) }
+{
+    if edit.old.is_empty() && edit.new.is_empty() {
+        return Err(at_line(number, FaultKind::BadEdit));
+    }
+    if reaches_too_far(edit.line, edit.old.len(), edit.new.len()) {
+        return Err(at_line(number, FaultKind::BadNumber));
+    }
+    Ok(())
+}
+
 // Whether the line of an edit and the numbers of its old and new lines add up to too much.
 fn reaches_too_far(line: u32, old: usize, new: usize) -> bool
     ensures { result ≡ nat_lt (2 ^ 30) (line + old + new) }
@@ -224,27 +296,22 @@ fn reaches_too_far(line: u32, old: usize, new: usize) -> bool
     line as usize + old + new > MAX_REACH
 }
 
-// An edit with one more line of a side: old lines, and then new ones.
-fn grow(
-    alloc: Global,
-    number: u64,
-    line: &[u8],
-    mut edit: OpenEdit,
-) -> Result<OpenEdit, ScriptFault>
-    ensures given { IfOk result (λ more. grown number (edit_so_far edit) line.now ≡ Ok (edit_so_far more)) }
-    ensures placed { IfOk result (λ more. (more.line ≡ edit.line) × (more.opened ≡ edit.opened)) }
-    ensures fault { IfErr result (λ fault. IsFaultIn fault (grown number (edit_so_far edit) line.now)) }
+// One more line of a side of an edit: old lines, and then new ones.
+fn grow(alloc: Global, number: u64, line: &[u8], edit: &mut OpenEdit) -> Result<(), ScriptFault>
+    ensures given { IfOk result (λ _. grown number (edit_so_far edit.entry.now) line.now ≡ Ok (edit_so_far edit.exit.now)) }
+    ensures placed { IfOk result (λ _. (edit.exit.now.line ≡ edit.entry.now.line) × (edit.exit.now.opened ≡ edit.entry.now.opened)) }
+    ensures fault { IfErr result (λ fault. IsFaultIn fault (grown number (edit_so_far edit.entry.now) line.now)) }
 {
     match line {
         [b'-', bytes @ ..] if edit.new.is_empty() => {
             let line = line_at(alloc, number, bytes)?;
             edit.old.push(line)?;
-            Ok(edit)
+            Ok(())
         }
         [b'+', bytes @ ..] => {
             let line = line_at(alloc, number, bytes)?;
             edit.new.push(line)?;
-            Ok(edit)
+            Ok(())
         }
         _ => Err(at_line(number, FaultKind::BadEdit)),
     }

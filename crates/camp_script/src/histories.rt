@@ -1,11 +1,12 @@
 //! The text of a history.
-ghost use Rattle.std.specs.Prelude.{◌∷◌, map};
+ghost use Rattle.std.specs.Prelude.{◌∷◌};
 ghost use Rattle.camp_script.specs.HistoryTexts.{change_words, changes_words, call_words, entry_text, entries_text, history_text};
 ghost use Rattle.camp_script.specs.Inside.Spaces.{spaced};
 ghost use Rattle.camp_script.specs.Writing.{Extends, ExtendsOrKeeps, Writes};
 
 use crate::ScriptFault;
-use crate::texts::{extend_by_line, write_text};
+use crate::spaces::{extend_by_count, extend_by_named, extend_by_number, extend_by_words};
+use crate::texts::write_text;
 use camp_base::Name;
 use camp_call::Call;
 use camp_prim::Primitive;
@@ -48,8 +49,7 @@ pub fn append_history(text: &mut Vec<u8>, history: &[(u32, Call)]) -> Result<(),
 fn extend_by_history(text: &mut Vec<u8>, history: &[(u32, Call)]) -> Result<(), AllocError>
     ensures { Extends text.old.items (history_text history.now) result text.new.items }
 {
-    let mut count = Buffer::new();
-    extend_by_line(text, b"history", &[count.format(history.len()).as_bytes()])?;
+    extend_by_count(text, b"history", history.len() as u64)?;
     extend_by_entries(text, history)
 }
 
@@ -68,7 +68,7 @@ fn extend_by_entry(text: &mut Vec<u8>, at: u64, seat: u32, call: &Call) -> Resul
     ensures { Extends text.old.items (entry_text at (seat, call.now)) result text.new.items }
 {
     text.extend_from_slice(Buffer::new().format(at).as_bytes())?;
-    extend_by_words(text, &[Buffer::new().format(seat).as_bytes()])?;
+    extend_by_number(text, u64::from(seat))?;
     extend_by_call(text, call)?;
     Ok(text.push(b'\n')?)
 }
@@ -77,35 +77,38 @@ fn extend_by_call(text: &mut Vec<u8>, call: &Call) -> Result<(), AllocError>
     ensures { Extends text.old.items (spaced (call_words call.now)) result text.new.items }
 {
     match call {
-        Call::Branch { new, from } => {
-            extend_by_words(text, &[b"branch".as_slice(), new.bytes(), from.bytes()])
-        }
+        Call::Branch { new, from } => extend_by_command(text, b"branch", &[*new, *from]),
         Call::Record {
             branch,
             name,
             changes,
         } => {
-            extend_by_words(text, &[b"record".as_slice(), branch.bytes(), name.bytes()])?;
+            extend_by_command(text, b"record", &[*branch, *name])?;
             extend_by_changes(text, changes.prims())
         }
         Call::Pull { from, to, names } => {
-            extend_by_words(text, &[b"pull".as_slice(), from.bytes(), to.bytes()])?;
+            extend_by_command(text, b"pull", &[*from, *to])?;
             match names {
                 None => Ok(()),
-                Some(names) => extend_by_names(text, names.as_slice()),
+                Some(names) => extend_by_named(text, names.as_slice()),
             }
         }
         Call::Obliterate { branch, names } => {
             extend_by_words(text, &[b"obliterate".as_slice(), branch.bytes()])?;
-            extend_by_names(text, names.as_slice())
+            extend_by_named(text, names.as_slice())
         }
-        Call::Tree(branch) => extend_by_words(text, &[b"tree".as_slice(), branch.bytes()]),
-        Call::Conflicts(branch) => extend_by_words(
-            text,
-            &[b"conflicts".as_slice(), branch.bytes()],
-        ),
-        Call::Names(branch) => extend_by_words(text, &[b"names".as_slice(), branch.bytes()]),
+        Call::Tree(branch) => extend_by_command(text, b"tree", &[*branch]),
+        Call::Conflicts(branch) => extend_by_command(text, b"conflicts", &[*branch]),
+        Call::Names(branch) => extend_by_command(text, b"names", &[*branch]),
     }
+}
+
+// The word of a command, and names.
+fn extend_by_command(text: &mut Vec<u8>, word: &[u8], names: &[Name]) -> Result<(), AllocError>
+    ensures { Extends text.old.items (spaced (word.now ∷ names.now)) result text.new.items }
+{
+    extend_by_words(text, &[word])?;
+    extend_by_named(text, names)
 }
 
 fn extend_by_changes(text: &mut Vec<u8>, changes: &[Primitive]) -> Result<(), AllocError>
@@ -114,9 +117,8 @@ fn extend_by_changes(text: &mut Vec<u8>, changes: &[Primitive]) -> Result<(), Al
     match changes {
         [change] => extend_by_change(text, change),
         _ => {
-            let mut count = Buffer::new();
-            let count = count.format(changes.len());
-            extend_by_words(text, &[b"group".as_slice(), count.as_bytes()])
+            extend_by_words(text, &[b"group"])?;
+            extend_by_number(text, changes.len() as u64)
         }
     }
 }
@@ -128,36 +130,10 @@ fn extend_by_change(text: &mut Vec<u8>, change: &Primitive) -> Result<(), AllocE
         Primitive::Add(path) => extend_by_words(text, &[b"add".as_slice(), path.bytes()]),
         Primitive::Remove(path) => extend_by_words(text, &[b"remove".as_slice(), path.bytes()]),
         Primitive::Hunk(hunk) => {
-            let (mut line, mut old, mut new) = (Buffer::new(), Buffer::new(), Buffer::new());
-            let line = line.format(hunk.line()).as_bytes();
-            let old = old.format(hunk.old().len()).as_bytes();
-            let new = new.format(hunk.new().len()).as_bytes();
-            extend_by_words(
-                text,
-                &[b"edit".as_slice(), hunk.path().bytes(), line, old, new],
-            )
+            extend_by_words(text, &[b"edit".as_slice(), hunk.path().bytes()])?;
+            extend_by_number(text, u64::from(hunk.line()))?;
+            extend_by_number(text, hunk.old().len() as u64)?;
+            extend_by_number(text, hunk.new().len() as u64)
         }
     }
-}
-
-// Names, a space before each.
-fn extend_by_names(text: &mut Vec<u8>, names: &[Name]) -> Result<(), AllocError>
-    ensures { Extends text.old.items (spaced names.now) result text.new.items }
-{
-    for name in names {
-        text.push(b' ')?;
-        text.extend_from_slice(name.bytes())?;
-    }
-    Ok(())
-}
-
-// Words, a space before each.
-fn extend_by_words(text: &mut Vec<u8>, words: &[&[u8]]) -> Result<(), AllocError>
-    ensures { Extends text.old.items (spaced (map (λ word. word.now) words.now)) result text.new.items }
-{
-    for word in words {
-        text.push(b' ')?;
-        text.extend_from_slice(word)?;
-    }
-    Ok(())
 }

@@ -11,6 +11,7 @@ mod outputs;
 mod readings;
 mod records;
 mod scripts;
+mod spaces;
 mod texts;
 mod words;
 

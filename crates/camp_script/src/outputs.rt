@@ -5,10 +5,10 @@ ghost use Rattle.camp_script.specs.Outputs.{HaveTexts, answers_text, client_text
 ghost use Rattle.camp_script.specs.Texts.{HasText};
 ghost use Rattle.camp_script.specs.Writing.{Extends, ExtendsOrKeeps};
 
-use crate::texts::{extend_by_answer, extend_by_line};
+use crate::spaces::extend_by_count;
+use crate::texts::extend_by_answer;
 use camp_call::Reply;
 use camp_object::Fault;
-use itoa::Buffer;
 use std::alloc::AllocError;
 
 /// Appends the text of the answers of an opening and of clients, those of each client behind a line that
@@ -68,7 +68,7 @@ fn extend_by_client(
     requires { All HasText answers.now }
     ensures { Extends text.old.items (client_text number answers.now) result text.new.items }
 {
-    extend_by_line(text, b"client", &[Buffer::new().format(number).as_bytes()])?;
+    extend_by_count(text, b"client", number)?;
     extend_by_answers(text, answers)
 }
 

@@ -15,6 +15,7 @@ use crate::{MAX_SECTIONS, MAX_WRITES};
 use camp_call::{Call, Changes};
 use std::alloc::Global;
 use std::marker::Model;
+use std::mem;
 
 /// How far a script is read: the sections before this one, the calls of this one, how many of them write,
 /// and the record that is not ended, if any.
@@ -149,25 +150,17 @@ impl Reading {
     }
 
     /// The line of a client: the next section begins.
-    pub(crate) fn next_section(self, number: u64) -> Result<Reading, ScriptFault>
+    pub(crate) fn next_section(mut self, number: u64) -> Result<Reading, ScriptFault>
         ensures { GivesLine result (after_client number self) }
     {
-        let Reading {
-            mut closed,
-            calls,
-            writes: _,
-            open_record: _,
-        } = self;
-        if closed.len() >= MAX_SECTIONS - 1 {
+        if self.closed.len() >= MAX_SECTIONS - 1 {
             return Err(at_line(number, FaultKind::TooManyClients));
         }
-        let alloc = *calls.allocator();
-        closed.push(calls)?;
-        Ok(Reading {
-            closed,
-            calls: Vec::new(alloc),
-            writes: 0,
-            open_record: None,
-        })
+        let alloc = self.allocator();
+        let calls = mem::replace(&mut self.calls, Vec::new(alloc));
+        self.closed.push(calls)?;
+        self.writes = 0;
+        let _ = self.open_record.take();
+        Ok(self)
     }
 }

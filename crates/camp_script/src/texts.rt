@@ -1,11 +1,12 @@
 //! The texts of answers, appended to bytes and written to a writer.
-ghost use Rattle.std.specs.Prelude.{◌∷◌, map, codes, MatchResult};
+ghost use Rattle.std.specs.Prelude.{◌∷◌, codes, MatchResult};
 ghost use Rattle.std.specs.List.{flat_map};
 ghost use Rattle.std.specs.Io.KnownBytes.{Appends};
 ghost use Rattle.camp_script.specs.Texts.{line_text, refusal_words, signed_line, file_text, tree_text, reply_text, answer_text, HasText, pair_text, conflicts_text, name_text, names_text};
 ghost use Rattle.camp_script.specs.Writing.{Extends, ExtendsOrKeeps, AppendsFront, Writes};
 
 use crate::ScriptFault;
+use crate::spaces::{extend_by_count, extend_by_line, extend_by_numbered};
 use camp_base::{Line, Name, Path, Tree};
 use camp_call::{Refusal, Reply};
 use camp_object::Fault;
@@ -83,9 +84,7 @@ pub(crate) fn extend_by_answer(
 {
     match answer {
         Ok(reply) => extend_by_reply(text, reply),
-        Err(Fault::Busy { lost }) => {
-            extend_by_line(text, b"busy", &[Buffer::new().format(*lost).as_bytes()])
-        }
+        Err(Fault::Busy { lost }) => { extend_by_count(text, b"busy", u64::from(*lost)) }
         Err(Fault::Full) => extend_by_line(text, b"full", &[]),
         Err(Fault::Memory) => unreachable!(),
     }
@@ -95,7 +94,7 @@ fn extend_by_reply(text: &mut Vec<u8>, reply: &Reply) -> Result<(), AllocError>
     ensures { Extends text.old.items (reply_text reply.now) result text.new.items }
 {
     match reply {
-        Reply::Done(at) => extend_by_line(text, b"ok", &[Buffer::new().format(*at).as_bytes()]),
+        Reply::Done(at) => extend_by_count(text, b"ok", *at),
         Reply::Refused(refusal) => extend_by_refusal(text, refusal),
         Reply::Tree(tree) => extend_by_tree(text, tree),
         Reply::Conflicts(conflicts) => extend_by_conflicts(text, conflicts.pairs()),
@@ -107,29 +106,28 @@ fn extend_by_refusal(text: &mut Vec<u8>, refusal: &Refusal) -> Result<(), AllocE
     ensures { Extends text.old.items (line_text (codes "refused" ∷ refusal_words refusal.now)) result text.new.items }
 {
     match refusal {
-        Refusal::NoBranch(branch) => extend_by_line(text, b"refused", &[b"4", branch.bytes()]),
-        Refusal::BranchExists(branch) => extend_by_line(text, b"refused", &[b"5", branch.bytes()]),
-        Refusal::PatchExists(name) => extend_by_line(text, b"refused", &[b"6", name.bytes()]),
-        Refusal::NoPatch(name) => extend_by_line(text, b"refused", &[b"7", name.bytes()]),
-        Refusal::NothingToDo => extend_by_line(text, b"refused", &[b"8"]),
-        Refusal::TooLarge => extend_by_line(text, b"refused", &[b"9"]),
-        Refusal::DoesNotApply => extend_by_line(text, b"refused", &[b"10"]),
+        Refusal::NoBranch(branch) => extend_by_numbered(text, b"refused", 4, &[*branch]),
+        Refusal::BranchExists(branch) => extend_by_numbered(text, b"refused", 5, &[*branch]),
+        Refusal::PatchExists(name) => extend_by_numbered(text, b"refused", 6, &[*name]),
+        Refusal::NoPatch(name) => extend_by_numbered(text, b"refused", 7, &[*name]),
+        Refusal::NothingToDo => extend_by_numbered(text, b"refused", 8, &[]),
+        Refusal::TooLarge => extend_by_numbered(text, b"refused", 9, &[]),
+        Refusal::DoesNotApply => extend_by_numbered(text, b"refused", 10, &[]),
         Refusal::Depends { patch, on } => {
-            extend_by_line(text, b"refused", &[b"11", patch.bytes(), on.bytes()])
+            extend_by_numbered(text, b"refused", 11, &[*patch, *on])
         }
-        Refusal::Diverged(name) => extend_by_line(text, b"refused", &[b"12", name.bytes()]),
+        Refusal::Diverged(name) => extend_by_numbered(text, b"refused", 12, &[*name]),
         Refusal::NoMerge { left, right } => {
-            extend_by_line(text, b"refused", &[b"13", left.bytes(), right.bytes()])
+            extend_by_numbered(text, b"refused", 13, &[*left, *right])
         }
-        Refusal::SameBranch(branch) => extend_by_line(text, b"refused", &[b"14", branch.bytes()]),
+        Refusal::SameBranch(branch) => extend_by_numbered(text, b"refused", 14, &[*branch]),
     }
 }
 
 fn extend_by_conflicts(text: &mut Vec<u8>, pairs: &[(Name, Name)]) -> Result<(), AllocError>
     ensures { Extends text.old.items (conflicts_text pairs.now) result text.new.items }
 {
-    let mut count = Buffer::new();
-    extend_by_line(text, b"conflicts", &[count.format(pairs.len()).as_bytes()])?;
+    extend_by_count(text, b"conflicts", pairs.len() as u64)?;
     extend_by_pairs(text, pairs)
 }
 
@@ -145,8 +143,7 @@ fn extend_by_pairs(text: &mut Vec<u8>, pairs: &[(Name, Name)]) -> Result<(), All
 fn extend_by_names(text: &mut Vec<u8>, names: &[Name]) -> Result<(), AllocError>
     ensures { Extends text.old.items (names_text names.now) result text.new.items }
 {
-    let mut count = Buffer::new();
-    extend_by_line(text, b"names", &[count.format(names.len()).as_bytes()])?;
+    extend_by_count(text, b"names", names.len() as u64)?;
     extend_by_name_lines(text, names)
 }
 
@@ -162,8 +159,7 @@ fn extend_by_name_lines(text: &mut Vec<u8>, names: &[Name]) -> Result<(), AllocE
 fn extend_by_tree(text: &mut Vec<u8>, tree: &Tree) -> Result<(), AllocError>
     ensures { Extends text.old.items (tree_text tree.now) result text.new.items }
 {
-    let mut count = Buffer::new();
-    extend_by_line(text, b"tree", &[count.format(tree.len()).as_bytes()])?;
+    extend_by_count(text, b"tree", tree.len() as u64)?;
     for index in 0..tree.len() {
         let Some((path, lines)) = tree.at(index) else {
             unreachable!();
@@ -202,20 +198,4 @@ fn extend_by_signed_line(text: &mut Vec<u8>, line: &Line) -> Result<(), AllocErr
     text.extend_from_slice(line.bytes())?;
     text.push(b'\n')?;
     Ok(())
-}
-
-// A line of words, one space between each two.
-pub(crate) fn extend_by_line(
-    text: &mut Vec<u8>,
-    first: &[u8],
-    rest: &[&[u8]],
-) -> Result<(), AllocError>
-    ensures { Extends text.old.items (line_text (first.now ∷ map (λ word. word.now) rest.now)) result text.new.items }
-{
-    text.extend_from_slice(first)?;
-    for word in rest {
-        text.push(b' ')?;
-        text.extend_from_slice(word)?;
-    }
-    Ok(text.push(b'\n')?)
 }

@@ -12,16 +12,16 @@ unreachable-requires c = no_file c.args.tree.now c.len-index-end.result c.loop-i
 pub returns-in_err-extend_by_file : goal.returns-in_err-extend_by_file
 returns-in_err-extend_by_file c =
     let more = flat_map file_text (take c.loop-index.index (entries c.args.tree.now)) in
-    let begun = line_text (codes "tree" ∷ c.as_bytes.result.now ∷ []) in
+    let begun = line_text (codes "tree" ∷ decimal c.len.result ∷ []) in
     kept_further c.args.text.now.items _ (begun ++ more) c.in_err-extend_by_file.ensures.0 c.loop-index.text.items c.extend_by_file.new.text.items c.extend_by_file.new.text.items c.from_residual-in_err-extend_by_file.result c.from_residual-in_err-extend_by_file.ensures.0
-    (c.loop-index.invariant ∙ ap (λ t. t ++ more) c.in_ok-extend_by_line.ensures ∙ append_assoc c.args.text.now.items begun more) c.in_err-extend_by_file.ensures.1 refl
+    (c.loop-index.invariant ∙ ap (λ t. t ++ more) c.in_ok-extend_by_count.ensures ∙ append_assoc c.args.text.now.items begun more) c.in_err-extend_by_file.ensures.1 refl
 
 pub loop-index-preserved : goal.loop-index-preserved
 loop-index-preserved c =
-    one_more file_text c.extend_by_line.new.text.items c.loop-index.text.items c.extend_by_file.new.text.items (entries c.args.tree.now) c.loop-index.index _ c.loop-index.invariant c.in-Some.ensures
+    one_more file_text c.extend_by_count.new.text.items c.loop-index.text.items c.extend_by_file.new.text.items (entries c.args.tree.now) c.loop-index.index _ c.loop-index.invariant c.in-Some.ensures
     c.in_ok-extend_by_file.ensures
 
 pub returns : goal.returns
 returns c =
-    tree_done c.args.tree.now c.args.text.now.items c.as_bytes.result.now c.extend_by_line.new.text.items c.loop-index.text.items c.len-index-end.result c.loop-index.index
-    (c.as_bytes.ensures.value ∙ c.format.ensures.text ∙ ap decimal c.len.ensures) c.in_ok-extend_by_line.ensures c.loop-index.invariant c.len-index-end.ensures c.loop-index-test.false
+    tree_done c.args.tree.now c.args.text.now.items (decimal c.len.result) c.extend_by_count.new.text.items c.loop-index.text.items c.len-index-end.result c.loop-index.index
+    (ap decimal c.len.ensures) c.in_ok-extend_by_count.ensures c.loop-index.invariant c.len-index-end.ensures c.loop-index-test.false

@@ -7,11 +7,11 @@ pub returns-then-eq-2 : goal.returns-then-eq-2
 returns-then-eq-2 c =
     let other : bytes_eq c.args.word.now (codes "branch") ≡ false = search rules in
     let is : bytes_eq c.args.word.now (codes "record") ≡ true = search rules in
-    records c.args.number c.args.self c.args.word.now _ (map (λ word. word.now) c.args.words.now) other is c.read_record.ensures
+    records c.args.number c.args.self.now c.args.word.now _ (map (λ word. word.now) c.args.words.now) other is c.read_record.ensures
 
 pub returns : goal.returns
 returns c =
     let other : bytes_eq c.args.word.now (codes "branch") ≡ false = search rules in
     let neither : bytes_eq c.args.word.now (codes "record") ≡ false = search rules in
     let none : bytes_eq c.args.word.now (codes "client") ≡ false = search rules in
-    questions c.args.number c.args.self c.args.word.now _ (map (λ word. word.now) c.args.words.now) other neither none c.read_question.ensures
+    questions c.args.number c.args.self.now c.args.word.now _ (map (λ word. word.now) c.args.words.now) other neither none c.read_question.ensures

@@ -2,7 +2,7 @@ use Rattle.std.proofs.Common.{◌∷◌, [], ◌++◌, ap, ◌∙◌, arith}
 use Rattle.std.proofs.lemmas.List.{take_all}
 use Rattle.camp_script.specs.Inside.Spaces.{spaced}
 use Rattle.camp_script.proofs.TextLemmas.{kept, kept_further}
-use Rattle.camp_script.proofs.histories.extend_by_names.Goals as goal
+use Rattle.camp_script.proofs.spaces.extend_by_named.Goals as goal
 
 pub returns-in_err-push : goal.returns-in_err-push
 returns-in_err-push c = kept c.args.text.now.items _ _ _ _ c.from_residual.result c.from_residual.ensures.0 c.loop-name.invariant c.in_err-push.ensures.items

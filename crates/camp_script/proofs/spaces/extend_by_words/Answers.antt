@@ -3,7 +3,7 @@ use Rattle.std.proofs.lemmas.List.{take_all}
 use Rattle.std.specs.List.{flat_map}
 use Rattle.camp_script.proofs.TextLemmas.{kept, kept_further}
 use Rattle.camp_script.proofs.HistoryLemmas.{spaced-map}
-use Rattle.camp_script.proofs.histories.extend_by_words.Goals as goal
+use Rattle.camp_script.proofs.spaces.extend_by_words.Goals as goal
 
 pub returns-in_err-push : goal.returns-in_err-push
 returns-in_err-push c = kept c.args.text.now.items _ _ _ _ c.from_residual.result c.from_residual.ensures.0 c.loop-word.invariant c.in_err-push.ensures.items

@@ -1,6 +1,0 @@
-use Rattle.std.proofs.Common.{◌≡◌, ◌∷◌, ◌++◌, take}
-use Rattle.std.specs.List.{flat_map}
-use Rattle.camp_script.proofs.texts.extend_by_line.Given as goal
-
-abbrev pub invariant-loop-word : goal.invariant-loop-word
-invariant-loop-word l = l.text.items ≡ l.fn.text.items ++ (l.first ++ flat_map (λ word. 32 ∷ word.now) (take l.word-index l.rest))
