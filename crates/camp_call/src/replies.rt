@@ -34,7 +34,8 @@ pub enum Refusal {
     DoesNotApply,
     /// A patch depends on another one, which is not to be there.
     Depends { patch: Name, on: Name },
-    /// The two branches hold this patch in different ways.
+    /// The two branches hold this patch in different ways, or it can't come before what only one of
+    /// them has.
     Diverged(Name),
     /// Two patches do not merge: `left` of the branch that is pulled into, and `right` of the one that
     /// is pulled from.

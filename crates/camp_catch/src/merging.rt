@@ -23,8 +23,8 @@ use camp_seq::{Seq, invert_all, norm, past};
 use std::alloc::{AllocError, Global};
 
 /// What two catches that begin in one state become one after the other: `Some((k', j'))`, where `k'`
-/// stands after `j`, and `j'` after `k`. None where they do not merge, which only hunks near the end
-/// of the range come to.
+/// stands after `j`, and `j'` after `k`. None where they do not merge: two plain catches always do; a
+/// conflictor may neither conflict with a catch nor merge cleanly with it.
 pub fn merge(alloc: Global, j: &Catch, k: &Catch) -> Result<Option<(Catch, Catch)>, AllocError>
     ensures exact { IfOk result (FindsPair (MergeCatch j.now k.now)) }
 {

@@ -9,7 +9,6 @@ use Rattle.camp_branch.specs.Obliterating.{ObliterateGives}
 use Rattle.camp_branch.specs.Pulling.{Outcome, PullGives}
 use Rattle.camp_branch.proofs.ConflictsDetermined.{conflicts_are_determined}
 use Rattle.camp_branch.proofs.OutcomesDetermined.{outcomes_are_determined}
-use Rattle.camp_call.specs.Calls.{IsCall}
 use Rattle.camp_call.specs.declared.calls.Call.{Call}
 use Rattle.camp_call.specs.declared.calls.Call.TheVariants as call
 use Rattle.camp_call.specs.declared.replies.Reply.TheVariants as reply
@@ -48,8 +47,8 @@ conflicts_shown state name catches pairs has are =
     rw has (ap (λ l. Answer (reply.Conflicts l)) ((conflicts_are_determined catches).2 pairs are))
 
 -- a call that is accepted leads to a lawful state
-pub next_lawful : (state : Contents) (call : Call) (next : Contents) → IsCall call → IsLawful state → Next next ≡ step state call → IsLawful next
-next_lawful state call next is lawful e = steps_lawful state call next is lawful (sym e)
+pub next_lawful : (state : Contents) (call : Call) (next : Contents) → IsLawful state → Next next ≡ step state call → IsLawful next
+next_lawful state call next lawful e = steps_lawful state call next lawful (sym e)
 
 module _ (state : Contents) (branch name : List ℕ) (changes : List Primitive) (catches : List Catch) (tree : Files) (has : Has state branch catches) (free : stands state.branches name ≡ false) (small : is_too_large catches changes ≡ false) (leads : LeadsTo catches tree) where
   -- the record comes to what its changes lead to
@@ -92,7 +91,7 @@ module _ (state : Contents) (from to : List ℕ) (names : Option (List (List ℕ
 
         pub pull_keeps : IsLawful state → (catches : List Catch) → outcome ≡ Ok catches → IsLawful (after state (placed state.branches place catches))
         pull_keeps lawful catches is =
-            next_lawful state (call.Pull from to names) _ tt lawful (ap (settled state place) (sym is) ∙ pull_settles)
+            next_lawful state (call.Pull from to names) _ lawful (ap (settled state place) (sym is) ∙ pull_settles)
 
 module _ (state : Contents) (branch : List ℕ) (names : List (List ℕ)) (catches : List Catch) (has : Has state branch catches) (all : first_lacked catches names ≡ None) (some : is_empty names ≡ false) (set : List (List ℕ)) (alike : AreAlike set names) (outcome : Outcome) (gives : ObliterateGives catches set outcome) where
   is_obliterated : outcome ≡ obliterated catches names
@@ -109,4 +108,4 @@ module _ (state : Contents) (branch : List ℕ) (names : List (List ℕ)) (catch
 
     pub obliterate_keeps : IsLawful state → (left : List Catch) → outcome ≡ Ok left → IsLawful (after state (placed state.branches place left))
     obliterate_keeps lawful left is =
-        next_lawful state (call.Obliterate branch names) _ tt lawful (ap (settled state place) (sym is) ∙ obliterate_settles)
+        next_lawful state (call.Obliterate branch names) _ lawful (ap (settled state place) (sym is) ∙ obliterate_settles)

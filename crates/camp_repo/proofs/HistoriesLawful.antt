@@ -2,13 +2,12 @@
 use Rattle.std.proofs.Common.{◌≡◌, ℕ, List, [], ◌∷◌, Option, None, Some, subst, refl}
 use Rattle.std.proofs.lemmas.Option.{same_Some}
 use Rattle.std.specs.Option.{option_and_then}
-use Rattle.camp_call.specs.Calls.{IsCall}
 use Rattle.camp_call.specs.declared.calls.Call.{Call}
 use Rattle.camp_object.specs.Histories.{run}
 use Rattle.camp_object.proofs.Replays.{count-replay}
 use Rattle.camp_object.specs.declared.objects.Decided.TheVariants.{Next, Answer}
 use Rattle.camp_repo.specs.Lawful.{IsLawful}
-use Rattle.camp_repo.specs.Laws.{HasCalls, HistoriesAreCounted, HistoriesAreLawful, HistoriesTellTrees}
+use Rattle.camp_repo.specs.Laws.{HistoriesAreCounted, HistoriesAreLawful, HistoriesTellTrees}
 use Rattle.camp_repo.specs.Objects.{next_of, repository}
 use Rattle.camp_repo.specs.ObjectLaws.{repository_is_lawful}
 use Rattle.camp_repo.specs.States.{Contents, initial}
@@ -25,26 +24,25 @@ of_decision (Next next) state is = rw (same_Some next state is) refl
 of_decision (Answer answer) state is = cc
 
 -- one more call keeps it
-one_more : (first : Option Contents) (call : Call) → IsCall call → IsLawfulIfThere first
+one_more : (first : Option Contents) (call : Call) → IsLawfulIfThere first
     → IsLawfulIfThere (option_and_then (λ s. next_of (step s call)) first)
-one_more None call is lawful state there = cc
-one_more (Some old) call is lawful state there =
-    steps_lawful old call state is (lawful old refl) (of_decision (step old call) state there)
+one_more None call lawful state there = cc
+one_more (Some old) call lawful state there =
+    steps_lawful old call state (lawful old refl) (of_decision (step old call) state there)
 
-run_lawful : (history : List (ℕ × Call)) (first : Option Contents) → HasCalls history → IsLawfulIfThere first
+run_lawful : (history : List (ℕ × Call)) (first : Option Contents) → IsLawfulIfThere first
     → IsLawfulIfThere (run repository first history)
-run_lawful [] first calls lawful = lawful
-run_lawful (entry ∷ entries) first calls lawful =
-    run_lawful entries _ calls.1 (one_more first entry.1 calls.0 lawful)
+run_lawful [] first lawful = lawful
+run_lawful (entry ∷ entries) first lawful = run_lawful entries _ (one_more first entry.1 lawful)
 
 pub histories_lawful : HistoriesAreLawful
-histories_lawful history state calls replays =
-    run_lawful history (Some initial) calls
+histories_lawful history state replays =
+    run_lawful history (Some initial)
     (λ first is. subst IsLawful (same_Some initial first is) initial_lawful) state replays
 
 pub histories_tell : HistoriesTellTrees
-histories_tell history state branch catches calls replays has =
-    trees_answered state branch catches (histories_lawful history state calls replays) has
+histories_tell history state branch catches replays has =
+    trees_answered state branch catches (histories_lawful history state replays) has
 
 pub histories_counted : HistoriesAreCounted
 histories_counted = count-replay repository repository_is_lawful

@@ -9,6 +9,7 @@ pub mod LawfulBranches
 pub mod NameSteps
 pub mod PlaceSteps
 pub mod RecordSteps
+pub mod SizeSteps
 pub mod StateSteps
 pub mod StepsLawful
 pub mod TreeSteps

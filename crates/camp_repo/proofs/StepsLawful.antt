@@ -6,7 +6,6 @@ use Rattle.camp_prim.specs.declared.primitives.Primitive.{Primitive}
 use Rattle.camp_catch.specs.declared.catches.Catch.{Catch}
 use Rattle.camp_branch.specs.Branches.{AreDistinct, LeadsTo, has_patch, recorded}
 use Rattle.camp_branch.proofs.Names.{all_append}
-use Rattle.camp_call.specs.Patches.{IsPatchSized}
 use Rattle.camp_call.specs.declared.calls.Call.TheVariants as call
 use Rattle.camp_call.specs.declared.replies.Refusal.TheVariants.{BranchExists, NothingToDo, PatchExists, SameBranch, TooLarge}
 use Rattle.camp_object.specs.declared.objects.Decided.TheVariants.{Next}
@@ -20,6 +19,7 @@ use Rattle.camp_repo.proofs.AcceptedSteps.{becomes_other, has_branch, has_tree, 
 use Rattle.camp_repo.proofs.BranchSteps.{OfEach, absent, distinct_grown, free_of_each, names_grown, names_stay, of_each_with, of_one}
 use Rattle.camp_repo.proofs.Effects.{accepted_calls, lawful_branch, obliterate_gives, pull_gives, wanted_is_lacked}
 use Rattle.camp_repo.proofs.LawfulBranches.{left_lawful, none_lawful, pulled_lawful, recorded_lawful, still_lawful, with_number}
+use Rattle.camp_repo.proofs.SizeSteps.{sized_of}
 use Rattle.camp_repo.proofs.TreeSteps.{changes_apply, tree_found}
 
 pub initial_lawful : InitialIsLawful
@@ -68,11 +68,12 @@ branch_lawful state next new from lawful e =
     let same = next_is state next (state.branches ++ (new, there.0) ∷ []) few.1 in
     subst IsLawful same (copy_lawful state new from there.0 lawful there.1 (is_none _ fresh.0))
 
-record_lawful : (state next : Contents) (branch name : List ℕ) (changes : List Primitive) → IsPatchSized changes → IsLawful state → step state (call.Record branch name changes) ≡ Next next → IsLawful next
-record_lawful state next branch name changes sized lawful e =
+record_lawful : (state next : Contents) (branch name : List ℕ) (changes : List Primitive) → IsLawful state → step state (call.Record branch name changes) ≡ Next next → IsLawful next
+record_lawful state next branch name changes lawful e =
     let there = has_branch state next branch _ e in
     let free = passes state next (stands state.branches name) (PatchExists name) _ there.2 in
     let small = passes state next (is_too_large there.0 changes) TooLarge _ free.1 in
+    let sized = sized_of there.0 changes small.0 in
     let from = has_tree state next (tree_of there.0) _ _ small.1 in
     let on = leads_on state next branch (there.0 ++ recorded name 1 changes) _ from.2 in
     let own = lawful_branch state lawful branch there.0 there.1 in
@@ -114,15 +115,15 @@ obliterate_lawful state next branch names lawful e =
     subst IsLawful same (with_lawful state branch other.0 lawful.changes_of lawful lawful.lawful new)
 
 pub steps_lawful : StepsKeepLawful
-steps_lawful state (call.Branch new from) next is lawful e = branch_lawful state next new from lawful e
-steps_lawful state (call.Record branch name changes) next is lawful e =
-    record_lawful state next branch name changes is lawful e
-steps_lawful state (call.Pull from to names) next is lawful e = pull_lawful state next from to names lawful e
-steps_lawful state (call.Obliterate branch names) next is lawful e = obliterate_lawful state next branch names lawful e
-steps_lawful state (call.Tree branch) next is lawful e = absurd (accepted_calls state (call.Tree branch) next lawful e)
-steps_lawful state (call.Conflicts branch) next is lawful e =
+steps_lawful state (call.Branch new from) next lawful e = branch_lawful state next new from lawful e
+steps_lawful state (call.Record branch name changes) next lawful e =
+    record_lawful state next branch name changes lawful e
+steps_lawful state (call.Pull from to names) next lawful e = pull_lawful state next from to names lawful e
+steps_lawful state (call.Obliterate branch names) next lawful e = obliterate_lawful state next branch names lawful e
+steps_lawful state (call.Tree branch) next lawful e = absurd (accepted_calls state (call.Tree branch) next lawful e)
+steps_lawful state (call.Conflicts branch) next lawful e =
     absurd (accepted_calls state (call.Conflicts branch) next lawful e)
-steps_lawful state (call.Names branch) next is lawful e = absurd (accepted_calls state (call.Names branch) next lawful e)
+steps_lawful state (call.Names branch) next lawful e = absurd (accepted_calls state (call.Names branch) next lawful e)
 
 -- a lawful state answers with trees
 pub trees_answered : TreesAreAnswered

@@ -1,6 +1,5 @@
 -- The laws of what calls come to.
 use Rattle.std.specs.Prelude.{◌≡◌, ◌≢◌, ℕ, ◌+◌, List, [], ◌∷◌, ◌++◌, length, Option, Some, filter}
-use Rattle.std.specs.List.{AllByRecursion}
 use Rattle.camp_base.specs.Trees.{Files}
 use Rattle.camp_prim.specs.declared.primitives.Primitive.{Primitive}
 use Rattle.camp_catch.specs.declared.catches.Catch.{Catch}
@@ -9,7 +8,6 @@ use Rattle.camp_branch.specs.Laws.{AppliesEach}
 use Rattle.camp_branch.specs.Obliterating.{ObliterateGives, other_names}
 use Rattle.camp_branch.specs.Pulling.{PullGives}
 use Rattle.camp_branch.specs.Conflicting.{AreConflicts}
-use Rattle.camp_call.specs.Calls.{IsCall}
 use Rattle.camp_call.specs.declared.calls.Call.{Call}
 use Rattle.camp_call.specs.declared.calls.Call.TheVariants as call
 use Rattle.camp_call.specs.declared.replies.Reply.TheVariants as reply
@@ -97,7 +95,7 @@ InitialIsLawful = IsLawful initial
 -- from a lawful state each accepted call leads to a lawful one
 abbrev pub StepsKeepLawful : Type 0
 StepsKeepLawful =
-    (state : Contents) (call : Call) (next : Contents) → IsCall call → IsLawful state → step state call ≡ Next next →
+    (state : Contents) (call : Call) (next : Contents) → IsLawful state → step state call ≡ Next next →
     IsLawful next
 
 -- each branch of a lawful state has a tree: that which its catches lead to, and with which the question for it is
@@ -108,21 +106,16 @@ TreesAreAnswered =
     (tree : Files) × LeadsTo catches tree × (tree_of catches ≡ Some tree)
     × (step state (call.Tree branch) ≡ Answer (reply.Tree tree))
 
--- each call of a history is one: a record has 1 to 64 changes
-abbrev pub HasCalls : List (ℕ × Call) → Type 0
-HasCalls history = AllByRecursion (λ entry. IsCall entry.1) history
-
--- every legal history of calls leads to a lawful state
+-- every legal history leads to a lawful state
 abbrev pub HistoriesAreLawful : Type 0
 HistoriesAreLawful =
-    (history : List (ℕ × Call)) (state : Contents) → HasCalls history → replay repository history ≡ Some state →
-    IsLawful state
+    (history : List (ℕ × Call)) (state : Contents) → replay repository history ≡ Some state → IsLawful state
 
--- after a legal history of calls each branch has a tree: the effects of its catches, in their order, applied to the
+-- after a legal history each branch has a tree: the effects of its catches, in their order, applied to the
 -- empty tree; with it the question for the tree is answered
 abbrev pub HistoriesTellTrees : Type 0
 HistoriesTellTrees =
-    (history : List (ℕ × Call)) (state : Contents) (branch : List ℕ) (catches : List Catch) → HasCalls history
+    (history : List (ℕ × Call)) (state : Contents) (branch : List ℕ) (catches : List Catch)
     → replay repository history ≡ Some state → Has state branch catches →
     (tree : Files) × LeadsTo catches tree × (tree_of catches ≡ Some tree)
     × (step state (call.Tree branch) ≡ Answer (reply.Tree tree))

@@ -1,5 +1,5 @@
 -- What a call comes to, by the tests of its kind in their order: the first that fails decides.
-use Rattle.std.specs.Prelude.{ℕ, ◌+◌, Bool, true, false, not, ◌||◌, nat_le, nat_lt, if◌then◌else◌, List, [], ◌∷◌, ◌++◌}
+use Rattle.std.specs.Prelude.{ℕ, ◌+◌, Bool, true, false, not, ◌&&◌, ◌||◌, nat_le, nat_lt, if◌then◌else◌, List, [], ◌∷◌, ◌++◌}
 use Rattle.std.specs.Prelude.{length, filter, Option, None, Some, Result, Ok, Err, bytes_eq, is_some}
 use Rattle.std.specs.Option.{option_map_or}
 use Rattle.std.specs.List.{list_any}
@@ -96,9 +96,15 @@ abbrev pub record_leads : Contents → List ℕ → List Catch → Result Files 
 record_leads state branch catches (Ok tree) = accepted state (with_catches state.branches branch catches)
 record_leads state branch catches (Err refusal) = refused refusal
 
--- whether a record is too large for a branch: it would have more than 4,096 catches, or a side of a hunk is too long
+-- whether there are as many changes as a patch may have, as there are in each record that a program holds
+abbrev pub is_patch_sized : List Primitive → Bool
+is_patch_sized changes = nat_le 1 (length changes) && nat_le (length changes) 64
+
+-- whether a record is too large for a branch: it would have more than 4,096 catches, or a side of a hunk is too long;
+-- or it has not the size of a patch, which no program comes to
 abbrev pub is_too_large : List Catch → List Primitive → Bool
-is_too_large catches changes = nat_lt 4_096 (length catches + length changes) || list_any has_long_side changes
+is_too_large catches changes =
+    nat_lt 4_096 (length catches + length changes) || (list_any has_long_side changes || not (is_patch_sized changes))
 
 -- a patch is appended to a branch, whole or not at all
 abbrev pub step_record : Contents → List ℕ → List ℕ → List Primitive → Decision

@@ -18,12 +18,12 @@ pub fn accepted_calls_have_effect()
     ensures { AcceptedCallsHaveEffect }
 {}
 
-/// Every legal history of calls leads to a lawful state.
+/// Every legal history leads to a lawful state.
 pub fn histories_are_lawful()
     ensures { HistoriesAreLawful }
 {}
 
-/// After every legal history of calls, the tree of a branch is the effects of its catches applied to
+/// After every legal history, the tree of a branch is the effects of its catches applied to
 /// the empty tree, and the question for it is answered with that tree.
 pub fn histories_tell_trees()
     ensures { HistoriesTellTrees }

@@ -1,5 +1,6 @@
 ghost use Rattle.std.specs.Prelude.{◌≡◌, IfOk};
 ghost use Rattle.std.specs.List.{list_any};
+ghost use Rattle.camp_call.specs.Patches.{IsPatchSized};
 ghost use Rattle.camp_repo.specs.Steps.{changed, has_long_file, has_long_side, is_too_large};
 
 use crate::{Branch, MAX_CATCHES, MAX_FILE_LINES, MAX_SIDE_LINES, Refusal};
@@ -9,6 +10,7 @@ use std::alloc::AllocError;
 
 /// Whether a record is too large for a branch.
 pub(crate) fn is_too_large(branch: &Branch, changes: &[Primitive]) -> bool
+    requires { IsPatchSized changes.now }
     ensures { result ≡ is_too_large branch.now changes.now }
 {
     branch.catches().len().saturating_add(changes.len()) > MAX_CATCHES || has_long_side(changes)

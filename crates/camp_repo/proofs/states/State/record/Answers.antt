@@ -34,7 +34,7 @@ with_branch_at-requires-clause-lawful c =
     let led = sym c.in-Ok.is ∙ c.in_ok-tree.ensures ∙ ap (λ cs. changed cs c.tree.result.now) c.prims-2.ensures.value in
     let new_is = c.in_ok-new.ensures ∙ ap (λ cs. c.in-Some.old.now ++ recorded c.args.name.now 1 cs) c.prims-3.ensures.value in
     subst (λ b. IsLawful (after c.args.self.now (placed c.args.self.now.branches c.in-Some.place b))) (sym new_is)
-    (record_keeps c.args.self.now c.args.branch.now c.args.name.now c.args.changes.now c.in-Some.old.now c.tree.result.now c.in-Ok.tree c.in-Some.place has free small c.tree.ensures led c.in-Some.ensures.placed c.prims.ensures.sized c.in-Some.ensures.lawful)
+    (record_keeps c.args.self.now c.args.branch.now c.args.name.now c.args.changes.now c.in-Some.old.now c.tree.result.now c.in-Ok.tree c.in-Some.place has free small c.tree.ensures led c.in-Some.ensures.placed c.in-Some.ensures.lawful)
 
 pub returns-clause-exact : goal.returns-clause-exact
 returns-clause-exact c =
