@@ -66,3 +66,23 @@ awk 'BEGIN {
 }' >"$folder/wanted.out"
 run "$folder/script"
 expect 'ends: answers of 48,000,000 bytes'
+
+# Address spaces of ten sizes, with and without threads: the answers of ample memory and status 0, or no answer
+# and status 3. The answers are sorted, since only the numbers behind ok tell the order of threads.
+for script in examples/readme.camp examples/clients.camp; do
+    for flags in --serial --tries=1000; do
+        run "$script" "$flags"
+        sort "$folder/out" >"$folder/ample"
+        for size in 8000 10000 12000 14000 16000 20000 24000 32000 64000 1000000; do
+            (ulimit -v $size && exec "$camp" $flags <"$script" >"$folder/unsorted" 2>"$folder/err")
+            echo $? >"$folder/status"
+            sort "$folder/unsorted" >"$folder/out"
+            want 3 'out of memory'
+            if [ "$(cat "$folder/status")" -eq 0 ]; then
+                want 0 ''
+                cp "$folder/ample" "$folder/wanted.out"
+            fi
+            expect "ends: an address space of $size kilobytes, $script $flags"
+        done
+    done
+done

@@ -1,11 +1,13 @@
-//! Readers and writers that give or take a few bytes a call, are interrupted, and fail.
+//! Readers and writers that give or take a few bytes a call, are interrupted, and fail, at each of the runs.
 
-use camp_run::{RunFault, run_book};
+use camp_run::{NoGate, RunFault, run_book, run_head, run_locked};
 use std::alloc::Global;
 use std::io;
 use std::io::{ErrorKind, Read, Write};
 use std::process::Abort;
+use std::sync::Wait;
 use std::test::Fail;
+use std::thread::Threads;
 
 const SCRIPT: &[u8] = b"record main a add f\nrecord main b edit f 1\n+one\nend\ntree main\n";
 
@@ -90,10 +92,36 @@ impl Write for Writer {
     }
 }
 
-/// Checks what comes of a reader, and what is written; answers how many reads it served.
-fn assert_read(
-    rt: &impl Abort,
+/// The ways in which a script is run.
+#[derive(Clone, Copy)]
+enum Way {
+    Book,
+    Locked,
+    Head,
+}
+
+const WAYS: [Way; 3] = [Way::Book, Way::Locked, Way::Head];
+
+/// Runs a script one way.
+fn run<T: Threads + Wait + Sync, R: Read, W: Write>(
+    rt: &T,
     alloc: Global,
+    way: Way,
+    reader: &mut R,
+    writer: &mut W,
+) -> Result<(), RunFault> {
+    match way {
+        Way::Book => run_book(alloc, reader, writer, false),
+        Way::Locked => run_locked(rt, alloc, reader, writer, false),
+        Way::Head => run_head(rt, alloc, reader, writer, false, 10, &NoGate),
+    }
+}
+
+/// Checks what comes of a reader, and what is written; answers how many reads it served.
+fn assert_read<T: Abort + Threads + Wait + Sync>(
+    rt: &T,
+    alloc: Global,
+    way: Way,
     service: Service,
     expected: Result<(), RunFault>,
     answers: &[u8],
@@ -103,16 +131,17 @@ fn assert_read(
         calls: Calls::new(service),
     };
     let mut written = Vec::new(alloc);
-    let result = run_book(alloc, &mut reader, &mut written, false);
+    let result = run(rt, alloc, way, &mut reader, &mut written);
     assert_eq!(rt; result, expected);
     assert_eq!(rt; written.as_slice(), answers);
     reader.calls.count
 }
 
 /// Checks what comes of a writer, and what it takes; answers how many writes it served.
-fn assert_written(
-    rt: &impl Abort,
+fn assert_written<T: Abort + Threads + Wait + Sync>(
+    rt: &T,
     alloc: Global,
+    way: Way,
     service: Service,
     expected: Result<(), RunFault>,
     taken: &[u8],
@@ -122,7 +151,7 @@ fn assert_written(
         taken: Vec::new(alloc),
         calls: Calls::new(service),
     };
-    let result = run_book(alloc, &mut reader, &mut writer, false);
+    let result = run(rt, alloc, way, &mut reader, &mut writer);
     assert_eq!(rt; result, expected);
     assert_eq!(rt; writer.taken.as_slice(), taken);
     writer.calls.count
@@ -138,72 +167,96 @@ fn ample(size: usize) -> Service {
     }
 }
 
+/// A reader that fails at each of its reads in turn, and behind the last.
+fn assert_failing_reads<T: Abort + Threads + Wait + Sync>(
+    rt: &T,
+    alloc: Global,
+    way: Way,
+    service: Service,
+) {
+    let reads = assert_read(rt, alloc, way, service, Ok(()), ANSWERS);
+    assert!(rt; reads.saturating_mul(service.size) >= SCRIPT.len());
+    for served in 0..reads {
+        for kind in [ErrorKind::BrokenPipe, ErrorKind::TimedOut] {
+            let failing = Service {
+                served,
+                last: Some(kind),
+                ..service
+            };
+            assert_read(rt, alloc, way, failing, Err(RunFault::Read), b"");
+        }
+    }
+    let failing_behind_the_end = Service {
+        served: reads,
+        last: Some(ErrorKind::BrokenPipe),
+        ..service
+    };
+    assert_read(rt, alloc, way, failing_behind_the_end, Ok(()), ANSWERS);
+}
+
+/// A writer that takes nothing more at each of its writes in turn, or fails there.
+fn assert_failing_writes<T: Abort + Threads + Wait + Sync>(
+    rt: &T,
+    alloc: Global,
+    way: Way,
+    service: Service,
+    writes: usize,
+) -> Result<(), Fail> {
+    let count = assert_written(rt, alloc, way, service, Ok(()), ANSWERS);
+    assert_eq!(rt; count, writes);
+    for served in 0..writes {
+        let front = ANSWERS
+            .get(..served.saturating_mul(service.size))
+            .ok_or("the answers are shorter")?;
+        for last in [
+            None,
+            Some(ErrorKind::BrokenPipe),
+            Some(ErrorKind::OutOfMemory),
+        ] {
+            let failing = Service {
+                served,
+                last,
+                ..service
+            };
+            assert_written(rt, alloc, way, failing, Err(RunFault::Write), front);
+        }
+    }
+    Ok(())
+}
+
 #[test]
 fn nothing_is_written_where_a_read_fails(rt: HostRuntime) {
     let alloc = rt.alloc();
-    for (size, interruptions) in [(1, 0), (7, 0), (62, 0), (1, 1), (20, 3), (100, 2_000)] {
-        let service = Service {
-            interruptions,
-            ..ample(size)
-        };
-        let reads = assert_read(&rt, alloc, service, Ok(()), ANSWERS);
-        assert!(rt; reads.saturating_mul(size) >= SCRIPT.len());
-        for served in 0..reads {
-            for kind in [ErrorKind::BrokenPipe, ErrorKind::TimedOut] {
-                let failing = Service {
-                    served,
-                    last: Some(kind),
-                    ..service
-                };
-                assert_read(&rt, alloc, failing, Err(RunFault::Read), b"");
-            }
+    for way in WAYS {
+        for (size, interruptions) in [(1, 0), (7, 0), (62, 0), (1, 1), (20, 3), (100, 2_000)] {
+            let service = Service {
+                interruptions,
+                ..ample(size)
+            };
+            assert_failing_reads(&rt, alloc, way, service);
         }
-        let failing_behind_the_end = Service {
-            served: reads,
-            last: Some(ErrorKind::BrokenPipe),
-            ..service
-        };
-        assert_read(&rt, alloc, failing_behind_the_end, Ok(()), ANSWERS);
     }
 }
 
 #[test]
 fn a_front_is_written_where_a_write_fails(rt: HostRuntime) -> Result<(), Fail> {
     let alloc = rt.alloc();
-    for (size, interruptions, writes) in [
-        (1, 0, 31),
-        (4, 0, 8),
-        (30, 0, 2),
-        (31, 0, 1),
-        (40, 0, 1),
-        (1, 1, 31),
-        (4, 3, 8),
-        (40, 2_000, 1),
-    ] {
-        let service = Service {
-            interruptions,
-            ..ample(size)
-        };
-        assert_eq!(rt;
-            assert_written(&rt, alloc, service, Ok(()), ANSWERS),
-            writes
-        );
-        for served in 0..writes {
-            let front = ANSWERS
-                .get(..served.saturating_mul(size))
-                .ok_or("the answers are shorter")?;
-            for last in [
-                None,
-                Some(ErrorKind::BrokenPipe),
-                Some(ErrorKind::OutOfMemory),
-            ] {
-                let failing = Service {
-                    served,
-                    last,
-                    ..service
-                };
-                assert_written(&rt, alloc, failing, Err(RunFault::Write), front);
-            }
+    for way in WAYS {
+        for (size, interruptions, writes) in [
+            (1, 0, 31),
+            (4, 0, 8),
+            (30, 0, 2),
+            (31, 0, 1),
+            (40, 0, 1),
+            (1, 1, 31),
+            (4, 3, 8),
+            (40, 2_000, 1),
+        ] {
+            let service = Service {
+                interruptions,
+                ..ample(size)
+            };
+            assert_failing_writes(&rt, alloc, way, service, writes)?;
         }
     }
     Ok(())

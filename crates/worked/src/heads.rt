@@ -112,6 +112,29 @@ fn seen_text(alloc: Global, seen: Seen) -> Result<String, AllocError> {
     format!(in alloc; "position {position} accepted {accepted}\n")
 }
 
+/// Tells how many versions a seat has adopted.
+pub(crate) fn tell_adopted(
+    alloc: Global,
+    seating: &Seating,
+    number: u32,
+    text: &mut Vec<u8>,
+    wants: &mut Wants,
+) -> Result<(), PlayFault> {
+    let adopted = seating.adopted(number)?;
+    let words = match adopted_text(alloc, adopted) {
+        Ok(words) => words,
+        Err(_) => {
+            wants.note();
+            adopted_text(alloc, adopted)?
+        }
+    };
+    append_again(text, words.as_bytes(), wants)
+}
+
+fn adopted_text(alloc: Global, adopted: u32) -> Result<String, AllocError> {
+    format!(in alloc; "adopted {adopted}\n")
+}
+
 /// Tells what a seat has seen, call by call.
 pub(crate) fn tell_history(
     seating: &Seating,

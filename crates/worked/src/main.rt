@@ -13,6 +13,7 @@
 //! | `SEAT COMMAND`, `repeat COUNT SEAT COMMAND` | a command of scripts, with its body below it |
 //! | `history`, `history SEAT` | the accepted calls of the book, or what a seat has seen |
 //! | `seen SEAT`, `meet SEAT SEAT` | how much a seat has seen; the first seat meets the second |
+//! | `adopted SEAT` | how many versions the seat has adopted |
 //! | `run book`, `run locked`, `run head` | the script below, up to an empty line |
 //!
 //! The notation is that of `camp_notation`. A call that wants memory is made again, where its arguments

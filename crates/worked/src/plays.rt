@@ -27,7 +27,7 @@ pub(crate) fn is_play(line: &[u8]) -> bool {
     };
     matches!(
         word,
-        b"book" | b"head" | b"history" | b"meet" | b"seen" | b"run"
+        b"book" | b"head" | b"history" | b"meet" | b"seen" | b"adopted" | b"run"
     ) || is_command(line)
 }
 
@@ -105,6 +105,7 @@ impl Stage {
             b"history" => self.tell_history(rest, text, wants),
             b"meet" => self.meet(rest, text, wants),
             b"seen" => heads::tell_seen(alloc, self.seating()?, number(rest)?, text, wants),
+            b"adopted" => heads::tell_adopted(alloc, self.seating()?, number(rest)?, text, wants),
             _ => Err(NO_LINE),
         }
     }

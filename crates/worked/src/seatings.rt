@@ -36,6 +36,14 @@ impl Seating {
         }
     }
 
+    /// How many versions a seat has adopted.
+    pub(crate) fn adopted(&self, number: u32) -> Result<u32, PlayFault> {
+        match find(&self.seats, number) {
+            Some(at) => Ok(self.seats[at].adopted()),
+            None => Err(NO_SEAT),
+        }
+    }
+
     /// Keeps a call and asks it at a seat.
     pub(crate) fn ask<R: Wait>(
         &mut self,
