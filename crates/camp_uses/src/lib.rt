@@ -5,6 +5,7 @@ pub mod branches;
 pub mod calls;
 pub mod catches;
 pub mod examples;
+pub mod heads;
 pub mod lists;
 pub mod patches;
 pub mod repositories;

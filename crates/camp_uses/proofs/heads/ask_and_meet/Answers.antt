@@ -1,0 +1,10 @@
+use Rattle.std.proofs.Common.{OnOk, sym, subst}
+use Rattle.camp_object.specs.Histories.{IsFront}
+use Rattle.camp_history.specs.Seats.{history_of}
+use Rattle.camp_uses.proofs.heads.ask_and_meet.Goals as goal
+
+-- src/heads.rt:46:1
+pub returns-clause-one_history : goal.returns-clause-one_history
+returns-clause-one_history c =
+    let met = c.meet-first.ensures.meets in
+    subst (λ seen. OnOk c.meet-first.result.2 (IsFront seen (history_of c.meet-first.result.0))) (sym met.b_seen) met.b_front

@@ -1,0 +1,30 @@
+-- What callers at the seats of one head conclude.
+use Rattle.std.specs.Prelude.{◌≡◌, ℕ, List, [], ◌∷◌, ◌++◌, Some, Result, Ok, Err}
+use Rattle.camp_base.specs.Trees.{Files}
+use Rattle.camp_catch.specs.declared.catches.Catch.{Catch}
+use Rattle.camp_branch.specs.Branches.{LeadsTo}
+use Rattle.camp_call.specs.declared.calls.Call.{Call}
+use Rattle.camp_call.specs.declared.replies.Reply.{Reply}
+use Rattle.camp_call.specs.declared.replies.Reply.TheVariants.{Done, Refused, Tree, Conflicts, Names}
+use Rattle.camp_object.specs.Histories.{replay}
+use Rattle.camp_object.specs.declared.faults.Fault.{Fault}
+use Rattle.camp_repo.specs.Laws.{Has}
+use Rattle.camp_repo.specs.Objects.{repository}
+use Rattle.camp_repo.specs.States.{Contents}
+
+-- after a history a branch has this tree: the effects of its catches, in their order, applied to no files
+pub record HoldsTree (history : List (ℕ × Call)) (branch : List ℕ) (tree : Files) : Type 0 where
+  pub state : Contents
+  pub replays : replay repository history ≡ Some state
+  pub catches : List Catch
+  pub has : Has state branch catches
+  pub leads : LeadsTo catches tree
+
+-- a caller's calls: one more where it was told a number, and else as before
+abbrev pub Grows : List Call → Call → Result Reply Fault → List Call → Type 0
+Grows old call (Ok (Done at)) new = new ≡ old ++ call ∷ []
+Grows old call (Ok (Refused refusal)) new = new ≡ old
+Grows old call (Ok (Tree tree)) new = new ≡ old
+Grows old call (Ok (Conflicts conflicts)) new = new ≡ old
+Grows old call (Ok (Names names)) new = new ≡ old
+Grows old call (Err fault) new = new ≡ old

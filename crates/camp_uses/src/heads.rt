@@ -1,0 +1,65 @@
+//! Callers of `camp_head`: one repository, at several seats.
+ghost use Rattle.std.specs.Prelude.{IfOk, IfSome, OnOk};
+ghost use Rattle.camp_object.specs.Histories.{IsFront, own};
+ghost use Rattle.camp_history.specs.Kept.{IsKeptBy};
+ghost use Rattle.camp_history.specs.Seats.{IsSeatOf, history_of};
+ghost use Rattle.camp_uses.specs.Shared.{Grows, HoldsTree};
+
+use camp_base::{Name, Tree};
+use camp_head::{Fault, Head, Kept, Seat};
+use camp_repo::{Call, Reply, histories_tell_trees};
+use std::sync::Wait;
+
+/// What became of two seats: each as it is now, with the answer to its call.
+#[derive(Drop)]
+pub struct Met {
+    pub first: Seat,
+    pub second: Seat,
+    pub first_answer: Result<Reply, Fault>,
+    pub second_answer: Result<Reply, Fault>,
+    pub met: Result<(), Fault>,
+}
+
+/// Asks for the tree of a branch. What is answered is the effects of the branch's catches, applied to no
+/// files, at the end of the one history that the seat has seen by then.
+pub fn tree_at(
+    rt: &impl Wait,
+    head: &Head,
+    seat: &mut Seat,
+    branch: &Name,
+) -> Result<Option<Tree>, Fault>
+    requires { IsSeatOf head.now seat.old }
+    ensures seat { IsSeatOf head.now seat.new }
+    ensures grows { IsFront (history_of seat.old) (history_of seat.new) }
+    ensures tree { IfOk result (λ found. IfSome found (HoldsTree (history_of seat.new) branch.now)) }
+{
+    histories_tell_trees();
+    let kept = head.keep(rt, &Call::Tree(*branch))?;
+    match head.ask(seat, kept)? {
+        Reply::Tree(tree) => Ok(Some(tree)),
+        _ => Ok(None),
+    }
+}
+
+/// Asks a call at each of two seats, and brings the first to what the second has seen. Each has its own
+/// calls as it was told, and then the first has seen what the second has.
+pub fn ask_and_meet(head: &Head, first: Seat, second: Seat, one: Kept, two: Kept) -> Met
+    requires seats { IsSeatOf head.now first × IsSeatOf head.now second }
+    requires kept { IsKeptBy head.now one × IsKeptBy head.now two }
+    ensures first { Grows (own first.known.number (history_of first)) one.call result.first_answer (own first.known.number (history_of result.first)) }
+    ensures second { Grows (own second.known.number (history_of second)) two.call result.second_answer (own second.known.number (history_of result.second)) }
+    ensures one_history { OnOk result.met (IsFront (history_of result.second) (history_of result.first)) }
+{
+    let mut first = first;
+    let mut second = second;
+    let first_answer = head.ask(&mut first, one);
+    let second_answer = head.ask(&mut second, two);
+    let (first, second, met) = head.meet(first, second);
+    Met {
+        first,
+        second,
+        first_answer,
+        second_answer,
+        met,
+    }
+}
