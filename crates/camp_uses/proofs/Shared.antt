@@ -50,5 +50,5 @@ holds law history branch tree answered =
       replays = answered.replays;
       catches = there.0;
       has = there.1;
-      leads = subst (LeadsTo there.0) (same_tree told.0 tree _ told.2.2 answered.gives) told.1;
+      leads = subst (LeadsTo there.0) (same_tree told.0 tree _ told.3 answered.gives) told.1;
     }
