@@ -15,6 +15,7 @@
 //! | `seen SEAT`, `meet SEAT SEAT` | how much a seat has seen; the first seat meets the second |
 //! | `adopted SEAT` | how many versions the seat has adopted |
 //! | `run book`, `run locked`, `run head` | the script below, up to an empty line |
+//! | `run locked ranked`, `run head ranked` | the same, whatever the order of its clients |
 //!
 //! The notation is that of `camp_notation`. A call that wants memory is made again, where its arguments
 //! are as they were. The exit status tells what was wanted: 0 where nothing was, 3 where one line wanted
@@ -44,6 +45,7 @@ mod numbers;
 mod places;
 mod plays;
 mod primitives;
+mod ranks;
 mod results;
 mod runs;
 mod same;

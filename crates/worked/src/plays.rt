@@ -1,7 +1,7 @@
 use crate::commands::{command_of, number};
 use crate::entries::is_command;
 use crate::faults::PlayFault;
-use crate::runs::{append_again, joined, run, way_of};
+use crate::runs::{append_again, joined, run, run_of};
 use crate::seatings::Seating;
 use crate::wants::Wants;
 use crate::{books, heads};
@@ -66,8 +66,8 @@ impl Stage {
         let Some((first, rest)) = entry.split_first() else {
             return Ok(());
         };
-        if let Some(way) = way_of(first) {
-            return run(rt, alloc, way, rest, text, wants);
+        if let Some(how) = run_of(first) {
+            return run(rt, alloc, how, rest, text, wants);
         }
         if is_command(first) {
             return self.ask(rt, alloc, entry, text, wants);

@@ -1,13 +1,20 @@
 use crate::faults::PlayFault;
+use crate::ranks::ranked;
 use crate::wants::Wants;
 use camp_run::{NoGate, RunFault, run_book, run_head, run_locked};
 use std::alloc::{AllocError, Global};
 use std::sync::Wait;
 use std::thread::Threads;
 
-/// How a script is run.
+/// How a script is run, and whether the numbers that its clients are told are ranked.
 #[derive(Clone, Copy)]
-pub(crate) enum Way {
+pub(crate) struct Manner {
+    way: Way,
+    is_ranked: bool,
+}
+
+#[derive(Clone, Copy)]
+enum Way {
     /// In one thread.
     Book,
     /// In threads over a lock.
@@ -16,8 +23,21 @@ pub(crate) enum Way {
     Head,
 }
 
-/// The way that a line tells.
-pub(crate) fn way_of(line: &[u8]) -> Option<Way> {
+/// The run that a line tells.
+pub(crate) fn run_of(line: &[u8]) -> Option<Manner> {
+    match line.strip_suffix(b" ranked") {
+        Some(line) => Some(Manner {
+            way: way_of(line)?,
+            is_ranked: true,
+        }),
+        None => Some(Manner {
+            way: way_of(line)?,
+            is_ranked: false,
+        }),
+    }
+}
+
+fn way_of(line: &[u8]) -> Option<Way> {
     match line {
         b"run book" => Some(Way::Book),
         b"run locked" => Some(Way::Locked),
@@ -31,19 +51,19 @@ pub(crate) fn way_of(line: &[u8]) -> Option<Way> {
 pub(crate) fn run<R: Threads + Wait + Sync>(
     rt: &R,
     alloc: Global,
-    way: Way,
+    how: Manner,
     lines: &[&[u8]],
     text: &mut Vec<u8>,
     wants: &mut Wants,
 ) -> Result<(), PlayFault> {
     let script = script_again(alloc, lines, wants)?;
     let mut written = Vec::new(alloc);
-    match run_once(rt, alloc, way, &script, &mut written) {
-        Ok(()) => append_again(text, &written, wants),
+    match run_once(rt, alloc, how, &script, &mut written) {
+        Ok(()) => append_told(alloc, how, text, &written, wants),
         Err(RunFault::Memory | RunFault::Write) if written.is_empty() => {
             wants.note();
-            run_once(rt, alloc, way, &script, &mut written)?;
-            append_again(text, &written, wants)
+            run_once(rt, alloc, how, &script, &mut written)?;
+            append_told(alloc, how, text, &written, wants)
         }
         Err(RunFault::Memory) => Err(PlayFault::Wrong("out of memory, and a text")),
         Err(fault) => Err(PlayFault::from(fault)),
@@ -53,15 +73,41 @@ pub(crate) fn run<R: Threads + Wait + Sync>(
 fn run_once<R: Threads + Wait + Sync>(
     rt: &R,
     alloc: Global,
-    way: Way,
+    how: Manner,
     script: &[u8],
     written: &mut Vec<u8>,
 ) -> Result<(), RunFault> {
     let mut reader = script;
-    match way {
-        Way::Book => run_book(alloc, &mut reader, written, true),
-        Way::Locked => run_locked(rt, alloc, &mut reader, written, true),
-        Way::Head => run_head(rt, alloc, &mut reader, written, true, 100, &NoGate),
+    // A history has the order of the threads.
+    let history = !how.is_ranked;
+    match how.way {
+        Way::Book => run_book(alloc, &mut reader, written, history),
+        Way::Locked => run_locked(rt, alloc, &mut reader, written, history),
+        Way::Head => run_head(rt, alloc, &mut reader, written, history, 100, &NoGate),
+    }
+}
+
+fn append_told(
+    alloc: Global,
+    how: Manner,
+    text: &mut Vec<u8>,
+    written: &[u8],
+    wants: &mut Wants,
+) -> Result<(), PlayFault> {
+    if !how.is_ranked {
+        return append_again(text, written, wants);
+    }
+    let told = ranked_again(alloc, written, wants)?;
+    append_again(text, &told, wants)
+}
+
+fn ranked_again(alloc: Global, written: &[u8], wants: &mut Wants) -> Result<Vec<u8>, AllocError> {
+    match ranked(alloc, written) {
+        Ok(told) => Ok(told),
+        Err(_) => {
+            wants.note();
+            ranked(alloc, written)
+        }
     }
 }
 
