@@ -10,7 +10,6 @@ use Rattle.camp_call.specs.declared.calls.Call.{Call}
 use Rattle.camp_call.specs.declared.calls.Call.TheVariants as call
 use Rattle.camp_call.specs.declared.replies.Reply.TheVariants as reply
 use Rattle.camp_object.specs.declared.objects.Decided.TheVariants.{Next, Answer}
-use Rattle.camp_repo.specs.Lawful.{IsLawful}
 use Rattle.camp_repo.specs.Laws.{Effect, Has}
 use Rattle.camp_repo.specs.States.{Branches, Contents, catches_of}
 use Rattle.camp_repo.specs.Steps.{step}

@@ -1,9 +1,7 @@
 -- Names that grow in a set, one at a time.
-use Rattle.std.proofs.Common.{◌≡◌, ◌<◌, ℕ, Bool, true, false, ◌||◌, List, [], ◌∷◌, ◌++◌, filter, length, map, bytes_eq, append-nil, refl, sym, ap, ◌∙◌, subst}
+use Rattle.std.proofs.Common.{◌≡◌, ◌<◌, ℕ, Bool, true, false, ◌||◌, List, [], ◌∷◌, ◌++◌, filter, length, bytes_eq, append-nil, refl, sym, ap, ◌∙◌, subst}
 use Rattle.std.proofs.lemmas.List.{append_assoc}
-use Rattle.std.specs.Cmp.Lexicographic.{slice_cmp}
 use Rattle.std.specs.FinMap.{contains_key, insert, keys}
-use Rattle.std.specs.Ordering.{nat_cmp}
 use Rattle.camp_catch.specs.declared.catches.Catch.{Catch}
 use Rattle.camp_branch.specs.Branches.{is_among, names_of}
 use Rattle.camp_branch.proofs.BranchFields.{Names, contains_more}

@@ -5,7 +5,7 @@ use Rattle.std.proofs.lemmas.List.Folds.{list_any-append}
 use Rattle.camp_catch.specs.declared.catches.Catch.{Catch}
 use Rattle.camp_branch.specs.Branches.{has_patch, is_among, name_of, names_of}
 use Rattle.camp_branch.specs.Laws.{ExactlyOne}
-use Rattle.camp_branch.proofs.Names.{name_itself, or_true, same_name}
+use Rattle.camp_branch.proofs.Names.{name_itself, same_name}
 use Rattle.camp_branch.proofs.NamesKept.{among_kept, among_once}
 use Rattle.camp_repo.proofs.ByMembers.{AreAlike}
 use Rattle.camp_questions.specs.Dependencies.{AreAdded, AreGrown, in_order}

@@ -3,8 +3,7 @@ use Rattle.std.proofs.Common.{◌≡◌, ℕ, Bool, true, false, ◌||◌, List,
 use Rattle.std.proofs.lemmas.List.{map-append}
 use Rattle.std.proofs.lemmas.List.Folds.{list_any-append}
 use Rattle.camp_prim.specs.declared.labels.Key.{Key}
-use Rattle.camp_catch.specs.Arranging.{ArrangeSticks, ComesBefore, IsOf, SticksBehind, StopsAt}
-use Rattle.camp_catch.specs.Catches.{catch_key}
+use Rattle.camp_catch.specs.Arranging.{ArrangeSticks, ComesBefore, SticksBehind, StopsAt}
 use Rattle.camp_catch.specs.declared.catches.Catch.{Catch}
 use Rattle.camp_catch.proofs.KeptLabels.{keep_labels}
 use Rattle.camp_branch.specs.Branches.{is_among, name_of}

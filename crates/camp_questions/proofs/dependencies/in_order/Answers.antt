@@ -5,8 +5,7 @@ use Rattle.std.specs.FinMap.{contains_key}
 use Rattle.std.specs.Ordering.{nat_cmp}
 use Rattle.camp_share.specs.Maps.{map_of}
 use Rattle.camp_branch.proofs.NameSets.{has_listed}
-use Rattle.camp_branch.specs.Branches.{is_among, names_of}
-use Rattle.camp_branch.specs.Fields.{names_in}
+use Rattle.camp_branch.specs.Branches.{names_of}
 use Rattle.camp_questions.proofs.dependencies.in_order.Goals as goal
 
 pub returns : goal.returns
