@@ -1,0 +1,19 @@
+-- Questions that have an answer.
+use Rattle.std.proofs.Common.{◌≡◌, ℕ, List, Result, Ok, Err, IsErrAnd, refl}
+use Rattle.camp_catch.specs.declared.catches.Catch.{Catch}
+use Rattle.camp_repo.specs.States.{Contents}
+use Rattle.camp_questions.specs.Answers.{AnswerOf, Tells}
+use Rattle.camp_questions.specs.Dependencies.{OfNames}
+use Rattle.camp_questions.specs.Inside.Finding.{IsFound}
+use Rattle.camp_questions.specs.declared.faults.Unanswered.{Unanswered}
+use Rattle.camp_questions.specs.declared.faults.Unanswered.TheVariants.{Refused, Memory}
+
+-- there is the branch, and it has the patches
+pub are_related : (Relates : List Catch → List (List ℕ) → List (List ℕ) → Type 0) (state : Contents) (branch : List ℕ) (names : List (List ℕ)) (catches : List Catch) (related : List (List ℕ)) → IsFound state branch names catches → Relates catches names related → OfNames Relates state branch names (Ok related)
+are_related Relates state branch names catches related found w = rw found.is (rw found.has (related, refl, w))
+
+-- memory ran out where there is an answer
+pub memory_told : {A : Type 0} (ComesTo : AnswerOf A → Type 0) (result : Result A Unanswered) (answer : A) → IsErrAnd result (λ why. why ≡ Memory) → ComesTo (Ok answer) → Tells ComesTo result
+memory_told ComesTo (Ok other) answer is w = absurd is
+memory_told ComesTo (Err (Refused refusal)) answer is w = cc
+memory_told ComesTo (Err Memory) answer is w = (answer, w)

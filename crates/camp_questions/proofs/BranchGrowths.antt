@@ -1,0 +1,127 @@
+-- Names that grow until they come to the front of a branch, or until they can be taken out of it.
+use Rattle.std.proofs.Common.{◌≡◌, ◌≢◌, ℕ, Bool, true, false, true≢false, not, cond, ◌&&◌, ◌||◌, List, [], ◌∷◌, ◌++◌, map, None, Some, Ok, Err, bytes_eq, refl, sym, ap, ◌∙◌, inl, inr}
+use Rattle.std.specs.Prelude.{◌↔◌, Contains}
+use Rattle.camp_prim.specs.declared.labels.Key.{Key}
+use Rattle.camp_catch.specs.declared.catches.Catch.{Catch}
+use Rattle.camp_catch.proofs.ListResults.{arrange_by_members, lists_are_unique, lists_succeed_or_stick}
+use Rattle.camp_branch.specs.Branches.{has_patch, is_among, name_of}
+use Rattle.camp_branch.specs.Obliterating.{other_names}
+use Rattle.camp_branch.specs.Pulling.{Outcome}
+use Rattle.camp_branch.specs.declared.faults.Blocked.TheVariants.{Depends}
+use Rattle.camp_branch.proofs.Names.{is_among_is, name_itself, or_true, same_name}
+use Rattle.camp_branch.proofs.NamesKept.{among_others}
+use Rattle.camp_branch.proofs.OutcomesDetermined.{outcomes_are_determined}
+use Rattle.camp_call.specs.declared.calls.Call.TheVariants as call
+use Rattle.camp_object.specs.declared.objects.Decided.TheVariants.{Next}
+use Rattle.camp_repo.specs.Laws.{Has}
+use Rattle.camp_repo.specs.States.{Contents, after, with_catches}
+use Rattle.camp_repo.specs.Steps.{first_lacked, is_empty, step}
+use Rattle.camp_repo.proofs.ByMembers.{AreAlike, obliterate_alike}
+use Rattle.camp_questions.specs.Dependencies.{AreHeldIn, CanGo, ComeToFront, StickOn}
+use Rattle.camp_questions.specs.Laws.{AreAmong, HeldCanGo, HeldIsDetermined, NeedsAreDetermined, NeedsComeFirst}
+use Rattle.camp_questions.proofs.Growths.{Grow, grew, grows_to_one, in_order_there}
+use Rattle.camp_questions.proofs.Stuck.{sticks_between}
+
+contains_alike : (names others : List (List ℕ)) → AreAlike names others → (n : List ℕ) → Contains names n ↔ Contains others n
+contains_alike names others alike n =
+    (λ c. (is_among_is others n).1 (sym (alike n) ∙ (is_among_is names n).0 c), λ c. (is_among_is names n).1 (alike n ∙ (is_among_is others n).0 c))
+
+-- patches come to the front, or stick
+pub to_front : (branch : List Catch) → Grow (map name_of branch) (ComeToFront branch) (StickOn branch)
+to_front branch = record {
+  either = λ names. elim (lists_succeed_or_stick.arranges names branch).0 [
+    | inl w ↦ inl w
+    | inr w ↦ inr (w.1.name, (w.0, w.1, w.2, refl))
+  ];
+  apart = λ names name done stop. (lists_succeed_or_stick.arranges names branch).1 done (stop.0, stop.1, stop.2);
+  one = λ names name other v w. v.3 ∙ ap (λ (key : Key). key.name) (lists_are_unique.arrange_sticks names branch v.0 w.0 v.1 w.1 v.2 w.2).1 ∙ sym w.3;
+  has = λ names name stop. ap (is_among (map name_of branch)) stop.3 ∙ (sticks_between names branch stop.0 stop.1 stop.2).0.0;
+  lacks = λ names name stop. ap (is_among names) stop.3 ∙ (sticks_between names branch stop.0 stop.1 stop.2).0.1;
+  done_alike = λ names others alike done. (done.0, done.1, arrange_by_members.arranged names others (contains_alike names others alike) branch done.0 done.1 done.2);
+  stops_alike = λ names others name alike stop. (stop.0, stop.1, arrange_by_members.sticks names others (contains_alike names others alike) branch stop.0 stop.1 stop.2, stop.3);
+}
+
+apart_outcomes : {A : Type 0} (branch : List Catch) (name on : List ℕ) (outcome : Outcome) → outcome ≡ Ok branch → outcome ≡ Err (Depends name on) → A
+apart_outcomes branch name on outcome e f = cc
+
+same_patch : (name other on off : List ℕ) (outcome : Outcome) → outcome ≡ Err (Depends name on) → outcome ≡ Err (Depends other off) → name ≡ other
+same_patch name other on off outcome e f = cc
+
+both_true : (a b : Bool) → (a && not b) ≡ true → (a ≡ true) × (b ≡ false)
+both_true true true e = cc
+both_true true false e = (refl, refl)
+both_true false b e = cc
+
+-- the patch that depends on those that are to go is one of the others
+held_in : (branch : List Catch) (names : List (List ℕ)) (name : List ℕ) → AreHeldIn branch names name → (has_patch branch name ≡ true) × (is_among names name ≡ false)
+held_in branch names name held = elim held.1 [
+  | inl w ↦ apart_outcomes w.0 name held.0 (Err (Depends name held.0)) w.3 refl
+  | inr w ↦
+      let between = sticks_between (other_names branch names) branch w.0 w.1 w.2 in
+      let called : name ≡ w.0.name = same_patch name w.0.name held.0 w.1.name (Err (Depends name held.0)) refl w.3 in
+      both_true (has_patch branch name) (is_among names name) (sym (among_others branch names name) ∙ ap (is_among (other_names branch names)) called ∙ between.2)
+]
+
+-- patches can be taken out, or are held
+pub to_go : (branch : List Catch) → Grow (map name_of branch) (CanGo branch) (AreHeldIn branch)
+to_go branch = record {
+  either = λ names. elim (lists_succeed_or_stick.arranges (other_names branch names) branch).0 [
+    | inl w ↦ inl (w.0, inl (w.0, w.1, w.2, refl))
+    | inr w ↦ inr (w.0.name, (w.1.name, inr (w.0, w.1, w.2, refl)))
+  ];
+  apart = λ names name done stop.
+      let one = outcomes_are_determined.obliterates branch names in
+      apart_outcomes done.0 name stop.0 one.0 (sym (one.2 (Ok done.0) done.1)) (sym (one.2 (Err (Depends name stop.0)) stop.1));
+  one = λ names name other v w.
+      let one = outcomes_are_determined.obliterates branch names in
+      same_patch name other v.0 w.0 one.0 (sym (one.2 (Err (Depends name v.0)) v.1)) (sym (one.2 (Err (Depends other w.0)) w.1));
+  has = λ names name stop. (held_in branch names name stop).0;
+  lacks = λ names name stop. (held_in branch names name stop).1;
+  done_alike = λ names others alike done. (done.0, obliterate_alike names others alike branch (Ok done.0) done.1);
+  stops_alike = λ names others name alike stop. (stop.0, obliterate_alike names others alike branch (Err (Depends name stop.0)) stop.1);
+}
+
+has_at : (branch : List Catch) (n : List ℕ) (names : List (List ℕ)) (name : List ℕ) (b c : Bool) → has_patch branch n ≡ b → cond b (first_lacked branch names) (Some n) ≡ None → bytes_eq name n ≡ c → (c || is_among names name) ≡ true → (first_lacked branch names ≡ None → is_among names name ≡ true → has_patch branch name ≡ true) → has_patch branch name ≡ true
+has_at branch n names name true true has none same there rest = ap (has_patch branch) (same_name name n same) ∙ has
+has_at branch n names name true false has none other there rest = rest none there
+has_at branch n names name false c has none same there rest = cc
+
+-- a branch has the patches of names of which it lacks none
+pub none_lacked_among : (branch : List Catch) (names : List (List ℕ)) → first_lacked branch names ≡ None → AreAmong names (map name_of branch)
+none_lacked_among branch [] e name there = absurd (true≢false (sym there))
+none_lacked_among branch (n ∷ names) e name there =
+    has_at branch n names name (has_patch branch n) (bytes_eq name n) refl e refl there (λ none more. none_lacked_among branch names none name more)
+
+-- a branch lacks none of names that are all its own
+none_lacked : (branch : List Catch) (names : List (List ℕ)) → AreAmong names (map name_of branch) → first_lacked branch names ≡ None
+none_lacked branch [] own = refl
+none_lacked branch (n ∷ names) own =
+    ap (λ b. cond b (first_lacked branch names) (Some n)) (own n (ap (λ b. b || is_among names n) (name_itself n))) ∙ none_lacked branch names (λ name there. own name (or_true (bytes_eq name n) (is_among names name) there))
+
+pub needs_come_first : NeedsComeFirst
+needs_come_first branch names needed all needs =
+    grew branch (ComeToFront branch) (StickOn branch) (to_front branch) names needed (none_lacked_among branch names all) needs
+
+pub needs_are_determined : NeedsAreDetermined
+needs_are_determined branch names = grows_to_one branch (ComeToFront branch) (StickOn branch) (to_front branch) names
+
+pub held_is_determined : HeldIsDetermined
+held_is_determined branch names = grows_to_one branch (CanGo branch) (AreHeldIn branch) (to_go branch) names
+
+not_empty : (names held : List (List ℕ)) → names ≢ [] → AreAmong names held → is_empty held ≡ false
+not_empty [] held some among = absurd (some refl)
+not_empty (n ∷ names) [] some among =
+    absurd (true≢false (sym (among n (ap (λ b. b || is_among names n) (name_itself n)))))
+not_empty (n ∷ names) (m ∷ held) some among = refl
+
+-- an obliteration of names that can go is accepted
+accepted_if : (state : Contents) (name : List ℕ) (branch : List Catch) (held : List (List ℕ)) → Has state name branch → first_lacked branch held ≡ None → is_empty held ≡ false → CanGo branch held → (next : Contents) × (step state (call.Obliterate name held) ≡ Next next)
+accepted_if state name branch held has all some can =
+    let gives = sym ((outcomes_are_determined.obliterates branch held).2 (Ok can.0) can.1) in
+    (after state (with_catches state.branches name can.0), rw has (rw all (rw some (rw gives refl))))
+
+pub held_can_go : HeldCanGo
+held_can_go state name branch names held has all some grows =
+    let grown = grew branch (CanGo branch) (AreHeldIn branch) (to_go branch) names held (none_lacked_among branch names all) grows in
+    let there : first_lacked branch held ≡ None = none_lacked branch held (λ n among. in_order_there branch (names ++ grows.0) n (ap (λ l. is_among l n) (sym grows.2) ∙ among)) in
+    (accepted_if state name branch held has there (not_empty names held some grown.1.has) grown.0, grown.1)

@@ -1,0 +1,76 @@
+-- The branch that an accepted call writes to.
+use Rattle.std.proofs.Common.{◌≡◌, ℕ, Bool, true, false, cond, List, [], ◌∷◌, ◌++◌, Option, None, Some, bytes_eq, refl, sym, ap, ◌∙◌, subst}
+use Rattle.std.proofs.lemmas.Option.{same_Some}
+use Rattle.camp_base.specs.Trees.{Files}
+use Rattle.camp_catch.specs.declared.catches.Catch.{Catch}
+use Rattle.camp_branch.specs.Branches.{LeadsTo}
+use Rattle.camp_branch.specs.Conflicting.{AreConflicts}
+use Rattle.camp_branch.proofs.Names.{name_itself}
+use Rattle.camp_call.specs.declared.calls.Call.{Call}
+use Rattle.camp_call.specs.declared.calls.Call.TheVariants as call
+use Rattle.camp_call.specs.declared.replies.Reply.TheVariants as reply
+use Rattle.camp_object.specs.declared.objects.Decided.TheVariants.{Next, Answer}
+use Rattle.camp_repo.specs.Laws.{Effect, Has}
+use Rattle.camp_repo.specs.States.{Branches, Contents, catches_of}
+use Rattle.camp_repo.specs.Steps.{step}
+use Rattle.camp_repo.proofs.Effects.{accepted_calls}
+use Rattle.camp_repo.proofs.DecideSteps.{conflicts_shown, tree_shown}
+use Rattle.camp_questions.specs.Foresight.{Foresees, ForeseesOf, StandsIn, branch_written}
+use Rattle.camp_questions.specs.declared.foresight.Standing.{Standing}
+use Rattle.camp_questions.specs.Inside.Foresight.{LedTo}
+
+-- there are some catches
+abbrev AreThere : Option (List Catch) → Type 0
+AreThere o = (catches : List Catch) × (o ≡ Some catches)
+
+either_there : (b : Bool) (first : List Catch) (rest : Option (List Catch)) → AreThere rest → AreThere (cond b (Some first) rest)
+either_there true first rest w = (first, refl)
+either_there false first rest w = w
+
+-- the branch that comes last is there
+last_there : (branches : Branches) (name : List ℕ) (catches : List Catch) → AreThere (catches_of (branches ++ (name, catches) ∷ []) name)
+last_there [] name catches = (catches, ap (λ b. cond b (Some catches) None) (name_itself name))
+last_there (branch ∷ branches) name catches =
+    either_there (bytes_eq name branch.0) branch.1 (catches_of (branches ++ (name, catches) ∷ []) name) (last_there branches name catches)
+
+-- the branch of this name is written to, and is there
+abbrev Writes : Call → Contents → Type 0
+Writes call next = (name : List ℕ) × (branch_written call ≡ Some name) × AreThere (catches_of next.branches name)
+
+written_by : (call : Call) (old next : Contents) → Effect call old next → Writes call next
+written_by (call.Branch new from) old next effect =
+    let there = last_there old.branches new effect.catches in
+    (new, refl, (there.0, ap (λ branches. catches_of branches new) effect.becomes ∙ there.1))
+written_by (call.Record branch name changes) old next effect = (branch, refl, (_, effect.becomes))
+written_by (call.Pull from to names) old next effect = (to, refl, (_, effect.becomes))
+written_by (call.Obliterate branch names) old next effect = (branch, refl, (effect.left, effect.becomes))
+written_by (call.Tree branch) old next effect = absurd effect
+written_by (call.Conflicts branch) old next effect = absurd effect
+written_by (call.Names branch) old next effect = absurd effect
+
+writes : (call : Call) (next : Contents) → LedTo call next → Writes call next
+writes call next led = written_by call led.state next (accepted_calls led.state call next led.lawful led.leads)
+
+not_none : {name other : List ℕ} (next : Contents) → other ≡ name → AreThere (catches_of next.branches other) → ¬ (catches_of next.branches name ≡ None)
+not_none next same there none = some_is_none (sym there.1 ∙ ap (catches_of next.branches) same ∙ none)
+  where
+    some_is_none : {catches : List Catch} → Some catches ≡ None → ⊥
+    some_is_none e = cc
+
+-- the branch that it writes to is there
+pub is_there : (call : Call) (next : Contents) (name : List ℕ) → LedTo call next → branch_written call ≡ Some name → ¬ (catches_of next.branches name ≡ None)
+is_there call next name led written =
+    let to = writes call next led in
+    not_none next (same_Some _ _ (sym to.1 ∙ written)) to.2
+
+-- it stands as the questions for it are answered
+pub stands_so : (next : Contents) (name : List ℕ) (catches : List Catch) (tree copy : Files) (pairs told : List (List ℕ × List ℕ)) → Has next name catches → LeadsTo catches tree → copy ≡ tree → AreConflicts catches pairs → told ≡ pairs → StandsIn next (record { branch = name; tree = copy; conflicts = told })
+stands_so next name catches tree copy pairs told has leads same are is = record {
+  tree = sym (tree_shown next name catches tree copy has leads same);
+  conflicts = sym (ap (λ l. Answer (reply.Conflicts l)) is ∙ conflicts_shown next name catches pairs has are);
+}
+
+-- an accepted call is foreseen
+pub accepted_so : (state : Contents) (call : Call) (next : Contents) (standing : Standing) (count : ℕ) → Next next ≡ step state call → count ≡ next.count → branch_written call ≡ Some standing.branch → StandsIn next standing → Foresees state call (record { reply = reply.Done count; changed = Some standing })
+accepted_so state call next standing count leads counted written stands =
+    subst (λ decision. ForeseesOf call decision (record { reply = reply.Done count; changed = Some standing })) leads (record { told = ap reply.Done counted; standing = standing; changed = refl; written = written; stands = stands })

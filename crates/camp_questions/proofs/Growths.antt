@@ -1,0 +1,195 @@
+-- Names to which others are added, one by one, until they do what they are to do.
+use Rattle.std.proofs.Common.{◌≡◌, ◌⊎◌, ◌<◌, ◌≤◌, ℕ, zero, suc, Bool, true, false, true≢false, not, cond, ◌||◌, ◌&&◌, List, [], ◌∷◌, ◌++◌, filter, length, map, bytes_eq, append-nil, refl, sym, ap, ◌∙◌, subst, inl, inr, arith}
+use Rattle.std.proofs.lemmas.List.{append_assoc}
+use Rattle.std.proofs.lemmas.List.Folds.{list_any-append}
+use Rattle.camp_catch.specs.declared.catches.Catch.{Catch}
+use Rattle.camp_branch.specs.Branches.{has_patch, is_among, name_of, names_of}
+use Rattle.camp_branch.specs.Laws.{ExactlyOne}
+use Rattle.camp_branch.proofs.Names.{name_itself, same_name}
+use Rattle.camp_branch.proofs.NamesKept.{among_kept, among_once}
+use Rattle.camp_repo.proofs.ByMembers.{AreAlike}
+use Rattle.camp_questions.specs.Dependencies.{AreAdded, AreGrown, in_order}
+use Rattle.camp_questions.specs.Laws.{AreAmong, GrewFrom, WasMet}
+
+-- names are done, or one of their own, which they lack, stops them; both go by which names there are
+pub record Grow (own : List (List ℕ)) (Done : List (List ℕ) → Type 0) (Stops : List (List ℕ) → List ℕ → Type 0) : Type 0 where
+  pub either : (names : List (List ℕ)) → Done names ⊎ ((name : List ℕ) × Stops names name)
+  pub apart : (names : List (List ℕ)) (name : List ℕ) → Done names → ¬ (Stops names name)
+  pub one : (names : List (List ℕ)) (name other : List ℕ) → Stops names name → Stops names other → name ≡ other
+  pub has : (names : List (List ℕ)) (name : List ℕ) → Stops names name → is_among own name ≡ true
+  pub lacks : (names : List (List ℕ)) (name : List ℕ) → Stops names name → is_among names name ≡ false
+  pub done_alike : (names others : List (List ℕ)) → AreAlike names others → Done names → Done others
+  pub stops_alike : (names others : List (List ℕ)) (name : List ℕ) → AreAlike names others → Stops names name → Stops others name
+
+pub among_both : (names others : List (List ℕ)) (name : List ℕ) → is_among (names ++ others) name ≡ (is_among names name || is_among others name)
+among_both names others name = list_any-append (bytes_eq name) names others
+
+among_first : (names others : List (List ℕ)) → AreAmong names (names ++ others)
+among_first names others name there = among_both names others name ∙ ap (λ b. b || is_among others name) there
+
+-- names and others, of which the first is counted to the names
+moved : (names : List (List ℕ)) (name : List ℕ) (others : List (List ℕ)) → (names ++ name ∷ []) ++ others ≡ names ++ name ∷ others
+moved names name others = append_assoc names (name ∷ []) others
+
+-- the names of a list that are not among some
+abbrev pub left_of : List (List ℕ) → List (List ℕ) → List (List ℕ)
+left_of own names = filter (λ n. not (is_among names n)) own
+
+module _ (p q : List ℕ → Bool) (narrower : (n : List ℕ) → q n ≡ true → p n ≡ true) where
+  no_more_at : (n : List ℕ) (ps qs : List (List ℕ)) (b c : Bool) → q n ≡ b → p n ≡ c → length qs ≤ length ps → length (cond b (n ∷ qs) qs) ≤ length (cond c (n ∷ ps) ps)
+  no_more_at n ps qs true true e f le = omega (le, arith)
+  no_more_at n ps qs true false e f le = absurd (true≢false (sym (narrower n e) ∙ f))
+  no_more_at n ps qs false true e f le = omega (le, arith)
+  no_more_at n ps qs false false e f le = le
+
+  no_more : (names : List (List ℕ)) → length (filter q names) ≤ length (filter p names)
+  no_more [] = omega arith
+  no_more (n ∷ names) = no_more_at n (filter p names) (filter q names) (q n) (p n) refl refl (no_more names)
+
+  fewer_here : (n : List ℕ) (ps qs : List (List ℕ)) (b c : Bool) → b ≡ false → c ≡ true → length qs ≤ length ps → length (cond b (n ∷ qs) qs) < length (cond c (n ∷ ps) ps)
+  fewer_here n ps qs true c e f le = absurd (true≢false e)
+  fewer_here n ps qs false true e f le = omega (le, arith)
+  fewer_here n ps qs false false e f le = absurd (true≢false (sym f))
+
+  fewer_behind : (n : List ℕ) (ps qs : List (List ℕ)) (b c : Bool) → q n ≡ b → p n ≡ c → length qs < length ps → length (cond b (n ∷ qs) qs) < length (cond c (n ∷ ps) ps)
+  fewer_behind n ps qs true true e f lt = omega (lt, arith)
+  fewer_behind n ps qs true false e f lt = absurd (true≢false (sym (narrower n e) ∙ f))
+  fewer_behind n ps qs false true e f lt = omega (lt, arith)
+  fewer_behind n ps qs false false e f lt = lt
+
+  fewer_at : (name n : List ℕ) (names : List (List ℕ)) (b : Bool) → bytes_eq name n ≡ b → p name ≡ true → q name ≡ false → (b || is_among names name) ≡ true → (is_among names name ≡ true → length (filter q names) < length (filter p names)) → length (filter q (n ∷ names)) < length (filter p (n ∷ names))
+  fewer_at name n names true same passes fails there rest =
+      let is = same_name name n same in
+      fewer_here n (filter p names) (filter q names) (q n) (p n) (ap q (sym is) ∙ fails) (ap p (sym is) ∙ passes) (no_more names)
+  fewer_at name n names false other passes fails there rest =
+      fewer_behind n (filter p names) (filter q names) (q n) (p n) refl refl (rest there)
+
+  -- a narrower test, which one name that is there fails, passes fewer
+  fewer : (name : List ℕ) (names : List (List ℕ)) → p name ≡ true → q name ≡ false → is_among names name ≡ true → length (filter q names) < length (filter p names)
+  fewer name [] passes fails there = absurd (true≢false (sym there))
+  fewer name (n ∷ names) passes fails there =
+      fewer_at name n names (bytes_eq name n) refl passes fails there (fewer name names passes fails)
+
+or_cases : (a b : Bool) → (a || b) ≡ true → (a ≡ true) ⊎ (b ≡ true)
+or_cases true b e = inl refl
+or_cases false b e = inr e
+
+not_or : (a b : Bool) → not (a || b) ≡ true → not a ≡ true
+not_or true b e = e
+not_or false b e = refl
+
+-- with a name that they lack, fewer are left
+pub fewer_left : (own names next : List (List ℕ)) (name : List ℕ) → is_among own name ≡ true → is_among names name ≡ false → ((n : List ℕ) → is_among next n ≡ (is_among names n || bytes_eq n name)) → length (left_of own next) < length (left_of own names)
+fewer_left own names next name there lacks grows =
+    fewer (λ n. not (is_among names n)) (λ n. not (is_among next n)) (λ n e. not_or (is_among names n) (bytes_eq n name) (sym (ap not (grows n)) ∙ e)) name own (ap not lacks) (ap not (grows name ∙ ap (λ b. is_among names name || b) (name_itself name)) ∙ fails (is_among names name)) there
+  where
+    fails : (b : Bool) → not (b || true) ≡ false
+    fails true = refl
+    fails false = refl
+
+or_none : (b : Bool) → (b || false) ≡ b
+or_none true = refl
+or_none false = refl
+
+one_behind : (names : List (List ℕ)) (name n : List ℕ) → is_among (names ++ name ∷ []) n ≡ (is_among names n || bytes_eq n name)
+one_behind names name n =
+    among_both names (name ∷ []) n ∙ ap (λ b. is_among names n || b) (or_none (bytes_eq n name))
+
+module _ (own : List (List ℕ)) (Done : List (List ℕ) → Type 0) (Stops : List (List ℕ) → List ℕ → Type 0) (grow : Grow own Done Stops) where
+  added_within : (n : ℕ) (names : List (List ℕ)) → length (left_of own names) ≤ n → Done names ⊎ ((name : List ℕ) × Stops names name) → (added : List (List ℕ)) × AreAdded Done Stops names added
+  added_within n names few (inl done) = ([], done)
+  added_within zero names few (inr stop) =
+      let less = fewer_left own names (names ++ stop.0 ∷ []) stop.0 (grow.has names stop.0 stop.1) (grow.lacks names stop.0 stop.1) (one_behind names stop.0) in
+      absurd (omega (few, less, arith))
+  added_within (suc n) names few (inr stop) =
+      let next = names ++ stop.0 ∷ [] in
+      let less = fewer_left own names next stop.0 (grow.has names stop.0 stop.1) (grow.lacks names stop.0 stop.1) (one_behind names stop.0) in
+      let more = added_within n next (omega (few, less, arith)) (grow.either next) in
+      (stop.0 ∷ more.0, (stop.1, more.1))
+
+  -- some names are added
+  pub are_added : (names : List (List ℕ)) → (added : List (List ℕ)) × AreAdded Done Stops names added
+  are_added names = added_within (length (left_of own names)) names (omega arith) (grow.either names)
+
+  -- and no others
+  pub one_added : (names added others : List (List ℕ)) → AreAdded Done Stops names added → AreAdded Done Stops names others → added ≡ others
+  one_added names [] [] v w = refl
+  one_added names [] (n ∷ others) v w = absurd (grow.apart names n v w.0)
+  one_added names (n ∷ added) [] v w = absurd (grow.apart names n w v.0)
+  one_added names (n ∷ added) (m ∷ others) v w =
+      let same = grow.one names n m v.0 w.0 in
+      let rest = one_added (names ++ m ∷ []) added others (subst (λ l. AreAdded Done Stops (names ++ l ∷ []) added) same v.1) w.1 in
+      λ i. same i ∷ rest i
+
+  -- all of them are own
+  pub all_own : (names added : List (List ℕ)) → AreAmong names own → AreAdded Done Stops names added → AreAmong (names ++ added) own
+  all_own names [] among w = subst (λ l. AreAmong l own) (sym (append-nil names)) among
+  all_own names (n ∷ added) among w =
+      let with_one : AreAmong (names ++ n ∷ []) own = λ name there. elim (or_cases (is_among names name) (bytes_eq name n) (sym (one_behind names n name) ∙ there)) [
+        | inl e ↦ among name e
+        | inr e ↦ ap (is_among own) (same_name name n e) ∙ grow.has names n w.0
+      ] in
+      subst (λ l. AreAmong l own) (moved names n added) (all_own (names ++ n ∷ []) added with_one w.1)
+
+  -- with all of them it is done
+  pub all_done : (names added : List (List ℕ)) → AreAdded Done Stops names added → Done (names ++ added)
+  all_done names [] w = subst Done (sym (append-nil names)) w
+  all_done names (n ∷ added) w = subst Done (moved names n added) (all_done (names ++ n ∷ []) added w.1)
+
+  -- each of them was met
+  pub all_met : (names added : List (List ℕ)) → AreAdded Done Stops names added → (name : List ℕ) → is_among (names ++ added) name ≡ true → is_among names name ≡ false → WasMet Stops names (names ++ added) name
+  all_met names [] w name there lacks =
+      absurd (true≢false (sym there ∙ ap (λ l. is_among l name) (append-nil names) ∙ lacks))
+  all_met names (n ∷ added) w name there lacks = elim (bytes_eq name n) as (λ b. bytes_eq name n ≡ b → WasMet Stops names (names ++ n ∷ added) name) [
+    | true ↦ λ e. (names, (λ m among. among), among_first names (n ∷ added), subst (Stops names) (sym (same_name name n e)) w.0)
+    | false ↦ λ e.
+        let later = all_met (names ++ n ∷ []) added w.1 name (ap (λ l. is_among l name) (moved names n added) ∙ there) (one_behind names n name ∙ (λ i. lacks i || e i)) in (
+          later.0,
+          (λ m among. later.1 m (among_first names (n ∷ []) m among)),
+          (λ m among. sym (ap (λ l. is_among l m) (moved names n added)) ∙ later.2 m among),
+          later.3,
+        )
+  ] refl
+
+and_within : (a b : Bool) → (b ≡ true → a ≡ true) → (a && b) ≡ b
+and_within true b within = refl
+and_within false true within = within refl
+and_within false false within = refl
+
+-- names of a branch are the same in its order
+pub same_in_order : (branch : List Catch) (names : List (List ℕ)) → AreAmong names (map name_of branch) → AreAlike names (in_order branch names)
+same_in_order branch names own n =
+    sym (among_kept (is_among names) (names_of branch) n ∙ ap (λ b. b && is_among names n) (among_once (map name_of branch) n) ∙ and_within (has_patch branch n) (is_among names n) (own n))
+
+both_hold : (a b : Bool) → (a && b) ≡ true → a ≡ true
+both_hold true b e = refl
+both_hold false b e = e
+
+-- what stands in the order of a branch is there
+pub in_order_there : (branch : List Catch) (names : List (List ℕ)) → AreAmong (in_order branch names) (map name_of branch)
+in_order_there branch names n there =
+    both_hold (has_patch branch n) (is_among names n) (sym (among_kept (is_among names) (names_of branch) n ∙ ap (λ b. b && is_among names n) (among_once (map name_of branch) n)) ∙ there)
+
+module _ (branch : List Catch) (Done : List (List ℕ) → Type 0) (Stops : List (List ℕ) → List ℕ → Type 0) (grow : Grow (map name_of branch) Done Stops) where
+  -- names of a branch that have grown are done, and have grown by what was met
+  pub grew : (names grown : List (List ℕ)) → AreAmong names (map name_of branch) → AreGrown branch Done Stops names grown → Done grown × GrewFrom Stops names grown
+  grew names grown own w =
+      let all = names ++ w.0 in
+      let alike : AreAlike all grown = λ n. same_in_order branch all (all_own (map name_of branch) Done Stops grow names w.0 own w.1) n ∙ ap (λ l. is_among l n) (sym w.2) in (
+        grow.done_alike all grown alike (all_done (map name_of branch) Done Stops grow names w.0 w.1),
+        record {
+          has = λ n there. sym (alike n) ∙ among_first names w.0 n there;
+          met = λ n there lacks.
+              let met = all_met (map name_of branch) Done Stops grow names w.0 w.1 n (alike n ∙ there) lacks in
+              (met.0, met.1, (λ m among. sym (alike m) ∙ met.2 m among), met.3);
+        },
+      )
+
+  -- they grow to exactly one list
+  pub grows_to_one : (names : List (List ℕ)) → ExactlyOne (AreGrown branch Done Stops names)
+  grows_to_one names =
+      let added = are_added (map name_of branch) Done Stops grow names in (
+        in_order branch (names ++ added.0),
+        (added.0, added.1, refl),
+        λ other w. w.2 ∙ ap (λ l. in_order branch (names ++ l)) (one_added (map name_of branch) Done Stops grow names w.0 added.0 w.1 added.1),
+      )

@@ -1,0 +1,57 @@
+-- What is missing is what a pull without names brings.
+use Rattle.std.proofs.Common.{◌≡◌, ◌≢◌, ℕ, Bool, true, false, not, cond, ◌||◌, List, [], ◌∷◌, ◌++◌, filter, Option, None, Some, Ok, bytes_eq, refl, sym, ap, ◌∙◌}
+use Rattle.std.proofs.lemmas.Option.{same_Some}
+use Rattle.camp_catch.specs.declared.catches.Catch.{Catch}
+use Rattle.camp_branch.specs.Branches.{has_patch, is_among, names_of}
+use Rattle.camp_branch.proofs.Names.{name_itself, or_true, passes_is_kept, same_name}
+use Rattle.camp_call.specs.declared.calls.Call.TheVariants as call
+use Rattle.camp_object.specs.declared.objects.Decided.TheVariants.{Next}
+use Rattle.camp_repo.specs.Lawful.{IsLawful}
+use Rattle.camp_repo.specs.Laws.{Has}
+use Rattle.camp_repo.specs.States.{Contents}
+use Rattle.camp_repo.specs.Steps.{is_empty, step}
+use Rattle.camp_repo.proofs.DecideSteps.{pull_nothing}
+use Rattle.camp_repo.proofs.Effects.{accepted_calls}
+use Rattle.camp_repo.proofs.NameSteps.{none_lacked}
+use Rattle.camp_questions.specs.Differences.{IsMissing, missing_in}
+use Rattle.camp_questions.specs.Laws.{MissingIsPulled}
+
+module _ (p q : List ℕ → Bool) where
+  -- tests that agree on what is there keep the same
+  alike_there : (names : List (List ℕ)) → ((name : List ℕ) → is_among names name ≡ true → p name ≡ q name) → filter p names ≡ filter q names
+  alike_there [] same = refl
+  alike_there (n ∷ names) same =
+      let here = same n (ap (λ b. b || is_among names n) (name_itself n)) in
+      let rest = alike_there names (λ name there. same name (or_true (bytes_eq name n) (is_among names name) there)) in
+      λ i. cond (here i) (n ∷ rest i) (rest i)
+
+-- the names that pass a test are those among them
+among_passed : (p : List ℕ → Bool) (names : List (List ℕ)) → filter (is_among (filter p names)) names ≡ filter p names
+among_passed p names = alike_there (is_among (filter p names)) p names (λ name there. passes_is_kept p names name there)
+
+same_catches : {o : Option (List Catch)} {catches other : List Catch} → o ≡ Some catches → o ≡ Some other → catches ≡ other
+same_catches e f = same_Some _ _ (sym e ∙ f)
+
+comes : (state next : Contents) (from to : List ℕ) (theirs ours new : List Catch) → IsLawful state → Has state from theirs → Has state to ours → step state (call.Pull from to None) ≡ Next next → Has next to new → names_of new ≡ names_of ours ++ missing_in ours theirs
+comes state next from to theirs ours new lawful from_has to_has e becomes =
+    let pulls = accepted_calls state (call.Pull from to None) next lawful e in
+    let the_theirs : pulls.theirs ≡ theirs = same_catches pulls.from_has from_has in
+    let the_ours : pulls.ours ≡ ours = same_catches pulls.to_has to_has in
+    let the_new : new ≡ pulls.ours ++ pulls.taken = same_catches becomes pulls.becomes in
+    ap names_of the_new ∙ pulls.named ∙ ap (λ names. names_of pulls.ours ++ names) (among_passed (λ name. not (has_patch pulls.ours name)) (names_of pulls.theirs)) ∙ (λ i. names_of (the_ours i) ++ missing_in (the_ours i) (the_theirs i))
+
+-- both branches are there, and the names are those that the one lacks
+pub are_missing : (state : Contents) (from to : List ℕ) (theirs ours : List Catch) (names : List (List ℕ)) → Has state from theirs → Has state to ours → names ≡ missing_in ours theirs → IsMissing state from to (Ok names)
+are_missing state from to theirs ours names from_has to_has is =
+    rw from_has (rw to_has (ap Ok is))
+
+differ : (from to : List ℕ) (b : Bool) → bytes_eq from to ≡ b → from ≢ to → b ≡ false
+differ from to true e other = absurd (other (same_name from to e))
+differ from to false e other = refl
+
+pub missing_is_pulled : MissingIsPulled
+missing_is_pulled = record {
+  comes = comes;
+  nothing = λ state from to theirs ours from_has to_has other none.
+      sym (pull_nothing state from to None theirs ours from_has to_has (differ from to _ refl other) (none_lacked theirs) (ap is_empty none));
+}

@@ -1,0 +1,77 @@
+-- What a branch sticks on when patches are brought to its front.
+use Rattle.std.proofs.Common.{◌≡◌, ℕ, Bool, true, false, ◌||◌, List, [], ◌∷◌, ◌++◌, map, bytes_eq, refl, sym, ap, ◌∙◌, subst, inl, inr}
+use Rattle.std.proofs.lemmas.List.{map-append}
+use Rattle.std.proofs.lemmas.List.Folds.{list_any-append}
+use Rattle.camp_prim.specs.declared.labels.Key.{Key}
+use Rattle.camp_catch.specs.Arranging.{ArrangeSticks, ComesBefore, SticksBehind, StopsAt}
+use Rattle.camp_catch.specs.declared.catches.Catch.{Catch}
+use Rattle.camp_catch.proofs.KeptLabels.{keep_labels}
+use Rattle.camp_branch.specs.Branches.{is_among, name_of}
+use Rattle.camp_branch.proofs.Names.{is_among_is, name_itself, not_among, or_true, same_name}
+
+-- the names of the patches of some catches
+abbrev names_at : List Catch → List (List ℕ)
+names_at list = map name_of list
+
+-- catches that one passes keep their names
+names_stay : (list : List Catch) (k k' : Catch) (list' : List Catch) → ComesBefore list k k' list' → names_at list' ≡ names_at list
+names_stay [] k k' list' w = ap names_at w.1
+names_stay (j ∷ list) k k' list' w =
+    let called = ap (λ (key : Key). key.name) (keep_labels.commuted j w.0 k' w.1 w.4).1 in
+    let rest = names_stay list k w.0 w.2 w.3 in
+    ap names_at w.5 ∙ (λ t. called t ∷ rest t)
+
+first_among : (names : List (List ℕ)) (n m : List ℕ) → m ≡ n → is_among (n ∷ names) m ≡ true
+first_among names n m e = ap (λ b. b || is_among names m) (ap (λ l. bytes_eq l n) e ∙ name_itself n)
+
+-- what stops a catch is one of those before it
+stops_at_one : (list : List Catch) (k : Catch) (on : Key) → StopsAt list k on → is_among (names_at list) on.name ≡ true
+stops_at_one [] k on w = absurd w
+stops_at_one (j ∷ list) k on (inl w) = or_true (bytes_eq on.name (name_of j)) _ (stops_at_one list k on w)
+stops_at_one (j ∷ list) k on (inr w) = first_among (names_at list) (name_of j) on.name (ap (λ key. key.name) w.4)
+
+module _ (names own : List (List ℕ)) where
+  -- a name of a branch that is not one of those that come to the front
+  abbrev Waits : List ℕ → Type 0
+  Waits name = (is_among own name ≡ true) × (is_among names name ≡ false)
+
+  abbrev AllWait : List Catch → Type 0
+  AllWait rest = (name : List ℕ) → is_among (names_at rest) name ≡ true → Waits name
+
+  abbrev AreOwn : List Catch → Type 0
+  AreOwn list = (name : List ℕ) → is_among (names_at list) name ≡ true → is_among own name ≡ true
+
+  one_waits : (k : Catch) (rest : List Catch) → Waits (name_of k) → AllWait rest → AllWait (rest ++ k ∷ [])
+  one_waits k rest waits all name there =
+      let parts = sym (ap (λ l. is_among l name) (map-append name_of rest (k ∷ [])) ∙ list_any-append (bytes_eq name) (names_at rest) (name_of k ∷ [])) ∙ there in
+      at_end (is_among (names_at rest) name) refl (bytes_eq name (name_of k)) refl parts
+    where
+      at_end : (b : Bool) → is_among (names_at rest) name ≡ b → (c : Bool) → bytes_eq name (name_of k) ≡ c → (b || (c || false)) ≡ true → Waits name
+      at_end true e c f w = all name e
+      at_end false e true f w = subst Waits (sym (same_name name (name_of k) f)) waits
+      at_end false e false f w = cc
+
+  -- where it sticks: `on` is one that waits, and `patch` is one that is to come
+  abbrev pub SticksBetween : Key → Key → Type 0
+  SticksBetween patch on = Waits on.name × (is_among own patch.name ≡ true) × (is_among names patch.name ≡ true)
+
+  sticks_behind : (rest list : List Catch) (patch on : Key) → AllWait rest → AreOwn list → SticksBehind names rest list patch on → SticksBetween patch on
+  sticks_behind rest [] patch on all own_list w = absurd w
+  sticks_behind rest (k ∷ list) patch on all own_list (inl w) =
+      let called : patch.name ≡ name_of k = ap (λ key. key.name) w.2 in (
+        all on.name (stops_at_one rest k on w.1),
+        own_list patch.name (first_among (names_at list) (name_of k) patch.name called),
+        ap (is_among names) called ∙ (is_among_is names (name_of k)).0 w.0,
+      )
+  sticks_behind rest (k ∷ list) patch on all own_list (inr (inl w)) =
+      let come = w.1 in
+      let same = names_stay rest k come.0 come.1 come.2 in
+      sticks_behind come.1 list patch on (λ name there. all name (sym (ap (λ l. is_among l name) same) ∙ there)) (λ name there. own_list name (or_true (bytes_eq name (name_of k)) _ there)) come.3
+  sticks_behind rest (k ∷ list) patch on all own_list (inr (inr w)) =
+      let waits : Waits (name_of k) = (own_list (name_of k) (first_among (names_at list) (name_of k) (name_of k) refl), not_among names (name_of k) w.0) in
+      sticks_behind (rest ++ k ∷ []) list patch on (one_waits k rest waits all) (λ name there. own_list name (or_true (bytes_eq name (name_of k)) _ there)) w.1
+
+-- a branch sticks between a patch that is to come to its front, and one that is not
+pub sticks_between : (names : List (List ℕ)) (branch : List Catch) (patch on : Key) → ArrangeSticks names branch patch on → SticksBetween names (map name_of branch) patch on
+sticks_between names branch patch on w =
+    sticks_behind names (map name_of branch) [] branch patch on (λ name there. cc) (λ name there. there) w

@@ -1,0 +1,39 @@
+use Rattle.std.proofs.Common.{List, map, subst, Err}
+use Rattle.std.specs.Cmp.Lexicographic.{slice_cmp}
+use Rattle.std.specs.Ordering.{nat_cmp}
+use Rattle.camp_share.specs.Maps.{map_of}
+use Rattle.camp_catch.specs.declared.catches.Catch.{Catch}
+use Rattle.camp_branch.specs.Branches.{name_of}
+use Rattle.camp_branch.specs.Fields.{names_in}
+use Rattle.camp_branch.specs.Obliterating.{ObliterateGives}
+use Rattle.camp_questions.specs.Dependencies.{AreHeldIn, CanGo}
+use Rattle.camp_questions.proofs.BranchGrowths.{to_go}
+use Rattle.camp_questions.proofs.Growing.{all_grown, fewer_to_come, one_grown}
+use Rattle.camp_questions.proofs.dependencies.grown_to_go.Goals as goal
+
+pub returns-in-Ok : goal.returns-in-Ok
+returns-in-Ok c =
+    let branch : List Catch = c.args.branch.now in
+    let grown = names_in c.loop-grown.grown in
+    let done : CanGo branch grown = (c.in-Ok.field-0, subst (ObliterateGives branch grown) c.in-Ok.is c.in_ok-without.ensures.exact) in
+    all_grown (map name_of branch) (CanGo branch) (AreHeldIn branch) (to_go branch) (names_in c.args.names) grown c.loop-grown.invariant done
+
+pub loop-grown-smaller : goal.loop-grown-smaller
+loop-grown-smaller c =
+    let branch : List Catch = c.args.branch.now in
+    let grown = names_in c.loop-grown.grown in
+    let patch = c.dependent.result in
+    let on = c.dependent.ensures.0 in
+    let blocked = subst (ObliterateGives branch grown) c.in-Err.is c.in_ok-without.ensures.exact in
+    let held : AreHeldIn branch grown patch = (on, subst (λ why. ObliterateGives branch grown (Err why)) c.dependent.ensures.1 blocked) in
+    fewer_to_come (map name_of branch) (CanGo branch) (AreHeldIn branch) (to_go branch) (map_of (slice_cmp nat_cmp) c.loop-grown.grown) (map_of (slice_cmp nat_cmp) c.in_ok-grown-in-Err.grown) patch held c.in_ok-grown-in-Err.ensures
+
+pub loop-grown-preserved : goal.loop-grown-preserved
+loop-grown-preserved c =
+    let branch : List Catch = c.args.branch.now in
+    let grown = names_in c.loop-grown.grown in
+    let patch = c.dependent.result in
+    let on = c.dependent.ensures.0 in
+    let blocked = subst (ObliterateGives branch grown) c.in-Err.is c.in_ok-without.ensures.exact in
+    let held : AreHeldIn branch grown patch = (on, subst (λ why. ObliterateGives branch grown (Err why)) c.dependent.ensures.1 blocked) in
+    one_grown (map name_of branch) (CanGo branch) (AreHeldIn branch) (to_go branch) (names_in c.args.names) (map_of (slice_cmp nat_cmp) c.loop-grown.grown) (map_of (slice_cmp nat_cmp) c.in_ok-grown-in-Err.grown) patch c.loop-grown.invariant held c.in_ok-grown-in-Err.ensures

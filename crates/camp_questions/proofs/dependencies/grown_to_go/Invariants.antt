@@ -1,0 +1,13 @@
+use Rattle.std.proofs.Common.{length, map}
+use Rattle.camp_branch.specs.Branches.{name_of}
+use Rattle.camp_branch.specs.Fields.{names_in}
+use Rattle.camp_questions.specs.Dependencies.{AreHeldIn, CanGo}
+use Rattle.camp_questions.proofs.Growing.{IsGrownSoFar}
+use Rattle.camp_questions.proofs.Growths.{left_of}
+use Rattle.camp_questions.proofs.dependencies.grown_to_go.Given as goal
+
+abbrev pub invariant-loop-grown : goal.invariant-loop-grown
+invariant-loop-grown l = IsGrownSoFar (CanGo l.branch) (AreHeldIn l.branch) (names_in l.fn.names) (names_in l.grown)
+
+abbrev pub decreases-loop-grown : goal.decreases-loop-grown
+decreases-loop-grown l = length (left_of (map name_of l.branch) (names_in l.grown))

@@ -1,0 +1,20 @@
+use Rattle.std.proofs.Common.{arith, drop, length, ◌≤◌}
+use Rattle.std.proofs.Math.ListN.{drop_of_length-le}
+use Rattle.std.specs.Cmp.Lexicographic.{slice_cmp}
+use Rattle.std.specs.Ordering.{nat_cmp}
+use Rattle.camp_share.specs.Maps.{map_of}
+use Rattle.camp_branch.specs.Branches.{is_among}
+use Rattle.camp_repo.proofs.NameSteps.{all_filled, none_filled, one_listed}
+use Rattle.camp_questions.proofs.dependencies.set_of.Goals as goal
+
+pub loop-name-init : goal.loop-name-init
+loop-name-init c = none_filled (map_of (slice_cmp nat_cmp) c.new-set.result) c.args.names.now c.new-set.ensures
+
+pub loop-name-preserved : goal.loop-name-preserved
+loop-name-preserved c =
+    one_listed (map_of (slice_cmp nat_cmp) c.loop-name.set) (map_of (slice_cmp nat_cmp) c.in_ok-set.set) c.args.names.now c.loop-name.name-index c.name-item.result c.name-item.result (is_among c.args.names.now) c.loop-name.invariant (omega arith) c.name-item.is c.in_ok-set.ensures
+
+pub returns : goal.returns
+returns c =
+    let past : length c.args.names.now ≤ c.loop-name.name-index = omega arith in
+    all_filled (map_of (slice_cmp nat_cmp) c.loop-name.set) (drop c.loop-name.name-index c.args.names.now) (is_among c.args.names.now) (drop_of_length-le c.args.names.now past) c.loop-name.invariant

@@ -1,0 +1,10 @@
+use Rattle.std.proofs.Common.{drop}
+use Rattle.std.specs.Cmp.Lexicographic.{slice_cmp}
+use Rattle.std.specs.Ordering.{nat_cmp}
+use Rattle.camp_share.specs.Maps.{map_of}
+use Rattle.camp_repo.proofs.NameSteps.{IsFilled}
+use Rattle.camp_branch.specs.Branches.{is_among}
+use Rattle.camp_questions.proofs.dependencies.set_of.Given as goal
+
+abbrev pub invariant-loop-name : goal.invariant-loop-name
+invariant-loop-name l = IsFilled (map_of (slice_cmp nat_cmp) l.set) (drop l.name-index l.names) (is_among l.names)

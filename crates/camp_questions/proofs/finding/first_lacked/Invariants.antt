@@ -1,0 +1,6 @@
+use Rattle.std.proofs.Common.{◌≡◌, drop}
+use Rattle.camp_repo.specs.Steps.{first_lacked}
+use Rattle.camp_questions.proofs.finding.first_lacked.Given as goal
+
+abbrev pub invariant-loop-name : goal.invariant-loop-name
+invariant-loop-name l = first_lacked l.branch (drop l.name-index l.names) ≡ first_lacked l.branch l.names

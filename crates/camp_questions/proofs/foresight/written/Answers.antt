@@ -1,0 +1,11 @@
+use Rattle.std.proofs.Common.{◌∙◌, sym}
+use Rattle.camp_questions.proofs.Foreseeing.{is_there, stands_so}
+use Rattle.camp_questions.proofs.foresight.written.Goals as goal
+
+pub unreachable-requires-in_default-branch : goal.unreachable-requires-in_default-branch
+unreachable-requires-in_default-branch c =
+    is_there c.args.call.now c.args.next.now c.in-Some.name c.requires (sym c.branch_written.ensures ∙ c.in-Some.is) c.in_default-branch.ensures.value
+
+pub returns-clause-stands : goal.returns-clause-stands
+returns-clause-stands c =
+    stands_so c.args.next.now c.in-Some.name c.in_Some-branch.branch.now c.tree.result.now c.in_ok-tree.tree c.in_ok-pairs.pairs.items c.new.result c.in_Some-branch.ensures.value c.tree.ensures c.in_ok-tree.ensures c.in_ok-pairs.ensures c.new.ensures

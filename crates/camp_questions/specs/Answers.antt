@@ -1,0 +1,29 @@
+-- What questions come to, and what their callers are told.
+use Rattle.std.specs.Prelude.{◌≡◌, ℕ, List, MatchOption, Result, Ok, Err}
+use Rattle.camp_catch.specs.declared.catches.Catch.{Catch}
+use Rattle.camp_call.specs.declared.replies.Refusal.{Refusal}
+use Rattle.camp_call.specs.declared.replies.Refusal.TheVariants.{NoBranch, NoPatch}
+use Rattle.camp_repo.specs.States.{Contents, catches_of}
+use Rattle.camp_repo.specs.Steps.{first_lacked}
+use Rattle.camp_questions.specs.declared.faults.Unanswered.{Unanswered}
+use Rattle.camp_questions.specs.declared.faults.Unanswered.TheVariants.{Refused, Memory}
+
+-- what a question comes to: its answer, or the refusal that a call with the same names gets
+abbrev pub AnswerOf : Type 0 → Type 0
+AnswerOf A = Result A Refusal
+
+-- a question goes on with the catches of a branch, and is refused where there is no branch of the name
+abbrev pub OfBranch : {A : Type 0} → Contents → List ℕ → (List Catch → AnswerOf A → Type 0) → AnswerOf A → Type 0
+OfBranch state branch GoesOn answer =
+    MatchOption (catches_of state.branches branch) (answer ≡ Err (NoBranch branch)) (λ catches. GoesOn catches answer)
+
+-- a question goes on where a branch has the patches of all these names, and is refused for the first that it lacks
+abbrev pub OfPatches : {A : Type 0} → List Catch → List (List ℕ) → (AnswerOf A → Type 0) → AnswerOf A → Type 0
+OfPatches catches names GoesOn answer =
+    MatchOption (first_lacked catches names) (GoesOn answer) (λ name. answer ≡ Err (NoPatch name))
+
+-- a caller is told what the question comes to; want of memory is told only where there is an answer, and no refusal
+abbrev pub Tells : {A : Type 0} → (AnswerOf A → Type 0) → Result A Unanswered → Type 0
+Tells ComesTo (Ok answer) = ComesTo (Ok answer)
+Tells ComesTo (Err (Refused refusal)) = ComesTo (Err refusal)
+Tells {A} ComesTo (Err Memory) = (answer : A) × ComesTo (Ok answer)

@@ -1,0 +1,4 @@
+-- What only functions that stay within the crate say.
+pub mod Finding
+pub mod Foresight
+pub mod Growing

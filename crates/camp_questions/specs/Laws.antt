@@ -1,0 +1,62 @@
+-- The laws of questions.
+use Rattle.std.specs.Prelude.{◌≡◌, ◌≢◌, ℕ, true, false, List, [], ◌++◌, None}
+use Rattle.camp_catch.specs.declared.catches.Catch.{Catch}
+use Rattle.camp_branch.specs.Branches.{is_among, names_of}
+use Rattle.camp_branch.specs.Laws.{ExactlyOne}
+use Rattle.camp_call.specs.declared.calls.Call.TheVariants as call
+use Rattle.camp_call.specs.declared.replies.Refusal.TheVariants.{NothingToDo}
+use Rattle.camp_object.specs.declared.objects.Decided.TheVariants.{Next}
+use Rattle.camp_repo.specs.Lawful.{IsLawful}
+use Rattle.camp_repo.specs.Laws.{Has}
+use Rattle.camp_repo.specs.States.{Contents}
+use Rattle.camp_repo.specs.Steps.{first_lacked, refused, step}
+use Rattle.camp_questions.specs.Dependencies.{AreHeldIn, ComeToFront, HeldBy, Needs, StickOn}
+use Rattle.camp_questions.specs.Differences.{missing_in}
+
+-- a pull without names that is accepted gives a branch its old names and then those that it was missing; where it is
+-- missing none, such a pull has nothing to do
+pub record MissingIsPulled : Type 0 where
+  pub comes :
+      (state next : Contents) (from to : List ℕ) (theirs ours new : List Catch) → IsLawful state →
+      Has state from theirs → Has state to ours → step state (call.Pull from to None) ≡ Next next →
+      Has next to new → names_of new ≡ names_of ours ++ missing_in ours theirs
+  pub nothing :
+      (state : Contents) (from to : List ℕ) (theirs ours : List Catch) →
+      Has state from theirs → Has state to ours → from ≢ to → missing_in ours theirs ≡ [] →
+      step state (call.Pull from to None) ≡ refused NothingToDo
+
+-- some names are all among others
+abbrev pub AreAmong : List (List ℕ) → List (List ℕ) → Type 0
+AreAmong names others = (name : List ℕ) → is_among names name ≡ true → is_among others name ≡ true
+
+-- a name was met on the way from some names to others: by names between the two, which it stops
+abbrev pub WasMet : (List (List ℕ) → List ℕ → Type 0) → List (List ℕ) → List (List ℕ) → List ℕ → Type 0
+WasMet Stops names grown name =
+    (between : List (List ℕ)) × AreAmong names between × AreAmong between grown × Stops between name
+
+-- what was grown from some names has these, and each other name of it was met on the way
+pub record GrewFrom (Stops : List (List ℕ) → List ℕ → Type 0) (names grown : List (List ℕ)) : Type 0 where
+  pub has : AreAmong names grown
+  pub met :
+      (name : List ℕ) → is_among grown name ≡ true → is_among names name ≡ false → WasMet Stops names grown name
+
+-- what patches of a branch need comes to the front of it, and has grown from them by what they stick on
+abbrev pub NeedsComeFirst : Type 0
+NeedsComeFirst =
+    (branch : List Catch) (names needed : List (List ℕ)) → first_lacked branch names ≡ None → Needs branch names needed →
+    ComeToFront branch needed × GrewFrom (StickOn branch) names needed
+
+-- of some names, one list is needed
+abbrev pub NeedsAreDetermined : Type 0
+NeedsAreDetermined = (branch : List Catch) (names : List (List ℕ)) → ExactlyOne (Needs branch names)
+
+-- an obliteration of what is held by patches of a branch is accepted, and it has grown from them by what depends on them
+abbrev pub HeldCanGo : Type 0
+HeldCanGo =
+    (state : Contents) (name : List ℕ) (branch : List Catch) (names held : List (List ℕ)) → Has state name branch →
+    first_lacked branch names ≡ None → names ≢ [] → HeldBy branch names held →
+    ((next : Contents) × (step state (call.Obliterate name held) ≡ Next next)) × GrewFrom (AreHeldIn branch) names held
+
+-- by some names, one list is held
+abbrev pub HeldIsDetermined : Type 0
+HeldIsDetermined = (branch : List Catch) (names : List (List ℕ)) → ExactlyOne (HeldBy branch names)

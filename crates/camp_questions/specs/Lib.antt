@@ -1,0 +1,6 @@
+pub mod Answers
+pub mod Dependencies
+pub mod Differences
+pub mod Foresight
+pub mod Inside
+pub mod Laws

@@ -1,0 +1,104 @@
+ghost use Rattle.std.specs.Prelude.{◌≡◌, ℕ, List, IfOk};
+ghost use Rattle.camp_branch.specs.Branches.{is_among};
+ghost use Rattle.camp_branch.specs.Fields.{names_in};
+ghost use Rattle.camp_questions.specs.Answers.{Tells};
+ghost use Rattle.camp_questions.specs.Dependencies.{AreHeldBy, AreNeeded, in_order};
+ghost use Rattle.camp_questions.specs.Inside.Growing.{GrowsToFront, GrowsToGo, IsDependence};
+
+use crate::Unanswered;
+use crate::finding::branch_with;
+use camp_base::Name;
+use camp_branch::Blocked;
+use camp_catch::arrange;
+use camp_repo::{Branch, Names, State};
+use camp_share::SharedMap;
+use std::alloc::{AllocError, Global};
+
+/// The names that come along with these where they are pulled from a branch: these, and each on which
+/// bringing them to the front of the branch sticks. They are told in the order of the branch.
+pub fn needs(state: &State, branch: &Name, names: &[Name]) -> Result<Names, Unanswered>
+    ensures { Tells (AreNeeded state.now branch.now names.now) result }
+{
+    let branch = branch_with(state, branch, names)?;
+    let named = set_of(branch.catches().allocator(), names)?;
+    let needed = grown_to_front(branch, named)?;
+    Ok(in_order(branch, &needed)?)
+}
+
+/// The names that must go with these where they are taken out of a branch: these, and each of a patch
+/// that depends on one of them. They are told in the order of the branch.
+pub fn held_by(state: &State, branch: &Name, names: &[Name]) -> Result<Names, Unanswered>
+    ensures { Tells (AreHeldBy state.now branch.now names.now) result }
+{
+    let branch = branch_with(state, branch, names)?;
+    let named = set_of(branch.catches().allocator(), names)?;
+    let held = grown_to_go(branch, named)?;
+    Ok(in_order(branch, &held)?)
+}
+
+/// The names, each once.
+fn set_of(alloc: Global, names: &[Name]) -> Result<SharedMap<Name, ()>, AllocError>
+    ensures { IfOk result (λ set. (name : List ℕ) → is_among (names_in set) name ≡ is_among names.now name) }
+{
+    let mut set = SharedMap::new(alloc);
+    for name in names {
+        set = set.inserted(*name, ())?;
+    }
+    Ok(set)
+}
+
+/// The names, and those that are added until they come to the front of the branch. Each that is added
+/// costs an arranging, and one tells that none is left.
+fn grown_to_front(
+    branch: &Branch,
+    names: SharedMap<Name, ()>,
+) -> Result<SharedMap<Name, ()>, AllocError>
+    ensures { IfOk result (λ grown. GrowsToFront branch.now (names_in names) (names_in grown)) }
+{
+    let alloc = branch.catches().allocator();
+    let catches = branch.catches().to_vec()?;
+    let mut grown = names;
+    loop {
+        match arrange(alloc, &catches, &grown)? {
+            Ok(_) => return Ok(grown),
+            Err(stuck) => grown = grown.inserted(stuck.on.name, ())?,
+        }
+    }
+}
+
+/// The names, and those that are added until they can be taken out of the branch. Each that is added
+/// costs an arranging, and one tells that none is left.
+fn grown_to_go(
+    branch: &Branch,
+    names: SharedMap<Name, ()>,
+) -> Result<SharedMap<Name, ()>, AllocError>
+    ensures { IfOk result (λ grown. GrowsToGo branch.now (names_in names) (names_in grown)) }
+{
+    let mut grown = names;
+    loop {
+        match branch.without(&grown)? {
+            Ok(_) => return Ok(grown),
+            Err(blocked) => grown = grown.inserted(dependent(&blocked), ())?,
+        }
+    }
+}
+
+/// The patch that depends on another.
+fn dependent(blocked: &Blocked) -> Name
+    requires { IsDependence blocked.now }
+    ensures { (on : List ℕ) × (blocked.now ≡ Blocked.Depends result on) }
+{
+    let Blocked::Depends { patch, .. } = blocked else {
+        unreachable!();
+    };
+    *patch
+}
+
+/// The names of the patches of a branch that are in a set, in the order of the branch.
+fn in_order(branch: &Branch, set: &SharedMap<Name, ()>) -> Result<Names, AllocError>
+    ensures { IfOk result (λ names. names ≡ in_order branch.now (names_in set.now)) }
+{
+    let mut names = branch.names()?;
+    names.retain(|name| set.contains_key(name));
+    Ok(Names::new(names))
+}

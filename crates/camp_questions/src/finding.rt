@@ -1,0 +1,50 @@
+ghost use Rattle.std.specs.Prelude.{◌≡◌, None, Some};
+ghost use Rattle.std.specs.Result.{MatchResult};
+ghost use Rattle.camp_repo.specs.States.{catches_of};
+ghost use Rattle.camp_repo.specs.Steps.{first_lacked};
+ghost use Rattle.camp_questions.specs.Inside.Finding.{IsFound, IsRefused};
+
+use camp_base::Name;
+use camp_repo::{Branch, Refusal, State};
+
+/// The branch of a name, or the refusal where there is none.
+pub(crate) fn branch_of<'a>(state: &'a State, name: &Name) -> Result<&'a Branch, Refusal>
+    ensures { MatchResult result
+        (λ branch. catches_of state.now.branches name.now ≡ Some branch.now)
+        (λ refusal. (catches_of state.now.branches name.now ≡ None) × (refusal ≡ Refusal.NoBranch name.now)) }
+{
+    match state.branch(name) {
+        Some(branch) => Ok(branch),
+        None => Err(Refusal::NoBranch(*name)),
+    }
+}
+
+/// The branch of a name that has the patches of these names, or the refusal where there is none, or
+/// where it lacks one of them.
+pub(crate) fn branch_with<'a>(
+    state: &'a State,
+    name: &Name,
+    names: &[Name],
+) -> Result<&'a Branch, Refusal>
+    ensures { MatchResult result
+        (λ branch. IsFound state.now name.now names.now branch.now)
+        (λ refusal. IsRefused state.now name.now names.now refusal) }
+{
+    let branch = branch_of(state, name)?;
+    match first_lacked(branch, names) {
+        Some(name) => Err(Refusal::NoPatch(name)),
+        None => Ok(branch),
+    }
+}
+
+/// The first of some names of which a branch has no patch.
+fn first_lacked(branch: &Branch, names: &[Name]) -> Option<Name>
+    ensures { result ≡ first_lacked branch.now names.now }
+{
+    for name in names {
+        if !branch.has_patch(name) {
+            return Some(*name);
+        }
+    }
+    None
+}

@@ -1,0 +1,80 @@
+ghost use Rattle.std.specs.Prelude.{◌≡◌, ◌-◌, ◌^◌, ◌<◌, Some, IfErr, IfOk};
+ghost use Rattle.camp_questions.specs.Foresight.{Foresees, MayWantForesight, StandsIn, branch_written};
+ghost use Rattle.camp_questions.specs.Inside.Foresight.{LedTo};
+
+use camp_base::{Name, Tree};
+use camp_repo::{Call, Conflicts, Decided, Reply, State};
+use std::alloc::AllocError;
+
+/// What a call would come to.
+#[derive(Drop)]
+pub struct Foreseen {
+    /// The reply that it would get.
+    pub reply: Reply,
+    /// The branch that it would write to, as it would stand then, where it would be accepted.
+    pub changed: Option<Standing>,
+}
+
+/// How a branch stands.
+#[derive(Drop)]
+pub struct Standing {
+    pub branch: Name,
+    pub tree: Tree,
+    pub conflicts: Conflicts,
+}
+
+/// The reply that a call would get, and the branch that it would write to, as it would stand. Nothing
+/// changes.
+pub fn what_if(state: &State, call: &Call) -> Result<Foreseen, AllocError>
+    requires { state.now.count < 2 ^ 64 - 1 }
+    ensures exact { IfOk result (λ seen. Foresees state.now call.now seen) }
+    ensures wanted { IfErr result (λ error. MayWantForesight state.now call.now) }
+{
+    let _lawful = state.count();
+    match state.decide(call)? {
+        Decided::Answer(reply) => Ok(Foreseen {
+            reply,
+            changed: None,
+        }),
+        Decided::Next(next) => {
+            let standing = written(&next, call)?;
+            Ok(Foreseen {
+                reply: Reply::Done(next.count()),
+                changed: Some(standing),
+            })
+        }
+    }
+}
+
+/// The branch that an accepted call wrote to, as it stands in the state that the call led to.
+fn written(next: &State, call: &Call) -> Result<Standing, AllocError>
+    requires { LedTo call.now next.now }
+    ensures branch { IfOk result (λ standing. branch_written call.now ≡ Some standing.branch) }
+    ensures stands { IfOk result (λ standing. StandsIn next.now standing) }
+{
+    let Some(name) = branch_written(call) else {
+        unreachable!();
+    };
+    let Some(branch) = next.branch(&name) else {
+        unreachable!();
+    };
+    let tree = branch.tree().try_clone()?;
+    let pairs = branch.conflicts()?;
+    Ok(Standing {
+        branch: name,
+        tree,
+        conflicts: Conflicts::new(pairs),
+    })
+}
+
+/// The branch that a call writes to.
+fn branch_written(call: &Call) -> Option<Name>
+    ensures { result ≡ branch_written call.now }
+{
+    match call {
+        Call::Branch { new, .. } => Some(*new),
+        Call::Record { branch, .. } | Call::Obliterate { branch, .. } => Some(*branch),
+        Call::Pull { to, .. } => Some(*to),
+        Call::Tree(_) | Call::Conflicts(_) | Call::Names(_) => None,
+    }
+}

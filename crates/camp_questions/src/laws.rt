@@ -1,0 +1,29 @@
+ghost use Rattle.camp_questions.specs.Laws.{HeldCanGo, HeldIsDetermined, MissingIsPulled, NeedsAreDetermined, NeedsComeFirst};
+
+/// A pull without names that is accepted brings what is missing, in this order; where nothing is
+/// missing, it is refused as having nothing to do.
+pub fn missing_is_pulled()
+    ensures { MissingIsPulled }
+{}
+
+/// What some patches need comes to the front of their branch, has the patches, and each other one of
+/// it was met by a part of it that stuck.
+pub fn needs_come_first()
+    ensures { NeedsComeFirst }
+{}
+
+/// Patches need exactly one list of names.
+pub fn needs_are_determined()
+    ensures { NeedsAreDetermined }
+{}
+
+/// An obliteration of what is held by some patches is accepted; it has the patches, and each other one
+/// of it depends on a part of it.
+pub fn held_can_go()
+    ensures { HeldCanGo }
+{}
+
+/// What is held by patches is exactly one list of names.
+pub fn held_is_determined()
+    ensures { HeldIsDetermined }
+{}

@@ -1,0 +1,17 @@
+//! Questions about the patches of a repository. A question changes nothing.
+#![tactic(auto)]
+
+mod dependencies;
+mod differences;
+mod faults;
+mod finding;
+mod foresight;
+mod laws;
+
+pub use dependencies::{held_by, needs};
+pub use differences::missing;
+pub use faults::Unanswered;
+pub use foresight::{Foreseen, Standing, what_if};
+pub use laws::{
+    held_can_go, held_is_determined, missing_is_pulled, needs_are_determined, needs_come_first,
+};
