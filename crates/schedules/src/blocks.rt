@@ -29,6 +29,41 @@ enum Task {
     Drawn { runs: u32 },
 }
 
+/// The words that lines begin with which are no lines of the script.
+#[derive(Clone, Copy)]
+enum Keyword {
+    Wait,
+    Clients,
+    Race,
+    Each,
+    Locked,
+    Head,
+    Orders,
+    Drawn,
+}
+
+const KEYWORDS: [(&[u8], Keyword); 8] = [
+    (b"wait", Keyword::Wait),
+    (b"clients", Keyword::Clients),
+    (b"race", Keyword::Race),
+    (b"each", Keyword::Each),
+    (b"locked", Keyword::Locked),
+    (b"head", Keyword::Head),
+    (b"orders", Keyword::Orders),
+    (b"drawn", Keyword::Drawn),
+];
+
+impl Keyword {
+    fn of(word: &[u8]) -> Option<Keyword> {
+        for (name, keyword) in &KEYWORDS {
+            if *name == word {
+                return Some(*keyword);
+            }
+        }
+        None
+    }
+}
+
 /// A script, what is done with it, and where seats wait for each other.
 #[derive(Drop)]
 pub(crate) struct Block {
@@ -53,18 +88,27 @@ impl Block {
     }
 
     fn read_words(&mut self, line: &[u8], words: &[&[u8]]) -> Result<()> {
-        match words {
-            [word, ..] if word.starts_with(b"#") => Ok(()),
-            [word, delay @ ..] if *word == b"wait".as_slice() => {
-                self.delays.push(read_delay(delay)?)
-            }
-            [word, clients, records] if *word == b"clients".as_slice() => {
+        let Some((word, rest)) = words.split_first() else {
+            return self.append(line);
+        };
+        match Keyword::of(word) {
+            Some(keyword) => self.read_keyword(keyword, line, rest),
+            None if word.starts_with(b"#") => Ok(()),
+            None => self.append(line),
+        }
+    }
+
+    /// Takes a line in that begins with a keyword. With other words behind it, it is one of the script.
+    fn read_keyword(&mut self, keyword: Keyword, line: &[u8], words: &[&[u8]]) -> Result<()> {
+        match (keyword, words) {
+            (Keyword::Wait, delay) => self.delays.push(read_delay(delay)?),
+            (Keyword::Clients, [clients, records]) => {
                 append_clients(&mut self.script, number(clients)?, number(records)?)
             }
-            [word, clients, records] if *word == b"race".as_slice() => {
+            (Keyword::Race, [clients, records]) => {
                 append_race(&mut self.script, number(clients)?, number(records)?)
             }
-            words => match task_of(words)? {
+            (keyword, words) => match task_of(keyword, words)? {
                 Some(task) => {
                     self.task = task;
                     Ok(())
@@ -83,18 +127,7 @@ impl Block {
     pub(crate) fn run<R: Threads + Wait + Sync>(&self, rt: &R, alloc: Global) -> Result<Vec<u8>> {
         match self.task {
             Task::Nothing => Ok(Vec::new(alloc)),
-            Task::Run(run, Shows::Output) => {
-                output_of(rt, alloc, run, &self.script, &self.delays)
-            }
-            Task::Run(run, Shows::Counts) => {
-                let counts = counts_of(rt, alloc, run, &self.script, &self.delays)?;
-                line_of(alloc, &counts)
-            }
-            Task::Run(run, Shows::Open) => {
-                let counts = counts_of(rt, alloc, run, &self.script, &self.delays)?;
-                let text = format!(in alloc; "{} answers, as they may be\n", counts.answers())?;
-                Ok(text.into_bytes())
-            }
+            Task::Run(run, shows) => self.show(rt, alloc, run, shows),
             Task::Orders { tries } => {
                 let orders = play_script(rt, alloc, &self.script, tries)?;
                 line_of(alloc, &orders)
@@ -105,6 +138,28 @@ impl Block {
             }
         }
     }
+
+    fn show<R: Threads + Wait + Sync>(
+        &self,
+        rt: &R,
+        alloc: Global,
+        run: Run,
+        shows: Shows,
+    ) -> Result<Vec<u8>> {
+        if let Shows::Output = shows {
+            return output_of(rt, alloc, run, &self.script, &self.delays);
+        }
+        let counts = counts_of(rt, alloc, run, &self.script, &self.delays)?;
+        match shows {
+            Shows::Open => answers_text(alloc, counts.answers()),
+            _ => line_of(alloc, &counts),
+        }
+    }
+}
+
+fn answers_text(alloc: Global, answers: usize) -> Result<Vec<u8>> {
+    let text = format!(in alloc; "{answers} answers, as they may be\n")?;
+    Ok(text.into_bytes())
 }
 
 fn line_of<T: Display>(alloc: Global, shown: &T) -> Result<Vec<u8>> {
@@ -112,21 +167,19 @@ fn line_of<T: Display>(alloc: Global, shown: &T) -> Result<Vec<u8>> {
     Ok(text.into_bytes())
 }
 
-/// The task that the words of a line say, if they say one.
-fn task_of(words: &[&[u8]]) -> Result<Option<Task>> {
-    Ok(Some(match words {
-        [word, shows] if *word == b"each".as_slice() => Task::Run(Run::Each, read_shows(shows)?),
-        [word, shows] if *word == b"locked".as_slice() => {
-            Task::Run(Run::Locked, read_shows(shows)?)
-        }
-        [word, tries, shows] if *word == b"head".as_slice() => {
+/// The task that a keyword and the words behind it say, if they say one.
+fn task_of(keyword: Keyword, words: &[&[u8]]) -> Result<Option<Task>> {
+    Ok(Some(match (keyword, words) {
+        (Keyword::Each, [shows]) => Task::Run(Run::Each, read_shows(shows)?),
+        (Keyword::Locked, [shows]) => Task::Run(Run::Locked, read_shows(shows)?),
+        (Keyword::Head, [tries, shows]) => {
             let tries = number(tries)?;
             Task::Run(Run::Head { tries }, read_shows(shows)?)
         }
-        [word, tries] if *word == b"orders".as_slice() => Task::Orders {
+        (Keyword::Orders, [tries]) => Task::Orders {
             tries: number(tries)?,
         },
-        [word, runs] if *word == b"drawn".as_slice() => Task::Drawn {
+        (Keyword::Drawn, [runs]) => Task::Drawn {
             runs: number(runs)?,
         },
         _ => return Ok(None),

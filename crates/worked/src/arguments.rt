@@ -1,9 +1,8 @@
-use crate::kinds::{Kind, kind_at, kind_count};
 use crate::numbers::Numbers;
 use crate::places::Places;
 use crate::splits::split;
 use crate::tables::Table;
-use crate::values::Value;
+use crate::values::{Kind, Value};
 use camp_base::{Name, Path, Tree};
 use camp_catch::Catch;
 use camp_ctx::{Contexted, CtxSet};
@@ -22,14 +21,14 @@ pub(crate) struct Arguments<'a> {
 }
 
 impl<'a> Arguments<'a> {
-    /// The arguments of the call of a name, which may name what stands in a table.
+    /// The arguments of a text, which are of these kinds and may name what stands in a table.
     pub(crate) fn new(
         table: &'a Table,
-        name: &[u8],
+        kinds: &[Kind],
         text: &'a [u8],
     ) -> Result<Arguments<'a>, NotationError> {
         let texts = split(table.alloc(), text)?;
-        let values = read_values(table, name, &texts)?;
+        let values = read_values(table, kinds, &texts)?;
         Ok(Arguments {
             table,
             texts,
@@ -179,16 +178,31 @@ impl<'a> Arguments<'a> {
 // A call asks for an argument of another kind than the one that was read.
 const OTHER: NotationError = NotationError::NoWord;
 
-/// The values of a call's arguments. One that is missing has an empty text; further ones than the call
-/// has are passed over.
-fn read_values(table: &Table, name: &[u8], texts: &[&[u8]]) -> Result<Vec<Value>, NotationError> {
+/// The values of arguments of these kinds. One that is missing has an empty text; further ones are
+/// passed over.
+fn read_values(
+    table: &Table,
+    kinds: &[Kind],
+    texts: &[&[u8]],
+) -> Result<Vec<Value>, NotationError> {
     let mut values = Vec::new(table.alloc());
-    for at in 0..kind_count(name, texts.len()) {
+    for at in 0..argument_count(kinds, texts) {
         let text = match texts.get(at) {
             Some(text) => *text,
             None => b"".as_slice(),
         };
-        values.push(Value::read(table, kind_at(name, at, text), text)?)?;
+        let kind = match kinds.get(at) {
+            Some(kind) => *kind,
+            None => Kind::Labels,
+        };
+        values.push(Value::read(table, kind, text)?)?;
     }
     Ok(values)
+}
+
+fn argument_count(kinds: &[Kind], texts: &[&[u8]]) -> usize {
+    match kinds {
+        [_, Kind::Labels] => texts.len().max(1),
+        _ => kinds.len(),
+    }
 }

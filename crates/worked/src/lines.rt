@@ -1,8 +1,7 @@
-use crate::arguments::Arguments;
-use crate::calls::call;
+use crate::calls;
+use crate::calls::CallLine;
 use crate::entries::entry_len;
 use crate::plays::{Stage, is_play};
-use crate::results::word;
 use crate::tables::{Table, split_call};
 use crate::wants::{Wants, allocate};
 use bstr::ByteSlice;
@@ -70,7 +69,10 @@ fn play<R: Threads + Wait + Sync>(
 /// The result of a line, where it is a call.
 fn answer(table: &mut Table, line: &[u8], wants: &mut Wants) -> Answer {
     match split_call(line) {
-        Some((name, text)) => Ok(Some(ask(table, name, text, wants)?)),
+        Some((name, text)) => {
+            let call = CallLine { table, name, text };
+            Ok(Some(calls::answer(call, wants)?))
+        }
         None => {
             learn(table, line, wants)?;
             Ok(None)
@@ -85,47 +87,6 @@ fn learn(table: &mut Table, line: &[u8], wants: &mut Wants) -> Result<(), Notati
             table.learn(line)
         }
         learned => learned,
-    }
-}
-
-fn ask(
-    table: &Table,
-    name: &[u8],
-    text: &[u8],
-    wants: &mut Wants,
-) -> Result<String, NotationError> {
-    let arguments = read_arguments(table, name, text, wants)?;
-    match call(name, &arguments) {
-        Err(NotationError::Memory) => {
-            wants.note();
-            ask_again(name, &arguments)
-        }
-        answer => answer,
-    }
-}
-
-fn read_arguments<'a>(
-    table: &'a Table,
-    name: &[u8],
-    text: &'a [u8],
-    wants: &mut Wants,
-) -> Result<Arguments<'a>, NotationError> {
-    match Arguments::new(table, name, text) {
-        Err(NotationError::Memory) => {
-            wants.note();
-            Arguments::new(table, name, text)
-        }
-        read => read,
-    }
-}
-
-/// The result of a call that has wanted memory, and is made again. Its arguments have to be as they
-/// were.
-fn ask_again(name: &[u8], arguments: &Arguments) -> Result<String, NotationError> {
-    if arguments.are_kept()? {
-        call(name, arguments)
-    } else {
-        word(arguments, "out of memory, and other arguments")
     }
 }
 

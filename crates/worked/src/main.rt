@@ -37,7 +37,6 @@ mod contexts;
 mod entries;
 mod faults;
 mod heads;
-mod kinds;
 mod lines;
 mod lists;
 mod numbers;

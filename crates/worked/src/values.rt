@@ -1,4 +1,3 @@
-use crate::kinds::Kind;
 use crate::numbers::{Numbers, numbers_text, read_number, read_numbers};
 use crate::places::{Places, places_text, read_places};
 use crate::tables::Table;
@@ -14,6 +13,34 @@ use camp_prim::{Label, Lines, Named};
 use camp_seq::Seq;
 use camp_share::Shared;
 use std::alloc::{AllocError, Global};
+
+/// What an argument of a call is read as.
+#[derive(Clone, Copy)]
+pub(crate) enum Kind {
+    /// Bytes.
+    Word,
+    Path,
+    /// The lines of one side of a hunk.
+    Lines,
+    Number,
+    Primitive,
+    /// A catch where its text begins as that of a catch, and a primitive elsewhere.
+    Patch,
+    /// A list of primitives.
+    List,
+    Tree,
+    Label,
+    /// A label, as each argument that stands behind it.
+    Labels,
+    Contexted,
+    Set,
+    Catch,
+    Catches,
+    /// A shared list of numbers.
+    Numbers,
+    /// A shared map from names to numbers.
+    Places,
+}
 
 /// An argument of a call. A primitive and a catch are lent by a `Shared`.
 #[derive(Drop)]
@@ -43,10 +70,13 @@ impl Value {
             Kind::Path => Ok(Value::Path(path_of(alloc, text)?)),
             Kind::Lines => Ok(Value::Lines(side_of(alloc, text)?)),
             Kind::Number => Ok(Value::Number(read_number(text)?)),
-            Kind::Primitive => Ok(Value::Primitive(primitive_of(alloc, known, text)?)),
+            Kind::Patch if is_catch(text) => Ok(Value::Catch(catch_of(alloc, known, text)?)),
+            Kind::Primitive | Kind::Patch => {
+                Ok(Value::Primitive(primitive_of(alloc, known, text)?))
+            }
             Kind::List => Ok(Value::List(read_list(alloc, known, table.meaning(text))?)),
             Kind::Tree => Ok(Value::Tree(read_tree(alloc, table.meaning(text))?)),
-            Kind::Label => Ok(Value::Label(read_label(alloc, text)?)),
+            Kind::Label | Kind::Labels => Ok(Value::Label(read_label(alloc, text)?)),
             Kind::Contexted => Ok(Value::Contexted(read_contexted(alloc, known, text)?)),
             Kind::Set => Ok(Value::Set(read_set(alloc, known, text)?)),
             Kind::Catch => Ok(Value::Catch(catch_of(alloc, known, text)?)),
@@ -76,6 +106,10 @@ impl Value {
             Value::Places(places) => places_text(alloc, places),
         }
     }
+}
+
+fn is_catch(text: &[u8]) -> bool {
+    matches!(text.first(), Some(b'[' | b'('))
 }
 
 fn path_of(alloc: Global, text: &[u8]) -> Result<Path, NotationError> {
