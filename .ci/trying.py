@@ -13,11 +13,11 @@ TOP = os.path.abspath(os.path.join(os.path.dirname(__file__), ".."))
 WORKED = f"{TOP}/crates/worked"
 
 
-def build(crate, program, words=()):
+def build(crate, program, words=(), given="stdin"):
     """Builds the program of a crate without proofs, as `rt try` with these words does, and leaves it in a file. `rt try` keeps
-    none, so the one that it runs is copied while it runs."""
+    none, so the one that it runs is copied while it runs: what it is given has to keep it busy for a while."""
     with tempfile.TemporaryDirectory(prefix="trying-") as folder, tempfile.TemporaryFile() as log:
-        with open(f"{crate}/stdin", "rb") as given:
+        with open(f"{crate}/{given}", "rb") as given:
             ran = subprocess.Popen(["rt", "try", *words], cwd=crate, env={**os.environ, "TMPDIR": folder}, stdin=given, stdout=log, stderr=log, start_new_session=True)
         found = False
         while not found and ran.poll() is None:
@@ -33,9 +33,9 @@ def build(crate, program, words=()):
 
 
 def taken(path, program):
-    """Copies a program, where it is whole: a linker makes it executable last."""
+    """Copies a program, where it is whole: its input is laid beside it when it is run."""
     try:
-        if not os.access(path, os.X_OK):
+        if not os.access(path, os.X_OK) or not os.path.exists(f"{os.path.dirname(path)}/stdin"):
             return False
         shutil.copy(path, program)
         return True
