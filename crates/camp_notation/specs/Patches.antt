@@ -1,10 +1,11 @@
 -- Labels and labelled primitives as text.
-use Rattle.std.specs.Prelude.{ℕ, Bool, ◌==◌, if◌then◌else◌, List, [], ◌∷◌, ◌++◌, codes}
-use Rattle.std.specs.List.{list_any}
+use Rattle.std.specs.Prelude.{ℕ, Bool, false, Option, Some, None, ◌==◌, if◌then◌else◌, List, [], ◌∷◌, ◌++◌, codes}
+use Rattle.std.specs.List.{find}
+use Rattle.std.specs.Ordering.{is_eq}
 use Rattle.std.specs.Fmt.{decimal}
 use Rattle.std.specs.Cmp.Lexicographic.{pointwise}
 use Rattle.camp_prim.specs.Hunks.{Edit}
-use Rattle.camp_prim.specs.Labels.{label_of}
+use Rattle.camp_prim.specs.Labels.{label_cmp, label_of}
 use Rattle.camp_prim.specs.declared.labels.Label.{Label}
 use Rattle.camp_prim.specs.declared.primitives.Primitive.{Primitive}
 use Rattle.camp_prim.specs.declared.primitives.Primitive.TheVariants.{Add, Remove, Hunk}
@@ -39,9 +40,18 @@ change_text (Hunk hunk) = hunk_text hunk
 abbrev pub whole_text : Named → List ℕ
 whole_text p = label_text (label_of p) ++ 32 ∷ change_text p.prim
 
--- a primitive is known where one of those that are known has its text
+-- the primitive that a label alone stands for: the first of those that are known with that label
+abbrev pub first_with : Label → List Named → Option Named
+first_with label known = find (λ k. is_eq (label_cmp (label_of k) label)) known
+
+-- there is a primitive, and this is its text
+abbrev pub has_text : List ℕ → Option Named → Bool
+has_text text None = false
+has_text text (Some k) = pointwise ◌==◌ (whole_text k) text
+
+-- a primitive is known where its label alone stands for it
 abbrev pub is_known : List Named → Named → Bool
-is_known known p = list_any (λ k. pointwise ◌==◌ (whole_text k) (whole_text p)) known
+is_known known p = has_text (whole_text p) (first_with (label_of p) known)
 
 -- a primitive that is known by its label alone, and any other as a whole
 abbrev pub named_text : List Named → Named → List ℕ

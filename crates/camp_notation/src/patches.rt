@@ -1,7 +1,5 @@
-ghost use Rattle.std.specs.Prelude.{◌≡◌, ◌==◌, ◌++◌, IfOk, OnOk, string_bytes};
-ghost use Rattle.std.specs.List.{list_any};
-ghost use Rattle.std.specs.Cmp.Lexicographic.{pointwise};
-ghost use Rattle.camp_notation.specs.Patches.{change_text, hunk_text, label_text, named_text, place_text, sign_text, whole_text};
+ghost use Rattle.std.specs.Prelude.{◌≡◌, ◌++◌, option_copied, IfOk, OnOk, string_bytes};
+ghost use Rattle.camp_notation.specs.Patches.{change_text, first_with, has_text, hunk_text, label_text, named_text, place_text, sign_text, whole_text};
 
 use crate::words::{append_lines, append_word};
 use camp_prim::{Hunk, Label, Named, Primitive};
@@ -20,7 +18,8 @@ pub fn label_text(alloc: Global, label: Label) -> Result<String, AllocError>
 }
 
 /// A labelled primitive: its label and what it changes, as `a add f`, `a remove f` and
-/// `p.2^ f 5 [e] -> [g]`. One that is known is written by its label alone.
+/// `p.2^ f 5 [e] -> [g]`. One that is known is written by its label alone, if it is the first of them
+/// with that label.
 pub fn named_text(alloc: Global, known: &[Named], p: &Named) -> Result<String, AllocError>
     ensures { IfOk result (λ text. string_bytes text ≡ named_text known.now p.now) }
 {
@@ -33,22 +32,28 @@ pub(crate) fn append_named(text: &mut String, known: &[Named], p: &Named) -> Res
     ensures { OnOk result (string_bytes text.new ≡ string_bytes text.old ++ named_text known.now p.now) }
 {
     let whole = whole_text(*text.allocator(), p)?;
-    if is_known(known, &whole)? {
+    if is_known(known, p.label(), &whole)? {
         append_label(text, p.label())
     } else {
         text.push_str(&whole)
     }
 }
 
-fn is_known(known: &[Named], whole: &String) -> Result<bool, AllocError>
-    ensures { IfOk result (λ found. found ≡ list_any (λ k. pointwise ◌==◌ (whole_text k) (string_bytes whole.now)) known.now) }
+/// Whether the primitive that a label alone stands for has this text.
+fn is_known(known: &[Named], label: Label, whole: &String) -> Result<bool, AllocError>
+    ensures { IfOk result (λ found. found ≡ has_text (string_bytes whole.now) (first_with label known.now)) }
 {
-    for k in known {
-        if whole_text(*whole.allocator(), k)?.as_bytes() == whole.as_bytes() {
-            return Ok(true);
-        }
+    match first_with(known, label) {
+        Some(k) => Ok(whole_text(*whole.allocator(), k)?.as_bytes() == whole.as_bytes()),
+        None => Ok(false),
     }
-    Ok(false)
+}
+
+/// The first of the known primitives with a label.
+pub(crate) fn first_with(known: &[Named], label: Label) -> Option<&Named>
+    ensures { option_copied result ≡ first_with label known.now }
+{
+    known.iter().find(|k| k.label().cmp(&label).is_eq())
 }
 
 fn whole_text(alloc: Global, p: &Named) -> Result<String, AllocError>

@@ -5,14 +5,15 @@ ghost use Rattle.camp_notation.specs.Trees.{tree_text};
 ghost use Rattle.camp_notation.specs.Words.{lines_text, word_text};
 
 use crate::cursors::Cursor;
+use crate::patches::first_with;
 use crate::{NotationError, label_text, lines_text, list_text, named_text, tree_text, word_text};
 use camp_base::{Line, Name, Path, Tree};
 use camp_prim::{Label, Lines, Named, Primitive};
 use camp_seq::Seq;
 use std::alloc::Global;
 
-/// The labelled primitive of a text. A label alone stands for the primitive of that label among
-/// those that are known.
+/// The labelled primitive of a text. A label alone stands for the first of the known primitives with
+/// that label.
 pub fn read_named(alloc: Global, known: &[Named], text: &[u8]) -> Result<Named, NotationError>
     ensures { IfOk result (λ p. text.now ≡ named_text known.now p) }
 {
@@ -157,12 +158,10 @@ fn labelled(label: Label, prim: Primitive) -> Named {
 }
 
 fn known_item(known: &[Named], label: Label) -> Result<Named, NotationError> {
-    for p in known {
-        if p.label() == label {
-            return Ok(p.try_clone()?);
-        }
+    match first_with(known, label) {
+        Some(p) => Ok(p.try_clone()?),
+        None => Err(NotationError::UnknownLabel),
     }
-    Err(NotationError::UnknownLabel)
 }
 
 fn read_label_there(cursor: &mut Cursor) -> Result<Label, NotationError> {
