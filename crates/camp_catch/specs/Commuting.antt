@@ -155,3 +155,9 @@ CommuteCatch (Plain a) (Plain b) k' j' = BothPlain a b k' j'
 CommuteCatch (Plain a) (Catch.Conflictor k) k' j' = CommutePlainConflictor a k k' j'
 CommuteCatch (Catch.Conflictor j) (Plain b) k' j' = ConflictorPastPlain j b k' j'
 CommuteCatch (Catch.Conflictor j) (Catch.Conflictor k) k' j' = CommuteConflictors j k k' j'
+
+-- what may be wanting memory: two plain catches where they change places, and any others
+abbrev pub MayWant : Catch → Catch → Type 0
+MayWant (Plain a) (Plain b) = (b' : Named) × ((a' : Named) × Swap a b b' a')
+MayWant (Plain a) (Catch.Conflictor k) = Unit {0}
+MayWant (Catch.Conflictor j) k = Unit {0}

@@ -1,4 +1,4 @@
-ghost use Rattle.std.specs.Prelude.{◌≡◌, ◌≤◌, [], ◌∷◌, length, IfOk, None, Some};
+ghost use Rattle.std.specs.Prelude.{◌≡◌, ◌≤◌, [], ◌∷◌, length, IfOk, IfErr, None, Some};
 ghost use Rattle.std.specs.FinMap.{get, len};
 ghost use Rattle.camp_base.specs.Answers.{Finds, FindsPair};
 ghost use Rattle.camp_prim.specs.Effect.{inverse_of};
@@ -7,8 +7,9 @@ ghost use Rattle.camp_seq.specs.NormalOrder.{Norm};
 ghost use Rattle.camp_seq.specs.Passing.{Fronts, PassesAll};
 ghost use Rattle.camp_ctx.specs.Adding.{Adds, PassesBy};
 ghost use Rattle.camp_ctx.specs.Contexts.{context_key, patch_key};
-ghost use Rattle.camp_catch.specs.Commuting.{BothPlain, CommuteCatch, CommutePlainConflictor, ConflictDissolves, ConflictorPastPlain, PlainLeavesTheSet, PlainPastConflictor};
+ghost use Rattle.camp_catch.specs.Commuting.{BothPlain, CommuteCatch, CommutePlainConflictor, ConflictDissolves, ConflictorPastPlain, MayWant, PlainLeavesTheSet, PlainPastConflictor};
 ghost use Rattle.camp_catch.specs.Conflictors.{Becomes};
+ghost use Rattle.camp_catch.specs.declared.catches.Catch.TheVariants.{Plain};
 ghost use Rattle.camp_catch.specs.Inside.Pairs.{PlainAndFirstConflict};
 
 use crate::conflictors::commute_conflictors;
@@ -21,9 +22,11 @@ use camp_seq::{Seq, front, past, past_all};
 use std::alloc::{AllocError, Global};
 
 /// What two catches and one after the other become in the other order: `Some((k', j'))`, where `k'`
-/// and then `j'` do what `j` and then `k` do. None where they can't change places.
+/// and then `j'` do what `j` and then `k` do. None where they can't change places. Of two plain
+/// catches None is answered whatever memory does.
 pub fn commute(alloc: Global, j: &Catch, k: &Catch) -> Result<Option<(Catch, Catch)>, AllocError>
     ensures exact { IfOk result (FindsPair (CommuteCatch j.now k.now)) }
+    ensures wanted { IfErr result (λ error. MayWant j.now k.now) }
 {
     match (j, k) {
         (Catch::Plain(a), Catch::Plain(b)) => both_plain(a, b),
@@ -35,7 +38,8 @@ pub fn commute(alloc: Global, j: &Catch, k: &Catch) -> Result<Option<(Catch, Cat
 
 /// `[a] [b] <-> [b'] [a']`
 fn both_plain(a: &Named, b: &Named) -> Result<Option<(Catch, Catch)>, AllocError>
-    ensures { IfOk result (FindsPair (BothPlain a.now b.now)) }
+    ensures exact { IfOk result (FindsPair (BothPlain a.now b.now)) }
+    ensures wanted { IfErr result (λ error. MayWant (Plain a.now) (Plain b.now)) }
 {
     let swapped = camp_prim::commute(a, b)?;
     let Some((b, a)) = swapped else {
