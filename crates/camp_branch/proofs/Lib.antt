@@ -1,3 +1,4 @@
+pub mod AgreedFronts
 pub mod BranchFields
 pub mod BranchLabels
 pub mod BranchTrees
@@ -9,11 +10,12 @@ pub mod KeepLawful
 pub mod MemberNames
 pub mod NameSets
 pub mod Names
+pub mod NamesBehind
 pub mod NamesKept
 pub mod NewEnds
 pub mod OutcomesDetermined
 pub mod PullSteps
-pub mod SharedFronts
+pub mod PullsBehind
 pub mod SortedPairs
 pub mod Steps
 pub mod Undone

@@ -1,15 +1,15 @@
 -- Sets of names, a name more or less at a time.
-use Rattle.std.proofs.Common.{◌≡◌, ◌<◌, ◌+◌, ℕ, Bool, true, false, not, cond, ◌||◌, ◌&&◌, Option, None, Some, Result, Ok, Err, IfOk, List, [], ◌∷◌, map, drop, length, get_or, is_some, bytes_eq, refl, sym, ap, ◌∙◌}
+use Rattle.std.proofs.Common.{◌≡◌, ◌<◌, ◌+◌, ℕ, Bool, true, false, not, cond, ◌||◌, ◌&&◌, Option, None, Some, List, [], ◌∷◌, map, drop, length, get_or, is_some, bytes_eq, refl, sym, ap, ◌∙◌}
 use Rattle.std.proofs.lemmas.Map.Text.{is_eq-slice_cmp}
 use Rattle.std.specs.List.{list_any}
 use Rattle.std.specs.Ordering.{nat_cmp, eq_by_cmp}
 use Rattle.std.specs.Cmp.Lexicographic.{slice_cmp, nat_list_cmp_total}
-use Rattle.std.specs.FinMap.{nat_cmp-IsAntisymmetric, slice_cmp-IsAntisymmetric, contains_key, contains_key-keys, get, get-remove, get-retain_keys, insert, remove, retain_keys, keys}
-use Rattle.camp_share.specs.Maps.{map_of}
+use Rattle.std.specs.FinMap.{contains_key, contains_key-keys, get, get-remove, insert, remove, keys}
 use Rattle.camp_catch.specs.declared.catches.Catch.{Catch}
 use Rattle.camp_catch.proofs.MoveSteps.{stands_at}
 use Rattle.camp_branch.specs.Branches.{is_among, name_of}
 use Rattle.camp_branch.proofs.BranchFields.{Names, contains_more}
+use Rattle.camp_branch.proofs.Names.{same_name}
 
 -- what a set lists
 abbrev pub Entries : Type 0
@@ -54,23 +54,6 @@ pub one_goes : (left next : Names) (rest more : Entries) (entry : List ℕ × Un
 one_goes left next rest more entry aim inv is becomes name =
     ap (λ m. contains_key m name && not (listed more name)) becomes ∙ ap (λ b. b && not (listed more name)) (contains_less left entry.0 name) ∙ and_not (contains_key left name) (bytes_eq name entry.0) (listed more name) ∙ ap (λ r. contains_key left name && not (listed r name)) (sym is) ∙ inv name
 
-only_where : {X : Type 0} (b : Bool) (o : Option X) → is_some (cond b o None) ≡ (is_some o && b)
-only_where true None = refl
-only_where true (Some x) = refl
-only_where false None = refl
-only_where false (Some x) = refl
-
--- the names that two sets have
-pub contains_common : (names others : Names) (name : List ℕ) → contains_key (retain_keys names (contains_key others)) name ≡ (is_among (keys names) name && contains_key others name)
-contains_common names others name =
-    let kept = get-retain_keys names (contains_key others) name (λ other tied. ap (contains_key others) (sym (slice_cmp-IsAntisymmetric nat_cmp-IsAntisymmetric name other tied))) in
-    ap is_some kept ∙ only_where (contains_key others name) (get names name) ∙ ap (λ b. b && contains_key others name) (has_listed names name)
-
-pub has_common : {E : Type 0} (names others : Names) (result : Result Entries E) → IfOk result (λ both. map_of (slice_cmp nat_cmp) both ≡ retain_keys names (contains_key others)) → IfOk result (λ both. (name : List ℕ) → contains_key (map_of (slice_cmp nat_cmp) both) name ≡ (is_among (keys names) name && contains_key others name))
-has_common names others (Ok both) is =
-    λ name. ap (λ m. contains_key m name) is ∙ contains_common names others name
-has_common names others (Err fault) is = tt
-
 pub and_false : (c : Bool) → (c && false) ≡ false
 and_false true = refl
 and_false false = refl
@@ -87,3 +70,37 @@ pub one_comes : (all next : Names) (taken : List Catch) (i : ℕ) (k d : Catch) 
 one_comes all next taken i k d named aim inv within is called becomes name =
     let rest = drop (i + 1) taken in
     ap (λ m. contains_key m name || is_among (map name_of rest) name) (becomes ∙ ap (λ n. insert all n tt) called) ∙ ap (λ b. b || is_among (map name_of rest) name) (contains_more all (name_of k) name) ∙ or_assoc (contains_key all name) (bytes_eq name (name_of k)) (is_among (map name_of rest) name) ∙ ap (λ r. contains_key all name || is_among (map name_of r) name) (sym (stands_at taken i d k within is)) ∙ inv name
+
+-- the name of a catch that is not there before, where a set has it
+held : (c e m h : Bool) → (e ≡ true → h ≡ true) → ((c || e) || (m && h)) ≡ (c || ((e || m) && h))
+held true e m h has = refl
+held false true m h has = sym (has refl)
+held false false m h has = refl
+
+not_held : (c e m h : Bool) → (e ≡ true → h ≡ false) → (c || (m && h)) ≡ (c || ((e || m) && h))
+not_held true e m h lacks = refl
+not_held false true m h lacks = ap (λ b. m && b) (lacks refl) ∙ and_false m ∙ sym (lacks refl)
+not_held false false m h lacks = refl
+
+-- of some catches, those of the rest whose names a set has are still to come into another
+abbrev pub IsGrownBy : Names → Names → List Catch → (List ℕ → Bool) → Type 0
+IsGrownBy names all rest aim =
+    (name : List ℕ) → (contains_key all name || (is_among (map name_of rest) name && contains_key names name)) ≡ aim name
+
+module _ (names all : Names) (list : List Catch) (i : ℕ) (k d : Catch) (named : List ℕ) (aim : List ℕ → Bool) (inv : IsGrownBy names all (drop i list) aim) (within : i < length list) (is : k ≡ get_or list i d) (called : named ≡ name_of k) where
+  this_one : (b : Bool) → contains_key names named ≡ b → (name : List ℕ) → bytes_eq name (name_of k) ≡ true → contains_key names name ≡ b
+  this_one b e name same = ap (contains_key names) (same_name name (name_of k) same ∙ sym called) ∙ e
+
+  here : (name : List ℕ) → (contains_key all name || (is_among (map name_of (k ∷ drop (i + 1) list)) name && contains_key names name)) ≡ aim name
+  here name =
+      ap (λ r. contains_key all name || (is_among (map name_of r) name && contains_key names name)) (sym (stands_at list i d k within is)) ∙ inv name
+
+  pub one_held : (next : Names) → contains_key names named ≡ true → next ≡ insert all named tt → IsGrownBy names next (drop (i + 1) list) aim
+  one_held next e becomes name =
+      let rest = is_among (map name_of (drop (i + 1) list)) name in
+      ap (λ m. contains_key m name || (rest && contains_key names name)) (becomes ∙ ap (λ n. insert all n tt) called) ∙ ap (λ b. b || (rest && contains_key names name)) (contains_more all (name_of k) name) ∙ held (contains_key all name) (bytes_eq name (name_of k)) rest (contains_key names name) (this_one true e name) ∙ here name
+
+  pub one_not_held : contains_key names named ≡ false → IsGrownBy names all (drop (i + 1) list) aim
+  one_not_held e name =
+      let rest = is_among (map name_of (drop (i + 1) list)) name in
+      not_held (contains_key all name) (bytes_eq name (name_of k)) rest (contains_key names name) (this_one false e name) ∙ here name

@@ -9,11 +9,11 @@ use Rattle.camp_catch.proofs.MoveSteps.{names_decide}
 use Rattle.camp_branch.specs.Branches.{IsLawful, each_once, has_patch, is_among, name_of, names_of}
 use Rattle.camp_branch.specs.Inside.Stages.{DependsIn}
 use Rattle.camp_branch.specs.Obliterating.{ObliterateGives, other_names}
-use Rattle.camp_branch.specs.Pulling.{Outcome, MergesBehind, PullBy, PullGives, common_names}
+use Rattle.camp_branch.specs.Pulling.{common_names}
 use Rattle.camp_branch.specs.declared.faults.Blocked.{Blocked}
 use Rattle.camp_branch.proofs.BranchFields.{Names}
 use Rattle.camp_branch.proofs.KeepLawful.{obliterates_keep_lawful}
-use Rattle.camp_branch.proofs.NameSets.{and_false, and_true, has_listed}
+use Rattle.camp_branch.proofs.NameSets.{and_false, and_true}
 use Rattle.camp_branch.proofs.Names.{is_among_is, other_way, same_name}
 
 kept_step : (p : List ℕ → Bool) (n x : List ℕ) (kept names : List (List ℕ)) (b c : Bool) → bytes_eq n x ≡ b → p x ≡ c → is_among kept n ≡ (is_among names n && p n) → is_among (cond c (x ∷ kept) kept) n ≡ ((b || is_among names n) && p n)
@@ -75,35 +75,3 @@ module _ (branch : List Catch) (gone : List (List ℕ)) (staying : Names) (stays
   obliterate_depends list blocked is v =
       let w = subst (λ l. DependsIn (keys staying) l blocked) is v in
       inr (w.0, w.1, arrange_by_members.sticks (keys staying) (other_names branch gone) same_others branch w.0 w.1 w.2, ap Err w.3)
-
-module _ (common others : List (List ℕ)) (same : (n : List ℕ) → Contains common n ↔ Contains others n) where
-  merges_by_members : (ours chosen to : List Catch) (outcome : Outcome) → MergesBehind common ours chosen to outcome → MergesBehind others ours chosen to outcome
-  merges_by_members ours chosen to outcome (inl w) =
-      inl (w.0, w.1, arrange_by_members.arranged common others same to w.0 w.1 w.2, w.3)
-  merges_by_members ours chosen to outcome (inr w) =
-      inr (w.0, w.1, arrange_by_members.sticks common others same to w.0 w.1 w.2, w.3)
-
-  -- a pull goes by which names are common, and not by their order or number
-  pub pull_by_members : (from to : List Catch) (wanted : List (List ℕ)) (outcome : Outcome) → PullBy common from to wanted outcome → PullBy others from to wanted outcome
-  pull_by_members from to wanted outcome (inl w) =
-      inl (
-        w.0,
-        w.1,
-        arrange_by_members.arranged common others same from w.0 w.1 w.2,
-        elim w.3 [
-          | inl v ↦ inl (v.0, v.1, v.2, merges_by_members w.0 v.0 to outcome v.3)
-          | inr v ↦ inr v
-        ],
-      )
-  pull_by_members from to wanted outcome (inr w) =
-      inr (w.0, w.1, arrange_by_members.sticks common others same from w.0 w.1 w.2, w.3)
-
--- a pull by a set of the common names
-pub pull_by_set : (from to : List Catch) (wanted : List (List ℕ)) (common : Names) (outcome : Outcome) → ((n : List ℕ) → contains_key common n ≡ (has_patch from n && has_patch to n)) → PullBy (keys common) from to wanted outcome → PullGives from to wanted outcome
-pull_by_set from to wanted common outcome has =
-    pull_by_members (keys common) (common_names from to) (same_members common (common_names from to) (λ n. has n ∙ sym (among_common from to n))) from to wanted outcome
-
--- which names are common, by the indexes of two branches
-pub common_by : (index other common : Names) (from to theirs ours : List Catch) → ((n : List ℕ) → contains_key index n ≡ has_patch theirs n) → theirs ≡ from → ((n : List ℕ) → contains_key other n ≡ has_patch ours n) → ours ≡ to → ((n : List ℕ) → contains_key common n ≡ (is_among (keys index) n && contains_key other n)) → (n : List ℕ) → contains_key common n ≡ (has_patch from n && has_patch to n)
-common_by index other common from to theirs ours named is named_too is_too has n =
-    has n ∙ (λ i. (sym (has_listed index n) ∙ named n ∙ ap (λ l. has_patch l n) is) i && (named_too n ∙ ap (λ l. has_patch l n) is_too) i)

@@ -1,3 +1,4 @@
+pub mod Agreeing
 pub mod Branches
 pub mod Conflicting
 pub mod Fields

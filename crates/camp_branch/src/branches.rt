@@ -1,6 +1,7 @@
 ghost use Rattle.std.specs.Prelude.{◌≡◌, ◌≤◌, ◌++◌, ℕ, List, [], false, length, take, drop, IfOk};
 ghost use Rattle.std.specs.FinMap.{empty as no_files};
 ghost use Rattle.camp_base.specs.Trees.{Files};
+ghost use Rattle.camp_branch.specs.Agreeing.{Agree};
 ghost use Rattle.camp_branch.specs.Branches.{IsLawful, LeadsTo, has_patch, names_of, recorded};
 ghost use Rattle.camp_branch.specs.Conflicting.{AreConflicts};
 ghost use Rattle.camp_branch.specs.Fields.{has_name, names_in};
@@ -8,8 +9,10 @@ ghost use Rattle.camp_branch.specs.Laws.{AppliesEach, AreLacked};
 ghost use Rattle.camp_branch.specs.Obliterating.{ObliterateGives};
 ghost use Rattle.camp_branch.specs.Pulling.{PullGives};
 
+use crate::agreements::agreed;
 use crate::conflicts::conflicts_of;
 use crate::effects::{tree_after, tree_before};
+use crate::name_sets::common;
 use crate::pulls::{pull, wanted_next};
 use crate::{Blocked, name_sets};
 use camp_base::{Name, Tree};
@@ -136,6 +139,20 @@ impl Branch {
         })
     }
 
+    /// How long a front of another branch is known to agree with a front of this one: at least as
+    /// long as it was known, and longer where what stands behind agrees too.
+    pub fn agreed(&self, from: &Branch, known: usize) -> Result<usize, AllocError>
+        requires { Agree from.now self.now known }
+        ensures { IfOk result (Agree from.now self.now) }
+    {
+        agreed(
+            self.catches.allocator(),
+            &from.catches,
+            &self.catches,
+            known,
+        )
+    }
+
     /// The branch with what the wanted patches of another one become behind it, or why they can't
     /// come there.
     pub fn pulled(
@@ -146,12 +163,26 @@ impl Branch {
         requires lacked { AreLacked self.now (names_in wanted.now) }
         ensures exact { IfOk result (λ outcome. PullGives from.now self.now (names_in wanted.now) outcome) }
     {
-        let alloc = self.catches.allocator();
-        let front = name_sets::same_front(&from.catches, &self.catches);
-        let common = name_sets::common(&from.names, &self.names)?;
-        let theirs = behind(&from.catches, front)?;
-        let ours = behind(&self.catches, front)?;
-        let taken = pull(alloc, &theirs, &ours, &common, wanted)?;
+        let known = self.agreed(from, 0)?;
+        self.pulled_behind(from, wanted, known)
+    }
+
+    /// The same, where fronts of the two branches are known to agree. It looks only at what stands
+    /// behind them.
+    pub fn pulled_behind(
+        &self,
+        from: &Branch,
+        wanted: &SharedMap<Name, ()>,
+        known: usize,
+    ) -> Result<Result<Branch, Blocked>, AllocError>
+        requires lacked { AreLacked self.now (names_in wanted.now) }
+        requires agree { Agree from.now self.now known }
+        ensures exact { IfOk result (λ outcome. PullGives from.now self.now (names_in wanted.now) outcome) }
+    {
+        let theirs = behind(&from.catches, known)?;
+        let ours = behind(&self.catches, known)?;
+        let common = common(&theirs, &from.names, &ours, &self.names)?;
+        let taken = pull(self.catches.allocator(), &theirs, &ours, &common, wanted)?;
         match taken {
             Ok(taken) => Ok(Ok(self.with_taken(&taken)?)),
             Err(blocked) => Ok(Err(blocked)),

@@ -2,6 +2,7 @@
 //! comes of pulling patches from one into another and of taking patches out.
 #![tactic(auto)]
 
+mod agreements;
 mod branches;
 mod conflicts;
 mod effects;

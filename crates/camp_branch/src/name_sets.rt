@@ -1,7 +1,7 @@
 ghost use Rattle.std.specs.Prelude.{◌≡◌, ◌&&◌, ◌||◌, ℕ, List, not, map, IfOk};
 ghost use Rattle.camp_branch.specs.Branches.{is_among, name_of};
 ghost use Rattle.camp_branch.specs.Fields.{has_name, names_in};
-ghost use Rattle.camp_branch.specs.Inside.Fronts.{front_of, StartAlike};
+ghost use Rattle.camp_branch.specs.Inside.Fronts.{front_of};
 
 use camp_base::Name;
 use camp_catch::Catch;
@@ -23,15 +23,42 @@ pub(crate) fn without(
     Ok(left)
 }
 
-/// The names that two sets have.
+/// The names of patches that catches of two lists are of, where both branches have the patch: the
+/// names of the one branch stand in a set, and those of the other in another.
 pub(crate) fn common(
+    list: &[Shared<Catch>],
     names: &SharedMap<Name, ()>,
-    others: &SharedMap<Name, ()>,
+    others: &[Shared<Catch>],
+    other_names: &SharedMap<Name, ()>,
 ) -> Result<SharedMap<Name, ()>, AllocError>
-    ensures { IfOk result (λ both. (name : List ℕ) →
-        has_name both name ≡ (is_among (names_in names.now) name && has_name others.now name)) }
+    ensures { IfOk result (λ both. (name : List ℕ) → has_name both name ≡
+        ((is_among (map name_of list.now) name && has_name other_names.now name)
+        || (is_among (map name_of others.now) name && has_name names.now name))) }
 {
-    names.intersection(others)
+    let none = SharedMap::new(names.allocator());
+    let first = with_those_in(&none, list, other_names)?;
+    let both = with_those_in(&first, others, names)?;
+    Ok(both)
+}
+
+/// The names of a set, and those of the patches of catches that stand in another.
+fn with_those_in(
+    set: &SharedMap<Name, ()>,
+    list: &[Shared<Catch>],
+    names: &SharedMap<Name, ()>,
+) -> Result<SharedMap<Name, ()>, AllocError>
+    ensures { IfOk result (λ all. (name : List ℕ) → has_name all name ≡
+        (has_name set.now name || (is_among (map name_of list.now) name && has_name names.now name))) }
+{
+    let mut all = set.share()?;
+    for catch in list {
+        let name = catch.name();
+        if !names.contains_key(name) {
+            continue;
+        }
+        all = all.inserted(*name, ())?;
+    }
+    Ok(all)
 }
 
 /// The names, and those of the patches that catches are of.
@@ -60,28 +87,6 @@ pub(crate) fn front(catches: &SharedList<Shared<Catch>>, names: &SharedMap<Name,
             return front;
         }
         front += 1;
-    }
-    end
-}
-
-/// How many catches two lists begin with that are the same in both.
-pub(crate) fn same_front(
-    list: &SharedList<Shared<Catch>>,
-    others: &SharedList<Shared<Catch>>,
-) -> usize
-    ensures { StartAlike list.now others.now result }
-{
-    let end = list.len();
-    let mut rest = others.iter();
-    let mut same = 0;
-    for catch in list.iter() {
-        let Some(other) = rest.next() else {
-            return same;
-        };
-        if !catch.is_same(other) {
-            return same;
-        }
-        same += 1;
     }
     end
 }

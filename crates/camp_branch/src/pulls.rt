@@ -103,7 +103,7 @@ pub(crate) fn wanted_next(
 }
 
 /// Looks whether the common patches of one branch are those of the other in the other's order.
-fn same_front(
+pub(crate) fn same_front(
     alloc: Global,
     ours: &[Shared<Catch>],
     theirs: &[Shared<Catch>],

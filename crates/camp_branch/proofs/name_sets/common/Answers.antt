@@ -1,9 +1,13 @@
+use Rattle.std.proofs.Common.{◌||◌, ◌&&◌, ap, ◌∙◌, is_some, map}
 use Rattle.std.specs.Cmp.Lexicographic.{slice_cmp}
+use Rattle.std.specs.FinMap.{contains_key, get-empty}
 use Rattle.std.specs.Ordering.{nat_cmp}
-use Rattle.camp_share.specs.Maps.{map_of}
-use Rattle.camp_branch.proofs.NameSets.{has_common}
+use Rattle.camp_branch.specs.Branches.{is_among, name_of}
+use Rattle.camp_branch.specs.Fields.{has_name}
 use Rattle.camp_branch.proofs.name_sets.common.Goals as goal
 
 pub returns : goal.returns
-returns c =
-    has_common (map_of (slice_cmp nat_cmp) c.args.names.now) (map_of (slice_cmp nat_cmp) c.args.others.now) c.intersection.result c.intersection.ensures
+returns c name =
+    let none = ap (λ m. contains_key m name) c.new-none.ensures ∙ ap is_some (get-empty (slice_cmp nat_cmp) name) in
+    let first = c.in_ok-first.ensures name ∙ ap (λ b. b || (is_among (map name_of c.args.list.now) name && has_name c.args.other_names.now name)) none in
+    c.in_ok-both.ensures name ∙ ap (λ b. b || (is_among (map name_of c.args.others.now) name && has_name c.args.names.now name)) first

@@ -1,0 +1,243 @@
+-- Two branches whose fronts agree: a pull goes by what stands behind those.
+use Rattle.std.proofs.Common.{◌≡◌, ◌≤◌, ◌+◌, ℕ, zero, suc, Bool, true, false, ◌||◌, ◌&&◌, Ok, Err, List, [], ◌∷◌, ◌++◌, map, bytes_eq, take, drop, length, slice_range, ◌-◌, refl, sym, ap, ◌∙◌, subst, inl, inr, arith}
+use Rattle.std.proofs.lemmas.List.{append_assoc, length-append, length-take-le, map-append, take-append-drop, take-append-le}
+use Rattle.std.proofs.lemmas.List.Folds.{list_any-append}
+use Rattle.std.proofs.Math.Seq.{take-append-add}
+use Rattle.std.specs.Prelude.{Contains}
+use Rattle.camp_prim.specs.declared.labels.Key.{Key}
+use Rattle.camp_catch.specs.Arranging.{Align, AlignSticks, Arrange, ArrangeSticks, ComesFirst, IsOf}
+use Rattle.camp_catch.specs.Catches.{catch_key}
+use Rattle.camp_catch.specs.Laws.{KeysAlign, keys_of}
+use Rattle.camp_catch.specs.declared.catches.Catch.{Catch}
+use Rattle.camp_catch.proofs.KeptLabels.{keep_labels}
+use Rattle.camp_branch.specs.Agreeing.{Agree}
+use Rattle.camp_branch.specs.Branches.{has_patch, is_among, name_of}
+use Rattle.camp_branch.specs.Pulling.{DiffersAt, MergedLast, MergesBehind, Outcome, PullBy, PullGives, SameThen, common_names}
+use Rattle.camp_branch.specs.declared.faults.Blocked.{Blocked}
+use Rattle.camp_branch.proofs.Names.{is_among_is, or_true}
+use Rattle.camp_branch.proofs.NamesKept.{among_common}
+
+-- an outcome with a front before what it gives
+abbrev fronted : List Catch → Outcome → Outcome
+fronted front (Ok list) = Ok (front ++ list)
+fronted front (Err blocked) = Err blocked
+
+-- each catch is of one of the patches
+abbrev AllOf : List (List ℕ) → List Catch → Type 0
+AllOf names [] = Unit {0}
+AllOf names (k ∷ list) = IsOf names k × AllOf names list
+
+all_of : (names : List (List ℕ)) (list : List Catch) → ((n : List ℕ) → Contains (map name_of list) n → Contains names n) → AllOf names list
+all_of names [] each = tt
+all_of names (k ∷ list) each =
+    (each (name_of k) (zero, (omega arith), refl), all_of names list (λ n w. let within = w.1 in each n (suc w.0, (omega arith), w.2)))
+
+module _ (names : List (List ℕ)) where
+  arranged_front : (front list first rest : List Catch) → AllOf names front → Arrange names list first rest → Arrange names (front ++ list) (front ++ first) rest
+  arranged_front [] list first rest a w = w
+  arranged_front (k ∷ front) list first rest a w =
+      inl (a.0, (k, [], front ++ first, (refl, refl), arranged_front front list first rest a.1 w, refl))
+
+  sticks_front : (front list : List Catch) (patch on : Key) → AllOf names front → ArrangeSticks names list patch on → ArrangeSticks names (front ++ list) patch on
+  sticks_front [] list patch on a w = w
+  sticks_front (k ∷ front) list patch on a w =
+      inr (inl (a.0, (k, [], (refl, refl), sticks_front front list patch on a.1 w)))
+
+-- what comes first of a front comes first of the whole
+comes_within : (key : Key) (list more : List Catch) (k : Catch) (others : List Catch) → ComesFirst key list k others → ComesFirst key (list ++ more) k (others ++ more)
+comes_within key [] more k others w = absurd w
+comes_within key (j ∷ list) more k others (inl w) = inl (w.0, w.1, ap (λ l. l ++ more) w.2)
+comes_within key (j ∷ list) more k others (inr w) =
+    let come = w.1 in
+    inr (w.0, (come.0, come.1, come.2 ++ more, comes_within key list more come.0 come.2 come.3, come.4, ap (λ l. l ++ more) come.5))
+
+same_tail : (g k : Catch) (front t : List Catch) → (g ∷ front) ≡ (k ∷ t) → front ≡ t
+same_tail g k front t e = cc
+
+same_head : (g k : Catch) (front t : List Catch) → (g ∷ front) ≡ (k ∷ t) → g ≡ k
+same_head g k front t e = cc
+
+-- a front that comes into the order of another does so with more behind both
+pub aligned_front : (others front theirs ours aligned : List Catch) → Align (keys_of others) front others → Align (keys_of theirs) ours aligned → Align (keys_of (others ++ theirs)) (front ++ ours) (others ++ aligned)
+aligned_front [] front theirs ours aligned v w = subst (λ f. Align (keys_of theirs) (f ++ ours) aligned) v w
+aligned_front (g ∷ others) front theirs ours aligned v w =
+    let rest = subst (Align (keys_of others) v.1) (sym (same_tail g v.0 others v.2 v.5)) v.4 in
+    (v.0, v.1 ++ ours, others ++ aligned, comes_within (catch_key g) front ours v.0 v.1 v.3, aligned_front others v.1 theirs ours aligned rest w, ap (λ k. k ∷ (others ++ aligned)) (same_head g v.0 others v.2 v.5))
+
+align_sticks_front : (others front theirs ours : List Catch) (stuck : Key) → Align (keys_of others) front others → AlignSticks (keys_of theirs) ours stuck → AlignSticks (keys_of (others ++ theirs)) (front ++ ours) stuck
+align_sticks_front [] front theirs ours stuck v w = subst (λ f. AlignSticks (keys_of theirs) (f ++ ours) stuck) v w
+align_sticks_front (g ∷ others) front theirs ours stuck v w =
+    let rest = subst (Align (keys_of others) v.1) (sym (same_tail g v.0 others v.2 v.5)) v.4 in
+    inr (v.0, v.1 ++ ours, comes_within (catch_key g) front ours v.0 v.1 v.3, align_sticks_front others v.1 theirs ours stuck rest w)
+
+differs_front : (front aligned theirs : List Catch) (name : List ℕ) → DiffersAt aligned theirs name → DiffersAt (front ++ aligned) (front ++ theirs) name
+differs_front [] aligned theirs name w = w
+differs_front (k ∷ front) aligned theirs name w = inr (refl, differs_front front aligned theirs name w)
+
+-- a front of `from`, and the one of `to` with which it agrees
+module _ (names : List (List ℕ)) (front others : List Catch) (a : AllOf names front) (b : AllOf names others) (agree : Align (keys_of others) front others) where
+  last_front : (chosen beside to : List Catch) (outcome : Outcome) → MergedLast chosen beside (λ taken rest o. o ≡ Ok (to ++ taken)) outcome → MergedLast chosen beside (λ taken rest o. o ≡ Ok ((others ++ to) ++ taken)) (fronted others outcome)
+  last_front chosen beside to outcome (inl w) =
+      inl (w.0, w.1, w.2, ap (fronted others) w.3 ∙ ap Ok (sym (append_assoc others to w.0)))
+  last_front chosen beside to outcome (inr w) = inr (w.0, w.1, w.2, ap (fronted others) w.3)
+
+  same_then : (ours theirs chosen beside to : List Catch) (outcome : Outcome) → SameThen ours theirs (MergedLast chosen beside (λ taken rest o. o ≡ Ok (to ++ taken))) outcome → SameThen (front ++ ours) (others ++ theirs) (MergedLast chosen beside (λ taken rest o. o ≡ Ok ((others ++ to) ++ taken))) (fronted others outcome)
+  same_then ours theirs chosen beside to outcome (inl w) =
+      inl (aligned_front others front theirs ours theirs agree w.0, last_front chosen beside to outcome w.1)
+  same_then ours theirs chosen beside to outcome (inr (inl w)) =
+      inr (inl (w.0, align_sticks_front others front theirs ours w.0 agree w.1, ap (fronted others) w.2))
+  same_then ours theirs chosen beside to outcome (inr (inr w)) =
+      inr (inr (others ++ w.0, w.1, aligned_front others front theirs ours w.0 agree w.2, differs_front others w.0 theirs w.1 w.3, ap (fronted others) w.4))
+
+  merges_front : (ours chosen to : List Catch) (outcome : Outcome) → MergesBehind names ours chosen to outcome → MergesBehind names (front ++ ours) chosen (others ++ to) (fronted others outcome)
+  merges_front ours chosen to outcome (inl w) =
+      inl (others ++ w.0, w.1, arranged_front names others to w.0 w.1 b w.2, same_then ours w.0 chosen w.1 to outcome w.3)
+  merges_front ours chosen to outcome (inr w) =
+      inr (w.0, w.1, sticks_front names others to w.0 w.1 b w.2, ap (fronted others) w.3)
+
+  -- a pull goes by what stands behind the two fronts
+  pull_front : (from to : List Catch) (wanted : List (List ℕ)) (outcome : Outcome) → PullBy names from to wanted outcome → PullBy names (front ++ from) (others ++ to) wanted (fronted others outcome)
+  pull_front from to wanted outcome (inl w) =
+      inl (
+        front ++ w.0,
+        w.1,
+        arranged_front names front from w.0 w.1 a w.2,
+        elim w.3 [
+          | inl v ↦ inl (v.0, v.1, v.2, merges_front w.0 v.0 to outcome v.3)
+          | inr v ↦ inr (v.0, v.1, v.2, ap (fronted others) v.3)
+        ],
+      )
+  pull_front from to wanted outcome (inr w) =
+      inr (w.0, w.1, sticks_front names front from w.0 w.1 a w.2, ap (fronted others) w.3)
+
+or_first : (a b : Bool) → a ≡ true → (a || b) ≡ true
+or_first a b e = ap (λ c. c || b) e
+
+or_swap : (a b c : Bool) → (a || (b || c)) ≡ (b || (a || c))
+or_swap true true c = refl
+or_swap true false c = refl
+or_swap false true c = refl
+or_swap false false c = refl
+
+has_split : (front rest : List Catch) (n : List ℕ) → has_patch (front ++ rest) n ≡ (has_patch front n || has_patch rest n)
+has_split front rest n =
+    ap (λ l. is_among l n) (map-append name_of front rest) ∙ list_any-append (bytes_eq n) (map name_of front) (map name_of rest)
+
+-- a list has the patches of its front, and those of what stands behind it
+pub front_has : (front rest : List Catch) (n : List ℕ) → has_patch front n ≡ true → has_patch (front ++ rest) n ≡ true
+front_has front rest n e = has_split front rest n ∙ or_first (has_patch front n) (has_patch rest n) e
+
+pub behind_has : (front rest : List Catch) (n : List ℕ) → has_patch rest n ≡ true → has_patch (front ++ rest) n ≡ true
+behind_has front rest n e = has_split front rest n ∙ or_true (has_patch front n) (has_patch rest n) e
+
+abbrev key_names : List Key → List (List ℕ)
+key_names keys = map (λ key. key.name) keys
+
+names_of_keys : (list : List Catch) → key_names (keys_of list) ≡ map name_of list
+names_of_keys [] = refl
+names_of_keys (k ∷ list) = ap (λ l. name_of k ∷ l) (names_of_keys list)
+
+from_middle : (before after : List Key) (key : Key) (n : List ℕ) → is_among (key_names (before ++ key ∷ after)) n ≡ (bytes_eq n key.name || is_among (key_names (before ++ after)) n)
+from_middle [] after key n = refl
+from_middle (b ∷ before) after key n =
+    ap (λ t. bytes_eq n b.name || t) (from_middle before after key n) ∙ or_swap (bytes_eq n b.name) (bytes_eq n key.name) _
+
+aligned_names : (order keys aligned : List Key) → KeysAlign order keys aligned → (n : List ℕ) → is_among (key_names keys) n ≡ is_among (key_names aligned) n
+aligned_names [] keys aligned w n = ap (λ l. is_among (key_names l) n) (sym w)
+aligned_names (key ∷ order) keys aligned w n =
+    ap (λ l. is_among (key_names l) n) w.3 ∙ from_middle w.0 w.1 key n ∙ ap (λ b. bytes_eq n key.name || b) (aligned_names order (w.0 ++ w.1) w.2 w.4 n) ∙ sym (ap (λ l. is_among (key_names l) n) w.5)
+
+-- fronts that agree have the same patches
+agree_names : (front others : List Catch) → Align (keys_of others) front others → (n : List ℕ) → has_patch front n ≡ has_patch others n
+agree_names front others agree n =
+    ap (λ l. is_among l n) (sym (names_of_keys front)) ∙ aligned_names (keys_of others) (keys_of front) (keys_of others) (keep_labels.aligned (keys_of others) front others agree) n ∙ ap (λ l. is_among l n) (names_of_keys others)
+
+both_true : (a b : Bool) → a ≡ true → b ≡ true → (a && b) ≡ true
+both_true a b e f = λ i. e i && f i
+
+module _ (front others from to : List Catch) (agree : Align (keys_of others) front others) where
+  -- each patch of the fronts is common
+  common_within : (n : List ℕ) → has_patch others n ≡ true → Contains (common_names (front ++ from) (others ++ to)) n
+  common_within n e =
+      let one = front_has front from n (agree_names front others agree n ∙ e) in
+      let other = front_has others to n e in
+      (is_among_is (common_names (front ++ from) (others ++ to)) n).1 (among_common (front ++ from) (others ++ to) n ∙ both_true _ _ one other)
+
+  -- a pull of two branches by what stands behind fronts that agree
+  pub pull_behind : (wanted : List (List ℕ)) (outcome : Outcome) → PullBy (common_names (front ++ from) (others ++ to)) from to wanted outcome → PullGives (front ++ from) (others ++ to) wanted (fronted others outcome)
+  pull_behind wanted outcome w =
+      let common = common_names (front ++ from) (others ++ to) in
+      let a = all_of common front (λ n c. common_within n (sym (agree_names front others agree n) ∙ (is_among_is (map name_of front) n).0 c)) in
+      let b = all_of common others (λ n c. common_within n ((is_among_is (map name_of others) n).0 c)) in
+      pull_front common front others a b agree from to wanted outcome w
+
+module _ (from to : List Catch) (wanted : List (List ℕ)) (m : ℕ) (agree : Agree from to m) where
+  whole_from : take m from ++ drop m from ≡ from
+  whole_from = take-append-drop m from
+
+  whole_to : take m to ++ drop m to ≡ to
+  whole_to = take-append-drop m to
+
+  behind_agreed : (outcome : Outcome) → PullBy (common_names from to) (drop m from) (drop m to) wanted outcome → PullGives from to wanted (fronted (take m to) outcome)
+  behind_agreed outcome w =
+      let here = λ (one other : List Catch). PullBy (common_names one other) (drop m from) (drop m to) wanted outcome in
+      let there = λ (one other : List Catch). PullGives one other wanted (fronted (take m to) outcome) in
+      let split = subst (λ l. here l (take m to ++ drop m to)) (sym whole_from) (subst (λ l. here from l) (sym whole_to) w) in
+      let all = pull_behind (take m from) (take m to) (drop m from) (drop m to) agree.same wanted outcome split in
+      subst (λ l. there l to) whole_from (subst (λ l. there (take m from ++ drop m from) l) whole_to all)
+
+  pub goes_behind : (taken : List Catch) → PullBy (common_names from to) (drop m from) (drop m to) wanted (Ok (drop m to ++ taken)) → PullGives from to wanted (Ok (to ++ taken))
+  goes_behind taken w =
+      let e : take m to ++ (drop m to ++ taken) ≡ to ++ taken = sym (append_assoc (take m to) (drop m to) taken) ∙ ap (λ l. l ++ taken) whole_to in
+      subst (λ l. PullGives from to wanted (Ok l)) e (behind_agreed (Ok (drop m to ++ taken)) w)
+
+  pub blocked_behind : (blocked : Blocked) → PullBy (common_names from to) (drop m from) (drop m to) wanted (Err blocked) → PullGives from to wanted (Err blocked)
+  blocked_behind blocked w = behind_agreed (Err blocked) w
+
+-- before the first catch
+pub agree_none : (from to : List Catch) → Agree from to 0
+agree_none from to = record { within = omega arith; within_too = omega arith; same = refl }
+
+-- branches that agree still do with more behind them
+pub agree_grown : (from to more other : List Catch) (n : ℕ) → Agree from to n → Agree (from ++ more) (to ++ other) n
+agree_grown from to more other n w =
+    let one = length-append from more in
+    let two = length-append to other in
+    let fits = w.within in
+    let fits_too = w.within_too in
+    record {
+      within = omega (one, fits, arith);
+      within_too = omega (two, fits_too, arith);
+      same = subst (λ f. Align (keys_of (take n (to ++ other))) f (take n (to ++ other))) (sym (take-append-le n from more w.within)) (subst (λ t. Align (keys_of t) (take n from) t) (sym (take-append-le n to other w.within_too)) w.same);
+    }
+
+-- fronts that agree, and behind them more catches of both that do
+pub agree_more : (from to : List Catch) (n m : ℕ) → Agree from to n → n + m ≤ length from → n + m ≤ length to → Align (keys_of (take m (drop n to))) (take m (drop n from)) (take m (drop n to)) → Agree from to (n + m)
+agree_more from to n m w long long_too same =
+    let all = aligned_front (take n to) (take n from) (take m (drop n to)) (take m (drop n from)) (take m (drop n to)) w.same same in
+    record {
+      within = long;
+      within_too = long_too;
+      same = subst (λ f. Align (keys_of (take (n + m) to)) f (take (n + m) to)) (sym (two_parts from n m w.within)) (subst (λ t. Align (keys_of t) (take n from ++ take m (drop n from)) t) (sym (two_parts to n m w.within_too)) all);
+    }
+  where
+    two_parts : (list : List Catch) (n m : ℕ) → n ≤ length list → take (n + m) list ≡ take n list ++ take m (drop n list)
+    two_parts list n m fits =
+        ap (take (n + m)) (sym (take-append-drop n list)) ∙ ap (λ k. take (k + m) (take n list ++ drop n list)) (sym (length-take-le n list fits)) ∙ take-append-add (take n list) (drop n list) m
+
+-- the same of parts of both lists
+pub agree_with : (from to theirs ours : List Catch) (n m : ℕ) → Agree from to n → n + m ≤ length from → n + m ≤ length to → theirs ≡ slice_range from n (n + m) → ours ≡ slice_range to n (n + m) → Align (keys_of ours) theirs ours → Agree from to (n + m)
+agree_with from to theirs ours n m w long long_too is is_too same =
+    let e : n + m - n ≡ m = omega arith in
+    let one = is ∙ ap (λ k. take k (drop n from)) e in
+    let other = is_too ∙ ap (λ k. take k (drop n to)) e in
+    agree_more from to n m w long long_too (subst (λ f. Align (keys_of (take m (drop n to))) f (take m (drop n to))) one (subst (λ t. Align (keys_of t) theirs t) other same))
+
+pub split_has : (list : List Catch) (m : ℕ) (n : List ℕ) → has_patch list n ≡ (has_patch (take m list) n || has_patch (drop m list) n)
+split_has list m n =
+    ap (λ l. has_patch l n) (sym (take-append-drop m list)) ∙ has_split (take m list) (drop m list) n
+
+-- the patches of a front that agrees are in the other branch too
+pub agreed_has : (from to : List Catch) (m : ℕ) → Agree from to m → (n : List ℕ) → has_patch (take m from) n ≡ true → has_patch to n ≡ true
+agreed_has from to m w n e =
+    split_has to m n ∙ or_first (has_patch (take m to) n) (has_patch (drop m to) n) (sym (agree_names (take m from) (take m to) w.same n) ∙ e)

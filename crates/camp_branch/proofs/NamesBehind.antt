@@ -1,0 +1,106 @@
+-- The names that a pull goes by, where it goes by what stands behind two fronts.
+use Rattle.std.proofs.Common.{◌≡◌, ℕ, zero, suc, Bool, true, false, ◌||◌, ◌&&◌, List, [], ◌∷◌, ◌++◌, map, drop, take, refl, sym, ap, ◌∙◌, inl, inr, arith}
+use Rattle.std.proofs.lemmas.List.{take-append-drop}
+use Rattle.std.specs.Prelude.{◌↔◌, Contains}
+use Rattle.std.specs.FinMap.{contains_key, keys}
+use Rattle.camp_prim.specs.declared.labels.Key.{Key}
+use Rattle.camp_catch.specs.Arranging.{ArrangesBehind, IsOf, SticksBehind}
+use Rattle.camp_catch.specs.declared.catches.Catch.{Catch}
+use Rattle.camp_catch.proofs.MoveSteps.{names_decide}
+use Rattle.camp_branch.specs.Branches.{has_patch, name_of}
+use Rattle.camp_branch.specs.Pulling.{Outcome, MergesBehind, PullBy, common_names}
+use Rattle.camp_branch.proofs.AgreedFronts.{behind_has}
+use Rattle.camp_branch.proofs.BranchFields.{Names}
+use Rattle.camp_branch.proofs.Names.{is_among_is}
+use Rattle.camp_branch.proofs.NamesKept.{among_common}
+
+module _ (names others : List (List ℕ)) where
+  -- of the catches of a list, those of the one names are those of the others
+  abbrev AlikeOn : List Catch → Type 0
+  AlikeOn [] = Unit {0}
+  AlikeOn (k ∷ list) = (IsOf names k ↔ IsOf others k) × AlikeOn list
+
+  alike_on : (list : List Catch) → ((n : List ℕ) → Contains (map name_of list) n → (Contains names n ↔ Contains others n)) → AlikeOn list
+  alike_on [] each = tt
+  alike_on (k ∷ list) each =
+      (each (name_of k) (zero, (omega arith), refl), alike_on list (λ n w. let within = w.1 in each n (suc w.0, (omega arith), w.2)))
+
+  arranged_alike : (rest list first t : List Catch) → AlikeOn list → ArrangesBehind names rest list first t → ArrangesBehind others rest list first t
+  arranged_alike rest [] first t same w = w
+  arranged_alike rest (k ∷ list) first t same (inl w) =
+      let come = w.1 in
+      inl (same.0.0 w.0, (come.0, come.1, come.2, come.3, arranged_alike come.1 list come.2 t same.1 come.4, come.5))
+  arranged_alike rest (k ∷ list) first t same (inr w) =
+      inr (λ is. w.0 (same.0.1 is), arranged_alike (rest ++ k ∷ []) list first t same.1 w.1)
+
+  stuck_alike : (rest list : List Catch) (patch on : Key) → AlikeOn list → SticksBehind names rest list patch on → SticksBehind others rest list patch on
+  stuck_alike rest [] patch on same w = w
+  stuck_alike rest (k ∷ list) patch on same (inl w) = inl (same.0.0 w.0, w.1, w.2)
+  stuck_alike rest (k ∷ list) patch on same (inr (inl w)) =
+      let come = w.1 in
+      inr (inl (same.0.0 w.0, (come.0, come.1, come.2, stuck_alike come.1 list patch on same.1 come.3)))
+  stuck_alike rest (k ∷ list) patch on same (inr (inr w)) =
+      inr (inr (λ is. w.0 (same.0.1 is), stuck_alike (rest ++ k ∷ []) list patch on same.1 w.1))
+
+  merges_alike : (ours chosen to : List Catch) (outcome : Outcome) → AlikeOn to → MergesBehind names ours chosen to outcome → MergesBehind others ours chosen to outcome
+  merges_alike ours chosen to outcome same (inl w) = inl (w.0, w.1, arranged_alike [] to w.0 w.1 same w.2, w.3)
+  merges_alike ours chosen to outcome same (inr w) = inr (w.0, w.1, stuck_alike [] to w.0 w.1 same w.2, w.3)
+
+  pull_alike : (from to : List Catch) (wanted : List (List ℕ)) (outcome : Outcome) → AlikeOn from → AlikeOn to → PullBy names from to wanted outcome → PullBy others from to wanted outcome
+  pull_alike from to wanted outcome a b (inl w) =
+      inl (
+        w.0,
+        w.1,
+        arranged_alike [] from w.0 w.1 a w.2,
+        elim w.3 [
+          | inl v ↦ inl (v.0, v.1, v.2, merges_alike w.0 v.0 to outcome b v.3)
+          | inr v ↦ inr v
+        ],
+      )
+  pull_alike from to wanted outcome a b (inr w) = inr (w.0, w.1, stuck_alike [] from w.0 w.1 a w.2, w.3)
+
+-- whether a patch of either list is common: by whether it is in the lists, and by whether it is in the branches
+of_theirs : (a b f t : Bool) → a ≡ true → f ≡ true → (b ≡ true → t ≡ true) → ((a && t) || (b && f)) ≡ (f && t)
+of_theirs a b f t is has within =
+    (λ i. (is i && t) || (b && has i)) ∙ this b t within ∙ ap (λ x. x && t) (sym has)
+  where
+    this : (b t : Bool) → (b ≡ true → t ≡ true) → ((true && t) || (b && true)) ≡ (true && t)
+    this true true within = refl
+    this true false within = sym (within refl)
+    this false true within = refl
+    this false false within = refl
+
+of_ours : (a b f t : Bool) → b ≡ true → t ≡ true → (a ≡ true → f ≡ true) → ((a && t) || (b && f)) ≡ (f && t)
+of_ours a b f t is has within =
+    (λ i. (a && has i) || (is i && f)) ∙ this a f within ∙ ap (λ x. f && x) (sym has)
+  where
+    this : (a f : Bool) → (a ≡ true → f ≡ true) → ((a && true) || (true && f)) ≡ (f && true)
+    this true true within = refl
+    this true false within = sym (within refl)
+    this false true within = refl
+    this false false within = refl
+
+module _ (from to : List Catch) (common : Names) (m : ℕ) (has : (n : List ℕ) → contains_key common n ≡ ((has_patch (drop m from) n && has_patch to n) || (has_patch (drop m to) n && has_patch from n))) where
+  in_whole : (list : List Catch) (n : List ℕ) → has_patch (drop m list) n ≡ true → has_patch list n ≡ true
+  in_whole list n e =
+      ap (λ l. has_patch l n) (sym (take-append-drop m list)) ∙ behind_has (take m list) (drop m list) n e
+
+  same_at : (n : List ℕ) → contains_key common n ≡ (has_patch from n && has_patch to n) → (Contains (keys common) n ↔ Contains (common_names from to) n)
+  same_at n e =
+      let same = e ∙ sym (among_common from to n) in
+      (λ c. (is_among_is (common_names from to) n).1 (sym same ∙ (names_decide common n).1 c), λ c. (names_decide common n).0 (same ∙ (is_among_is (common_names from to) n).0 c))
+
+  in_theirs : (n : List ℕ) → Contains (map name_of (drop m from)) n → (Contains (keys common) n ↔ Contains (common_names from to) n)
+  in_theirs n c =
+      let is = (is_among_is (map name_of (drop m from)) n).0 c in
+      same_at n (has n ∙ of_theirs _ _ _ _ is (in_whole from n is) (in_whole to n))
+
+  in_ours : (n : List ℕ) → Contains (map name_of (drop m to)) n → (Contains (keys common) n ↔ Contains (common_names from to) n)
+  in_ours n c =
+      let is = (is_among_is (map name_of (drop m to)) n).0 c in
+      same_at n (has n ∙ of_ours _ _ _ _ is (in_whole to n is) (in_whole from n))
+
+  -- a pull of what stands behind fronts, by a set of the common names that stand there
+  pub pull_by_those : (wanted : List (List ℕ)) (outcome : Outcome) → PullBy (keys common) (drop m from) (drop m to) wanted outcome → PullBy (common_names from to) (drop m from) (drop m to) wanted outcome
+  pull_by_those wanted outcome =
+      pull_alike (keys common) (common_names from to) (drop m from) (drop m to) wanted outcome (alike_on (keys common) (common_names from to) (drop m from) in_theirs) (alike_on (keys common) (common_names from to) (drop m to) in_ours)
