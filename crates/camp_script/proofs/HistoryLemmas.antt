@@ -20,7 +20,7 @@ spaced-map (word ∷ words) =
     flat_map-cons (λ (w : Bor (List ℕ)). 32 ∷ w.now) word words ∙ ap (λ t. (32 ∷ word.now) ++ t) (spaced-map words)
     ∙ sym (flat_map-cons (λ (w : List ℕ). 32 ∷ w) word.now (map (λ w. w.now) words))
 
-joined : (first : List ℕ) (words : List (List ℕ)) → join_with_byte 32 (first ∷ words) ≡ first ++ spaced words
+pub joined : (first : List ℕ) (words : List (List ℕ)) → join_with_byte 32 (first ∷ words) ≡ first ++ spaced words
 joined first [] = sym (append-nil first)
 joined first (word ∷ words) = ap (λ t. first ++ (32 ∷ t)) (joined word words) ∙ ap (λ t. first ++ t) (sym (flat_map-cons (λ (w : List ℕ). 32 ∷ w) word words))
 

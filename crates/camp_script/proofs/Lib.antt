@@ -13,3 +13,4 @@ pub mod TextLemmas
 pub mod Wanting
 pub mod WordLemmas
 pub mod Writable
+pub mod WrittenLemmas

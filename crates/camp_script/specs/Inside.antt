@@ -5,3 +5,4 @@ pub mod Progress
 pub mod ReadingFields
 pub mod Spaces
 pub mod Steps
+pub mod Written

@@ -5,6 +5,7 @@ pub mod Faults
 pub mod Gives
 pub mod HistoryTexts
 pub mod Inside
+pub mod Keeping
 pub mod Lines
 pub mod Outputs
 pub mod Pieces

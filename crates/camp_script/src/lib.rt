@@ -14,6 +14,7 @@ mod scripts;
 mod spaces;
 mod texts;
 mod words;
+mod writing;
 
 pub use canonical::{canonical_text_reads_back, what_is_read_can_be_written};
 pub use faults::{FaultKind, LineFault, ScriptFault};
@@ -21,6 +22,7 @@ pub use histories::{append_history, write_history};
 pub use outputs::append_sections;
 pub use scripts::{Script, read_script};
 pub use texts::{append_reply, write_reply, write_text};
+pub use writing::{append_call, append_calls, append_script};
 
 /// The most sections of a script: the opening, and one for each client.
 pub const MAX_SECTIONS: usize = 64;

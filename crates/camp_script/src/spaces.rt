@@ -1,7 +1,8 @@
 //! Words with a space before each, and lines of words, appended to bytes. Where memory runs out, a part of
 //! what was to come may stand behind the bytes.
-ghost use Rattle.std.specs.Prelude.{◌∷◌, [], map};
+ghost use Rattle.std.specs.Prelude.{◌∷◌, [], map, IfOk};
 ghost use Rattle.std.specs.Fmt.{decimal};
+ghost use Rattle.camp_script.specs.Canonical.{AreNames};
 ghost use Rattle.camp_script.specs.Texts.{line_text};
 ghost use Rattle.camp_script.specs.Inside.Spaces.{spaced};
 ghost use Rattle.camp_script.specs.Writing.{Extends};
@@ -12,7 +13,8 @@ use std::alloc::AllocError;
 
 /// Names, a space before each.
 pub(crate) fn extend_by_named(text: &mut Vec<u8>, names: &[Name]) -> Result<(), AllocError>
-    ensures { Extends text.old.items (spaced names.now) result text.new.items }
+    ensures names { IfOk result (λ _. AreNames names.now) }
+    ensures text { Extends text.old.items (spaced names.now) result text.new.items }
 {
     for name in names {
         text.push(b' ')?;

@@ -1,7 +1,8 @@
 //! The texts of answers, appended to bytes and written to a writer.
-ghost use Rattle.std.specs.Prelude.{◌∷◌, codes, MatchResult};
+ghost use Rattle.std.specs.Prelude.{◌∷◌, codes, IfOk, IsTrue, MatchResult};
 ghost use Rattle.std.specs.List.{flat_map};
 ghost use Rattle.std.specs.Io.KnownBytes.{Appends};
+ghost use Rattle.camp_base.specs.Bytes.{is_line};
 ghost use Rattle.camp_script.specs.Texts.{line_text, refusal_words, signed_line, file_text, tree_text, reply_text, answer_text, HasText, pair_text, conflicts_text, name_text, names_text};
 ghost use Rattle.camp_script.specs.Writing.{Extends, ExtendsOrKeeps, AppendsFront, Writes};
 
@@ -186,15 +187,20 @@ fn extend_by_lines(text: &mut Vec<u8>, lines: &SharedList<Line>) -> Result<(), A
     ensures { Extends text.old.items (flat_map (signed_line 61) lines.now) result text.new.items }
 {
     for line in lines.iter() {
-        extend_by_signed_line(text, line)?;
+        extend_by_signed_line(text, b'=', line)?;
     }
     Ok(())
 }
 
-fn extend_by_signed_line(text: &mut Vec<u8>, line: &Line) -> Result<(), AllocError>
-    ensures { Extends text.old.items (signed_line 61 line.now) result text.new.items }
+pub(crate) fn extend_by_signed_line(
+    text: &mut Vec<u8>,
+    sign: u8,
+    line: &Line,
+) -> Result<(), AllocError>
+    ensures text { Extends text.old.items (signed_line sign line.now) result text.new.items }
+    ensures line { IfOk result (λ _. IsTrue (is_line line.now)) }
 {
-    text.push(b'=')?;
+    text.push(sign)?;
     text.extend_from_slice(line.bytes())?;
     text.push(b'\n')?;
     Ok(())

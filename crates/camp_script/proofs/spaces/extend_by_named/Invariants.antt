@@ -1,6 +1,7 @@
-use Rattle.std.proofs.Common.{◌≡◌, ◌++◌, take}
+use Rattle.std.proofs.Common.{◌≡◌, ◌∷◌, ◌++◌, take}
+use Rattle.camp_script.specs.Canonical.{AreNames}
 use Rattle.camp_script.specs.Inside.Spaces.{spaced}
 use Rattle.camp_script.proofs.spaces.extend_by_named.Given as goal
 
 abbrev pub invariant-loop-name : goal.invariant-loop-name
-invariant-loop-name l = l.text.items ≡ l.fn.text.items ++ spaced (take l.name-index l.names)
+invariant-loop-name l = (l.text.items ≡ l.fn.text.items ++ spaced (take l.name-index l.names)) × AreNames (take l.name-index l.names)

@@ -12,7 +12,7 @@ loop-line-init c =
 pub loop-line-preserved : goal.loop-line-preserved
 loop-line-preserved c =
     let left = subst (GrowsBy (signed_line 61) c.args.text.now.items c.loop-line.text.items c.args.lines.now) c.in-Some.ensures.steps c.loop-line.invariant in
-    one_done (signed_line 61) c.args.text.now.items c.loop-line.text.items c.extend_by_signed_line.new.text.items c.args.lines.now c.in-Some.line.now c.next.new.self left c.in_ok-extend_by_signed_line.ensures
+    one_done (signed_line 61) c.args.text.now.items c.loop-line.text.items c.extend_by_signed_line.new.text.items c.args.lines.now c.in-Some.line.now c.next.new.self left c.in_ok-extend_by_signed_line.ensures.text
 
 pub returns : goal.returns
 returns c =
@@ -20,4 +20,4 @@ returns c =
 
 pub returns-in_err-extend_by_signed_line : goal.returns-in_err-extend_by_signed_line
 returns-in_err-extend_by_signed_line c =
-    kept_further c.args.text.now.items (flat_map (signed_line 61) c.args.lines.now) c.loop-line.invariant.done c.in_err-extend_by_signed_line.ensures.0 c.loop-line.text.items c.extend_by_signed_line.new.text.items c.extend_by_signed_line.new.text.items c.from_residual.result c.from_residual.ensures.0 c.loop-line.invariant.grown c.in_err-extend_by_signed_line.ensures.1 refl
+    kept_further c.args.text.now.items (flat_map (signed_line 61) c.args.lines.now) c.loop-line.invariant.done c.in_err-extend_by_signed_line.ensures.text.0 c.loop-line.text.items c.extend_by_signed_line.new.text.items c.extend_by_signed_line.new.text.items c.from_residual.result c.from_residual.ensures.0 c.loop-line.invariant.grown c.in_err-extend_by_signed_line.ensures.text.1 refl

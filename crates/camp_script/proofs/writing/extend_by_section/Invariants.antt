@@ -1,0 +1,8 @@
+use Rattle.std.proofs.Common.{take}
+use Rattle.camp_script.specs.Canonical.{call_text}
+use Rattle.camp_script.specs.Keeping.{CanStand}
+use Rattle.camp_script.proofs.WrittenLemmas.{AreWritten}
+use Rattle.camp_script.proofs.writing.extend_by_section.Given as goal
+
+abbrev pub invariant-loop-call : goal.invariant-loop-call
+invariant-loop-call l = AreWritten call_text CanStand l.initial.text.items l.text.items (take l.call-index l.calls)
