@@ -41,12 +41,12 @@ onto-last byte ([] ∷ []) = refl
 onto-last byte ([] ∷ next ∷ pieces) = refl
 onto-last byte ((first ∷ piece) ∷ pieces) = refl
 
-lines-feed : (byte : ℕ) (bytes : List ℕ) → (byte == 10) ≡ true → lines_of (byte ∷ bytes) ≡ [] ∷ lines_of bytes
+pub lines-feed : (byte : ℕ) (bytes : List ℕ) → (byte == 10) ≡ true → lines_of (byte ∷ bytes) ≡ [] ∷ lines_of bytes
 lines-feed byte bytes feed =
     ap without_empty_last (slice_split-cons_yes (λ byte. byte == 10) byte bytes feed)
     ∙ more-last [] (slice_split (λ byte. byte == 10) bytes) (omega (arith, length-slice_split (λ byte. byte == 10) bytes))
 
-lines-other : (byte : ℕ) (bytes : List ℕ) → (byte == 10) ≡ false → lines_of (byte ∷ bytes) ≡ onto_first byte (lines_of bytes)
+pub lines-other : (byte : ℕ) (bytes : List ℕ) → (byte == 10) ≡ false → lines_of (byte ∷ bytes) ≡ onto_first byte (lines_of bytes)
 lines-other byte bytes other =
     ap without_empty_last (slice_split-cons_no (λ byte. byte == 10) byte bytes other)
     ∙ onto-last byte (slice_split (λ byte. byte == 10) bytes)

@@ -3,6 +3,7 @@
 
 mod canonical;
 mod commands;
+mod cuts;
 mod faults;
 mod groups;
 mod histories;
@@ -17,6 +18,7 @@ mod words;
 mod writing;
 
 pub use canonical::{canonical_text_reads_back, what_is_read_can_be_written};
+pub use cuts::{begins_edit, begins_with};
 pub use faults::{FaultKind, LineFault, ScriptFault};
 pub use histories::{append_history, write_history};
 pub use outputs::append_sections;

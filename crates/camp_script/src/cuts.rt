@@ -1,0 +1,42 @@
+//! The words by which lines fall into edits and groups. They say nothing of faults.
+ghost use Rattle.std.specs.Prelude.{◌≡◌};
+ghost use Rattle.camp_script.specs.Lines.{words_of};
+ghost use Rattle.camp_script.specs.Pieces.{begins_edit, begins_with};
+
+use crate::lines::Words;
+
+/// Whether the first word of a line is this one.
+pub fn begins_with(line: &[u8], word: &[u8]) -> bool
+    ensures { result ≡ begins_with word.now (words_of line.now) }
+{
+    match Words::new(line).next() {
+        Some(first) => first == word,
+        None => false,
+    }
+}
+
+/// Whether a line begins an edit, whose body follows, by its first words alone.
+pub fn begins_edit(line: &[u8]) -> bool
+    ensures { result ≡ begins_edit (words_of line.now) }
+{
+    let mut words = Words::new(line);
+    let Some(first) = words.next() else {
+        return false;
+    };
+    if first == b"edit".as_slice() {
+        return true;
+    }
+    if first != b"record".as_slice() {
+        return false;
+    }
+    let Some(_branch) = words.next() else {
+        return false;
+    };
+    let Some(_name) = words.next() else {
+        return false;
+    };
+    match words.next() {
+        Some(change) => change == b"edit".as_slice(),
+        None => false,
+    }
+}

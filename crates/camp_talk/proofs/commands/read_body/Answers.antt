@@ -1,0 +1,31 @@
+use Rattle.std.proofs.Common.{rules, subst}
+use Rattle.camp_talk.specs.Cutting.{body_of}
+use Rattle.camp_talk.specs.Inside.Parts.{ReadsPart, Uses}
+use Rattle.camp_talk.specs.declared.commands.Part.{Part}
+use Rattle.camp_talk.specs.declared.commands.Part.TheVariants.{More, Whole, Cut}
+use Rattle.camp_talk.proofs.Parts.{part_behind, part_uses}
+use Rattle.camp_talk.proofs.commands.read_body.Goals as goal
+
+pub returns-in_err-read_body_line-clause-uses : goal.returns-in_err-read_body_line-clause-uses
+returns-in_err-read_body_line-clause-uses g c =
+    let uses : Uses (g.R.Read.remaining c.args.reader.now) (g.R.Read.remaining c.read_body_line.new.reader) =
+    part_uses _ (g.R.Read.remaining c.loop.reader) _ body_of _ _ c.loop.invariant c.in_err-read_body_line.ensures.uses in
+    search (rules, uses)
+
+pub returns-in-Whole-clause-part : goal.returns-in-Whole-clause-part
+returns-in-Whole-clause-part g c =
+    part_behind _ (g.R.Read.remaining c.loop.reader) _ _ c.loop.text.items _ body_of Whole c.loop.invariant
+    (subst (λ (part : Part). ReadsPart (g.R.Read.remaining c.loop.reader) (g.R.Read.remaining c.read_body_line.new.reader) body_of part c.loop.text.items c.read_body_line.new.text.items) c.in-Whole.is
+    c.in_ok-read_body_line.ensures.part)
+
+pub returns-in-Cut-clause-part : goal.returns-in-Cut-clause-part
+returns-in-Cut-clause-part g c =
+    part_behind _ (g.R.Read.remaining c.loop.reader) _ _ c.loop.text.items _ body_of Cut c.loop.invariant
+    (subst (λ (part : Part). ReadsPart (g.R.Read.remaining c.loop.reader) (g.R.Read.remaining c.read_body_line.new.reader) body_of part c.loop.text.items c.read_body_line.new.text.items) c.in-Cut.is
+    c.in_ok-read_body_line.ensures.part)
+
+pub loop-preserved : goal.loop-preserved
+loop-preserved g c =
+    part_behind _ (g.R.Read.remaining c.loop.reader) _ _ c.loop.text.items _ body_of More c.loop.invariant
+    (subst (λ (part : Part). ReadsPart (g.R.Read.remaining c.loop.reader) (g.R.Read.remaining c.read_body_line.new.reader) body_of part c.loop.text.items c.read_body_line.new.text.items) c.in-More.is
+    c.in_ok-read_body_line.ensures.part)

@@ -1,0 +1,8 @@
+use Rattle.camp_talk.specs.Cutting.{body_of}
+use Rattle.camp_talk.specs.Inside.Parts.{ReadsPart}
+use Rattle.camp_talk.specs.declared.commands.Part.TheVariants.{More}
+use Rattle.camp_talk.proofs.commands.read_body.Given as goal
+
+abbrev pub invariant-loop : goal.invariant-loop
+invariant-loop g l =
+    ReadsPart (g.R.Read.remaining l.initial.reader) (g.R.Read.remaining l.reader) body_of More l.initial.text.items l.text.items

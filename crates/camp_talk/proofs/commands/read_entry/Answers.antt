@@ -1,0 +1,57 @@
+use Rattle.std.proofs.Common.{rules, ◌≡◌, ◌-◌, Bool, true, false, List, ℕ, length, take, drop, ap, sym, subst, ◌∙◌}
+use Rattle.camp_talk.specs.Cutting.{body_of, group_of}
+use Rattle.camp_talk.specs.Inside.Parts.{ReadsLine, ReadsPart, Uses, last_part}
+use Rattle.camp_talk.proofs.Parts.{begins, entry_read_cut, entry_read_whole, is_done, line_at, uses_behind}
+use Rattle.camp_talk.proofs.commands.read_entry.Goals as goal
+
+pub returns-in_err-read_body-clause-uses : goal.returns-in_err-read_body-clause-uses
+returns-in_err-read_body-clause-uses g c =
+    let a = g.R.Read.remaining c.args.reader.now in
+    let b = g.R.Read.remaining c.read_line.new.reader in
+    let old = c.args.text.now.items in
+    let mid = c.read_line.new.text.items in
+    let whole : c.in_ok-read_line.field-0 ≡ true = search rules in
+    let line = subst (λ (w : Bool). ReadsLine a b w old mid) whole c.in_ok-read_line.ensures.line in
+    let uses : Uses a (g.R.Read.remaining c.read_body.new.reader) =
+    uses_behind a b _ _ line.1.consumes c.in_err-read_body.ensures.uses in
+    search (rules, uses)
+
+pub returns-then-not-branch-2-clause-part : goal.returns-then-not-branch-2-clause-part
+returns-then-not-branch-2-clause-part g c =
+    let a = g.R.Read.remaining c.args.reader.now in
+    let b = g.R.Read.remaining c.read_line.new.reader in
+    let old = c.args.text.now.items in
+    let mid = c.read_line.new.text.items in
+    let whole : c.in_ok-read_line.field-0 ≡ true = search rules in
+    let line = subst (λ (w : Bool). ReadsLine a b w old mid) whole c.in_ok-read_line.ensures.line in
+    let start : c.len-start.result ≡ length old = search rules in
+    let head : c.last_line-head.result.now ≡ line.0 =
+    c.last_line-head.ensures
+    ∙ ap (λ (bytes : List ℕ). take (length bytes - 1 - c.len-start.result) (drop c.len-start.result bytes)) c.deref.ensures.value
+    ∙ ap (λ n. take (length mid - 1 - n) (drop n mid)) start ∙ line_at a b old mid line.0 line.1 in
+    let opens : begins line.0 ≡ true = ap begins (sym head) ∙ sym c.begins_edit.ensures ∙ c.if-not-begins_edit.false in
+    let last : c.in_ok-read_body.field-0 ≡ false = search rules in
+    let cut = subst (λ w. ReadsPart b (g.R.Read.remaining c.read_body.new.reader) body_of (last_part w) mid
+        c.read_body.new.text.items) last c.in_ok-read_body.ensures.part in
+    entry_read_cut a b _ old mid _ line.0 line.1 opens cut
+
+pub returns-clause-part : goal.returns-clause-part
+returns-clause-part g c =
+    let a = g.R.Read.remaining c.args.reader.now in
+    let b = g.R.Read.remaining c.read_line.new.reader in
+    let old = c.args.text.now.items in
+    let mid = c.read_line.new.text.items in
+    let whole : c.in_ok-read_line.field-0 ≡ true = search rules in
+    let line = subst (λ (w : Bool). ReadsLine a b w old mid) whole c.in_ok-read_line.ensures.line in
+    let start : c.len-start.result ≡ length old = search rules in
+    let head : c.last_line-head.result.now ≡ line.0 =
+    c.last_line-head.ensures
+    ∙ ap (λ (bytes : List ℕ). take (length bytes - 1 - c.len-start.result) (drop c.len-start.result bytes)) c.deref.ensures.value
+    ∙ ap (λ n. take (length mid - 1 - n) (drop n mid)) start ∙ line_at a b old mid line.0 line.1 in
+    let opens : begins line.0 ≡ true = ap begins (sym head) ∙ sym c.begins_edit.ensures ∙ c.if-not-begins_edit.false in
+    let all = subst (λ w. ReadsPart b (g.R.Read.remaining c.read_body.new.reader) body_of (last_part w) mid
+        c.read_body.new.text.items) c.if-not-branch-2.false c.in_ok-read_body.ensures.part in
+    let ends : is_done line.0 ≡ c.begins_with-ends.result = ap is_done (sym head) ∙ sym c.begins_with-ends.ensures in
+    subst (λ part. ReadsPart a (g.R.Read.remaining c.read_body.new.reader) group_of part old c.read_body.new.text.items)
+    (sym c.entry_part-2.ensures)
+    (entry_read_whole a b _ old mid _ line.0 line.1 opens all c.begins_with-ends.result ends)

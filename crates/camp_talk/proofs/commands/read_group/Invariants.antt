@@ -1,0 +1,8 @@
+use Rattle.camp_talk.specs.Cutting.{group_of}
+use Rattle.camp_talk.specs.Inside.Parts.{ReadsPart}
+use Rattle.camp_talk.specs.declared.commands.Part.TheVariants.{More}
+use Rattle.camp_talk.proofs.commands.read_group.Given as goal
+
+abbrev pub invariant-loop : goal.invariant-loop
+invariant-loop g l =
+    ReadsPart (g.R.Read.remaining l.initial.reader) (g.R.Read.remaining l.reader) group_of More l.initial.text.items l.text.items

@@ -1,0 +1,68 @@
+-- How the lines of a conversation fall into commands: a first line, and those that it takes with it.
+use Rattle.std.specs.Prelude.{◌≡◌, ℕ, Bool, false, List, [], ◌∷◌, ◌++◌, Result, Ok, Err, bytes_eq, codes}
+use Rattle.std.specs.List.{flat_map}
+use Rattle.camp_call.specs.declared.calls.Call.{Call}
+use Rattle.camp_script.specs.Lines.{lines_of, words_of}
+use Rattle.camp_script.specs.Pieces.{Piece, begins_edit, begins_with, pieces, up_to}
+use Rattle.camp_script.specs.Reading.{script_of_lines}
+use Rattle.camp_script.specs.declared.faults.FaultKind.{FaultKind}
+use Rattle.camp_script.specs.declared.faults.FaultKind.TheVariants.{EditNotEnded, GroupNotEnded}
+use Rattle.camp_script.specs.declared.faults.LineFault.{LineFault}
+
+-- whether a line ends the body of an edit: it is just `end`
+abbrev pub ends_body : List ℕ → Bool
+ends_body line = bytes_eq line (codes "end")
+
+-- the lines of a body: up to `end`
+abbrev pub body_of : List (List ℕ) → List (List ℕ)
+body_of lines = up_to ends_body lines
+
+-- lines in entries, as those of a script: a line, and for one that begins an edit the lines of its body
+abbrev pub entries_of : List (List ℕ) → List (Piece (List ℕ))
+entries_of lines = pieces (λ line. begins_edit (words_of line)) ends_body false lines
+
+-- whether an entry ends a group: its first word is `done`
+abbrev pub ends_group : Piece (List ℕ) → Bool
+ends_group entry = begins_with (codes "done") (words_of entry.head)
+
+-- the lines of an entry
+abbrev pub entry_lines : Piece (List ℕ) → List (List ℕ)
+entry_lines entry = entry.head ∷ entry.rest
+
+-- the lines of a group: those of its entries, up to `done`
+abbrev pub group_of : List (List ℕ) → List (List ℕ)
+group_of lines = flat_map entry_lines (up_to ends_group (entries_of lines))
+
+-- what a first line takes with it of the lines behind it, where it has this fault as a script of its own
+abbrev pub taken_at : FaultKind → List (List ℕ) → List (List ℕ)
+taken_at EditNotEnded lines = body_of lines
+taken_at GroupNotEnded lines = group_of lines
+taken_at other lines = []
+
+-- what a first line takes with it, by the script that it is alone: a body, where its edit is not ended; a group, where
+-- that is not ended; and nothing else, so that a first line with another fault stands alone
+abbrev pub taken_by : Result (List (List Call)) LineFault → List (List ℕ) → List (List ℕ)
+taken_by (Ok script) lines = []
+taken_by (Err fault) lines = taken_at fault.kind lines
+
+-- what a first line takes with it of the lines behind it
+abbrev pub taken : List ℕ → List (List ℕ) → List (List ℕ)
+taken first lines = taken_by (script_of_lines (first ∷ [])) lines
+
+-- bytes are a command: they end with a line, and whatever follows, the first line takes just those behind it
+pub record IsCommand (bytes : List ℕ) : Type 0 where
+  pub first : List ℕ
+  pub rest : List (List ℕ)
+  pub lines : lines_of bytes ≡ first ∷ rest
+  pub front : List ℕ
+  pub ended : bytes ≡ front ++ 10 ∷ []
+  pub takes : (others : List (List ℕ)) → taken first (rest ++ others) ≡ rest
+
+-- a first line takes all that is left
+abbrev pub TakesAll : List (List ℕ) → Type 0
+TakesAll [] = Unit {0}
+TakesAll (first ∷ rest) = taken first rest ≡ rest
+
+-- bytes are what the end of the input leaves of a last command: nothing, or what its first line takes
+abbrev pub IsLeft : List ℕ → Type 0
+IsLeft bytes = TakesAll (lines_of bytes)

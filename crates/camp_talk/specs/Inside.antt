@@ -1,0 +1,2 @@
+-- Words that serve only private functions.
+pub mod Parts
