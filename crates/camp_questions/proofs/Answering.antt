@@ -1,7 +1,12 @@
 -- Questions that have an answer.
-use Rattle.std.proofs.Common.{◌≡◌, ℕ, List, Result, Ok, Err, IsErrAnd, refl}
+use Rattle.std.proofs.Common.{◌≡◌, ℕ, List, Result, Ok, Err, Some, IsErrAnd, refl}
+use Rattle.std.specs.FinMap.{get}
+use Rattle.camp_base.specs.Trees.{Files}
 use Rattle.camp_catch.specs.declared.catches.Catch.{Catch}
-use Rattle.camp_repo.specs.States.{Contents}
+use Rattle.camp_branch.specs.Branches.{LeadsTo}
+use Rattle.camp_repo.specs.States.{Contents, catches_of}
+use Rattle.camp_questions.specs.Annotations.{AreAnnotated, annotated, names_of_lines}
+use Rattle.camp_questions.specs.declared.annotations.Annotated.{Annotated}
 use Rattle.camp_questions.specs.Answers.{AnswerOf, Tells}
 use Rattle.camp_questions.specs.Dependencies.{OfNames}
 use Rattle.camp_questions.specs.Inside.Finding.{IsFound}
@@ -17,3 +22,7 @@ pub memory_told : {A : Type 0} (ComesTo : AnswerOf A → Type 0) (result : Resul
 memory_told ComesTo (Ok other) answer is w = absurd is
 memory_told ComesTo (Err (Refused refusal)) answer is w = cc
 memory_told ComesTo (Err Memory) answer is w = (answer, w)
+
+-- there is the branch, and this is told of a path of it
+pub are_annotated : (state : Contents) (branch path : List ℕ) (catches : List Catch) (tree : Files) (told : Annotated) → catches_of state.branches branch ≡ Some catches → LeadsTo catches tree → told ≡ annotated (get tree path) (names_of_lines path catches) → AreAnnotated state branch path (Ok told)
+are_annotated state branch path catches tree told is leads e = rw is (told, refl, (tree, leads, e))

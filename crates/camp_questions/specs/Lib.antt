@@ -1,3 +1,4 @@
+pub mod Annotations
 pub mod Answers
 pub mod Dependencies
 pub mod Differences
