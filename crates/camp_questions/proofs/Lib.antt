@@ -6,4 +6,5 @@ pub mod Growing
 pub mod Growths
 pub mod LineNames
 pub mod MissingNames
+pub mod ShownPatches
 pub mod Stuck

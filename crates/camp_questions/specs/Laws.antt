@@ -6,8 +6,9 @@ use Rattle.camp_base.specs.Trees.{Files, Lines}
 use Rattle.camp_prim.specs.Effect.{flipped}
 use Rattle.camp_prim.specs.Hunks.{Edit}
 use Rattle.camp_prim.specs.declared.labels.Key.{Key}
+use Rattle.camp_prim.specs.declared.primitives.Primitive.{Primitive}
 use Rattle.camp_catch.specs.declared.catches.Catch.{Catch}
-use Rattle.camp_branch.specs.Branches.{LeadsTo, has_patch, is_among, names_of}
+use Rattle.camp_branch.specs.Branches.{LeadsTo, has_patch, is_among, names_of, recorded}
 use Rattle.camp_branch.specs.Laws.{ExactlyOne}
 use Rattle.camp_call.specs.declared.calls.Call.TheVariants as call
 use Rattle.camp_call.specs.declared.replies.Refusal.TheVariants.{NothingToDo}
@@ -19,6 +20,7 @@ use Rattle.camp_repo.specs.Steps.{first_lacked, refused, step}
 use Rattle.camp_questions.specs.Annotations.{Known, behind_hunk, names_of_lines}
 use Rattle.camp_questions.specs.Dependencies.{AreHeldIn, ComeToFront, HeldBy, Needs, StickOn}
 use Rattle.camp_questions.specs.Differences.{missing_in}
+use Rattle.camp_questions.specs.Showing.{patch_in}
 
 -- a pull without names that is accepted gives a branch its old names and then those that it was missing; where it is
 -- missing none, such a pull has nothing to do
@@ -80,3 +82,10 @@ pub record LinesHaveNames : Type 0 where
       (name other : List ℕ) (key : Key) (hunk : Edit) (known : Known) →
       hunk.line - 1 + length hunk.old ≤ length known.names →
       (behind_hunk other key (flipped hunk) (behind_hunk name key hunk known)).names ≡ known.names
+
+-- a patch is shown, in the state after its record, with the changes that were recorded
+abbrev pub RecordedIsShown : Type 0
+RecordedIsShown =
+    (state next : Contents) (branch name : List ℕ) (changes : List Primitive) (catches : List Catch) → IsLawful state →
+    step state (call.Record branch name changes) ≡ Next next → Has next branch catches →
+    patch_in catches name ≡ record { catches = recorded name 1 changes; changes = changes }

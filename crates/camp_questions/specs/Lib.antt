@@ -5,3 +5,4 @@ pub mod Differences
 pub mod Foresight
 pub mod Inside
 pub mod Laws
+pub mod Showing

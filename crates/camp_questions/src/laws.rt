@@ -1,4 +1,4 @@
-ghost use Rattle.camp_questions.specs.Laws.{HeldCanGo, HeldIsDetermined, LinesHaveNames, MissingIsPulled, NeedsAreDetermined, NeedsComeFirst};
+ghost use Rattle.camp_questions.specs.Laws.{HeldCanGo, HeldIsDetermined, LinesHaveNames, MissingIsPulled, NeedsAreDetermined, NeedsComeFirst, RecordedIsShown};
 
 /// A pull without names that is accepted brings what is missing, in this order; where nothing is
 /// missing, it is refused as having nothing to do.
@@ -32,4 +32,9 @@ pub fn held_is_determined()
 /// undone, all lines have the names that they had.
 pub fn lines_have_names()
     ensures { LinesHaveNames }
+{}
+
+/// A patch is shown, in the state after its record, with the changes that were recorded.
+pub fn recorded_is_shown()
+    ensures { RecordedIsShown }
 {}

@@ -9,6 +9,7 @@ mod finding;
 mod foresight;
 mod laws;
 mod primitive_keys;
+mod showing;
 mod walks;
 
 pub use annotations::{Annotated, annotate};
@@ -18,5 +19,6 @@ pub use faults::Unanswered;
 pub use foresight::{Foreseen, Standing, what_if};
 pub use laws::{
     held_can_go, held_is_determined, lines_have_names, missing_is_pulled, needs_are_determined,
-    needs_come_first,
+    needs_come_first, recorded_is_shown,
 };
+pub use showing::{Shown, show};
