@@ -1,7 +1,10 @@
+pub mod AnnotationLaws
 pub mod Answering
 pub mod BranchGrowths
 pub mod Foreseeing
 pub mod Growing
 pub mod Growths
+pub mod LineNames
 pub mod MissingNames
+pub mod ShownPatches
 pub mod Stuck

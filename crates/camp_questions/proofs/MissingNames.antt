@@ -29,7 +29,7 @@ module _ (p q : List ℕ → Bool) where
 among_passed : (p : List ℕ → Bool) (names : List (List ℕ)) → filter (is_among (filter p names)) names ≡ filter p names
 among_passed p names = alike_there (is_among (filter p names)) p names (λ name there. passes_is_kept p names name there)
 
-same_catches : {o : Option (List Catch)} {catches other : List Catch} → o ≡ Some catches → o ≡ Some other → catches ≡ other
+pub same_catches : {o : Option (List Catch)} {catches other : List Catch} → o ≡ Some catches → o ≡ Some other → catches ≡ other
 same_catches e f = same_Some _ _ (sym e ∙ f)
 
 comes : (state next : Contents) (from to : List ℕ) (theirs ours new : List Catch) → IsLawful state → Has state from theirs → Has state to ours → step state (call.Pull from to None) ≡ Next next → Has next to new → names_of new ≡ names_of ours ++ missing_in ours theirs

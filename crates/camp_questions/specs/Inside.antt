@@ -2,3 +2,4 @@
 pub mod Finding
 pub mod Foresight
 pub mod Growing
+pub mod Walking

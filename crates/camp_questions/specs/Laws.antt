@@ -1,7 +1,14 @@
 -- The laws of questions.
-use Rattle.std.specs.Prelude.{◌≡◌, ◌≢◌, ℕ, true, false, List, [], ◌++◌, None}
+use Rattle.std.specs.Prelude.{◌≡◌, ◌≢◌, ◌≤◌, ℕ, ◌+◌, ◌-◌, true, false, List, [], ◌++◌, length, None, Some}
+use Rattle.std.specs.FinMap.{get}
+use Rattle.std.specs.List.{All}
+use Rattle.camp_base.specs.Trees.{Files, Lines}
+use Rattle.camp_prim.specs.Effect.{flipped}
+use Rattle.camp_prim.specs.Hunks.{Edit}
+use Rattle.camp_prim.specs.declared.labels.Key.{Key}
+use Rattle.camp_prim.specs.declared.primitives.Primitive.{Primitive}
 use Rattle.camp_catch.specs.declared.catches.Catch.{Catch}
-use Rattle.camp_branch.specs.Branches.{is_among, names_of}
+use Rattle.camp_branch.specs.Branches.{LeadsTo, has_patch, is_among, names_of, recorded}
 use Rattle.camp_branch.specs.Laws.{ExactlyOne}
 use Rattle.camp_call.specs.declared.calls.Call.TheVariants as call
 use Rattle.camp_call.specs.declared.replies.Refusal.TheVariants.{NothingToDo}
@@ -10,8 +17,10 @@ use Rattle.camp_repo.specs.Lawful.{IsLawful}
 use Rattle.camp_repo.specs.Laws.{Has}
 use Rattle.camp_repo.specs.States.{Contents}
 use Rattle.camp_repo.specs.Steps.{first_lacked, refused, step}
+use Rattle.camp_questions.specs.Annotations.{Known, behind_hunk, names_of_lines}
 use Rattle.camp_questions.specs.Dependencies.{AreHeldIn, ComeToFront, HeldBy, Needs, StickOn}
 use Rattle.camp_questions.specs.Differences.{missing_in}
+use Rattle.camp_questions.specs.Showing.{patch_in}
 
 -- a pull without names that is accepted gives a branch its old names and then those that it was missing; where it is
 -- missing none, such a pull has nothing to do
@@ -60,3 +69,23 @@ HeldCanGo =
 -- by some names, one list is held
 abbrev pub HeldIsDetermined : Type 0
 HeldIsDetermined = (branch : List Catch) (names : List (List ℕ)) → ExactlyOne (HeldBy branch names)
+
+-- each line of a file has a name, and each name is that of a patch of the branch; and where a hunk that takes away what
+-- is there is undone, all lines have the names that they had
+pub record LinesHaveNames : Type 0 where
+  pub each :
+      (branch : List Catch) (path : List ℕ) (tree : Files) (lines : Lines) → LeadsTo branch tree →
+      get tree path ≡ Some lines → length (names_of_lines path branch) ≡ length lines
+  pub own :
+      (branch : List Catch) (path : List ℕ) → All (λ name. has_patch branch name ≡ true) (names_of_lines path branch)
+  pub given_back :
+      (name other : List ℕ) (key : Key) (hunk : Edit) (known : Known) →
+      hunk.line - 1 + length hunk.old ≤ length known.names →
+      (behind_hunk other key (flipped hunk) (behind_hunk name key hunk known)).names ≡ known.names
+
+-- a patch is shown, in the state after its record, with the changes that were recorded
+abbrev pub RecordedIsShown : Type 0
+RecordedIsShown =
+    (state next : Contents) (branch name : List ℕ) (changes : List Primitive) (catches : List Catch) → IsLawful state →
+    step state (call.Record branch name changes) ≡ Next next → Has next branch catches →
+    patch_in catches name ≡ record { catches = recorded name 1 changes; changes = changes }

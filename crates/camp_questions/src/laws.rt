@@ -1,4 +1,4 @@
-ghost use Rattle.camp_questions.specs.Laws.{HeldCanGo, HeldIsDetermined, MissingIsPulled, NeedsAreDetermined, NeedsComeFirst};
+ghost use Rattle.camp_questions.specs.Laws.{HeldCanGo, HeldIsDetermined, LinesHaveNames, MissingIsPulled, NeedsAreDetermined, NeedsComeFirst, RecordedIsShown};
 
 /// A pull without names that is accepted brings what is missing, in this order; where nothing is
 /// missing, it is refused as having nothing to do.
@@ -26,4 +26,15 @@ pub fn held_can_go()
 /// What is held by patches is exactly one list of names.
 pub fn held_is_determined()
     ensures { HeldIsDetermined }
+{}
+
+/// Each line of a file of a branch has a name, which is that of one of its patches; and where a hunk is
+/// undone, all lines have the names that they had.
+pub fn lines_have_names()
+    ensures { LinesHaveNames }
+{}
+
+/// A patch is shown, in the state after its record, with the changes that were recorded.
+pub fn recorded_is_shown()
+    ensures { RecordedIsShown }
 {}

@@ -1,17 +1,24 @@
 //! Questions about the patches of a repository. A question changes nothing.
 #![tactic(auto)]
 
+mod annotations;
 mod dependencies;
 mod differences;
 mod faults;
 mod finding;
 mod foresight;
 mod laws;
+mod primitive_keys;
+mod showing;
+mod walks;
 
+pub use annotations::{Annotated, annotate};
 pub use dependencies::{held_by, needs};
 pub use differences::missing;
 pub use faults::Unanswered;
 pub use foresight::{Foreseen, Standing, what_if};
 pub use laws::{
-    held_can_go, held_is_determined, missing_is_pulled, needs_are_determined, needs_come_first,
+    held_can_go, held_is_determined, lines_have_names, missing_is_pulled, needs_are_determined,
+    needs_come_first, recorded_is_shown,
 };
+pub use showing::{Shown, show};

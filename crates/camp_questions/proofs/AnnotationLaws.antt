@@ -1,0 +1,119 @@
+-- The laws of annotations.
+use Rattle.std.proofs.Common.{◌≡◌, ◌≤◌, ℕ, ◌+◌, ◌-◌, ◌==◌, Bool, true, false, ◌||◌, cond, List, [], ◌∷◌, ◌++◌, map, bytes_eq, subst, Option, None, Some, length, take, drop, replicate, refl, sym, ap, ◌∙◌, arith}
+use Rattle.std.specs.FinMap.{empty, get, get-empty, get-insert, insert}
+use Rattle.std.specs.List.{All, slice_range, splice}
+use Rattle.std.specs.Ordering.{eq_by_cmp, is_eq}
+use Rattle.std.proofs.lemmas.Bool.{eq-eqb}
+use Rattle.std.proofs.lemmas.Cmp.{tied_itself}
+use Rattle.std.proofs.lemmas.List.Elements.{All-append, All-drop, All-nil, All-replicate, All-take}
+use Rattle.std.proofs.lemmas.Option.{none-some, same_Some}
+use Rattle.std.proofs.lemmas.List.{append_assoc, drop_at, drop-drop, length-append, length-drop, length-take-le, take-append-drop, take_at}
+use Rattle.camp_prim.specs.Effect.{flipped}
+use Rattle.camp_prim.specs.Hunks.{Edit}
+use Rattle.camp_prim.specs.Labels.{key_cmp, key_of, label_of}
+use Rattle.camp_prim.specs.declared.labels.Key.{Key}
+use Rattle.camp_prim.specs.declared.named.Named.{Named}
+use Rattle.camp_prim.specs.declared.primitives.Primitive.{Primitive}
+use Rattle.camp_prim.specs.declared.primitives.Primitive.TheVariants.{Add, Remove, Hunk}
+use Rattle.camp_prim.proofs.LabelOrder.{key_total}
+use Rattle.camp_catch.specs.Catches.{effect_of}
+use Rattle.camp_catch.specs.declared.catches.Catch.{Catch}
+use Rattle.camp_branch.specs.Branches.{has_patch, is_among, name_of}
+use Rattle.camp_branch.proofs.Names.{name_itself, or_true}
+use Rattle.camp_questions.specs.Annotations.{Known, behind_all, behind_catches, behind_change, behind_hunk, names_coming, nothing_known}
+use Rattle.camp_questions.specs.Inside.Walking.{lines_or_none}
+use Rattle.camp_questions.specs.Laws.{LinesHaveNames}
+use Rattle.camp_questions.proofs.LineNames.{as_many, catches_count, none_known}
+
+kept_at : (taken : List (List ℕ)) (name : List ℕ) (count : ℕ) → length taken ≡ count → names_coming (Some taken) name count ≡ taken
+kept_at taken name count same = ap (λ b. cond b taken (replicate count name)) (eq-eqb (length taken) count same)
+
+-- what was taken away is found under its absolute label
+found : (known : Known) (key : Key) (taken : List (List ℕ)) → get (insert known.taken key taken) key ≡ Some taken
+found known key taken =
+    get-insert key_total known.taken key taken key ∙ ap (λ o. cond (is_eq o) (Some taken) (get known.taken key)) (tied_itself key_total key)
+
+-- what stands in place of a part of a list, and then the part again
+back : (names coming : List (List ℕ)) (from to end : ℕ) → from ≤ to → to ≤ length names → end ≡ from + length coming → splice (splice names from to coming) from end (slice_range names from to) ≡ names
+back names coming from to end ordered within ends =
+    let front = take from names in
+    let size : length front ≡ from = length-take-le from names (omega arith) in
+    let first : take from (front ++ (coming ++ drop to names)) ≡ front = take_at front (coming ++ drop to names) from size in
+    let last : drop end (front ++ (coming ++ drop to names)) ≡ drop to names = ap (drop end) (sym (append_assoc front coming (drop to names))) ∙ drop_at (front ++ coming) (drop to names) end (length-append front coming ∙ ap (λ n. n + length coming) size ∙ sym ends) in
+    let part = take (to - from) (drop from names) in
+    let rest : part ++ drop to names ≡ drop from names = ap (λ t. part ++ t) (sym (drop-drop (to - from) from names ∙ ap (λ n. drop n names) {x = from + (to - from)} {y = to} (omega arith))) ∙ take-append-drop (to - from) (drop from names) in
+    (λ i. first i ++ (part ++ last i)) ∙ ap (λ t. front ++ t) rest ∙ take-append-drop from names
+
+given_back : (name other : List ℕ) (key : Key) (hunk : Edit) (known : Known) → hunk.line - 1 + length hunk.old ≤ length known.names → (behind_hunk other key (flipped hunk) (behind_hunk name key hunk known)).names ≡ known.names
+given_back name other key hunk known within =
+    let from : ℕ = hunk.line - 1 in
+    let to : ℕ = from + length hunk.old in
+    let coming = names_coming (get known.taken key) name (length hunk.new) in
+    let gone = slice_range known.names from to in
+    let dropped : length (drop from known.names) ≡ length known.names - from = length-drop from known.names in
+    let many : length gone ≡ length hunk.old = length-take-le (to - from) (drop from known.names) (omega (arith, dropped)) ∙ omega arith in
+    let there : names_coming (get (insert known.taken key gone) key) other (length hunk.old) ≡ gone = ap (λ o. names_coming o other (length hunk.old)) (found known key gone) ∙ kept_at gone other (length hunk.old) many in
+    ap (splice (splice known.names from to coming) from (from + length hunk.new)) there ∙ back known.names coming from to (from + length hunk.new) (omega arith) within (ap (λ n. from + n) (sym (as_many (get known.taken key) name (length hunk.new))))
+
+-- all that is known are names of which something holds
+record Holds (P : List ℕ → Type 0) (known : Known) : Type 0 where
+  pub names : All P known.names
+  pub taken : (key : Key) (taken : List (List ℕ)) → get known.taken key ≡ Some taken → All P taken
+
+module _ (P : List ℕ → Type 0) where
+  coming_hold_at : (taken : List (List ℕ)) (name : List ℕ) (count : ℕ) (b : Bool) → P name → All P taken → All P (cond b taken (replicate count name))
+  coming_hold_at taken name count true one all = all
+  coming_hold_at taken name count false one all = All-replicate P count name one
+
+  coming_hold : (taken : Option (List (List ℕ))) (name : List ℕ) (count : ℕ) → P name → ((l : List (List ℕ)) → taken ≡ Some l → All P l) → All P (names_coming taken name count)
+  coming_hold None name count one all = All-replicate P count name one
+  coming_hold (Some taken) name count one all = coming_hold_at taken name count (length taken == count) one (all taken refl)
+
+  taken_hold : (b : Bool) (gone taken : List (List ℕ)) (o : Option (List (List ℕ))) → All P gone → ((l : List (List ℕ)) → o ≡ Some l → All P l) → cond b (Some gone) o ≡ Some taken → All P taken
+  taken_hold true gone taken o one all e = subst (All P) (same_Some gone taken e) one
+  taken_hold false gone taken o one all e = all taken e
+
+  hunk_holds : (name : List ℕ) (key : Key) (hunk : Edit) (known : Known) → P name → Holds P known → Holds P (behind_hunk name key hunk known)
+  hunk_holds name key hunk known one all =
+      let from : ℕ = hunk.line - 1 in
+      let to : ℕ = from + length hunk.old in
+      let coming = names_coming (get known.taken key) name (length hunk.new) in
+      let gone = slice_range known.names from to in
+      let come : All P coming = coming_hold (get known.taken key) name (length hunk.new) one (all.taken key) in
+      record {
+        names = All-append P (take from known.names) (coming ++ drop to known.names) (All-take P from known.names all.names) (All-append P coming (drop to known.names) come (All-drop P to known.names all.names));
+        taken = λ q taken e. taken_hold (eq_by_cmp key_cmp q key) gone taken (get known.taken q) (All-take P (to - from) (drop from known.names) (All-drop P from known.names all.names)) (all.taken q) (sym (get-insert key_total known.taken key gone q) ∙ e);
+      }
+
+  hunk_holds_at : (name : List ℕ) (key : Key) (hunk : Edit) (known : Known) (b : Bool) → P name → Holds P known → Holds P (cond b (behind_hunk name key hunk known) known)
+  hunk_holds_at name key hunk known true one all = hunk_holds name key hunk known one all
+  hunk_holds_at name key hunk known false one all = all
+
+  change_holds : (path name : List ℕ) (key : Key) (p : Primitive) (known : Known) → P name → Holds P known → Holds P (behind_change path name key p known)
+  change_holds path name key (Add q) known one all = all
+  change_holds path name key (Remove q) known one all = all
+  change_holds path name key (Hunk hunk) known one all =
+      hunk_holds_at name key hunk known (bytes_eq hunk.path path) one all
+
+  effect_holds : (path name : List ℕ) (s : List Named) (known : Known) → P name → Holds P known → Holds P (behind_all path name s known)
+  effect_holds path name [] known one all = all
+  effect_holds path name (p ∷ s) known one all =
+      effect_holds path name s (behind_change path name (key_of (label_of p)) p.prim known) one
+      (change_holds path name (key_of (label_of p)) p.prim known one all)
+
+  catches_hold : (path : List ℕ) (list : List Catch) (known : Known) → ((name : List ℕ) → is_among (map name_of list) name ≡ true → P name) → Holds P known → Holds P (behind_catches path list known)
+  catches_hold path [] known each all = all
+  catches_hold path (k ∷ list) known each all =
+      catches_hold path list (behind_all path (name_of k) (effect_of k) known)
+      (λ name among. each name (or_true (bytes_eq name (name_of k)) (is_among (map name_of list) name) among))
+      (effect_holds path (name_of k) (effect_of k) known (each (name_of k) (ap (λ b. b || is_among (map name_of list) (name_of k)) (name_itself (name_of k)))) all)
+
+  nothing_holds : Holds P nothing_known
+  nothing_holds = record { names = All-nil P; taken = λ key taken e. absurd (none-some taken (sym (get-empty key_cmp key) ∙ e)) }
+
+pub lines_have_names : LinesHaveNames
+lines_have_names = record {
+  each = λ branch path tree lines leads is. catches_count path branch empty tree nothing_known leads (none_known path) ∙ ap (λ o. length (lines_or_none o)) is;
+  own = λ branch path. (catches_hold (λ name. has_patch branch name ≡ true) path branch nothing_known (λ name among. among) (nothing_holds (λ name. has_patch branch name ≡ true))).names;
+  given_back = given_back;
+}

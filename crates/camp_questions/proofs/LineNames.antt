@@ -1,0 +1,164 @@
+-- As many names are known on the way as the file has lines.
+use Rattle.std.proofs.Common.{◌≡◌, ◌≢◌, ◌<◌, ◌≤◌, ℕ, ◌+◌, ◌-◌, ◌==◌, Bool, true, false, true≢false, cond, List, [], ◌∷◌, ◌++◌, Option, None, Some, length, take, drop, get_or, replicate, bytes_eq, refl, sym, ap, ◌∙◌, subst, arith}
+use Rattle.std.specs.FinMap.{empty, get, get-empty}
+use Rattle.std.specs.List.{splice}
+use Rattle.std.specs.Ordering.{nat_cmp, eq_by_cmp}
+use Rattle.std.specs.Cmp.Lexicographic.{slice_cmp}
+use Rattle.std.proofs.lemmas.Bool.{eqb-true}
+use Rattle.std.proofs.lemmas.List.{drop_more, length-append, length-drop, length-replicate, length-take-le}
+use Rattle.std.proofs.lemmas.Slice.Eq.{bytes_eq-Decides}
+use Rattle.camp_base.specs.Trees.{Files, Lines, Splices}
+use Rattle.camp_prim.specs.Effect.{Applies}
+use Rattle.camp_prim.specs.Hunks.{Edit}
+use Rattle.camp_prim.specs.Labels.{key_of, label_of}
+use Rattle.camp_prim.specs.declared.labels.Key.{Key}
+use Rattle.camp_prim.specs.declared.named.Named.{Named}
+use Rattle.camp_prim.specs.declared.primitives.Primitive.{Primitive}
+use Rattle.camp_prim.specs.declared.primitives.Primitive.TheVariants.{Add, Remove, Hunk}
+use Rattle.camp_prim.proofs.FilesAtPaths.{get-with_file, get-with_file_other, get-with_file_same, same_path, with_file}
+use Rattle.camp_seq.specs.Running.{AppliesAll}
+use Rattle.camp_catch.specs.Catches.{FitsAll, effect_of}
+use Rattle.camp_catch.specs.declared.catches.Catch.{Catch}
+use Rattle.camp_branch.specs.Branches.{name_of}
+use Rattle.camp_questions.specs.Annotations.{Known, behind_all, behind_catches, behind_change, behind_hunk, names_coming, names_of_lines, nothing_known}
+use Rattle.camp_questions.specs.Inside.Walking.{AppliesOn, AreKnownIn, FollowsOn, StandsWithin, lines_or_none}
+
+as_many_at : (taken : List (List ℕ)) (name : List ℕ) (count : ℕ) (b : Bool) → (length taken == count) ≡ b → length (cond b taken (replicate count name)) ≡ count
+as_many_at taken name count true e = eqb-true (length taken) count e
+as_many_at taken name count false e = length-replicate count name
+
+-- as many names come as lines do
+pub as_many : (taken : Option (List (List ℕ))) (name : List ℕ) (count : ℕ) → length (names_coming taken name count) ≡ count
+as_many None name count = length-replicate count name
+as_many (Some taken) name count = as_many_at taken name count _ refl
+
+spliced_count : (names coming : List (List ℕ)) (from to : ℕ) → from ≤ length names → length (splice names from to coming) ≡ from + (length coming + (length names - to))
+spliced_count names coming from to within =
+    length-append (take from names) (coming ++ drop to names) ∙ (λ i. length-take-le from names within i + (length-append coming (drop to names) ∙ ap (λ n. length coming + n) (length-drop to names)) i)
+
+-- what has no line at a path before and after has as many lines at each
+alike_at : (m : Files) (q path : List ℕ) (x : Option Lines) (b : Bool) → lines_or_none x ≡ lines_or_none (get m q) → eq_by_cmp (slice_cmp nat_cmp) path q ≡ b → lines_or_none (cond b x (get m path)) ≡ lines_or_none (get m path)
+alike_at m q path x true alike e = alike ∙ ap (λ p. lines_or_none (get m p)) (sym (same_path path q e))
+alike_at m q path x false alike e = refl
+
+alike : (m : Files) (q path : List ℕ) (x : Option Lines) → lines_or_none x ≡ lines_or_none (get m q) → lines_or_none (get (with_file m q x) path) ≡ lines_or_none (get m path)
+alike m q path x same = ap lines_or_none (get-with_file m q x path) ∙ alike_at m q path x _ same refl
+
+other_path : (a b : List ℕ) → bytes_eq a b ≡ false → a ≢ b
+other_path a b e same = true≢false (sym ((bytes_eq-Decides a b).1 same) ∙ e)
+
+-- a hunk takes lines away that are there
+pub stands_within : (path : List ℕ) (hunk : Edit) (old new : Files) (known : Known) → hunk.path ≡ path → Splices hunk.path hunk.line hunk.old hunk.new old new → AreKnownIn path old known → StandsWithin hunk known
+stands_within path hunk old new known same w are =
+    let found : length known.names ≡ length w.lines = are ∙ ap (λ p. length (lines_or_none (get old p))) (sym same) ∙ ap (λ o. length (lines_or_none o)) w.found in
+    let s = w.splices in
+    let parts : length w.lines ≡ length s.before + length hunk.old + length s.after = ap length s.was ∙ length-append (s.before ++ hunk.old) s.after ∙ ap (λ n. n + length s.after) (length-append s.before hunk.old) in
+    omega (arith, found, parts, s.at)
+
+hunk_counts : (path name : List ℕ) (key : Key) (hunk : Edit) (old new : Files) (known : Known) → hunk.path ≡ path → Splices hunk.path hunk.line hunk.old hunk.new old new → AreKnownIn path old known → AreKnownIn path new (behind_hunk name key hunk known)
+hunk_counts path name key hunk old new known same w are =
+    let found : length known.names ≡ length w.lines = are ∙ ap (λ p. length (lines_or_none (get old p))) (sym same) ∙ ap (λ o. length (lines_or_none o)) w.found in
+    let s = w.splices in
+    let within = stands_within path hunk old new known same w are in
+    let coming = names_coming (get known.taken key) name (length hunk.new) in
+    let parts : length w.lines ≡ length s.before + length hunk.old + length s.after = ap length s.was ∙ length-append (s.before ++ hunk.old) s.after ∙ ap (λ n. n + length s.after) (length-append s.before hunk.old) in
+    let becomes : length w.changed ≡ length s.before + length hunk.new + length s.after = ap length s.becomes ∙ length-append (s.before ++ hunk.new) s.after ∙ ap (λ n. n + length s.after) (length-append s.before hunk.new) in
+    let now : get new path ≡ Some w.changed = ap (λ p. get new p) (sym same) ∙ ap (λ t. get t hunk.path) w.becomes ∙ get-with_file_same old hunk.path (Some w.changed) in
+    let from : ℕ = hunk.line - 1 in
+    let to : ℕ = from + length hunk.old in
+    let starts : from ≤ length known.names = omega (arith, within) in
+    let many : length coming ≡ length hunk.new = as_many (get known.taken key) name (length hunk.new) in
+    let counted : length (splice known.names from to coming) ≡ from + (length coming + (length known.names - to)) = spliced_count known.names coming from to starts in
+    let here : length (splice known.names from to coming) ≡ length w.changed = omega (arith, found, parts, becomes, many, counted, s.at) in
+    here ∙ ap (λ o. length (lines_or_none o)) (sym now)
+
+hunk_counts_at : (path name : List ℕ) (key : Key) (hunk : Edit) (old new : Files) (known : Known) (b : Bool) → bytes_eq hunk.path path ≡ b → Splices hunk.path hunk.line hunk.old hunk.new old new → AreKnownIn path old known → AreKnownIn path new (cond b (behind_hunk name key hunk known) known)
+hunk_counts_at path name key hunk old new known true e w are =
+    hunk_counts path name key hunk old new known ((bytes_eq-Decides hunk.path path).0 e) w are
+hunk_counts_at path name key hunk old new known false e w are =
+    are ∙ ap (λ o. length (lines_or_none o)) (sym (ap (λ t. get t path) w.becomes ∙ get-with_file_other old hunk.path path (Some w.changed) (other_path hunk.path path e)))
+
+-- behind a change there are as many names as lines
+pub change_counts : (path name : List ℕ) (key : Key) (p : Primitive) (old new : Files) (known : Known) → Applies p old new → AreKnownIn path old known → AreKnownIn path new (behind_change path name key p known)
+change_counts path name key (Add q) old new known w are =
+    are ∙ ap length (sym (ap (λ t. lines_or_none (get t path)) w.becomes ∙ alike old q path (Some []) (ap lines_or_none (sym w.absent))))
+change_counts path name key (Remove q) old new known w are =
+    are ∙ ap length (sym (ap (λ t. lines_or_none (get t path)) w.becomes ∙ alike old q path None (ap lines_or_none (sym w.empty))))
+change_counts path name key (Hunk hunk) old new known w are =
+    hunk_counts_at path name key hunk old new known _ refl w are
+
+-- behind an effect there are
+pub effect_counts : (path name : List ℕ) (s : List Named) (old new : Files) (known : Known) → AppliesAll s old new → AreKnownIn path old known → AreKnownIn path new (behind_all path name s known)
+effect_counts path name [] old new known w are = subst (λ t. AreKnownIn path t known) (sym w) are
+effect_counts path name (p ∷ s) old new known w are =
+    effect_counts path name s w.0 new (behind_change path name (key_of (label_of p)) p.prim known) w.2
+    (change_counts path name (key_of (label_of p)) p.prim old w.0 known w.1 are)
+
+-- on a walk along an effect: what is left of it leads to the same, and applies
+pub record IsOnTheWay (path name : List ℕ) (start : Known) (effect rest : List Named) (known : Known) : Type 0 where
+  pub leads : behind_all path name rest known ≡ behind_all path name effect start
+  pub follows : FollowsOn path rest known
+
+next_applies : (path name : List ℕ) (start : Known) (effect : List Named) (i : ℕ) (p d : Named) (known : Known) → i < length effect → p ≡ get_or effect i d → IsOnTheWay path name start effect (drop i effect) known → IsOnTheWay path name start effect (p ∷ drop (i + 1) effect) known
+next_applies path name start effect i p d known within is way =
+    subst (λ rest. IsOnTheWay path name start effect rest known) (drop_more effect i d within ∙ ap (λ q. q ∷ drop (i + 1) effect) (sym is)) way
+
+pub applies_next : (path name : List ℕ) (start : Known) (effect : List Named) (i : ℕ) (p d : Named) (known : Known) → i < length effect → p ≡ get_or effect i d → IsOnTheWay path name start effect (drop i effect) known → AppliesOn path p.prim known
+applies_next path name start effect i p d known within is way =
+    let follows = (next_applies path name start effect i p d known within is way).follows in
+    (follows.0, follows.2.0, follows.2.1, follows.3)
+
+pub one_further : (path name : List ℕ) (start : Known) (effect : List Named) (i : ℕ) (p d : Named) (known next : Known) → i < length effect → p ≡ get_or effect i d → IsOnTheWay path name start effect (drop i effect) known → next ≡ behind_change path name (key_of (label_of p)) p.prim known → IsOnTheWay path name start effect (drop (i + 1) effect) next
+one_further path name start effect i p d known next within is way becomes =
+    let here = next_applies path name start effect i p d known within is way in
+    let follows = here.follows in
+    subst (IsOnTheWay path name start effect (drop (i + 1) effect)) (sym becomes) (record {
+      leads = here.leads;
+      follows = (follows.2.0, follows.1, follows.2.2, change_counts path name (key_of (label_of p)) p.prim follows.0 follows.2.0 known follows.2.1 follows.3);
+    })
+
+pub hunk_stands : (path : List ℕ) (p : Primitive) (hunk : Edit) (known : Known) (b : Bool) → p ≡ Hunk hunk → AppliesOn path p known → b ≡ bytes_eq hunk.path path → b ≡ true → StandsWithin hunk known
+hunk_stands path p hunk known b is applies same true_b =
+    let w = subst (λ q. AppliesOn path q known) is applies in
+    stands_within path hunk w.0 w.1 known ((bytes_eq-Decides hunk.path path).0 (sym same ∙ true_b)) w.2 w.3
+
+-- behind catches there are as many names as lines
+pub catches_count : (path : List ℕ) (branch : List Catch) (old new : Files) (known : Known) → FitsAll branch old new → AreKnownIn path old known → AreKnownIn path new (behind_catches path branch known)
+catches_count path [] old new known w are = subst (λ t. AreKnownIn path t known) (sym w) are
+catches_count path (k ∷ branch) old new known w are =
+    catches_count path branch w.0 new (behind_all path (name_of k) (effect_of k) known) w.2
+    (effect_counts path (name_of k) (effect_of k) old w.0 known w.1.effect are)
+
+-- on a walk along catches: what is left of them leads to the same, and fits
+pub record IsAlong (path : List ℕ) (catches rest : List Catch) (known : Known) : Type 0 where
+  pub leads : behind_catches path rest known ≡ behind_catches path catches nothing_known
+  pub tree : Files
+  pub aim : Files
+  pub fits : FitsAll rest tree aim
+  pub are : AreKnownIn path tree known
+
+pub follows_next : (path : List ℕ) (catches : List Catch) (k : Catch) (rest : List Catch) (effect : List Named) (known : Known) → effect ≡ effect_of k → IsAlong path catches (k ∷ rest) known → FollowsOn path effect known
+follows_next path catches k rest effect known is along =
+    (along.tree, along.fits.0, subst (λ s. AppliesAll s along.tree along.fits.0) (sym is) along.fits.1.effect, along.are)
+
+pub one_along : (path name : List ℕ) (catches : List Catch) (k : Catch) (rest : List Catch) (effect : List Named) (known next : Known) → name ≡ name_of k → effect ≡ effect_of k → IsAlong path catches (k ∷ rest) known → next ≡ behind_all path name effect known → IsAlong path catches rest next
+one_along path name catches k rest effect known next called is along becomes =
+    let to : next ≡ behind_all path (name_of k) (effect_of k) known = becomes ∙ (λ i. behind_all path (called i) (is i) known) in
+    subst (IsAlong path catches rest) (sym to) (record {
+      leads = along.leads;
+      tree = along.fits.0;
+      aim = along.aim;
+      fits = along.fits.2;
+      are = effect_counts path (name_of k) (effect_of k) along.tree along.fits.0 known along.fits.1.effect along.are;
+    })
+
+pub none_known : (path : List ℕ) → AreKnownIn path empty nothing_known
+none_known path = ap (λ o. length (lines_or_none o)) (sym (get-empty (slice_cmp nat_cmp) path))
+
+pub starts_along : (path : List ℕ) (catches rest : List Catch) (known : Known) (tree : Files) → FitsAll catches empty tree → rest ≡ catches → known ≡ nothing_known → IsAlong path catches rest known
+starts_along path catches rest known tree fits all none =
+    rw (all, none) (record { leads = refl; tree = empty; aim = tree; fits = fits; are = none_known path })
+
+pub ends_along : (path : List ℕ) (catches rest : List Catch) (known : Known) → rest ≡ [] → IsAlong path catches rest known → known.names ≡ names_of_lines path catches
+ends_along path catches rest known done along =
+    ap (λ (k : Known). k.names) (sym (ap (λ r. behind_catches path r known) done) ∙ along.leads)

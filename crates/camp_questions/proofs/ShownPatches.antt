@@ -1,0 +1,60 @@
+-- A patch as it stands where it was recorded.
+use Rattle.std.proofs.Common.{◌≡◌, ℕ, ◌+◌, Bool, true, false, true≢false, ◌||◌, cond, List, [], ◌∷◌, ◌++◌, bytes_eq, refl, sym, ap, ◌∙◌}
+use Rattle.std.proofs.lemmas.List.Elements.{filter-append}
+use Rattle.std.proofs.lemmas.Slice.Eq.{bytes_eq-Decides}
+use Rattle.camp_prim.specs.declared.primitives.Primitive.{Primitive}
+use Rattle.camp_catch.specs.declared.catches.Catch.{Catch}
+use Rattle.camp_branch.specs.Branches.{has_patch, is_among, name_of, recorded}
+use Rattle.camp_branch.proofs.Names.{name_itself, or_parts, same_name}
+use Rattle.camp_call.specs.declared.calls.Call.TheVariants as call
+use Rattle.camp_repo.specs.States.{stands}
+use Rattle.camp_repo.specs.Steps.{catches_named}
+use Rattle.camp_repo.proofs.AcceptedSteps.{has_branch, passes}
+use Rattle.camp_repo.proofs.Effects.{accepted_calls}
+use Rattle.camp_repo.proofs.RecordSteps.{is_new}
+use Rattle.camp_questions.specs.Laws.{RecordedIsShown}
+use Rattle.camp_questions.specs.Showing.{changes_of}
+use Rattle.camp_questions.proofs.MissingNames.{same_catches}
+
+apart_too : (a b : List ℕ) → bytes_eq a b ≡ false → (c : Bool) → bytes_eq b a ≡ c → c ≡ false
+apart_too a b apart true e =
+    absurd (true≢false (sym ((bytes_eq-Decides a b).1 (sym (same_name b a e))) ∙ apart))
+apart_too a b apart false e = refl
+
+-- a branch without a patch has no catch of it
+none_named : (old : List Catch) (name : List ℕ) → has_patch old name ≡ false → catches_named (name ∷ []) old ≡ []
+none_named [] name free = refl
+none_named (k ∷ old) name free =
+    let parts = or_parts (bytes_eq name (name_of k)) (has_patch old name) free in
+    let other : bytes_eq (name_of k) name ≡ false = apart_too name (name_of k) parts.0 (bytes_eq (name_of k) name) refl in
+    ap (λ b. cond (b || false) (k ∷ catches_named (name ∷ []) old) (catches_named (name ∷ []) old)) other ∙ none_named old name parts.1
+
+-- all that a record makes is of its patch
+all_named : (name : List ℕ) (place : ℕ) (changes : List Primitive) → catches_named (name ∷ []) (recorded name place changes) ≡ recorded name place changes
+all_named name place [] = refl
+all_named name place (change ∷ changes) =
+    kept (bytes_eq name name) (name_itself name) ∙ ap (λ t. recorded name place (change ∷ []) ++ t) (all_named name (place + 1) changes)
+  where
+    kept : (b : Bool) → b ≡ true → cond (b || false) (recorded name place (change ∷ []) ++ catches_named (name ∷ []) (recorded name (place + 1) changes)) (catches_named (name ∷ []) (recorded name (place + 1) changes)) ≡ recorded name place (change ∷ []) ++ catches_named (name ∷ []) (recorded name (place + 1) changes)
+    kept true e = refl
+    kept false e = absurd (true≢false (sym e))
+
+-- and changes what was recorded
+same_changes : (name : List ℕ) (place : ℕ) (changes : List Primitive) → changes_of (recorded name place changes) ≡ changes
+same_changes name place [] = refl
+same_changes name place (change ∷ changes) = ap (λ t. change ∷ t) (same_changes name (place + 1) changes)
+
+shown_alone : (old : List Catch) (name : List ℕ) (changes : List Primitive) → has_patch old name ≡ false → catches_named (name ∷ []) (old ++ recorded name 1 changes) ≡ recorded name 1 changes
+shown_alone old name changes free =
+    filter-append (λ k. is_among (name ∷ []) (name_of k)) old (recorded name 1 changes)
+    ∙ (λ i. none_named old name free i ++ all_named name 1 changes i)
+
+pub recorded_is_shown : RecordedIsShown
+recorded_is_shown state next branch name changes catches lawful e has =
+    let there = has_branch state next branch _ e in
+    let free = passes state next (stands state.branches name) _ _ there.2 in
+    let records = accepted_calls state (call.Record branch name changes) next lawful e in
+    let old = records.catches in
+    let is : catches ≡ old ++ recorded name 1 changes = same_catches has records.becomes in
+    let named : catches_named (name ∷ []) catches ≡ recorded name 1 changes = ap (catches_named (name ∷ [])) is ∙ shown_alone old name changes (is_new state branch name old records.was free.0) in
+    λ i. record { catches = named i; changes = (ap changes_of named ∙ same_changes name 1 changes) i }

@@ -1,0 +1,6 @@
+use Rattle.std.proofs.Common.{◌≡◌, ◌++◌, take}
+use Rattle.camp_questions.specs.Showing.{changes_in}
+use Rattle.camp_questions.proofs.showing.append_changes.Given as goal
+
+abbrev pub invariant-loop-p : goal.invariant-loop-p
+invariant-loop-p l = l.changes.items ≡ l.initial.changes.items ++ changes_in (take l.p-index l.effect)

@@ -1,0 +1,83 @@
+-- Which patch put each line of a file there.
+use Rattle.std.specs.Prelude.{◌≡◌, ℕ, ◌+◌, ◌-◌, ◌==◌, if◌then◌else◌, List, [], ◌∷◌, length, replicate, bytes_eq, Option, None, Some, Ok}
+use Rattle.std.specs.FinMap.{FinMap, empty, get, insert}
+use Rattle.std.specs.List.{slice_range, splice}
+use Rattle.camp_base.specs.Trees.{Files, Lines}
+use Rattle.camp_prim.specs.Hunks.{Edit}
+use Rattle.camp_prim.specs.Labels.{key_cmp, key_of, label_of}
+use Rattle.camp_prim.specs.declared.labels.Key.{Key}
+use Rattle.camp_prim.specs.declared.named.Named.{Named}
+use Rattle.camp_prim.specs.declared.primitives.Primitive.{Primitive}
+use Rattle.camp_prim.specs.declared.primitives.Primitive.TheVariants.{Add, Remove, Hunk}
+use Rattle.camp_catch.specs.Catches.{effect_of}
+use Rattle.camp_catch.specs.declared.catches.Catch.{Catch}
+use Rattle.camp_branch.specs.Branches.{LeadsTo, name_of}
+use Rattle.camp_repo.specs.States.{Contents}
+use Rattle.camp_questions.specs.Answers.{AnswerOf, OfBranch}
+use Rattle.camp_questions.specs.declared.annotations.Annotated.{Annotated}
+use Rattle.camp_questions.specs.declared.annotations.Annotated.TheVariants.{File, NoFile}
+
+-- what is known along the effects of a branch: of each line of a file the name of the patch that put it there, and
+-- under the absolute label of each hunk the names of the lines that it took away
+pub record Known : Type 0 where
+  pub names : List (List ℕ)
+  pub taken : FinMap key_cmp (List (List ℕ))
+
+-- at first nothing is known
+abbrev pub nothing_known : Known
+nothing_known = record { names = []; taken = empty }
+
+-- the names of so many lines that come with a hunk: those of the lines that its inverse took away, where these are as
+-- many, and else for each the name of the patch
+abbrev pub names_coming : Option (List (List ℕ)) → List ℕ → ℕ → List (List ℕ)
+names_coming None name count = replicate count name
+names_coming (Some taken) name count = if length taken == count then taken else replicate count name
+
+-- what is known behind a hunk of the file: the lines that come have their names in place of those that go, and the
+-- names of these are kept under its absolute label
+abbrev pub behind_hunk : List ℕ → Key → Edit → Known → Known
+behind_hunk name key hunk known =
+    let from = hunk.line - 1 in
+    let to = from + length hunk.old in
+    record {
+      names = splice known.names from to (names_coming (get known.taken key) name (length hunk.new));
+      taken = insert known.taken key (slice_range known.names from to);
+    }
+
+-- what is known of the file of a path behind a change: no other one than a hunk of this file tells more
+abbrev pub behind_change : List ℕ → List ℕ → Key → Primitive → Known → Known
+behind_change path name key (Add other) known = known
+behind_change path name key (Remove other) known = known
+behind_change path name key (Hunk hunk) known =
+    if bytes_eq hunk.path path then behind_hunk name key hunk known else known
+
+-- behind an effect of a patch, one primitive after the other
+abbrev pub behind_all : List ℕ → List ℕ → List Named → Known → Known
+behind_all path name [] known = known
+behind_all path name (p ∷ s) known =
+    behind_all path name s (behind_change path name (key_of (label_of p)) p.prim known)
+
+-- behind catches, one after the other
+abbrev pub behind_catches : List ℕ → List Catch → Known → Known
+behind_catches path [] known = known
+behind_catches path (k ∷ ks) known =
+    behind_catches path ks (behind_all path (name_of k) (effect_of k) known)
+
+-- of each line of the file of a path the name of the patch of a branch that put it there
+abbrev pub names_of_lines : List ℕ → List Catch → List (List ℕ)
+names_of_lines path branch = (behind_catches path branch nothing_known).names
+
+-- what is told of a path that has these lines, or no file
+abbrev pub annotated : Option Lines → List (List ℕ) → Annotated
+annotated None names = NoFile
+annotated (Some lines) names = File lines names
+
+-- what is told of a path of a branch: the lines that its tree has there, and their names
+abbrev pub Annotates : List Catch → List ℕ → Annotated → Type 0
+Annotates branch path told =
+    (tree : Files) × LeadsTo branch tree × (told ≡ annotated (get tree path) (names_of_lines path branch))
+
+-- the question for the names of the lines of a path
+abbrev pub AreAnnotated : Contents → List ℕ → List ℕ → AnswerOf Annotated → Type 0
+AreAnnotated state branch path =
+    OfBranch state branch (λ catches answer. (told : Annotated) × (answer ≡ Ok told) × Annotates catches path told)

@@ -1,0 +1,39 @@
+-- What is known on a walk along effects, and where they may go on.
+use Rattle.std.specs.Prelude.{◌≡◌, ◌≤◌, ℕ, ◌+◌, ◌-◌, List, [], length, Option, None, Some}
+use Rattle.std.specs.FinMap.{get}
+use Rattle.camp_base.specs.Trees.{Files, Lines}
+use Rattle.camp_prim.specs.Effect.{Applies}
+use Rattle.camp_prim.specs.Hunks.{Edit}
+use Rattle.camp_prim.specs.Labels.{key_cmp}
+use Rattle.camp_prim.specs.declared.named.Named.{Named}
+use Rattle.camp_prim.specs.declared.primitives.Primitive.{Primitive}
+use Rattle.camp_seq.specs.Running.{AppliesAll}
+use Rattle.camp_share.specs.Maps.{map_of}
+use Rattle.camp_questions.specs.Annotations.{Known}
+use Rattle.camp_questions.specs.declared.walks.Walk.{Walk}
+
+-- what is known on a walk
+abbrev pub known_in : Walk → Known
+known_in walk = record { names = walk.names; taken = map_of key_cmp walk.taken }
+
+-- the lines that a hunk takes away are among those that are known
+abbrev pub StandsWithin : Edit → Known → Type 0
+StandsWithin hunk known = hunk.line - 1 + length hunk.old ≤ length known.names
+
+-- the lines of a path: none where it has no file
+abbrev pub lines_or_none : Option Lines → Lines
+lines_or_none None = []
+lines_or_none (Some lines) = lines
+
+-- as many names are known as a path has lines in a tree
+abbrev pub AreKnownIn : List ℕ → Files → Known → Type 0
+AreKnownIn path tree known = length known.names ≡ length (lines_or_none (get tree path))
+
+-- a primitive applies to a tree of which the names are known
+abbrev pub AppliesOn : List ℕ → Primitive → Known → Type 0
+AppliesOn path p known = (old : Files) × (new : Files) × Applies p old new × AreKnownIn path old known
+
+-- an effect applies to a tree of which the names are known
+abbrev pub FollowsOn : List ℕ → List Named → Known → Type 0
+FollowsOn path effect known =
+    (old : Files) × (new : Files) × AppliesAll effect old new × AreKnownIn path old known

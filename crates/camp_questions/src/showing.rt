@@ -1,0 +1,97 @@
+ghost use Rattle.std.specs.Prelude.{◌≡◌, ◌++◌, [], ◌∷◌, IfOk, OnOk};
+ghost use Rattle.camp_repo.specs.Steps.{catches_named};
+ghost use Rattle.camp_questions.specs.Answers.{Tells};
+ghost use Rattle.camp_questions.specs.Showing.{IsShown, changes_in, changes_of};
+
+use crate::Unanswered;
+use crate::finding::branch_with;
+use camp_base::Name;
+use camp_catch::Catch;
+use camp_prim::{Named, Primitive};
+use camp_repo::State;
+use camp_share::{Share, Shared, SharedList};
+use std::alloc::{AllocError, Global};
+use std::marker::Model;
+use std::slice;
+
+/// A patch as it stands in a branch: its catches, and what they change.
+#[derive(Drop)]
+pub struct Shown {
+    catches: Vec<Shared<Catch>>,
+    changes: Vec<Primitive>,
+}
+
+impl Model for Shown {
+    ghost use Rattle.std.specs.Coded.{codes};
+    ghost use Rattle.camp_ctx.specs.declared.sets.CtxSet.{the_code as code_of_sets};
+    ghost use Rattle.camp_questions.specs.Showing.{Patch};
+
+    ghost Value = { Patch };
+
+    ghost coded = { Prim.hlevel (codes, code_of_sets) };
+
+    ghost view = { λ shown. record { catches = shown.catches.items; changes = shown.changes.items } };
+}
+
+impl Shown {
+    /// Its catches, which are shared with the branch.
+    pub fn catches(&self) -> &[Shared<Catch>]
+        ensures { result.now ≡ self.now.catches }
+    {
+        &self.catches
+    }
+
+    /// What they change, as a script has changes: each effect, one change after the other.
+    pub fn changes(&self) -> &[Primitive]
+        ensures { result.now ≡ self.now.changes }
+    {
+        &self.changes
+    }
+}
+
+/// A patch as it stands in a branch. Its catches and the lines of its changes are shared with the
+/// branch.
+pub fn show(state: &State, branch: &Name, name: &Name) -> Result<Shown, Unanswered>
+    ensures { Tells (IsShown state.now branch.now name.now) result }
+{
+    let branch = branch_with(state, branch, slice::from_ref(name))?;
+    let catches = catches_named(branch.catches(), name)?;
+    let changes = changes_of(branch.catches().allocator(), &catches)?;
+    Ok(Shown { catches, changes })
+}
+
+/// The catches of the patch of a name.
+fn catches_named(
+    list: &SharedList<Shared<Catch>>,
+    name: &Name,
+) -> Result<Vec<Shared<Catch>>, AllocError>
+    ensures { IfOk result (λ catches. catches.items ≡ catches_named (name.now ∷ []) list.now) }
+{
+    let mut catches = Vec::new(list.allocator());
+    for catch in list.iter() {
+        if catch.name() == name {
+            catches.push(catch.share()?)?;
+        }
+    }
+    Ok(catches)
+}
+
+/// What catches change.
+fn changes_of(alloc: Global, catches: &[Shared<Catch>]) -> Result<Vec<Primitive>, AllocError>
+    ensures { IfOk result (λ changes. changes.items ≡ changes_of catches.now) }
+{
+    let mut changes = Vec::new(alloc);
+    for catch in catches {
+        append_changes(&mut changes, catch.effect())?;
+    }
+    Ok(changes)
+}
+
+fn append_changes(changes: &mut Vec<Primitive>, effect: &[Named]) -> Result<(), AllocError>
+    ensures { OnOk result (changes.new.items ≡ changes.old.items ++ changes_in effect.now) }
+{
+    for p in effect {
+        changes.push(p.prim.try_clone()?)?;
+    }
+    Ok(())
+}

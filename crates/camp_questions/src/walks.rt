@@ -1,0 +1,113 @@
+ghost use Rattle.std.specs.Prelude.{◌≡◌, ℕ, List, IfOk};
+ghost use Rattle.std.specs.FinMap.{get};
+ghost use Rattle.camp_base.specs.Trees.{Files};
+ghost use Rattle.camp_prim.specs.Labels.{key_of, label_of};
+ghost use Rattle.camp_branch.specs.Branches.{LeadsTo};
+ghost use Rattle.camp_questions.specs.Annotations.{behind_all, behind_change, behind_hunk, names_coming, names_of_lines, nothing_known};
+ghost use Rattle.camp_questions.specs.Inside.Walking.{AppliesOn, FollowsOn, StandsWithin, known_in};
+
+use crate::primitive_keys::PrimitiveKey;
+use camp_base::{Name, Path};
+use camp_catch::Catch;
+use camp_prim::{Hunk, Key, Named, Primitive};
+use camp_share::{Shared, SharedList, SharedMap};
+use std::alloc::{AllocError, Global};
+
+/// Of each line of the file of a path the name of the patch that put it there.
+pub(crate) fn names_of_lines(
+    catches: &SharedList<Shared<Catch>>,
+    path: &Path,
+) -> Result<SharedList<Name>, AllocError>
+    requires { (tree : Files) × LeadsTo catches.now tree }
+    ensures { IfOk result (λ names. names ≡ names_of_lines path.now catches.now) }
+{
+    let mut walk = Walk::new(catches.allocator());
+    for catch in catches.iter() {
+        walk = walk.behind_all(path, catch.name(), catch.effect())?;
+    }
+    Ok(walk.into_names())
+}
+
+/// What is known along the effects of a branch: of each line of a file the name of the patch that put
+/// it there, and for each hunk the names of the lines that it took away.
+#[derive(Drop)]
+struct Walk {
+    names: SharedList<Name>,
+    taken: SharedMap<PrimitiveKey, Shared<SharedList<Name>>>,
+}
+
+impl Walk {
+    fn new(alloc: Global) -> Walk
+        ensures { known_in result ≡ nothing_known }
+    {
+        Walk {
+            names: SharedList::new(alloc),
+            taken: SharedMap::new(alloc),
+        }
+    }
+
+    fn into_names(self) -> SharedList<Name>
+        ensures { result ≡ (known_in self).names }
+    {
+        self.names
+    }
+
+    /// What is known behind an effect of a patch of this name.
+    fn behind_all(self, path: &Path, name: &Name, effect: &[Named]) -> Result<Walk, AllocError>
+        requires { FollowsOn path.now effect.now (known_in self) }
+        ensures { IfOk result (λ walk. known_in walk ≡ behind_all path.now name.now effect.now (known_in self)) }
+    {
+        let mut walk = self;
+        for p in effect {
+            walk = walk.behind_change(path, name, p)?;
+        }
+        Ok(walk)
+    }
+
+    // What is known behind a primitive: no other one than a hunk of the file tells more.
+    fn behind_change(self, path: &Path, name: &Name, p: &Named) -> Result<Walk, AllocError>
+        requires { AppliesOn path.now p.now.prim (known_in self) }
+        ensures { IfOk result (λ walk. known_in walk ≡
+            behind_change path.now name.now (key_of (label_of p.now)) p.now.prim (known_in self)) }
+    {
+        match &p.prim {
+            Primitive::Hunk(hunk) if hunk.path() == path => {
+                self.behind_hunk(name, p.label().key(), hunk)
+            }
+            _ => Ok(self),
+        }
+    }
+
+    // What is known behind a hunk of the file. It costs what the hunk changes, and a count for each
+    // part of the lists.
+    fn behind_hunk(&self, name: &Name, key: Key, hunk: &Hunk) -> Result<Walk, AllocError>
+        requires { StandsWithin hunk.now (known_in self.now) }
+        ensures { IfOk result (λ walk. known_in walk ≡ behind_hunk name.now key hunk.now (known_in self.now)) }
+    {
+        let key = PrimitiveKey::new(key);
+        let from = hunk.line() as usize - 1;
+        let to = from + hunk.old().len();
+        let coming = self.names_coming(name, &key, hunk.new().len())?;
+        let gone = self.names.copied(from, to)?;
+        let names = self.names.spliced(from, to, &coming)?;
+        let gone = Shared::new(self.names.allocator(), gone)?;
+        let taken = self.taken.inserted(key, gone)?;
+        Ok(Walk { names, taken })
+    }
+
+    // The names of so many lines that come with a primitive of a patch.
+    fn names_coming(
+        &self,
+        name: &Name,
+        key: &PrimitiveKey,
+        count: usize,
+    ) -> Result<Vec<Name>, AllocError>
+        ensures { IfOk result (λ names.
+            names.items ≡ names_coming (get (known_in self.now).taken key.now) name.now count) }
+    {
+        match self.taken.get(key) {
+            Some(taken) if taken.len() == count => taken.to_vec(),
+            _ => vec![in self.names.allocator(); *name; count],
+        }
+    }
+}
