@@ -1,5 +1,5 @@
 -- Runs of several sections of calls over one object, section k for seat k.
-use Rattle.std.specs.Prelude.{◌≡◌, ℕ, ◌+◌, ◌<◌, List, [], ◌∷◌, length, map, slice_index_or, Option}
+use Rattle.std.specs.Prelude.{◌≡◌, ℕ, ◌+◌, ◌<◌, Bool, true, List, [], ◌∷◌, length, map, slice_index_or, Option}
 use Rattle.std.specs.Prelude.{Result, Ok, Err, MatchOption, Vec, vec_items}
 use Rattle.std.specs.List.{All, AllZip}
 use Rattle.camp_object.specs.Histories.{IsFront, IsAnswered, IsLegal}
@@ -86,3 +86,17 @@ pub record IsShared {State Call Reply : Type 0} (object : Sequential State Call 
   pub opening : HasFronts object 0 tries [] (section_of sections 0) (section_of answers 0) history
   pub clients : (seat : ℕ) → 0 < seat → seat < length sections →
       HasFronts object seat tries opening.last (section_of sections seat) (section_of answers seat) history
+
+-- the answers of a run over a head, whose history is not told
+pub record HasShared {State Call Reply : Type 0} (object : Sequential State Call Reply) (tries : ℕ)
+    (sections : List (List Call)) (answers : List (List (Result Reply Fault))) : Type 0 where
+  pub history : List (ℕ × Call)
+  pub shared : IsShared object tries sections answers history
+
+-- the answers of a run over a head, and its history, if it is wanted
+pub record TellsShared {State Call Reply : Type 0} (object : Sequential State Call Reply) (tries : ℕ)
+    (sections : List (List Call)) (is_wanted : Bool) (answers : List (List (Result Reply Fault)))
+    (told : List (ℕ × Call)) : Type 0 where
+  pub history : List (ℕ × Call)
+  pub shared : IsShared object tries sections answers history
+  pub tells : is_wanted ≡ true → told ≡ history

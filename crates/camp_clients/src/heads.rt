@@ -1,4 +1,4 @@
-ghost use Rattle.std.specs.Prelude.{◌≡◌, ℕ, [], ◌∷◌, ◌+◌, ◌<◌, ◌≤◌, Ok, length, count_by, map, vec_items, IfOk, slice_index_or};
+ghost use Rattle.std.specs.Prelude.{◌≡◌, ℕ, true, [], ◌∷◌, ◌+◌, ◌<◌, ◌≤◌, Ok, length, count_by, map, vec_items, IfOk, slice_index_or};
 ghost use Rattle.std.specs.List.{All, AllZip};
 ghost use Rattle.std.specs.Thread.{IsSync};
 ghost use Rattle.camp_object.specs.Histories.{IsFront, IsLegal, own};
@@ -7,7 +7,7 @@ ghost use Rattle.camp_history.specs.Seats.{IsSeatOf, history_of, caller_at};
 ghost use Rattle.camp_clients.specs.Answers.{Asks};
 ghost use Rattle.camp_clients.specs.Clients.{sight_of, IsReady};
 ghost use Rattle.camp_clients.specs.Meeting.{AreNew, IsMet, Meets, Ran};
-ghost use Rattle.camp_clients.specs.Runs.{IsShared, lists_of};
+ghost use Rattle.camp_clients.specs.Runs.{HasShared, IsShared, TellsShared, lists_of};
 ghost use Rattle.camp_clients.specs.Sections.{Section};
 
 use crate::sections::{Answers, ask_all, gather};
@@ -285,11 +285,66 @@ where
     ensures { IfOk result (λ run.
         IsShared State.object tries (lists_of sections.now) (lists_of run.answers.items) run.history.items) }
 {
+    over_new_head::<R, State, G>(rt, alloc, sections, tries, every, gate, true)
+}
+
+/// Asks sections of calls as `shared` does, where the history is not wanted: no call of it is copied.
+pub fn shared_answers<R: Threads + Wait + Sync, State: Object + Send + Sync, G: Gate + Sync>(
+    rt: &R,
+    alloc: Global,
+    sections: &[Vec<State::Call>],
+    tries: u32,
+    every: u32,
+    gate: &G,
+) -> Result<Vec<Answers<State>>, AllocError>
+where
+    State::Call: Send + Sync,
+    State::Reply: Send,
+    requires sections { (0 < length sections.now) × (length sections.now ≤ 64) }
+    requires writing { All (λ calls. count_by State.object.is_writing calls.items ≤ 65536) sections.now }
+    requires tries { (0 < tries) × (tries ≤ 1000) }
+    requires every { every ≤ 4096 }
+    ensures { IfOk result (λ answers.
+        HasShared State.object tries (lists_of sections.now) (lists_of answers.items)) }
+{
+    let run = over_new_head::<R, State, G>(rt, alloc, sections, tries, every, gate, false)?;
+    Ok(run.answers)
+}
+
+/// Asks sections of calls over a new head, with a seat for each. The history is copied if it is wanted.
+fn over_new_head<R: Threads + Wait + Sync, State: Object + Send + Sync, G: Gate + Sync>(
+    rt: &R,
+    alloc: Global,
+    sections: &[Vec<State::Call>],
+    tries: u32,
+    every: u32,
+    gate: &G,
+    wants_history: bool,
+) -> Result<HeadRun<State>, AllocError>
+where
+    State::Call: Send + Sync,
+    State::Reply: Send,
+    requires sections { (0 < length sections.now) × (length sections.now ≤ 64) }
+    requires writing { All (λ calls. count_by State.object.is_writing calls.items ≤ 65536) sections.now }
+    requires tries { (0 < tries) × (tries ≤ 1000) }
+    requires every { every ≤ 4096 }
+    ensures { IfOk result (λ run. TellsShared State.object tries (lists_of sections.now) wants_history
+        (lists_of run.answers.items) run.history.items) }
+{
     let per_seat = most_writing::<State>(sections);
     let (head, mut seats) = open::<State>(alloc, sections.len() as u32, per_seat, tries, every)?;
     let opener = seats.remove(0);
     let clients = new_clients(alloc, seats)?;
-    over_head::<R, State, G>(rt, alloc, &head, gate, sections, opener, clients)
+    over_head::<R, State, G>(
+        rt,
+        alloc,
+        &head,
+        gate,
+        sections,
+        opener,
+        clients,
+        wants_history,
+    )
 }
 
 /// Asks sections of calls over a head, section k at seat k: the first alone, and then each further
@@ -302,6 +357,7 @@ fn over_head<R: Threads + Wait + Sync, State: Object + Send + Sync, G: Gate + Sy
     sections: &[Vec<State::Call>],
     opener: Seat<State>,
     clients: Vec<Client<Seat<State>, State::Reply>>,
+    wants_history: bool,
 ) -> Result<HeadRun<State>, AllocError>
 where
     State::Call: Send + Sync,
@@ -311,7 +367,8 @@ where
     requires as_many { length clients.items + 1 ≡ length sections.now }
     requires seats { head.now.row.seats ≡ length sections.now }
     requires room { All (λ calls. count_by State.object.is_writing calls.items ≤ head.now.row.per_seat) sections.now }
-    ensures { IfOk result (λ run. IsShared State.object (head.now.tries) (lists_of sections.now) (lists_of run.answers.items) run.history.items) }
+    ensures { IfOk result (λ run. TellsShared State.object (head.now.tries) (lists_of sections.now) wants_history
+        (lists_of run.answers.items) run.history.items) }
 {
     let mut opener = opener;
     let opening = at_seat::<R, State, G>(rt, alloc, head, &mut opener, gate, &sections[0])?;
@@ -320,9 +377,26 @@ where
     let (opener, clients) = meets_each::<State>(alloc, head, opener, clients)?;
     let (clients, opener) = each_meets::<State>(alloc, head, clients, opener)?;
     let _number = opener.number();
-    let Ok(history) = head.history(&opener) else {
-        return Err(AllocError);
-    };
+    let history = history_if::<State>(alloc, head, &opener, wants_history)?;
     let answers = answers_of(alloc, opening, clients)?;
     Ok(HeadRun { answers, history })
+}
+
+/// What a seat has seen, if it is wanted.
+fn history_if<State: Object>(
+    alloc: Global,
+    head: &Head<State>,
+    seat: &Seat<State>,
+    is_wanted: bool,
+) -> Result<Vec<(u32, State::Call)>, AllocError>
+    requires { IsSeatOf head.now seat.now }
+    ensures { IfOk result (λ history. is_wanted ≡ true → history.items ≡ history_of seat.now) }
+{
+    if !is_wanted {
+        return Ok(Vec::new(alloc));
+    }
+    match head.history(seat) {
+        Ok(history) => Ok(history),
+        Err(_) => Err(AllocError),
+    }
 }

@@ -11,7 +11,7 @@ mod sections;
 
 pub use comparisons::{MAX_SECTIONS, has_exactly};
 pub use faults::LockFault;
-pub use heads::{HeadRun, shared};
+pub use heads::{HeadRun, shared, shared_answers};
 pub use laws::{done_was_accepted, locked_is_serial, opening_is_alone, shared_is_serial};
 pub use locks::locked;
 pub use one_by_one::{BookRun, serial};

@@ -1,3 +1,4 @@
+pub mod Keeping
 pub mod Serial
 pub mod Texts
 pub mod Written

@@ -7,7 +7,7 @@ ghost use Rattle.camp_run.specs.Runs.{HasNoOutput, HasOutput, IsNotForeign, Runs
 use crate::RunFault;
 use crate::inputs::read_input;
 use crate::outputs::{text_of, write_output};
-use camp_clients::shared;
+use camp_clients::{shared, shared_answers};
 use camp_head::Gate;
 use camp_repo::State;
 use std::alloc::Global;
@@ -55,6 +55,11 @@ fn head_output<T: Threads + Wait + Sync, R: Read, G: Gate + Sync>(
     ensures not_foreign { IfErr result IsNotForeign }
 {
     let script = read_input(alloc, reader)?;
-    let run = shared::<T, State, G>(rt, alloc, script.sections(), tries, EVERY, gate)?;
-    Ok(text_of(alloc, &run.answers, &run.history, history)?)
+    let sections = script.sections();
+    if !history {
+        let answers = shared_answers::<T, State, G>(rt, alloc, sections, tries, EVERY, gate)?;
+        return Ok(text_of(alloc, &answers, &[], false)?);
+    }
+    let run = shared::<T, State, G>(rt, alloc, sections, tries, EVERY, gate)?;
+    Ok(text_of(alloc, &run.answers, &run.history, true)?)
 }

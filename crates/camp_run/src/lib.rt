@@ -14,5 +14,8 @@ pub use books::run_book;
 pub use camp_head::{Gate, NoGate};
 pub use faults::RunFault;
 pub use heads::run_head;
-pub use laws::{locked_section_is_serial, shared_section_is_serial};
+pub use laws::{
+    kept_text_leads_back, locked_section_is_serial, one_by_one_is_serial, seat_zero_stays,
+    shared_section_is_serial,
+};
 pub use locks::run_locked;

@@ -74,4 +74,8 @@ returns g c =
     let no_other = none_other _ _ _ _ seats c.in_ok-clients-3.ensures.seen c.number-number.ensures.seats_below in
     let run = shared_run object sight tries per_seat sections opened history opening.items l4 (record { seat = opener; answers = opening })
     (omega (arith, long, c.requires.as_many, length-lists_of c.args.sections.now)) holds ran front same legal no_other in
-    rw (c.in_ok-answers.ensures, lists_map, c.in-Ok.ensures.history, c.in_ok-clients-3.ensures.seen) run
+    record {
+      history = history;
+      shared = rw (c.in_ok-answers.ensures, lists_map) run;
+      tells = λ wanted. c.in_ok-history.ensures wanted ∙ c.in_ok-clients-3.ensures.seen;
+    }

@@ -3,7 +3,7 @@ use Rattle.std.specs.List.{All}
 use Rattle.camp_history.specs.Seats.{IsSeatOf, history_of}
 use Rattle.camp_clients.proofs.Gathering.{behind_first, zip_length}
 use Rattle.camp_clients.proofs.Opening.{opened_length, opened_seat}
-use Rattle.camp_clients.proofs.heads.shared.Goals as goal
+use Rattle.camp_clients.proofs.heads.over_new_head.Goals as goal
 
 pub remove-opener-requires : goal.remove-opener-requires
 remove-opener-requires g c = omega (arith, opened_length _ _ _ _ _ c.in_ok-head.ensures, c.in_ok-head.seats.ok.0)

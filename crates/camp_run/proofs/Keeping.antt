@@ -1,0 +1,140 @@
+-- The calls of a kept history, asked again of a new repository.
+use Rattle.std.proofs.Common.{◌≡◌, ℕ, ◌+◌, ◌≤◌, Bool, true, false, List, [], ◌∷◌, ◌++◌, length, map, Option, None, Some, Ok, bytes_eq}
+use Rattle.std.proofs.Common.{refl, sym, ◌∙◌, ap, arith}
+use Rattle.std.specs.List.{AllByRecursion}
+use Rattle.std.specs.Option.{option_and_then, option_map_or}
+use Rattle.std.proofs.lemmas.List.{append-nil, length-map}
+use Rattle.std.proofs.lemmas.List.Sums.{count_by-le-length}
+use Rattle.std.proofs.lemmas.Option.{none-some}
+use Rattle.camp_object.specs.Histories.{replay, run}
+use Rattle.camp_object.specs.declared.objects.Decided.TheVariants.{Next, Answer}
+use Rattle.camp_object.proofs.Replays.{run-none}
+use Rattle.camp_call.specs.Calls.{is_writing}
+use Rattle.camp_call.specs.declared.calls.Call.{Call}
+use Rattle.camp_call.specs.declared.calls.Call.TheVariants as call
+use Rattle.camp_call.specs.declared.replies.Reply.TheVariants as reply
+use Rattle.camp_call.specs.declared.replies.Refusal.{Refusal}
+use Rattle.camp_call.specs.declared.replies.Refusal.TheVariants.{NoBranch, SameBranch}
+use Rattle.camp_repo.specs.ObjectLaws.{repository_is_lawful}
+use Rattle.camp_repo.specs.Objects.{next_of, replies_to, reply_of, repository, state_behind}
+use Rattle.camp_repo.specs.States.{Contents, catches_of, initial}
+use Rattle.camp_repo.specs.Steps.{Decision, refused, refused_if, step}
+use Rattle.camp_run.specs.Keeping.{KeptLeadsBack, SeatZeroStays, at_seat_0, dones}
+use Rattle.camp_run.specs.Serial.{accepted_from, booked}
+use Rattle.camp_script.specs.Canonical.{IsCall, CanBeWritten}
+use Rattle.camp_script.specs.Keeping.{CanStand, ListsNames, calls_of}
+use Rattle.camp_script.proofs.CanonicalCalls.{reads_back}
+
+-- the call is not accepted
+abbrev Stays : Decision → Type 0
+Stays (Next next) = ⊥
+Stays (Answer answer) = Unit {0}
+
+not_accepted : (decision : Decision) (next : Contents) → Stays decision → decision ≡ Next next → ⊥
+not_accepted (Next other) next stays is = stays
+not_accepted (Answer answer) next stays is = cc
+
+with_stays : {X : Type 0} (found : Option X) (otherwise : Decision) (goes_on : X → Decision) → Stays otherwise
+    → ((x : X) → Stays (goes_on x)) → Stays (option_map_or goes_on found otherwise)
+with_stays None otherwise goes_on stays each = stays
+with_stays (Some x) otherwise goes_on stays each = each x
+
+if_stays : (fails : Bool) (why : Refusal) (goes_on : Decision) → Stays goes_on → Stays (refused_if fails why goes_on)
+if_stays true why goes_on stays = tt
+if_stays false why goes_on stays = stays
+
+-- a call that lists no name is not accepted
+module _ (state : Contents) where
+  pull_stays : (from to : List ℕ) → Stays (step state (call.Pull from to (Some [])))
+  pull_stays from to =
+      with_stays (catches_of state.branches from) (refused (NoBranch from)) _ tt (λ theirs.
+      with_stays (catches_of state.branches to) (refused (NoBranch to)) _ tt (λ ours.
+      if_stays (bytes_eq from to) (SameBranch to) _ tt))
+
+  obliterate_stays : (branch : List ℕ) → Stays (step state (call.Obliterate branch []))
+  obliterate_stays branch = with_stays (catches_of state.branches branch) (refused (NoBranch branch)) _ tt (λ catches. tt)
+
+  lists_names : (asked : Call) (next : Contents) → step state asked ≡ Next next → ListsNames asked
+  lists_names (call.Branch new from) next is = tt
+  lists_names (call.Record branch name changes) next is = tt
+  lists_names (call.Pull from to None) next is = tt
+  lists_names (call.Pull from to (Some [])) next is = absurd (not_accepted _ next (pull_stays from to) is)
+  lists_names (call.Pull from to (Some (name ∷ names))) next is = omega arith
+  lists_names (call.Obliterate branch []) next is = absurd (not_accepted _ next (obliterate_stays branch) is)
+  lists_names (call.Obliterate branch (name ∷ names)) next is = omega arith
+  lists_names (call.Tree branch) next is = tt
+  lists_names (call.Conflicts branch) next is = tt
+  lists_names (call.Names branch) next is = tt
+
+abbrev Entries : Type 0
+Entries = List (ℕ × Call)
+
+-- the calls of a history that leads on from a state are each accepted when they are asked again from there
+record Retraces (state : Contents) (history : Entries) : Type 0 where
+  books : accepted_from 0 state (calls_of history) ≡ at_seat_0 history
+  replies : map Ok (replies_to state (calls_of history)) ≡ dones (state.count + 1) (calls_of history)
+  lists : AllByRecursion ListsNames (calls_of history)
+
+module _ (state end : Contents) (entry : ℕ × Call) (history : Entries) where
+  retraced : (decision : Decision) → step state entry.1 ≡ decision
+      → run repository (next_of decision) history ≡ Some end
+      → ((next : Contents) → run repository (Some next) history ≡ Some end → Retraces next history)
+      → Retraces state (entry ∷ history)
+  retraced (Next next) is leads others =
+      let calls = calls_of history in
+      let more = others next leads in
+      let counts = repository_is_lawful.counts state entry.1 next (ap next_of is) in
+      record {
+        books = ap (λ d. booked d (0, entry.1) (accepted_from 0 (state_behind state d) calls)) is
+            ∙ ap (λ h. (0, entry.1) ∷ h) more.books;
+        replies = ap (λ d. Ok (reply_of d) ∷ map Ok (replies_to (state_behind state d) calls)) is
+            ∙ ap (λ rs. Ok (reply.Done next.count) ∷ rs) more.replies
+            ∙ ap (λ n. Ok (reply.Done n) ∷ dones (n + 1) calls) counts;
+        lists = (lists_names state entry.1 next is, more.lists);
+      }
+  retraced (Answer answer) is leads others = absurd (none-some end (sym (run-none repository history) ∙ leads))
+
+retraces : (history : Entries) (state end : Contents) → run repository (Some state) history ≡ Some end
+    → Retraces state history
+retraces [] state end leads = record { books = refl; replies = refl; lists = tt }
+retraces (entry ∷ history) state end leads =
+    retraced state end entry history (step state entry.1) refl leads (λ next further. retraces history next end further)
+
+can_stand : (calls : List Call) → AllByRecursion CanStand calls → AllByRecursion ListsNames calls
+    → AllByRecursion IsCall calls
+can_stand [] stand lists = tt
+can_stand (asked ∷ calls) stand lists = (stand.0 lists.0, can_stand calls stand.1 lists.1)
+
+run_at_seat_0 : (history : Entries) (from : Option Contents)
+    → run repository from (at_seat_0 history) ≡ run repository from history
+run_at_seat_0 [] from = refl
+run_at_seat_0 (entry ∷ history) from =
+    run_at_seat_0 history (option_and_then (λ s. repository.after s entry.1) from)
+
+can_be_written : (history : Entries) → AllByRecursion IsCall (calls_of history) → length history ≤ 65_536
+    → CanBeWritten (calls_of history ∷ [])
+can_be_written history are few =
+    let short = count_by-le-length is_writing (calls_of history) in
+    let long = length-map history (λ entry. entry.1) in
+    record {
+      calls = (are, tt);
+      limits = record { has_opening = omega arith; sections_within = omega arith; writes_within = (omega (arith, short, long), tt) };
+    }
+
+pub kept_leads_back : KeptLeadsBack
+kept_leads_back history state replays stand few =
+    let again = retraces history initial state replays in
+    record {
+      reads = reads_back (calls_of history ∷ [])
+          (can_be_written history (can_stand (calls_of history) stand again.lists) few);
+      comes = record {
+        replies = ap (λ answers. answers ∷ []) (sym again.replies);
+        books = sym again.books ∙ sym (append-nil (accepted_from 0 initial (calls_of history)));
+      };
+      leads = run_at_seat_0 history (Some initial) ∙ replays;
+    }
+
+pub seat_zero_stays : SeatZeroStays
+seat_zero_stays [] all = refl
+seat_zero_stays (entry ∷ history) all =
+    ap (λ n. (n, entry.1) ∷ at_seat_0 history) (sym all.0) ∙ ap (λ h. entry ∷ h) (seat_zero_stays history all.1)

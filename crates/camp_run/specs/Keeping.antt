@@ -1,0 +1,38 @@
+-- What the text that keeps a history leads back to.
+use Rattle.std.specs.Prelude.{◌≡◌, ℕ, ◌+◌, ◌≤◌, List, [], ◌∷◌, length, map, Some, Result, Ok}
+use Rattle.std.specs.List.{AllByRecursion}
+use Rattle.camp_object.specs.Histories.{replay}
+use Rattle.camp_object.specs.declared.faults.Fault.{Fault}
+use Rattle.camp_call.specs.declared.calls.Call.{Call}
+use Rattle.camp_call.specs.declared.replies.Reply.{Reply}
+use Rattle.camp_call.specs.declared.replies.Reply.TheVariants.{Done}
+use Rattle.camp_repo.specs.Objects.{repository}
+use Rattle.camp_repo.specs.States.{Contents}
+use Rattle.camp_run.specs.Serial.{IsSerial}
+use Rattle.camp_script.specs.Keeping.{CanStand, calls_of, kept_text}
+use Rattle.camp_script.specs.Reading.{script_of}
+
+-- the history with all its calls at seat 0
+abbrev pub at_seat_0 : {Call : Type 0} → List (ℕ × Call) → List (ℕ × Call)
+at_seat_0 history = map (λ entry. (0, entry.1)) history
+
+-- the answers to calls of which each is accepted, from a position on
+abbrev pub dones : ℕ → List Call → List (Result Reply Fault)
+dones at [] = []
+dones at (call ∷ calls) = Ok (Done at) ∷ dones (at + 1) calls
+
+-- the text of a history is a script of one section; a new repository accepts each of its calls, and they come to the
+-- same history but for the seats, and to the state
+pub record LeadsBack (history : List (ℕ × Call)) (state : Contents) : Type 0 where
+  pub reads : script_of (kept_text history) ≡ Ok (calls_of history ∷ [])
+  pub comes : IsSerial (calls_of history ∷ []) (dones 1 (calls_of history) ∷ []) (at_seat_0 history)
+  pub leads : replay repository (at_seat_0 history) ≡ Some state
+
+-- so it is for each history that leads to a state, if it has 65,536 calls at most, and `append_script` wrote its text
+abbrev pub KeptLeadsBack : Type 0
+KeptLeadsBack = (history : List (ℕ × Call)) (state : Contents) → replay repository history ≡ Some state
+    → AllByRecursion CanStand (calls_of history) → length history ≤ 65_536 → LeadsBack history state
+
+-- a history whose calls are all at seat 0 comes back as it was
+abbrev pub SeatZeroStays : Type 0
+SeatZeroStays = (history : List (ℕ × Call)) → AllByRecursion (λ entry. entry.0 ≡ 0) history → at_seat_0 history ≡ history
