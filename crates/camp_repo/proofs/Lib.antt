@@ -4,6 +4,7 @@ pub mod ByMembers
 pub mod ChangedSteps
 pub mod DecideSteps
 pub mod Effects
+pub mod FrontSteps
 pub mod HistoriesLawful
 pub mod LawfulBranches
 pub mod NameSteps

@@ -1,15 +1,20 @@
 -- Sets of names, filled one name at a time, and names that a branch lacks.
-use Rattle.std.proofs.Common.{◌≡◌, ◌<◌, ◌≤◌, ◌+◌, ℕ, arith, suc, Bool, true, false, not, cond, ◌||◌, None, Some, List, [], ◌∷◌, drop, length, map, is_some, get_or, bytes_eq, refl, sym, ap, ◌∙◌}
+use Rattle.std.proofs.Common.{◌≡◌, ◌<◌, ◌≤◌, ◌+◌, ℕ, arith, suc, Bool, true, false, not, cond, ◌||◌, ◌&&◌, true≢false, None, Some, List, [], ◌∷◌, ◌++◌, take, drop, length, map, is_some, get_or, bytes_eq, refl, sym, ap, ◌∙◌}
+use Rattle.std.proofs.lemmas.List.{length-append, take-append-drop}
+use Rattle.std.proofs.lemmas.List.Elements.{filter-append}
 use Rattle.std.specs.FinMap.{contains_key, empty, get-empty, insert, keys}
 use Rattle.std.specs.Ordering.{nat_cmp}
 use Rattle.std.specs.Cmp.Lexicographic.{slice_cmp}
 use Rattle.camp_catch.specs.declared.catches.Catch.{Catch}
 use Rattle.camp_catch.proofs.MoveSteps.{stands_at}
 use Rattle.camp_branch.specs.Branches.{has_patch, is_among, name_of, names_of}
+use Rattle.camp_branch.specs.Agreeing.{Agree}
+use Rattle.camp_branch.specs.Laws.{AreLacked}
+use Rattle.camp_branch.proofs.AgreedFronts.{agreed_has, split_has}
 use Rattle.camp_branch.proofs.BranchFields.{Names, contains_more}
-use Rattle.camp_branch.proofs.NameSets.{has_listed}
-use Rattle.camp_branch.proofs.Names.{name_itself}
-use Rattle.camp_branch.proofs.NamesKept.{among_once}
+use Rattle.camp_branch.proofs.NameSets.{and_false, has_listed}
+use Rattle.camp_branch.proofs.Names.{name_itself, or_true}
+use Rattle.camp_branch.proofs.NamesKept.{among_kept, among_once}
 use Rattle.camp_repo.specs.Steps.{catches_named, first_lacked, wanted}
 
 -- of a set, some names are still to come
@@ -107,8 +112,59 @@ module _ (names : List (List ℕ)) (all rest more : List Catch) (k : Catch) (cou
   passed_over e = let here = counted_at false e in omega (arith, inv)
 
   -- the count fits where the number of catches does
-  pub count_fits : (n limit : ℕ) → is_among names (name_of k) ≡ true → n ≡ length all → n < limit → count + 1 < limit
+  pub count_fits : (n limit : ℕ) → is_among names (name_of k) ≡ true → length all ≤ n → n < limit → count + 1 < limit
   count_fits n limit e long fits =
       let here = counted_at true e in
       let few = named_few names all in
       omega (arith, inv)
+
+without_has : (a b o : Bool) → (a ≡ true → o ≡ true) → (b && not o) ≡ ((a || b) && not o)
+without_has true b o has = ap (λ x. b && not x) (has refl) ∙ and_false b ∙ sym (ap not (has refl))
+without_has false b o has = refl
+
+-- what is wanted stands behind fronts that agree
+pub wanted_behind_fronts : (theirs ours : List Catch) (m : ℕ) → Agree theirs ours m → (name : List ℕ) → is_among (wanted ours (map name_of (drop m theirs))) name ≡ is_among (wanted ours (names_of theirs)) name
+wanted_behind_fronts theirs ours m agree name =
+    let lacks : List ℕ → Bool = λ n. not (has_patch ours n) in
+    among_kept lacks (map name_of (drop m theirs)) name ∙ without_has (has_patch (take m theirs) name) (has_patch (drop m theirs) name) (has_patch ours name) (agreed_has theirs ours m agree name) ∙ ap (λ b. b && not (has_patch ours name)) (sym (split_has theirs m name) ∙ sym (among_once (map name_of theirs) name)) ∙ sym (among_kept lacks (names_of theirs) name)
+
+wanted_step : (ours : List Catch) (rest more : List Catch) (k : Catch) (b : Bool) → rest ≡ k ∷ more → has_patch ours (name_of k) ≡ b → wanted ours (map name_of rest) ≡ cond b (wanted ours (map name_of more)) (name_of k ∷ wanted ours (map name_of more))
+wanted_step ours rest more k b steps has =
+    ap (λ l. wanted ours (map name_of l)) steps ∙ ap (λ c. cond (not c) (name_of k ∷ wanted ours (map name_of more)) (wanted ours (map name_of more))) has ∙ turned b
+  where
+    turned : (b : Bool) → cond (not b) (name_of k ∷ wanted ours (map name_of more)) (wanted ours (map name_of more)) ≡ cond b (wanted ours (map name_of more)) (name_of k ∷ wanted ours (map name_of more))
+    turned true = refl
+    turned false = refl
+
+-- the patch of the next catch is lacked, and its name comes into the set
+pub catch_wanted : (ours : List Catch) (set next : Names) (rest more : List Catch) (k : Catch) (n : List ℕ) (aim : List ℕ → Bool) → IsFilled set (wanted ours (map name_of rest)) aim → rest ≡ k ∷ more → n ≡ name_of k → has_patch ours n ≡ false → next ≡ insert set n tt → IsFilled next (wanted ours (map name_of more)) aim
+catch_wanted ours set next rest more k n aim inv steps called has becomes =
+    one_more set next (name_of k) (wanted ours (map name_of more)) aim
+    (λ name. ap (λ r. contains_key set name || is_among r name) (sym (wanted_step ours rest more k false steps (ap (has_patch ours) (sym called) ∙ has))) ∙ inv name) (becomes ∙ ap (λ m. insert set m tt) called)
+
+-- the patch of the next catch is not lacked
+pub catch_passed : (ours : List Catch) (set : Names) (rest more : List Catch) (k : Catch) (n : List ℕ) (aim : List ℕ → Bool) → IsFilled set (wanted ours (map name_of rest)) aim → rest ≡ k ∷ more → n ≡ name_of k → has_patch ours n ≡ true → IsFilled set (wanted ours (map name_of more)) aim
+catch_passed ours set rest more k n aim inv steps called has name =
+    ap (λ r. contains_key set name || is_among r name) (sym (wanted_step ours rest more k true steps (ap (has_patch ours) (sym called) ∙ has))) ∙ inv name
+
+none_named : (names : List (List ℕ)) (list : List Catch) → ((n : List ℕ) → has_patch list n ≡ true → is_among names n ≡ false) → catches_named names list ≡ []
+none_named names [] never = refl
+none_named names (k ∷ list) never =
+    let here = never (name_of k) (ap (λ b. b || is_among (map name_of list) (name_of k)) (name_itself (name_of k))) in
+    ap (λ c. cond c (k ∷ catches_named names list) (catches_named names list)) here ∙ none_named names list (λ n w. never n (or_true (bytes_eq n (name_of k)) (is_among (map name_of list) n) w))
+
+no_wanted : (w o : Bool) → (w ≡ true → o ≡ false) → o ≡ true → w ≡ false
+no_wanted true o lacks has = absurd (true≢false (sym has ∙ lacks refl))
+no_wanted false o lacks has = refl
+
+-- catches of lacked names stand behind fronts that agree
+pub named_behind : (theirs ours : List Catch) (m : ℕ) (names : List (List ℕ)) → Agree theirs ours m → AreLacked ours names → catches_named names theirs ≡ catches_named names (drop m theirs)
+named_behind theirs ours m names agree lacked =
+    let none = none_named names (take m theirs) (λ n has. no_wanted (is_among names n) (has_patch ours n) (lacked n) (agreed_has theirs ours m agree n has)) in
+    ap (catches_named names) (sym (take-append-drop m theirs)) ∙ filter-append (λ k. is_among names (name_of k)) (take m theirs) (drop m theirs) ∙ ap (λ l. l ++ catches_named names (drop m theirs)) none
+
+pub few_dropped : (from : ℕ) (branch : List Catch) (n : ℕ) → n ≡ length branch → length (drop from branch) ≤ n
+few_dropped from branch n is =
+    let parts = length-append (take from branch) (drop from branch) in
+    let whole = ap length (take-append-drop from branch) in
+    omega (is, parts, whole, arith)

@@ -1,5 +1,6 @@
 -- How a state lies in its fields.
 use Rattle.std.specs.Prelude.{◌≡◌, length, zip}
+use Rattle.camp_repo.specs.Fronts.{AllHold}
 use Rattle.camp_repo.specs.Lawful.{IsLawful}
 use Rattle.camp_repo.specs.States.{Contents}
 use Rattle.camp_repo.specs.declared.states.State.TheInside.{Inside}
@@ -8,7 +9,8 @@ use Rattle.camp_repo.specs.declared.states.State.TheInside.{Inside}
 abbrev pub contents_of : Inside → Contents
 contents_of state = record { branches = zip state.names.keys state.branches; count = state.count }
 
--- there are as many names as branches, and the state is lawful
+-- there are as many names as branches, the state is lawful, and what is known of fronts of its branches holds
 pub record IsState (state : Inside) : Type 0 where
   pub as_many : length state.names.keys ≡ length state.branches
   pub lawful : IsLawful (contents_of state)
+  pub known : AllHold (contents_of state).branches state.known

@@ -1,6 +1,8 @@
-ghost use Rattle.std.specs.Prelude.{◌≡◌, ℕ, List, length, IfOk};
-ghost use Rattle.camp_branch.specs.Branches.{is_among};
+ghost use Rattle.std.specs.Prelude.{◌≡◌, ℕ, List, drop, length, IfOk};
+ghost use Rattle.camp_branch.specs.Agreeing.{Agree};
+ghost use Rattle.camp_branch.specs.Branches.{is_among, names_of};
 ghost use Rattle.camp_branch.specs.Fields.{names_in};
+ghost use Rattle.camp_branch.specs.Laws.{AreLacked};
 ghost use Rattle.camp_repo.specs.Wanting.{lists_none};
 ghost use Rattle.camp_repo.specs.Steps.{catches_named, first_lacked, is_full_with, listed, wanted};
 
@@ -52,22 +54,44 @@ pub(crate) fn set_of(alloc: Global, names: &[Name]) -> Result<SharedMap<Name, ()
     Ok(set)
 }
 
-/// The listed names, or all names of the one branch, of which the other has no patch.
+/// The listed names, or all names of the one branch, of which the other has no patch. Fronts of the
+/// two, so long, agree.
 pub(crate) fn wanted(
     ours: &Branch,
     theirs: &Branch,
     names: &Option<Names>,
+    long: usize,
 ) -> Result<SharedMap<Name, ()>, AllocError>
+    requires { Agree theirs.now ours.now long }
     ensures { IfOk result (λ set. (name : List ℕ) →
         is_among (names_in set) name ≡ is_among (wanted ours.now (listed theirs.now names.now)) name) }
 {
     match names {
         Some(names) => wanted_of(ours, names.as_slice()),
-        None => {
-            let all = theirs.names()?;
-            wanted_of(ours, &all)
-        }
+        None => wanted_behind(ours, theirs, long),
     }
+}
+
+/// The names of which a branch has no patch, of the catches of another one behind fronts of the two
+/// that agree.
+fn wanted_behind(
+    ours: &Branch,
+    theirs: &Branch,
+    long: usize,
+) -> Result<SharedMap<Name, ()>, AllocError>
+    requires { Agree theirs.now ours.now long }
+    ensures { IfOk result (λ set. (name : List ℕ) →
+        is_among (names_in set) name ≡ is_among (wanted ours.now (names_of theirs.now)) name) }
+{
+    let mut set = SharedMap::new(ours.catches().allocator());
+    for catch in theirs.catches().iter_from(long) {
+        let name = catch.name();
+        if ours.has_patch(name) {
+            continue;
+        }
+        set = set.inserted(*name, ())?;
+    }
+    Ok(set)
 }
 
 /// The names of which a branch has no patch.
@@ -85,20 +109,39 @@ fn wanted_of(branch: &Branch, names: &[Name]) -> Result<SharedMap<Name, ()>, All
     Ok(set)
 }
 
-/// Whether a branch would be too long with the catches of these names of another.
-pub(crate) fn is_full_with(ours: &Branch, theirs: &Branch, names: &SharedMap<Name, ()>) -> bool
+/// Whether a branch would be too long with the catches of these names of another, which it lacks.
+/// Fronts of the two, so long, agree.
+pub(crate) fn is_full_with(
+    ours: &Branch,
+    theirs: &Branch,
+    names: &SharedMap<Name, ()>,
+    long: usize,
+) -> bool
+    requires agree { Agree theirs.now ours.now long }
+    requires lacked { AreLacked ours.now (names_in names.now) }
     ensures { result ≡ is_full_with ours.now theirs.now (names_in names.now) }
 {
-    ours.catches().len().saturating_add(count_of(theirs, names)) > MAX_CATCHES
+    let more = count_of(ours, theirs, names, long);
+    ours.catches().len().saturating_add(more) > MAX_CATCHES
 }
 
-fn count_of(branch: &Branch, names: &SharedMap<Name, ()>) -> usize
-    ensures { result ≡ length (catches_named (names_in names.now) branch.now) }
+/// How many catches of a branch have names that the other one lacks.
+fn count_of(ours: &Branch, theirs: &Branch, names: &SharedMap<Name, ()>, long: usize) -> usize
+    requires agree { Agree theirs.now ours.now long }
+    requires lacked { AreLacked ours.now (names_in names.now) }
+    ensures { result ≡ length (catches_named (names_in names.now) theirs.now) }
+{
+    count_behind(theirs, names, long)
+}
+
+/// How many catches of a branch from a place on have one of these names.
+fn count_behind(branch: &Branch, names: &SharedMap<Name, ()>, from: usize) -> usize
+    ensures { result ≡ length (catches_named (names_in names.now) (drop from branch.now)) }
 {
     let catches = branch.catches();
     prove!(catches.len() <= usize::MAX);
     let mut count = 0;
-    for catch in catches.iter() {
+    for catch in catches.iter_from(from) {
         if names.contains_key(catch.name()) {
             count += 1;
         }

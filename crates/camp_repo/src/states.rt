@@ -1,12 +1,14 @@
-ghost use Rattle.std.specs.Prelude.{◌≡◌, ◌-◌, ◌^◌, ◌<◌, ◌++◌, [], ◌∷◌, List, None, Some, length, codes, IfOk, IfSome, MatchOption};
+ghost use Rattle.std.specs.Prelude.{◌≡◌, ◌-◌, ◌^◌, ◌<◌, ◌++◌, [], ◌∷◌, List, None, Some, length, codes, slice_get, IfOk, IfSome, MatchOption};
 ghost use Rattle.std.specs.List.{list_any};
 ghost use Rattle.camp_branch.specs.Branches.{has_patch};
 ghost use Rattle.camp_catch.specs.declared.catches.Catch.{Catch};
+ghost use Rattle.camp_repo.specs.Fronts.{AllHold, catches_in};
 ghost use Rattle.camp_repo.specs.Lawful.{IsLawful};
 ghost use Rattle.camp_repo.specs.Placing.{placed};
 ghost use Rattle.camp_repo.specs.States.{after, catches_of, initial, stands, with_catches};
 
 use crate::Branch;
+use crate::fronts::KnownFront;
 use camp_base::Name;
 use camp_share::{Share, Shared, SharedList};
 use indexmap::IndexSet;
@@ -19,6 +21,7 @@ use std::marker::Model;
 pub struct State {
     names: Shared<IndexSet<Name>>,
     branches: SharedList<Shared<Branch>>,
+    known: SharedList<KnownFront>,
     count: u64,
 }
 
@@ -51,6 +54,7 @@ impl State {
         Ok(State {
             names,
             branches,
+            known: SharedList::new(alloc),
             count: 0,
         })
     }
@@ -82,9 +86,11 @@ impl State {
     {
         let names = self.names.share()?;
         let branches = self.branches.share()?;
+        let known = self.known.share()?;
         Ok(State {
             names,
             branches,
+            known,
             count: self.count,
         })
     }
@@ -117,6 +123,7 @@ impl State {
         ensures within { IfSome result (λ found. found.0 < length self.now.branches) }
         ensures placed { IfSome result (λ found. (catches : List Catch) →
             placed self.now.branches found.0 catches ≡ with_catches self.now.branches name.now catches) }
+        ensures at { IfSome result (λ found. slice_get (catches_in self.now.branches) found.0 ≡ Some found.1.now) }
     {
         let Some(place) = self.names.get_index_of(name) else {
             return None;
@@ -127,11 +134,25 @@ impl State {
         Some((place, branch))
     }
 
-    /// The state after one more accepted call, where the branch at a place becomes this one.
-    pub(crate) fn with_branch_at(&self, place: usize, branch: Branch) -> Result<State, AllocError>
+    /// What is known of the fronts of its branches.
+    pub(crate) fn known(&self) -> &SharedList<KnownFront>
+        ensures { AllHold self.now.branches result.now }
+    {
+        &self.known
+    }
+
+    /// The state after one more accepted call, where the branch at a place becomes this one, and this
+    /// is known of the fronts of its branches.
+    pub(crate) fn with_branch_at(
+        &self,
+        place: usize,
+        branch: Branch,
+        known: SharedList<KnownFront>,
+    ) -> Result<State, AllocError>
         requires counts { self.now.count < 2 ^ 64 - 1 }
         requires within { place < length self.now.branches }
         requires lawful { IsLawful (after self.now (placed self.now.branches place branch)) }
+        requires known { AllHold (placed self.now.branches place branch) known }
         ensures { IfOk result (λ next. next ≡ after self.now (placed self.now.branches place branch)) }
     {
         let branch = Shared::new(self.branches.allocator(), branch)?;
@@ -140,6 +161,7 @@ impl State {
         Ok(State {
             names,
             branches,
+            known,
             count: self.count + 1,
         })
     }
@@ -157,9 +179,11 @@ impl State {
         let names = Shared::new(alloc, names)?;
         let branch = Shared::new(alloc, branch.try_clone()?)?;
         let branches = self.branches.pushed(branch)?;
+        let known = self.known.share()?;
         Ok(State {
             names,
             branches,
+            known,
             count: self.count + 1,
         })
     }

@@ -1,11 +1,13 @@
 ghost use Rattle.std.specs.Prelude.{◌≡◌, ◌-◌, ◌^◌, ◌<◌, List, Ok, length, IfErr, IfOk};
 ghost use Rattle.camp_catch.specs.declared.catches.Catch.{Catch};
+ghost use Rattle.camp_repo.specs.Fronts.{AllHold};
 ghost use Rattle.camp_repo.specs.Lawful.{IsLawful};
 ghost use Rattle.camp_repo.specs.Placing.{placed, settled};
 ghost use Rattle.camp_repo.specs.States.{after};
 ghost use Rattle.camp_repo.specs.Steps.{is_too_large, refused, refusal_of, step, step_branch, step_obliterate, step_pull, step_record};
 ghost use Rattle.camp_repo.specs.Wanting.{HasBranch, MayWant, MayWantCopy, MayWantObliterate, MayWantPull, MayWantRecord};
 
+use crate::fronts::{KnownFront, known_long, with_front};
 use crate::name_lists::{first_lacked, first_lacked_of, is_full_with, lists_none, set_of, wanted};
 use crate::sizes::{changed, is_too_large};
 use crate::{
@@ -13,6 +15,7 @@ use crate::{
 };
 use camp_base::Name;
 use camp_branch::Blocked;
+use camp_share::{Share, SharedList};
 use std::alloc::AllocError;
 
 impl State {
@@ -79,7 +82,7 @@ impl State {
             Err(refusal) => return Ok(refused(refusal)),
         };
         let new = old.recorded(name, changes.prims(), tree)?;
-        let next = self.with_branch_at(place, new)?;
+        let next = self.with_branch_at(place, new, self.known().share()?)?;
         Ok(Decided::Next(next))
     }
 
@@ -93,7 +96,7 @@ impl State {
         ensures exact { IfOk result (λ decided. decided ≡ step_pull self.now from.now to.now names.now) }
         ensures wanted { IfErr result (λ error. MayWantPull self.now from.now to.now names.now) }
     {
-        let Some(theirs) = self.branch(from) else {
+        let Some((other, theirs)) = self.find(from) else {
             return Ok(refused(Refusal::NoBranch(*from)));
         };
         let Some((place, ours)) = self.find(to) else {
@@ -108,15 +111,18 @@ impl State {
         if lists_none(names) {
             return Ok(refused(Refusal::NothingToDo));
         }
-        let wanted = wanted(ours, theirs, names)?;
+        let long = known_long(self.known(), other, place);
+        let wanted = wanted(ours, theirs, names, long)?;
         if wanted.is_empty() {
             return Ok(refused(Refusal::NothingToDo));
         }
-        if is_full_with(ours, theirs, &wanted) {
+        if is_full_with(ours, theirs, &wanted, long) {
             return Ok(refused(Refusal::TooLarge));
         }
-        let outcome = ours.pulled(theirs, &wanted)?;
-        self.settled(place, outcome)
+        let long = ours.agreed(theirs, long)?;
+        let outcome = ours.pulled_behind(theirs, &wanted, long)?;
+        let known = with_front(self.known(), other, place, long)?;
+        self.settled(place, outcome, known)
     }
 
     fn obliterate(&self, branch: &Name, names: &Names) -> Result<Decided<State, Reply>, AllocError>
@@ -136,23 +142,26 @@ impl State {
         }
         let gone = set_of(self.allocator(), names)?;
         let outcome = old.without(&gone)?;
-        self.settled(place, outcome)
+        self.settled(place, outcome, SharedList::new(self.allocator()))
     }
 
-    /// What a call comes to that makes the branch at a place another one, or tells why it can't.
+    /// What a call comes to that makes the branch at a place another one, or tells why it can't; and
+    /// what is known of fronts then.
     fn settled(
         &self,
         place: usize,
         outcome: Result<Branch, Blocked>,
+        known: SharedList<KnownFront>,
     ) -> Result<Decided<State, Reply>, AllocError>
         requires counts { self.now.count < 2 ^ 64 - 1 }
         requires within { place < length self.now.branches }
         requires lawful { (catches : List Catch) → outcome ≡ Ok catches → IsLawful (after self.now (placed self.now.branches place catches)) }
+        requires known { (catches : List Catch) → outcome ≡ Ok catches → AllHold (placed self.now.branches place catches) known }
         ensures { IfOk result (λ decided. decided ≡ settled self.now place outcome) }
     {
         match outcome {
             Ok(branch) => {
-                let next = self.with_branch_at(place, branch)?;
+                let next = self.with_branch_at(place, branch, known)?;
                 Ok(Decided::Next(next))
             }
             Err(blocked) => Ok(refused(refusal_of(blocked))),

@@ -1,6 +1,8 @@
-use Rattle.std.proofs.Common.{◌≡◌, ◌<◌, None, Some, option_copied, position, bytes_eq, ap, ◌∙◌, sym, subst}
+use Rattle.std.proofs.Common.{◌≡◌, ◌<◌, None, Some, option_copied, position, slice_get, bytes_eq, ap, ◌∙◌, sym, subst}
+use Rattle.camp_repo.specs.Fronts.{catches_in}
 use Rattle.camp_repo.specs.Placing.{placed}
 use Rattle.camp_repo.specs.States.{catches_of, with_catches}
+use Rattle.camp_repo.proofs.FrontSteps.{zip_catches}
 use Rattle.camp_repo.proofs.PlaceSteps.{found, missing}
 use Rattle.camp_repo.proofs.StateSteps.{within_fields}
 use Rattle.camp_repo.proofs.states.State.find.Goals as goal
@@ -33,3 +35,7 @@ returns-clause-placed c catches =
     let searched = ap (λ s. position (bytes_eq c.args.name.now) s.keys) (sym c.deref.ensures) ∙ sym c.get_index_of.ensures.index ∙ c.in-Some.is in
     let there = found c.self.inside.names.keys c.self.inside.branches c.args.name.now c.in-Some.place c.self.invariant.as_many searched in
     subst (λ s. placed s.branches c.in-Some.place catches ≡ with_catches s.branches c.args.name.now catches) c.self.view_is (there.becomes catches)
+
+pub returns-clause-at : goal.returns-clause-at
+returns-clause-at c =
+    subst (λ s. slice_get (catches_in s.branches) c.in-Some.place ≡ Some c.deref-2.result.now) c.self.view_is (ap (λ bs. slice_get bs c.in-Some.place) (zip_catches c.self.inside.names.keys c.self.inside.branches c.self.invariant.as_many) ∙ sym c.get.ensures ∙ ap option_copied c.in-Some-get.is ∙ ap Some (sym c.deref-2.ensures))

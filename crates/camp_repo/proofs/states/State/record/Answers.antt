@@ -1,11 +1,13 @@
 use Rattle.std.proofs.Common.{◌++◌, ap, ◌∙◌, sym, subst}
 use Rattle.camp_branch.specs.Branches.{recorded}
 use Rattle.camp_object.specs.declared.objects.Decided.TheVariants.{Next}
+use Rattle.camp_repo.specs.Fronts.{AllHold}
 use Rattle.camp_repo.specs.Lawful.{IsLawful}
 use Rattle.camp_repo.specs.Placing.{placed}
 use Rattle.camp_repo.specs.States.{after}
 use Rattle.camp_repo.specs.Steps.{changed, is_too_large}
 use Rattle.camp_repo.proofs.DecideSteps.{record_accepted, record_refused}
+use Rattle.camp_repo.proofs.FrontSteps.{all_grown}
 use Rattle.camp_repo.proofs.RecordSteps.{is_new, leads_from, record_keeps}
 use Rattle.camp_repo.proofs.states.State.record.Goals as goal
 
@@ -44,3 +46,10 @@ returns-clause-exact c =
     let led = sym c.in-Ok.is ∙ c.in_ok-tree.ensures ∙ ap (λ cs. changed cs c.tree.result.now) c.prims-2.ensures.value in
     let new_is = c.in_ok-new.ensures ∙ ap (λ cs. c.in-Some.old.now ++ recorded c.args.name.now 1 cs) c.prims-3.ensures.value in
     ap Next (c.in_ok-next.ensures ∙ ap (λ b. after c.args.self.now (placed c.args.self.now.branches c.in-Some.place b)) new_is) ∙ record_accepted c.args.self.now c.args.branch.now c.args.name.now c.args.changes.now c.in-Some.old.now c.tree.result.now has free small c.tree.ensures c.in-Ok.tree c.in-Some.place led c.in-Some.ensures.placed
+
+pub with_branch_at-requires-clause-known : goal.with_branch_at-requires-clause-known
+with_branch_at-requires-clause-known c =
+    let branches = c.args.self.now.branches in
+    let known = subst (AllHold branches) (sym c.in_ok-share.ensures) c.known.ensures in
+    subst (λ b. AllHold (placed branches c.in-Some.place b) c.in_ok-share.field-0) (sym c.in_ok-new.ensures)
+    (all_grown branches c.in-Some.place c.in-Some.old.now (recorded c.args.name.now 1 c.prims-3.result.now) c.in-Some.ensures.at c.in_ok-share.field-0 known)

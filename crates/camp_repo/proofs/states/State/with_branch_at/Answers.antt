@@ -1,4 +1,5 @@
 use Rattle.std.proofs.Common.{ap, ◌∙◌, ◌<◌, slice_set, sym, subst}
+use Rattle.camp_repo.specs.Fronts.{AllHold}
 use Rattle.camp_repo.specs.Lawful.{IsLawful}
 use Rattle.camp_repo.proofs.StateSteps.{placed_long, placed_state, within_fields}
 use Rattle.camp_repo.proofs.states.State.with_branch_at.Goals as goal
@@ -14,6 +15,7 @@ invariant_of-result c =
     record {
       as_many = placed_long c.self.inside.names.keys c.self.inside.branches c.self.inside.count c.args.self.now c.self.view_is c.self.invariant.as_many c.args.place c.args.branch c.in_ok-names.names.keys c.in_ok-branches.branches same set;
       lawful = subst IsLawful (sym (placed_state c.self.inside.names.keys c.self.inside.branches c.self.inside.count c.args.self.now c.self.view_is c.self.invariant.as_many c.args.place c.args.branch c.in_ok-names.names.keys c.in_ok-branches.branches same set)) c.requires.lawful;
+      known = subst (λ s. AllHold s.branches c.args.known) (sym (placed_state c.self.inside.names.keys c.self.inside.branches c.self.inside.count c.args.self.now c.self.view_is c.self.invariant.as_many c.args.place c.args.branch c.in_ok-names.names.keys c.in_ok-branches.branches same set)) c.requires.known;
     }
 
 pub returns : goal.returns

@@ -1,6 +1,8 @@
 use Rattle.std.proofs.Common.{◌≡◌, ap, ◌∙◌, ◌++◌, [], ◌∷◌, sym, subst}
 use Rattle.std.specs.List.{AllZip}
+use Rattle.camp_repo.specs.Fronts.{AllHold}
 use Rattle.camp_repo.specs.Lawful.{IsLawful}
+use Rattle.camp_repo.proofs.FrontSteps.{all_further}
 use Rattle.camp_repo.proofs.StateSteps.{grown_as_long, grown_state}
 use Rattle.camp_repo.proofs.states.State.with_new_branch.Goals as goal
 
@@ -12,6 +14,7 @@ invariant_of-result c =
     record {
       as_many = grown_as_long c.self.inside.names.keys c.self.inside.branches c.self.inside.count c.args.self.now c.self.view_is c.self.invariant.as_many c.args.name.now c.args.branch.now c.in_ok-names.names.keys c.in_ok-names-2.names.keys c.in_ok-branches.branches c.requires.fresh clone inserted pushed;
       lawful = subst IsLawful (sym (grown_state c.self.inside.names.keys c.self.inside.branches c.self.inside.count c.args.self.now c.self.view_is c.self.invariant.as_many c.args.name.now c.args.branch.now c.in_ok-names.names.keys c.in_ok-names-2.names.keys c.in_ok-branches.branches c.requires.fresh clone inserted pushed)) c.requires.lawful;
+      known = subst (λ s. AllHold s.branches c.in_ok-known.known) (sym (grown_state c.self.inside.names.keys c.self.inside.branches c.self.inside.count c.args.self.now c.self.view_is c.self.invariant.as_many c.args.name.now c.args.branch.now c.in_ok-names.names.keys c.in_ok-names-2.names.keys c.in_ok-branches.branches c.requires.fresh clone inserted pushed)) (all_further c.args.self.now.branches (c.args.name.now, c.args.branch.now) c.in_ok-known.known (subst (λ l. AllHold c.args.self.now.branches l) (sym c.in_ok-known.ensures) (subst (λ s. AllHold s.branches c.self.inside.known) c.self.view_is c.self.invariant.known)));
     }
 
 pub returns : goal.returns

@@ -1,0 +1,121 @@
+-- What is known of fronts stays so while branches grow.
+use Rattle.std.proofs.Common.{◌≡◌, ℕ, zero, suc, pred, List, [], ◌∷◌, ◌++◌, length, zip, slice_get, Some, Result, Ok, Err, IfOk, refl, sym, ap, ◌∙◌, subst, append-nil}
+use Rattle.std.proofs.lemmas.Option.{none-some, same_Some}
+use Rattle.std.specs.List.{AllByRecursion, remove}
+use Rattle.camp_catch.specs.declared.catches.Catch.{Catch}
+use Rattle.camp_branch.specs.Agreeing.{Agree}
+use Rattle.camp_branch.proofs.AgreedFronts.{agree_grown, agree_none}
+use Rattle.camp_repo.specs.Fronts.{AgreesIn, AllHold, catches_in}
+use Rattle.camp_repo.specs.Placing.{placed}
+use Rattle.camp_repo.specs.States.{Branches}
+use Rattle.camp_repo.specs.declared.fronts.KnownFront.{KnownFront}
+
+pub all_with : {X : Type 0} (P : X → Type 0) (xs : List X) (x : X) → AllByRecursion P xs → P x → AllByRecursion P (xs ++ x ∷ [])
+all_with P [] x all is = (is, tt)
+all_with P (y ∷ xs) x all is = (all.0, all_with P xs x all.1 is)
+
+all_but : {X : Type 0} (P : X → Type 0) (xs : List X) (i : ℕ) → AllByRecursion P xs → AllByRecursion P (remove xs i)
+all_but P [] zero all = tt
+all_but P [] (suc i) all = tt
+all_but P (x ∷ xs) zero all = all.1
+all_but P (x ∷ xs) (suc i) all = (all.0, all_but P xs i all.1)
+
+pub all_without : {X : Type 0} (P : X → Type 0) (xs ys : List X) (i : ℕ) → ys ≡ remove xs i → AllByRecursion P xs → AllByRecursion P ys
+all_without P xs ys i is all = subst (AllByRecursion P) (sym is) (all_but P xs i all)
+
+pub all_same : {X : Type 0} (P : X → Type 0) (xs ys : List X) → ys ≡ xs → AllByRecursion P xs → AllByRecursion P ys
+all_same P xs ys is all = subst (AllByRecursion P) (sym is) all
+
+-- all still to come hold where all do
+abbrev pub RestHold : List KnownFront → List KnownFront → Type 0
+RestHold all rest = (branches : List (List Catch)) → AllByRecursion (AgreesIn branches) all → AllByRecursion (AgreesIn branches) rest
+
+pub rest_more : (all rest more : List KnownFront) (front : KnownFront) → RestHold all rest → rest ≡ front ∷ more → RestHold all more
+rest_more all rest more front hold steps branches w =
+    let now = subst (AllByRecursion (AgreesIn branches)) steps (hold branches w) in
+    now.1
+
+-- the fronts of two branches agree, as long as is known of their places
+pub known_agrees : (all rest more : List KnownFront) (front : KnownFront) (from to : ℕ) → RestHold all rest → rest ≡ front ∷ more → front.from ≡ from → front.to ≡ to → (branches : List (List Catch)) → AllByRecursion (AgreesIn branches) all → (theirs ours : List Catch) → slice_get branches from ≡ Some theirs → slice_get branches to ≡ Some ours → Agree theirs ours front.long
+known_agrees all rest more front from to hold steps is is_too branches w theirs ours there here =
+    let now = subst (AllByRecursion (AgreesIn branches)) steps (hold branches w) in
+    let found = now.0 in
+    let one = same_Some found.theirs theirs (sym found.from_is ∙ ap (slice_get branches) is ∙ there) in
+    let other = same_Some found.ours ours (sym found.to_is ∙ ap (slice_get branches) is_too ∙ here) in
+    subst (λ l. Agree l ours front.long) one (subst (λ l. Agree found.theirs l front.long) other found.agree)
+
+pub none_known : (theirs ours : List Catch) → Agree theirs ours 0
+none_known theirs ours = agree_none theirs ours
+
+-- a branch at a place, and what it is where the one at another place grows
+grown_at : (branches : Branches) (place i : ℕ) (old more b : List Catch) → slice_get (catches_in branches) place ≡ Some old → slice_get (catches_in branches) i ≡ Some b → (x : List Catch) × (slice_get (catches_in (placed branches place (old ++ more))) i ≡ Some (b ++ x))
+grown_at [] place i old more b is at = absurd (none-some b at)
+grown_at (h ∷ bs) zero zero old more b is at =
+    (more, ap (λ l. Some (l ++ more)) (same_Some old b (sym is ∙ at)))
+grown_at (h ∷ bs) zero (suc i) old more b is at = ([], at ∙ ap Some (sym (append-nil b)))
+grown_at (h ∷ bs) (suc place) zero old more b is at = ([], at ∙ ap Some (sym (append-nil b)))
+grown_at (h ∷ bs) (suc place) (suc i) old more b is at = grown_at bs place i old more b is at
+
+further_at : (branches : Branches) (new : List ℕ × List Catch) (i : ℕ) (b : List Catch) → slice_get (catches_in branches) i ≡ Some b → slice_get (catches_in (branches ++ new ∷ [])) i ≡ Some b
+further_at [] new i b at = absurd (none-some b at)
+further_at (h ∷ bs) new zero b at = at
+further_at (h ∷ bs) new (suc i) b at = further_at bs new i b at
+
+agrees_grown : (branches : Branches) (place : ℕ) (old more : List Catch) → slice_get (catches_in branches) place ≡ Some old → (known : KnownFront) → AgreesIn (catches_in branches) known → AgreesIn (catches_in (placed branches place (old ++ more))) known
+agrees_grown branches place old more is known w =
+    let one = grown_at branches place known.from old more w.theirs is w.from_is in
+    let other = grown_at branches place known.to old more w.ours is w.to_is in
+    record {
+      theirs = w.theirs ++ one.0;
+      ours = w.ours ++ other.0;
+      from_is = one.1;
+      to_is = other.1;
+      agree = agree_grown w.theirs w.ours one.0 other.0 known.long w.agree;
+    }
+
+pub all_grown : (branches : Branches) (place : ℕ) (old more : List Catch) → slice_get (catches_in branches) place ≡ Some old → (all : List KnownFront) → AllHold branches all → AllHold (placed branches place (old ++ more)) all
+all_grown branches place old more is [] w = tt
+all_grown branches place old more is (known ∷ all) w =
+    (agrees_grown branches place old more is known w.0, all_grown branches place old more is all w.1)
+
+pub all_further : (branches : Branches) (new : List ℕ × List Catch) (all : List KnownFront) → AllHold branches all → AllHold (branches ++ new ∷ []) all
+all_further branches new [] w = tt
+all_further branches new (known ∷ all) w =
+    let first = w.0 in (
+      record {
+        theirs = first.theirs;
+        ours = first.ours;
+        from_is = further_at branches new known.from first.theirs first.from_is;
+        to_is = further_at branches new known.to first.ours first.to_is;
+        agree = first.agree;
+      },
+      all_further branches new all w.1,
+    )
+
+-- the branches of a state in its fields
+pub zip_catches : (names : List (List ℕ)) (branches : List (List Catch)) → length names ≡ length branches → catches_in (zip names branches) ≡ branches
+zip_catches [] [] e = refl
+zip_catches [] (b ∷ bs) e = cc
+zip_catches (n ∷ ns) [] e = cc
+zip_catches (n ∷ ns) (b ∷ bs) e = ap (λ t. b ∷ t) (zip_catches ns bs (ap pred e))
+
+-- what holds where all of a list does
+abbrev pub HoldWith : {E : Type 0} → List KnownFront → Result (List KnownFront) E → Type 0
+HoldWith {E} known result = IfOk result (λ all. RestHold known all)
+
+pub copy_holds : {E : Type 0} (known : List KnownFront) (result : Result (List KnownFront) E) → IfOk result (λ copy. copy ≡ known) → HoldWith known result
+copy_holds known (Ok all) is = λ branches w. all_same (AgreesIn branches) known all is w
+copy_holds known (Err error) is = tt
+
+pub removed_hold : {E : Type 0} (known : List KnownFront) (i : ℕ) (result : Result (List KnownFront) E) → IfOk result (λ list. list ≡ remove known i) → HoldWith known result
+removed_hold known i (Ok all) is = λ branches w. all_without (AgreesIn branches) known all i is w
+removed_hold known i (Err error) is = tt
+
+pub pushed_hold : {E : Type 0} (known others : List KnownFront) (front : KnownFront) → RestHold known others → (result : Result (List KnownFront) E) → IfOk result (λ list. list ≡ others ++ front ∷ []) → IfOk result (λ all. (branches : List (List Catch)) → AllByRecursion (AgreesIn branches) known → AgreesIn branches front → AllByRecursion (AgreesIn branches) all)
+pushed_hold known others front hold (Ok all) is = λ branches w new.
+    all_same (AgreesIn branches) (others ++ front ∷ []) all is (all_with (AgreesIn branches) others front (hold branches w) new)
+pushed_hold known others front hold (Err error) is = tt
+
+-- nothing is known at first
+pub none_hold : (branches : Branches) (all : List KnownFront) → all ≡ [] → AllHold branches all
+none_hold branches all is = subst (AllHold branches) (sym is) tt

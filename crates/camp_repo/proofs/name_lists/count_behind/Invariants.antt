@@ -1,0 +1,8 @@
+use Rattle.std.proofs.Common.{◌≡◌, ◌+◌, drop, length}
+use Rattle.camp_branch.specs.Fields.{names_in}
+use Rattle.camp_repo.specs.Steps.{catches_named}
+use Rattle.camp_repo.proofs.name_lists.count_behind.Given as goal
+
+abbrev pub invariant-loop-catch : goal.invariant-loop-catch
+invariant-loop-catch l =
+    l.count + length (catches_named (names_in l.names) l.catch-iterator) ≡ length (catches_named (names_in l.names) (drop l.from l.branch))

@@ -1,0 +1,6 @@
+use Rattle.std.proofs.Common.{subst}
+use Rattle.camp_repo.specs.Fronts.{AllHold}
+use Rattle.camp_repo.proofs.states.State.known.Goals as goal
+
+pub returns : goal.returns
+returns c = subst (λ s. AllHold s.branches c.self.inside.known) c.self.view_is c.self.invariant.known

@@ -1,0 +1,95 @@
+ghost use Rattle.std.specs.Prelude.{◌≡◌, ◌<◌, ◌↔◌, List, Some, length, slice_get, IfOk, IfSome, IsTrue};
+ghost use Rattle.std.specs.List.{AllByRecursion};
+ghost use Rattle.camp_branch.specs.Agreeing.{Agree};
+ghost use Rattle.camp_catch.specs.declared.catches.Catch.{Catch};
+ghost use Rattle.camp_repo.specs.Fronts.{AgreesIn};
+
+use camp_share::{Share, SharedList};
+use std::alloc::AllocError;
+
+/// Of how many pairs of branches the state keeps what is known of their fronts.
+const MAX_PAIRS: usize = 64;
+
+/// How long fronts of two branches, by their places in the order of creation, are known to agree.
+#[derive(Clone, Copy, Debug, PartialEq, Eq)]
+pub(crate) struct KnownFront {
+    pub(crate) from: usize,
+    pub(crate) to: usize,
+    pub(crate) long: usize,
+}
+
+impl Share for KnownFront {
+    fn share(&self) -> Result<KnownFront, AllocError> {
+        Ok(*self)
+    }
+}
+
+/// How long fronts of two branches are known to agree: 0 where nothing is known of them.
+pub(crate) fn known_long(known: &SharedList<KnownFront>, from: usize, to: usize) -> usize
+    ensures { (branches : List (List Catch)) → AllByRecursion (AgreesIn branches) known.now
+        → (theirs ours : List Catch) → slice_get branches from ≡ Some theirs → slice_get branches to ≡ Some ours
+        → Agree theirs ours result }
+{
+    for front in known.iter() {
+        if is_of(front, from, to) {
+            return front.long;
+        }
+    }
+    0
+}
+
+fn is_of(front: &KnownFront, from: usize, to: usize) -> bool
+    ensures { IsTrue result ↔ ((front.now.from ≡ from) × (front.now.to ≡ to)) }
+{
+    if front.from != from {
+        return false;
+    }
+    front.to == to
+}
+
+/// What is known, and of two branches how long their fronts agree. Where there are too many pairs,
+/// the one that came first goes.
+pub(crate) fn with_front(
+    known: &SharedList<KnownFront>,
+    from: usize,
+    to: usize,
+    long: usize,
+) -> Result<SharedList<KnownFront>, AllocError>
+    ensures { IfOk result (λ all. (branches : List (List Catch)) → AllByRecursion (AgreesIn branches) known.now
+        → AgreesIn branches (record { from = from; to = to; long = long }) → AllByRecursion (AgreesIn branches) all) }
+{
+    let others = others(known, from, to)?;
+    others.pushed(KnownFront { from, to, long })
+}
+
+/// What is known of other branches, with room for one more pair.
+fn others(
+    known: &SharedList<KnownFront>,
+    from: usize,
+    to: usize,
+) -> Result<SharedList<KnownFront>, AllocError>
+    ensures { IfOk result (λ others. (branches : List (List Catch)) → AllByRecursion (AgreesIn branches) known.now
+        → AllByRecursion (AgreesIn branches) others) }
+{
+    if let Some(at) = place_of(known, from, to) {
+        return known.without(at);
+    }
+    if known.len() < MAX_PAIRS {
+        return known.share();
+    }
+    known.without(0)
+}
+
+/// The place of what is known of two branches.
+fn place_of(known: &SharedList<KnownFront>, from: usize, to: usize) -> Option<usize>
+    ensures { IfSome result (λ at. at < length known.now) }
+{
+    for at in 0..known.len() {
+        if let Some(front) = known.get(at) {
+            if is_of(front, from, to) {
+                return Some(at);
+            }
+        }
+    }
+    None
+}
