@@ -59,11 +59,11 @@ with_last-append lines more [] = refl
 with_last-append lines more (byte ∷ last) = append_assoc lines more ((byte ∷ last) ∷ [])
 
 -- whole lines end with an LF
-pub record EndsSo (bytes : List ℕ) : Type 0 where
-  front : List ℕ
-  is : bytes ≡ front ++ 10 ∷ []
+pub record EndsWithLine (bytes : List ℕ) : Type 0 where
+  pub front : List ℕ
+  pub is : bytes ≡ front ++ 10 ∷ []
 
-pub ends_with_line : (line : List ℕ) (lines : List (List ℕ)) → EndsSo (ended (line ∷ lines) ++ [])
+pub ends_with_line : (line : List ℕ) (lines : List (List ℕ)) → EndsWithLine (ended (line ∷ lines) ++ [])
 ends_with_line line [] = record { front = line; is = append-nil _ ∙ append-nil _ }
 ends_with_line line (next ∷ lines) =
     let others = ends_with_line next lines in

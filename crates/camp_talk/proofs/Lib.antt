@@ -1,2 +1,4 @@
 pub mod Cuts
+pub mod Firsts
 pub mod Parts
+pub mod Turns

@@ -1,3 +1,5 @@
+pub mod Answers
 pub mod Cutting
 pub mod Faults
 pub mod Inside
+pub mod Talks

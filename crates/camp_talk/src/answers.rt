@@ -1,0 +1,135 @@
+//! The answers to commands.
+ghost use Rattle.std.specs.Prelude.{◌≡◌, ◌+◌, List, Result, Ok, IfOk, OnErr, MatchResult, length};
+ghost use Rattle.std.specs.Io.KnownBytes.{Appends};
+ghost use Rattle.camp_call.specs.declared.calls.Call.{Call};
+ghost use Rattle.camp_script.specs.Gives.{Gives};
+ghost use Rattle.camp_script.specs.Texts.{HasText, answer_text};
+ghost use Rattle.camp_script.specs.declared.faults.LineFault.{LineFault as SaidFault};
+ghost use Rattle.camp_talk.specs.Answers.{Replies, Tells, asked_in, call_in, fault_text};
+ghost use Rattle.camp_talk.specs.Inside.Said.{said_text};
+ghost use Rattle.camp_talk.specs.Talks.{AppendsSome};
+
+use crate::TalkFault;
+use camp_object::Fault;
+use camp_repo::{Book, Call, Object, Reply, State};
+use camp_script::{FaultKind, Script, ScriptFault, append_reply, write_text};
+use std::alloc::{AllocError, Global};
+use std::io::Write;
+
+/// The text of the answer to a command, by the script that it is and the number of the lines before it.
+/// Where memory runs out the book stays.
+pub(crate) fn answer(
+    alloc: Global,
+    book: &mut Book<State>,
+    before: u64,
+    script: &Result<Script, ScriptFault>,
+) -> Result<Vec<u8>, AllocError>
+    ensures text { IfOk result (λ text. (reading : Result (List (List Call)) SaidFault) → Gives script.now reading →
+        Tells (record { history = book.old; lines = before }) (asked_in reading) text.items book.new) }
+    ensures kept { OnErr result (book.new ≡ book.old) }
+{
+    match script {
+        Ok(script) => answer_script(alloc, book, before, script),
+        Err(ScriptFault::Line(fault)) => fault_text(alloc, before, fault.line, fault.kind),
+        Err(_) => Err(AllocError),
+    }
+}
+
+fn answer_script(
+    alloc: Global,
+    book: &mut Book<State>,
+    before: u64,
+    script: &Script,
+) -> Result<Vec<u8>, AllocError>
+    ensures text { IfOk result (λ text.
+        Tells (record { history = book.old; lines = before }) (call_in script.now) text.items book.new) }
+    ensures kept { OnErr result (book.new ≡ book.old) }
+{
+    match script.sections() {
+        [calls] => match calls.as_slice() {
+            [] => Ok(Vec::new(alloc)),
+            [call, ..] => reply(alloc, book, call),
+        },
+        _ => fault_text(alloc, before, 1, FaultKind::UnknownCommand),
+    }
+}
+
+// The text of the reply to a call. That of an accepted one is made before it is asked, so that the call
+// can't be accepted without being told.
+fn reply(alloc: Global, book: &mut Book<State>, call: &Call) -> Result<Vec<u8>, AllocError>
+    ensures text { IfOk result (λ text. Replies book.old call.now text.items book.new) }
+    ensures kept { OnErr result (book.new ≡ book.old) }
+{
+    let accepted = accepted_text(alloc, book)?;
+    let answer = book.ask(0, call);
+    match &answer {
+        Ok(reply) => match State::done_at(reply) {
+            Some(_) => Ok(accepted),
+            None => answer_text(alloc, &answer),
+        },
+        Err(_) => Err(AllocError),
+    }
+}
+
+// The text of the reply to the next accepted call.
+fn accepted_text(alloc: Global, book: &Book<State>) -> Result<Vec<u8>, AllocError>
+    ensures { IfOk result (λ text. text.items ≡ answer_text (Ok (Reply.Done (length book.now + 1)))) }
+{
+    let at = book.history().len() as u64 + 1;
+    answer_text(alloc, &Ok(Reply::Done(at)))
+}
+
+fn answer_text(alloc: Global, answer: &Result<Reply, Fault>) -> Result<Vec<u8>, AllocError>
+    requires { HasText answer.now }
+    ensures { IfOk result (λ text. text.items ≡ answer_text answer.now) }
+{
+    let mut text = Vec::new(alloc);
+    append_reply(&mut text, answer)?;
+    Ok(text)
+}
+
+// The text of the answer to a command with a fault, by the number of the lines before it. A number that
+// has no room is told as want of memory.
+fn fault_text(alloc: Global, before: u64, line: u64, kind: FaultKind) -> Result<Vec<u8>, AllocError>
+    ensures { IfOk result (λ text. text.items ≡ fault_text (before + line) kind) }
+{
+    let Some(line) = before.checked_add(line) else {
+        return Err(AllocError);
+    };
+    let mut text = format!(in alloc; "fault {line} {kind}")?.into_bytes();
+    text.push(b'\n')?;
+    Ok(text)
+}
+
+// Writes an answer and flushes it. Of none, nothing is flushed.
+fn write_answer<W: Write>(writer: &mut W, text: &[u8]) -> Result<(), TalkFault>
+    ensures { MatchResult result
+        (λ _. Appends (W.contents writer.old) (W.contents writer.new) text.now)
+        (λ why. (why ≡ TalkFault.Write) × AppendsSome (W.contents writer.old) (W.contents writer.new) text.now) }
+{
+    if text.is_empty() {
+        return Ok(());
+    }
+    if write_text(writer, text).is_err() {
+        return Err(TalkFault::Write);
+    }
+    match writer.flush() {
+        Ok(()) => Ok(()),
+        Err(_) => Err(TalkFault::Write),
+    }
+}
+
+/// Writes what answers a command: a text, or that there was no memory for it.
+pub(crate) fn write_said<W: Write>(
+    writer: &mut W,
+    said: &Result<Vec<u8>, AllocError>,
+) -> Result<(), TalkFault>
+    ensures { MatchResult result
+        (λ _. Appends (W.contents writer.old) (W.contents writer.new) (said_text said.now))
+        (λ why. (why ≡ TalkFault.Write) × AppendsSome (W.contents writer.old) (W.contents writer.new) (said_text said.now)) }
+{
+    match said {
+        Ok(text) => write_answer(writer, text),
+        Err(_) => write_answer(writer, b"memory\n"),
+    }
+}

@@ -1,0 +1,89 @@
+//! A command of a reader, and the script that it is.
+ghost use Rattle.std.specs.Prelude.{◌≡◌, length, IfOk, IfErr};
+ghost use Rattle.camp_script.specs.Gives.{Gives};
+ghost use Rattle.camp_script.specs.Lines.{lines_of};
+ghost use Rattle.camp_script.specs.Reading.{script_of};
+ghost use Rattle.camp_talk.specs.Cutting.{taken_at};
+ghost use Rattle.camp_talk.specs.Inside.Parts.{IsReading, ReadsCommand, ReadsPart, Uses, last_part};
+
+use crate::TalkFault;
+use crate::commands::{read_body, read_group};
+use crate::lines::read_line;
+use bstr::ByteSlice;
+use camp_script::{FaultKind, Script, ScriptFault, read_script};
+use std::alloc::Global;
+use std::io::BufRead;
+
+/// A command.
+#[derive(Drop)]
+pub(crate) struct Command {
+    pub(crate) bytes: Vec<u8>,
+    /// Its last line was read; else the input has ended.
+    pub(crate) is_whole: bool,
+    pub(crate) script: Result<Script, ScriptFault>,
+}
+
+/// Reads a command.
+pub(crate) fn read_command<R: BufRead>(alloc: Global, reader: &mut R) -> Result<Command, TalkFault>
+    ensures command { IfOk result (λ command.
+        ReadsCommand (R.remaining reader.old) (R.remaining reader.new) command.is_whole command.bytes.items) }
+    ensures script { IfOk result (λ command. Gives command.script (script_of command.bytes.items)) }
+    ensures fault { IfErr result IsReading }
+    ensures uses { IfErr result (λ why. Uses (R.remaining reader.old) (R.remaining reader.new)) }
+{
+    let mut bytes = Vec::new(alloc);
+    let is_whole = read_line(reader, &mut bytes)?;
+    match read_script(alloc, &bytes) {
+        Ok(script) => Ok(Command {
+            bytes,
+            is_whole,
+            script: Ok(script),
+        }),
+        Err(ScriptFault::Line(fault)) => {
+            if !is_whole {
+                return Ok(Command {
+                    bytes,
+                    is_whole,
+                    script: Err(ScriptFault::Line(fault)),
+                });
+            }
+            let is_whole = read_rest(reader, &mut bytes, fault.kind)?;
+            let script = read_script(alloc, &bytes);
+            Ok(Command {
+                bytes,
+                is_whole,
+                script,
+            })
+        }
+        Err(_) => Err(TalkFault::Memory),
+    }
+}
+
+// Reads what a first line takes with it, where it has a fault of this kind as a script of its own.
+fn read_rest<R: BufRead>(
+    reader: &mut R,
+    text: &mut Vec<u8>,
+    kind: FaultKind,
+) -> Result<bool, TalkFault>
+    ensures part { IfOk result (λ whole. ReadsPart (R.remaining reader.old) (R.remaining reader.new)
+        (taken_at kind) (last_part whole) text.old.items text.new.items) }
+    ensures fault { IfErr result IsReading }
+    ensures uses { IfErr result (λ why. Uses (R.remaining reader.old) (R.remaining reader.new)) }
+{
+    match kind {
+        FaultKind::EditNotEnded => read_body(reader, text),
+        FaultKind::GroupNotEnded => read_group(reader, text),
+        _ => Ok(true),
+    }
+}
+
+/// The number of the lines of bytes.
+pub(crate) fn count_lines(bytes: &[u8]) -> u64
+    ensures { result ≡ length (lines_of bytes.now) }
+{
+    let mut count = 0;
+    for _line in bytes.lines_with_terminator() {
+        count += 1;
+    }
+    count
+}
