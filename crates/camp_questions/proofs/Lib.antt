@@ -2,6 +2,7 @@ pub mod AnnotationLaws
 pub mod Answering
 pub mod BranchGrowths
 pub mod Foreseeing
+pub mod GraphSteps
 pub mod Growing
 pub mod Growths
 pub mod LineNames

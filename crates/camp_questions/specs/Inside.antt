@@ -1,5 +1,6 @@
 -- What only functions that stay within the crate say.
 pub mod Finding
 pub mod Foresight
+pub mod Graphing
 pub mod Growing
 pub mod Walking

@@ -3,6 +3,8 @@ pub mod Answers
 pub mod Dependencies
 pub mod Differences
 pub mod Foresight
+pub mod GraphTexts
+pub mod Graphs
 pub mod Inside
 pub mod Laws
 pub mod Showing

@@ -37,7 +37,7 @@ pub fn held_by(state: &State, branch: &Name, names: &[Name]) -> Result<Names, Un
 }
 
 /// The names, each once.
-fn set_of(alloc: Global, names: &[Name]) -> Result<SharedMap<Name, ()>, AllocError>
+pub(crate) fn set_of(alloc: Global, names: &[Name]) -> Result<SharedMap<Name, ()>, AllocError>
     ensures { IfOk result (λ set. (name : List ℕ) → is_among (names_in set) name ≡ is_among names.now name) }
 {
     let mut set = SharedMap::new(alloc);
@@ -49,7 +49,7 @@ fn set_of(alloc: Global, names: &[Name]) -> Result<SharedMap<Name, ()>, AllocErr
 
 /// The names, and those that are added until they come to the front of the branch. Each that is added
 /// costs an arranging, and one tells that none is left.
-fn grown_to_front(
+pub(crate) fn grown_to_front(
     branch: &Branch,
     names: SharedMap<Name, ()>,
 ) -> Result<SharedMap<Name, ()>, AllocError>
@@ -95,7 +95,7 @@ fn dependent(blocked: &Blocked) -> Name
 }
 
 /// The names of the patches of a branch that are in a set, in the order of the branch.
-fn in_order(branch: &Branch, set: &SharedMap<Name, ()>) -> Result<Names, AllocError>
+pub(crate) fn in_order(branch: &Branch, set: &SharedMap<Name, ()>) -> Result<Names, AllocError>
     ensures { IfOk result (λ names. names ≡ in_order branch.now (names_in set.now)) }
 {
     let mut names = branch.names()?;

@@ -7,6 +7,8 @@ mod differences;
 mod faults;
 mod finding;
 mod foresight;
+mod graph_texts;
+mod graphs;
 mod laws;
 mod primitive_keys;
 mod showing;
@@ -17,6 +19,8 @@ pub use dependencies::{held_by, needs};
 pub use differences::missing;
 pub use faults::Unanswered;
 pub use foresight::{Foreseen, Standing, what_if};
+pub use graph_texts::graph_text;
+pub use graphs::{Node, PatchGraph, graph};
 pub use laws::{
     held_can_go, held_is_determined, lines_have_names, missing_is_pulled, needs_are_determined,
     needs_come_first, recorded_is_shown,

@@ -1,0 +1,7 @@
+use Rattle.std.proofs.Common.{◌≡◌, ◌++◌, take, string_bytes}
+use Rattle.std.specs.List.{flat_map}
+use Rattle.camp_questions.specs.GraphTexts.{conflict_text}
+use Rattle.camp_questions.proofs.graph_texts.append_conflicts.Given as goal
+
+abbrev pub invariant-loop-pair : goal.invariant-loop-pair
+invariant-loop-pair l = string_bytes l.text ≡ string_bytes l.initial.text ++ flat_map conflict_text (take l.pair-index l.pairs)

@@ -1,0 +1,8 @@
+use Rattle.std.proofs.Common.{◌≡◌, ◌++◌, take, string_bytes}
+use Rattle.std.specs.Prelude.{codes}
+use Rattle.std.specs.List.{flat_map}
+use Rattle.camp_questions.specs.GraphTexts.{arrow_text}
+use Rattle.camp_questions.proofs.graph_texts.append_needs.Given as goal
+
+abbrev pub invariant-loop-on : goal.invariant-loop-on
+invariant-loop-on l = string_bytes l.text ≡ string_bytes l.initial.text ++ flat_map (λ on. arrow_text l.name on (codes ";")) (take l.on-index l.needs)

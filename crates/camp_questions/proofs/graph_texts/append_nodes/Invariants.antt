@@ -1,0 +1,7 @@
+use Rattle.std.proofs.Common.{◌≡◌, ◌++◌, take, string_bytes}
+use Rattle.std.specs.List.{flat_map}
+use Rattle.camp_questions.specs.GraphTexts.{node_text}
+use Rattle.camp_questions.proofs.graph_texts.append_nodes.Given as goal
+
+abbrev pub invariant-loop-node : goal.invariant-loop-node
+invariant-loop-node l = string_bytes l.text ≡ string_bytes l.initial.text ++ flat_map node_text (take l.node-index l.nodes)

@@ -1,0 +1,6 @@
+use Rattle.std.proofs.Common.{take}
+use Rattle.camp_questions.specs.Inside.Graphing.{NeedEach}
+use Rattle.camp_questions.proofs.graphs.all_needed.Given as goal
+
+abbrev pub invariant-loop-name : goal.invariant-loop-name
+invariant-loop-name l = NeedEach l.branch (take l.name-index l.names) l.all.items

@@ -1,0 +1,15 @@
+use Rattle.std.proofs.Common.{List, ◌∙◌, ap, map, subst}
+use Rattle.camp_catch.specs.declared.catches.Catch.{Catch}
+use Rattle.camp_branch.specs.Branches.{is_among, name_of}
+use Rattle.camp_branch.specs.Fields.{names_in}
+use Rattle.camp_questions.specs.Dependencies.{ComeToFront, Needs, StickOn}
+use Rattle.camp_questions.proofs.BranchGrowths.{to_front}
+use Rattle.camp_questions.proofs.Growing.{grown_in_order}
+use Rattle.camp_questions.proofs.graphs.needs_of.Goals as goal
+
+pub returns : goal.returns
+returns c =
+    let branch : List Catch = c.args.branch.now in
+    let told = c.in_ok-needs.needs in
+    let grown = grown_in_order (map name_of branch) (ComeToFront branch) (StickOn branch) (to_front branch) branch c.from_ref.result.now (names_in c.in_ok-named.named) (names_in c.in_ok-grown.grown) told c.in_ok-named.ensures c.in_ok-grown.ensures c.in_ok-needs.ensures in
+    (told, subst (λ names. Needs branch names told) c.from_ref.ensures.value grown, λ name. c.in_ok-set_of.ensures name ∙ ap (λ names. is_among names name) c.as_slice.ensures)

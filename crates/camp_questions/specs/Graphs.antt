@@ -1,0 +1,56 @@
+-- The patches of a branch, what each needs directly, and which are in conflict.
+use Rattle.std.specs.Prelude.{◌≡◌, ℕ, Bool, not, ◌&&◌, List, [], ◌∷◌, map, filter, bytes_eq, Ok}
+use Rattle.std.specs.List.{AllByRecursion, list_any}
+use Rattle.camp_catch.specs.declared.catches.Catch.{Catch}
+use Rattle.camp_branch.specs.Branches.{is_among, names_of}
+use Rattle.camp_branch.specs.Conflicting.{AreConflicts}
+use Rattle.camp_repo.specs.States.{Contents}
+use Rattle.camp_questions.specs.Answers.{AnswerOf, OfBranch}
+use Rattle.camp_questions.specs.Dependencies.{Needs}
+use Rattle.camp_questions.specs.declared.graphs.Node.{Node}
+
+-- a patch with the names of all that it needs, its own among them
+pub record Needing : Type 0 where
+  pub name : List ℕ
+  pub needs : List (List ℕ)
+
+-- a patch of a branch needs these
+abbrev pub NeedsThese : List Catch → Needing → Type 0
+NeedsThese branch patch =
+    (needed : List (List ℕ)) × Needs branch (patch.name ∷ []) needed
+    × ((name : List ℕ) → is_among patch.needs name ≡ is_among needed name)
+
+-- whether a patch needs another one
+abbrev pub needs_other : Needing → List ℕ → Bool
+needs_other patch name = not (bytes_eq name patch.name) && is_among patch.needs name
+
+-- whether another one that a patch needs needs this one
+abbrev pub goes_between : Needing → List ℕ → Needing → Bool
+goes_between patch name other = needs_other patch other.name && needs_other other name
+
+-- whether a patch needs another one directly: it needs it, and no other one that it needs does
+abbrev pub needs_directly : List Needing → Needing → List ℕ → Bool
+needs_directly all patch name = needs_other patch name && not (list_any (goes_between patch name) all)
+
+-- a patch of a branch with what it needs directly, in the order of the branch
+abbrev pub node_of : List Catch → List Needing → Needing → Node
+node_of branch all patch =
+    record { name = patch.name; needs = filter (needs_directly all patch) (names_of branch) }
+
+-- patches with what they need, and the pairs of those that are in conflict
+pub record Drawn : Type 0 where
+  pub patches : List Node
+  pub conflicts : List (List ℕ × List ℕ)
+
+-- the patches of a branch in its order, with what they need directly, and the pairs that are in conflict
+pub record IsGraph (branch : List Catch) (graph : Drawn) : Type 0 where
+  pub all : List Needing
+  pub names : map (λ (patch : Needing). patch.name) all ≡ names_of branch
+  pub needs : AllByRecursion (NeedsThese branch) all
+  pub patches : graph.patches ≡ map (node_of branch all) all
+  pub conflicts : AreConflicts branch graph.conflicts
+
+-- the question for the graph of a branch
+abbrev pub IsGraphOf : Contents → List ℕ → AnswerOf Drawn → Type 0
+IsGraphOf state branch =
+    OfBranch state branch (λ catches answer. (graph : Drawn) × (answer ≡ Ok graph) × IsGraph catches graph)
