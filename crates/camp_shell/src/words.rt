@@ -1,0 +1,37 @@
+//! The words of the command line.
+use clap::{Command, Error};
+use std::alloc::Global;
+use std::convert::AsStr;
+
+const USAGE: &str = "camp_shell [OPTIONS]";
+
+const REFERENCE: &str =
+    "Commands come on standard input, as in a script of camp. Each is answered on standard output as soon
+as its last line is read, and the answer is flushed: so a program can ask, and read the answer, before
+it asks again. An answer is the text that camp gives; its first line tells how many lines follow. A
+command whose answer has none is ok NUMBER, refused NUMBER .. or one of these:
+
+  fault LINE KIND               the command has a fault; lines count from the beginning. What follows
+                                is read from the next line on, and behind a fault in a body or in a
+                                group from behind its end or its done
+  memory                        there was no memory for the command or its answer; nothing has changed
+
+Lines without words and lines whose first word begins with # are not answered. client is no command
+here.
+
+Exit status:
+  0  the input has ended, whatever was answered
+  2  the command line is refused
+  3  memory ran out for the lines of a command, or input or output failed; standard error says which
+
+More: camp --help has the commands and their answers, and docs/shell.md a conversation.";
+
+/// Tests the words of a command line, of which the first is the program's name. The fault is a mistake in
+/// the words, a request for the help text, or want of memory; it shows as the text for the user.
+pub(crate) fn test_words<'a, S: AsStr>(alloc: Global, words: &'a [S]) -> Result<(), Error> {
+    let command = Command::new(alloc, "camp_shell")
+        .override_usage(USAGE)
+        .after_help(REFERENCE);
+    let _matches = command.try_get_matches_from(words)?;
+    Ok(())
+}
