@@ -1,5 +1,6 @@
 pub mod AnnotationLaws
 pub mod Answering
+pub mod Arrows
 pub mod BranchGrowths
 pub mod Foreseeing
 pub mod GraphSteps

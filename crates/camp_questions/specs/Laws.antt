@@ -1,7 +1,7 @@
 -- The laws of questions.
-use Rattle.std.specs.Prelude.{◌≡◌, ◌≢◌, ◌≤◌, ℕ, ◌+◌, ◌-◌, true, false, List, [], ◌++◌, length, None, Some}
+use Rattle.std.specs.Prelude.{◌≡◌, ◌≢◌, ◌↔◌, ◌≤◌, ℕ, ◌+◌, ◌-◌, true, false, List, [], ◌∷◌, ◌++◌, length, None, Some}
 use Rattle.std.specs.FinMap.{get}
-use Rattle.std.specs.List.{All}
+use Rattle.std.specs.List.{All, AllByRecursion}
 use Rattle.camp_base.specs.Trees.{Files, Lines}
 use Rattle.camp_prim.specs.Effect.{flipped}
 use Rattle.camp_prim.specs.Hunks.{Edit}
@@ -20,6 +20,7 @@ use Rattle.camp_repo.specs.Steps.{first_lacked, refused, step}
 use Rattle.camp_questions.specs.Annotations.{Known, behind_hunk, names_of_lines}
 use Rattle.camp_questions.specs.Dependencies.{AreHeldIn, ComeToFront, HeldBy, Needs, StickOn}
 use Rattle.camp_questions.specs.Differences.{missing_in}
+use Rattle.camp_questions.specs.Graphs.{Drawn, IsGraph}
 use Rattle.camp_questions.specs.Showing.{patch_in}
 
 -- a pull without names that is accepted gives a branch its old names and then those that it was missing; where it is
@@ -89,3 +90,20 @@ RecordedIsShown =
     (state next : Contents) (branch name : List ℕ) (changes : List Primitive) (catches : List Catch) → IsLawful state →
     step state (call.Record branch name changes) ≡ Next next → Has next branch catches →
     patch_in catches name ≡ record { catches = recorded name 1 changes; changes = changes }
+
+-- a patch of a branch needs another one
+abbrev pub NeedsPatch : List Catch → List ℕ → List ℕ → Type 0
+NeedsPatch branch name other =
+    (other ≢ name) × ((needed : List (List ℕ)) × Needs branch (name ∷ []) needed × (is_among needed other ≡ true))
+
+-- it needs it directly: no other one that it needs needs that one
+pub record NeedsDirectly (branch : List Catch) (name other : List ℕ) : Type 0 where
+  pub needs : NeedsPatch branch name other
+  pub none_between : (between : List ℕ) → NeedsPatch branch name between → ¬ (NeedsPatch branch between other)
+
+-- the arrows of a graph lead from each patch to just those that it needs directly
+abbrev pub ArrowsAreDirectNeeds : Type 0
+ArrowsAreDirectNeeds =
+    (branch : List Catch) (graph : Drawn) → IsGraph branch graph →
+    AllByRecursion (λ node. (other : List ℕ) → (is_among node.needs other ≡ true) ↔ NeedsDirectly branch node.name other)
+    graph.patches

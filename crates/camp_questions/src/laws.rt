@@ -1,4 +1,4 @@
-ghost use Rattle.camp_questions.specs.Laws.{HeldCanGo, HeldIsDetermined, LinesHaveNames, MissingIsPulled, NeedsAreDetermined, NeedsComeFirst, RecordedIsShown};
+ghost use Rattle.camp_questions.specs.Laws.{ArrowsAreDirectNeeds, HeldCanGo, HeldIsDetermined, LinesHaveNames, MissingIsPulled, NeedsAreDetermined, NeedsComeFirst, RecordedIsShown};
 
 /// A pull without names that is accepted brings what is missing, in this order; where nothing is
 /// missing, it is refused as having nothing to do.
@@ -37,4 +37,9 @@ pub fn lines_have_names()
 /// A patch is shown, in the state after its record, with the changes that were recorded.
 pub fn recorded_is_shown()
     ensures { RecordedIsShown }
+{}
+
+/// The arrows of a graph lead from each patch to just those that it needs directly.
+pub fn arrows_are_direct_needs()
+    ensures { ArrowsAreDirectNeeds }
 {}

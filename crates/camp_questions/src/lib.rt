@@ -22,7 +22,7 @@ pub use foresight::{Foreseen, Standing, what_if};
 pub use graph_texts::graph_text;
 pub use graphs::{Node, PatchGraph, graph};
 pub use laws::{
-    held_can_go, held_is_determined, lines_have_names, missing_is_pulled, needs_are_determined,
-    needs_come_first, recorded_is_shown,
+    arrows_are_direct_needs, held_can_go, held_is_determined, lines_have_names, missing_is_pulled,
+    needs_are_determined, needs_come_first, recorded_is_shown,
 };
 pub use showing::{Shown, show};

@@ -1,0 +1,114 @@
+-- The arrows of a graph are the direct needs.
+use Rattle.std.proofs.Common.{◌≡◌, ◌≢◌, ℕ, Bool, true, false, true≢false, not, ◌&&◌, ◌||◌, List, [], ◌∷◌, ◌++◌, map, bytes_eq, refl, sym, ap, ◌∙◌, subst}
+use Rattle.std.specs.Prelude.{◌↔◌}
+use Rattle.std.specs.List.{AllByRecursion, list_any}
+use Rattle.camp_catch.specs.declared.catches.Catch.{Catch}
+use Rattle.camp_branch.specs.Branches.{is_among, name_of, names_of}
+use Rattle.camp_branch.proofs.Names.{name_itself, or_true, same_name}
+use Rattle.camp_branch.proofs.NamesKept.{among_kept, among_once}
+use Rattle.camp_questions.specs.Dependencies.{Needs}
+use Rattle.camp_questions.specs.Graphs.{Needing, NeedsThese, goes_between, needs_directly, needs_other, node_of}
+use Rattle.camp_questions.specs.Laws.{ArrowsAreDirectNeeds, NeedsDirectly, NeedsPatch}
+use Rattle.camp_questions.specs.declared.graphs.Node.{Node}
+use Rattle.camp_questions.proofs.BranchGrowths.{needs_are_determined}
+use Rattle.camp_questions.proofs.Growths.{in_order_there}
+
+both : (a b : Bool) → (a && b) ≡ true → (a ≡ true) × (b ≡ true)
+both true b e = (refl, e)
+both false b e = cc
+
+and_true : (a b : Bool) → a ≡ true → b ≡ true → (a && b) ≡ true
+and_true true b e f = f
+and_true false b e f = cc
+
+not_true : (b : Bool) → not b ≡ true → b ≡ false
+not_true false e = refl
+not_true true e = cc
+
+module _ (branch : List Catch) where
+  one_needed : (names needed other : List (List ℕ)) → Needs branch names needed → Needs branch names other → needed ≡ other
+  one_needed names needed other v w =
+      let one = needs_are_determined branch names in one.2 needed v ∙ sym (one.2 other w)
+
+  apart : (other name : List ℕ) (b : Bool) → bytes_eq other name ≡ b → other ≢ name → not b ≡ true
+  apart other name true e different = absurd (different (same_name other name e))
+  apart other name false e different = refl
+
+  -- what a patch needs is known
+  needs_known : (patch : Needing) → NeedsThese branch patch → (other : List ℕ) → NeedsPatch branch patch.name other → needs_other patch other ≡ true
+  needs_known patch these other needs =
+      let same = one_needed (patch.name ∷ []) these.0 needs.1.0 these.1 needs.1.1 in
+      and_true (not (bytes_eq other patch.name)) (is_among patch.needs other) (apart other patch.name (bytes_eq other patch.name) refl needs.0) (these.2 other ∙ ap (λ l. is_among l other) same ∙ needs.1.2)
+
+  -- what is known is needed
+  known_needs : (patch : Needing) → NeedsThese branch patch → (other : List ℕ) → needs_other patch other ≡ true → NeedsPatch branch patch.name other
+  known_needs patch these other known =
+      let parts = both (not (bytes_eq other patch.name)) (is_among patch.needs other) known in (
+        λ same. true≢false (sym (ap (λ n. bytes_eq n patch.name) same ∙ name_itself patch.name) ∙ not_true (bytes_eq other patch.name) parts.0),
+        (these.0, these.1, sym (these.2 other) ∙ parts.1),
+      )
+
+  there_at : (test : Needing → Bool) (patch : Needing) (all : List Needing) (name : List ℕ) (b : Bool) → bytes_eq name patch.name ≡ b → (b || is_among (map (λ (p : Needing). p.name) all) name) ≡ true → (patch.name ≡ name → test patch ≡ true) → (is_among (map (λ (p : Needing). p.name) all) name ≡ true → list_any test all ≡ true) → (test patch || list_any test all) ≡ true
+  there_at test patch all name true e among here later =
+      ap (λ b. b || list_any test all) (here (sym (same_name name patch.name e)))
+  there_at test patch all name false e among here later = or_true (test patch) (list_any test all) (later among)
+
+  -- one of the patches has the name
+  passes_there : (test : Needing → Bool) (all : List Needing) (name : List ℕ) → AllByRecursion (NeedsThese branch) all → ((patch : Needing) → NeedsThese branch patch → patch.name ≡ name → test patch ≡ true) → is_among (map (λ (p : Needing). p.name) all) name ≡ true → list_any test all ≡ true
+  passes_there test [] name each passes among = absurd (true≢false (sym among))
+  passes_there test (patch ∷ all) name each passes among =
+      there_at test patch all name (bytes_eq name patch.name) refl among (passes patch each.0) (passes_there test all name each.1 passes)
+
+  found_at : (test : Needing → Bool) (patch : Needing) (all : List Needing) (b : Bool) → test patch ≡ b → NeedsThese branch patch → (b || list_any test all) ≡ true → (list_any test all ≡ true → (p : Needing) × NeedsThese branch p × (test p ≡ true)) → (p : Needing) × NeedsThese branch p × (test p ≡ true)
+  found_at test patch all true e these any later = (patch, these, e)
+  found_at test patch all false e these any later = later any
+
+  one_passes : (test : Needing → Bool) (all : List Needing) → AllByRecursion (NeedsThese branch) all → list_any test all ≡ true → (p : Needing) × NeedsThese branch p × (test p ≡ true)
+  one_passes test [] each any = absurd (true≢false (sym any))
+  one_passes test (patch ∷ all) each any =
+      found_at test patch all (test patch) refl each.0 any (one_passes test all each.1)
+
+  -- what is needed is a patch of the branch
+  is_there : (name other : List ℕ) → NeedsPatch branch name other → is_among (names_of branch) other ≡ true
+  is_there name other needs =
+      among_once (map name_of branch) other ∙ in_order_there branch ((name ∷ []) ++ needs.1.1.0) other (ap (λ l. is_among l other) (sym needs.1.1.2) ∙ needs.1.2)
+
+  module _ (all : List Needing) (names : map (λ (p : Needing). p.name) all ≡ names_of branch) (each : AllByRecursion (NeedsThese branch) all) (patch : Needing) (these : NeedsThese branch patch) (other : List ℕ) where
+    arrow_is_need : needs_directly all patch other ≡ true → NeedsDirectly branch patch.name other
+    arrow_is_need e =
+        let parts = both (needs_other patch other) (not (list_any (goes_between patch other) all)) e in
+        record {
+          needs = known_needs patch these other parts.0;
+          none_between = λ between first second.
+              let among = ap (λ l. is_among l between) names ∙ is_there patch.name between first in
+              let passes : (p : Needing) → NeedsThese branch p → p.name ≡ between → goes_between patch other p ≡ true = λ p w same.
+              and_true (needs_other patch p.name) (needs_other p other) (needs_known patch these p.name (subst (NeedsPatch branch patch.name) (sym same) first)) (needs_known p w other (subst (λ n. NeedsPatch branch n other) (sym same) second)) in
+              true≢false (sym (passes_there (goes_between patch other) all between each passes among) ∙ not_true (list_any (goes_between patch other) all) parts.1);
+        }
+
+    none_goes_between : (b : Bool) → list_any (goes_between patch other) all ≡ b → NeedsDirectly branch patch.name other → not b ≡ true
+    none_goes_between false e direct = refl
+    none_goes_between true e direct =
+        let one = one_passes (goes_between patch other) all each e in
+        let parts = both (needs_other patch one.0.name) (needs_other one.0 other) one.2 in
+        absurd (direct.none_between one.0.name (known_needs patch these one.0.name parts.0) (known_needs one.0 one.1 other parts.1))
+
+    need_is_arrow : NeedsDirectly branch patch.name other → needs_directly all patch other ≡ true
+    need_is_arrow direct =
+        and_true (needs_other patch other) (not (list_any (goes_between patch other) all)) (needs_known patch these other direct.needs) (none_goes_between (list_any (goes_between patch other) all) refl direct)
+
+    arrows_at : (is_among (node_of branch all patch).needs other ≡ true) ↔ NeedsDirectly branch patch.name other
+    arrows_at =
+        let kept = among_kept (needs_directly all patch) (names_of branch) other in (
+          λ e. arrow_is_need (both (is_among (names_of branch) other) (needs_directly all patch other) (sym kept ∙ e)).1,
+          λ direct. kept ∙ and_true (is_among (names_of branch) other) (needs_directly all patch other) (is_there patch.name other direct.needs) (need_is_arrow direct),
+        )
+
+  arrows_of : (all list : List Needing) → map (λ (p : Needing). p.name) all ≡ names_of branch → AllByRecursion (NeedsThese branch) all → AllByRecursion (NeedsThese branch) list → AllByRecursion (λ (node : Node). (other : List ℕ) → (is_among node.needs other ≡ true) ↔ NeedsDirectly branch node.name other) (map (node_of branch all) list)
+  arrows_of all [] names each here = tt
+  arrows_of all (patch ∷ list) names each here =
+      (λ other. arrows_at all names each patch here.0 other, arrows_of all list names each here.1)
+
+pub arrows_are_direct_needs : ArrowsAreDirectNeeds
+arrows_are_direct_needs branch graph is =
+    subst (AllByRecursion (λ (node : Node). (other : List ℕ) → (is_among node.needs other ≡ true) ↔ NeedsDirectly branch node.name other)) (sym is.patches) (arrows_of branch is.all is.all is.names is.needs is.needs)
