@@ -6,6 +6,7 @@ pub mod calls;
 pub mod catches;
 pub mod examples;
 pub mod heads;
+pub mod keeping;
 pub mod lists;
 pub mod patches;
 pub mod repositories;

@@ -1,0 +1,22 @@
+use Rattle.std.proofs.Common.{◌≡◌, ◌++◌, ap, subst, ◌∙◌}
+use Rattle.std.specs.List.{AllByRecursion}
+use Rattle.camp_clients.specs.Runs.{lists_of}
+use Rattle.camp_object.specs.Histories.{replay}
+use Rattle.camp_repo.specs.Objects.{repository}
+use Rattle.camp_run.specs.Keeping.{at_seat_0}
+use Rattle.camp_script.specs.Keeping.{CanStand, calls_of, kept_text}
+use Rattle.camp_uses.proofs.Kept.{comes_back}
+use Rattle.camp_uses.proofs.keeping.keep_and_read.Goals as goal
+
+again : (c : goal.After-drop-text-2) → (c.in_ok-run.run'.book ≡ at_seat_0 c.args.book.now) × (replay repository c.in_ok-run.run'.book ≡ replay repository c.args.book.now)
+again c =
+    let stand = subst (λ history. AllByRecursion CanStand (calls_of history)) c.history.ensures.value c.in_ok-append_script.ensures.stand in
+    let written = c.deref.ensures.value ∙ c.in_ok-append_script.ensures.text ∙ ap (λ t. t ++ kept_text c.history.result.now) c.new-text.ensures.items ∙ ap kept_text c.history.ensures.value in
+    comes_back c.kept_text_leads_back.ensures c.one_by_one_is_serial.ensures c.args.book.now c.deref.result.now _ (lists_of c.sections.result.now) (lists_of c.in_ok-run.run'.answers.items) c.in_ok-run.run'.book
+    c.history.ensures.legal stand c.requires written c.in-Ok.ensures.given c.sections.ensures.value c.history-kept.ensures.legal c.in_ok-run.ensures
+
+pub returns-clause-history : goal.returns-clause-history
+returns-clause-history c = (again c).0
+
+pub returns-clause-state : goal.returns-clause-state
+returns-clause-state c = (again c).1

@@ -1,0 +1,29 @@
+//! A caller of `camp_script` and `camp_run` that keeps a book as a text.
+ghost use Rattle.std.specs.Prelude.{◌≡◌, ◌≤◌, length, IfOk};
+ghost use Rattle.camp_object.specs.Histories.{replay};
+ghost use Rattle.camp_repo.specs.Objects.{repository};
+ghost use Rattle.camp_run.specs.Keeping.{at_seat_0};
+
+use camp_clients::serial;
+use camp_repo::{Book, State};
+use camp_run::{kept_text_leads_back, one_by_one_is_serial};
+use camp_script::{append_script, read_script};
+use std::alloc::{AllocError, Global};
+
+/// The book that comes back when a book is written as a script, and the script is read and asked.
+pub fn keep_and_read(alloc: Global, book: &Book<State>) -> Result<Book<State>, AllocError>
+    requires { length book.now ≤ 65536 }
+    ensures history { IfOk result (λ again. again ≡ at_seat_0 book.now) }
+    ensures state { IfOk result (λ again. replay repository again ≡ replay repository book.now) }
+{
+    kept_text_leads_back();
+    one_by_one_is_serial();
+    let mut text = Vec::new(alloc);
+    append_script(&mut text, book.history())?;
+    let Ok(script) = read_script(alloc, &text) else {
+        return Err(AllocError);
+    };
+    let run = serial::<State>(alloc, script.sections())?;
+    let _kept = run.book.history();
+    Ok(run.book)
+}
