@@ -15,3 +15,4 @@ pub mod PartsDetermined
 pub mod SameCatches
 pub mod Settled
 pub mod ValueSteps
+pub mod SwapsStill

@@ -13,6 +13,7 @@ mod merging;
 mod merging_lists;
 mod moves;
 mod seen;
+mod unmoved;
 mod values;
 
 pub use aligning::align;

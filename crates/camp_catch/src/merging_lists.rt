@@ -7,6 +7,7 @@ ghost use Rattle.camp_catch.specs.Catches.{catch_key};
 ghost use Rattle.camp_catch.specs.declared.catches.Catch.{Catch as AnyCatch};
 
 use crate::moves::{copies, renewed};
+use crate::unmoved::merge_as_they_are;
 use crate::{Catch, merge};
 use camp_prim::Key;
 use camp_share::{Share, Shared};
@@ -109,6 +110,9 @@ fn merge_one(
 ) -> Result<bool, AllocError>
     ensures exact { IfOk result (λ done. Changes MergesInPlace (j.old, k.old) done (j.new, k.new)) }
 {
+    if merge_as_they_are(j, k) {
+        return Ok(true);
+    }
     let merged = merge(alloc, j, k)?;
     let Some((after, beside)) = merged else {
         return Ok(false);

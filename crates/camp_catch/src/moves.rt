@@ -4,6 +4,7 @@ ghost use Rattle.camp_base.specs.Answers.{Changes};
 ghost use Rattle.camp_catch.specs.Arranging.{ComesBefore, StopsAt};
 ghost use Rattle.camp_catch.specs.Inside.InPlace.{CommutesInPlace};
 
+use crate::unmoved::commute_as_they_are;
 use crate::{Catch, commute};
 use camp_prim::Key;
 use camp_share::{Share, Shared};
@@ -32,6 +33,9 @@ pub(crate) fn come_before(
 fn exchange(alloc: Global, j: &mut Shared<Catch>, k: &mut Shared<Catch>) -> Result<bool, AllocError>
     ensures exact { IfOk result (λ done. Changes CommutesInPlace (j.old, k.old) done (j.new, k.new)) }
 {
+    if commute_as_they_are(j, k) {
+        return Ok(true);
+    }
     let commuted = commute(alloc, j, k)?;
     let Some((before, behind)) = commuted else {
         return Ok(false);
