@@ -1,15 +1,16 @@
-ghost use Rattle.std.specs.Prelude.{◌≡◌, ◌↔◌, IfOk, IsTrue, MatchOption};
+ghost use Rattle.std.specs.Prelude.{◌≡◌, ◌↔◌, IfErr, IfOk, IsTrue, MatchOption};
 ghost use Rattle.camp_call.specs.Patches.{IsPatchSized};
 
 use crate::MAX_CHANGES;
 use camp_prim::Primitive;
+use camp_share::{Share, Shared};
 use std::alloc::AllocError;
 use std::marker::Model;
 
-/// The changes of a patch in the order in which they are made: 1 to 64 of them.
+/// The changes of a patch in the order in which they are made: 1 to 64 of them. A copy shares them.
 #[derive(Debug, Drop)]
 pub struct Changes {
-    prims: Vec<Primitive>,
+    prims: Shared<Vec<Primitive>>,
 }
 
 impl Model for Changes {
@@ -25,16 +26,19 @@ impl Model for Changes {
 }
 
 impl Changes {
-    /// The changes of a patch, or `None` for no change and for more than 64. It takes no memory.
-    pub fn new(prims: Vec<Primitive>) -> Option<Changes>
-        ensures { MatchOption result
+    /// The changes of a patch, or `None` for no change and for more than 64.
+    pub fn new(prims: Vec<Primitive>) -> Result<Option<Changes>, AllocError>
+        ensures exact { IfOk result (λ answer. MatchOption answer
             (¬ (IsPatchSized prims.items))
-            (λ changes. IsPatchSized prims.items × (changes ≡ prims.items)) }
+            (λ changes. IsPatchSized prims.items × (changes ≡ prims.items))) }
+        ensures wanted { IfErr result (λ error. IsPatchSized prims.items) }
     {
         if prims.is_empty() || prims.len() > MAX_CHANGES {
-            return None;
+            return Ok(None);
         }
-        Some(Changes { prims })
+        let alloc = *prims.allocator();
+        let prims = Shared::new(alloc, prims)?;
+        Ok(Some(Changes { prims }))
     }
 
     pub fn prims(&self) -> &[Primitive]
@@ -44,13 +48,11 @@ impl Changes {
         &self.prims
     }
 
+    /// A copy, which shares the changes. It takes no memory: an error is a count of owners that is full.
     pub fn try_clone(&self) -> Result<Changes, AllocError>
         ensures { IfOk result (λ copy. copy ≡ self.now) }
     {
-        let mut prims = Vec::with_capacity(*self.prims.allocator(), self.prims.len())?;
-        for prim in &self.prims {
-            prims.push(prim.try_clone()?)?;
-        }
+        let prims = self.prims.share()?;
         Ok(Changes { prims })
     }
 
