@@ -1,3 +1,4 @@
+pub mod Behind
 pub mod Canonical
 pub mod Changes
 pub mod Commands

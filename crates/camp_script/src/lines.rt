@@ -1,5 +1,6 @@
 ghost use Rattle.std.specs.Prelude.{◌≡◌, ◌==◌, ◌≤◌, length, map, not, slice_index, take};
 ghost use Rattle.std.specs.List.{position_or_len};
+ghost use Rattle.camp_script.specs.Behind.{behind_blanks, behind_word};
 ghost use Rattle.camp_script.specs.Lines.{is_blank, without_end, words_of};
 
 use arrayvec::ArrayVec;
@@ -10,11 +11,11 @@ use std::marker::Model;
 const SOME_WORDS: usize = 6;
 
 /// The first words behind the first of a line. Where there are as many as have room, there may be more.
-pub(crate) type FirstWords<'a> = ArrayVec<&'a [u8], SOME_WORDS>;
+pub type FirstWords<'a> = ArrayVec<&'a [u8], SOME_WORDS>;
 
 /// The words of a line, from the first to the last: what stands between runs of spaces and tabs.
 #[derive(Drop)]
-pub(crate) struct Words<'a> {
+pub struct Words<'a> {
     rest: &'a [u8],
 }
 
@@ -30,14 +31,15 @@ impl<'a> Model for Words<'a> {
 impl<'a> Words<'a> {
     ghost use Rattle.camp_script.specs.Lines.{words_of};
 
-    pub(crate) fn new(line: &'a [u8]) -> Words<'a>
+    /// The words of a line.
+    pub fn new(line: &'a [u8]) -> Words<'a>
         ensures { result ≡ words_of line.now }
     {
         Words { rest: line }
     }
 
     /// The same words once more.
-    pub(crate) fn again(&self) -> Words<'a>
+    pub fn again(&self) -> Words<'a>
         ensures { result ≡ self.now }
     {
         Words { rest: self.rest }
@@ -66,7 +68,7 @@ impl<'a> Iterator for Words<'a> {
 }
 
 /// The first of some words.
-pub(crate) fn first_words(words: Words<'_>) -> FirstWords<'_>
+pub fn first_words(words: Words<'_>) -> FirstWords<'_>
     ensures { map (λ word. word.now) result.items ≡ take 6 words.entry }
 {
     let mut first = ArrayVec::new();
@@ -114,8 +116,22 @@ fn is_blank(byte: u8) -> bool
     matches!(byte, b' ' | b'\t')
 }
 
+/// A line behind its first word, and the blanks around that.
+pub fn behind_word(line: &[u8]) -> &[u8]
+    ensures { result.now ≡ behind_word line.now }
+{
+    let line = behind_blanks(line);
+    behind_blanks(&line[word_len(line)..])
+}
+
+fn behind_blanks(line: &[u8]) -> &[u8]
+    ensures { result.now ≡ behind_blanks line.now }
+{
+    &line[blanks_len(line)..]
+}
+
 /// A line without the LF at its end, where it has one.
-pub(crate) fn without_end(line: &[u8]) -> &[u8]
+pub fn without_end(line: &[u8]) -> &[u8]
     ensures { result.now ≡ without_end line.now }
 {
     match line {

@@ -18,7 +18,7 @@ const MAX_DIGITS: usize = 10;
 const MAX_LINE: u64 = 1_073_741_823;
 
 /// No word, where no word is to stand.
-pub(crate) fn no_words(number: u64, words: &[&[u8]]) -> Result<(), ScriptFault>
+pub fn no_words(number: u64, words: &[&[u8]]) -> Result<(), ScriptFault>
     ensures given { GivesLine result (no_words number (map (λ word. word.now) words.now)) }
     ensures told { IfErr result (λ fault. fault ≢ ScriptFault.Memory) }
 {
@@ -29,7 +29,7 @@ pub(crate) fn no_words(number: u64, words: &[&[u8]]) -> Result<(), ScriptFault>
 }
 
 /// The one word that stands there.
-pub(crate) fn one_word<'a>(number: u64, words: &[&'a [u8]]) -> Result<&'a [u8], ScriptFault>
+pub fn one_word<'a>(number: u64, words: &[&'a [u8]]) -> Result<&'a [u8], ScriptFault>
     ensures given { IfOk result (λ word. one_word number (map (λ word. word.now) words.now) ≡ Ok word.now) }
     ensures fault { IfErr result (λ fault. IsFaultIn fault (one_word number (map (λ word. word.now) words.now))) }
     ensures told { IfErr result (λ fault. fault ≢ ScriptFault.Memory) }
@@ -41,10 +41,7 @@ pub(crate) fn one_word<'a>(number: u64, words: &[&'a [u8]]) -> Result<&'a [u8], 
 }
 
 /// The two words that stand there.
-pub(crate) fn two_words<'a>(
-    number: u64,
-    words: &[&'a [u8]],
-) -> Result<(&'a [u8], &'a [u8]), ScriptFault>
+pub fn two_words<'a>(number: u64, words: &[&'a [u8]]) -> Result<(&'a [u8], &'a [u8]), ScriptFault>
     ensures given { IfOk result (λ pair. two_words number (map (λ word. word.now) words.now) ≡ Ok (pair.0.now, pair.1.now)) }
     ensures fault { IfErr result (λ fault. IsFaultIn fault (two_words number (map (λ word. word.now) words.now))) }
     ensures told { IfErr result (λ fault. fault ≢ ScriptFault.Memory) }
@@ -71,7 +68,8 @@ pub(crate) fn three_words<'a, 'w>(
     }
 }
 
-pub(crate) fn name_at(number: u64, word: &[u8]) -> Result<Name, ScriptFault>
+/// A word as a name.
+pub fn name_at(number: u64, word: &[u8]) -> Result<Name, ScriptFault>
     ensures given { GivesLine result (name_at number word.now) }
     ensures told { IfErr result (λ fault. fault ≢ ScriptFault.Memory) }
 {
@@ -82,7 +80,7 @@ pub(crate) fn name_at(number: u64, word: &[u8]) -> Result<Name, ScriptFault>
 }
 
 /// Words, all as names.
-pub(crate) fn names_at(alloc: Global, number: u64, words: Words<'_>) -> Result<Names, ScriptFault>
+pub fn names_at(alloc: Global, number: u64, words: Words<'_>) -> Result<Names, ScriptFault>
     ensures { Gives result (names_at number words.entry) }
 {
     let mut names = Vec::new(alloc);
@@ -106,7 +104,7 @@ pub(crate) fn test_names(number: u64, words: Words<'_>) -> Result<(), ScriptFaul
 
 /// A path. What is none is told at once; that memory ran out is told inside, so that the tests behind this
 /// one may come first.
-pub(crate) fn path_at(
+pub fn path_at(
     alloc: Global,
     number: u64,
     word: &[u8],

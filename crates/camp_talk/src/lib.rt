@@ -5,9 +5,11 @@ mod answers;
 mod commands;
 mod faults;
 mod lines;
+mod questions;
 mod readings;
 mod talks;
 
 pub use camp_repo::{Book, State};
 pub use faults::TalkFault;
+pub use questions::{Question, Topic};
 pub use talks::{talk, turn};

@@ -1,0 +1,59 @@
+//! Questions of a conversation.
+use camp_base::{Name, Path};
+use camp_call::{Call, Names};
+
+/// A question. It changes nothing.
+#[derive(Debug, Drop)]
+pub enum Question {
+    /// What comes along where patches are pulled from a branch.
+    Needs { branch: Name, names: Names },
+    /// What must go where patches are taken out of a branch.
+    Held { branch: Name, names: Names },
+    /// What one branch has and another lacks.
+    Missing { from: Name, to: Name },
+    /// A patch as it stands in a branch.
+    Show { branch: Name, name: Name },
+    /// Which patch put each line of a file there.
+    Annotate { branch: Name, path: Path },
+    /// The patches of a branch, what each needs directly, and which are in conflict.
+    Graph(Name),
+    /// What a call would be answered, and how its branch would stand then.
+    WhatIf(Call),
+    /// The accepted calls.
+    History,
+    /// A script that gives the repository back.
+    Keep,
+    /// How commands are written.
+    Help(Topic),
+}
+
+/// What is asked for help on: all commands, or one.
+#[derive(Clone, Copy, PartialEq, Eq, Debug)]
+pub enum Topic {
+    Commands,
+    Branch,
+    Record,
+    Pull,
+    Obliterate,
+    Tree,
+    Conflicts,
+    Names,
+    Needs,
+    Held,
+    Missing,
+    Show,
+    Annotate,
+    Graph,
+    WhatIf,
+    History,
+    Keep,
+    Help,
+}
+
+/// What a command asks.
+#[derive(Drop)]
+pub(crate) enum Asked {
+    Nothing,
+    Call(Call),
+    Question(Question),
+}
