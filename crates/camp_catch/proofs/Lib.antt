@@ -12,6 +12,8 @@ pub mod MergeListSteps
 pub mod MergeSteps
 pub mod MoveSteps
 pub mod PartsDetermined
+pub mod PlainArranging
+pub mod PlainFronts
 pub mod SameCatches
 pub mod Settled
 pub mod ValueSteps

@@ -1,13 +1,16 @@
 -- The results of arranging, aligning and merging lists of catches: at most one, and exactly one of a result and the
 -- labels where there is none.
-use Rattle.std.specs.Prelude.{◌≡◌, ◌↔◌, ◌⊎◌, ℕ, List, Contains}
+use Rattle.std.specs.Prelude.{◌≡◌, ◌↔◌, ◌⊎◌, ℕ, List, map, Contains}
 use Rattle.camp_prim.specs.declared.labels.Key.{Key}
+use Rattle.camp_prim.specs.declared.named.Named.{Named}
+use Rattle.camp_seq.specs.Room.{HasRoom}
 use Rattle.camp_catch.specs.Arranging.{ComesBefore, StopsAt, DoNotCommute, Arrange}
 use Rattle.camp_catch.specs.Arranging.{ArrangeSticks, ComesFirst, Align, AlignSticks}
 use Rattle.camp_catch.specs.Commuting.{CommuteCatch}
 use Rattle.camp_catch.specs.Merging.{MergeCatch}
 use Rattle.camp_catch.specs.MergingLists.{MergesWithAll, SticksWithin, MergeLists, MergeSticks, DoNotMerge}
 use Rattle.camp_catch.specs.declared.catches.Catch.{Catch}
+use Rattle.camp_catch.specs.declared.catches.Catch.TheVariants.{Plain}
 
 -- two results that are determined are equal
 abbrev pub AreEqual : {X Y : Type 0} → X → Y → X → Y → Type 0
@@ -82,3 +85,21 @@ pub record ArrangeByMembers : Type 0 where
   pub sticks :
       (names others : List (List ℕ)) → ((name : List ℕ) → Contains names name ↔ Contains others name) →
       (list : List Catch) (patch on : Key) → ArrangeSticks names list patch on → ArrangeSticks others list patch on
+
+-- of plain catches with room: what stops those of some names on their way to the front is of each other names that have
+-- these among them, and whose catches come to the front
+abbrev pub WhatStopsComesAlong : Type 0
+WhatStopsComesAlong =
+    (patches : List Named) (names others : List (List ℕ)) → HasRoom patches →
+    ((name : List ℕ) → Contains names name → Contains others name) → (patch on : Key) →
+    ArrangeSticks names (map Plain patches) patch on → HasPair (Arrange others (map Plain patches)) →
+    Contains others on.name
+
+-- of plain catches with room: where those of some names come to the front, and those of others do, then behind these
+-- come those of the names that are not theirs
+abbrev pub FrontsComeBehindFronts : Type 0
+FrontsComeBehindFronts =
+    (patches : List Named) (names others wanted : List (List ℕ)) → HasRoom patches →
+    ((name : List ℕ) → Contains wanted name ↔ (Contains names name × (¬ (Contains others name)))) →
+    (front behind : List Catch) → Arrange others (map Plain patches) front behind →
+    HasPair (Arrange names (map Plain patches)) → HasPair (Arrange wanted behind)

@@ -1,6 +1,6 @@
 ghost use Rattle.camp_catch.specs.Cases.{CasesExclude, MergeCasesExclude};
 ghost use Rattle.camp_catch.specs.Laws.{CommuteIsUnique, CommuteKeepsEffects, KeepLabels, ListsKeepEffects, MergeIsSymmetric, MergeIsUnique, MergeKeepsEffects};
-ghost use Rattle.camp_catch.specs.ListLaws.{ArrangeByMembers, CatchesAreDecided, ListsAreUnique, ListsSucceedOrStick};
+ghost use Rattle.camp_catch.specs.ListLaws.{ArrangeByMembers, CatchesAreDecided, FrontsComeBehindFronts, ListsAreUnique, ListsSucceedOrStick, WhatStopsComesAlong};
 
 /// Where two catches fit a tree one after the other, so do those that they become, and both orders
 /// end in one tree.
@@ -69,4 +69,16 @@ pub fn lists_succeed_or_stick()
 /// What is arranged by names depends on which names there are, and not on their order.
 pub fn arrange_goes_by_members()
     ensures { ArrangeByMembers }
+{}
+
+/// Of plain catches with room: what stops those of some names on their way to the front comes along
+/// wherever these come there with others.
+pub fn what_stops_comes_along()
+    ensures { WhatStopsComesAlong }
+{}
+
+/// Of plain catches with room: those of some names that come to the front come there behind those of
+/// others too.
+pub fn fronts_come_behind_fronts()
+    ensures { FrontsComeBehindFronts }
 {}
