@@ -17,4 +17,3 @@ pub mod PlainFronts
 pub mod SameCatches
 pub mod Settled
 pub mod ValueSteps
-pub mod SwapsStill

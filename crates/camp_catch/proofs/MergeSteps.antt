@@ -1,5 +1,5 @@
 -- What the bodies of merging know at their answers.
-use Rattle.std.proofs.Common.{◌≡◌, inl, inr, List, Option, None, Some, Bool, IsTrue, refl, sym, ap, ◌∙◌, subst}
+use Rattle.std.proofs.Common.{◌≡◌, inl, inr, List, Option, None, Some, Bool, true, false, not, IsTrue, refl, sym, ap, ◌∙◌, subst}
 use Rattle.camp_base.specs.Answers.{FindsPair}
 use Rattle.camp_prim.specs.Effect.{inverse_of}
 use Rattle.camp_prim.specs.Swaps.{Swap}
@@ -12,9 +12,11 @@ use Rattle.camp_seq.specs.Running.{inverse_all}
 use Rattle.camp_seq.proofs.MergeGrid.{row_passes, passes_row}
 use Rattle.camp_ctx.specs.Adding.{Adds, AddsAll}
 use Rattle.camp_ctx.specs.Conflicts.{Conflict, MergesBehindCommon}
-use Rattle.camp_ctx.specs.Contexts.{InContext, bare}
-use Rattle.camp_ctx.proofs.AddResults.{one_add_of_all}
-use Rattle.camp_catch.specs.Conflictors.{Becomes}
+use Rattle.camp_ctx.specs.Contexts.{Contexts, EachMember, InContext, bare}
+use Rattle.camp_ctx.proofs.AddResults.{add_of_all_exists, one_add_of_all}
+use Rattle.camp_ctx.proofs.SetChanges.{members_change}
+use Rattle.camp_catch.specs.Conflictors.{Becomes, joined_by}
+use Rattle.camp_catch.specs.Inside.InPlace.{MergesBehind}
 use Rattle.camp_catch.specs.Inside.Pairs.{JoinsAs}
 use Rattle.camp_catch.specs.Inside.TwoConflictors.{EffectsMerge, JoinEachOther, TellsConflict}
 use Rattle.camp_catch.specs.Merging.{Clean, PlainBesideConflictor, PlainJoinsConflictor, MergePlainConflictor, Mirror, TwoConflictors}
@@ -26,6 +28,10 @@ use Rattle.camp_catch.proofs.MergeEffects.{joins_alike}
 -- a relation has no result
 abbrev pub NoPair : {X Y : Type 0} → (X → Y → Type 0) → Type 0
 NoPair {X} {Y} Results = (pair : X × Y) → ¬ (Results pair.0 pair.1)
+
+pub false_of_not : (b : Bool) → IsTrue (not b) → b ≡ false
+false_of_not true is = cc
+false_of_not false is = refl
 
 -- the inverse of what is turned back
 back_again : (p turned : Named) → turned ≡ inverse_of p → inverse_of turned ≡ p
@@ -69,6 +75,11 @@ module _ (a : Named) (k : Conflictor) where
       after = refl;
       beside = refl;
     }
+
+    -- a plain catch that passes a conflictor, where both stay as they are, stands beside it so
+    pub aside : ¬ (Conflict (bare a) seen) → (back : Named) → back ≡ inverse_of a → Passes back k.effect k.effect back → Becomes (Norm k.effect) (Adds back) (Adds back) k k → MergePlainConflictor a k (Catch.Conflictor k) (Plain a)
+    aside apart back turned passes becomes =
+        inl (beside_from apart k.effect back a k (sym (back_again a back turned)) (subst (λ p. Passes p k.effect k.effect back) turned passes) becomes)
 
     -- a plain catch that conflicts with a conflictor joins it as it is seen behind its effect
     pub joins_from : Conflict (bare a) seen → (z : InContext) → AddsAll (inverse_all k.effect) (bare a) z → (k' j' : Catch) → JoinsAs a k z k' j' → PlainJoinsConflictor a k k' j'
@@ -131,3 +142,30 @@ module _ (j k : Conflictor) where
     after = each.after;
     beside = each.beside;
   }
+
+  -- what the second becomes, where nobody reads what the first becomes
+  module _ (s2 r2 : List Named) (found : Bool) (moved : Conflictor) (effects : EffectsMerge j.effect k.effect s2 r2) (tells : TellsConflict j k found) (becomes : Becomes (λ t. t ≡ s2) (AddsAll (inverse_all r2)) (AddsAll (inverse_all r2)) k moved) where
+    members : (sum : Contexts) × EachMember (AddsAll (inverse_all moved.effect)) j.conflicts sum
+    members = members_change (AddsAll (inverse_all moved.effect)) (add_of_all_exists (inverse_all moved.effect)) j.conflicts
+
+    abbrev own : InContext → Conflictor
+    own identity = record { effect = r2; conflicts = members.0; identity = identity }
+
+    own_becomes : (identity : InContext) → AddsAll (inverse_all moved.effect) j.identity identity → Becomes (λ t. t ≡ r2) (AddsAll (inverse_all moved.effect)) (AddsAll (inverse_all moved.effect)) j (own identity)
+    own_becomes identity adds = record { effect = refl; conflicts = members.1; identity = adds }
+
+    pub joined_behind : IsTrue found → (identity : InContext) → AddsAll (inverse_all moved.effect) j.identity identity → (k' : Conflictor) → k' ≡ joined_by identity moved → MergesBehind (Catch.Conflictor j) (Catch.Conflictor k) (Catch.Conflictor k')
+    joined_behind holds identity adds k' is =
+        let own_joined = joined_by moved.identity (own identity) in (
+          Catch.Conflictor own_joined,
+          two_from s2 r2 found moved (own identity) _ _ effects tells becomes (own_becomes identity adds)
+              (record { joined = k'; own_joined = own_joined; joins = inl (holds, is); own_joins = inl (holds, refl); after = refl; beside = refl }),
+        )
+
+    pub apart_behind : ¬ (IsTrue found) → MergesBehind (Catch.Conflictor j) (Catch.Conflictor k) (Catch.Conflictor moved)
+    apart_behind never =
+        let sum = add_of_all_exists (inverse_all moved.effect) j.identity in (
+          Catch.Conflictor (own sum.0),
+          two_from s2 r2 found moved (own sum.0) _ _ effects tells becomes (own_becomes sum.0 sum.1)
+              (record { joined = moved; own_joined = own sum.0; joins = inr (never, refl); own_joins = inr (never, refl); after = refl; beside = refl }),
+        )

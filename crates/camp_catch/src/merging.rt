@@ -1,5 +1,5 @@
 ghost use Rattle.std.specs.Prelude.{◌≡◌, IfOk};
-ghost use Rattle.camp_base.specs.Answers.{FindsPair};
+ghost use Rattle.camp_base.specs.Answers.{Finds, FindsPair};
 ghost use Rattle.camp_prim.specs.Effect.{inverse_of};
 ghost use Rattle.camp_prim.specs.Swaps.{Swap};
 ghost use Rattle.camp_prim.specs.declared.named.Named.{Named};
@@ -9,9 +9,11 @@ ghost use Rattle.camp_seq.specs.Running.{inverse_all};
 ghost use Rattle.camp_ctx.specs.Adding.{AddsAll};
 ghost use Rattle.camp_ctx.specs.Conflicts.{Conflict};
 ghost use Rattle.camp_ctx.specs.Contexts.{InContext, bare};
+ghost use Rattle.camp_catch.specs.Inside.InPlace.{MergesBehind};
 ghost use Rattle.camp_catch.specs.Inside.Pairs.{JoinsAs};
 ghost use Rattle.camp_catch.specs.Inside.TwoConflictors.{EffectsMerge, JoinEachOther, TellsConflict};
 ghost use Rattle.camp_catch.specs.Merging.{Clean, FirstConflict, MergeCatch, MergePlainConflictor, Mirror, PlainBesideConflictor, PlainJoinsConflictor, TwoConflictors};
+ghost use Rattle.camp_catch.specs.declared.catches.Catch.{Catch as AnyCatch};
 ghost use Rattle.camp_catch.specs.declared.catches.Catch.TheVariants.{Plain};
 
 use crate::seen::{against, both_behind, in_conflict_with, joined, one_before, takes_back};
@@ -33,6 +35,20 @@ pub fn merge(alloc: Global, j: &Catch, k: &Catch) -> Result<Option<(Catch, Catch
         (Catch::Plain(a), Catch::Conflictor(k)) => plain_and_conflictor(alloc, a, k),
         (Catch::Conflictor(j), Catch::Plain(b)) => mirror(alloc, j, b),
         (Catch::Conflictor(j), Catch::Conflictor(k)) => two_conflictors(alloc, j, k),
+    }
+}
+
+/// What the `k` of the same state becomes after `j`, where nobody reads what `j` becomes.
+pub(crate) fn behind(alloc: Global, j: &Catch, k: &Catch) -> Result<Option<Catch>, AllocError>
+    ensures exact { IfOk result (Finds (MergesBehind j.now k.now)) }
+{
+    if let (Catch::Conflictor(j), Catch::Conflictor(k)) = (j, k) {
+        return conflictor_behind(alloc, j, k);
+    }
+    let found = merge(alloc, j, k)?;
+    match found {
+        None => Ok(None),
+        Some((after, _)) => Ok(Some(after)),
     }
 }
 
@@ -181,6 +197,29 @@ fn two_conflictors(
     let own = both_behind(&moved.effect, r2, j)?;
     let pair = joined_where(in_conflict, moved, own)?;
     Ok(Some(pair))
+}
+
+/// `(r, X, i) | (s, Y, l) -> (s2, Y', l')`, where `r2^` added to `Y` and `l` gives `Y'` and `l'`. Of the
+/// other one its identity alone is made.
+fn conflictor_behind(
+    alloc: Global,
+    j: &Conflictor,
+    k: &Conflictor,
+) -> Result<Option<Catch>, AllocError>
+    ensures exact { IfOk result (Finds (MergesBehind (AnyCatch.Conflictor j.now) (AnyCatch.Conflictor k.now))) }
+{
+    let merged = merged_effects(alloc, &j.effect, &k.effect)?;
+    let Some((s2, r2)) = merged else {
+        return Ok(None);
+    };
+    let in_conflict = conflict_before(j, k)?;
+    let moved = both_behind(&r2, s2, k)?;
+    if !in_conflict {
+        return Ok(Some(Catch::Conflictor(moved)));
+    }
+    let identity = seen_behind(&moved.effect, &j.identity)?;
+    let joined = joined(moved, &identity)?;
+    Ok(Some(Catch::Conflictor(joined)))
 }
 
 /// `r | s -> s2 | r2`: two effects merged behind what they have in common, in normal order.

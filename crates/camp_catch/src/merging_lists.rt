@@ -6,6 +6,7 @@ ghost use Rattle.camp_catch.specs.MergingLists.{MergeLists, MergeSticks, MergesW
 ghost use Rattle.camp_catch.specs.Catches.{catch_key};
 ghost use Rattle.camp_catch.specs.declared.catches.Catch.{Catch as AnyCatch};
 
+use crate::merging::behind;
 use crate::moves::{copies, renewed};
 use crate::unmoved::merge_as_they_are;
 use crate::{Catch, merge};
@@ -86,19 +87,26 @@ fn merge_behind_all(
         let Some(next) = merged else {
             return Ok(Err(no_merge(j, &after)));
         };
-        after = renewed(alloc, &after, next)?;
+        after = next;
     }
     Ok(Ok(after))
 }
 
 /// `k` as it is after the `j` of the same state.
-fn merge_behind(alloc: Global, j: &Catch, k: &Catch) -> Result<Option<Catch>, AllocError>
+fn merge_behind(
+    alloc: Global,
+    j: &Catch,
+    k: &Shared<Catch>,
+) -> Result<Option<Shared<Catch>>, AllocError>
     ensures exact { IfOk result (Finds (MergesBehind j.now k.now)) }
 {
-    let found = merge(alloc, j, k)?;
+    if merge_as_they_are(alloc, j, k)? {
+        return Ok(Some(k.share()?));
+    }
+    let found = behind(alloc, j, k)?;
     match found {
         None => Ok(None),
-        Some((after, _)) => Ok(Some(after)),
+        Some(after) => Ok(Some(renewed(alloc, k, after)?)),
     }
 }
 
@@ -110,7 +118,7 @@ fn merge_one(
 ) -> Result<bool, AllocError>
     ensures exact { IfOk result (λ done. Changes MergesInPlace (j.old, k.old) done (j.new, k.new)) }
 {
-    if merge_as_they_are(j, k) {
+    if merge_as_they_are(alloc, j, k)? {
         return Ok(true);
     }
     let merged = merge(alloc, j, k)?;

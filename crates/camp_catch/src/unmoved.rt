@@ -1,12 +1,19 @@
-ghost use Rattle.std.specs.Prelude.{◌≡◌, ◌↔◌, IsTrue};
+ghost use Rattle.std.specs.Prelude.{◌≡◌, IfOk, IsTrue};
+ghost use Rattle.camp_ctx.specs.Adding.{Adds};
+ghost use Rattle.camp_seq.specs.NormalOrder.{Norm};
+ghost use Rattle.camp_seq.specs.Passing.{Passes};
 ghost use Rattle.camp_catch.specs.Commuting.{CommuteCatch};
-ghost use Rattle.camp_catch.specs.Merging.{MergeCatch};
-ghost use Rattle.camp_prim.specs.Swaps.{Swap};
-ghost use Rattle.camp_seq.specs.Shapes.{line_of};
+ghost use Rattle.camp_catch.specs.Conflictors.{Becomes};
+ghost use Rattle.camp_catch.specs.Merging.{MergeCatch, MergePlainConflictor};
+ghost use Rattle.camp_catch.specs.declared.catches.Catch.{Catch as AnyCatch};
+ghost use Rattle.camp_catch.specs.declared.catches.Catch.TheVariants.{Plain};
 
-use crate::Catch;
-use crate::values::inverse;
-use camp_prim::{Named, Primitive, commute};
+use crate::values::{bare, inverse};
+use crate::{Catch, Conflictor};
+use camp_ctx::{Contexted, conflict};
+use camp_prim::{Named, stay};
+use camp_seq::{is_own_order, stays_past};
+use std::alloc::{AllocError, Global};
 
 /// Whether two plain catches, one after the other, change places as they are. Where it says no, they
 /// may still do.
@@ -14,53 +21,56 @@ pub(crate) fn commute_as_they_are(j: &Catch, k: &Catch) -> bool
     ensures { IsTrue result → CommuteCatch j.now k.now k.now j.now }
 {
     match (j, k) {
-        (Catch::Plain(a), Catch::Plain(b)) => swap_as_they_are(a, b),
+        (Catch::Plain(a), Catch::Plain(b)) => stay(a, b),
         _ => false,
     }
 }
 
-/// Whether two plain catches of one state stand behind one another as they are. Where it says no,
-/// they may still do.
-pub(crate) fn merge_as_they_are(j: &Catch, k: &Catch) -> bool
-    ensures { IsTrue result → MergeCatch j.now k.now k.now j.now }
+/// Whether two catches of one state stand behind one another as they are. Where it says no, they may
+/// still do.
+pub(crate) fn merge_as_they_are(alloc: Global, j: &Catch, k: &Catch) -> Result<bool, AllocError>
+    ensures { IfOk result (λ yes. IsTrue yes → MergeCatch j.now k.now k.now j.now) }
 {
-    let (Catch::Plain(a), Catch::Plain(b)) = (j, k) else {
-        return false;
-    };
-    match inverse(a) {
-        Ok(back) => swap_as_they_are(&back, b),
-        Err(_) => false,
+    match (j, k) {
+        (Catch::Plain(a), Catch::Plain(b)) => {
+            let back = inverse(a)?;
+            Ok(stay(&back, b))
+        }
+        (Catch::Plain(a), Catch::Conflictor(k)) => stand_aside(alloc, a, k),
+        (Catch::Conflictor(j), Catch::Plain(b)) => stand_aside(alloc, b, j),
+        _ => Ok(false),
     }
 }
 
-/// Whether two primitives change places, and neither comes to another line.
-fn swap_as_they_are(a: &Named, b: &Named) -> bool
-    ensures { IsTrue result → Swap a.now b.now b.now a.now }
+/// `[a] | (s, Y, l) -> (s, Y, l) | [a]`
+fn stand_aside(alloc: Global, a: &Named, k: &Conflictor) -> Result<bool, AllocError>
+    ensures { IfOk result (λ yes. IsTrue yes → MergePlainConflictor a.now k.now (AnyCatch.Conflictor k.now) (Plain a.now)) }
 {
-    let Ok(found) = commute(a, b) else {
-        return false;
-    };
-    let Some((second, first)) = found else {
-        return false;
-    };
-    if !have_one_line(&second.prim, &b.prim) {
-        return false;
+    let back = inverse(a)?;
+    if !stays_behind(&back, k) {
+        return Ok(false);
     }
-    have_one_line(&first.prim, &a.prim)
+    let own = bare(alloc, a)?;
+    let seen = Contexted::add(&k.effect, &k.identity)?;
+    let in_conflict = conflict(&own, &seen)?;
+    Ok(!in_conflict)
 }
 
-fn have_one_line(p: &Primitive, q: &Primitive) -> bool
-    ensures { IsTrue result ↔ (line_of p.now ≡ line_of q.now) }
+/// Whether a conflictor is as it was where `a` passes its effect, and is added to its conflicts and to its
+/// identity.
+fn stays_behind(a: &Named, k: &Conflictor) -> bool
+    ensures passes { IsTrue result → Passes a.now k.now.effect k.now.effect a.now }
+    ensures becomes { IsTrue result → Becomes (Norm k.now.effect) (Adds a.now) (Adds a.now) k.now k.now }
 {
-    line_of(p) == line_of(q)
-}
-
-/// The line of a hunk, and 0 for an add or a remove.
-fn line_of(p: &Primitive) -> u32
-    ensures { result ≡ line_of p.now }
-{
-    match p {
-        Primitive::Hunk(hunk) => hunk.line(),
-        Primitive::Add(_) | Primitive::Remove(_) => 0,
+    let effect = k.effect.items();
+    if !stays_past(a, effect) {
+        return false;
     }
+    if !is_own_order(effect) {
+        return false;
+    }
+    if !k.identity.stays_behind(a) {
+        return false;
+    }
+    k.conflicts.stays_behind(a)
 }

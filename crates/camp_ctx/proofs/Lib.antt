@@ -10,3 +10,4 @@ pub mod LinkSteps
 pub mod NamedDecided
 pub mod SetChanges
 pub mod SetSteps
+pub mod Standing

@@ -6,7 +6,7 @@ ghost use Rattle.camp_ctx.specs.Contexts.{whole};
 
 use crate::{Contexted, join};
 use camp_prim::{Label, Named};
-use camp_seq::{Seq, clean_merge, split};
+use camp_seq::{Seq, clean_merge, is_own_order, split, stays_past};
 use std::alloc::{AllocError, Global};
 use std::slice;
 
@@ -16,11 +16,31 @@ pub fn conflict(x: &Contexted, y: &Contexted) -> Result<bool, AllocError>
 {
     let first = whole(x)?;
     let second = whole(y)?;
+    if stand_aside(&first, &second)? {
+        return Ok(false);
+    }
     let merged = merge_behind_common(x.allocator(), &first, &second)?;
     match merged {
         None => Ok(true),
         Some(_) => Ok(false),
     }
+}
+
+/// Whether a look tells that a list of one primitive merges with another list, and both stay as they
+/// are. Where it says no, they may still do.
+fn stand_aside(s: &Seq, t: &Seq) -> Result<bool, AllocError>
+    ensures { IfOk result (λ yes. IsTrue yes → MergesBehindCommon s.now t.now t.now s.now) }
+{
+    let items = s.items();
+    if items.len() != 1 {
+        return Ok(false);
+    }
+    let first = items[0].try_clone()?;
+    let back = first.invert();
+    if !stays_past(&back, t.items()) {
+        return Ok(false);
+    }
+    Ok(is_own_order(t.items()))
 }
 
 /// `Some((t', s'))` where two lists that begin in one state have a common front, and merge cleanly

@@ -9,6 +9,7 @@ mod keys;
 mod laws;
 mod links;
 mod sets;
+mod stays;
 
 pub use conflicts::{conflict, merge_behind_common};
 pub use contexted::Contexted;

@@ -7,6 +7,7 @@ pub mod LabelOrder
 pub mod Maps
 pub mod Moving
 pub mod Splices
+pub mod Staying
 pub mod SwapDecided
 pub mod SwapEffect
 pub mod SwapLaws

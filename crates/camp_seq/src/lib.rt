@@ -13,6 +13,7 @@ mod rooms;
 mod runs;
 mod seqs;
 mod splits;
+mod stays;
 
 pub use chains::{can_swap, is_chain};
 pub use fronts::front;
@@ -23,9 +24,10 @@ pub use laws::{
 };
 pub use merges::{clean_merge, invert_all};
 pub use normal_forms::{normal_order_is_a_normal_form, six_orders_of_three_agree};
-pub use orders::{norm, ordered};
+pub use orders::{is_own_order, norm, ordered};
 pub use passes::{past, past_all};
 pub use rooms::{has_room, reach_gives_room};
 pub use runs::apply_all;
 pub use seqs::Seq;
 pub use splits::split;
+pub use stays::stays_past;

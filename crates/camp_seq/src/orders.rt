@@ -65,8 +65,9 @@ pub(crate) fn order(items: &mut [Named])
     }
 }
 
-/// Whether one look at each two neighbours tells that a list is its own normal order.
-fn is_own_order(items: &[Named]) -> bool
+/// Whether one look at each two neighbours tells that a list is its own normal order. Where it says no,
+/// the list may still be. It takes no memory.
+pub fn is_own_order(items: &[Named]) -> bool
     ensures { IsTrue result → Norm items.now items.now }
 {
     if ascends(items) {

@@ -1,7 +1,6 @@
 use Rattle.std.proofs.Common.{◌≡◌, ◌+◌, ◌∷◌, ◌++◌, List, [], drop, refl, sym, ap, subst, ◌∙◌, inl, arith}
 use Rattle.std.proofs.lemmas.List.{drop_all}
 use Rattle.camp_catch.specs.Catches.{catch_key}
-use Rattle.camp_catch.specs.Merging.{MergeCatch}
 use Rattle.camp_catch.specs.MergingLists.{SticksWithin}
 use Rattle.camp_catch.specs.declared.catches.Catch.{Catch}
 use Rattle.camp_catch.specs.declared.merging_lists.NoMerge.{NoMerge}
@@ -21,7 +20,7 @@ returns-in_default c =
     let i = c.loop-j.j-index in
     let j = c.j-item.result in
     let next : drop i s ≡ j ∷ drop (i + 1) s = stands_at s i j j (omega arith) c.j-item.is in
-    let never = rw (c.in_default.is, c.deref.ensures, c.deref-in-loop-j.ensures) at c.in_ok-merged.ensures.exact in
+    let never = rw (c.in_default.is, c.deref.ensures) at c.in_ok-merged.ensures.exact in
     let told = c.no_merge.ensures in
     let left = ap (λ (x : NoMerge). x.left) told ∙ ap catch_key c.deref-in_default.ensures in
     let right = ap (λ (x : NoMerge). x.right) told ∙ ap catch_key c.deref-in_default-2.ensures in
@@ -36,10 +35,9 @@ loop-j-preserved c =
     let j = c.j-item.result in
     let done = c.loop-j.invariant.0 in
     let next : drop i s ≡ j ∷ drop (i + 1) s = stands_at s i j j (omega arith) c.j-item.is in
-    let merged = rw (c.in-Some.is, c.deref.ensures, c.deref-in-loop-j.ensures) at c.in_ok-merged.ensures.exact in
+    let merged = rw (c.in-Some.is, c.deref.ensures) at c.in_ok-merged.ensures.exact in
     let (beside, m) = merged in
-    let after : c.in_ok-after-2.after ≡ c.in-Some.next = c.in_ok-after-2.ensures in
-    (done ++ beside ∷ [], behind_one_more s c.args.k.now done c.loop-j.after j (drop (i + 1) s) c.in_ok-after-2.after beside (subst (IsBehind s c.args.k.now done c.loop-j.after) next c.loop-j.invariant.1) (subst (λ x. MergeCatch j c.loop-j.after x beside) (sym after) m))
+    (done ++ beside ∷ [], behind_one_more s c.args.k.now done c.loop-j.after j (drop (i + 1) s) c.in-Some.next beside (subst (IsBehind s c.args.k.now done c.loop-j.after) next c.loop-j.invariant.1) m)
 
 pub returns : goal.returns
 returns c =

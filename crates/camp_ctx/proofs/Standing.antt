@@ -1,0 +1,94 @@
+-- What stays as it is where a primitive passes it as it is.
+use Rattle.std.proofs.Common.{◌≡◌, ◌∙◌, ℕ, zero, suc, ◌+◌, ◌<◌, ◌≤◌, length, get_or, Some, Bool, true, false, cond, List, [], ◌∷◌, map, refl, sym, ap, subst, inl, inr, arith}
+use Rattle.std.specs.List.{filter, slice_get}
+use Rattle.std.specs.FinMap.{entries, get-entries, len, len-entries}
+use Rattle.std.specs.FinMap.Entries.{find}
+use Rattle.std.specs.Ordering.{eq_by_cmp}
+use Rattle.camp_prim.specs.Effect.{inverse_of}
+use Rattle.camp_prim.specs.Labels.{label_of, key_of, key_cmp}
+use Rattle.camp_prim.specs.Swaps.{Swap}
+use Rattle.camp_prim.specs.declared.labels.Key.{Key}
+use Rattle.camp_prim.specs.declared.labels.Label.{Label}
+use Rattle.camp_prim.specs.declared.named.Named.{Named}
+use Rattle.camp_prim.proofs.Inverses.{inverse_of-inverse_of}
+use Rattle.camp_seq.specs.NormalOrder.{Norm, Splits}
+use Rattle.camp_seq.specs.Passing.{Fronts, Parts, Passes}
+use Rattle.camp_seq.proofs.MergeGrid.{passes_row}
+use Rattle.camp_seq.proofs.OwnOrders.{chain_is_ordered}
+use Rattle.camp_ctx.specs.Adding.{Adds, commute}
+use Rattle.camp_ctx.specs.Conflicts.{MergesBehindCommon, common_labels, has_label}
+use Rattle.camp_ctx.specs.Contexts.{ChangesAt, Contexts, EachMember, InContext}
+use Rattle.camp_ctx.proofs.CommonLabels.{IsIn, in_from_has}
+use Rattle.camp_ctx.proofs.SetSteps.{members_of}
+
+-- what a primitive passes has other absolute labels
+has_other_labels : (a : Named) (s s' : List Named) (a' : Named) → Passes a s s' a' → (l : Label) → key_of l ≡ key_of (label_of a) → ¬ (IsIn l (map label_of s))
+has_other_labels a [] s' a' passes l same among = absurd among
+has_other_labels a (q ∷ s) s' a' w l same (inl is) =
+    absurd (w.3.anywhere.apart (sym (ap key_of is ∙ same)))
+has_other_labels a (q ∷ s) s' a' w l same (inr among) =
+    has_other_labels w.1 s _ a' w.4 l (same ∙ ap key_of (sym w.3.anywhere.first)) among
+
+-- what comes to the front of a list is in it
+front_is_in : (l : Label) (s : List Named) (y : Named) (t : List Named) → Fronts l s y t → IsIn l (map label_of s)
+front_is_in l [] y t fronts = absurd fronts
+front_is_in l (p ∷ s) y t (inl here) = inl here.0
+front_is_in l (p ∷ s) y t (inr later) = inr (front_is_in l s later.1.0 later.1.2 later.1.3)
+
+-- what passes by a contexted patch in normal order, where all stay as they are, is added to it so
+pub stays_put : (a : Named) (x : InContext) → Passes a x.context x.context a → Norm x.context x.context → Swap a x.patch x.patch a → Adds a x x
+stays_put a x passes own swap =
+    commute (λ y w. has_other_labels a x.context x.context a passes (label_of (inverse_of a)) refl (front_is_in _ x.context _ _ w.front))
+    (record { a' = a; a'' = a; passed = x.context; past_context = passes; past_patch = swap; context = own })
+
+-- what changes each element of entries to itself changes each value to itself
+same_at_each : (Change : InContext → InContext → Type 0) (es : List (Key × InContext)) → ((k : ℕ) → k < length es → ChangesAt Change (slice_get (map (λ e. e.1) es) k) (slice_get (map (λ e. e.1) es) k)) → (key : Key) → ChangesAt Change (find key_cmp key es) (find key_cmp key es)
+same_at_each Change [] own key = tt
+same_at_each Change (e ∷ es) own key =
+    elim (eq_by_cmp key_cmp key e.0) as (λ b. ChangesAt Change (cond b (Some e.1) (find key_cmp key es)) (cond b (Some e.1) (find key_cmp key es))) [
+      | true ↦ own 0 (omega arith)
+      | false ↦ same_at_each Change es (λ k within. own (suc k) (omega arith)) key
+    ]
+
+pub each_is_same : (Change : InContext → InContext → Type 0) (xs : Contexts) (i n : ℕ) → n ≡ len xs → n ≤ i → ((k : ℕ) → k < i → ChangesAt Change (slice_get (members_of xs) k) (slice_get (members_of xs) k)) → EachMember Change xs xs
+each_is_same Change xs i n counted past own key =
+    let long = len-entries xs in
+    subst (λ o. ChangesAt Change o o) (sym (get-entries xs key)) (same_at_each Change (entries xs) (λ k within. own k (omega arith)) key)
+
+none_named : (b : Bool) (l : Label) → ¬ (b ≡ true) → cond b (l ∷ []) [] ≡ []
+none_named true l never = absurd (never refl)
+none_named false l never = refl
+
+no_parts : (t : List Named) → Parts [] t [] t
+no_parts [] = (refl, refl)
+no_parts (p ∷ t) =
+    inr ((λ named. let within = named.1 in absurd (omega arith)), ([], t, p, no_parts t, (refl, refl), refl))
+
+module _ (back : Named) (t : List Named) (passes : Passes back t t back) where
+  nothing_common : common_labels (inverse_of back ∷ []) t ≡ []
+  nothing_common =
+      none_named (has_label t (label_of (inverse_of back))) _ (λ has. has_other_labels back t t back passes _ refl (in_from_has t _ has))
+
+  -- what goes back past a list in normal order, where all stay as they are, merges with it
+  pub merges_aside : Norm t t → MergesBehindCommon (inverse_of back ∷ []) t t (inverse_of back ∷ [])
+  merges_aside own = record {
+    common = [];
+    s1 = inverse_of back ∷ [];
+    t1 = t;
+    first = subst (λ ls. Splits ls (inverse_of back ∷ []) [] (inverse_of back ∷ [])) (sym nothing_common) (record { named = []; others = inverse_of back ∷ []; parts = no_parts (inverse_of back ∷ []); first = refl; rest = chain_is_ordered (inverse_of back ∷ []) (tt, tt) });
+    second = subst (λ ls. Splits ls t [] t) (sym nothing_common) (record { named = []; others = t; parts = no_parts t; first = refl; rest = own });
+    merge = (t, inverse_of back, [], passes_row back t t back passes, (refl, refl), refl);
+  }
+
+alone : (s : List Named) (p : Named) → length s ≡ 1 → p ≡ get_or s 0 p → s ≡ p ∷ []
+alone [] p one is = absurd (omega arith)
+alone (q ∷ []) p one is = ap (λ r. r ∷ []) (sym is)
+alone (q ∷ r ∷ s) p one is = absurd (omega arith)
+
+-- the same of what a body has of the two lists
+pub merge_aside_told : (s t items others own : List Named) (p first back : Named) → items ≡ s → length items ≡ 1 → p ≡ get_or items 0 p → first ≡ p → back ≡ inverse_of first → others ≡ t → Passes back others others back → own ≡ t → Norm own own → MergesBehindCommon s t t s
+merge_aside_told s t items others own p first back is one at copy turned theirs passes also ordered =
+    let forth : inverse_of back ≡ p = ap inverse_of (turned ∙ ap inverse_of copy) ∙ inverse_of-inverse_of p in
+    let list : inverse_of back ∷ [] ≡ s = ap (λ q. q ∷ []) forth ∙ sym (alone items p one at) ∙ is in
+    subst (λ l. MergesBehindCommon l t t l) list
+    (merges_aside back t (subst (λ l. Passes back l l back) theirs passes) (subst (λ l. Norm l l) also ordered))

@@ -1,0 +1,15 @@
+use Rattle.std.proofs.Common.{◌∙◌, subst}
+use Rattle.camp_prim.specs.Swaps.{Swap}
+use Rattle.camp_seq.specs.NormalOrder.{Norm}
+use Rattle.camp_seq.specs.Passing.{Passes}
+use Rattle.camp_ctx.proofs.Standing.{stays_put}
+use Rattle.camp_ctx.proofs.contexted.Contexted.stays_behind.Goals as goal
+
+pub returns : goal.returns
+returns c = λ yes.
+    let a = c.args.a.now in
+    let is = c.items-context.ensures ∙ c.context.ensures in
+    stays_put a c.args.self.now
+    (subst (λ s. Passes a s s a) is (c.stays_past.ensures c.if-not-stays_past.false))
+    (subst (λ s. Norm s s) is (c.is_own_order.ensures c.if-not-is_own_order.false))
+    (subst (λ p. Swap a p p a) c.patch.ensures (c.stay.ensures.0 yes))

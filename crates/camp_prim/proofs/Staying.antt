@@ -1,0 +1,21 @@
+-- Primitives that change places as they are.
+use Rattle.std.proofs.Common.{◌≡◌, refl, sym, ap}
+use Rattle.camp_prim.specs.Inside.Targets.{moved, ChangeInRange}
+use Rattle.camp_prim.specs.Labels.{SameKey}
+use Rattle.camp_prim.specs.Swaps.{Swap}
+use Rattle.camp_prim.specs.declared.named.Named.{Named}
+use Rattle.camp_prim.specs.declared.swaps.Targets.{Targets}
+use Rattle.camp_prim.proofs.Moving.{swap_from}
+use Rattle.camp_prim.proofs.SwapUnique.{swap_unique}
+
+module _ (p q : Named) (targets : Targets) (apart : ¬ (SameKey p q)) (changes : ChangeInRange p.prim q.prim (moved targets.second q.prim) (moved targets.first p.prim)) where
+  -- they do where neither moves
+  pub stay_there : moved targets.second q.prim ≡ q.prim → moved targets.first p.prim ≡ p.prim → Swap p q q p
+  stay_there second first =
+      swap_from p q q p targets apart changes (sym (ap (λ prim. record q { prim = prim }) second)) (sym (ap (λ prim. record p { prim = prim }) first))
+
+  -- and then neither moves
+  pub none_moves : Swap p q q p → (moved targets.second q.prim ≡ q.prim) × (moved targets.first p.prim ≡ p.prim)
+  none_moves swap =
+      let same = swap_unique p q _ _ _ _ (swap_from p q _ _ targets apart changes refl refl) swap in
+      (ap (λ (n : Named). n.prim) same.0, ap (λ (n : Named). n.prim) same.1)

@@ -1,0 +1,35 @@
+ghost use Rattle.std.specs.Prelude.{◌≡◌, ◌↔◌, IsTrue};
+ghost use Rattle.camp_prim.specs.Inside.Targets.{moved};
+ghost use Rattle.camp_prim.specs.Swaps.{Swap};
+
+use crate::labels::have_same_key;
+use crate::swaps::targets_of;
+use crate::{Named, Primitive};
+
+/// Whether `p` and then `q` change places as they are: `p q <-> q p`. It takes no memory.
+pub fn stay(p: &Named, q: &Named) -> bool
+    ensures { IsTrue result ↔ Swap p.now q.now q.now p.now }
+{
+    if have_same_key(p, q) {
+        return false;
+    }
+    match targets_of(&p.prim, &q.prim) {
+        None => false,
+        Some(targets) => {
+            if !stays_at(&q.prim, targets.second) {
+                return false;
+            }
+            stays_at(&p.prim, targets.first)
+        }
+    }
+}
+
+/// Whether a primitive that moves to a line, where one is given, is as it was.
+fn stays_at(p: &Primitive, line: Option<u32>) -> bool
+    ensures { IsTrue result ↔ (moved line p.now ≡ p.now) }
+{
+    match (p, line) {
+        (Primitive::Hunk(hunk), Some(line)) => hunk.line() == line,
+        _ => true,
+    }
+}

@@ -1,0 +1,6 @@
+use Rattle.std.proofs.Common.{drop}
+use Rattle.camp_seq.specs.Passing.{Passes}
+use Rattle.camp_seq.proofs.stays.stays_past.Given as goal
+
+abbrev pub invariant-loop-at : goal.invariant-loop-at
+invariant-loop-at l = Passes l.p (drop l.at l.s) (drop l.at l.s) l.p
