@@ -1,0 +1,85 @@
+//! What is told where the words of a command line ask for nothing.
+ghost use Rattle.std.specs.Prelude.{◌≡◌, ◌≢◌, ◌⊎◌};
+ghost use Rattle.clap.specs.Words.{kind_of};
+ghost use Rattle.camp_options.specs.Told.{AsksForText, TellsBy};
+
+use clap::Error;
+use clap::error::ErrorKind;
+use std::alloc::AllocError;
+use std::env::{self, Env};
+use std::fmt::Display;
+use std::io;
+
+/// Why the words of a command line ask for nothing that a program can do.
+#[derive(Debug, Drop)]
+pub enum WordsFault {
+    /// A word is not UTF-8.
+    NotText,
+    /// They are refused, or ask for the help text.
+    Refused(Error),
+    /// There was no memory for them.
+    Memory,
+}
+
+/// The words of the command line, of which the first is the program's name.
+pub fn command_line<R: Env + AllocGlobal>(rt: &R) -> Result<Vec<String>, WordsFault> {
+    match env::args(rt) {
+        Ok(words) => Ok(words.collect(rt.alloc())?),
+        Err(error) if error.kind() == io::ErrorKind::OutOfMemory => Err(WordsFault::Memory),
+        Err(_) => Err(WordsFault::NotText),
+    }
+}
+
+impl WordsFault {
+    /// Tells the user of a program, and gives the exit status.
+    pub fn tell<R: Print + Eprint>(&self, rt: &R, program: &str) -> u8
+        ensures { TellsBy self.now result }
+    {
+        match self {
+            WordsFault::NotText => {
+                let _ = eprintln!(rt; "error: a word of the command line is not UTF-8");
+                2
+            }
+            WordsFault::Refused(error) => tell_error(rt, program, error),
+            WordsFault::Memory => tell_fault(rt, program, &"out of memory", 3),
+        }
+    }
+}
+
+// Tells what a command line asks for, or what is wrong with it.
+fn tell_error<R: Print + Eprint>(rt: &R, program: &str, error: &Error) -> u8
+    ensures text { AsksForText (kind_of error.now) → (result ≡ 0) ⊎ (result ≡ 3) }
+    ensures mistake { kind_of error.now ≢ ErrorKind.DisplayHelp → kind_of error.now ≢ ErrorKind.DisplayVersion → result ≡ 2 }
+{
+    let printed = error.print(rt);
+    if error.use_stderr() {
+        return 2;
+    }
+    match printed {
+        Ok(()) => 0,
+        Err(_) => tell_fault(rt, program, &"cannot write output", 3),
+    }
+}
+
+/// Tells the user of a program why it ends, and gives the exit status back.
+pub fn tell_fault<R: Eprint, F: Display>(rt: &R, program: &str, fault: &F, status: u8) -> u8
+    ensures { result ≡ status }
+{
+    let _ = eprintln!(rt; "{program}: {fault}");
+    status
+}
+
+impl From<Error> for WordsFault {
+    fn from(error: Error) -> WordsFault {
+        match error.kind() {
+            ErrorKind::OutOfMemory => WordsFault::Memory,
+            _ => WordsFault::Refused(error),
+        }
+    }
+}
+
+impl From<AllocError> for WordsFault {
+    fn from(_error: AllocError) -> WordsFault {
+        WordsFault::Memory
+    }
+}
