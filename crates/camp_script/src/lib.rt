@@ -26,7 +26,7 @@ pub use outputs::append_sections;
 pub use scripts::{Script, read_script};
 pub use texts::{append_reply, write_reply, write_text};
 pub use words::{name_at, names_at, no_words, one_word, path_at, two_words};
-pub use writing::{append_call, append_calls, append_script};
+pub use writing::{append_call, append_calls, append_changes, append_script};
 
 /// The most sections of a script: the opening, and one for each client.
 pub const MAX_SECTIONS: usize = 64;

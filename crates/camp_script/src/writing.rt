@@ -58,6 +58,20 @@ pub fn append_script(text: &mut Vec<u8>, history: &[(u32, Call)]) -> Result<(), 
     appended
 }
 
+/// Appends changes as a script has those of a group, with the bodies of their edits. Where memory runs
+/// out the text stays as it was.
+pub fn append_changes(text: &mut Vec<u8>, changes: &[Primitive]) -> Result<(), AllocError>
+    ensures text { ExtendsOrKeeps text.old.items (flat_map change_text changes.now) result text.new.items }
+    ensures changes { IfOk result (λ _. AllByRecursion IsChange changes.now) }
+{
+    let length = text.len();
+    let appended = extend_by_each(text, changes);
+    if appended.is_err() {
+        text.truncate(length);
+    }
+    appended
+}
+
 // Here and below, where memory runs out, a part of what was to come may stand behind the text.
 fn extend_by_kept(text: &mut Vec<u8>, history: &[(u32, Call)]) -> Result<(), AllocError>
     ensures text { Extends text.old.items (kept_text history.now) result text.new.items }
