@@ -1,4 +1,6 @@
 pub mod Cuts
 pub mod Firsts
+pub mod PairLemmas
 pub mod Parts
+pub mod ToldLemmas
 pub mod Turns

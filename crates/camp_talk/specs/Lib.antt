@@ -1,5 +1,7 @@
 pub mod Answers
 pub mod Cutting
 pub mod Faults
+pub mod Help
 pub mod Inside
 pub mod Talks
+pub mod Told

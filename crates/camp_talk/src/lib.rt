@@ -8,8 +8,18 @@ mod lines;
 mod questions;
 mod readings;
 mod talks;
+mod tellings;
+mod told;
+mod told_foresight;
+mod told_graphs;
+mod told_help;
+mod told_histories;
+mod told_lines;
+mod told_names;
+mod told_patches;
 
 pub use camp_repo::{Book, State};
 pub use faults::TalkFault;
 pub use questions::{Question, Topic};
 pub use talks::{talk, turn};
+pub use tellings::answer_question;
