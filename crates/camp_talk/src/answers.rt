@@ -37,11 +37,7 @@ pub(crate) fn answer(
     }
 }
 
-fn answer_asked(
-    alloc: Global,
-    book: &mut Book<State>,
-    asked: &Asked,
-) -> Result<Vec<u8>, AllocError>
+fn answer_asked(alloc: Global, book: &mut Book<State>, asked: &Asked) -> Result<Vec<u8>, AllocError>
     ensures text { IfOk result (λ text. (before : ℕ) →
         Tells (record { history = book.old; lines = before }) (Ok asked.now) text.items book.new) }
     ensures kept { OnErr result (book.new ≡ book.old) }
