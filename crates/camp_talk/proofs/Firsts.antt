@@ -1,5 +1,5 @@
 -- A command that was read is one: by its first line, and what that takes with it.
-use Rattle.std.proofs.Common.{◌≡◌, ℕ, Bool, true, false, List, [], ◌∷◌, ◌++◌, Option, Result, Ok, Err, refl, sym, ap, subst, ◌∙◌, append-nil}
+use Rattle.std.proofs.Common.{◌≡◌, ℕ, Bool, true, false, List, [], ◌∷◌, ◌++◌, Option, Result, Ok, Err, refl, sym, ap, subst, ◌∙◌}
 use Rattle.std.specs.Io.KnownBytes.{Consumes}
 use Rattle.camp_call.specs.declared.calls.Call.{Call}
 use Rattle.camp_script.specs.Lines.{lines_of}
@@ -10,7 +10,7 @@ use Rattle.camp_script.specs.declared.faults.FaultKind.TheVariants.{BadPath, Bad
 use Rattle.camp_script.specs.declared.faults.FaultKind.TheVariants.{EditNotEnded, TooManyClients, TooManyCommands}
 use Rattle.camp_script.specs.declared.faults.FaultKind.TheVariants.{BadGroup, GroupNotEnded}
 use Rattle.camp_script.specs.declared.faults.LineFault.{LineFault}
-use Rattle.camp_talk.specs.Cutting.{IsCommand, IsLeft, TakesAll, call_line, call_lines, script_in, taken, taken_at, taken_by}
+use Rattle.camp_talk.specs.Cutting.{TakesAll, call_line, call_lines, script_in, taken, taken_at, taken_by}
 use Rattle.camp_talk.specs.Inside.Parts.{Ends, ReadsCommand, ReadsLine, ReadsLines, ReadsPart, ended, last_part, with_last}
 use Rattle.camp_talk.proofs.Cuts.{ends_with_line, lines_read}
 use Rattle.camp_talk.proofs.Parts.{behind, ends_behind}

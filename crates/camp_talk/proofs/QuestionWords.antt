@@ -1,5 +1,5 @@
 -- The first words of a question say all that it asks, where it lists no names.
-use Rattle.std.proofs.Common.{◌≡◌, true, false, ℕ, List, [], ◌∷◌, take, refl, sym, ap, subst, ◌∙◌}
+use Rattle.std.proofs.Common.{◌≡◌, false, ℕ, List, [], ◌∷◌, take, refl, sym, ap, subst, ◌∙◌}
 use Rattle.std.proofs.lemmas.Bool.{cond-false}
 use Rattle.std.specs.Prelude.{Option, Result, bytes_eq, codes}
 use Rattle.camp_script.specs.Gives.{Gives}

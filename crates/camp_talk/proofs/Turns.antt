@@ -1,6 +1,6 @@
 -- Turns of a conversation, one behind another.
 use Rattle.std.proofs.Common.{◌≡◌, ◌⊎◌, inl, inr, ℕ, ◌+◌, Bool, true, false, List, [], ◌∷◌, ◌++◌, length, Option, Result, Ok, Err, Vec, IfOk, OnErr}
-use Rattle.std.proofs.Common.{refl, sym, ap, subst, ◌∙◌, append-nil, append_assoc}
+use Rattle.std.proofs.Common.{refl, sym, ap, subst, ◌∙◌, append-nil}
 use Rattle.std.specs.List.{flat_map}
 use Rattle.std.specs.Io.KnownBytes.{Appends, Consumes}
 use Rattle.std.proofs.KnownBytes.{Appends-nil, Appends-trans, Consumes-nil, Consumes-trans, Keeps-refl}
@@ -13,7 +13,7 @@ use Rattle.camp_talk.specs.Answers.{Answers, Standing, Tells, TellsWant}
 use Rattle.camp_talk.specs.Asking.{asked_by}
 use Rattle.camp_talk.specs.Cutting.{IsCommand, IsLeft}
 use Rattle.camp_talk.specs.Entries.{Entries}
-use Rattle.camp_talk.specs.Inside.Parts.{IsReading, ReadsCommand, Uses}
+use Rattle.camp_talk.specs.Inside.Parts.{ReadsCommand}
 use Rattle.camp_talk.specs.Inside.Said.{said_text}
 use Rattle.camp_talk.specs.Talks.{AppendsSome, EndsSo, Exchange, Follow, Holds, Stops, Turns}
 use Rattle.camp_talk.specs.declared.questions.Asked.{Asked}

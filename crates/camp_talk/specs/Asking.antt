@@ -1,5 +1,5 @@
 -- What a command asks: nothing, a call, or a question.
-use Rattle.std.specs.Prelude.{ℕ, List, [], ◌∷◌, Option, None, Some, Result, Ok, Err, bytes_eq, codes, if◌then◌else◌}
+use Rattle.std.specs.Prelude.{ℕ, List, [], ◌∷◌, Option, None, Some, Result, Ok, bytes_eq, codes, if◌then◌else◌}
 use Rattle.camp_call.specs.declared.calls.Call.{Call}
 use Rattle.camp_talk.specs.Cutting.{script_in}
 use Rattle.camp_script.specs.Faults.{fault_at}

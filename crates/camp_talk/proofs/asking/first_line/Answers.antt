@@ -1,4 +1,4 @@
-use Rattle.std.proofs.Common.{◌≡◌, ℕ, List, [], length, map, sym, ap, ◌∙◌, arith}
+use Rattle.std.proofs.Common.{◌≡◌, ℕ, List, length, map, sym, ap, ◌∙◌, arith}
 use Rattle.camp_script.specs.Lines.{lines_of, without_end}
 use Rattle.camp_script.proofs.LineLemmas.{lines_without_end}
 use Rattle.camp_talk.specs.Asking.{first_of}

@@ -1,4 +1,4 @@
-use Rattle.std.proofs.Common.{rules, ◌≡◌, ◌++◌, Bool, true, false, List, [], ℕ, Ok, Err, sym, subst}
+use Rattle.std.proofs.Common.{rules, ◌≡◌, Bool, List, [], ℕ, Ok, Err, sym, subst}
 use Rattle.camp_call.specs.declared.calls.Call.{Call}
 use Rattle.camp_script.specs.Gives.{IsFaultOf}
 use Rattle.camp_talk.specs.Cutting.{script_in}
