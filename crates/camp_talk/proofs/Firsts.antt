@@ -1,16 +1,16 @@
 -- A command that was read is one: by its first line, and what that takes with it.
-use Rattle.std.proofs.Common.{◌≡◌, ℕ, Bool, true, false, List, [], ◌∷◌, ◌++◌, Option, Result, Ok, Err, refl, sym, ap, subst, ◌∙◌, append-nil}
+use Rattle.std.proofs.Common.{◌≡◌, ℕ, Bool, true, false, List, [], ◌∷◌, ◌++◌, Option, Result, Ok, Err, refl, sym, ap, subst, ◌∙◌}
 use Rattle.std.specs.Io.KnownBytes.{Consumes}
 use Rattle.camp_call.specs.declared.calls.Call.{Call}
 use Rattle.camp_script.specs.Lines.{lines_of}
-use Rattle.camp_script.specs.Reading.{script_of, script_of_lines}
+use Rattle.camp_script.specs.Reading.{script_of_lines}
 use Rattle.camp_script.specs.declared.faults.FaultKind.{FaultKind}
 use Rattle.camp_script.specs.declared.faults.FaultKind.TheVariants.{UnknownCommand, WrongNumberOfWords, BadName}
 use Rattle.camp_script.specs.declared.faults.FaultKind.TheVariants.{BadPath, BadNumber, BadLine, BadEdit}
 use Rattle.camp_script.specs.declared.faults.FaultKind.TheVariants.{EditNotEnded, TooManyClients, TooManyCommands}
 use Rattle.camp_script.specs.declared.faults.FaultKind.TheVariants.{BadGroup, GroupNotEnded}
 use Rattle.camp_script.specs.declared.faults.LineFault.{LineFault}
-use Rattle.camp_talk.specs.Cutting.{IsCommand, IsLeft, TakesAll, taken, taken_at, taken_by}
+use Rattle.camp_talk.specs.Cutting.{TakesAll, call_line, call_lines, script_in, taken, taken_at, taken_by}
 use Rattle.camp_talk.specs.Inside.Parts.{Ends, ReadsCommand, ReadsLine, ReadsLines, ReadsPart, ended, last_part, with_last}
 use Rattle.camp_talk.proofs.Cuts.{ends_with_line, lines_read}
 use Rattle.camp_talk.proofs.Parts.{behind, ends_behind}
@@ -59,20 +59,21 @@ module _ (a b : Option (List ℕ)) (bytes : List ℕ) where
     ends,
   )
 
-  script_is : (line : List ℕ) → ReadsLines a b [] bytes (line ∷ []) [] → script_of bytes ≡ script_of_lines (line ∷ [])
+  script_is : (line : List ℕ) → ReadsLines a b [] bytes (line ∷ []) []
+      → script_in bytes ≡ script_of_lines (call_line line ∷ [])
   script_is line reads =
-      ap script_of_lines (ap lines_of reads.grows ∙ lines_read (line ∷ []) [] reads.are_lines reads.is_line)
+      ap (λ lines. script_of_lines (call_lines lines)) (ap lines_of reads.grows ∙ lines_read (line ∷ []) [] reads.are_lines reads.is_line)
 
   takes_last : (last : List ℕ) → TakesAll (with_last [] last)
   takes_last [] = tt
-  takes_last (byte ∷ last) = nothing_by (script_of_lines ((byte ∷ last) ∷ []))
+  takes_last (byte ∷ last) = nothing_by (script_of_lines (call_line (byte ∷ last) ∷ []))
 
   -- the input ends in or behind the first line
   pub first_left : ReadsLine a b false [] bytes → ReadsCommand a b false bytes
   first_left (last, reads, ends) = is_left [] last reads (takes_last last) ends
 
   -- a first line that has no fault, and is whole alone
-  pub first_alone : (whole : Bool) (script : List (List Call)) → ReadsLine a b whole [] bytes → script_of bytes ≡ Ok script
+  pub first_alone : (whole : Bool) (script : List (List Call)) → ReadsLine a b whole [] bytes → script_in bytes ≡ Ok script
       → ReadsCommand a b whole bytes
   first_alone false script reads is = first_left reads
   first_alone true script (line, reads) is =
@@ -80,7 +81,7 @@ module _ (a b : Option (List ℕ)) (bytes : List ℕ) where
 
 module _ (a b c : Option (List ℕ)) (first bytes : List ℕ) (fault : LineFault) where
   -- a first line with a fault, and what it takes with it
-  pub first_with : (whole : Bool) → ReadsLine a b true [] first → script_of first ≡ Err fault
+  pub first_with : (whole : Bool) → ReadsLine a b true [] first → script_in first ≡ Err fault
       → ReadsPart b c (taken_at fault.kind) (last_part whole) first bytes → ReadsCommand a c whole bytes
   first_with true (line, reads) is (lines, then, closes) =
       let same = sym (script_is a b first line reads) ∙ is in
@@ -91,7 +92,7 @@ module _ (a b c : Option (List ℕ)) (first bytes : List ℕ) (fault : LineFault
       is_left a c bytes (line ∷ lines) last (behind a b c [] first bytes (line ∷ []) lines last reads then)
       (by last same all) (ends_behind a b c (ended (line ∷ []) ++ []) reads.consumes ends)
     where
-      by : (last : List ℕ) → script_of_lines (line ∷ []) ≡ Err fault
+      by : (last : List ℕ) → script_of_lines (call_line line ∷ []) ≡ Err fault
           → taken_at fault.kind (with_last lines last) ≡ with_last lines last → TakesAll (with_last (line ∷ lines) last)
       by [] same all = ap (λ r. taken_by r lines) same ∙ all
       by (byte ∷ last) same all = ap (λ r. taken_by r (lines ++ (byte ∷ last) ∷ [])) same ∙ all

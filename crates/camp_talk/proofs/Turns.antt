@@ -1,38 +1,39 @@
 -- Turns of a conversation, one behind another.
 use Rattle.std.proofs.Common.{◌≡◌, ◌⊎◌, inl, inr, ℕ, ◌+◌, Bool, true, false, List, [], ◌∷◌, ◌++◌, length, Option, Result, Ok, Err, Vec, IfOk, OnErr}
-use Rattle.std.proofs.Common.{refl, sym, ap, subst, ◌∙◌, append-nil, append_assoc}
+use Rattle.std.proofs.Common.{refl, sym, ap, subst, ◌∙◌, append-nil}
 use Rattle.std.specs.List.{flat_map}
 use Rattle.std.specs.Io.KnownBytes.{Appends, Consumes}
 use Rattle.std.proofs.KnownBytes.{Appends-nil, Appends-trans, Consumes-nil, Consumes-trans, Keeps-refl}
 use Rattle.std.proofs.lemmas.Grind.{flat_map-append}
-use Rattle.camp_call.specs.declared.calls.Call.{Call}
 use Rattle.camp_script.specs.Gives.{Gives}
 use Rattle.camp_script.specs.Lines.{lines_of}
-use Rattle.camp_script.specs.Reading.{script_of}
 use Rattle.camp_script.specs.declared.faults.LineFault.{LineFault}
 use Rattle.camp_script.specs.declared.faults.ScriptFault.{ScriptFault}
-use Rattle.camp_talk.specs.Answers.{Answers, Entries, Standing, Tells, TellsWant, asked_by, asked_in}
+use Rattle.camp_talk.specs.Answers.{Answers, Standing, Tells, TellsWant}
+use Rattle.camp_talk.specs.Asking.{asked_by}
 use Rattle.camp_talk.specs.Cutting.{IsCommand, IsLeft}
-use Rattle.camp_talk.specs.Inside.Parts.{IsReading, ReadsCommand, Uses}
+use Rattle.camp_talk.specs.Entries.{Entries}
+use Rattle.camp_talk.specs.Inside.Parts.{ReadsCommand}
 use Rattle.camp_talk.specs.Inside.Said.{said_text}
 use Rattle.camp_talk.specs.Talks.{AppendsSome, EndsSo, Exchange, Follow, Holds, Stops, Turns}
+use Rattle.camp_talk.specs.declared.questions.Asked.{Asked}
 use Rattle.camp_talk.specs.declared.faults.TalkFault.{TalkFault}
 use Rattle.camp_talk.specs.declared.faults.TalkFault.TheVariants.{Memory, Read, Write}
 
 -- what was written is the answer to what was read
-module _ {Z E : Type 0} (before : Standing) (now : Entries) (command : List ℕ) (script : Result (List (List Call)) ScriptFault)
-    (gives : Gives script (script_of command)) where
+module _ {Z E : Type 0} (before : Standing) (now : Entries) (command : List ℕ) (asked : Result Asked ScriptFault)
+    (gives : Gives asked (asked_by command)) where
   said_so : (said : Result (Vec ℕ Z) E)
-      → IfOk said (λ text. (reading : Result (List (List Call)) LineFault) → Gives script reading
-      → Tells before (asked_in reading) text.items now)
+      → IfOk said (λ text. (reading : Result Asked LineFault) → Gives asked reading
+      → Tells before reading text.items now)
       → OnErr said (now ≡ before.history)
       → Tells before (asked_by command) (said_text said) now ⊎ TellsWant before (said_text said) now
-  said_so (Ok text) tells kept = inl (tells (script_of command) gives)
+  said_so (Ok text) tells kept = inl (tells (asked_by command) gives)
   said_so (Err error) tells kept = inr (refl, kept)
 
   pub answered : (lines : ℕ) (said : Result (Vec ℕ Z) E)
-      → IfOk said (λ text. (reading : Result (List (List Call)) LineFault) → Gives script reading
-      → Tells before (asked_in reading) text.items now)
+      → IfOk said (λ text. (reading : Result Asked LineFault) → Gives asked reading
+      → Tells before reading text.items now)
       → OnErr said (now ≡ before.history) → lines ≡ before.lines + length (lines_of command)
       → Answers before command (said_text said) (record { history = now; lines = lines })
   answered lines said tells kept counts = record { tells = said_so said tells kept; counts = counts }

@@ -1,13 +1,27 @@
 -- How the lines of a conversation fall into commands: a first line, and those that it takes with it.
-use Rattle.std.specs.Prelude.{◌≡◌, ℕ, Bool, false, List, [], ◌∷◌, ◌++◌, Result, Ok, Err, bytes_eq, codes}
+use Rattle.std.specs.Prelude.{◌≡◌, ℕ, Bool, false, List, [], ◌∷◌, ◌++◌, Result, Ok, Err, bytes_eq, codes, if◌then◌else◌}
 use Rattle.std.specs.List.{flat_map}
 use Rattle.camp_call.specs.declared.calls.Call.{Call}
+use Rattle.camp_script.specs.Behind.{behind_word}
 use Rattle.camp_script.specs.Lines.{lines_of, words_of}
 use Rattle.camp_script.specs.Pieces.{Piece, begins_edit, begins_with, pieces, up_to}
 use Rattle.camp_script.specs.Reading.{script_of_lines}
 use Rattle.camp_script.specs.declared.faults.FaultKind.{FaultKind}
 use Rattle.camp_script.specs.declared.faults.FaultKind.TheVariants.{EditNotEnded, GroupNotEnded}
 use Rattle.camp_script.specs.declared.faults.LineFault.{LineFault}
+
+-- the call of a first line: what stands behind `whatif`, or else the whole line
+abbrev pub call_line : List ℕ → List ℕ
+call_line line = if begins_with (codes "whatif") (words_of line) then behind_word line else line
+
+-- lines from that of a call on
+abbrev pub call_lines : List (List ℕ) → List (List ℕ)
+call_lines [] = []
+call_lines (first ∷ rest) = call_line first ∷ rest
+
+-- the script that the call of a command is
+abbrev pub script_in : List ℕ → Result (List (List Call)) LineFault
+script_in command = script_of_lines (call_lines (lines_of command))
 
 -- whether a line ends the body of an edit: it is just `end`
 abbrev pub ends_body : List ℕ → Bool
@@ -33,21 +47,21 @@ entry_lines entry = entry.head ∷ entry.rest
 abbrev pub group_of : List (List ℕ) → List (List ℕ)
 group_of lines = flat_map entry_lines (up_to ends_group (entries_of lines))
 
--- what a first line takes with it of the lines behind it, where it has this fault as a script of its own
+-- what a first line takes with it of the lines behind it, where its call has this fault as a script of its own
 abbrev pub taken_at : FaultKind → List (List ℕ) → List (List ℕ)
 taken_at EditNotEnded lines = body_of lines
 taken_at GroupNotEnded lines = group_of lines
 taken_at other lines = []
 
--- what a first line takes with it, by the script that it is alone: a body, where its edit is not ended; a group, where
--- that is not ended; and nothing else, so that a first line with another fault stands alone
+-- what a first line takes with it, by the script that its call is alone: a body, where its edit is not ended; a group,
+-- where that is not ended; and nothing else, so that a first line with another fault stands alone
 abbrev pub taken_by : Result (List (List Call)) LineFault → List (List ℕ) → List (List ℕ)
 taken_by (Ok script) lines = []
 taken_by (Err fault) lines = taken_at fault.kind lines
 
 -- what a first line takes with it of the lines behind it
 abbrev pub taken : List ℕ → List (List ℕ) → List (List ℕ)
-taken first lines = taken_by (script_of_lines (first ∷ [])) lines
+taken first lines = taken_by (script_of_lines (call_line first ∷ [])) lines
 
 -- bytes are a command: they end with a line, and whatever follows, the first line takes just those behind it
 pub record IsCommand (bytes : List ℕ) : Type 0 where

@@ -1,5 +1,9 @@
 pub mod Answers
+pub mod Asking
 pub mod Cutting
+pub mod Entries
 pub mod Faults
+pub mod Help
 pub mod Inside
 pub mod Talks
+pub mod Told

@@ -2,8 +2,9 @@
 use Rattle.std.specs.Prelude.{◌≡◌, ◌⊎◌, ℕ, Bool, true, false, List, [], ◌∷◌, ◌++◌, Option, OnSome, Result, Ok, Err}
 use Rattle.std.specs.List.{flat_map}
 use Rattle.std.specs.Io.KnownBytes.{Appends, Consumes, IsAtEnd, Keeps}
-use Rattle.camp_talk.specs.Answers.{Answers, Entries, Standing}
+use Rattle.camp_talk.specs.Answers.{Answers, Standing}
 use Rattle.camp_talk.specs.Cutting.{IsCommand, IsLeft}
+use Rattle.camp_talk.specs.Entries.{Entries}
 use Rattle.camp_talk.specs.declared.faults.TalkFault.{TalkFault}
 use Rattle.camp_talk.specs.declared.faults.TalkFault.TheVariants.{Memory, Read, Write}
 

@@ -1,56 +1,51 @@
 //! The answers to commands.
-ghost use Rattle.std.specs.Prelude.{◌≡◌, ◌+◌, List, Result, Ok, IfOk, OnErr, MatchResult, length};
+ghost use Rattle.std.specs.Prelude.{◌≡◌, ◌+◌, Result, Ok, IfOk, OnErr, MatchResult, length, ℕ};
 ghost use Rattle.std.specs.Io.KnownBytes.{Appends};
-ghost use Rattle.camp_call.specs.declared.calls.Call.{Call};
 ghost use Rattle.camp_script.specs.Gives.{Gives};
 ghost use Rattle.camp_script.specs.Texts.{HasText, answer_text};
 ghost use Rattle.camp_script.specs.declared.faults.LineFault.{LineFault as SaidFault};
-ghost use Rattle.camp_talk.specs.Answers.{Replies, Tells, asked_in, call_in, fault_text};
+ghost use Rattle.camp_talk.specs.Answers.{Replies, Tells, fault_text};
 ghost use Rattle.camp_talk.specs.Inside.Said.{said_text};
 ghost use Rattle.camp_talk.specs.Talks.{AppendsSome};
+ghost use Rattle.camp_talk.specs.declared.questions.Asked.{Asked as SaidAsked};
 
 use crate::TalkFault;
+use crate::questions::Asked;
+use crate::tellings::answer_question;
 use camp_object::Fault;
 use camp_repo::{Book, Call, Object, Reply, State};
-use camp_script::{FaultKind, Script, ScriptFault, append_reply, write_text};
+use camp_script::{FaultKind, ScriptFault, append_reply, write_text};
 use std::alloc::{AllocError, Global};
 use std::io::Write;
 
-/// The text of the answer to a command, by the script that it is and the number of the lines before it.
-/// Where memory runs out the book stays.
+/// The text of the answer to what a command asks, by the number of the lines before it. Where memory runs
+/// out the book stays.
 pub(crate) fn answer(
     alloc: Global,
     book: &mut Book<State>,
     before: u64,
-    script: &Result<Script, ScriptFault>,
+    asked: &Result<Asked, ScriptFault>,
 ) -> Result<Vec<u8>, AllocError>
-    ensures text { IfOk result (λ text. (reading : Result (List (List Call)) SaidFault) → Gives script.now reading →
-        Tells (record { history = book.old; lines = before }) (asked_in reading) text.items book.new) }
+    ensures text { IfOk result (λ text. (reading : Result SaidAsked SaidFault) → Gives asked.now reading →
+        Tells (record { history = book.old; lines = before }) reading text.items book.new) }
     ensures kept { OnErr result (book.new ≡ book.old) }
 {
-    match script {
-        Ok(script) => answer_script(alloc, book, before, script),
+    match asked {
+        Ok(asked) => answer_asked(alloc, book, asked),
         Err(ScriptFault::Line(fault)) => fault_text(alloc, before, fault.line, fault.kind),
         Err(_) => Err(AllocError),
     }
 }
 
-fn answer_script(
-    alloc: Global,
-    book: &mut Book<State>,
-    before: u64,
-    script: &Script,
-) -> Result<Vec<u8>, AllocError>
-    ensures text { IfOk result (λ text.
-        Tells (record { history = book.old; lines = before }) (call_in script.now) text.items book.new) }
+fn answer_asked(alloc: Global, book: &mut Book<State>, asked: &Asked) -> Result<Vec<u8>, AllocError>
+    ensures text { IfOk result (λ text. (before : ℕ) →
+        Tells (record { history = book.old; lines = before }) (Ok asked.now) text.items book.new) }
     ensures kept { OnErr result (book.new ≡ book.old) }
 {
-    match script.sections() {
-        [calls] => match calls.as_slice() {
-            [] => Ok(Vec::new(alloc)),
-            [call, ..] => reply(alloc, book, call),
-        },
-        _ => fault_text(alloc, before, 1, FaultKind::UnknownCommand),
+    match asked {
+        Asked::Nothing => Ok(Vec::new(alloc)),
+        Asked::Call(call) => reply(alloc, book, call),
+        Asked::Question(question) => answer_question(alloc, book, question),
     }
 }
 

@@ -2,14 +2,27 @@
 #![tactic(auto)]
 
 mod answers;
+mod asking;
 mod commands;
 mod faults;
 mod lines;
+mod question_words;
 mod questions;
 mod readings;
 mod talks;
+mod tellings;
+mod told;
+mod told_foresight;
+mod told_graphs;
+mod told_help;
+mod told_histories;
+mod told_lines;
+mod told_names;
+mod told_patches;
+mod topics;
 
 pub use camp_repo::{Book, State};
 pub use faults::TalkFault;
 pub use questions::{Question, Topic};
 pub use talks::{talk, turn};
+pub use tellings::answer_question;

@@ -1,16 +1,18 @@
-//! A command of a reader, and the script that it is.
+//! A command of a reader, and what it asks.
 ghost use Rattle.std.specs.Prelude.{◌≡◌, length, IfOk, IfErr};
 ghost use Rattle.camp_script.specs.Gives.{Gives};
 ghost use Rattle.camp_script.specs.Lines.{lines_of};
-ghost use Rattle.camp_script.specs.Reading.{script_of};
-ghost use Rattle.camp_talk.specs.Cutting.{taken_at};
+ghost use Rattle.camp_talk.specs.Asking.{asked_by};
+ghost use Rattle.camp_talk.specs.Cutting.{script_in, taken_at};
 ghost use Rattle.camp_talk.specs.Inside.Parts.{IsReading, ReadsCommand, ReadsPart, Uses, last_part};
 
 use crate::TalkFault;
+use crate::asking::{read_asked, read_script_in};
 use crate::commands::{read_body, read_group};
 use crate::lines::read_line;
+use crate::questions::Asked;
 use bstr::ByteSlice;
-use camp_script::{FaultKind, Script, ScriptFault, read_script};
+use camp_script::{FaultKind, Script, ScriptFault};
 use std::alloc::Global;
 use std::io::BufRead;
 
@@ -20,36 +22,65 @@ pub(crate) struct Command {
     pub(crate) bytes: Vec<u8>,
     /// Its last line was read; else the input has ended.
     pub(crate) is_whole: bool,
-    pub(crate) script: Result<Script, ScriptFault>,
+    pub(crate) asked: Result<Asked, ScriptFault>,
+}
+
+// The lines of a command, and the script that its call is.
+#[derive(Drop)]
+struct CommandLines {
+    bytes: Vec<u8>,
+    is_whole: bool,
+    script: Result<Script, ScriptFault>,
 }
 
 /// Reads a command.
 pub(crate) fn read_command<R: BufRead>(alloc: Global, reader: &mut R) -> Result<Command, TalkFault>
     ensures command { IfOk result (λ command.
         ReadsCommand (R.remaining reader.old) (R.remaining reader.new) command.is_whole command.bytes.items) }
-    ensures script { IfOk result (λ command. Gives command.script (script_of command.bytes.items)) }
+    ensures asked { IfOk result (λ command. Gives command.asked (asked_by command.bytes.items)) }
+    ensures fault { IfErr result IsReading }
+    ensures uses { IfErr result (λ why. Uses (R.remaining reader.old) (R.remaining reader.new)) }
+{
+    let CommandLines {
+        bytes,
+        is_whole,
+        script,
+    } = read_lines(alloc, reader)?;
+    let asked = read_asked(alloc, &bytes, script);
+    Ok(Command {
+        bytes,
+        is_whole,
+        asked,
+    })
+}
+
+// Reads the lines of a command.
+fn read_lines<R: BufRead>(alloc: Global, reader: &mut R) -> Result<CommandLines, TalkFault>
+    ensures command { IfOk result (λ lines.
+        ReadsCommand (R.remaining reader.old) (R.remaining reader.new) lines.is_whole lines.bytes.items) }
+    ensures script { IfOk result (λ lines. Gives lines.script (script_in lines.bytes.items)) }
     ensures fault { IfErr result IsReading }
     ensures uses { IfErr result (λ why. Uses (R.remaining reader.old) (R.remaining reader.new)) }
 {
     let mut bytes = Vec::new(alloc);
     let is_whole = read_line(reader, &mut bytes)?;
-    match read_script(alloc, &bytes) {
-        Ok(script) => Ok(Command {
+    match read_script_in(alloc, &bytes) {
+        Ok(script) => Ok(CommandLines {
             bytes,
             is_whole,
             script: Ok(script),
         }),
         Err(ScriptFault::Line(fault)) => {
             if !is_whole {
-                return Ok(Command {
+                return Ok(CommandLines {
                     bytes,
                     is_whole,
                     script: Err(ScriptFault::Line(fault)),
                 });
             }
             let is_whole = read_rest(reader, &mut bytes, fault.kind)?;
-            let script = read_script(alloc, &bytes);
-            Ok(Command {
+            let script = read_script_in(alloc, &bytes);
+            Ok(CommandLines {
                 bytes,
                 is_whole,
                 script,

@@ -24,7 +24,7 @@ pub fn turn<R: BufRead, W: Write>(
     let Some(next) = lines.checked_add(count_lines(&command.bytes)) else {
         return Err(TalkFault::Read);
     };
-    let said = answer(alloc, book, *lines, &command.script);
+    let said = answer(alloc, book, *lines, &command.asked);
     match write_said(writer, &said) {
         Ok(()) => {
             *lines = next;

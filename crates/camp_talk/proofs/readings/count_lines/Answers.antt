@@ -1,5 +1,5 @@
 use Rattle.std.proofs.Common.{ℕ, List, length, map, ap, ◌∙◌, arith}
-use Rattle.camp_script.specs.Lines.{lines_of, without_end}
+use Rattle.camp_script.specs.Lines.{without_end}
 use Rattle.camp_script.proofs.LineLemmas.{lines_without_end}
 use Rattle.camp_talk.proofs.readings.count_lines.Goals as goal
 

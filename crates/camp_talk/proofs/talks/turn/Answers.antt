@@ -13,7 +13,7 @@ returns-in-Ok g c =
     let counted : c.count_lines.result ≡ length (lines_of command.bytes.items) =
     c.count_lines.ensures ∙ ap (λ bytes. length (lines_of bytes)) c.deref.ensures.value in
     let counts : c.in-Some.next ≡ c.args.lines.now + length (lines_of command.bytes.items) = omega (arith, counted) in
-    let answers = answered before c.answer-said.new.book command.bytes.items command.script c.in_ok-command.ensures.script
+    let answers = answered before c.answer-said.new.book command.bytes.items command.asked c.in_ok-command.ensures.asked
     c.in-Some.next c.answer-said.result c.answer-said.ensures.text c.answer-said.ensures.kept counts in
     turned _ _ _ _ before after after command.bytes.items (said_text c.answer-said.result) command.is_whole
     c.in_ok-command.ensures.command answers c.in-Ok.ensures
@@ -27,7 +27,7 @@ returns g c =
     let counted : c.count_lines.result ≡ length (lines_of command.bytes.items) =
     c.count_lines.ensures ∙ ap (λ bytes. length (lines_of bytes)) c.deref.ensures.value in
     let counts : c.in-Some.next ≡ c.args.lines.now + length (lines_of command.bytes.items) = omega (arith, counted) in
-    let answers = answered before c.answer-said.new.book command.bytes.items command.script c.in_ok-command.ensures.script
+    let answers = answered before c.answer-said.new.book command.bytes.items command.asked c.in_ok-command.ensures.asked
     c.in-Some.next c.answer-said.result c.answer-said.ensures.text c.answer-said.ensures.kept counts in
     stopped _ _ _ _ before after behind command.bytes.items (said_text c.answer-said.result) command.is_whole c.in-Err.why
     c.in-Err.ensures.0 c.in_ok-command.ensures.command answers refl c.in-Err.ensures.1

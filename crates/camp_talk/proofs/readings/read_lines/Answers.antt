@@ -1,11 +1,11 @@
-use Rattle.std.proofs.Common.{rules, ◌≡◌, ◌++◌, Bool, true, false, List, [], ℕ, Ok, Err, sym, subst}
+use Rattle.std.proofs.Common.{rules, ◌≡◌, Bool, List, [], ℕ, Ok, Err, sym, subst}
 use Rattle.camp_call.specs.declared.calls.Call.{Call}
 use Rattle.camp_script.specs.Gives.{IsFaultOf}
-use Rattle.camp_script.specs.Reading.{script_of}
+use Rattle.camp_talk.specs.Cutting.{script_in}
 use Rattle.camp_talk.specs.Inside.Parts.{ReadsCommand, ReadsLine, Uses}
 use Rattle.camp_talk.proofs.Firsts.{first_alone, first_left, first_with}
 use Rattle.camp_talk.proofs.Parts.{uses_behind}
-use Rattle.camp_talk.proofs.readings.read_command.Goals as goal
+use Rattle.camp_talk.proofs.readings.read_lines.Goals as goal
 
 pub returns-then-not-is_whole-clause-command : goal.returns-then-not-is_whole-clause-command
 returns-then-not-is_whole-clause-command g c =
@@ -36,7 +36,7 @@ returns-in-Ok-clause-command g c =
     let line = subst (λ (old : List ℕ). ReadsLine a b c.in_ok-is_whole.is_whole old bytes) c.new-bytes.ensures.items
     c.in_ok-is_whole.ensures.line in
     first_alone a b bytes c.in_ok-is_whole.is_whole c.in-Ok.script line
-    (subst (λ (read : List ℕ). script_of read ≡ Ok c.in-Ok.script) c.deref.ensures.value c.in-Ok.ensures.given)
+    (subst (λ (read : List ℕ). script_in read ≡ Ok c.in-Ok.script) c.deref.ensures.value c.in-Ok.ensures)
 
 pub returns-in_ok-is_whole-in-Err-Line-clause-command : goal.returns-in_ok-is_whole-in-Err-Line-clause-command
 returns-in_ok-is_whole-in-Err-Line-clause-command g c =
@@ -46,9 +46,9 @@ returns-in_ok-is_whole-in-Err-Line-clause-command g c =
     let line = subst (λ (old : List ℕ). ReadsLine a b c.in_ok-is_whole.is_whole old bytes) c.new-bytes.ensures.items
     c.in_ok-is_whole.ensures.line in
     let whole = subst (λ (w : Bool). ReadsLine a b w [] bytes) c.if-not-is_whole.false line in
-    let given = subst (λ f. IsFaultOf {A = List (List Call)} f (script_of c.deref.result.now)) c.in-Err-Line.field-0-is
-    c.in-Err-Line.ensures.given in
+    let given = subst (λ f. IsFaultOf {A = List (List Call)} f (script_in c.deref.result.now)) c.in-Err-Line.field-0-is
+    c.in-Err-Line.ensures in
     first_with a b (g.R.Read.remaining c.read_rest.new.reader) bytes c.read_rest.new.text.items c.in-Err-Line.fault
     c.in_ok-is_whole-in-Err-Line.is_whole whole
-    (subst (λ (read : List ℕ). script_of read ≡ Err c.in-Err-Line.fault) c.deref.ensures.value given)
+    (subst (λ (read : List ℕ). script_in read ≡ Err c.in-Err-Line.fault) c.deref.ensures.value given)
     c.in_ok-is_whole-in-Err-Line.ensures.part

@@ -1,0 +1,23 @@
+-- The first words of a question say all that it asks, where it lists no names.
+use Rattle.std.proofs.Common.{◌≡◌, false, ℕ, List, [], ◌∷◌, take, refl, sym, ap, subst, ◌∙◌}
+use Rattle.std.proofs.lemmas.Bool.{cond-false}
+use Rattle.std.specs.Prelude.{Option, Result, bytes_eq, codes}
+use Rattle.camp_script.specs.Gives.{Gives}
+use Rattle.camp_script.specs.declared.faults.ScriptFault.{ScriptFault}
+use Rattle.camp_talk.specs.Asking.{question_of, short_question}
+use Rattle.camp_talk.specs.declared.questions.Question.{Question}
+
+six_are_enough : (word : List ℕ) (words : List (List ℕ)) → short_question word (take 6 words) ≡ short_question word words
+six_are_enough word [] = refl
+six_are_enough word (a ∷ []) = refl
+six_are_enough word (a ∷ b ∷ []) = refl
+six_are_enough word (a ∷ b ∷ c ∷ words) = refl
+
+pub short : (word : List ℕ) (result : Result (Option Question) ScriptFault) (words all : List (List ℕ)) → words ≡ take 6 all
+    → bytes_eq word (codes "needs") ≡ false → bytes_eq word (codes "held") ≡ false
+    → Gives result (short_question word words) → Gives result (question_of word all)
+short word result words all first other neither given =
+    subst (Gives result)
+    (ap (short_question word) first ∙ six_are_enough word all
+    ∙ sym (cond-false _ _ _ other ∙ cond-false _ _ _ neither))
+    given

@@ -1,0 +1,10 @@
+use Rattle.std.specs.Iterator.Adapters.{zip_first, zip_second}
+use Rattle.std.specs.List.{flat_map, zip}
+use Rattle.camp_talk.specs.Told.{annotated_line}
+use Rattle.camp_talk.proofs.PairLemmas.{all_pairs}
+use Rattle.camp_talk.proofs.told_lines.annotated_lines.Goals as goal
+
+pub returns : goal.returns
+returns c =
+    all_pairs annotated_line (zip_first c.loop-line.line-iterator) (zip_second c.loop-line.line-iterator) c.loop-line.text.items
+    (flat_map annotated_line (zip c.args.lines.now c.args.names.now)) c.in-None.ensures.steps c.loop-line.invariant

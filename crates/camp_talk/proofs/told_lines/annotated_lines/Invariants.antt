@@ -1,0 +1,10 @@
+use Rattle.std.proofs.Common.{◌≡◌, ◌++◌}
+use Rattle.std.specs.Iterator.Adapters.{zip_first, zip_second}
+use Rattle.std.specs.List.{flat_map, zip}
+use Rattle.camp_talk.specs.Told.{annotated_line}
+use Rattle.camp_talk.proofs.told_lines.annotated_lines.Given as goal
+
+abbrev pub invariant-loop-line : goal.invariant-loop-line
+invariant-loop-line l =
+    l.text.items ++ flat_map annotated_line (zip (zip_first l.line-iterator) (zip_second l.line-iterator))
+    ≡ flat_map annotated_line (zip l.lines l.names)

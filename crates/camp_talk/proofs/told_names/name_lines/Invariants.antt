@@ -1,0 +1,7 @@
+use Rattle.std.proofs.Common.{◌≡◌, take}
+use Rattle.std.specs.List.{flat_map}
+use Rattle.camp_script.specs.Texts.{name_text}
+use Rattle.camp_talk.proofs.told_names.name_lines.Given as goal
+
+abbrev pub invariant-loop-name : goal.invariant-loop-name
+invariant-loop-name l = l.text.items ≡ flat_map name_text (take l.name-index l.names)

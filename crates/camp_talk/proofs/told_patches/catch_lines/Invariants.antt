@@ -1,0 +1,7 @@
+use Rattle.std.proofs.Common.{◌≡◌, take}
+use Rattle.std.specs.List.{flat_map}
+use Rattle.camp_talk.specs.Told.{catch_line}
+use Rattle.camp_talk.proofs.told_patches.catch_lines.Given as goal
+
+abbrev pub invariant-loop-catch : goal.invariant-loop-catch
+invariant-loop-catch l = l.text.items ≡ flat_map catch_line (take l.catch-index l.catches)

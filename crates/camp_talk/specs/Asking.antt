@@ -1,0 +1,164 @@
+-- What a command asks: nothing, a call, or a question.
+use Rattle.std.specs.Prelude.{ℕ, List, [], ◌∷◌, Option, None, Some, Result, Ok, bytes_eq, codes, if◌then◌else◌}
+use Rattle.camp_call.specs.declared.calls.Call.{Call}
+use Rattle.camp_talk.specs.Cutting.{script_in}
+use Rattle.camp_script.specs.Faults.{fault_at}
+use Rattle.camp_script.specs.Lines.{lines_of, words_of}
+use Rattle.camp_script.specs.Words.{◌>>=◌, name_at, names_at, no_words, one_word, path_at, two_words}
+use Rattle.camp_script.specs.declared.faults.FaultKind.TheVariants.{UnknownCommand, WrongNumberOfWords}
+use Rattle.camp_script.specs.declared.faults.LineFault.{LineFault}
+use Rattle.camp_talk.specs.declared.questions.Asked.{Asked}
+use Rattle.camp_talk.specs.declared.questions.Asked.TheVariants as asked
+use Rattle.camp_talk.specs.declared.questions.Question.{Question}
+use Rattle.camp_talk.specs.declared.questions.Question.TheVariants as question
+use Rattle.camp_talk.specs.declared.questions.Topic.{Topic}
+use Rattle.camp_talk.specs.declared.questions.Topic.TheVariants as topic
+
+-- ---- the words behind the first of a question
+
+-- a branch and a name: one of a branch, or of a patch
+abbrev pub two_names : List (List ℕ) → Result (List ℕ × List ℕ) LineFault
+two_names words =
+    two_words 1 words >>= λ pair. name_at 1 pair.0 >>= λ first. name_at 1 pair.1 >>= λ second. Ok (first, second)
+
+-- a branch and a path
+abbrev pub branch_and_path : List (List ℕ) → Result (List ℕ × List ℕ) LineFault
+branch_and_path words =
+    two_words 1 words >>= λ pair. name_at 1 pair.0 >>= λ branch. path_at 1 pair.1 >>= λ path. Ok (branch, path)
+
+-- a branch, and a name at least
+abbrev pub branch_and_names : List (List ℕ) → Result (List ℕ × List (List ℕ)) LineFault
+branch_and_names (branch ∷ name ∷ names) =
+    name_at 1 branch >>= λ branch. names_at 1 (name ∷ names) >>= λ names. Ok (branch, names)
+branch_and_names others = fault_at 1 WrongNumberOfWords
+
+-- a branch alone
+abbrev pub branch_alone : List (List ℕ) → Result (List ℕ) LineFault
+branch_alone words = one_word 1 words >>= name_at 1
+
+-- the call that a word begins
+abbrev pub call_topic : List ℕ → Option Topic
+call_topic word =
+    if bytes_eq word (codes "branch") then Some topic.Branch
+    else (if bytes_eq word (codes "record") then Some topic.Record
+    else (if bytes_eq word (codes "pull") then Some topic.Pull
+    else (if bytes_eq word (codes "obliterate") then Some topic.Obliterate
+    else (if bytes_eq word (codes "tree") then Some topic.Tree
+    else (if bytes_eq word (codes "conflicts") then Some topic.Conflicts
+    else (if bytes_eq word (codes "names") then Some topic.Names
+    else None))))))
+
+-- the question about patches that a word begins
+abbrev pub patch_topic : List ℕ → Option Topic
+patch_topic word =
+    if bytes_eq word (codes "needs") then Some topic.Needs
+    else (if bytes_eq word (codes "held") then Some topic.Held
+    else (if bytes_eq word (codes "missing") then Some topic.Missing
+    else (if bytes_eq word (codes "show") then Some topic.Show
+    else (if bytes_eq word (codes "annotate") then Some topic.Annotate
+    else (if bytes_eq word (codes "graph") then Some topic.Graph
+    else None)))))
+
+-- any other question that a word begins
+abbrev pub other_topic : List ℕ → Option Topic
+other_topic word =
+    if bytes_eq word (codes "whatif") then Some topic.WhatIf
+    else (if bytes_eq word (codes "history") then Some topic.History
+    else (if bytes_eq word (codes "keep") then Some topic.Keep
+    else (if bytes_eq word (codes "help") then Some topic.Help
+    else None)))
+
+-- the first topic that there is, or the fault of a word that begins no command
+abbrev pub topic_of : List (Option Topic) → Result Topic LineFault
+topic_of [] = fault_at 1 UnknownCommand
+topic_of (None ∷ others) = topic_of others
+topic_of (Some topic ∷ others) = Ok topic
+
+-- the command that a word begins
+abbrev pub topic_at : List ℕ → Result Topic LineFault
+topic_at word = topic_of (call_topic word ∷ patch_topic word ∷ other_topic word ∷ [])
+
+-- what help is asked for: one command, or else all
+abbrev pub help_line : List (List ℕ) → Result Topic LineFault
+help_line [] = Ok topic.Commands
+help_line (word ∷ []) = topic_at word
+help_line others = fault_at 1 WrongNumberOfWords
+
+-- ---- the question that a first word and those behind it ask, if they ask one
+
+-- one that has no words of patches behind it
+abbrev pub plain_question : List ℕ → List (List ℕ) → Result (Option Question) LineFault
+plain_question word words =
+    if bytes_eq word (codes "history") then (no_words 1 words >>= λ none. Ok (Some question.History))
+    else (if bytes_eq word (codes "keep") then (no_words 1 words >>= λ none. Ok (Some question.Keep))
+    else (if bytes_eq word (codes "help") then (help_line words >>= λ topic. Ok (Some (question.Help topic)))
+    else Ok None))
+
+-- one without a list of names
+abbrev pub short_question : List ℕ → List (List ℕ) → Result (Option Question) LineFault
+short_question word words =
+    if bytes_eq word (codes "missing")
+    then (two_names words >>= λ pair. Ok (Some (question.Missing pair.0 pair.1)))
+    else (if bytes_eq word (codes "show")
+    then (two_names words >>= λ pair. Ok (Some (question.Show pair.0 pair.1)))
+    else (if bytes_eq word (codes "annotate")
+    then (branch_and_path words >>= λ pair. Ok (Some (question.Annotate pair.0 pair.1)))
+    else (if bytes_eq word (codes "graph") then (branch_alone words >>= λ branch. Ok (Some (question.Graph branch)))
+    else plain_question word words)))
+
+-- any but `whatif`
+abbrev pub question_of : List ℕ → List (List ℕ) → Result (Option Question) LineFault
+question_of word words =
+    if bytes_eq word (codes "needs")
+    then (branch_and_names words >>= λ pair. Ok (Some (question.Needs pair.0 pair.1)))
+    else (if bytes_eq word (codes "held")
+    then (branch_and_names words >>= λ pair. Ok (Some (question.Held pair.0 pair.1)))
+    else short_question word words)
+
+-- ---- what a command asks
+
+-- the call that is asked by a script of one section, if it has one; a line `client`, which begins another section, is no
+-- command of a conversation
+abbrev pub call_in : List (List Call) → Result (Option Call) LineFault
+call_in ((call ∷ calls) ∷ []) = Ok (Some call)
+call_in ([] ∷ []) = Ok None
+call_in sections = fault_at 1 UnknownCommand
+
+-- what is asked by the call that there is, if there is one
+abbrev pub asked_call : Option Call → Asked
+asked_call None = asked.Nothing
+asked_call (Some call) = asked.Call call
+
+-- what is asked by a script
+abbrev pub asked_in : List (List Call) → Result Asked LineFault
+asked_in script = call_in script >>= λ call. Ok (asked_call call)
+
+-- it is asked what the call that there is would do; there must be one
+abbrev pub foreseen_call : Option Call → Result Asked LineFault
+foreseen_call None = fault_at 1 UnknownCommand
+foreseen_call (Some call) = Ok (asked.Question (question.WhatIf call))
+
+-- what is asked by a script behind `whatif`
+abbrev pub foreseen_in : List (List Call) → Result Asked LineFault
+foreseen_in script = call_in script >>= foreseen_call
+
+-- what is asked where the first word is not `whatif`: a question, or else the call of a script
+abbrev pub question_or_call : Result (List (List Call)) LineFault → Option Question → Result Asked LineFault
+question_or_call script None = script >>= asked_in
+question_or_call script (Some question) = Ok (asked.Question question)
+
+-- what is asked by the words of a first line, and the script that the call of the command is
+abbrev pub asked_with : List (List ℕ) → Result (List (List Call)) LineFault → Result Asked LineFault
+asked_with [] script = script >>= asked_in
+asked_with (word ∷ words) script =
+    if bytes_eq word (codes "whatif") then (script >>= foreseen_in)
+    else question_of word words >>= question_or_call script
+
+-- the first of some lines; an empty one, where there is none
+abbrev pub first_of : List (List ℕ) → List ℕ
+first_of [] = []
+first_of (first ∷ rest) = first
+
+-- what a command asks, or its fault
+abbrev pub asked_by : List ℕ → Result Asked LineFault
+asked_by command = asked_with (words_of (first_of (lines_of command))) (script_in command)

@@ -1,0 +1,91 @@
+-- What is told of commands.
+use Rattle.std.specs.Prelude.{ℕ, List, [], ◌∷◌, ◌++◌, codes}
+use Rattle.std.specs.List.{flat_map}
+use Rattle.camp_talk.specs.declared.questions.Topic.{Topic}
+use Rattle.camp_talk.specs.declared.questions.Topic.TheVariants as topic
+
+-- lines, each with its LF
+abbrev pub page : List (List ℕ) → List ℕ
+page lines = flat_map (λ line. line ++ 10 ∷ []) lines
+
+-- the commands, in the order in which they are told
+abbrev pub commands : List Topic
+commands =
+    topic.Branch ∷ topic.Record ∷ topic.Pull ∷ topic.Obliterate ∷ topic.Tree ∷ topic.Conflicts ∷ topic.Names
+    ∷ topic.Needs ∷ topic.Held ∷ topic.Missing ∷ topic.Show ∷ topic.Annotate ∷ topic.Graph ∷ topic.WhatIf
+    ∷ topic.History ∷ topic.Keep ∷ topic.Help ∷ []
+
+-- how a command is written, and what it does, in a line for each of its forms
+abbrev pub summary : Topic → List ℕ
+summary topic.Commands = []
+summary topic.Branch = page (codes "branch NEW FROM: make a branch that is a copy of another" ∷ [])
+summary topic.Record = page (
+    codes "record BRANCH NAME add PATH: record a patch that adds a file" ∷
+    codes "record BRANCH NAME remove PATH: record a patch that removes a file without lines" ∷
+    codes "record BRANCH NAME edit PATH LINE: record an edit; its body follows, up to end" ∷
+    codes "record BRANCH NAME group: record several changes, which follow, up to done" ∷ [])
+summary topic.Pull = page (
+    codes "pull FROM TO: bring to TO all patches of FROM that it lacks" ∷
+    codes "pull FROM TO NAME ..: bring those of these names" ∷ [])
+summary topic.Obliterate = page (codes "obliterate BRANCH NAME ..: take patches out of a branch" ∷ [])
+summary topic.Tree = page (codes "tree BRANCH: the files of a branch" ∷ [])
+summary topic.Conflicts = page (codes "conflicts BRANCH: the pairs of patches of a branch that are in conflict" ∷ [])
+summary topic.Names = page (codes "names BRANCH: the patches of a branch" ∷ [])
+summary topic.Needs = page (codes "needs BRANCH NAME ..: what comes along where these patches are pulled" ∷ [])
+summary topic.Held = page (codes "held BRANCH NAME ..: what must go where these patches are taken out" ∷ [])
+summary topic.Missing = page (codes "missing FROM TO: the patches that FROM has and TO lacks" ∷ [])
+summary topic.Show = page (codes "show BRANCH NAME: a patch as it stands in a branch" ∷ [])
+summary topic.Annotate = page (codes "annotate BRANCH PATH: the lines of a file, and which patch put each there" ∷ [])
+summary topic.Graph = page (codes "graph BRANCH: how the patches hang together, for Graphviz" ∷ [])
+summary topic.WhatIf = page (codes "whatif COMMAND: what a command would be answered; nothing changes" ∷ [])
+summary topic.History = page (codes "history: the accepted commands" ∷ [])
+summary topic.Keep = page (codes "keep: a script that gives the repository back" ∷ [])
+summary topic.Help = page (
+    codes "help: all commands" ∷
+    codes "help COMMAND: more about one" ∷ [])
+
+-- more about a command, where there is more to tell
+abbrev pub details : Topic → List ℕ
+details topic.Record = page (
+    codes "A body has the old lines, each behind -, and then the new ones, each behind +." ∷
+    codes "A group has 1 to 64 changes: add PATH, remove PATH, or edit PATH LINE with its body." ∷ [])
+details topic.Obliterate = page (codes "No patch that stays may depend on one that goes: held tells which do." ∷ [])
+details topic.Needs = page (codes "The patches themselves are told, too, all in the order of the branch." ∷ [])
+details topic.Held = page (codes "The patches themselves are told, too, all in the order of the branch." ∷ [])
+details topic.Missing = page (codes "This is what pull FROM TO would bring." ∷ [])
+details topic.Show = page (
+    codes "Its catches, a line for each: [PATCH], or (EFFECT, CONFLICTS, IDENTITY) in a conflict." ∷
+    codes "Then what they change, as a script has it." ∷ [])
+details topic.Graph = page (codes "An arrow leads to what a patch needs directly; a dashed line joins two in conflict." ∷ [])
+details topic.WhatIf = page (codes "If it would be accepted: the conflicts and the files that its branch would have, too." ∷ [])
+details topic.History = page (codes "Of each its number, its seat, which is 0, and its words." ∷ [])
+details other = []
+
+-- a command as one writes it
+abbrev pub example : Topic → List ℕ
+example topic.Commands = []
+example topic.Branch = page (codes "branch anna main" ∷ [])
+example topic.Record = page (
+    codes "record main hello edit notes 1" ∷
+    codes "+hello" ∷
+    codes "end" ∷ [])
+example topic.Pull = page (codes "pull anna main" ∷ [])
+example topic.Obliterate = page (codes "obliterate main hello" ∷ [])
+example topic.Tree = page (codes "tree main" ∷ [])
+example topic.Conflicts = page (codes "conflicts main" ∷ [])
+example topic.Names = page (codes "names main" ∷ [])
+example topic.Needs = page (codes "needs main hello" ∷ [])
+example topic.Held = page (codes "held main hello" ∷ [])
+example topic.Missing = page (codes "missing anna main" ∷ [])
+example topic.Show = page (codes "show main hello" ∷ [])
+example topic.Annotate = page (codes "annotate main notes" ∷ [])
+example topic.Graph = page (codes "graph main" ∷ [])
+example topic.WhatIf = page (codes "whatif pull anna main" ∷ [])
+example topic.History = page (codes "history" ∷ [])
+example topic.Keep = page (codes "keep" ∷ [])
+example topic.Help = page (codes "help record" ∷ [])
+
+-- what is told of all commands, and of each
+abbrev pub help_text : Topic → List ℕ
+help_text topic.Commands = flat_map summary commands
+help_text command = summary command ++ details command ++ page (codes "Example:" ∷ []) ++ example command

@@ -1,0 +1,112 @@
+-- What questions are answered, each at the state after a history.
+use Rattle.std.specs.Prelude.{◌≡◌, ℕ, List, [], ◌∷◌, ◌++◌, length, Option, None, Some, Ok, Err, codes}
+use Rattle.std.specs.List.{flat_map, zip}
+use Rattle.std.specs.Fmt.{decimal}
+use Rattle.camp_catch.specs.declared.catches.Catch.{Catch}
+use Rattle.camp_call.specs.declared.replies.Reply.TheVariants.{Refused}
+use Rattle.camp_notation.specs.Catches.{catch_text}
+use Rattle.camp_object.specs.Histories.{replay}
+use Rattle.camp_questions.specs.Annotations.{AreAnnotated}
+use Rattle.camp_questions.specs.Answers.{AnswerOf}
+use Rattle.camp_questions.specs.Dependencies.{AreHeldBy, AreNeeded}
+use Rattle.camp_questions.specs.Differences.{IsMissing}
+use Rattle.camp_questions.specs.Foresight.{Foresees}
+use Rattle.camp_questions.specs.GraphTexts.{graph_text}
+use Rattle.camp_questions.specs.Graphs.{Drawn, IsGraphOf}
+use Rattle.camp_questions.specs.Showing.{IsShown, Patch}
+use Rattle.camp_questions.specs.declared.annotations.Annotated.{Annotated}
+use Rattle.camp_questions.specs.declared.annotations.Annotated.TheVariants.{File, NoFile}
+use Rattle.camp_questions.specs.declared.foresight.Foreseen.{Foreseen}
+use Rattle.camp_questions.specs.declared.foresight.Standing.{Standing}
+use Rattle.camp_repo.specs.Objects.{repository}
+use Rattle.camp_repo.specs.States.{Contents}
+use Rattle.camp_script.specs.Canonical.{change_text}
+use Rattle.camp_script.specs.HistoryTexts.{history_text}
+use Rattle.camp_script.specs.Keeping.{kept_text}
+use Rattle.camp_script.specs.Lines.{lines_of}
+use Rattle.camp_script.specs.Texts.{conflicts_text, name_text, reply_text, signed_line, tree_text}
+use Rattle.camp_talk.specs.Entries.{Entries}
+use Rattle.camp_talk.specs.Help.{help_text}
+use Rattle.camp_talk.specs.declared.questions.Question.{Question}
+use Rattle.camp_talk.specs.declared.questions.Question.TheVariants as question
+use Rattle.camp_talk.specs.declared.questions.Topic.{Topic}
+
+-- a text behind the word of its command and the number of its lines
+abbrev pub counted : List ℕ → List ℕ → List ℕ
+counted word text = word ++ 32 ∷ decimal (length (lines_of text)) ++ 10 ∷ text
+
+-- what is told of what a question comes to: its answer, or its refusal, as a call is told one
+abbrev pub told : {A : Type 0} → (A → List ℕ) → AnswerOf A → List ℕ
+told text_of (Ok answer) = text_of answer
+told text_of (Err refusal) = reply_text (Refused refusal)
+
+-- it is told what a question comes to
+pub record IsTold {A : Type 0} (text_of : A → List ℕ) (ComesTo : AnswerOf A → Type 0) (text : List ℕ) : Type 0 where
+  pub answer : AnswerOf A
+  pub comes : ComesTo answer
+  pub tells : text ≡ told text_of answer
+
+-- names behind the word of a command, each on a line
+abbrev pub names_told : List ℕ → List (List ℕ) → List ℕ
+names_told word names = counted word (flat_map name_text names)
+
+-- a graph in DOT
+abbrev pub graph_told : Drawn → List ℕ
+graph_told graph = counted (codes "graph") (graph_text graph)
+
+-- NAME =LINE: a line of a file behind the name of the patch that put it there
+abbrev pub annotated_line : List ℕ × List ℕ → List ℕ
+annotated_line pair = pair.1 ++ 32 ∷ signed_line 61 pair.0
+
+-- the lines of a file with their names, or that there is no file
+abbrev pub annotated_told : Annotated → List ℕ
+annotated_told (File lines names) = counted (codes "annotate") (flat_map annotated_line (zip lines names))
+annotated_told NoFile = codes "no file" ++ 10 ∷ []
+
+-- a catch in the notation of patches, on a line: each of its primitives as a whole
+abbrev pub catch_line : Catch → List ℕ
+catch_line catch = catch_text [] catch ++ 10 ∷ []
+
+-- a patch: its catches, and then its changes, as a script has those of a group
+abbrev pub patch_told : Patch → List ℕ
+patch_told patch = counted (codes "show") (flat_map catch_line patch.catches ++ flat_map change_text patch.changes)
+
+-- how a branch stands: its conflicts and its tree, each as the question for it is answered
+abbrev pub standing_text : Option Standing → List ℕ
+standing_text None = []
+standing_text (Some standing) = conflicts_text standing.conflicts ++ tree_text standing.tree
+
+-- the reply that a call would get, and how the branch that it would write to would stand
+abbrev pub foreseen_told : Foreseen → List ℕ
+foreseen_told seen = counted (codes "whatif") (reply_text seen.reply ++ standing_text seen.changed)
+
+-- a script that gives a history back
+abbrev pub kept_told : Entries → List ℕ
+kept_told history = counted (codes "keep") (kept_text history)
+
+-- how commands are written
+abbrev pub help_told : Topic → List ℕ
+help_told topic = counted (codes "help") (help_text topic)
+
+-- what each question is told, at the state after a history
+abbrev pub TellsAt : Entries → Contents → Question → List ℕ → Type 0
+TellsAt history state (question.Needs branch names) text =
+    IsTold (names_told (codes "needs")) (AreNeeded state branch names) text
+TellsAt history state (question.Held branch names) text =
+    IsTold (names_told (codes "held")) (AreHeldBy state branch names) text
+TellsAt history state (question.Missing from to) text =
+    IsTold (names_told (codes "missing")) (IsMissing state from to) text
+TellsAt history state (question.Show branch name) text = IsTold patch_told (IsShown state branch name) text
+TellsAt history state (question.Annotate branch path) text =
+    IsTold annotated_told (AreAnnotated state branch path) text
+TellsAt history state (question.Graph branch) text = IsTold graph_told (IsGraphOf state branch) text
+TellsAt history state (question.WhatIf call) text =
+    (seen : Foreseen) × Foresees state call seen × (text ≡ foreseen_told seen)
+TellsAt history state question.History text = text ≡ history_text history
+TellsAt history state question.Keep text = text ≡ kept_told history
+TellsAt history state (question.Help topic) text = text ≡ help_told topic
+
+-- what a question is told after a history
+abbrev pub TellsQuestion : Entries → Question → List ℕ → Type 0
+TellsQuestion history question text =
+    (state : Contents) × (replay repository history ≡ Some state) × TellsAt history state question text

@@ -1,0 +1,103 @@
+//! What a command asks.
+ghost use Rattle.std.specs.Prelude.{◌≡◌, ◌≤◌, List, Result, length};
+ghost use Rattle.camp_call.specs.declared.calls.Call.{Call as SaidCall};
+ghost use Rattle.camp_script.specs.Gives.{Gives};
+ghost use Rattle.camp_script.specs.Lines.{lines_of, words_of};
+ghost use Rattle.camp_script.specs.declared.faults.LineFault.{LineFault as SaidFault};
+ghost use Rattle.camp_talk.specs.Asking.{asked_in, asked_with, call_in, first_of, foreseen_in};
+ghost use Rattle.camp_talk.specs.Cutting.{call_line, script_in};
+
+use crate::question_words::{fault, read_question};
+use crate::questions::{Asked, Question};
+use bstr::ByteSlice;
+use camp_call::Call;
+use camp_script::{
+    FaultKind, Script, ScriptFault, Words, begins_with, behind_word, read_script, without_end,
+};
+use std::alloc::Global;
+
+/// Reads the script that the call of a command is.
+pub(crate) fn read_script_in(alloc: Global, command: &[u8]) -> Result<Script, ScriptFault>
+    ensures { Gives result (script_in command.now) }
+{
+    let line = first_line(command);
+    let start = line.len() - call_line(line).len();
+    read_script(alloc, &command[start..])
+}
+
+fn call_line(line: &[u8]) -> &[u8]
+    ensures { result.now ≡ call_line line.now }
+{
+    if begins_with(line, b"whatif") {
+        return behind_word(line);
+    }
+    line
+}
+
+/// What a command asks, by the script that its call is.
+pub(crate) fn read_asked(
+    alloc: Global,
+    bytes: &[u8],
+    script: Result<Script, ScriptFault>,
+) -> Result<Asked, ScriptFault>
+    ensures { (reading : Result (List (List SaidCall)) SaidFault) → Gives script reading →
+        Gives result (asked_with (words_of (first_of (lines_of bytes.now))) reading) }
+{
+    let mut words = Words::new(first_line(bytes));
+    let Some(word) = words.next() else {
+        return read_call(script?);
+    };
+    if word == b"whatif".as_slice() {
+        return read_what_if(script?);
+    }
+    match read_question(alloc, word, words)? {
+        Some(question) => Ok(Asked::Question(question)),
+        None => read_call(script?),
+    }
+}
+
+/// The first line of bytes; an empty one, where there is none.
+pub(crate) fn first_line(bytes: &[u8]) -> &[u8]
+    ensures value { result.now ≡ first_of (lines_of bytes.now) }
+    ensures within { length result.now ≤ length bytes.now }
+{
+    match bytes.lines_with_terminator().next() {
+        Some(line) => without_end(line),
+        None => &[],
+    }
+}
+
+// The call of a script, if it has one.
+fn call_in(script: Script) -> Result<Option<Call>, ScriptFault>
+    ensures { Gives result (call_in script) }
+{
+    let mut sections = script.into_sections();
+    let Some(mut calls) = sections.pop() else {
+        return Err(fault(FaultKind::UnknownCommand));
+    };
+    if !sections.is_empty() {
+        return Err(fault(FaultKind::UnknownCommand));
+    }
+    if calls.is_empty() {
+        return Ok(None);
+    }
+    Ok(Some(calls.swap_remove(0)))
+}
+
+fn read_call(script: Script) -> Result<Asked, ScriptFault>
+    ensures { Gives result (asked_in script) }
+{
+    match call_in(script)? {
+        Some(call) => Ok(Asked::Call(call)),
+        None => Ok(Asked::Nothing),
+    }
+}
+
+fn read_what_if(script: Script) -> Result<Asked, ScriptFault>
+    ensures { Gives result (foreseen_in script) }
+{
+    match call_in(script)? {
+        Some(call) => Ok(Asked::Question(Question::WhatIf(call))),
+        None => Err(fault(FaultKind::UnknownCommand)),
+    }
+}

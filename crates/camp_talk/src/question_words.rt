@@ -1,0 +1,123 @@
+//! The words of questions.
+ghost use Rattle.std.specs.Prelude.{◌≡◌, map};
+ghost use Rattle.camp_script.specs.Gives.{Gives};
+ghost use Rattle.camp_talk.specs.Asking.{branch_alone, branch_and_names, branch_and_path, plain_question, question_of, short_question, two_names};
+
+use crate::questions::Question;
+use crate::topics::help_topic;
+use camp_base::{Name, Path};
+use camp_call::Names;
+use camp_script::{
+    FaultKind, LineFault, ScriptFault, Words, first_words, name_at, names_at, no_words, one_word,
+    path_at, two_words,
+};
+use std::alloc::Global;
+
+/// The fault of a kind in the first line of a command.
+pub(crate) fn fault(kind: FaultKind) -> ScriptFault
+    ensures { result ≡ ScriptFault.Line (record { line = 1; kind = kind }) }
+{
+    ScriptFault::Line(LineFault { line: 1, kind })
+}
+
+/// The question that a first word and those behind it ask, if they ask one.
+pub(crate) fn read_question(
+    alloc: Global,
+    word: &[u8],
+    words: Words<'_>,
+) -> Result<Option<Question>, ScriptFault>
+    ensures { Gives result (question_of word.now words.entry) }
+{
+    if word == b"needs".as_slice() {
+        let (branch, names) = branch_and_names(alloc, words)?;
+        return Ok(Some(Question::Needs { branch, names }));
+    }
+    if word == b"held".as_slice() {
+        let (branch, names) = branch_and_names(alloc, words)?;
+        return Ok(Some(Question::Held { branch, names }));
+    }
+    let words = first_words(words);
+    short_question(alloc, word, words.as_slice())
+}
+
+fn short_question(
+    alloc: Global,
+    word: &[u8],
+    words: &[&[u8]],
+) -> Result<Option<Question>, ScriptFault>
+    ensures { Gives result (short_question word.now (map (λ word. word.now) words.now)) }
+{
+    if word == b"missing".as_slice() {
+        let (from, to) = two_names(words)?;
+        return Ok(Some(Question::Missing { from, to }));
+    }
+    if word == b"show".as_slice() {
+        let (branch, name) = two_names(words)?;
+        return Ok(Some(Question::Show { branch, name }));
+    }
+    if word == b"annotate".as_slice() {
+        let (branch, path) = branch_and_path(alloc, words)?;
+        return Ok(Some(Question::Annotate { branch, path }));
+    }
+    if word == b"graph".as_slice() {
+        let branch = branch_alone(words)?;
+        return Ok(Some(Question::Graph(branch)));
+    }
+    plain_question(word, words)
+}
+
+fn plain_question(word: &[u8], words: &[&[u8]]) -> Result<Option<Question>, ScriptFault>
+    ensures { Gives result (plain_question word.now (map (λ word. word.now) words.now)) }
+{
+    if word == b"history".as_slice() {
+        no_words(1, words)?;
+        return Ok(Some(Question::History));
+    }
+    if word == b"keep".as_slice() {
+        no_words(1, words)?;
+        return Ok(Some(Question::Keep));
+    }
+    if word == b"help".as_slice() {
+        let topic = help_topic(words)?;
+        return Ok(Some(Question::Help(topic)));
+    }
+    Ok(None)
+}
+
+fn branch_and_names(alloc: Global, mut words: Words<'_>) -> Result<(Name, Names), ScriptFault>
+    ensures { Gives result (branch_and_names words.entry) }
+{
+    let Some(branch) = words.next() else {
+        return Err(fault(FaultKind::WrongNumberOfWords));
+    };
+    if words.again().next().is_none() {
+        return Err(fault(FaultKind::WrongNumberOfWords));
+    }
+    let branch = name_at(1, branch)?;
+    let names = names_at(alloc, 1, words)?;
+    Ok((branch, names))
+}
+
+fn two_names(words: &[&[u8]]) -> Result<(Name, Name), ScriptFault>
+    ensures { Gives result (two_names (map (λ word. word.now) words.now)) }
+{
+    let (first, second) = two_words(1, words)?;
+    let first = name_at(1, first)?;
+    let second = name_at(1, second)?;
+    Ok((first, second))
+}
+
+fn branch_and_path(alloc: Global, words: &[&[u8]]) -> Result<(Name, Path), ScriptFault>
+    ensures { Gives result (branch_and_path (map (λ word. word.now) words.now)) }
+{
+    let (branch, path) = two_words(1, words)?;
+    let branch = name_at(1, branch)?;
+    let path = path_at(alloc, 1, path)?;
+    Ok((branch, path?))
+}
+
+fn branch_alone(words: &[&[u8]]) -> Result<Name, ScriptFault>
+    ensures { Gives result (branch_alone (map (λ word. word.now) words.now)) }
+{
+    name_at(1, one_word(1, words)?)
+}

@@ -1,0 +1,48 @@
+//! The answers to questions.
+ghost use Rattle.std.specs.Prelude.{IfOk};
+ghost use Rattle.camp_talk.specs.Told.{TellsAt, TellsQuestion};
+
+use crate::Question;
+use crate::told_foresight::tell_foreseen;
+use crate::told_graphs::tell_graph;
+use crate::told_help::tell_help;
+use crate::told_histories::{tell_history, tell_kept};
+use crate::told_lines::tell_annotated;
+use crate::told_names::{tell_held, tell_missing, tell_needs};
+use crate::told_patches::tell_shown;
+use camp_repo::{Book, Call, State};
+use std::alloc::{AllocError, Global};
+
+/// The text of the answer to a question about the repository of a book.
+pub fn answer_question(
+    alloc: Global,
+    book: &Book<State>,
+    question: &Question,
+) -> Result<Vec<u8>, AllocError>
+    ensures { IfOk result (λ text. TellsQuestion book.now question.now text.items) }
+{
+    answer_at(alloc, book.history(), book.state(), question)
+}
+
+// The text of the answer at the state after a history.
+fn answer_at(
+    alloc: Global,
+    history: &[(u32, Call)],
+    state: &State,
+    question: &Question,
+) -> Result<Vec<u8>, AllocError>
+    ensures { IfOk result (λ text. TellsAt history.now state.now question.now text.items) }
+{
+    match question {
+        Question::Needs { branch, names } => tell_needs(alloc, state, branch, names.as_slice()),
+        Question::Held { branch, names } => tell_held(alloc, state, branch, names.as_slice()),
+        Question::Missing { from, to } => tell_missing(alloc, state, from, to),
+        Question::Show { branch, name } => tell_shown(alloc, state, branch, name),
+        Question::Annotate { branch, path } => tell_annotated(alloc, state, branch, path),
+        Question::Graph(branch) => tell_graph(alloc, state, branch),
+        Question::WhatIf(call) => tell_foreseen(alloc, state, call),
+        Question::History => tell_history(alloc, history),
+        Question::Keep => tell_kept(alloc, history),
+        Question::Help(topic) => tell_help(alloc, *topic),
+    }
+}

@@ -1,0 +1,165 @@
+//! What is told of commands.
+ghost use Rattle.std.specs.Prelude.{◌≡◌, ◌++◌, IfOk};
+ghost use Rattle.std.specs.List.{flat_map};
+ghost use Rattle.camp_talk.specs.Help.{commands, details, example, help_text, summary};
+ghost use Rattle.camp_talk.specs.Told.{help_told};
+
+use crate::Topic;
+use crate::told::counted;
+use std::alloc::{AllocError, Global};
+
+/// How commands are written.
+pub(crate) fn tell_help(alloc: Global, topic: Topic) -> Result<Vec<u8>, AllocError>
+    ensures { IfOk result (λ text. text.items ≡ help_told topic) }
+{
+    let text = help_text(alloc, topic)?;
+    counted(alloc, "help", &text)
+}
+
+fn help_text(alloc: Global, topic: Topic) -> Result<Vec<u8>, AllocError>
+    ensures { IfOk result (λ text. text.items ≡ help_text topic) }
+{
+    if topic == Topic::Commands {
+        return all_summaries(alloc);
+    }
+    let mut text = Vec::new(alloc);
+    text.extend_from_slice(summary(topic).as_bytes())?;
+    text.extend_from_slice(details(topic).as_bytes())?;
+    text.extend_from_slice(b"Example:\n")?;
+    text.extend_from_slice(example(topic).as_bytes())?;
+    Ok(text)
+}
+
+fn all_summaries(alloc: Global) -> Result<Vec<u8>, AllocError>
+    ensures { IfOk result (λ text. text.items ≡ flat_map summary commands) }
+{
+    let mut text = Vec::new(alloc);
+    let commands = commands();
+    for command in &commands {
+        text.extend_from_slice(summary(*command).as_bytes())?;
+    }
+    Ok(text)
+}
+
+// The commands, in the order in which they are told.
+fn commands() -> [Topic; 17]
+    ensures { result ≡ commands }
+{
+    [
+        Topic::Branch,
+        Topic::Record,
+        Topic::Pull,
+        Topic::Obliterate,
+        Topic::Tree,
+        Topic::Conflicts,
+        Topic::Names,
+        Topic::Needs,
+        Topic::Held,
+        Topic::Missing,
+        Topic::Show,
+        Topic::Annotate,
+        Topic::Graph,
+        Topic::WhatIf,
+        Topic::History,
+        Topic::Keep,
+        Topic::Help,
+    ]
+}
+
+// How a command is written, and what it does, in a line for each of its forms.
+fn summary(topic: Topic) -> &'static str
+    ensures { result.now ≡ summary topic }
+{
+    match topic {
+        Topic::Commands => "",
+        Topic::Branch => "branch NEW FROM: make a branch that is a copy of another\n",
+        Topic::Record => {
+            "record BRANCH NAME add PATH: record a patch that adds a file\n\
+            record BRANCH NAME remove PATH: record a patch that removes a file without lines\n\
+            record BRANCH NAME edit PATH LINE: record an edit; its body follows, up to end\n\
+            record BRANCH NAME group: record several changes, which follow, up to done\n"
+        }
+        Topic::Pull => {
+            "pull FROM TO: bring to TO all patches of FROM that it lacks\n\
+            pull FROM TO NAME ..: bring those of these names\n"
+        }
+        Topic::Obliterate => "obliterate BRANCH NAME ..: take patches out of a branch\n",
+        Topic::Tree => "tree BRANCH: the files of a branch\n",
+        Topic::Conflicts => {
+            "conflicts BRANCH: the pairs of patches of a branch that are in conflict\n"
+        }
+        Topic::Names => "names BRANCH: the patches of a branch\n",
+        Topic::Needs => "needs BRANCH NAME ..: what comes along where these patches are pulled\n",
+        Topic::Held => "held BRANCH NAME ..: what must go where these patches are taken out\n",
+        Topic::Missing => "missing FROM TO: the patches that FROM has and TO lacks\n",
+        Topic::Show => "show BRANCH NAME: a patch as it stands in a branch\n",
+        Topic::Annotate => {
+            "annotate BRANCH PATH: the lines of a file, and which patch put each there\n"
+        }
+        Topic::Graph => "graph BRANCH: how the patches hang together, for Graphviz\n",
+        Topic::WhatIf => "whatif COMMAND: what a command would be answered; nothing changes\n",
+        Topic::History => "history: the accepted commands\n",
+        Topic::Keep => "keep: a script that gives the repository back\n",
+        Topic::Help => {
+            "help: all commands\n\
+            help COMMAND: more about one\n"
+        }
+    }
+}
+
+// More about a command, where there is more to tell.
+fn details(topic: Topic) -> &'static str
+    ensures { result.now ≡ details topic }
+{
+    match topic {
+        Topic::Record => {
+            "A body has the old lines, each behind -, and then the new ones, each behind +.\n\
+            A group has 1 to 64 changes: add PATH, remove PATH, or edit PATH LINE with its body.\n"
+        }
+        Topic::Obliterate => {
+            "No patch that stays may depend on one that goes: held tells which do.\n"
+        }
+        Topic::Needs | Topic::Held => {
+            "The patches themselves are told, too, all in the order of the branch.\n"
+        }
+        Topic::Missing => "This is what pull FROM TO would bring.\n",
+        Topic::Show => {
+            "Its catches, a line for each: [PATCH], or (EFFECT, CONFLICTS, IDENTITY) in a conflict.\n\
+            Then what they change, as a script has it.\n"
+        }
+        Topic::Graph => {
+            "An arrow leads to what a patch needs directly; a dashed line joins two in conflict.\n"
+        }
+        Topic::WhatIf => {
+            "If it would be accepted: the conflicts and the files that its branch would have, too.\n"
+        }
+        Topic::History => "Of each its number, its seat, which is 0, and its words.\n",
+        _ => "",
+    }
+}
+
+// A command as one writes it.
+fn example(topic: Topic) -> &'static str
+    ensures { result.now ≡ example topic }
+{
+    match topic {
+        Topic::Commands => "",
+        Topic::Branch => "branch anna main\n",
+        Topic::Record => "record main hello edit notes 1\n+hello\nend\n",
+        Topic::Pull => "pull anna main\n",
+        Topic::Obliterate => "obliterate main hello\n",
+        Topic::Tree => "tree main\n",
+        Topic::Conflicts => "conflicts main\n",
+        Topic::Names => "names main\n",
+        Topic::Needs => "needs main hello\n",
+        Topic::Held => "held main hello\n",
+        Topic::Missing => "missing anna main\n",
+        Topic::Show => "show main hello\n",
+        Topic::Annotate => "annotate main notes\n",
+        Topic::Graph => "graph main\n",
+        Topic::WhatIf => "whatif pull anna main\n",
+        Topic::History => "history\n",
+        Topic::Keep => "keep\n",
+        Topic::Help => "help record\n",
+    }
+}

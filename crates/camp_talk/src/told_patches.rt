@@ -1,0 +1,49 @@
+//! A patch as it stands in a branch, as a text.
+ghost use Rattle.std.specs.Prelude.{◌≡◌, IfOk};
+ghost use Rattle.std.specs.List.{flat_map};
+ghost use Rattle.camp_questions.specs.Showing.{IsShown};
+ghost use Rattle.camp_talk.specs.Told.{IsTold, catch_line, patch_told};
+
+use crate::told::{counted, unanswered};
+use camp_base::Name;
+use camp_catch::Catch;
+use camp_notation::catch_text;
+use camp_questions::{Shown, show};
+use camp_repo::State;
+use camp_script::append_changes;
+use camp_share::Shared;
+use std::alloc::{AllocError, Global};
+
+/// The catches of a patch of a branch, and what they change.
+pub(crate) fn tell_shown(
+    alloc: Global,
+    state: &State,
+    branch: &Name,
+    name: &Name,
+) -> Result<Vec<u8>, AllocError>
+    ensures { IfOk result (λ text. IsTold patch_told (IsShown state.now branch.now name.now) text.items) }
+{
+    match show(state, branch, name) {
+        Ok(shown) => tell_patch(alloc, &shown),
+        Err(why) => unanswered(alloc, why),
+    }
+}
+
+fn tell_patch(alloc: Global, patch: &Shown) -> Result<Vec<u8>, AllocError>
+    ensures { IfOk result (λ text. text.items ≡ patch_told patch.now) }
+{
+    let mut text = catch_lines(alloc, patch.catches())?;
+    append_changes(&mut text, patch.changes())?;
+    counted(alloc, "show", &text)
+}
+
+fn catch_lines(alloc: Global, catches: &[Shared<Catch>]) -> Result<Vec<u8>, AllocError>
+    ensures { IfOk result (λ text. text.items ≡ flat_map catch_line catches.now) }
+{
+    let mut text = Vec::new(alloc);
+    for catch in catches {
+        text.extend_from_slice(catch_text(alloc, &[], catch)?.as_bytes())?;
+        text.push(b'\n')?;
+    }
+    Ok(text)
+}
