@@ -1,4 +1,5 @@
 pub mod Cuts
 pub mod Firsts
+pub mod Loading
 pub mod Parts
 pub mod Turns

@@ -1,6 +1,6 @@
 -- Turns of a conversation, one behind another.
 use Rattle.std.proofs.Common.{◌≡◌, ◌⊎◌, inl, inr, ℕ, ◌+◌, Bool, true, false, List, [], ◌∷◌, ◌++◌, length, Option, Result, Ok, Err, Vec, IfOk, OnErr}
-use Rattle.std.proofs.Common.{refl, sym, ap, subst, ◌∙◌, append-nil, append_assoc}
+use Rattle.std.proofs.Common.{refl, sym, ap, subst, ◌∙◌, append-nil}
 use Rattle.std.specs.List.{flat_map}
 use Rattle.std.specs.Io.KnownBytes.{Appends, Consumes}
 use Rattle.std.proofs.KnownBytes.{Appends-nil, Appends-trans, Consumes-nil, Consumes-trans, Keeps-refl}
@@ -13,7 +13,7 @@ use Rattle.camp_script.specs.declared.faults.LineFault.{LineFault}
 use Rattle.camp_script.specs.declared.faults.ScriptFault.{ScriptFault}
 use Rattle.camp_talk.specs.Answers.{Answers, Entries, Standing, Tells, TellsWant, asked_by, asked_in}
 use Rattle.camp_talk.specs.Cutting.{IsCommand, IsLeft}
-use Rattle.camp_talk.specs.Inside.Parts.{IsReading, ReadsCommand, Uses}
+use Rattle.camp_talk.specs.Inside.Parts.{ReadsCommand}
 use Rattle.camp_talk.specs.Inside.Said.{said_text}
 use Rattle.camp_talk.specs.Talks.{AppendsSome, EndsSo, Exchange, Follow, Holds, Stops, Turns}
 use Rattle.camp_talk.specs.declared.faults.TalkFault.{TalkFault}
@@ -79,7 +79,7 @@ module _ (remaining rest old new : Option (List ℕ)) (before after behind : Sta
       })
 
 -- one more command is answered
-one_more : (first middle last : Standing) (said : List Exchange) (more : Exchange) → Follow first said middle
+pub one_more : (first middle last : Standing) (said : List Exchange) (more : Exchange) → Follow first said middle
     → IsCommand more.command → Answers middle more.command more.answer last → Follow first (said ++ more ∷ []) last
 one_more first middle last [] more follow is answers =
     subst (λ standing. Follow standing (more ∷ []) last) (sym follow) (last, is, answers, refl)

@@ -5,9 +5,11 @@ mod answers;
 mod commands;
 mod faults;
 mod lines;
+mod loads;
 mod readings;
 mod talks;
 
 pub use camp_repo::{Book, State};
-pub use faults::TalkFault;
+pub use faults::{LoadFault, TalkFault};
+pub use loads::load;
 pub use talks::{talk, turn};

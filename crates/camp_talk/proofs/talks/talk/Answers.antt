@@ -1,4 +1,4 @@
-use Rattle.std.proofs.Common.{Bool, true, Ok, subst}
+use Rattle.std.proofs.Common.{Bool, Ok, subst}
 use Rattle.camp_talk.specs.Answers.{Standing}
 use Rattle.camp_talk.specs.Talks.{Turns}
 use Rattle.camp_talk.proofs.Turns.{gives_up, holds_on}
