@@ -1,6 +1,7 @@
 pub mod CallLines
 pub mod Cuts
 pub mod Firsts
+pub mod Loading
 pub mod PairLemmas
 pub mod Parts
 pub mod QuestionWords

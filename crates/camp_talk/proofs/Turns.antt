@@ -80,7 +80,7 @@ module _ (remaining rest old new : Option (List ℕ)) (before after behind : Sta
       })
 
 -- one more command is answered
-one_more : (first middle last : Standing) (said : List Exchange) (more : Exchange) → Follow first said middle
+pub one_more : (first middle last : Standing) (said : List Exchange) (more : Exchange) → Follow first said middle
     → IsCommand more.command → Answers middle more.command more.answer last → Follow first (said ++ more ∷ []) last
 one_more first middle last [] more follow is answers =
     subst (λ standing. Follow standing (more ∷ []) last) (sym follow) (last, is, answers, refl)

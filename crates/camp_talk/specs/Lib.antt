@@ -5,5 +5,6 @@ pub mod Entries
 pub mod Faults
 pub mod Help
 pub mod Inside
+pub mod Loads
 pub mod Talks
 pub mod Told

@@ -1,7 +1,9 @@
 //! Why a conversation ends before its input does.
 ghost use Rattle.std.specs.Prelude.{◌≡◌, Some};
-ghost use Rattle.camp_talk.specs.Faults.{fault_words};
+ghost use Rattle.camp_script.specs.Lines.{without_end};
+ghost use Rattle.camp_talk.specs.Faults.{fault_words, load_status, load_words};
 
+use bstr::BStr;
 use std::error::Error;
 use std::fmt;
 
@@ -38,3 +40,53 @@ impl fmt::Display for TalkFault {
 }
 
 impl Error for TalkFault {}
+
+/// Why a load ended before its input did. Lines count from 1.
+#[derive(Debug, Drop)]
+pub enum LoadFault {
+    /// The command that begins at this line was answered by this text, which is a fault or a refusal.
+    Answer { line: u64, text: Vec<u8> },
+    /// There was no memory for the command that begins at this line, or for its answer.
+    Memory { line: u64 },
+    /// The next command could not be read.
+    Talk(TalkFault),
+}
+
+impl LoadFault {
+    /// The exit status of a program that ends with it.
+    pub fn status(&self) -> u8
+        ensures { result ≡ load_status self.now }
+    {
+        match self {
+            LoadFault::Answer { .. } => 1,
+            LoadFault::Memory { .. } => 3,
+            LoadFault::Talk(fault) => fault.status(),
+        }
+    }
+}
+
+impl fmt::Display for LoadFault {
+    ghost output = { λ fault. Some (load_words fault) };
+
+    fn fmt<W: fmt::Write>(&self, f: &mut fmt::Formatter<W>) -> fmt::Result {
+        match self {
+            LoadFault::Answer { line, text } => {
+                write!(f, "line {line}: {}", BStr::new(without_end(text)))
+            }
+            LoadFault::Memory { line } => write!(f, "line {line}: memory"),
+            LoadFault::Talk(fault) => write!(f, "{fault}"),
+        }
+    }
+}
+
+impl Error for LoadFault {}
+
+// A text without the LF at its end, where it has one.
+fn without_end(text: &[u8]) -> &[u8]
+    ensures { result.now ≡ without_end text.now }
+{
+    match text {
+        [bytes @ .., b'\n'] => bytes,
+        _ => text,
+    }
+}

@@ -6,6 +6,7 @@ mod asking;
 mod commands;
 mod faults;
 mod lines;
+mod loads;
 mod question_words;
 mod questions;
 mod readings;
@@ -22,7 +23,8 @@ mod told_patches;
 mod topics;
 
 pub use camp_repo::{Book, State};
-pub use faults::TalkFault;
+pub use faults::{LoadFault, TalkFault};
+pub use loads::load;
 pub use questions::{Question, Topic};
 pub use talks::{talk, turn};
 pub use tellings::answer_question;

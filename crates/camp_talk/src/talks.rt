@@ -1,12 +1,57 @@
 //! Conversations.
+ghost use Rattle.std.specs.Prelude.{◌≡◌, ◌+◌, IfOk, IfErr};
+ghost use Rattle.camp_talk.specs.Inside.Hearing.{Hears, HearsNothing};
+ghost use Rattle.camp_talk.specs.Inside.Said.{said_text};
 ghost use Rattle.camp_talk.specs.Talks.{Talks, Turns};
 
 use crate::TalkFault;
 use crate::answers::{answer, write_said};
 use crate::readings::{count_lines, read_command};
 use camp_repo::{Book, State};
-use std::alloc::Global;
+use std::alloc::{AllocError, Global};
 use std::io::{BufRead, Write};
+
+/// A command that was read and asked.
+#[derive(Drop)]
+pub(crate) struct Heard {
+    /// The text that answers it, unless there was no memory.
+    pub(crate) said: Result<Vec<u8>, AllocError>,
+    /// The number of its first line.
+    pub(crate) line: u64,
+    /// How many lines were read, its own among them.
+    pub(crate) lines: u64,
+    /// Its last line was read; else the input has ended.
+    pub(crate) is_whole: bool,
+}
+
+/// Reads a command, and asks it of a book at seat 0. So many lines were read before it.
+pub(crate) fn hear<R: BufRead>(
+    alloc: Global,
+    book: &mut Book<State>,
+    lines: u64,
+    reader: &mut R,
+) -> Result<Heard, TalkFault>
+    ensures hears { IfOk result (λ heard. Hears (R.remaining reader.old) (R.remaining reader.new)
+        (record { history = book.old; lines = lines }) heard.is_whole (said_text heard.said)
+        (record { history = book.new; lines = heard.lines })) }
+    ensures line { IfOk result (λ heard. heard.line ≡ lines + 1) }
+    ensures nothing { IfErr result (λ why. HearsNothing (R.remaining reader.old) (R.remaining reader.new)
+        (record { history = book.old; lines = lines }) why book.new) }
+{
+    let Some(line) = lines.checked_add(1) else {
+        return Err(TalkFault::Read);
+    };
+    let command = read_command(alloc, reader)?;
+    let Some(after) = lines.checked_add(count_lines(&command.bytes)) else {
+        return Err(TalkFault::Read);
+    };
+    Ok(Heard {
+        said: answer(alloc, book, lines, &command.asked),
+        line,
+        lines: after,
+        is_whole: command.is_whole,
+    })
+}
 
 /// Reads a command, asks it of a book at seat 0, writes its answer and flushes. Whether there may be
 /// more: else the input has ended. `lines` counts the lines that were read.
@@ -20,15 +65,11 @@ pub fn turn<R: BufRead, W: Write>(
     ensures { Turns (R.remaining reader.old) (R.remaining reader.new) (W.contents writer.old) (W.contents writer.new)
         (record { history = book.old; lines = lines.old }) result (record { history = book.new; lines = lines.new }) }
 {
-    let command = read_command(alloc, reader)?;
-    let Some(next) = lines.checked_add(count_lines(&command.bytes)) else {
-        return Err(TalkFault::Read);
-    };
-    let said = answer(alloc, book, *lines, &command.asked);
-    match write_said(writer, &said) {
+    let heard = hear(alloc, book, *lines, reader)?;
+    match write_said(writer, &heard.said) {
         Ok(()) => {
-            *lines = next;
-            Ok(command.is_whole)
+            *lines = heard.lines;
+            Ok(heard.is_whole)
         }
         Err(why) => Err(why),
     }

@@ -1,0 +1,17 @@
+use Rattle.std.proofs.Common.{Bool, Ok, subst}
+use Rattle.camp_talk.specs.Answers.{Standing}
+use Rattle.camp_talk.specs.Inside.Hearing.{LoadsOne}
+use Rattle.camp_talk.proofs.Loading.{none_done, one_more_done}
+use Rattle.camp_talk.proofs.loads.load.Goals as goal
+
+pub loop-init : goal.loop-init
+loop-init g c = none_done _ _
+
+pub loop-preserved : goal.loop-preserved
+loop-preserved g c =
+    let b = g.R.Read.remaining c.loop.reader in
+    let d = g.R.Read.remaining c.load_one.new.reader in
+    let middle : Standing = record { history = c.loop.book; lines = c.loop.lines } in
+    let last : Standing = record { history = c.load_one.new.book; lines = c.load_one.new.lines } in
+    one_more_done _ b d _ middle last c.loop.invariant
+    (subst (λ (more : Bool). LoadsOne b d middle (Ok more) last) c.in-Ok-true.field-0-test c.in-Ok-true.ensures)

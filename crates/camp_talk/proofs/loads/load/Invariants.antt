@@ -1,0 +1,7 @@
+use Rattle.camp_talk.specs.Loads.{Done}
+use Rattle.camp_talk.proofs.loads.load.Given as goal
+
+abbrev pub invariant-loop : goal.invariant-loop
+invariant-loop g l =
+    Done (g.R.Read.remaining l.initial.reader) (g.R.Read.remaining l.reader) (record { history = l.initial.book; lines = 0 })
+    (record { history = l.book; lines = l.lines })

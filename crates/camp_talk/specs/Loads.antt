@@ -1,0 +1,78 @@
+-- What comes of commands that are loaded: each is asked as in a conversation, and has to be done.
+use Rattle.std.specs.Prelude.{◌≡◌, ◌⊎◌, ℕ, ◌+◌, Bool, true, false, ◌||◌, ◌==◌, List, Option, OnSome, Result, Ok, Err, codes}
+use Rattle.std.specs.List.{All, flat_map, starts_with}
+use Rattle.std.specs.Io.KnownBytes.{Consumes, IsAtEnd}
+use Rattle.camp_talk.specs.Answers.{Answers, Standing, memory_text}
+use Rattle.camp_talk.specs.Cutting.{IsCommand, IsLeft}
+use Rattle.camp_talk.specs.Entries.{Entries}
+use Rattle.camp_talk.specs.Talks.{Exchange, Follow}
+use Rattle.camp_talk.specs.declared.faults.TalkFault.TheVariants as talk
+use Rattle.camp_talk.specs.declared.faults.LoadFault.{LoadFault}
+use Rattle.camp_talk.specs.declared.faults.LoadFault.TheVariants.{Answer, Memory, Talk}
+
+-- whether an answer begins so
+abbrev pub begins : List ℕ → List ℕ → Bool
+begins front answer = starts_with ◌==◌ answer front
+
+-- whether an answer tells that its command was not done: it is a fault, a refusal or want of memory
+abbrev pub tells_failure : List ℕ → Bool
+tells_failure answer = begins (codes "fault ") answer || begins (codes "refused ") answer || begins memory_text answer
+
+-- an answer tells that its command was done, or that nothing was asked
+abbrev pub TellsSuccess : List ℕ → Type 0
+TellsSuccess answer = tells_failure answer ≡ false
+
+-- by what a reader had and has left
+module _ (remaining rest : Option (List ℕ)) where
+  -- these commands were read, no more and no less, and each was done
+  pub record Done (first last : Standing) : Type 0 where
+    pub said : List Exchange
+    pub follow : Follow first said last
+    pub well : All (λ exchange. TellsSuccess exchange.answer) said
+    pub reads : Consumes remaining rest (flat_map (λ exchange. exchange.command) said)
+
+  -- the input has ended, and what it left of a command was done
+  pub record EndsWell (before : Standing) (now : Entries) : Type 0 where
+    pub said : Exchange
+    pub is : IsLeft said.command
+    pub after : Standing
+    pub answers : Answers before said.command said.answer after
+    pub well : TellsSuccess said.answer
+    pub same : now ≡ after.history
+    pub reads : Consumes remaining rest said.command
+    pub ends : OnSome remaining (IsAtEnd rest)
+
+  -- the command that begins at this line was read, and answered so: it was not done, and nothing has changed
+  pub record Fails (before : Standing) (line : ℕ) (answer : List ℕ) (now : Entries) : Type 0 where
+    pub command : List ℕ
+    pub is : IsCommand command ⊎ IsLeft command
+    pub after : Standing
+    pub answers : Answers before command answer after
+    pub failure : tells_failure answer ≡ true
+    pub at : line ≡ before.lines + 1
+    pub same : now ≡ before.history
+    pub reads : Consumes remaining rest command
+
+  -- a command could not be read: no call was asked
+  pub record Breaks (before : Standing) (now : Entries) : Type 0 where
+    pub some : List ℕ
+    pub reads : Consumes remaining rest some
+    pub same : now ≡ before.history
+
+  -- what a load comes to, where these commands were done
+  abbrev pub Ends : Standing → Result (Unit {0}) LoadFault → Entries → Type 0
+  Ends before (Ok done) now = EndsWell before now
+  Ends before (Err (Answer line text)) now = Fails before line text.items now
+  Ends before (Err (Memory line)) now = Fails before line memory_text now
+  Ends before (Err (Talk talk.Memory)) now = Breaks before now
+  Ends before (Err (Talk talk.Read)) now = Breaks before now
+  Ends before (Err (Talk talk.Write)) now = ⊥
+
+-- a load that begins with the accepted calls of a book, and before the first line: commands were done, one after the
+-- other; Ok, and the input has ended, or else the next one was not done
+pub record Loads (remaining rest : Option (List ℕ)) (history : Entries) (result : Result (Unit {0}) LoadFault) (now : Entries)
+    : Type 0 where
+  pub left : Option (List ℕ)
+  pub middle : Standing
+  pub done : Done remaining left (record { history = history; lines = 0 }) middle
+  pub ends : Ends left rest middle result now

@@ -1,0 +1,68 @@
+//! Commands that are loaded: each has to be done.
+ghost use Rattle.std.specs.Prelude.{◌≡◌};
+ghost use Rattle.camp_talk.specs.Inside.Hearing.{LoadsOne};
+ghost use Rattle.camp_talk.specs.Loads.{Loads, tells_failure};
+
+use crate::talks::{Heard, hear};
+use crate::{LoadFault, TalkFault};
+use camp_repo::{Book, State};
+use std::alloc::Global;
+use std::io::BufRead;
+
+/// Asks the commands of a reader of a book at seat 0, one after the other, until the input ends or one is
+/// not done. Of the answers only the one that tells so is kept.
+pub fn load<R: BufRead>(
+    alloc: Global,
+    book: &mut Book<State>,
+    reader: &mut R,
+) -> Result<(), LoadFault>
+    ensures { Loads (R.remaining reader.old) (R.remaining reader.new) book.old result book.new }
+{
+    let mut lines = 0;
+    for _ in 0..u64::MAX {
+        match load_one(alloc, book, &mut lines, reader) {
+            Ok(true) => {}
+            Ok(false) => return Ok(()),
+            Err(why) => return Err(why),
+        }
+    }
+    Err(LoadFault::Talk(TalkFault::Read))
+}
+
+// Loads a command. Whether there may be more: else the input has ended. `lines` counts those that were read.
+fn load_one<R: BufRead>(
+    alloc: Global,
+    book: &mut Book<State>,
+    lines: &mut u64,
+    reader: &mut R,
+) -> Result<bool, LoadFault>
+    ensures { LoadsOne (R.remaining reader.old) (R.remaining reader.new) (record { history = book.old; lines = lines.old })
+        result (record { history = book.new; lines = lines.new }) }
+{
+    let Heard {
+        said,
+        line,
+        lines: after,
+        is_whole,
+    } = match hear(alloc, book, *lines, reader) {
+        Ok(heard) => heard,
+        Err(why) => return Err(LoadFault::Talk(why)),
+    };
+    let Ok(text) = said else {
+        return Err(LoadFault::Memory { line });
+    };
+    if tells_failure(&text) {
+        return Err(LoadFault::Answer { line, text });
+    }
+    *lines = after;
+    Ok(is_whole)
+}
+
+// Whether an answer tells that its command was not done.
+fn tells_failure(answer: &[u8]) -> bool
+    ensures { result ≡ tells_failure answer.now }
+{
+    answer.starts_with(b"fault ")
+        || answer.starts_with(b"refused ")
+        || answer.starts_with(b"memory\n")
+}
