@@ -13,11 +13,11 @@ use Rattle.camp_questions.specs.declared.graphs.Node.{Node}
 use Rattle.camp_questions.proofs.BranchGrowths.{needs_are_determined}
 use Rattle.camp_questions.proofs.Growths.{in_order_there}
 
-both : (a b : Bool) → (a && b) ≡ true → (a ≡ true) × (b ≡ true)
+pub both : (a b : Bool) → (a && b) ≡ true → (a ≡ true) × (b ≡ true)
 both true b e = (refl, e)
 both false b e = cc
 
-and_true : (a b : Bool) → a ≡ true → b ≡ true → (a && b) ≡ true
+pub and_true : (a b : Bool) → a ≡ true → b ≡ true → (a && b) ≡ true
 and_true true b e f = f
 and_true false b e f = cc
 
@@ -26,7 +26,7 @@ not_true false e = refl
 not_true true e = cc
 
 module _ (branch : List Catch) where
-  one_needed : (names needed other : List (List ℕ)) → Needs branch names needed → Needs branch names other → needed ≡ other
+  pub one_needed : (names needed other : List (List ℕ)) → Needs branch names needed → Needs branch names other → needed ≡ other
   one_needed names needed other v w =
       let one = needs_are_determined branch names in one.2 needed v ∙ sym (one.2 other w)
 
@@ -35,13 +35,13 @@ module _ (branch : List Catch) where
   apart other name false e different = refl
 
   -- what a patch needs is known
-  needs_known : (patch : Needing) → NeedsThese branch patch → (other : List ℕ) → NeedsPatch branch patch.name other → needs_other patch other ≡ true
+  pub needs_known : (patch : Needing) → NeedsThese branch patch → (other : List ℕ) → NeedsPatch branch patch.name other → needs_other patch other ≡ true
   needs_known patch these other needs =
       let same = one_needed (patch.name ∷ []) these.0 needs.1.0 these.1 needs.1.1 in
       and_true (not (bytes_eq other patch.name)) (is_among patch.needs other) (apart other patch.name (bytes_eq other patch.name) refl needs.0) (these.2 other ∙ ap (λ l. is_among l other) same ∙ needs.1.2)
 
   -- what is known is needed
-  known_needs : (patch : Needing) → NeedsThese branch patch → (other : List ℕ) → needs_other patch other ≡ true → NeedsPatch branch patch.name other
+  pub known_needs : (patch : Needing) → NeedsThese branch patch → (other : List ℕ) → needs_other patch other ≡ true → NeedsPatch branch patch.name other
   known_needs patch these other known =
       let parts = both (not (bytes_eq other patch.name)) (is_among patch.needs other) known in (
         λ same. true≢false (sym (ap (λ n. bytes_eq n patch.name) same ∙ name_itself patch.name) ∙ not_true (bytes_eq other patch.name) parts.0),
@@ -63,18 +63,18 @@ module _ (branch : List Catch) where
   found_at test patch all true e these any later = (patch, these, e)
   found_at test patch all false e these any later = later any
 
-  one_passes : (test : Needing → Bool) (all : List Needing) → AllByRecursion (NeedsThese branch) all → list_any test all ≡ true → (p : Needing) × NeedsThese branch p × (test p ≡ true)
+  pub one_passes : (test : Needing → Bool) (all : List Needing) → AllByRecursion (NeedsThese branch) all → list_any test all ≡ true → (p : Needing) × NeedsThese branch p × (test p ≡ true)
   one_passes test [] each any = absurd (true≢false (sym any))
   one_passes test (patch ∷ all) each any =
       found_at test patch all (test patch) refl each.0 any (one_passes test all each.1)
 
   -- what is needed is a patch of the branch
-  is_there : (name other : List ℕ) → NeedsPatch branch name other → is_among (names_of branch) other ≡ true
+  pub is_there : (name other : List ℕ) → NeedsPatch branch name other → is_among (names_of branch) other ≡ true
   is_there name other needs =
       among_once (map name_of branch) other ∙ in_order_there branch ((name ∷ []) ++ needs.1.1.0) other (ap (λ l. is_among l other) (sym needs.1.1.2) ∙ needs.1.2)
 
   module _ (all : List Needing) (names : map (λ (p : Needing). p.name) all ≡ names_of branch) (each : AllByRecursion (NeedsThese branch) all) (patch : Needing) (these : NeedsThese branch patch) (other : List ℕ) where
-    arrow_is_need : needs_directly all patch other ≡ true → NeedsDirectly branch patch.name other
+    pub arrow_is_need : needs_directly all patch other ≡ true → NeedsDirectly branch patch.name other
     arrow_is_need e =
         let parts = both (needs_other patch other) (not (list_any (goes_between patch other) all)) e in
         record {

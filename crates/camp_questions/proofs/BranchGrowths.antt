@@ -93,7 +93,7 @@ none_lacked_among branch (n ∷ names) e name there =
     has_at branch n names name (has_patch branch n) (bytes_eq name n) refl e refl there (λ none more. none_lacked_among branch names none name more)
 
 -- a branch lacks none of names that are all its own
-none_lacked : (branch : List Catch) (names : List (List ℕ)) → AreAmong names (map name_of branch) → first_lacked branch names ≡ None
+pub none_lacked : (branch : List Catch) (names : List (List ℕ)) → AreAmong names (map name_of branch) → first_lacked branch names ≡ None
 none_lacked branch [] own = refl
 none_lacked branch (n ∷ names) own =
     ap (λ b. cond b (first_lacked branch names) (Some n)) (own n (ap (λ b. b || is_among names n) (name_itself n))) ∙ none_lacked branch names (λ name there. own name (or_true (bytes_eq name n) (is_among names name) there))

@@ -95,6 +95,16 @@ one_behind : (names : List (List ℕ)) (name n : List ℕ) → is_among (names +
 one_behind names name n =
     among_both names (name ∷ []) n ∙ ap (λ b. is_among names n || b) (or_none (bytes_eq n name))
 
+-- what stops names that are among others is one of these, so all that are added are
+pub all_within : (Done : List (List ℕ) → Type 0) (Stops : List (List ℕ) → List ℕ → Type 0) (others : List (List ℕ)) → ((names : List (List ℕ)) (name : List ℕ) → AreAmong names others → Stops names name → is_among others name ≡ true) → (names added : List (List ℕ)) → AreAmong names others → AreAdded Done Stops names added → AreAmong (names ++ added) others
+all_within Done Stops others each names [] among w = subst (λ l. AreAmong l others) (sym (append-nil names)) among
+all_within Done Stops others each names (n ∷ added) among w =
+    let with_one : AreAmong (names ++ n ∷ []) others = λ name there. elim (or_cases (is_among names name) (bytes_eq name n) (sym (one_behind names n name) ∙ there)) [
+      | inl e ↦ among name e
+      | inr e ↦ ap (is_among others) (same_name name n e) ∙ each names n among w.0
+    ] in
+    subst (λ l. AreAmong l others) (moved names n added) (all_within Done Stops others each (names ++ n ∷ []) added with_one w.1)
+
 module _ (own : List (List ℕ)) (Done : List (List ℕ) → Type 0) (Stops : List (List ℕ) → List ℕ → Type 0) (grow : Grow own Done Stops) where
   added_within : (n : ℕ) (names : List (List ℕ)) → length (left_of own names) ≤ n → Done names ⊎ ((name : List ℕ) × Stops names name) → (added : List (List ℕ)) × AreAdded Done Stops names added
   added_within n names few (inl done) = ([], done)
@@ -123,13 +133,8 @@ module _ (own : List (List ℕ)) (Done : List (List ℕ) → Type 0) (Stops : Li
 
   -- all of them are own
   pub all_own : (names added : List (List ℕ)) → AreAmong names own → AreAdded Done Stops names added → AreAmong (names ++ added) own
-  all_own names [] among w = subst (λ l. AreAmong l own) (sym (append-nil names)) among
-  all_own names (n ∷ added) among w =
-      let with_one : AreAmong (names ++ n ∷ []) own = λ name there. elim (or_cases (is_among names name) (bytes_eq name n) (sym (one_behind names n name) ∙ there)) [
-        | inl e ↦ among name e
-        | inr e ↦ ap (is_among own) (same_name name n e) ∙ grow.has names n w.0
-      ] in
-      subst (λ l. AreAmong l own) (moved names n added) (all_own (names ++ n ∷ []) added with_one w.1)
+  all_own names added among w =
+      all_within Done Stops own (λ before name all stop. grow.has before name stop) names added among w
 
   -- with all of them it is done
   pub all_done : (names added : List (List ℕ)) → AreAdded Done Stops names added → Done (names ++ added)

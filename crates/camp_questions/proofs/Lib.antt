@@ -6,7 +6,10 @@ pub mod Foreseeing
 pub mod GraphSteps
 pub mod Growing
 pub mod Growths
+pub mod LeastNeeds
 pub mod LineNames
 pub mod MissingNames
+pub mod PatchFronts
+pub mod ReachedNeeds
 pub mod ShownPatches
 pub mod Stuck

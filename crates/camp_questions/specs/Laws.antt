@@ -1,14 +1,18 @@
 -- The laws of questions.
-use Rattle.std.specs.Prelude.{◌≡◌, ◌≢◌, ◌↔◌, ◌≤◌, ℕ, ◌+◌, ◌-◌, true, false, List, [], ◌∷◌, ◌++◌, length, None, Some}
+use Rattle.std.specs.Prelude.{◌≡◌, ◌≢◌, ◌↔◌, ◌≤◌, ℕ, ◌+◌, ◌-◌, true, false, List, [], ◌∷◌, ◌++◌, map, length, None, Some}
+use Rattle.std.specs.Prelude.{Contains}
 use Rattle.std.specs.FinMap.{get}
 use Rattle.std.specs.List.{All, AllByRecursion}
 use Rattle.camp_base.specs.Trees.{Files, Lines}
 use Rattle.camp_prim.specs.Effect.{flipped}
 use Rattle.camp_prim.specs.Hunks.{Edit}
 use Rattle.camp_prim.specs.declared.labels.Key.{Key}
+use Rattle.camp_prim.specs.declared.named.Named.{Named}
 use Rattle.camp_prim.specs.declared.primitives.Primitive.{Primitive}
+use Rattle.camp_seq.specs.Room.{HasRoom}
 use Rattle.camp_catch.specs.declared.catches.Catch.{Catch}
-use Rattle.camp_branch.specs.Branches.{LeadsTo, has_patch, is_among, names_of, recorded}
+use Rattle.camp_catch.specs.declared.catches.Catch.TheVariants.{Plain}
+use Rattle.camp_branch.specs.Branches.{IsLawful as IsLawfulBranch, LeadsTo, has_patch, is_among, names_of, recorded}
 use Rattle.camp_branch.specs.Laws.{ExactlyOne}
 use Rattle.camp_call.specs.declared.calls.Call.TheVariants as call
 use Rattle.camp_call.specs.declared.replies.Refusal.TheVariants.{NothingToDo}
@@ -22,6 +26,7 @@ use Rattle.camp_questions.specs.Dependencies.{AreHeldIn, ComeToFront, HeldBy, Ne
 use Rattle.camp_questions.specs.Differences.{missing_in}
 use Rattle.camp_questions.specs.Graphs.{Drawn, IsGraph}
 use Rattle.camp_questions.specs.Showing.{patch_in}
+use Rattle.camp_questions.specs.declared.graphs.Node.{Node}
 
 -- a pull without names that is accepted gives a branch its old names and then those that it was missing; where it is
 -- missing none, such a pull has nothing to do
@@ -59,6 +64,19 @@ NeedsComeFirst =
 -- of some names, one list is needed
 abbrev pub NeedsAreDetermined : Type 0
 NeedsAreDetermined = (branch : List Catch) (names : List (List ℕ)) → ExactlyOne (Needs branch names)
+
+-- a branch has plain catches alone, and their patches have room
+pub record IsPlain (branch : List Catch) : Type 0 where
+  pub patches : List Named
+  pub are : branch ≡ map Plain patches
+  pub room : HasRoom patches
+
+-- of a branch with plain catches alone that have room, what names need is among all others that have these names among
+-- them and come to its front
+abbrev pub NeedsAreLeast : Type 0
+NeedsAreLeast =
+    (branch : List Catch) (names needed others : List (List ℕ)) → IsPlain branch → Needs branch names needed →
+    AreAmong names others → ComeToFront branch others → AreAmong needed others
 
 -- an obliteration of what is held by patches of a branch is accepted, and it has grown from them by what depends on them
 abbrev pub HeldCanGo : Type 0
@@ -107,3 +125,20 @@ ArrowsAreDirectNeeds =
     (branch : List Catch) (graph : Drawn) → IsGraph branch graph →
     AllByRecursion (λ node. (other : List ℕ) → (is_among node.needs other ≡ true) ↔ NeedsDirectly branch node.name other)
     graph.patches
+
+-- an arrow of a graph leads from one patch to another
+abbrev pub Arrow : Drawn → List ℕ → List ℕ → Type 0
+Arrow graph name other =
+    (node : Node) × Contains graph.patches node × (node.name ≡ name) × (is_among node.needs other ≡ true)
+
+-- what is reached from a patch along arrows: the patch, and what is reached from where an arrow of it leads
+pub data IsReached : Drawn → List ℕ → List ℕ → Type 0 where
+  itself : {graph : Drawn} {name : List ℕ} → IsReached graph name name
+  along : {graph : Drawn} {name between other : List ℕ} → Arrow graph name between → IsReached graph between other → IsReached graph name other
+
+-- in the graph of a lawful branch with plain catches alone that have room, what a patch needs is what is reached from it
+abbrev pub NeedsAreReached : Type 0
+NeedsAreReached =
+    (branch : List Catch) (graph : Drawn) (name : List ℕ) (needed : List (List ℕ)) → IsLawfulBranch branch →
+    IsPlain branch → IsGraph branch graph → has_patch branch name ≡ true → Needs branch (name ∷ []) needed →
+    (other : List ℕ) → (is_among needed other ≡ true) ↔ IsReached graph name other

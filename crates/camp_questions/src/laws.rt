@@ -1,4 +1,4 @@
-ghost use Rattle.camp_questions.specs.Laws.{ArrowsAreDirectNeeds, HeldCanGo, HeldIsDetermined, LinesHaveNames, MissingIsPulled, NeedsAreDetermined, NeedsComeFirst, RecordedIsShown};
+ghost use Rattle.camp_questions.specs.Laws.{ArrowsAreDirectNeeds, HeldCanGo, HeldIsDetermined, LinesHaveNames, MissingIsPulled, NeedsAreDetermined, NeedsAreLeast, NeedsAreReached, NeedsComeFirst, RecordedIsShown};
 
 /// A pull without names that is accepted brings what is missing, in this order; where nothing is
 /// missing, it is refused as having nothing to do.
@@ -10,6 +10,12 @@ pub fn missing_is_pulled()
 /// it was met by a part of it that stuck.
 pub fn needs_come_first()
     ensures { NeedsComeFirst }
+{}
+
+/// Where all catches of a branch are plain and have room, what some patches need is the least that has
+/// them and comes to the front of the branch.
+pub fn needs_are_least()
+    ensures { NeedsAreLeast }
 {}
 
 /// Patches need exactly one list of names.
@@ -42,4 +48,10 @@ pub fn recorded_is_shown()
 /// The arrows of a graph lead from each patch to just those that it needs directly.
 pub fn arrows_are_direct_needs()
     ensures { ArrowsAreDirectNeeds }
+{}
+
+/// In the graph of a lawful branch, where all catches are plain and have room, what a patch needs is
+/// what is reached from it along the arrows.
+pub fn needs_are_reached()
+    ensures { NeedsAreReached }
 {}

@@ -23,6 +23,6 @@ pub use graph_texts::graph_text;
 pub use graphs::{Node, PatchGraph, graph};
 pub use laws::{
     arrows_are_direct_needs, held_can_go, held_is_determined, lines_have_names, missing_is_pulled,
-    needs_are_determined, needs_come_first, recorded_is_shown,
+    needs_are_determined, needs_are_least, needs_are_reached, needs_come_first, recorded_is_shown,
 };
 pub use showing::{Shown, show};

@@ -47,6 +47,14 @@ impl Shown {
     {
         &self.changes
     }
+
+    /// What they change, given away.
+    pub fn into_changes(self) -> Vec<Primitive>
+        ensures { result.items ≡ self.changes }
+    {
+        let Shown { changes, .. } = self;
+        changes
+    }
 }
 
 /// A patch as it stands in a branch. Its catches and the lines of its changes are shared with the

@@ -1,0 +1,32 @@
+-- What names need is the least that comes to the front, where all catches are plain and have room.
+use Rattle.std.proofs.Common.{◌≡◌, ℕ, Bool, true, false, ◌&&◌, List, ◌++◌, sym, ap, ◌∙◌, subst}
+use Rattle.std.specs.Prelude.{Contains}
+use Rattle.camp_catch.specs.Arranging.{ArrangeSticks}
+use Rattle.camp_catch.specs.declared.catches.Catch.{Catch}
+use Rattle.camp_catch.proofs.PlainArranging.{what_stops_comes_along}
+use Rattle.camp_branch.specs.Branches.{is_among, names_of}
+use Rattle.camp_branch.proofs.Names.{is_among_is}
+use Rattle.camp_branch.proofs.NamesKept.{among_kept}
+use Rattle.camp_questions.specs.Dependencies.{ComeToFront, StickOn, in_order}
+use Rattle.camp_questions.specs.Laws.{AreAmong, IsPlain, NeedsAreLeast}
+use Rattle.camp_questions.proofs.Growths.{all_within}
+
+-- what stops some names comes along with all that come to the front and have them
+stops_within : (branch : List Catch) (others : List (List ℕ)) → IsPlain branch → ComeToFront branch others → (names : List (List ℕ)) (name : List ℕ) → AreAmong names others → StickOn branch names name → is_among others name ≡ true
+stops_within branch others plain come names name among stop =
+    let sticks = subst (λ list. ArrangeSticks names list stop.0 stop.1) plain.are stop.2 in
+    let along = what_stops_comes_along plain.patches names others plain.room (λ n c. (is_among_is others n).1 (among n ((is_among_is names n).0 c))) stop.0 stop.1 sticks (subst (λ list. ComeToFront list others) plain.are come) in
+    (is_among_is others name).0 (subst (λ n. Contains others n) (sym stop.3) along)
+
+second : (a b : Bool) → (a && b) ≡ true → b ≡ true
+second true b e = e
+second false b e = cc
+
+-- what stands in the order of a branch is among the names that stand so
+pub in_order_among : (branch : List Catch) (names : List (List ℕ)) → AreAmong (in_order branch names) names
+in_order_among branch names n there =
+    second (is_among (names_of branch) n) (is_among names n) (sym (among_kept (is_among names) (names_of branch) n) ∙ there)
+
+pub needs_are_least : NeedsAreLeast
+needs_are_least branch names needed others plain needs among come name there =
+    all_within (ComeToFront branch) (StickOn branch) others (stops_within branch others plain come) names needs.0 among needs.1 name (in_order_among branch (names ++ needs.0) name (ap (λ l. is_among l name) (sym needs.2) ∙ there))

@@ -1,0 +1,166 @@
+-- The patches of a lawful branch up to one come to its front, as they stand there.
+use Rattle.std.proofs.Common.{◌≡◌, ◌≢◌, ◌<◌, ℕ, zero, suc, ◌+◌, Bool, true, false, true≢false, ◌||◌, cond, List, [], ◌∷◌, ◌++◌, bytes_eq, append-nil, refl, sym, ap, ◌∙◌, subst, inl, inr, arith}
+use Rattle.std.specs.List.{AllByRecursion}
+use Rattle.std.proofs.lemmas.List.{append_assoc}
+use Rattle.camp_prim.specs.declared.labels.Key.{Key}
+use Rattle.camp_catch.specs.Arranging.{ArrangesBehind}
+use Rattle.camp_catch.specs.Laws.{keys_of}
+use Rattle.camp_catch.specs.declared.catches.Catch.{Catch}
+use Rattle.camp_branch.specs.Branches.{AreDistinct, HasPatches, Patch, is_among, labels_from, labels_of, name_of, names_of, patch_names}
+use Rattle.camp_branch.proofs.BranchLabels.{names_of_patches}
+use Rattle.camp_branch.proofs.Names.{all_append, is_among_is, name_itself, or_true, same_name}
+use Rattle.camp_questions.specs.Dependencies.{ComeToFront}
+
+-- names up to one
+abbrev pub up_to : List (List ℕ) → List ℕ → List (List ℕ)
+up_to [] name = []
+up_to (n ∷ names) name = cond (bytes_eq name n) (n ∷ []) (n ∷ up_to names name)
+
+-- the place of a name
+abbrev pub place_of : List (List ℕ) → List ℕ → ℕ
+place_of [] name = zero
+place_of (n ∷ names) name = cond (bytes_eq name n) zero (suc (place_of names name))
+
+earlier_at : (n : List ℕ) (names : List (List ℕ)) (name other : List ℕ) (b c : Bool) → bytes_eq name n ≡ b → bytes_eq other n ≡ c → is_among (cond b (n ∷ []) (n ∷ up_to names name)) other ≡ true → other ≢ name → (is_among (up_to names name) other ≡ true → place_of names other < place_of names name) → cond c zero (suc (place_of names other)) < cond b zero (suc (place_of names name))
+earlier_at n names name other true true e f there different rest =
+    absurd (different (same_name other n f ∙ sym (same_name name n e)))
+earlier_at n names name other true false e f there different rest =
+    absurd (true≢false (sym there ∙ ap (λ b. b || false) f))
+earlier_at n names name other false true e f there different rest = omega arith
+earlier_at n names name other false false e f there different rest =
+    let less = rest (sym (ap (λ b. b || is_among (up_to names name) other) f) ∙ there) in omega (less, arith)
+
+-- names up to one, but for it, stand before it
+pub earlier : (names : List (List ℕ)) (name other : List ℕ) → is_among (up_to names name) other ≡ true → other ≢ name → place_of names other < place_of names name
+earlier [] name other there different = absurd (true≢false (sym there))
+earlier (n ∷ names) name other there different =
+    earlier_at n names name other (bytes_eq name n) (bytes_eq other n) refl refl there different (λ more. earlier names name other more different)
+
+ends_at : (n : List ℕ) (names : List (List ℕ)) (name : List ℕ) (b : Bool) → bytes_eq name n ≡ b → (b || is_among names name) ≡ true → (is_among names name ≡ true → is_among (up_to names name) name ≡ true) → is_among (cond b (n ∷ []) (n ∷ up_to names name)) name ≡ true
+ends_at n names name true e there rest = ap (λ b. b || false) e
+ends_at n names name false e there rest = or_true (bytes_eq name n) (is_among (up_to names name) name) (rest there)
+
+-- and it is the last of them
+pub ends : (names : List (List ℕ)) (name : List ℕ) → is_among names name ≡ true → is_among (up_to names name) name ≡ true
+ends [] name there = there
+ends (n ∷ names) name there = ends_at n names name (bytes_eq name n) refl there (ends names name)
+
+-- catches are of these names, and are not
+abbrev AreOf : List (List ℕ) → List Catch → Type 0
+AreOf names list = AllByRecursion (λ k. is_among names (name_of k) ≡ true) list
+
+abbrev AreNotOf : List (List ℕ) → List Catch → Type 0
+AreNotOf names list = AllByRecursion (λ k. is_among names (name_of k) ≡ false) list
+
+module _ (names : List (List ℕ)) where
+  others_stay : (rest list : List Catch) → AreNotOf names list → ArrangesBehind names rest list [] (rest ++ list)
+  others_stay rest [] are = (refl, append-nil rest)
+  others_stay rest (k ∷ list) are =
+      inr (λ c. true≢false (sym ((is_among_is names (name_of k)).0 c) ∙ are.0), subst (ArrangesBehind names (rest ++ k ∷ []) list []) (append_assoc rest (k ∷ []) list) (others_stay (rest ++ k ∷ []) list are.1))
+
+  those_come : (front behind : List Catch) → AreOf names front → AreNotOf names behind → ArrangesBehind names [] (front ++ behind) front behind
+  those_come [] behind are others = others_stay [] behind others
+  those_come (k ∷ front) behind are others =
+      inl ((is_among_is names (name_of k)).1 are.0, (k, [], front, (refl, refl), those_come front behind are.1 others, refl))
+
+-- a list in two parts, by its labels
+record PartsByLabels (list : List Catch) (xs ys : List Key) : Type 0 where
+  first : List Catch
+  rest : List Catch
+  is : list ≡ first ++ rest
+  first_keys : keys_of first ≡ xs
+  rest_keys : keys_of rest ≡ ys
+
+same_head : {X : Type 0} {x y : X} {xs ys : List X} → x ∷ xs ≡ y ∷ ys → (x ≡ y) × (xs ≡ ys)
+same_head e = (cc, cc)
+
+parts_by_labels : (list : List Catch) (xs ys : List Key) → keys_of list ≡ xs ++ ys → PartsByLabels list xs ys
+parts_by_labels list [] ys e = record { first = []; rest = list; is = refl; first_keys = refl; rest_keys = e }
+parts_by_labels [] (x ∷ xs) ys e = cc
+parts_by_labels (k ∷ list) (x ∷ xs) ys e =
+    let same = same_head e in
+    let parts = parts_by_labels list xs ys same.1 in
+    record {
+      first = k ∷ parts.first;
+      rest = parts.rest;
+      is = ap (λ l. k ∷ l) parts.is;
+      first_keys = λ i. same.0 i ∷ parts.first_keys i;
+      rest_keys = parts.rest_keys;
+    }
+
+of_one_patch : (list : List Catch) (name : List ℕ) (place changes : ℕ) → keys_of list ≡ labels_from name place changes → AllByRecursion (λ k. name_of k ≡ name) list
+of_one_patch [] name place changes e = tt
+of_one_patch (k ∷ list) name place zero e = cc
+of_one_patch (k ∷ list) name place (suc changes) e =
+    let same = same_head e in
+    (ap (λ key. key.name) same.0, of_one_patch list name (place + 1) changes same.1)
+
+all_are : {P Q : Catch → Type 0} → ((k : Catch) → P k → Q k) → (list : List Catch) → AllByRecursion P list → AllByRecursion Q list
+all_are to [] w = tt
+all_are to (k ∷ list) w = (to k w.0, all_are to list w.1)
+
+both_are : {P Q R : Catch → Type 0} → ((k : Catch) → P k → Q k → R k) → (list : List Catch) → AllByRecursion P list → AllByRecursion Q list → AllByRecursion R list
+both_are to [] v w = tt
+both_are to (k ∷ list) v w = (to k v.0 w.0, both_are to list v.1 w.1)
+
+all_last : (P : Catch → Type 0) (xs ys : List Catch) → AllByRecursion P (xs ++ ys) → AllByRecursion P ys
+all_last P [] ys w = w
+all_last P (x ∷ xs) ys w = all_last P xs ys w.1
+
+at_first : (n : List ℕ) (names : List (List ℕ)) (name : List ℕ) → name ≡ n → is_among (n ∷ names) name ≡ true
+at_first n names name e = ap (λ b. b || is_among names name) (ap (λ l. bytes_eq l n) e ∙ name_itself n)
+
+-- catches are of the patches whose labels they have
+of_patches : (patches : List Patch) (list : List Catch) → keys_of list ≡ labels_of patches → AreOf (patch_names patches) list
+of_patches [] [] e = tt
+of_patches [] (k ∷ list) e = cc
+of_patches (p ∷ patches) list e =
+    let parts = parts_by_labels list (labels_from p.name 1 p.changes) (labels_of patches) e in
+    let first = all_are (λ k is. at_first p.name (patch_names patches) (name_of k) is) parts.first (of_one_patch parts.first p.name 1 p.changes parts.first_keys) in
+    let rest = all_are (λ k there. or_true (bytes_eq (name_of k) p.name) _ there) parts.rest (of_patches patches parts.rest parts.rest_keys) in
+    subst (AreOf (patch_names (p ∷ patches))) (sym parts.is) (all_append (λ k. is_among (patch_names (p ∷ patches)) (name_of k) ≡ true) parts.first parts.rest first rest)
+
+-- one of other names
+is_other : (name n : List ℕ) (names : List (List ℕ)) (b : Bool) → bytes_eq name n ≡ b → is_among names n ≡ false → is_among names name ≡ true → b ≡ false
+is_other name n names true e lacks there =
+    absurd (true≢false (sym there ∙ ap (is_among names) (same_name name n e) ∙ lacks))
+is_other name n names false e lacks there = refl
+
+-- the catches of patches up to one stand before the others
+record StandFirst (names : List (List ℕ)) (list : List Catch) : Type 0 where
+  front : List Catch
+  behind : List Catch
+  is : list ≡ front ++ behind
+  are : AreOf names front
+  others : AreNotOf names behind
+
+stand_first : (patches : List Patch) (list : List Catch) (name : List ℕ) → AreDistinct (patch_names patches) → keys_of list ≡ labels_of patches → StandFirst (up_to (patch_names patches) name) list
+stand_first [] [] name distinct e = record { front = []; behind = []; is = refl; are = tt; others = tt }
+stand_first [] (k ∷ list) name distinct e = cc
+stand_first (p ∷ patches) list name distinct e =
+    let parts = parts_by_labels list (labels_from p.name 1 p.changes) (labels_of patches) e in
+    let own = of_one_patch parts.first p.name 1 p.changes parts.first_keys in
+    let theirs = of_patches patches parts.rest parts.rest_keys in
+    at parts own theirs (stand_first patches parts.rest name distinct.1 parts.rest_keys) (bytes_eq name p.name)
+  where
+    at : (parts : PartsByLabels list (labels_from p.name 1 p.changes) (labels_of patches)) → AllByRecursion (λ k. name_of k ≡ p.name) parts.first → AreOf (patch_names patches) parts.rest → StandFirst (up_to (patch_names patches) name) parts.rest → (b : Bool) → StandFirst (cond b (p.name ∷ []) (p.name ∷ up_to (patch_names patches) name)) list
+    at parts own theirs next true = record {
+      front = parts.first;
+      behind = parts.rest;
+      is = parts.is;
+      are = all_are (λ k is. at_first p.name [] (name_of k) is) parts.first own;
+      others = all_are (λ k there. ap (λ b. b || false) (is_other (name_of k) p.name (patch_names patches) (bytes_eq (name_of k) p.name) refl distinct.0 there)) parts.rest theirs;
+    }
+    at parts own theirs next false = record {
+      front = parts.first ++ next.front;
+      behind = next.behind;
+      is = parts.is ∙ ap (λ l. parts.first ++ l) next.is ∙ sym (append_assoc parts.first next.front next.behind);
+      are = all_append (λ k. is_among (p.name ∷ up_to (patch_names patches) name) (name_of k) ≡ true) parts.first next.front (all_are (λ k is. at_first p.name (up_to (patch_names patches) name) (name_of k) is) parts.first own) (all_are (λ k there. or_true (bytes_eq (name_of k) p.name) _ there) next.front next.are);
+      others = both_are (λ k there not. ap (λ b. b || is_among (up_to (patch_names patches) name) (name_of k)) (is_other (name_of k) p.name (patch_names patches) (bytes_eq (name_of k) p.name) refl distinct.0 there) ∙ not) next.behind (all_last (λ k. is_among (patch_names patches) (name_of k) ≡ true) next.front next.behind (subst (AreOf (patch_names patches)) next.is theirs)) next.others;
+    }
+
+-- the patches of a branch up to one come to its front
+pub up_to_come : (branch : List Catch) (patches : List Patch) (name : List ℕ) → HasPatches branch patches → ComeToFront branch (up_to (names_of branch) name)
+up_to_come branch patches name has =
+    let first = stand_first patches branch name has.distinct has.labels in
+    subst (λ names. ComeToFront branch (up_to names name)) (sym (names_of_patches branch patches has)) (subst (λ list. ComeToFront list (up_to (patch_names patches) name)) (sym first.is) (first.front, first.behind, those_come (up_to (patch_names patches) name) first.front first.behind first.are first.others))

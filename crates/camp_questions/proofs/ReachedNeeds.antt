@@ -1,0 +1,142 @@
+-- What a patch needs is reached from it along the arrows of the graph, where all catches are plain and have room.
+use Rattle.std.proofs.Common.{◌≡◌, ◌<◌, ◌≤◌, ℕ, zero, suc, ◌+◌, Bool, true, false, true≢false, not, ◌||◌, cond, List, [], ◌∷◌, map, bytes_eq, None, Some, refl, sym, ap, ◌∙◌, subst, arith}
+use Rattle.std.specs.Prelude.{◌↔◌, Contains}
+use Rattle.std.specs.List.{AllByRecursion, list_any}
+use Rattle.camp_catch.specs.declared.catches.Catch.{Catch}
+use Rattle.camp_branch.specs.Branches.{IsLawful, has_patch, is_among, name_of, names_of}
+use Rattle.camp_branch.proofs.Names.{name_itself, same_name}
+use Rattle.camp_branch.proofs.NamesKept.{among_once}
+use Rattle.camp_repo.specs.Steps.{first_lacked}
+use Rattle.camp_questions.specs.Dependencies.{Needs}
+use Rattle.camp_questions.specs.Graphs.{Drawn, IsGraph, Needing, NeedsThese, goes_between, needs_other, node_of}
+use Rattle.camp_questions.specs.Laws.{AreAmong, Arrow, IsPlain, IsReached, NeedsAreReached, NeedsDirectly, NeedsPatch, itself, along}
+use Rattle.camp_questions.specs.declared.graphs.Node.{Node}
+use Rattle.camp_questions.proofs.Arrows.{and_true, arrow_is_need, arrows_are_direct_needs, both, is_there, known_needs, needs_known, one_needed, one_passes}
+use Rattle.camp_questions.proofs.BranchGrowths.{needs_are_determined, needs_come_first}
+use Rattle.camp_questions.proofs.LeastNeeds.{needs_are_least}
+use Rattle.camp_questions.proofs.PatchFronts.{earlier, ends, place_of, up_to, up_to_come}
+
+-- one name alone, among others that have it
+alone_among : (name : List ℕ) (others : List (List ℕ)) → is_among others name ≡ true → AreAmong (name ∷ []) others
+alone_among name others has n there = at (bytes_eq n name) refl there
+  where
+    at : (b : Bool) → bytes_eq n name ≡ b → (b || false) ≡ true → is_among others n ≡ true
+    at true e w = ap (is_among others) (same_name n name e) ∙ has
+    at false e w = cc
+
+reached_through : {graph : Drawn} {a b c : List ℕ} → IsReached graph a b → IsReached graph b c → IsReached graph a c
+reached_through itself w = w
+reached_through (along arrow rest) w = along arrow (reached_through rest w)
+
+module _ (P : Node → Type 0) where
+  fact_of : (nodes : List Node) (node : Node) → AllByRecursion P nodes → Contains nodes node → P node
+  fact_of [] node all (k, within, is) = absurd (omega arith)
+  fact_of (n ∷ nodes) node all (zero, within, is) = subst P is all.0
+  fact_of (n ∷ nodes) node all (suc k, within, is) = fact_of nodes node all.1 (k, (omega arith), is)
+
+  -- a node of a name, of which the fact holds
+  abbrev Found : List Node → List ℕ → Type 0
+  Found nodes name = (node : Node) × Contains nodes node × (node.name ≡ name) × P node
+
+  found_at : (n : Node) (nodes : List Node) (name : List ℕ) (b : Bool) → bytes_eq name n.name ≡ b → P n → (b || is_among (map (λ (n : Node). n.name) nodes) name) ≡ true → (is_among (map (λ (n : Node). n.name) nodes) name ≡ true → Found nodes name) → Found (n ∷ nodes) name
+  found_at n nodes name true e fact there later =
+      (n, (zero, (omega arith), refl), sym (same_name name n.name e), fact)
+  found_at n nodes name false e fact there later =
+      let rest = later there in
+      let stands = rest.1 in
+      let within = stands.1 in
+      (rest.0, (suc stands.0, (omega arith), stands.2), rest.2, rest.3)
+
+  -- one of the nodes has the name
+  find : (nodes : List Node) (name : List ℕ) → AllByRecursion P nodes → is_among (map (λ (n : Node). n.name) nodes) name ≡ true → Found nodes name
+  find [] name all there = absurd (true≢false (sym there))
+  find (n ∷ nodes) name all there =
+      found_at n nodes name (bytes_eq name n.name) refl all.0 there (find nodes name all.1)
+
+names_of_nodes : (branch : List Catch) (all list : List Needing) → map (λ (n : Node). n.name) (map (node_of branch all) list) ≡ map (λ (p : Needing). p.name) list
+names_of_nodes branch all [] = refl
+names_of_nodes branch all (p ∷ list) = ap (λ l. p.name ∷ l) (names_of_nodes branch all list)
+
+module _ (branch : List Catch) (graph : Drawn) (plain : IsPlain branch) (is : IsGraph branch graph) where
+  abbrev own : List (List ℕ)
+  own = names_of branch
+
+  -- of a node, its arrows are its direct needs
+  abbrev IsDrawn : Node → Type 0
+  IsDrawn node = (other : List ℕ) → (is_among node.needs other ≡ true) ↔ NeedsDirectly branch node.name other
+
+  own_nodes : map (λ (n : Node). n.name) graph.patches ≡ own
+  own_nodes =
+      ap (map (λ (n : Node). n.name)) is.patches ∙ names_of_nodes branch is.all is.all ∙ is.names
+
+  -- direct needs are arrows
+  arrow_of : (name other : List ℕ) → is_among own name ≡ true → NeedsDirectly branch name other → Arrow graph name other
+  arrow_of name other there direct =
+      let node = find IsDrawn graph.patches name (arrows_are_direct_needs branch graph is) (ap (λ l. is_among l name) own_nodes ∙ there) in
+      (node.0, node.1, node.2, (node.3 other).1 (subst (λ n. NeedsDirectly branch n other) (sym node.2) direct))
+
+  need_of : (name other : List ℕ) → Arrow graph name other → NeedsPatch branch name other
+  need_of name other arrow =
+      let fact = fact_of IsDrawn graph.patches arrow.0 (arrows_are_direct_needs branch graph is) arrow.1 in
+      let direct = (fact other).0 arrow.3 in
+      subst (λ n. NeedsPatch branch n other) arrow.2 direct.needs
+
+  has_own : (name : List ℕ) → is_among own name ≡ has_patch branch name
+  has_own name = among_once (map name_of branch) name
+
+  none_lacked : (name : List ℕ) → has_patch branch name ≡ true → first_lacked branch (name ∷ []) ≡ None
+  none_lacked name has = ap (λ b. cond b None (Some name)) has
+
+  -- what is reached is needed
+  reached_is_needed : (name other : List ℕ) (needed : List (List ℕ)) → IsReached graph name other → has_patch branch name ≡ true → Needs branch (name ∷ []) needed → is_among needed other ≡ true
+  reached_is_needed name other needed itself has needs =
+      (needs_come_first branch (name ∷ []) needed (none_lacked name has) needs).1.has name (ap (λ b. b || false) (name_itself name))
+  reached_is_needed name other needed (along {between = between} arrow rest) has needs =
+      let first = need_of name between arrow in
+      let one = needs_are_determined branch (between ∷ []) in
+      let among : is_among needed between ≡ true = ap (λ l. is_among l between) (one_needed branch (name ∷ []) needed first.1.0 needs first.1.1) ∙ first.1.2 in
+      let later = reached_is_needed between other one.0 rest (sym (has_own between) ∙ is_there branch name between first) one.1 in
+      needs_are_least branch (between ∷ []) one.0 needed plain one.1 (alone_among between needed among) (needs_come_first branch (name ∷ []) needed (none_lacked name has) needs).0 other later
+
+  module _ (lawful : IsLawful branch) where
+    -- what a patch needs stands before it
+    stands_before : (name other : List ℕ) → is_among own name ≡ true → NeedsPatch branch name other → place_of own other < place_of own name
+    stands_before name other there needs =
+        let come = up_to_come branch lawful.patches name lawful.has in
+        let among = needs_are_least branch (name ∷ []) needs.1.0 (up_to own name) plain needs.1.1 (alone_among name (up_to own name) (ends own name there)) come other needs.1.2 in
+        earlier own name other among needs.0
+
+    -- by how far it stands before
+    need_is_reached : (n : ℕ) (name other : List ℕ) → is_among own name ≡ true → NeedsPatch branch name other → place_of own name ≤ n + place_of own other → IsReached graph name other
+    need_is_reached zero name other there needs far =
+        let less = stands_before name other there needs in absurd (omega (less, far, arith))
+    need_is_reached (suc n) name other there needs far =
+        let patch : Needing = record { name = name; needs = needs.1.0 } in
+        let these : NeedsThese branch patch = (needs.1.0, needs.1.1, λ m. refl) in
+        elim (list_any (goes_between patch other) is.all) as (λ b. list_any (goes_between patch other) is.all ≡ b → IsReached graph name other) [
+          | true ↦ λ e.
+              let one = one_passes branch (goes_between patch other) is.all is.needs e in
+              let parts = both (needs_other patch one.0.name) (needs_other one.0 other) one.2 in
+              let first = known_needs branch patch these one.0.name parts.0 in
+              let second = known_needs branch one.0 one.1 other parts.1 in
+              let there_too = is_there branch name one.0.name first in
+              let less = stands_before name one.0.name there first in
+              let lesser = stands_before one.0.name other there_too second in
+              reached_through (need_is_reached n name one.0.name there first (omega (less, lesser, far, arith))) (need_is_reached n one.0.name other there_too second (omega (less, lesser, far, arith)))
+          | false ↦ λ e.
+              let known = needs_known branch patch these other needs in
+              let direct = arrow_is_need branch is.all is.names is.needs patch these other (and_true (needs_other patch other) (not (list_any (goes_between patch other) is.all)) known (ap not e)) in
+              along (arrow_of name other there direct) itself
+        ] refl
+
+    needed_is_reached : (name other : List ℕ) (needed : List (List ℕ)) → has_patch branch name ≡ true → Needs branch (name ∷ []) needed → is_among needed other ≡ true → IsReached graph name other
+    needed_is_reached name other needed has needs among = at (bytes_eq other name) refl
+      where
+        at : (b : Bool) → bytes_eq other name ≡ b → IsReached graph name other
+        at true e = subst (IsReached graph name) (sym (same_name other name e)) itself
+        at false e =
+            need_is_reached (place_of own name) name other (has_own name ∙ has) ((λ same. true≢false (sym (ap (λ l. bytes_eq l name) same ∙ name_itself name) ∙ e)), (needed, needs, among)) (omega arith)
+
+pub needs_are_reached : NeedsAreReached
+needs_are_reached branch graph name needed lawful plain is has needs other =
+    (needed_is_reached branch graph plain is lawful name other needed has needs, λ reached. reached_is_needed branch graph plain is name other needed reached has needs)
