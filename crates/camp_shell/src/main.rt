@@ -1,48 +1,63 @@
-//! `camp_shell`: reads commands from standard input, and answers each on standard output as soon as its
-//! last line is read. The exit status is 0 at the end of the input, 2 where the command line is refused,
-//! and 3 where memory ran out for the lines of a command, or input or output failed; standard error says
-//! why.
+//! `camp_shell`: loads the files that `--load` names, then reads commands from standard input, and answers
+//! each on standard output as soon as its last line is read. The exit status is 0 at the end of the input, 1
+//! where a command of a file was answered by a fault or a refusal, 2 where the command line is refused, and
+//! 3 where memory ran out, or input or output failed; standard error says why.
 #![tactic(auto)]
 
 mod stops;
 mod words;
 
-use camp_talk::{Book, State, talk};
-use std::alloc::AllocError;
-use std::env::{self, Env};
-use std::io::{BufReader, ErrorKind};
+use camp_options::{WordsFault, command_line};
+use camp_talk::{Book, State, TalkFault, load, talk};
+use std::fs::{self, File};
+use std::io::{BufReader, Read};
 use std::process::ExitCode;
 use stops::Stop;
-use words::test_words;
+use words::files_to_load;
 
 fn main(rt: HostRuntime) -> ExitCode {
-    let ended = match asked(&rt) {
-        Ok(()) => held(&rt),
-        Err(stop) => Err(stop),
-    };
-    match ended {
-        Ok(()) => ExitCode::SUCCESS,
-        Err(stop) => ExitCode::from(stop.tell(&rt)),
+    match command_line(&rt) {
+        Ok(words) => exit_code(&rt, hold(&rt, words.as_slice())),
+        Err(fault) => exit_code(&rt, Err(Stop::Words(fault))),
     }
 }
 
-// Whether the command line asks for a conversation.
-fn asked<R: Env + AllocGlobal>(rt: &R) -> Result<(), Stop> {
-    let words: Vec<String> = match env::args(rt) {
-        Ok(words) => words.collect(rt.alloc())?,
-        Err(error) if error.kind() == ErrorKind::OutOfMemory => return Err(Stop::from(AllocError)),
-        Err(_) => return Err(Stop::NotText),
-    };
-    Ok(test_words(rt.alloc(), words.as_slice())?)
+// Says why the program ends.
+fn exit_code(rt: &HostRuntime, ended: Result<(), Stop<'_>>) -> ExitCode {
+    match ended {
+        Ok(()) => ExitCode::SUCCESS,
+        Err(stop) => ExitCode::from(stop.tell(rt)),
+    }
 }
 
-// Holds a conversation over a new repository.
-fn held(rt: &HostRuntime) -> Result<(), Stop> {
-    let mut book = Book::<State>::new(rt.alloc())?;
-    let mut reader = match BufReader::new(rt.alloc(), rt.stdin()) {
-        Ok(reader) => reader,
-        Err(_) => return Err(Stop::from(AllocError)),
-    };
+// Loads the files that the words of a command line name into a new repository, and then holds a conversation
+// over it.
+fn hold<'a>(rt: &HostRuntime, words: &'a [String]) -> Result<(), Stop<'a>> {
+    let files = files_to_load(rt.alloc(), words).map_err(WordsFault::from)?;
+    let mut book = Book::new(rt.alloc())?;
+    for file in files.iter() {
+        load_file(rt, &mut book, file)?;
+    }
+    let mut reader = buffered(rt, rt.stdin())?;
     talk(rt.alloc(), &mut book, &mut reader, &mut rt.stdout())?;
     Ok(())
+}
+
+fn load_file<'a>(rt: &HostRuntime, book: &mut Book<State>, file: &'a str) -> Result<(), Stop<'a>> {
+    let opened: File = match fs::open(rt, file) {
+        Ok(opened) => opened,
+        Err(error) => return Err(Stop::Open(file, error)),
+    };
+    let mut reader = buffered(rt, opened)?;
+    match load(rt.alloc(), book, &mut reader) {
+        Ok(()) => Ok(()),
+        Err(fault) => Err(Stop::Load(file, fault)),
+    }
+}
+
+fn buffered<R: Read + Drop>(rt: &HostRuntime, reader: R) -> Result<BufReader<R>, TalkFault> {
+    match BufReader::new(rt.alloc(), reader) {
+        Ok(reader) => Ok(reader),
+        Err(_) => Err(TalkFault::Memory),
+    }
 }

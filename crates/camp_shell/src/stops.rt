@@ -1,63 +1,58 @@
-use camp_talk::TalkFault;
-use clap::Error;
-use clap::error::ErrorKind;
+use camp_options::{WordsFault, tell_fault};
+use camp_talk::{LoadFault, TalkFault};
 use std::alloc::AllocError;
+use std::io;
 
 /// Why the program ends before its input does.
 #[derive(Debug, Drop)]
-pub(crate) enum Stop {
-    /// A word of the command line is not UTF-8.
-    NotText,
-    /// The command line is refused, or asks for the help text.
-    Words(Error),
+pub(crate) enum Stop<'a> {
+    /// The command line asks for no conversation.
+    Words(WordsFault),
+    /// A file could not be opened.
+    Open(&'a str, io::Error),
+    /// The commands of a file could not be loaded.
+    Load(&'a str, LoadFault),
     /// The conversation could not go on.
     Talk(TalkFault),
 }
 
-impl Stop {
+const PROGRAM: &str = "camp_shell";
+
+impl Stop<'_> {
     /// Says why, and gives the exit status.
     pub(crate) fn tell<R: Print + Eprint>(&self, rt: &R) -> u8 {
         match self {
-            Stop::NotText => {
-                let _ = eprintln!(rt; "error: a word of the command line is not UTF-8");
-                2
+            Stop::Words(fault) => fault.tell(rt, PROGRAM),
+            Stop::Open(file, error) => {
+                tell_fault(rt, PROGRAM, &format_args!("{file}: {error}"), 3)
             }
-            Stop::Words(error) => tell_words(rt, error),
-            Stop::Talk(fault) => tell_fault(rt, fault),
+            Stop::Load(file, fault) => {
+                tell_fault(
+                    rt,
+                    PROGRAM,
+                    &format_args!("{file}: {fault}"),
+                    fault.status(),
+                )
+            }
+            Stop::Talk(fault) => tell_fault(rt, PROGRAM, fault, fault.status()),
         }
     }
 }
 
-fn tell_words<R: Print + Eprint>(rt: &R, error: &Error) -> u8 {
-    match (error.print(rt), error.use_stderr()) {
-        (Err(_), false) => tell_fault(rt, &TalkFault::Write),
-        (_, false) => 0,
-        (_, true) => 2,
+impl<'a> From<WordsFault> for Stop<'a> {
+    fn from(fault: WordsFault) -> Stop<'a> {
+        Stop::Words(fault)
     }
 }
 
-fn tell_fault<R: Eprint>(rt: &R, fault: &TalkFault) -> u8 {
-    let _ = eprintln!(rt; "camp_shell: {fault}");
-    fault.status()
-}
-
-impl From<Error> for Stop {
-    fn from(error: Error) -> Stop {
-        match error.kind() {
-            ErrorKind::OutOfMemory => Stop::Talk(TalkFault::Memory),
-            _ => Stop::Words(error),
-        }
-    }
-}
-
-impl From<TalkFault> for Stop {
-    fn from(fault: TalkFault) -> Stop {
+impl<'a> From<TalkFault> for Stop<'a> {
+    fn from(fault: TalkFault) -> Stop<'a> {
         Stop::Talk(fault)
     }
 }
 
-impl From<AllocError> for Stop {
-    fn from(_error: AllocError) -> Stop {
+impl<'a> From<AllocError> for Stop<'a> {
+    fn from(_error: AllocError) -> Stop<'a> {
         Stop::Talk(TalkFault::Memory)
     }
 }

@@ -1,5 +1,5 @@
 //! The words of the command line.
-use clap::{Command, Error};
+use clap::{Arg, ArgAction, Command, Error};
 use std::alloc::Global;
 use std::convert::AsStr;
 
@@ -19,19 +19,39 @@ command whose answer has none is ok NUMBER, refused NUMBER .. or one of these:
 Lines without words and lines whose first word begins with # are not answered. client is no command
 here.
 
+With --load the commands of these files are asked first, and their answers are not shown. Where one of
+them is answered by fault, refused or memory, nothing more is read: standard error says the file, the
+line where the command begins, and the answer.
+
 Exit status:
   0  the input has ended, whatever was answered
+  1  a command of a file was answered by fault or refused
   2  the command line is refused
-  3  memory ran out for the lines of a command, or input or output failed; standard error says which
+  3  memory ran out for the lines of a command or for a command of a file, or a file, input or output
+     failed; standard error says which
 
 More: camp --help has the commands and their answers, and docs/shell.md a conversation.";
 
-/// Tests the words of a command line, of which the first is the program's name. The fault is a mistake in
-/// the words, a request for the help text, or want of memory; it shows as the text for the user.
-pub(crate) fn test_words<'a, S: AsStr>(alloc: Global, words: &'a [S]) -> Result<(), Error> {
+/// Reads the words of a command line, of which the first is the program's name: the files to load. The fault
+/// is a mistake in the words, a request for the help text, or want of memory; it shows as the text for the
+/// user.
+pub(crate) fn files_to_load<'a, S: AsStr>(
+    alloc: Global,
+    words: &'a [S],
+) -> Result<Vec<&'a str>, Error> {
+    let load = Arg::new(alloc, "load")
+        .long("load")
+        .num_args(1..)
+        .action(ArgAction::Append)
+        .value_name("FILE")
+        .help("Load these files of commands first, one after the other");
     let command = Command::new(alloc, "camp_shell")
         .override_usage(USAGE)
-        .after_help(REFERENCE);
-    let _matches = command.try_get_matches_from(words)?;
-    Ok(())
+        .after_help(REFERENCE)
+        .arg(load)?;
+    let matches = command.try_get_matches_from(words)?;
+    match matches.get_strs("load") {
+        Some(files) => Ok(Vec::from_slice(alloc, files)?),
+        None => Ok(Vec::new(alloc)),
+    }
 }
