@@ -1,3 +1,4 @@
+pub mod CountLemmas
 pub mod Cuts
 pub mod Firsts
 pub mod PairLemmas

@@ -4,6 +4,7 @@
 mod answers;
 mod commands;
 mod faults;
+mod laws;
 mod lines;
 mod questions;
 mod readings;
@@ -20,6 +21,7 @@ mod told_patches;
 
 pub use camp_repo::{Book, State};
 pub use faults::TalkFault;
+pub use laws::counts_are_told;
 pub use questions::{Question, Topic};
 pub use talks::{talk, turn};
 pub use tellings::answer_question;
