@@ -1,4 +1,5 @@
 pub mod CallLines
+pub mod CountLemmas
 pub mod Cuts
 pub mod Firsts
 pub mod Loading

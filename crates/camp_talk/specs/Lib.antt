@@ -5,6 +5,7 @@ pub mod Entries
 pub mod Faults
 pub mod Help
 pub mod Inside
+pub mod Laws
 pub mod Loads
 pub mod Talks
 pub mod Told

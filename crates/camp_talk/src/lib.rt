@@ -5,6 +5,7 @@ mod answers;
 mod asking;
 mod commands;
 mod faults;
+mod laws;
 mod lines;
 mod loads;
 mod question_words;
@@ -24,6 +25,7 @@ mod topics;
 
 pub use camp_repo::{Book, State};
 pub use faults::{LoadFault, TalkFault};
+pub use laws::counts_are_told;
 pub use loads::load;
 pub use questions::{Question, Topic};
 pub use talks::{talk, turn};
