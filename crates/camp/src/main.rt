@@ -9,11 +9,9 @@ ghost use Rattle.std.specs.Prelude.{IfOk, ◌≤◌};
 mod runs;
 mod stops;
 
-use camp_options::{Options, options};
+use camp_options::{Options, WordsFault, command_line, options};
 use runs::run;
-use std::alloc::AllocError;
-use std::env::{self, Env};
-use std::io::ErrorKind;
+use std::env::Env;
 use std::process::ExitCode;
 use stops::Stop;
 
@@ -23,7 +21,7 @@ fn main(rt: HostRuntime) -> ExitCode {
             let (mut reader, mut writer) = (rt.stdin(), rt.stdout());
             run(&rt, rt.alloc(), &options, &mut reader, &mut writer).map_err(Stop::Run)
         }
-        Err(stop) => Err(stop),
+        Err(fault) => Err(Stop::Words(fault)),
     };
     match ended {
         Ok(()) => ExitCode::SUCCESS,
@@ -32,13 +30,9 @@ fn main(rt: HostRuntime) -> ExitCode {
 }
 
 // What the command line asks for.
-fn asked<R: Env + AllocGlobal>(rt: &R) -> Result<Options, Stop>
+fn asked<R: Env + AllocGlobal>(rt: &R) -> Result<Options, WordsFault>
     ensures { IfOk result (λ options. (1 ≤ options.tries) × (options.tries ≤ 1000)) }
 {
-    let words: Vec<String> = match env::args(rt) {
-        Ok(words) => words.collect(rt.alloc())?,
-        Err(error) if error.kind() == ErrorKind::OutOfMemory => return Err(Stop::from(AllocError)),
-        Err(_) => return Err(Stop::NotText),
-    };
+    let words = command_line(rt)?;
     Ok(options(rt.alloc(), words.as_slice())?)
 }
