@@ -1,3 +1,4 @@
 pub mod Asked
+pub mod Questioned
 pub mod Runs
 pub mod Shared

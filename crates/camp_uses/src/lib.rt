@@ -9,6 +9,7 @@ pub mod heads;
 pub mod keeping;
 pub mod lists;
 pub mod patches;
+pub mod questions;
 pub mod repositories;
 pub mod runs;
 pub mod scripts;

@@ -1,0 +1,18 @@
+use Rattle.std.proofs.Common.{List, ◌++◌, ap, ◌∙◌}
+use Rattle.camp_call.specs.declared.calls.Call.TheVariants as call
+use Rattle.camp_questions.specs.Showing.{Patch}
+use Rattle.camp_script.specs.Canonical.{call_text}
+use Rattle.camp_uses.proofs.Questioned.{shown_is}
+use Rattle.camp_uses.proofs.ReadBack.{shown_reads_back}
+use Rattle.camp_uses.proofs.questions.show_and_read.Goals as goal
+
+-- src/questions.rt:65:1
+pub returns : goal.returns
+returns c =
+    let shown = shown_is c.args.state.now c.args.branch.now c.args.name.now c.in_ok-shown.shown c.in_ok-shown.ensures in
+    let changes = c.into_changes.ensures ∙ ap (λ (patch : Patch). patch.changes) shown.2 in
+    let written = c.deref.ensures.value ∙ c.in_ok-append_call.ensures.text ∙ ap (λ t. t ++ call_text c.in-Some.call) c.new-text.ensures.items in (
+      shown.0,
+      shown.1,
+      shown_reads_back c.canonical_text_reads_back.ensures c.in-Some.call c.args.to.now c.args.name.now _ c.deref.result.now c.in-Ok.script (c.in-Some.ensures.0 ∙ ap (call.Record c.args.to.now c.args.name.now) changes) c.in_ok-append_call.ensures.stands written c.in-Ok.ensures.given,
+    )

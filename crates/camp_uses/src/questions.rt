@@ -1,0 +1,96 @@
+//! Callers of `camp_questions`.
+ghost use Rattle.std.specs.Prelude.{◌≡◌, ◌-◌, ◌^◌, ◌<◌, length, IfErr, IfOk};
+ghost use Rattle.camp_questions.specs.Answers.{Tells};
+ghost use Rattle.camp_uses.specs.Questioned.{GoesWithHeld, IsReadBack, IsRefusal, MayRefuse, PullsWithNeeds};
+
+use crate::calls::record;
+use camp_base::Name;
+use camp_questions::{Unanswered, held_by, held_can_go, needs, needs_come_first, show};
+use camp_repo::{Call, Decided, Refusal, Reply, State, accepted_calls_have_effect};
+use camp_script::{Script, append_call, canonical_text_reads_back, read_script};
+use std::alloc::Global;
+
+/// Pulls patches with all that they need. Where that is accepted, the branch that is pulled into has
+/// the patches, and all that they need; and for want of a patch it is refused only where the other
+/// branch lacks one of these.
+pub fn pull_with_needs(
+    state: &State,
+    from: &Name,
+    to: &Name,
+    names: &[Name],
+) -> Result<State, Unanswered>
+    requires { state.now.count < 2 ^ 64 - 1 }
+    ensures accepted { IfOk result (λ next. PullsWithNeeds state.now from.now to.now names.now next) }
+    ensures refused { IfErr result (λ why. MayRefuse state.now from.now to.now names.now why) }
+{
+    needs_come_first();
+    accepted_calls_have_effect();
+    let needed = needs(state, from, names)?;
+    let _lawful = state.count();
+    let call = Call::Pull {
+        from: *from,
+        to: *to,
+        names: Some(needed),
+    };
+    match state.decide(&call)? {
+        Decided::Next(next) => Ok(next),
+        Decided::Answer(reply) => Err(Unanswered::Refused(refusal_of(&reply))),
+    }
+}
+
+/// The refusal that a reply tells.
+fn refusal_of(reply: &Reply) -> Refusal
+    requires { IsRefusal reply.now }
+    ensures { reply.now ≡ Reply.Refused result }
+{
+    let Reply::Refused(refusal) = reply else {
+        unreachable!();
+    };
+    *refusal
+}
+
+/// Takes patches out of a branch with all that they hold. It is accepted where the branch has the
+/// patches, and the others stay.
+pub fn obliterate_held(state: &State, branch: &Name, names: &[Name]) -> Result<State, Unanswered>
+    requires counts { state.now.count < 2 ^ 64 - 1 }
+    requires some { 0 < length names.now }
+    ensures { Tells (GoesWithHeld state.now branch.now names.now) result }
+{
+    held_can_go();
+    accepted_calls_have_effect();
+    let _lawful = state.count();
+    let held = held_by(state, branch, names)?;
+    let call = Call::Obliterate {
+        branch: *branch,
+        names: held,
+    };
+    match state.decide(&call)? {
+        Decided::Next(next) => Ok(next),
+        Decided::Answer(_) => unreachable!(),
+    }
+}
+
+/// The script that comes back when a patch is shown, written as a record in the branch `to`, and read:
+/// it asks just for the changes that were shown. There is none where they are no change, or more than
+/// a patch may have.
+pub fn show_and_read(
+    alloc: Global,
+    state: &State,
+    branch: &Name,
+    name: &Name,
+    to: &Name,
+) -> Result<Option<Script>, Unanswered>
+    ensures { IfOk result (λ found. IsReadBack state.now branch.now name.now to.now found) }
+{
+    canonical_text_reads_back();
+    let shown = show(state, branch, name)?;
+    let Some(call) = record(*to, *name, shown.into_changes()) else {
+        return Ok(None);
+    };
+    let mut text = Vec::new(alloc);
+    append_call(&mut text, &call)?;
+    let Ok(script) = read_script(alloc, &text) else {
+        return Err(Unanswered::Memory);
+    };
+    Ok(Some(script))
+}
