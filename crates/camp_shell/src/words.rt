@@ -17,7 +17,8 @@ command whose answer has none is ok NUMBER, refused NUMBER .. or one of these:
   memory                        there was no memory for the command or its answer; nothing has changed
 
 Lines without words and lines whose first word begins with # are not answered. client is no command
-here.
+here. Questions are commands, too: needs, held, missing, show, annotate, graph, whatif, history and
+keep. The command help tells how all are written, and help COMMAND more about one.
 
 With --load the commands of these files are asked first, and their answers are not shown. Where one of
 them is answered by fault, refused or memory, nothing more is read: standard error says the file, the
@@ -30,7 +31,8 @@ Exit status:
   3  memory ran out for the lines of a command or for a command of a file, or a file, input or output
      failed; standard error says which
 
-More: camp --help has the commands and their answers, and docs/shell.md a conversation.";
+More: camp --help has the commands of scripts and their answers, docs/shell.md a conversation, and
+docs/questions.md the questions.";
 
 /// Reads the words of a command line, of which the first is the program's name: the files to load. The fault
 /// is a mistake in the words, a request for the help text, or want of memory; it shows as the text for the
