@@ -1,8 +1,9 @@
-ghost use Rattle.std.specs.Prelude.{◌≡◌, IfOk};
+ghost use Rattle.std.specs.Prelude.{◌≡◌, IfOk, OnOk};
 ghost use Rattle.camp_notation.specs.Contexts.{contexted_text, set_text};
 
 use crate::cursors::Cursor;
 use crate::readings::{read_item, read_items};
+use crate::rows::{CURLY, Row, kept, read_row};
 use crate::{NotationError, contexted_text, set_text};
 use camp_ctx::{Contexted, CtxSet};
 use camp_prim::Named;
@@ -19,11 +20,24 @@ pub fn read_contexted(
 {
     let mut cursor = Cursor::new(text);
     let x = read_member(alloc, known, &mut cursor)?;
+    expect_contexted(alloc, known, &x, &cursor, text)?;
+    Ok(x)
+}
+
+fn expect_contexted(
+    alloc: Global,
+    known: &[Named],
+    x: &Contexted,
+    cursor: &Cursor,
+    text: &[u8],
+) -> Result<(), NotationError>
+    ensures { OnOk result (text.now ≡ contexted_text known.now x.now) }
+{
     cursor.expect_end()?;
-    if contexted_text(alloc, known, &x)?.as_bytes() != text {
+    if contexted_text(alloc, known, x)?.as_bytes() != text {
         return Err(NotationError::WrittenOtherwise);
     }
-    Ok(x)
+    Ok(())
 }
 
 /// The set of a text. Members in another order than that of their labels, and a label that stands
@@ -33,11 +47,24 @@ pub fn read_set(alloc: Global, known: &[Named], text: &[u8]) -> Result<CtxSet, N
 {
     let mut cursor = Cursor::new(text);
     let xs = read_members(alloc, known, &mut cursor)?;
+    expect_set(alloc, known, &xs, &cursor, text)?;
+    Ok(xs)
+}
+
+fn expect_set(
+    alloc: Global,
+    known: &[Named],
+    xs: &CtxSet,
+    cursor: &Cursor,
+    text: &[u8],
+) -> Result<(), NotationError>
+    ensures { OnOk result (text.now ≡ set_text known.now xs.now) }
+{
     cursor.expect_end()?;
-    if set_text(alloc, known, &xs)?.as_bytes() != text {
+    if set_text(alloc, known, xs)?.as_bytes() != text {
         return Err(NotationError::WrittenOtherwise);
     }
-    Ok(xs)
+    Ok(())
 }
 
 pub(crate) fn read_members(
@@ -46,18 +73,25 @@ pub(crate) fn read_members(
     cursor: &mut Cursor,
 ) -> Result<CtxSet, NotationError> {
     let mut xs = CtxSet::empty(alloc);
-    cursor.expect(b"{", '{')?;
-    if cursor.take(b"}") {
-        return Ok(xs);
+    let read = read_row(&mut xs, CURLY, alloc, known, cursor);
+    kept(xs, read)
+}
+
+impl Row for CtxSet {
+    fn read_next(
+        &mut self,
+        alloc: Global,
+        known: &[Named],
+        cursor: &mut Cursor,
+    ) -> Result<(), NotationError> {
+        let x = read_member(alloc, known, cursor)?;
+        insert(self, &x)
     }
-    for _ in 0..cursor.len() {
-        xs = xs.insert(&read_member(alloc, known, cursor)?)?;
-        if cursor.take(b"}") {
-            return Ok(xs);
-        }
-        cursor.expect(b", ", ',')?;
-    }
-    Err(NotationError::Expected('}'))
+}
+
+fn insert(xs: &mut CtxSet, x: &Contexted) -> Result<(), NotationError> {
+    *xs = xs.insert(x)?;
+    Ok(())
 }
 
 pub(crate) fn read_member(
@@ -66,9 +100,15 @@ pub(crate) fn read_member(
     cursor: &mut Cursor,
 ) -> Result<Contexted, NotationError> {
     let context = read_context(alloc, known, cursor)?;
+    match read_patch(alloc, known, cursor) {
+        Ok(patch) => Ok(Contexted::new(alloc, context, patch)?),
+        Err(why) => Err(why),
+    }
+}
+
+fn read_patch(alloc: Global, known: &[Named], cursor: &mut Cursor) -> Result<Named, NotationError> {
     cursor.expect(b":", ':')?;
-    let patch = read_item(alloc, known, cursor)?;
-    Ok(Contexted::new(alloc, context, patch)?)
+    read_item(alloc, known, cursor)
 }
 
 // Nothing before a colon, a list between brackets, or one primitive.
@@ -76,9 +116,19 @@ fn read_context(alloc: Global, known: &[Named], cursor: &mut Cursor) -> Result<S
     if cursor.stands_at(b"[") {
         return read_items(alloc, known, cursor);
     }
-    let mut context = Seq::empty(alloc);
-    if !cursor.stands_at(b":") {
-        context.push(read_item(alloc, known, cursor)?)?;
+    if cursor.stands_at(b":") {
+        return Ok(Seq::empty(alloc));
     }
-    Ok(context)
+    let p = read_item(alloc, known, cursor)?;
+    list_of(alloc, p)
+}
+
+fn list_of(alloc: Global, p: Named) -> Result<Seq, NotationError> {
+    let mut context = Seq::empty(alloc);
+    let pushed = push(&mut context, p);
+    kept(context, pushed)
+}
+
+fn push(context: &mut Seq, p: Named) -> Result<(), NotationError> {
+    Ok(context.push(p)?)
 }

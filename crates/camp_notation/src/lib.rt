@@ -11,6 +11,7 @@ mod faults;
 mod lists;
 mod patches;
 mod readings;
+mod rows;
 mod trees;
 mod words;
 

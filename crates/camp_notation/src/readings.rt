@@ -1,4 +1,4 @@
-ghost use Rattle.std.specs.Prelude.{◌≡◌, IfOk};
+ghost use Rattle.std.specs.Prelude.{◌≡◌, IfOk, OnOk};
 ghost use Rattle.camp_notation.specs.Lists.{list_text};
 ghost use Rattle.camp_notation.specs.Patches.{label_text, named_text};
 ghost use Rattle.camp_notation.specs.Trees.{tree_text};
@@ -6,6 +6,7 @@ ghost use Rattle.camp_notation.specs.Words.{lines_text, word_text};
 
 use crate::cursors::Cursor;
 use crate::patches::first_with;
+use crate::rows::{CURLY, Row, SQUARE, kept, read_row};
 use crate::{NotationError, label_text, lines_text, list_text, named_text, tree_text, word_text};
 use camp_base::{Line, Name, Path, Tree};
 use camp_prim::{Label, Lines, Named, Primitive};
@@ -19,11 +20,24 @@ pub fn read_named(alloc: Global, known: &[Named], text: &[u8]) -> Result<Named, 
 {
     let mut cursor = Cursor::new(text);
     let p = read_item(alloc, known, &mut cursor)?;
+    expect_named(alloc, known, &p, &cursor, text)?;
+    Ok(p)
+}
+
+fn expect_named(
+    alloc: Global,
+    known: &[Named],
+    p: &Named,
+    cursor: &Cursor,
+    text: &[u8],
+) -> Result<(), NotationError>
+    ensures { OnOk result (text.now ≡ named_text known.now p.now) }
+{
     cursor.expect_end()?;
-    if named_text(alloc, known, &p)?.as_bytes() != text {
+    if named_text(alloc, known, p)?.as_bytes() != text {
         return Err(NotationError::WrittenOtherwise);
     }
-    Ok(p)
+    Ok(())
 }
 
 /// The list of a text.
@@ -32,11 +46,24 @@ pub fn read_list(alloc: Global, known: &[Named], text: &[u8]) -> Result<Seq, Not
 {
     let mut cursor = Cursor::new(text);
     let s = read_items(alloc, known, &mut cursor)?;
+    expect_list(alloc, known, &s, &cursor, text)?;
+    Ok(s)
+}
+
+fn expect_list(
+    alloc: Global,
+    known: &[Named],
+    s: &Seq,
+    cursor: &Cursor,
+    text: &[u8],
+) -> Result<(), NotationError>
+    ensures { OnOk result (text.now ≡ list_text known.now s.now) }
+{
     cursor.expect_end()?;
-    if list_text(alloc, known, &s)?.as_bytes() != text {
+    if list_text(alloc, known, s)?.as_bytes() != text {
         return Err(NotationError::WrittenOtherwise);
     }
-    Ok(s)
+    Ok(())
 }
 
 /// The tree of a text.
@@ -45,11 +72,23 @@ pub fn read_tree(alloc: Global, text: &[u8]) -> Result<Tree, NotationError>
 {
     let mut cursor = Cursor::new(text);
     let tree = read_files(alloc, &mut cursor)?;
+    expect_tree(alloc, &tree, &cursor, text)?;
+    Ok(tree)
+}
+
+fn expect_tree(
+    alloc: Global,
+    tree: &Tree,
+    cursor: &Cursor,
+    text: &[u8],
+) -> Result<(), NotationError>
+    ensures { OnOk result (text.now ≡ tree_text tree.now) }
+{
     cursor.expect_end()?;
-    if tree_text(alloc, &tree)?.as_bytes() != text {
+    if tree_text(alloc, tree)?.as_bytes() != text {
         return Err(NotationError::WrittenOtherwise);
     }
-    Ok(tree)
+    Ok(())
 }
 
 /// The bytes of a word.
@@ -58,11 +97,23 @@ pub fn read_word(alloc: Global, text: &[u8]) -> Result<Vec<u8>, NotationError>
 {
     let mut cursor = Cursor::new(text);
     let bytes = cursor.word(alloc)?;
+    expect_word(alloc, &bytes, &cursor, text)?;
+    Ok(bytes)
+}
+
+fn expect_word(
+    alloc: Global,
+    bytes: &[u8],
+    cursor: &Cursor,
+    text: &[u8],
+) -> Result<(), NotationError>
+    ensures { OnOk result (text.now ≡ word_text bytes.now) }
+{
     cursor.expect_end()?;
-    if word_text(alloc, &bytes)?.as_bytes() != text {
+    if word_text(alloc, bytes)?.as_bytes() != text {
         return Err(NotationError::WrittenOtherwise);
     }
-    Ok(bytes)
+    Ok(())
 }
 
 /// The lines between brackets.
@@ -71,11 +122,23 @@ pub fn read_lines(alloc: Global, text: &[u8]) -> Result<Vec<Line>, NotationError
 {
     let mut cursor = Cursor::new(text);
     let lines = read_row_of_lines(alloc, &mut cursor)?;
+    expect_lines(alloc, &lines, &cursor, text)?;
+    Ok(lines)
+}
+
+fn expect_lines(
+    alloc: Global,
+    lines: &[Line],
+    cursor: &Cursor,
+    text: &[u8],
+) -> Result<(), NotationError>
+    ensures { OnOk result (text.now ≡ lines_text lines.now) }
+{
     cursor.expect_end()?;
-    if lines_text(alloc, &lines)?.as_bytes() != text {
+    if lines_text(alloc, lines)?.as_bytes() != text {
         return Err(NotationError::WrittenOtherwise);
     }
-    Ok(lines)
+    Ok(())
 }
 
 /// The label of a text.
@@ -93,26 +156,41 @@ pub fn read_label(alloc: Global, text: &[u8]) -> Result<Label, NotationError>
 
 fn read_files(alloc: Global, cursor: &mut Cursor) -> Result<Tree, NotationError> {
     let mut tree = Tree::empty(alloc);
-    cursor.expect(b"{", '{')?;
-    if cursor.take(b"}") {
-        return Ok(tree);
-    }
-    for _ in 0..cursor.len() {
-        read_file(alloc, cursor, &mut tree)?;
-        if cursor.take(b"}") {
-            return Ok(tree);
-        }
-        cursor.expect(b", ", ',')?;
-    }
-    Err(NotationError::Expected('}'))
+    let read = read_row(&mut tree, CURLY, alloc, &[], cursor);
+    kept(tree, read)
 }
 
-fn read_file(alloc: Global, cursor: &mut Cursor, tree: &mut Tree) -> Result<(), NotationError> {
-    let path = Path::new(alloc, &cursor.word(alloc)?)?;
+impl Row for Tree {
+    fn read_next(
+        &mut self,
+        alloc: Global,
+        _known: &[Named],
+        cursor: &mut Cursor,
+    ) -> Result<(), NotationError> {
+        let path = read_path(alloc, cursor)?;
+        read_file(alloc, cursor, self, &path)
+    }
+}
+
+fn read_path(alloc: Global, cursor: &mut Cursor) -> Result<Path, NotationError> {
+    let word = cursor.word(alloc)?;
+    Ok(Path::new(alloc, &word)?)
+}
+
+fn read_file(
+    alloc: Global,
+    cursor: &mut Cursor,
+    tree: &mut Tree,
+    path: &Path,
+) -> Result<(), NotationError> {
     cursor.expect(b": ", ':')?;
     let lines = read_row_of_lines(alloc, cursor)?;
-    tree.add_file(&path)?;
-    Ok(tree.splice(&path, 1, &[], &lines)?)
+    put_file(tree, path, &lines)
+}
+
+fn put_file(tree: &mut Tree, path: &Path, lines: &[Line]) -> Result<(), NotationError> {
+    tree.add_file(path)?;
+    Ok(tree.splice(path, 1, &[], lines)?)
 }
 
 pub(crate) fn read_items(
@@ -121,18 +199,20 @@ pub(crate) fn read_items(
     cursor: &mut Cursor,
 ) -> Result<Seq, NotationError> {
     let mut s = Seq::empty(alloc);
-    cursor.expect(b"[", '[')?;
-    if cursor.take(b"]") {
-        return Ok(s);
+    let read = read_row(&mut s, SQUARE, alloc, known, cursor);
+    kept(s, read)
+}
+
+impl Row for Seq {
+    fn read_next(
+        &mut self,
+        alloc: Global,
+        known: &[Named],
+        cursor: &mut Cursor,
+    ) -> Result<(), NotationError> {
+        let p = read_item(alloc, known, cursor)?;
+        Ok(self.push(p)?)
     }
-    for _ in 0..cursor.len() {
-        s.push(read_item(alloc, known, cursor)?)?;
-        if cursor.take(b"]") {
-            return Ok(s);
-        }
-        cursor.expect(b", ", ',')?;
-    }
-    Err(NotationError::Expected(']'))
 }
 
 pub(crate) fn read_item(
@@ -142,19 +222,20 @@ pub(crate) fn read_item(
 ) -> Result<Named, NotationError> {
     let label = read_label_there(cursor)?;
     if cursor.take(b" ") {
-        Ok(labelled(label, read_change(alloc, cursor)?))
+        read_labelled(alloc, cursor, label)
     } else {
         known_item(known, label)
     }
 }
 
-fn labelled(label: Label, prim: Primitive) -> Named {
-    Named {
+fn read_labelled(alloc: Global, cursor: &mut Cursor, label: Label) -> Result<Named, NotationError> {
+    let prim = read_change(alloc, cursor)?;
+    Ok(Named {
         name: label.name,
         place: label.place,
         inverse: label.inverse,
         prim,
-    }
+    })
 }
 
 fn known_item(known: &[Named], label: Label) -> Result<Named, NotationError> {
@@ -189,13 +270,26 @@ fn read_place(cursor: &mut Cursor) -> Result<u8, NotationError> {
 // word tells a hunk from the others, so a path may be called `add`.
 fn read_change(alloc: Global, cursor: &mut Cursor) -> Result<Primitive, NotationError> {
     let first = cursor.word(alloc)?;
+    read_behind(alloc, &first, cursor)
+}
+
+fn read_behind(
+    alloc: Global,
+    first: &[u8],
+    cursor: &mut Cursor,
+) -> Result<Primitive, NotationError> {
     cursor.expect(b" ", ' ')?;
     let second = cursor.word(alloc)?;
     if cursor.take(b" ") {
-        return read_hunk(alloc, &first, &second, cursor);
+        read_hunk(alloc, first, &second, cursor)
+    } else {
+        change_of(alloc, first, &second)
     }
-    let path = Path::new(alloc, &second)?;
-    match first.as_slice() {
+}
+
+fn change_of(alloc: Global, word: &[u8], path: &[u8]) -> Result<Primitive, NotationError> {
+    let path = Path::new(alloc, path)?;
+    match word {
         b"add" => Ok(Primitive::Add(path)),
         b"remove" => Ok(Primitive::Remove(path)),
         _ => Err(NotationError::NoChange),
@@ -209,11 +303,29 @@ fn read_hunk(
     cursor: &mut Cursor,
 ) -> Result<Primitive, NotationError> {
     let path = Path::new(alloc, path)?;
+    match read_sides(alloc, line, cursor) {
+        Ok((line, old, new)) => Primitive::hunk(path, line, old, new).ok_or(NotationError::NoHunk),
+        Err(why) => Err(why),
+    }
+}
+
+// The line of a hunk, what stands there before it, and what behind it.
+fn read_sides(
+    alloc: Global,
+    line: &[u8],
+    cursor: &mut Cursor,
+) -> Result<(u32, Lines, Lines), NotationError> {
     let line = read_number(line)?;
     let old = read_side(alloc, cursor)?;
+    match read_new_side(alloc, cursor) {
+        Ok(new) => Ok((line, old, new)),
+        Err(why) => Err(why),
+    }
+}
+
+fn read_new_side(alloc: Global, cursor: &mut Cursor) -> Result<Lines, NotationError> {
     cursor.expect(b" -> ", '-')?;
-    let new = read_side(alloc, cursor)?;
-    Primitive::hunk(path, line, old, new).ok_or(NotationError::NoHunk)
+    read_side(alloc, cursor)
 }
 
 /// One side of a hunk.
@@ -231,16 +343,23 @@ fn read_number(digits: &[u8]) -> Result<u32, NotationError> {
 
 fn read_row_of_lines(alloc: Global, cursor: &mut Cursor) -> Result<Vec<Line>, NotationError> {
     let mut lines = Vec::new(alloc);
-    cursor.expect(b"[", '[')?;
-    if cursor.take(b"]") {
-        return Ok(lines);
+    let read = read_row(&mut lines, SQUARE, alloc, &[], cursor);
+    kept(lines, read)
+}
+
+impl Row for Vec<Line> {
+    fn read_next(
+        &mut self,
+        alloc: Global,
+        _known: &[Named],
+        cursor: &mut Cursor,
+    ) -> Result<(), NotationError> {
+        let line = read_line(alloc, cursor)?;
+        Ok(self.push(line)?)
     }
-    for _ in 0..cursor.len() {
-        lines.push(Line::new(alloc, &cursor.word(alloc)?)?)?;
-        if cursor.take(b"]") {
-            return Ok(lines);
-        }
-        cursor.expect(b", ", ',')?;
-    }
-    Err(NotationError::Expected(']'))
+}
+
+fn read_line(alloc: Global, cursor: &mut Cursor) -> Result<Line, NotationError> {
+    let word = cursor.word(alloc)?;
+    Ok(Line::new(alloc, &word)?)
 }
