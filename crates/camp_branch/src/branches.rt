@@ -268,13 +268,16 @@ fn with_recorded(
     requires { length changes.now ≤ 64 }
     ensures { IfOk result (λ list. list ≡ catches.now ++ recorded name.now 1 changes.now) }
 {
-    let mut list = catches.share()?;
+    let alloc = catches.allocator();
+    let mut new = Vec::with_capacity(alloc, changes.len())?;
     let mut place = 1;
     for change in changes {
-        let catch = plain(list.allocator(), name, place, change)?;
-        list = list.pushed(catch)?;
+        let catch = plain(alloc, name, place, change)?;
+        new.push(catch)?;
         place += 1;
     }
+    let end = catches.len();
+    let list = catches.spliced(end, end, &new)?;
     Ok(list)
 }
 

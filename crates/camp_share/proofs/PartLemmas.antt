@@ -1,9 +1,10 @@
 -- Elements and ranges of lists in parts.
-use Rattle.std.proofs.Common.{◌≡◌, ℕ, zero, suc, ◌+◌, ◌-◌, ◌<◌, ◌≤◌, List, [], ◌∷◌, ◌++◌, length, get_or, take, drop, Some, sym, ap, subst, ◌∙◌, refl, arith}
-use Rattle.std.proofs.lemmas.List.{drop_all, get_or_default, append-nil, length-append, length-drop, take_more, drop_more, take_all}
+use Rattle.std.proofs.Common.{◌≡◌, ℕ, zero, suc, ◌+◌, ◌-◌, ◌<◌, ◌≤◌, List, [], ◌∷◌, ◌++◌, length, get_or, set, take, drop, Some, sym, ap, subst, ◌∙◌, refl, arith}
+use Rattle.std.proofs.lemmas.List.{drop_all, get_or_default, append-nil, length-append, length-drop, take_more, drop_more, take_all, set_split, take-append-drop}
+use Rattle.std.proofs.Math.Seq.{take-nil}
 use Rattle.std.proofs.lemmas.Option.{slice_get_read}
 use Rattle.std.specs.List.{All, slice_get, slice_range}
-use Rattle.std.proofs.lemmas.Grind.{flat_map-append}
+use Rattle.std.proofs.lemmas.Grind.{common_steps, flat_map-append}
 use Rattle.std.proofs.lemmas.List.Folds.{length-flat_map-take}
 use Rattle.camp_share.specs.Inside.Parts.{joined, IsPart}
 use Rattle.std.specs.declared.vec.Vec.{Vec}
@@ -37,6 +38,25 @@ module _ {X : Type 0} where
   range_of_two xs ys a b =
       ap (take (b - a)) (drop_behind xs ys a) ∙ take_behind (drop a xs) (drop (a - length xs) ys) (b - a)
       ∙ ap (λ k. slice_range xs a b ++ take k (drop (a - length xs) ys)) {x = b - a - length (drop a xs)} {y = b - length xs - (a - length xs)} (let size = length-drop a xs in omega arith)
+
+-- a range behind the end of a list has nothing of it
+none_behind : {X : Type 0} (xs : List X) (from to : ℕ) → length xs ≤ from → slice_range xs from to ≡ []
+none_behind xs from to past = ap (take (to - from)) (drop_all from xs past) ∙ take-nil (to - from)
+
+-- a range that ends in the first parts
+pub range_ended : {X Z : Type 0} (parts : List (Vec X Z)) (k from to : ℕ) → to ≤ length (joined (take k parts)) → slice_range (joined (take k parts)) from to ≡ slice_range (joined parts) from to
+range_ended {X} {Z} parts k from to ended =
+    let front : List X = joined (take k parts) in
+    let back : List X = joined (drop k parts) in
+    let both = flat_map-append (λ (p : Vec X Z). p.items) (take k parts) (drop k parts) in
+    let none : slice_range back (from - length front) (to - length front) ≡ [] = ap (λ n. take n (drop (from - length front) back)) {x = to - length front - (from - length front)} {y = 0} (omega arith) in
+    sym
+    (ap (λ ps. slice_range (joined ps) from to) (sym (take-append-drop k parts)) ∙ ap (λ xs. slice_range xs from to) both
+    ∙ range_of_two front back from to ∙ ap (λ xs. slice_range front from to ++ xs) none ∙ append-nil (slice_range front from to))
+
+-- what stands before a place, another element, and what stands behind it
+pub replaced_between : {X : Type 0} (fronts backs own : List X) (i n : ℕ) (x : X) (none before with after : List X) → fronts ≡ own → backs ≡ own → n ≡ length own → i < length own → none ≡ [] → before ≡ none ++ slice_range fronts 0 i → with ≡ before ++ x ∷ [] → after ≡ with ++ slice_range backs (i + 1) n → after ≡ set own i x
+replaced_between fronts backs own i n x none before with after front back long within e f g h = rw (set_split own i x within) (grind (arith, common_steps))
 
 -- the length that a lent part tells
 pub length_told : {X Z : Type 0} (lent part : Vec X Z) (n : ℕ) → lent ≡ part → n ≡ vec_len lent → n ≡ length part.items
@@ -80,6 +100,12 @@ module _ {X Z : Type 0} (parts : List (Vec X Z)) (i : ℕ) (part : Vec X Z) (wit
 
   pub length_grown : length (joined (take (i + 1) parts)) ≡ length (joined (take i parts)) + length part.items
   length_grown = ap length up_to_here ∙ length-append (joined (take i parts)) part.items
+
+  -- and it has nothing of a part that stands before it
+  pub range_begun : (from to : ℕ) → length (joined (take (i + 1) parts)) ≤ from → slice_range (joined (take (i + 1) parts)) from to ≡ slice_range (joined (take i parts)) from to
+  range_begun from to before =
+      let longer = length_grown in
+      none_behind (joined (take (i + 1) parts)) from to before ∙ sym (none_behind (joined (take i parts)) from to (omega arith))
 
   pub length_within : length (joined (take i parts)) + length part.items ≤ length (joined parts)
   length_within = subst (λ (p : Vec X Z). length (joined (take i parts)) + length p.items ≤ length (joined parts)) (sym read) (length-flat_map-take (λ (p : Vec X Z). p.items) parts i part within)

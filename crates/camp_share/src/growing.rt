@@ -1,4 +1,4 @@
-ghost use Rattle.std.specs.Prelude.{◌≡◌, ◌<◌, ◌≤◌, ◌^◌, List, [], ◌∷◌, ◌++◌, length, slice_range, IfOk, OnOk};
+ghost use Rattle.std.specs.Prelude.{◌≡◌, ◌+◌, ◌<◌, ◌≤◌, ◌^◌, List, [], ◌∷◌, ◌++◌, length, slice_range, IfOk, OnOk};
 ghost use Rattle.std.specs.List.{All};
 ghost use Rattle.camp_share.specs.Inside.Parts.{joined, IsPart};
 
@@ -11,6 +11,10 @@ pub(crate) type Part<T> = Shared<Vec<T>>;
 
 /// The most elements of a part.
 pub(crate) const MAX_PART_LENGTH: usize = 64;
+
+// How many parts a list may come to have beyond those that it is made from, before the vector of its
+// parts has to grow.
+const MORE_PARTS: usize = 2;
 
 // A list that grows at its end: parts that are closed, and a last one that still takes elements.
 #[derive(Drop)]
@@ -32,22 +36,21 @@ impl<T> Model for Growing<T> {
 }
 
 impl<T: Share + Drop> Growing<T> {
-    pub(crate) fn new(alloc: Global) -> Growing<T>
-        ensures { result ≡ [] }
+    // No element, and room for so many parts and some more.
+    pub(crate) fn with_room(alloc: Global, parts: usize) -> Result<Growing<T>, AllocError>
+        ensures { IfOk result (λ grown. grown ≡ []) }
     {
-        Growing {
-            closed: Vec::new(alloc),
+        let closed = Vec::with_capacity(alloc, parts.saturating_add(MORE_PARTS))?;
+        Ok(Growing {
+            closed,
             last: Vec::new(alloc),
-        }
+        })
     }
 
     // Adds an element behind all others.
     pub(crate) fn push(&mut self, item: T) -> Result<(), AllocError>
         ensures { OnOk result (self.new ≡ self.old ++ item ∷ []) }
     {
-        if self.last.is_empty() {
-            self.reopen()?;
-        }
         if self.last.len() >= MAX_PART_LENGTH {
             close(&mut self.closed, &mut self.last)?;
         }
@@ -55,9 +58,9 @@ impl<T: Share + Drop> Growing<T> {
         Ok(())
     }
 
-    // Takes copies of the elements of the last closed part, where that is at most half full, so that
-    // what comes next stands in one part with them.
-    fn reopen(&mut self) -> Result<(), AllocError>
+    // Takes copies of the elements of the last closed part, where that is not full and nothing stands
+    // behind it, so that what comes next stands in one part with them.
+    pub(crate) fn reopen(&mut self) -> Result<(), AllocError>
         ensures { OnOk result (self.new ≡ self.old) }
     {
         let count = self.closed.len();
@@ -65,7 +68,7 @@ impl<T: Share + Drop> Growing<T> {
             return Ok(());
         }
         let part = &self.closed[count - 1];
-        if part.len() > MAX_PART_LENGTH / 2 {
+        if part.len() >= MAX_PART_LENGTH {
             return Ok(());
         }
         self.last = copied(part)?;
@@ -77,6 +80,9 @@ impl<T: Share + Drop> Growing<T> {
     pub(crate) fn push_items(&mut self, items: &[T]) -> Result<(), AllocError>
         ensures { OnOk result (self.new ≡ self.old ++ items.now) }
     {
+        if items.len() <= MAX_PART_LENGTH - self.last.len() {
+            return append_copies(&mut self.last, items);
+        }
         for item in items {
             self.push(item.share()?)?;
         }
@@ -115,8 +121,16 @@ impl<T: Share + Drop> Growing<T> {
     {
         let mut start = 0;
         for part in parts {
-            self.push_cut(part, from.saturating_sub(start), to.saturating_sub(start))?;
-            start += part.len();
+            if start >= to {
+                return Ok(());
+            }
+            let end = start + part.len();
+            if end <= from {
+                start = end;
+                continue;
+            }
+            self.push_cut(part, from.saturating_sub(start), to - start)?;
+            start = end;
         }
         Ok(())
     }
@@ -131,7 +145,21 @@ impl<T: Share + Drop> Growing<T> {
         if from == 0 && to == part.len() {
             return self.push_part(part);
         }
+        if from == to {
+            return Ok(());
+        }
+        self.make_room(part.len())?;
         self.push_items(&part[from..to])
+    }
+
+    // Makes room for the elements of a cut part and one more, so that they are not moved as they come.
+    fn make_room(&mut self, count: usize) -> Result<(), AllocError>
+        ensures { self.new ≡ self.old }
+    {
+        if self.last.is_empty() {
+            self.last.reserve(count.saturating_add(1))?;
+        }
+        Ok(())
     }
 
     // The parts of the whole list.
@@ -146,11 +174,11 @@ impl<T: Share + Drop> Growing<T> {
     }
 }
 
-// Copies of the elements of a part.
+// Copies of the elements of a part, with room for one more.
 fn copied<T: Share + Drop>(part: &Part<T>) -> Result<Vec<T>, AllocError>
     ensures { IfOk result (λ items. items.items ≡ part.now.items) }
 {
-    let mut items = Vec::with_capacity(*part.allocator(), part.len())?;
+    let mut items = Vec::with_capacity(*part.allocator(), part.len().saturating_add(1))?;
     append_copies(&mut items, part)?;
     Ok(items)
 }
@@ -160,7 +188,8 @@ pub(crate) fn append_copies<T: Share + Drop>(
     items: &mut Vec<T>,
     more: &[T],
 ) -> Result<(), AllocError>
-    ensures { OnOk result (items.new.items ≡ items.old.items ++ more.now) }
+    ensures joined { OnOk result (items.new.items ≡ items.old.items ++ more.now) }
+    ensures bounded { length items.new.items ≤ length items.old.items + length more.now }
 {
     for item in more {
         items.push(item.share()?)?;

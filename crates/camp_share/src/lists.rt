@@ -6,7 +6,7 @@ ghost use Rattle.std.specs.Option.{option_copied};
 ghost use Rattle.std.specs.Cmp.Lexicographic.{pointwise, lists_per, lists_equiv};
 ghost use Rattle.std.specs.Map.Iter.{ShowsInOrder, deref};
 
-use crate::growing::{Growing, Part, append_copies};
+use crate::growing::{Growing, MAX_PART_LENGTH, Part, append_copies};
 use crate::{Iter, Share};
 use std::alloc::{AllocError, Global};
 use std::marker::Model;
@@ -113,7 +113,7 @@ impl<T: Share + Drop> SharedList<T> {
     pub fn from_items(alloc: Global, items: &[T]) -> Result<SharedList<T>, AllocError>
         ensures { IfOk result (λ list. list ≡ items.now) }
     {
-        let mut grown = Growing::new(alloc);
+        let mut grown = Growing::with_room(alloc, items.len() / MAX_PART_LENGTH)?;
         grown.push_items(items)?;
         let parts = grown.into_parts()?;
         Ok(SharedList {
@@ -140,8 +140,9 @@ impl<T: Share + Drop> SharedList<T> {
         let Some(len) = self.len.checked_add(1) else {
             return Err(AllocError);
         };
-        let mut grown = Growing::new(*self.parts.allocator());
+        let mut grown = Growing::with_room(*self.parts.allocator(), self.parts.len())?;
         grown.push_range(&self.parts, 0, self.len)?;
+        grown.reopen()?;
         grown.push(item)?;
         let parts = grown.into_parts()?;
         Ok(SharedList { parts, len })
@@ -155,8 +156,9 @@ impl<T: Share + Drop> SharedList<T> {
         let Some(len) = self.len.checked_add(1) else {
             return Err(AllocError);
         };
-        let mut grown = Growing::new(*self.parts.allocator());
+        let mut grown = Growing::with_room(*self.parts.allocator(), self.parts.len())?;
         grown.push_range(&self.parts, 0, index)?;
+        grown.reopen()?;
         grown.push(item)?;
         grown.push_range(&self.parts, index, self.len)?;
         let parts = grown.into_parts()?;
@@ -172,8 +174,9 @@ impl<T: Share + Drop> SharedList<T> {
         let Some(len) = (self.len - (to - from)).checked_add(items.len()) else {
             return Err(AllocError);
         };
-        let mut grown = Growing::new(*self.parts.allocator());
+        let mut grown = Growing::with_room(*self.parts.allocator(), self.parts.len())?;
         grown.push_range(&self.parts, 0, from)?;
+        grown.reopen()?;
         grown.push_items(items)?;
         grown.push_range(&self.parts, to, self.len)?;
         let parts = grown.into_parts()?;
@@ -186,7 +189,7 @@ impl<T: Share + Drop> SharedList<T> {
         ensures { IfOk result (λ list. list ≡ slice_set self.now index item) }
     {
         prove!(index < self.len);
-        let mut grown = Growing::new(*self.parts.allocator());
+        let mut grown = Growing::with_room(*self.parts.allocator(), self.parts.len())?;
         grown.push_range(&self.parts, 0, index)?;
         grown.push(item)?;
         grown.push_range(&self.parts, index + 1, self.len)?;
@@ -203,7 +206,7 @@ impl<T: Share + Drop> SharedList<T> {
         ensures { IfOk result (λ list. list ≡ remove self.now index) }
     {
         prove!(index < self.len);
-        let mut grown = Growing::new(*self.parts.allocator());
+        let mut grown = Growing::with_room(*self.parts.allocator(), self.parts.len())?;
         grown.push_range(&self.parts, 0, index)?;
         grown.push_range(&self.parts, index + 1, self.len)?;
         let parts = grown.into_parts()?;
@@ -220,7 +223,7 @@ impl<T: Share + Drop> SharedList<T> {
         ensures { IfOk result (λ list. list ≡ slice_range self.now from to) }
     {
         prove!(to <= self.len);
-        let mut grown = Growing::new(*self.parts.allocator());
+        let mut grown = Growing::with_room(*self.parts.allocator(), self.parts.len())?;
         grown.push_range(&self.parts, from, to)?;
         let parts = grown.into_parts()?;
         Ok(SharedList {

@@ -1,8 +1,15 @@
-use Rattle.std.proofs.Common.{ap, ◌+◌}
-use Rattle.camp_branch.proofs.BranchFields.{recorded_step}
+use Rattle.std.proofs.Common.{[], ap, refl, arith, ◌+◌, ◌++◌, ◌∙◌}
+use Rattle.std.proofs.lemmas.List.{take_all}
+use Rattle.camp_branch.specs.Branches.{recorded}
+use Rattle.camp_branch.proofs.BranchFields.{appended, recorded_step}
 use Rattle.camp_branch.proofs.branches.with_recorded.Goals as goal
 
 pub loop-change-preserved : goal.loop-change-preserved
 loop-change-preserved c =
     let l = c.loop-change in
-    (recorded_step c.args.catches.now l.list c.in_ok-list-2.list c.args.name.now l.place l.change-index c.args.changes.now c.change-item.result c.change-item.result c.in_ok-catch.catch c.loop-change-test.true l.invariant.0 l.invariant.1 c.change-item.is c.in_ok-catch.ensures c.in_ok-list-2.ensures, ap (λ n. n + 1) l.invariant.1)
+    (recorded_step [] l.new.items _ c.args.name.now l.place l.change-index c.args.changes.now c.change-item.result c.change-item.result c.in_ok-catch.catch c.loop-change-test.true l.invariant.0 l.invariant.1 c.change-item.is c.in_ok-catch.ensures c.in_ok-push.ensures.items, ap (λ n. n + 1) l.invariant.1)
+
+pub returns : goal.returns
+returns c =
+    appended c.args.catches.now c.args.catches.now c.deref.result.now c.in_ok-list.list c.len-end.result c.len-end.ensures refl c.in_ok-list.ensures
+    ∙ ap (λ xs. c.args.catches.now ++ xs) (c.deref.ensures.value ∙ c.loop-change.invariant.0 ∙ ap (recorded c.args.name.now 1) (take_all c.loop-change.change-index c.args.changes.now (omega arith)))

@@ -1,7 +1,7 @@
-use Rattle.std.proofs.Common.{◌≡◌, ◌+◌, ◌++◌, take}
+use Rattle.std.proofs.Common.{◌≡◌, ◌+◌, take}
 use Rattle.camp_branch.specs.Branches.{recorded}
 use Rattle.camp_branch.proofs.branches.with_recorded.Given as goal
 
 abbrev pub invariant-loop-change : goal.invariant-loop-change
 invariant-loop-change l =
-    (l.list ≡ l.catches ++ recorded l.name 1 (take l.change-index l.changes)) × (l.place ≡ l.change-index + 1)
+    (l.new.items ≡ recorded l.name 1 (take l.change-index l.changes)) × (l.place ≡ l.change-index + 1)
