@@ -14,7 +14,7 @@ use crate::values::is_undone;
 use crate::{Catch, Conflictor};
 use camp_ctx::{Contexted, CtxSet, join};
 use camp_prim::{Key, Label, Named};
-use camp_seq::{Seq, norm, past_all, split};
+use camp_seq::{Seq, ordered, past_all, split};
 use std::alloc::{AllocError, Global};
 
 /// Two conflictors: the first is not in the second's set, or it is.
@@ -160,9 +160,8 @@ fn effects_pass(
     let Some((second, first)) = passed else {
         return Ok(None);
     };
-    let effect = joined(alloc, &common, &second)?;
-    let left = norm(&first)?;
-    Ok(Some((effect, left)))
+    let effect = joined(alloc, &common, second)?;
+    Ok(Some((effect, ordered(first))))
 }
 
 /// What a list undoes of a set, and the rest.
@@ -175,13 +174,12 @@ fn parted(alloc: Global, r: &Seq, ys: &CtxSet) -> Result<Option<(Seq, Seq)>, All
 }
 
 /// A list and the normal order of another, in normal order.
-fn joined(alloc: Global, common: &Seq, s: &Seq) -> Result<Seq, AllocError>
-    ensures { IfOk result (JoinsInOrder common.now s.now) }
+fn joined(alloc: Global, common: &Seq, s: Seq) -> Result<Seq, AllocError>
+    ensures { IfOk result (JoinsInOrder common.now s) }
 {
-    let rest = norm(s)?;
+    let rest = ordered(s);
     let whole = join(alloc, common.items(), rest.items())?;
-    let ordered = norm(&whole)?;
-    Ok(ordered)
+    Ok(ordered(whole))
 }
 
 /// The labels of the inverses in a list whose absolute labels stand in a set.

@@ -21,7 +21,7 @@ use crate::values::{bare, inverse};
 use crate::{Catch, Conflictor};
 use camp_ctx::{Contexted, conflict, merge_behind_common};
 use camp_prim::{Named, commute};
-use camp_seq::{Seq, invert_all, norm, past};
+use camp_seq::{Seq, invert_all, ordered, past};
 use std::alloc::{AllocError, Global};
 
 /// What two catches that begin in one state become one after the other: `Some((k', j'))`, where `k'`
@@ -230,7 +230,7 @@ fn merged_effects(alloc: Global, r: &Seq, s: &Seq) -> Result<Option<(Seq, Seq)>,
     let Some((merged, left)) = merged else {
         return Ok(None);
     };
-    Ok(Some((norm(&merged)?, norm(&left)?)))
+    Ok(Some((ordered(merged), ordered(left))))
 }
 
 /// Whether two conflictors conflict: their identities do, as seen before the effects.

@@ -12,7 +12,7 @@ use crate::Conflictor;
 use crate::values::{alone, bare, bare_alone, inverse, undone};
 use camp_ctx::{Contexted, CtxSet, join};
 use camp_prim::{Key, Named};
-use camp_seq::{Seq, invert_all, norm};
+use camp_seq::{Seq, invert_all, norm, ordered};
 use std::alloc::{AllocError, Global};
 use std::slice;
 
@@ -156,7 +156,7 @@ fn with_undone(alloc: Global, a: &Named, s: &Seq) -> Result<Seq, AllocError>
     ensures { IfOk result (Norm (inverse_of a.now ∷ s.now)) }
 {
     let joined = undone_before(alloc, a, s)?;
-    norm(&joined)
+    Ok(ordered(joined))
 }
 
 /// `a^ s`

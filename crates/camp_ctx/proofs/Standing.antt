@@ -64,6 +64,11 @@ no_parts [] = (refl, refl)
 no_parts (p ∷ t) =
     inr ((λ named. let within = named.1 in absurd (omega arith)), ([], t, p, no_parts t, (refl, refl), refl))
 
+-- no label splits nothing off a list in normal order
+pub no_split : (labels : List Label) (t : List Named) → labels ≡ [] → Norm t t → Splits labels t [] t
+no_split labels t none own =
+    subst (λ ls. Splits ls t [] t) (sym none) (record { named = []; others = t; parts = no_parts t; first = refl; rest = own })
+
 module _ (back : Named) (t : List Named) (passes : Passes back t t back) where
   nothing_common : common_labels (inverse_of back ∷ []) t ≡ []
   nothing_common =
@@ -75,8 +80,8 @@ module _ (back : Named) (t : List Named) (passes : Passes back t t back) where
     common = [];
     s1 = inverse_of back ∷ [];
     t1 = t;
-    first = subst (λ ls. Splits ls (inverse_of back ∷ []) [] (inverse_of back ∷ [])) (sym nothing_common) (record { named = []; others = inverse_of back ∷ []; parts = no_parts (inverse_of back ∷ []); first = refl; rest = chain_is_ordered (inverse_of back ∷ []) (tt, tt) });
-    second = subst (λ ls. Splits ls t [] t) (sym nothing_common) (record { named = []; others = t; parts = no_parts t; first = refl; rest = own });
+    first = no_split _ (inverse_of back ∷ []) nothing_common (chain_is_ordered (inverse_of back ∷ []) (tt, tt));
+    second = no_split _ t nothing_common own;
     merge = (t, inverse_of back, [], passes_row back t t back passes, (refl, refl), refl);
   }
 

@@ -1,2 +1,3 @@
 -- Words that serve only private functions.
+pub mod Apart
 pub mod Links

@@ -1,12 +1,15 @@
-ghost use Rattle.std.specs.Prelude.{◌≡◌, ◌↔◌, List, IfOk, IsTrue};
+ghost use Rattle.std.specs.Prelude.{◌≡◌, ◌↔◌, List, [], IfOk, IsTrue};
 ghost use Rattle.camp_base.specs.Answers.{FindsPair};
 ghost use Rattle.camp_prim.specs.declared.named.Named.{Named};
+ghost use Rattle.camp_seq.specs.Merging.{CleanMerge};
+ghost use Rattle.camp_seq.specs.NormalOrder.{Norm};
 ghost use Rattle.camp_ctx.specs.Conflicts.{common_labels, has_label, Conflict, MergesBehindCommon};
 ghost use Rattle.camp_ctx.specs.Contexts.{whole};
+ghost use Rattle.camp_ctx.specs.Inside.Apart.{NoCleanMerge};
 
 use crate::{Contexted, join};
 use camp_prim::{Label, Named};
-use camp_seq::{Seq, clean_merge, is_own_order, split, stays_past};
+use camp_seq::{Seq, can_swap, clean_merge, is_own_order, split, stays_past};
 use std::alloc::{AllocError, Global};
 use std::slice;
 
@@ -54,6 +57,9 @@ pub fn merge_behind_common(
 {
     let common = common_labels(alloc, s.items(), t.items())?;
     let labels = common.as_slice();
+    if are_apart(labels, s, t) {
+        return merge_apart(s, t);
+    }
     let first = split(s, labels)?;
     let Some((common, rest)) = first else {
         return Ok(None);
@@ -67,6 +73,44 @@ pub fn merge_behind_common(
     }
     let merged = clean_merge(&rest, &beside)?;
     Ok(merged)
+}
+
+/// Whether two lists have no label in common, and a look tells that they are their own normal orders.
+fn are_apart(common: &[Label], s: &Seq, t: &Seq) -> bool
+    ensures none { IsTrue result → common.now ≡ [] }
+    ensures first { IsTrue result → Norm s.now s.now }
+    ensures second { IsTrue result → Norm t.now t.now }
+{
+    if !common.is_empty() {
+        return false;
+    }
+    if !is_own_order(s.items()) {
+        return false;
+    }
+    is_own_order(t.items())
+}
+
+/// The clean merge of two lists. Neither is copied where their first primitives don't merge.
+fn merge_apart(s: &Seq, t: &Seq) -> Result<Option<(Seq, Seq)>, AllocError>
+    ensures exact { IfOk result (FindsPair (CleanMerge s.now t.now)) }
+{
+    if stop_each_other(s.items(), t.items())? {
+        return Ok(None);
+    }
+    clean_merge(s, t)
+}
+
+/// Whether the first primitives of two lists don't merge.
+fn stop_each_other(s: &[Named], t: &[Named]) -> Result<bool, AllocError>
+    ensures { IfOk result (λ yes. IsTrue yes → NoCleanMerge s.now t.now) }
+{
+    match (s.first(), t.first()) {
+        (Some(p), Some(q)) => {
+            let p = p.try_clone()?;
+            Ok(!can_swap(&p.invert(), q))
+        }
+        _ => Ok(false),
+    }
 }
 
 /// The context and then the patch.

@@ -25,6 +25,6 @@ returns c =
       passes = passes;
       s' = joins.0;
       second = joins.1;
-      first = c.in_ok-left.ensures.order;
+      first = c.ordered.ensures;
       joined = joins.2;
     }

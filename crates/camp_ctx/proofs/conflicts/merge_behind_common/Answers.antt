@@ -1,6 +1,8 @@
-use Rattle.std.proofs.Common.{◌∙◌}
+use Rattle.std.proofs.Common.{◌∙◌, [], refl}
+use Rattle.std.proofs.lemmas.Result.{IfOk-weaker}
 use Rattle.camp_ctx.specs.Conflicts.{common_labels}
 use Rattle.camp_ctx.proofs.ConflictSteps.{no_first, no_second, other_fronts, merges_as_the_rests}
+use Rattle.camp_ctx.proofs.Standing.{no_split}
 use Rattle.camp_ctx.proofs.conflicts.merge_behind_common.Goals as goal
 
 pub returns-in_default : goal.returns-in_default
@@ -14,6 +16,16 @@ returns-in_default-second c =
     let labels = c.as_slice-labels.ensures.value ∙ c.in_ok-common.ensures ∙ (λ i. common_labels (c.items.ensures i) (c.items-2.ensures i)) in
     let never = rw c.in_default-second.is at c.in_ok-second.ensures.exact in
     record { exact = no_second c.args.s.now c.args.t.now _ labels never }
+
+pub returns-then-are_apart : goal.returns-then-are_apart
+returns-then-are_apart c =
+    let labels = c.as_slice-labels.ensures.value ∙ c.in_ok-common.ensures ∙ (λ i. common_labels (c.items.ensures i) (c.items-2.ensures i)) in
+    let s = c.args.s.now in
+    let t = c.args.t.now in
+    let none = c.are_apart.ensures.none c.if-are_apart.true in
+    let first = no_split _ s none (c.are_apart.ensures.first c.if-are_apart.true) in
+    let second = no_split _ t none (c.are_apart.ensures.second c.if-are_apart.true) in
+    record { exact = IfOk-weaker c.merge_apart.result _ _ (merges_as_the_rests s t _ labels [] [] s t first second refl) c.merge_apart.ensures.exact }
 
 pub returns-then-not-is_same : goal.returns-then-not-is_same
 returns-then-not-is_same c =
