@@ -9,7 +9,8 @@ use Rattle.camp_object.specs.declared.faults.Fault.{Fault}
 use Rattle.camp_object.specs.declared.faults.Fault.TheVariants.{Memory, Busy, Full}
 use Rattle.camp_clients.specs.Answers.{Asks, GoesOn, HasMemory, told}
 use Rattle.camp_clients.specs.Positions.{own_at, where_done}
-use Rattle.camp_clients.proofs.Histories.{last_accepted, own_push}
+use Rattle.camp_object.proofs.Replays.{own_mine}
+use Rattle.camp_clients.proofs.Histories.{last_accepted}
 use Rattle.camp_clients.proofs.Positions.{own_at_front, own_at_push}
 
 module _ {State Call Reply : Type 0} (object : Sequential State Call Reply) (lawful : IsLawful object) where
@@ -64,7 +65,7 @@ module _ {State Call Reply : Type 0} (object : Sequential State Call Reply) (law
 module _ {Call : Type 0} (caller : Caller) (seen : List (ℕ × Call)) (call : Call) (at : ℕ) (now : List (ℕ × Call)) (done : Accepts caller seen call at now) where
   pub done_alone : own caller.seat done.before ≡ own caller.seat seen
   done_alone = append_cancel_right (own caller.seat done.before) (own caller.seat seen) (call ∷ [])
-      (sym (own_push caller.seat done.before call) ∙ sym (ap (own caller.seat) done.ends) ∙ done.own_grows)
+      (sym (own_mine caller.seat done.before call) ∙ sym (ap (own caller.seat) done.ends) ∙ done.own_grows)
 
   pub done_position : at ≡ length done.before + 1
   done_position = done.position ∙ ap length done.ends ∙ length-append done.before ((caller.seat, call) ∷ [])

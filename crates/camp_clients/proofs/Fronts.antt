@@ -12,7 +12,8 @@ use Rattle.camp_clients.specs.Positions.{own_at, where_done, done_at}
 use Rattle.camp_clients.specs.Runs.{OneByOne}
 use Rattle.camp_clients.specs.Sections.{Section}
 use Rattle.camp_clients.proofs.Asking.{own_at_asks, own_counts, goes_on}
-use Rattle.camp_clients.proofs.Histories.{front_push, front_refl, front_trans, own_rest}
+use Rattle.camp_object.proofs.Fronts.{front_longer, front_self, front_front}
+use Rattle.camp_clients.proofs.Histories.{own_rest}
 use Rattle.camp_clients.proofs.Positions.{where_done-append}
 
 module _ {Front Call Answer : Type 0} (Says : Front → Call → Answer → Front → Type 0) where
@@ -43,11 +44,11 @@ module _ {Entry Call Answer : Type 0} (Says : List Entry → Call → Answer →
   -- a section's last front begins with its first
   pub section_front : (first : List Entry) (calls : List Call) (answers : List Answer) (last : List Entry)
       → Section Says first calls answers last → IsFront first last
-  section_front first [] [] last s = subst (IsFront first) s (front_refl first)
+  section_front first [] [] last s = subst (IsFront first) s (front_self first)
   section_front first [] (a ∷ answers) last s = absurd s
   section_front first (c ∷ calls) [] last s = absurd s
   section_front first (c ∷ calls) (a ∷ answers) last s =
-      front_trans first s.0 last (grows first c a s.0 s.1) (section_front s.0 calls answers last s.2)
+      front_front (grows first c a s.0 s.1) (section_front s.0 calls answers last s.2)
 
   -- what each answer says, in other words that hold at the fronts of a history
   pub section_within : (Tells : List Entry → Call → Answer → List Entry → Type 0) (history : List Entry)
@@ -58,7 +59,7 @@ module _ {Entry Call Answer : Type 0} (Says : List Entry → Call → Answer →
   section_within Tells history each first [] (a ∷ answers) last within s = s
   section_within Tells history each first (c ∷ calls) [] last within s = s
   section_within Tells history each first (c ∷ calls) (a ∷ answers) last within s =
-      let next = front_trans s.0 last history (section_front s.0 calls answers last s.2) within in
+      let next = front_front (section_front s.0 calls answers last s.2) within in
       (s.0, each first c a s.0 next s.1, section_within Tells history each s.0 calls answers last within s.2)
 
 module _ {State Call Reply : Type 0} (object : Sequential State Call Reply) (caller : Caller) where
@@ -144,7 +145,7 @@ module _ {State Call Reply : Type 0} (object : Sequential State Call Reply) (sea
       → MatchOption at (IsFront before front × IsAnswered object front call reply) (λ at. IsDone seat before call at front)
       → IsFront before front
   reply_grows before call None reply front says = says.0
-  reply_grows before call (Some at) reply front says = subst (IsFront before) says.ends (front_push before says.stood (seat, call) says.since)
+  reply_grows before call (Some at) reply front says = subst (IsFront before) says.ends (front_longer ((seat, call) ∷ []) says.since)
 
   pub says_grows : (before : List (ℕ × Call)) (call : Call) (answer : Result Reply Fault) (front : List (ℕ × Call))
       → Says object seat tries before call answer front → IsFront before front
@@ -157,7 +158,7 @@ module _ {State Call Reply : Type 0} (object : Sequential State Call Reply) (sea
   alone_reply_grows : (before : List (ℕ × Call)) (call : Call) (at : Option ℕ) (reply : Reply) (front : List (ℕ × Call))
       → MatchOption at ((front ≡ before) × IsAnswered object before call reply) (λ at. (front ≡ before ++ (seat, call) ∷ []) × (at ≡ length front))
       → IsFront before front
-  alone_reply_grows before call None reply front says = subst (IsFront before) (sym says.0) (front_refl before)
+  alone_reply_grows before call None reply front says = subst (IsFront before) (sym says.0) (front_self before)
   alone_reply_grows before call (Some at) reply front says = record { rest = (seat, call) ∷ []; makes = sym says.0 }
 
   pub alone_grows : (before : List (ℕ × Call)) (call : Call) (answer : Result Reply Fault) (front : List (ℕ × Call))

@@ -1,5 +1,5 @@
 -- Lemmas on clients that meet the opening's seat, before and after their threads.
-use Rattle.std.proofs.Common.{◌≡◌, ℕ, ◌+◌, ◌<◌, suc, zero, IfOk, List, [], ◌∷◌, ◌++◌, length, get_or, map, Option, None, Some, MatchOption, append_assoc, Result, Ok, Err, refl, sym, ◌∙◌, ap, subst, add-one, arith}
+use Rattle.std.proofs.Common.{◌≡◌, ◌⊎◌, ℕ, ◌+◌, ◌<◌, suc, zero, IfOk, List, [], ◌∷◌, ◌++◌, length, get_or, map, Option, None, Some, MatchOption, append_assoc, Result, Ok, Err, refl, sym, ◌∙◌, ap, subst, add-one, inl, inr, arith}
 use Rattle.std.proofs.lemmas.List.{length-append, length-map, get_or-map}
 use Rattle.std.specs.List.{All, AllZip}
 use Rattle.camp_object.specs.Histories.{IsFront, IsAnswered, IsLegal, own}
@@ -13,7 +13,9 @@ use Rattle.camp_clients.specs.Runs.{HasFronts, IsShared, OwnDone, section_of}
 use Rattle.camp_clients.specs.Sections.{Section}
 use Rattle.camp_clients.proofs.Fronts.{section_grows, section_map, section_own_at, says}
 use Rattle.camp_clients.proofs.Gathering.{zip_at, zip_length}
-use Rattle.camp_clients.proofs.Histories.{front_trans, own-append, own_between, append_nil_right}
+use Rattle.camp_object.proofs.Fronts.{front_front, front_whole}
+use Rattle.camp_object.proofs.Replays.{own-append}
+use Rattle.camp_clients.proofs.Histories.{append_nil_right}
 use Rattle.camp_clients.proofs.Positions.{own_at_front, own_at_none}
 
 module _ {A B : Type 0} (R S : A → B → Type 0) (each : (x : A) (y : B) → R x y → S x y) where
@@ -42,10 +44,10 @@ module _ {State Call Reply : Type 0} (object : Sequential State Call Reply) (sea
   earlier_reply : (call : Call) (at : Option ℕ) (reply : Reply) (next : List (ℕ × Call))
       → MatchOption at (IsFront first next × IsAnswered object next call reply) (λ at. IsDone seat first call at next)
       → MatchOption at (IsFront earlier next × IsAnswered object next call reply) (λ at. IsDone seat earlier call at next)
-  earlier_reply call None reply next said = (front_trans earlier first next front said.0, said.1)
+  earlier_reply call None reply next said = (front_front front said.0, said.1)
   earlier_reply call (Some at) reply next said = record {
     stood = said.stood;
-    since = front_trans earlier first said.stood front said.since;
+    since = front_front front said.since;
     ends = said.ends;
     position = said.position;
   }
@@ -76,13 +78,13 @@ module _ {State Call Reply : Type 0} (object : Sequential State Call Reply) (sea
 -- from a new client to the end of the run
 module _ {State Call Reply Client : Type 0} (object : Sequential State Call Reply) (sight : Sight Client Call (Result Reply Fault)) (tries per_seat : ℕ)
     (sections : List (List Call)) (opened history : List (ℕ × Call)) where
-  module _ (c0 c1 c2 c3 c4 : Client) (fresh : sight.seen c0 ≡ []) (m1 : Meets sight opened c0 c1) (ran : Ran object sight tries per_seat sections c1 c2)
-      (met : IsMet sight history c2 c3) (m2 : Meets sight history c3 c4) where
+  module _ (c0 c1 c2 c3 : Client) (fresh : sight.seen c0 ≡ []) (m1 : Meets sight opened c0 c1) (ran : Ran object sight tries per_seat sections c1 c2)
+      (met : IsMet sight history c2 c3) where
     asked : Section (Asks object (caller_of tries per_seat (sight.number c0))) (sight.seen c1) (section_of sections (sight.number c0)) (sight.answers c2) (sight.seen c2)
     asked = subst (λ n. Section (Asks object (caller_of tries per_seat n)) (sight.seen c1) (section_of sections n) (sight.answers c2) (sight.seen c2)) m1.number ran.section
 
-    same_answers : sight.answers c2 ≡ sight.answers c4
-    same_answers = sym met.answers ∙ sym m2.answers
+    same_answers : sight.answers c2 ≡ sight.answers c3
+    same_answers = sym met.answers
 
     none_own : own (sight.number c0) (sight.seen c1) ≡ []
     none_own = m1.own_stays ∙ ap (own (sight.number c0)) fresh
@@ -91,11 +93,11 @@ module _ {State Call Reply Client : Type 0} (object : Sequential State Call Repl
     none_between = append_nil_right (own (sight.number c0) opened) (own (sight.number c0) m1.knows.rest)
         (sym (own-append (sight.number c0) opened m1.knows.rest) ∙ ap (own (sight.number c0)) m1.knows.makes ∙ none_own)
 
-    client_fronts : HasFronts object (sight.number c0) tries opened (section_of sections (sight.number c0)) (sight.answers c4) history
+    client_fronts : HasFronts object (sight.number c0) tries opened (section_of sections (sight.number c0)) (sight.answers c3) history
     client_fronts = subst (λ answers. HasFronts object (sight.number c0) tries opened (section_of sections (sight.number c0)) answers history) same_answers
         (fronts_earlier object (sight.number c0) tries opened (sight.seen c1) m1.knows none_between (section_of sections (sight.number c0)) (sight.answers c2) history
-        (front_trans opened (sight.seen c1) history m1.knows
-        (front_trans (sight.seen c1) (sight.seen c2) history (section_grows object (caller_of tries per_seat (sight.number c0)) (sight.seen c1) _ _ (sight.seen c2) asked) met.known))
+        (front_front m1.knows
+        (front_front (section_grows object (caller_of tries per_seat (sight.number c0)) (sight.seen c1) _ _ (sight.seen c2) asked) met.known))
         (record {
           last = sight.seen c2;
           fronts = section_map (Asks object (caller_of tries per_seat (sight.number c0))) (Says object (sight.number c0) tries)
@@ -103,15 +105,12 @@ module _ {State Call Reply Client : Type 0} (object : Sequential State Call Repl
           within = met.known;
         }))
 
-    all_own : own (sight.number c0) (sight.seen c4) ≡ own (sight.number c0) (sight.seen c2)
-    all_own =
-        let e : sight.number c3 ≡ sight.number c0 = met.number ∙ ran.number ∙ m1.number in
-        subst (λ n. own n (sight.seen c4) ≡ own n (sight.seen c3)) e m2.own_stays ∙ ap (own (sight.number c0)) met.seen
+    all_own : own (sight.number c0) history ≡ own (sight.number c0) (sight.seen c2)
+    all_own = subst (λ n. own n history ≡ own n (sight.seen c2)) (ran.number ∙ m1.number) met.own_known
 
-    client_own : own_at (sight.number c0) 0 history ≡ done_at (told object) (section_of sections (sight.number c0)) (sight.answers c4)
+    client_own : own_at (sight.number c0) 0 history ≡ done_at (told object) (section_of sections (sight.number c0)) (sight.answers c3)
     client_own =
-        own_at_front (sight.number c0) (sight.seen c2) history met.known
-        (own_between (sight.number c0) (sight.seen c2) history (sight.seen c4) met.known m2.knows all_own)
+        own_at_front (sight.number c0) (sight.seen c2) history met.known all_own
         ∙ section_own_at object (caller_of tries per_seat (sight.number c0)) (sight.seen c1) (section_of sections (sight.number c0)) (sight.answers c2) (sight.seen c2) asked
         ∙ ap (λ xs. xs ++ done_at (told object) (section_of sections (sight.number c0)) (sight.answers c2)) (own_at_none (sight.number c0) 0 (sight.seen c1) none_own)
         ∙ ap (done_at (told object) (section_of sections (sight.number c0))) same_answers
@@ -121,37 +120,34 @@ module _ {State Call Reply Client : Type 0} (object : Sequential State Call Repl
     pub fronts : HasFronts object seat tries opened (section_of sections seat) answers history
     pub own_done : own_at seat 0 history ≡ done_at (told object) (section_of sections seat) answers
 
-  pub clients_hold : (l0 l1 l2 l3 l4 : List Client) → AreNew sight l0 → AllZip (Meets sight opened) l0 l1 → AllZip (Ran object sight tries per_seat sections) l1 l2
-      → AllZip (IsMet sight history) l2 l3 → AllZip (Meets sight history) l3 l4
-      → (k : ℕ) (d : Client) → k < length l0 → Holds (k + 1) (sight.answers (get_or l4 k d))
-  clients_hold l0 l1 l2 l3 l4 fresh one two three four k d below =
-      let R3 : Client → Client → Type 0 = Then (IsMet sight history) (Meets sight history) in
-      let R2 : Client → Client → Type 0 = Then (Ran object sight tries per_seat sections) R3 in
+  pub clients_hold : (l0 l1 l2 l3 : List Client) → AreNew sight l0 → AllZip (Meets sight opened) l0 l1 → AllZip (Ran object sight tries per_seat sections) l1 l2
+      → AllZip (IsMet sight history) l2 l3
+      → (k : ℕ) (d : Client) → k < length l0 → Holds (k + 1) (sight.answers (get_or l3 k d))
+  clients_hold l0 l1 l2 l3 fresh one two three k d below =
+      let R2 : Client → Client → Type 0 = Then (Ran object sight tries per_seat sections) (IsMet sight history) in
       let R1 : Client → Client → Type 0 = Then (Meets sight opened) R2 in
-      let z3 = zip_then (IsMet sight history) (Meets sight history) l2 l3 l4 three four in
-      let z2 = zip_then (Ran object sight tries per_seat sections) R3 l1 l2 l4 two z3 in
-      let z1 = zip_then (Meets sight opened) R2 l0 l1 l4 one z2 in
-      let at = zip_at R1 l0 l4 k d d below z1 in
+      let z2 = zip_then (Ran object sight tries per_seat sections) (IsMet sight history) l1 l2 l3 two three in
+      let z1 = zip_then (Meets sight opened) R2 l0 l1 l3 one z2 in
+      let at = zip_at R1 l0 l3 k d d below z1 in
       let new = fresh k d below in
       let c0 = get_or l0 k d in
-      let c4 = get_or l4 k d in
-      let fronts = client_fronts c0 at.0 at.2.0 at.2.2.0 c4 new.2 at.1 at.2.1 at.2.2.1 at.2.2.2 in
-      let own_done = client_own c0 at.0 at.2.0 at.2.2.0 c4 new.2 at.1 at.2.1 at.2.2.1 at.2.2.2 in
+      let c3 = get_or l3 k d in
+      let fronts = client_fronts c0 at.0 at.2.0 c3 new.2 at.1 at.2.1 at.2.2 in
+      let own_done = client_own c0 at.0 at.2.0 c3 new.2 at.1 at.2.1 at.2.2 in
       record {
-        fronts = subst (λ n. HasFronts object n tries opened (section_of sections n) (sight.answers c4) history) new.1 fronts;
-        own_done = subst (λ n. own_at n 0 history ≡ done_at (told object) (section_of sections n) (sight.answers c4)) new.1 own_done;
+        fronts = subst (λ n. HasFronts object n tries opened (section_of sections n) (sight.answers c3) history) new.1 fronts;
+        own_done = subst (λ n. own_at n 0 history ≡ done_at (told object) (section_of sections n) (sight.answers c3)) new.1 own_done;
       }
 
--- clients that were met stay so as the history grows
-pub met_more : {Client Call Answer : Type 0} (sight : Sight Client Call Answer) (h more : List (ℕ × Call)) → IsFront h more
-    → (before after : List Client) → AllZip (IsMet sight h) before after → AllZip (IsMet sight more) before after
-met_more sight h more grows = zip_map (IsMet sight h) (IsMet sight more) (λ before after met. record {
-  is_seat = met.is_seat;
-  number = met.number;
-  answers = met.answers;
-  seen = met.seen;
-  known = front_trans (sight.seen before) h more met.known grows;
-})
+-- clients that were met stay so where the history stays, or there are none
+pub met_still : {Client Call Answer : Type 0} (sight : Sight Client Call Answer) (h more : List (ℕ × Call)) (count from to : ℕ) → IsFront h more
+    → from ≡ length h → to ≡ length more → (before after : List Client) → count ≡ length after → (count ≡ 0) ⊎ (from ≡ to)
+    → AllZip (IsMet sight h) before after → AllZip (IsMet sight more) before after
+met_still sight h more count from to grows is_from is_to before after is_count (inr same) met =
+    subst (λ history. AllZip (IsMet sight history) before after) (front_whole h more grows (omega (arith, is_from, is_to, same))) met
+met_still sight h more count from to grows is_from is_to [] [] is_count (inl none) met = tt
+met_still sight h more count from to grows is_from is_to (b ∷ before) [] is_count (inl none) met = absurd met
+met_still sight h more count from to grows is_from is_to before (a ∷ after) is_count (inl none) met = absurd (omega (arith, is_count, none))
 
 -- the results of calls that were granted
 module _ {X Y E : Type 0} (R : X → Y → Type 0) where

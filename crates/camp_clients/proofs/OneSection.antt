@@ -15,7 +15,8 @@ use Rattle.camp_clients.specs.Positions.{own_at, where_done, done_at}
 use Rattle.camp_clients.specs.Runs.{HasOpening}
 use Rattle.camp_clients.specs.Sections.{Section}
 use Rattle.camp_clients.proofs.Fronts.{says_grows, section_front}
-use Rattle.camp_clients.proofs.Histories.{front_trans, own-append}
+use Rattle.camp_object.proofs.Fronts.{front_front}
+use Rattle.camp_object.proofs.Replays.{own-append}
 use Rattle.camp_clients.proofs.Positions.{own_at_first, own_at_mine, same_first}
 
 -- what holds of all elements holds of those behind a front
@@ -197,7 +198,7 @@ module _ {State Call Reply : Type 0} (object : Sequential State Call Reply) (sea
       section_is_alone first (c ∷ calls) (a ∷ answers) last within leaves s =
           let left = done_at (told object) calls answers in
           let grows = section_front (Says object seat tries) (says_grows object seat tries) s.0 calls answers last s.2 in
-          let next = front_trans s.0 last history grows within in
+          let next = front_front grows within in
           let alone = says_is_alone first c s.0 left next (section_behind object seat tries s.0 calls answers last s.2) a leaves s.1 in
           (s.0, alone, section_is_alone s.0 calls answers last within (says_leaves first c a s.0 left leaves alone) s.2)
 

@@ -15,7 +15,7 @@ use Rattle.camp_clients.specs.Positions.{own_at, where_done, done_at}
 use Rattle.camp_clients.specs.Runs.{section_of}
 use Rattle.camp_clients.specs.Sections.{Section}
 use Rattle.camp_clients.proofs.Fronts.{says_grows, section_front}
-use Rattle.camp_clients.proofs.Histories.{front_refl}
+use Rattle.camp_object.proofs.Fronts.{front_self}
 use Rattle.camp_clients.proofs.OneSection.{section_behind, section_is_alone}
 use Rattle.camp_clients.proofs.Positions.{own_at-append, own_at_behind}
 
@@ -128,7 +128,7 @@ opening_alone object tries sections answers history some opens run =
     let own_is = own_at_last object 0 tries last history calls replies within (run.exactly.own_done 0 opens) run.opening.fronts in
     record {
       last = last;
-      alone = section_is_alone object 0 last mine tries some [] calls replies last (front_refl last)
+      alone = section_is_alone object 0 last mine tries some [] calls replies last (front_self last)
           (record { begins = record { rest = last; makes = refl }; are = own_is }) run.opening.fronts;
       within = within;
     }

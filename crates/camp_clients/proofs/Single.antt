@@ -11,7 +11,8 @@ use Rattle.camp_clients.specs.Laws.{DoneWasAccepted, LockedIsSerial, SharedIsSer
 use Rattle.camp_clients.specs.Runs.{InTurn, IsExactly, OneByOne}
 use Rattle.camp_clients.specs.Sections.{Section}
 use Rattle.camp_clients.proofs.Fronts.{alone_grows, section_front, section_within}
-use Rattle.camp_clients.proofs.Histories.{front_refl, front_trans, last_accepted}
+use Rattle.camp_object.proofs.Fronts.{front_self, front_front}
+use Rattle.camp_clients.proofs.Histories.{last_accepted}
 use Rattle.camp_clients.proofs.OneSection.{alone_begins, leaves_none, section_is_alone}
 
 module _ {State Call Reply : Type 0} (object : Sequential State Call Reply) where
@@ -49,11 +50,11 @@ module _ {State Call Reply : Type 0} (object : Sequential State Call Reply) wher
   -- the history only grows in a run one after the other
   in_turn_grows : (seat : ℕ) (first : List (ℕ × Call)) (sections : List (List Call)) (answers : List (List (Result Reply Fault))) (last : List (ℕ × Call))
       → OneByOne object seat first sections answers last → IsFront first last
-  in_turn_grows seat first [] [] last o = subst (IsFront first) o (front_refl first)
+  in_turn_grows seat first [] [] last o = subst (IsFront first) o (front_self first)
   in_turn_grows seat first [] (a ∷ answers) last o = absurd o
   in_turn_grows seat first (c ∷ sections) [] last o = absurd o
   in_turn_grows seat first (c ∷ sections) (a ∷ answers) last o =
-      front_trans first o.0 last (section_front (SaysAlone object seat) (alone_grows object seat) first c a o.0 o.1)
+      front_front (section_front (SaysAlone object seat) (alone_grows object seat) first c a o.0 o.1)
       (in_turn_grows (seat + 1) o.0 sections answers last o.2)
 
   module _ (history : List (ℕ × Call)) (legal : IsLegal object history) where
@@ -73,11 +74,11 @@ module _ {State Call Reply : Type 0} (object : Sequential State Call Reply) wher
     steps_in_turn seat first [] (a ∷ answers) last within o = o
     steps_in_turn seat first (c ∷ sections) [] last within o = o
     steps_in_turn seat first (c ∷ sections) (a ∷ answers) last within o =
-        let next = front_trans o.0 last history (in_turn_grows (seat + 1) o.0 sections answers last o.2) within in (
+        let next = front_front (in_turn_grows (seat + 1) o.0 sections answers last o.2) within in (
           o.0,
           section_within (SaysAlone object seat) (alone_grows object seat) (StepsAlone object seat) history (steps_alone seat) first c a o.0 next o.1,
           steps_in_turn (seat + 1) o.0 sections answers last within o.2,
         )
 
   pub done_was_accepted : DoneWasAccepted object
-  done_was_accepted sections answers history legal o = steps_in_turn history legal 0 [] sections answers history (front_refl history) o
+  done_was_accepted sections answers history legal o = steps_in_turn history legal 0 [] sections answers history (front_self history) o

@@ -31,13 +31,14 @@ module _ {Client Call Answer : Type 0} (sight : Sight Client Call Answer) where
     pub own_stays : own (sight.number before) (sight.seen after) ≡ own (sight.number before) (sight.seen before)
     pub knows : IsFront known (sight.seen after)
 
-  -- a client was met: the history begins with what it has seen, and it stays as it was
+  -- a client was met: the history begins with what it has seen and has no further call of it, and it stays as it was
   pub record IsMet (history : List (ℕ × Call)) (before after : Client) : Type 0 where
     pub is_seat : sight.is_seat after
     pub number : sight.number after ≡ sight.number before
     pub answers : sight.answers after ≡ sight.answers before
     pub seen : sight.seen after ≡ sight.seen before
     pub known : IsFront (sight.seen before) history
+    pub own_known : own (sight.number before) history ≡ own (sight.number before) (sight.seen before)
 
 -- who asks at a seat among threads
 abbrev pub caller_of : (tries per_seat number : ℕ) → Caller

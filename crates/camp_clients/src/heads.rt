@@ -1,4 +1,4 @@
-ghost use Rattle.std.specs.Prelude.{◌≡◌, ℕ, true, [], ◌∷◌, ◌+◌, ◌<◌, ◌≤◌, Ok, length, count_by, map, vec_items, IfOk, slice_index_or};
+ghost use Rattle.std.specs.Prelude.{◌≡◌, ◌⊎◌, ℕ, true, [], ◌∷◌, ◌+◌, ◌<◌, ◌≤◌, Ok, length, count_by, map, vec_items, IfOk, IsTrue, slice_index_or};
 ghost use Rattle.std.specs.List.{All, AllZip};
 ghost use Rattle.std.specs.Thread.{IsSync};
 ghost use Rattle.camp_object.specs.Histories.{IsFront, IsLegal, own};
@@ -78,7 +78,15 @@ fn each_meets<State: Object>(
     Ok((all, known))
 }
 
-/// A seat meets each client, and then knows what they have seen.
+/// Whether a seat that met so many clients has seen no more since, or met none.
+fn stays(met: usize, earlier: u64, now: u64) -> bool
+    ensures { IsTrue result → (met ≡ 0) ⊎ (earlier ≡ now) }
+{
+    met == 0 || earlier == now
+}
+
+/// A seat meets each client, and then knows what they have seen. Where no client's thread runs any more,
+/// it finds the whole history at the first.
 fn meets_each<State: Object>(
     alloc: Global,
     head: &Head<State>,
@@ -98,9 +106,13 @@ fn meets_each<State: Object>(
     let mut known = opener;
     for client in clients {
         let Client { seat, answers } = client;
+        let earlier = known.position();
         let (other, seat, met) = head.meet(known, seat);
         known = other;
         if met.is_err() {
+            return Err(AllocError);
+        }
+        if !stays(all.len(), earlier, known.position()) {
             return Err(AllocError);
         }
         all.push(Client { seat, answers })?;
@@ -265,8 +277,8 @@ fn open<State: Object>(
 
 /// Asks sections of calls over a head with a seat for each, section k at seat k: the first alone,
 /// and then each further one in a thread of its own, whose seat has met seat 0. Afterwards seat 0
-/// meets every seat, and every seat meets seat 0; what seat 0 has seen is the history. The head keeps
-/// a version for each position that is a multiple of `every`, 0 to 4,096; none for 0.
+/// meets every seat; what it has seen is the history. The head keeps a version for each position that
+/// is a multiple of `every`, 0 to 4,096; none for 0.
 pub fn shared<R: Threads + Wait + Sync, State: Object + Send + Sync, G: Gate + Sync>(
     rt: &R,
     alloc: Global,
@@ -375,7 +387,6 @@ where
     let (clients, opener) = each_meets::<State>(alloc, head, clients, opener)?;
     let clients = run_clients::<R, State, G>(rt, alloc, head, gate, sections, clients)?;
     let (opener, clients) = meets_each::<State>(alloc, head, opener, clients)?;
-    let (clients, opener) = each_meets::<State>(alloc, head, clients, opener)?;
     let _number = opener.number();
     let history = history_if::<State>(alloc, head, &opener, wants_history)?;
     let answers = answers_of(alloc, opening, clients)?;

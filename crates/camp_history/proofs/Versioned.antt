@@ -15,7 +15,7 @@ use Rattle.camp_row.specs.declared.entries.Entry.{Entry}
 use Rattle.camp_row.proofs.Cells.{turns_front}
 use Rattle.camp_row.proofs.TrailSteps.{length-cells_back}
 use Rattle.camp_history.specs.Seats.{HeadId, Seated, asked, history_of, IsSeatOf}
-use Rattle.camp_history.specs.Versions.{ids, IsIn, news, made_of, GoesOn, Adopts}
+use Rattle.camp_history.specs.Versions.{ids, IsIn, news, list_of, made_of, GoesOn, Adopts}
 use Rattle.camp_history.specs.declared.marks.Mark.{Mark}
 use Rattle.camp_history.specs.Inside.Steps.{entry_of, entries_of, SeesMore}
 use Rattle.camp_history.proofs.Marked.{length-own, map_more}
@@ -109,16 +109,15 @@ pub version_splits : {Call : Type 0} (marks version others : List (Mark Call)) �
     → map asked marks ++ map asked others ≡ map asked version → map asked version ≡ map asked marks ++ map asked (drop (length marks) version)
 version_splits marks version others rest same = sym same ∙ ap (λ l. map asked marks ++ map asked l) rest
 
--- the list of a version is made in two steps: what was seen behind the version before, and the call
-pub made_list : {Call : Type 0} (seat : Seated Call) (call : Where Call) (list done : List (Mark Call)) (len : ℕ) (mark : Mark Call) → len ≡ length seat.front
-    → list ≡ splice seat.front len len (take (length seat.marks - len) (drop len seat.marks)) → done ≡ list ++ mark ∷ [] → mark ≡ record { seat = seat.known.number; call = call } → done ≡ made_of seat call
-made_list seat call list done len mark len_is spliced pushed is =
-    let all : splice seat.front (length seat.front) (length seat.front) (take (length seat.marks - length seat.front) (drop (length seat.front) seat.marks)) ≡ seat.front ++ drop (length seat.front) seat.marks =
+-- what was seen stands behind the version before
+pub listed : {Call : Type 0} (seat : Seated Call) (list : List (Mark Call)) (len : ℕ) → len ≡ length seat.front
+    → list ≡ splice seat.front len len (take (length seat.marks - len) (drop len seat.marks)) → list ≡ list_of seat
+listed seat list len len_is spliced =
+    let all : splice seat.front (length seat.front) (length seat.front) (take (length seat.marks - length seat.front) (drop (length seat.front) seat.marks)) ≡ list_of seat =
     (λ k. take_all (length seat.front) seat.front (omega arith) k ++ (take_rest seat.marks (length seat.front) k ++ drop_all (length seat.front) seat.front (omega arith) k))
     ∙ ap (λ l. seat.front ++ l) (append-nil (drop (length seat.front) seat.marks))
     in
-    let listed : list ≡ seat.front ++ drop (length seat.front) seat.marks = spliced ∙ ap (λ n. splice seat.front n n (take (length seat.marks - n) (drop n seat.marks))) len_is ∙ all in
-    pushed ∙ (λ k. listed k ++ is k ∷ [])
+    spliced ∙ ap (λ n. splice seat.front n n (take (length seat.marks - n) (drop n seat.marks))) len_is ∙ all
 
 -- the list of a version that is made has all calls that the seat has seen, and the new one
 module _ {Call : Type 0} (seat : Seated Call) (begins : IsFront (map asked seat.front) (history_of seat)) where
@@ -132,19 +131,23 @@ module _ {Call : Type 0} (seat : Seated Call) (begins : IsFront (map asked seat.
       sym (drop-map asked (length seat.front) seat.marks) ∙ ap (drop (length seat.front)) (sym begins.makes)
       ∙ drop_at (map asked seat.front) begins.rest (length seat.front) (length-map seat.front asked)
 
+  pub list_asks : map asked (list_of seat) ≡ history_of seat
+  list_asks = map-append asked seat.front (drop (length seat.front) seat.marks) ∙ ap (λ l. map asked seat.front ++ l) behind ∙ begins.makes
+
   pub made_asks : (call : Where Call) → map asked (made_of seat call) ≡ history_of seat ++ (seat.known.number, call.value) ∷ []
   made_asks call =
       let mark : Mark Call = record { seat = seat.known.number; call = call } in
-      let list = drop (length seat.front) seat.marks in
-      map-append asked (seat.front ++ list) (mark ∷ [])
-      ∙ ap (λ l. l ++ asked mark ∷ []) (map-append asked seat.front list ∙ ap (λ l. map asked seat.front ++ l) behind ∙ begins.makes)
+      map-append asked (list_of seat) (mark ∷ []) ∙ ap (λ l. l ++ asked mark ∷ []) list_asks
+
+pub list_stored : {Call : Type 0} (head : HeadId) (seat : Seated Call) → IsSeatOf head seat → All (λ mark. Shows head.store mark.call) (list_of seat)
+list_stored {Call} head seat of =
+    let Stored : Mark Call → Type 0 = λ mark. Shows head.store mark.call in
+    All-append Stored seat.front (drop (length seat.front) seat.marks) of.front_stored (All-drop Stored (length seat.front) seat.marks of.stored)
 
 pub made_stored : {Call : Type 0} (head : HeadId) (seat : Seated Call) (call : Where Call) → IsSeatOf head seat → Shows head.store call → All (λ mark. Shows head.store mark.call) (made_of seat call)
 made_stored {Call} head seat call of shows =
-    let Stored : Mark Call → Type 0 = λ mark. Shows head.store mark.call in
     let mark : Mark Call = record { seat = seat.known.number; call = call } in
-    let list = drop (length seat.front) seat.marks in
-    All-push Stored (seat.front ++ list) mark (All-append Stored seat.front list of.front_stored (All-drop Stored (length seat.front) seat.marks of.stored)) shows
+    All-push (λ mark. Shows head.store mark.call) (list_of seat) mark (list_stored head seat of) shows
 
 -- as many entries lie ahead as a trail has cells
 pub news_within : (known : Known) (trail : List ℕ) (more : List Entry) → Leads known known.seen trail → chain.IsFront (known.seen ++ more) known.ahead → length more ≤ length trail
@@ -230,3 +233,8 @@ seat_adopted {Call} head old new version of stored adopts =
       stored = All-same Stored new.marks (old.marks ++ news old version) adopts.marks (All-append Stored old.marks (news old version) of.stored (All-drop Stored (length old.marks) version stored));
       front_stored = All-same Stored new.front version adopts.front stored;
     }
+
+pub adopting_of : {Call E : Type 0} (head : HeadId) (old new : Seated Call) (version : List (Mark Call)) (answer : Result (Unit {0}) E) → IsSeatOf head old → All (λ mark. Shows head.store mark.call) version
+    → OnOk answer (Adopts old version new) → OnErr answer (new ≡ old) → IsSeatOf head new
+adopting_of head old new version (Ok done) of stored takes same = seat_adopted head old new version of stored takes
+adopting_of head old new version (Err fault) of stored takes same = subst (IsSeatOf head) (sym same) of

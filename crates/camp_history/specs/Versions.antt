@@ -19,10 +19,13 @@ IsIn ids token = token.row ≡ slice_index_or ids token.bucket 0
 abbrev pub news : {Call : Type 0} → Seated Call → List (Mark Call) → List (Mark Call)
 news seat version = drop (length seat.marks) version
 
--- the list of a version that is made for a call: what the seat has seen, behind the version before, and the call
+-- the marks of all that a seat has seen: those of its last version, and behind them its own
+abbrev pub list_of : {Call : Type 0} → Seated Call → List (Mark Call)
+list_of seat = seat.front ++ drop (length seat.front) seat.marks
+
+-- the list of a version that is made for a call: all that the seat has seen, and the call
 abbrev pub made_of : {Call : Type 0} → Seated Call → Where Call → List (Mark Call)
-made_of seat call =
-    seat.front ++ drop (length seat.front) seat.marks ++ record { seat = seat.known.number; call = call } ∷ []
+made_of seat call = list_of seat ++ record { seat = seat.known.number; call = call } ∷ []
 
 -- a version goes on from what a seat has seen: its calls begin with those of the seat, and its other entries come next
 -- in the chain that was found, each of a seat of the row

@@ -1,7 +1,7 @@
 //! How versions are made and put, and how a seat that is behind takes one over.
 ghost use Rattle.std.specs.Prelude.{◌≡◌, ◌<◌, ◌≤◌, ◌+◌, ◌++◌, [], ◌∷◌, length, map, slice_get, All, Some, IfOk, IfSome, OnOk, OnErr, IsTrue};
 ghost use Rattle.boxcar.specs.Table.{Shows};
-ghost use Rattle.camp_history.specs.Versions.{ids, news, made_of, GoesOn, Adopts, IsMade};
+ghost use Rattle.camp_history.specs.Versions.{ids, news, list_of, made_of, GoesOn, Adopts, IsMade};
 
 use crate::heads::Head;
 use crate::marks::Mark;
@@ -10,7 +10,7 @@ use crate::versions::{Made, Slot, Version};
 use boxcar::Pushed;
 use camp_object::Object;
 use camp_row::{Entry, Row, Trail};
-use camp_share::{Share, Shared};
+use camp_share::{Share, Shared, SharedList};
 use std::alloc::AllocError;
 
 impl<State: Object> Seat<State> {
@@ -29,6 +29,23 @@ impl<State: Object> Seat<State> {
         row.entry_at(&mut self.pass, trail, index)
     }
 
+    /// The marks of all that it has seen: those of its last version, and behind them its own.
+    fn list(&self) -> Result<SharedList<Mark<State::Call>>, AllocError>
+        ensures { IfOk result (λ list. list ≡ list_of self.now) }
+    {
+        let len = self.front.len();
+        Ok(self.front.spliced(len, len, &self.marks[len..])?)
+    }
+
+    /// All that it has seen, as a version.
+    pub(crate) fn version(&self) -> Result<Version<State>, AllocError>
+        ensures { IfOk result (λ version. version ≡ list_of self.now) }
+    {
+        let marks = self.list()?;
+        let state = self.state.share()?;
+        Ok(Version { marks, state })
+    }
+
     /// The version at the position of a call, as long as it is accepted there.
     pub(crate) fn version_with(
         &self,
@@ -39,8 +56,7 @@ impl<State: Object> Seat<State> {
         ensures made { IfOk result (λ version. version ≡ made_of self.now call.now) }
         ensures asks { IfOk result (λ version. map asked version ≡ history_of self.now ++ (self.now.known.number, call.now.value) ∷ []) }
     {
-        let len = self.front.len();
-        let list = self.front.spliced(len, len, &self.marks[len..])?;
+        let list = self.list()?;
         let marks = list.pushed(Mark {
             seat: self.pass.number(),
             call: call.again(),
@@ -74,8 +90,14 @@ impl<State: Object> Seat<State> {
         let _room = self.marks.append(&mut news);
         self.front = front;
         self.state = state;
-        self.adopted = self.adopted.saturating_add(1);
         Ok(())
+    }
+
+    /// Counts a version that was taken over.
+    fn count_version(&mut self)
+        ensures { self.new ≡ self.old }
+    {
+        self.adopted = self.adopted.saturating_add(1);
     }
 }
 
@@ -205,9 +227,34 @@ impl<State: Object> Head<State> {
         let Some(version) = self.longest(seat, trail) else {
             return Ok(());
         };
-        let answer = seat.adopt(&self.row, trail, version);
+        seat.adopt(&self.row, trail, version)?;
+        seat.count_version();
         seat.is_whole();
-        answer
+        Ok(())
+    }
+
+    /// A seat that is behind another takes over all that this one has seen and decided.
+    pub(crate) fn take_over(
+        &self,
+        seat: &mut Seat<State>,
+        other: &Seat<State>,
+    ) -> Result<(), AllocError>
+        requires of { IsSeatOf self.now seat.old }
+        requires other { IsSeatOf self.now other.now }
+        ensures of { IsSeatOf self.now seat.new }
+        ensures more { SeesMore seat.old seat.new }
+        ensures ahead { seat.new.known.ahead ≡ seat.old.known.ahead }
+    {
+        seat.is_whole();
+        if other.position() <= seat.position() {
+            return Ok(());
+        }
+        let mut trail = seat.walk(&self.row)?;
+        let version = other.version()?;
+        if !self.goes_on(seat, &trail, &version) {
+            return Ok(());
+        }
+        seat.adopt(&self.row, &mut trail, &version)
     }
 
     /// The version for the position of a call, if one is kept there.

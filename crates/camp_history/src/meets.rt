@@ -1,14 +1,16 @@
 //! How two seats meet.
-ghost use Rattle.std.specs.Prelude.{◌≡◌, ◌≤◌, length};
+ghost use Rattle.std.specs.Prelude.{◌≡◌, ◌≤◌, length, OnOk};
 ghost use Rattle.camp_object.specs.Histories.{IsFront};
 
 use crate::heads::Head;
 use crate::seats::Seat;
 use camp_object::{Fault, Object};
+use std::alloc::AllocError;
 
 impl<State: Object> Head<State> {
     ghost use Rattle.camp_history.specs.Meeting.{Meets};
     ghost use Rattle.camp_history.specs.Seats.{IsSeatOf, history_of};
+    ghost use Rattle.camp_history.specs.Inside.Steps.{entries_of, SeesMore};
 
     /// Brings two seats together, and lets the first see all that the second has seen.
     pub fn meet(
@@ -24,12 +26,25 @@ impl<State: Object> Head<State> {
         a.is_whole();
         b.is_whole();
         let b = a.meet(&self.row, b);
-        let answer = self.follow(&mut a);
+        let answer = self.follow_other(&mut a, &b);
         self.compare(&a, &b);
         match answer {
             Ok(()) => (a, b, Ok(())),
             Err(_) => (a, b, Err(Fault::Memory)),
         }
+    }
+
+    /// A seat sees all of the chain that was found; what another has decided is taken over.
+    fn follow_other(&self, seat: &mut Seat<State>, other: &Seat<State>) -> Result<(), AllocError>
+        requires of { IsSeatOf self.now seat.old }
+        requires other { IsSeatOf self.now other.now }
+        ensures of { IsSeatOf self.now seat.new }
+        ensures more { SeesMore seat.old seat.new }
+        ensures ahead { seat.new.known.ahead ≡ seat.old.known.ahead }
+        ensures whole { OnOk result (entries_of seat.new ≡ seat.new.known.ahead) }
+    {
+        self.take_over(seat, other)?;
+        self.follow(seat)
     }
 
     /// Of two seats that found one chain, the calls agree as far as both have seen it.

@@ -1,11 +1,11 @@
-use Rattle.std.proofs.Common.{◌≡◌, sym, ◌∙◌, subst, ap, refl}
+use Rattle.std.proofs.Common.{◌≡◌, sym, ◌∙◌, subst, refl}
 use Rattle.camp_object.specs.Histories.{IsFront, own}
 use Rattle.camp_history.specs.Seats.{IsSeatOf, history_of}
 use Rattle.camp_clients.specs.Clients.{sight_of}
 use Rattle.camp_clients.specs.Meeting.{IsMet}
 use Rattle.camp_clients.proofs.Gathering.{zip_push, all_first, all_rest, ok_holds}
-use Rattle.camp_clients.proofs.Histories.{front_trans, front_refl}
-use Rattle.camp_clients.proofs.Meeting.{met_more}
+use Rattle.camp_object.proofs.Fronts.{front_front, front_self}
+use Rattle.camp_clients.proofs.Meeting.{met_still}
 use Rattle.camp_clients.proofs.heads.meets_each.Goals as goal
 
 pub loop-client-preserved : goal.loop-client-preserved
@@ -15,17 +15,19 @@ loop-client-preserved g c =
     let has = IsSeatOf c.args.head.now in
     let knows = ok_holds (IsFront (history_of c.in-Some.client.seat) (history_of c.meet-other.result.0)) c.meet-other.result.2 m.meets.b_front
     (sym c.is_err.ensures.value ∙ c.if-is_err.false) in
+    let own_knows = ok_holds (own c.in-Some.client.seat.known.number (history_of c.meet-other.result.0) ≡ own c.in-Some.client.seat.known.number (history_of c.in-Some.client.seat)) c.meet-other.result.2 m.meets.b_own
+    (sym c.is_err.ensures.value ∙ c.if-is_err.false) in
     record {
       seat = m.seats.0;
       number = m.meets.a_number ∙ inv.number;
-      grows = front_trans _ _ _ inv.grows m.meets.a_grows;
+      grows = front_front inv.grows m.meets.a_grows;
       own_stays = subst (λ n. own n (history_of c.meet-other.result.0) ≡ own n (history_of c.loop-client.known)) inv.number m.meets.a_own ∙ inv.own_stays;
       left = all_rest (λ client. has client.seat) c.loop-client.client-iterator.rest.items c.in-Some.client _ c.in-Some.ensures.steps.0 inv.left;
       clients = rw c.in_ok-push.ensures.items
           (zip_push (IsMet (sight_of c.args.head.now) (history_of c.meet-other.result.0)) c.loop-client.yielded c.loop-client.all.items c.in-Some.client _
-          (met_more (sight_of c.args.head.now) (history_of c.loop-client.known) (history_of c.meet-other.result.0) m.meets.a_grows
-          c.loop-client.yielded c.loop-client.all.items inv.clients)
-          (record { is_seat = m.seats.1; number = m.meets.b_number; answers = refl; seen = m.meets.b_seen; known = knows }));
+          (met_still (sight_of c.args.head.now) (history_of c.loop-client.known) (history_of c.meet-other.result.0) c.len-in-loop-client.result c.position-earlier.result c.position.result m.meets.a_grows
+          c.position-earlier.ensures c.position.ensures c.loop-client.yielded c.loop-client.all.items (c.len-in-loop-client.ensures ∙ c.loop-client.all.ok.0) (c.if-not-stays.ensures refl) inv.clients)
+          (record { is_seat = m.seats.1; number = m.meets.b_number; answers = refl; seen = m.meets.b_seen; known = knows; own_known = own_knows }));
     }
 
 pub meet-other-requires : goal.meet-other-requires
@@ -35,13 +37,11 @@ meet-other-requires g c = (
 )
 
 pub loop-client-init : goal.loop-client-init
-loop-client-init g c =
-    let here = c.opener.view_is in
-    record {
-      seat = subst (IsSeatOf c.args.head.now) (sym here) c.requires.opener;
-      number = ap (λ s. s.known.number) here;
-      grows = subst (λ s. IsFront (history_of c.args.opener) (history_of s)) (sym here) (front_refl (history_of c.args.opener));
-      own_stays = ap (λ s. own c.args.opener.known.number (history_of s)) here;
-      left = rw c.into_iter-client-iterator.ensures.into_iter_gives.0 c.requires.clients;
-      clients = rw c.in_ok-all.ensures.items tt;
-    }
+loop-client-init g c = record {
+  seat = c.requires.opener;
+  number = refl;
+  grows = front_self (history_of c.args.opener);
+  own_stays = refl;
+  left = rw c.into_iter-client-iterator.ensures.into_iter_gives.0 c.requires.clients;
+  clients = rw c.in_ok-all.ensures.items tt;
+}

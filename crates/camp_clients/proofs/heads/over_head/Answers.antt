@@ -1,4 +1,4 @@
-use Rattle.std.proofs.Common.{◌≡◌, ℕ, ◌<◌, [], length, sym, ◌∙◌, ap, subst, arith}
+use Rattle.std.proofs.Common.{◌≡◌, ℕ, ◌<◌, [], length, refl, sym, ◌∙◌, ap, subst, arith}
 use Rattle.camp_object.specs.Histories.{IsFront, IsLegal, own}
 use Rattle.camp_clients.specs.Answers.{Asks}
 use Rattle.camp_history.specs.Seats.{IsSeatOf, history_of}
@@ -29,12 +29,6 @@ meets_each-requires-clause-clients g c =
     (λ client. IsSeatOf c.args.head.now client.seat) (λ before after ran. ran.is_seat)
     c.in_ok-clients.clients.items c.in_ok-clients-2.clients.items c.in_ok-clients-2.ensures
 
-pub each_meets-requires-2-clause-clients : goal.each_meets-requires-2-clause-clients
-each_meets-requires-2-clause-clients g c =
-    zip_all (IsMet (sight_of c.args.head.now) (history_of c.in_ok-opener.opener))
-    (λ client. IsSeatOf c.args.head.now client.seat) (λ before after met. met.is_seat)
-    c.in_ok-clients-2.clients.items c.in_ok-opener.clients.items c.in_ok-opener.ensures.clients
-
 pub returns : goal.returns
 returns g c =
     let object = g.State.Object.object in
@@ -48,15 +42,13 @@ returns g c =
     let l1 = c.in_ok-clients.clients.items in
     let l2 = c.in_ok-clients-2.clients.items in
     let l3 = c.in_ok-opener.clients.items in
-    let l4 = c.in_ok-clients-3.clients.items in
-    let long : length l4 ≡ length l0 =
+    let long : length l3 ≡ length l0 =
     sym (zip_length (Meets sight opened) l0 l1 c.in_ok-clients.ensures.clients
     ∙ zip_length (Ran object sight tries per_seat sections) l1 l2 c.in_ok-clients-2.ensures
-    ∙ zip_length (IsMet sight history) l2 l3 c.in_ok-opener.ensures.clients
-    ∙ zip_length (Meets sight history) l3 l4 c.in_ok-clients-3.ensures.clients) in
-    let holds = λ (k : ℕ) (d : _) (below : k < length l4).
-    clients_hold object sight tries per_seat sections opened history l0 l1 l2 l3 l4 c.requires.clients c.in_ok-clients.ensures.clients c.in_ok-clients-2.ensures
-    c.in_ok-opener.ensures.clients c.in_ok-clients-3.ensures.clients k d (omega (arith, long)) in
+    ∙ zip_length (IsMet sight history) l2 l3 c.in_ok-opener.ensures.clients) in
+    let holds = λ (k : ℕ) (d : _) (below : k < length l3).
+    clients_hold object sight tries per_seat sections opened history l0 l1 l2 l3 c.requires.clients c.in_ok-clients.ensures.clients c.in_ok-clients-2.ensures
+    c.in_ok-opener.ensures.clients k d (omega (arith, long)) in
     let opener = c.args.opener in
     let opening = c.in_ok-opening.opening in
     let calls = c.deref.ensures.value ∙ sym (section_at c.args.sections.now 0 c.index-sections-0.result (omega arith) c.index-sections-0.is) in
@@ -69,13 +61,13 @@ returns g c =
     let number = c.in_ok-clients.ensures.number ∙ c.in_ok-opening.ensures.number ∙ c.requires.opener.1 in
     let same = subst (λ n. own n history ≡ own n (history_of c.in_ok-clients.opener)) number c.in_ok-opener.ensures.own
     ∙ ap (own 0) c.in_ok-clients.ensures.seen in
-    let legal = subst (IsLegal object) c.in_ok-clients-3.ensures.seen c.number-number.ensures.legal in
-    let seats = ap (λ row. row.seats) c.in_ok-clients-3.ensures.seat.row ∙ c.requires.seats ∙ sym (length-lists_of c.args.sections.now) in
-    let no_other = none_other _ _ _ _ seats c.in_ok-clients-3.ensures.seen c.number-number.ensures.seats_below in
-    let run = shared_run object sight tries per_seat sections opened history opening.items l4 (record { seat = opener; answers = opening })
+    let legal = c.number-number.ensures.legal in
+    let seats = ap (λ row. row.seats) c.in_ok-opener.ensures.seat.row ∙ c.requires.seats ∙ sym (length-lists_of c.args.sections.now) in
+    let no_other = none_other _ _ _ _ seats refl c.number-number.ensures.seats_below in
+    let run = shared_run object sight tries per_seat sections opened history opening.items l3 (record { seat = opener; answers = opening })
     (omega (arith, long, c.requires.as_many, length-lists_of c.args.sections.now)) holds ran front same legal no_other in
     record {
       history = history;
       shared = rw (c.in_ok-answers.ensures, lists_map) run;
-      tells = λ wanted. c.in_ok-history.ensures wanted ∙ c.in_ok-clients-3.ensures.seen;
+      tells = λ wanted. c.in_ok-history.ensures wanted;
     }

@@ -6,8 +6,11 @@ use Rattle.camp_history.proofs.heads.Head.adopt.Goals as goal
 
 pub returns-clause-more : goal.returns-clause-more
 returns-clause-more g c =
-    let new = c.adopt-answer.new.self in
-    let goes : GoesOn c.longest.new.seat c.in-Some.version.now = rw c.longest.ensures.same c.in-Some.ensures.goes_on in
-    rw (← c.longest.ensures.same) (
-    adopting_more c.longest.new.seat new c.in-Some.version.now c.adopt-answer.result (rw c.longest.ensures.same c.is_whole.ensures.places) (rw c.longest.ensures.same c.is_whole.ensures.sound) goes c.adopt-answer.ensures.ok c.adopt-answer.ensures.err
-    )
+    let old = c.longest.new.seat in
+    let new = c.adopt.new.self in
+    let goes : GoesOn old c.in-Some.version.now = rw c.longest.ensures.same c.in-Some.ensures.goes_on in
+    let more : SeesMore old new =
+    adopting_more old new c.in-Some.version.now c.adopt.result (rw c.longest.ensures.same c.is_whole.ensures.places) (rw c.longest.ensures.same c.is_whole.ensures.sound) goes c.adopt.ensures.ok c.adopt.ensures.err
+    in
+    let counted : SeesMore old c.count_version.new.self = subst (SeesMore old) (sym c.count_version.ensures) more in
+    rw (← c.longest.ensures.same) counted

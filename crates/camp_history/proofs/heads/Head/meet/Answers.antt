@@ -8,7 +8,7 @@ returns-in-Ok-clause-meets g c =
     let a = c.args.a in
     let b = c.args.b in
     let met = c.meet-b.new.self in
-    let a' = c.follow-answer.new.seat in
+    let a' = c.follow_other-answer.new.seat in
     let b' = c.meet-b.result in
     let finds = c.meet-b.ensures in
     let follows = c.in-Ok.ensures in
@@ -23,4 +23,4 @@ pub returns-in-Err-clause-meets : goal.returns-in-Err-clause-meets
 returns-in-Err-clause-meets g c =
     let finds = c.meet-b.ensures in
     let compared = c.compare.ensures in
-    met_seats c.args.a c.args.b c.meet-b.new.self c.follow-answer.new.seat c.meet-b.result finds.self_finds finds.self_marks finds.other_finds finds.other_marks c.in-Err.ensures.more compared.a_shorter compared.b_shorter (Err Memory) tt tt refl
+    met_seats c.args.a c.args.b c.meet-b.new.self c.follow_other-answer.new.seat c.meet-b.result finds.self_finds finds.self_marks finds.other_finds finds.other_marks c.in-Err.ensures.more compared.a_shorter compared.b_shorter (Err Memory) tt tt refl
