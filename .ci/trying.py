@@ -1,7 +1,9 @@
-"""What .ci/refusals and .ci/turns share: a program that is built without proofs, and the tables of crates/worked."""
+"""What .ci/refusals, .ci/turns and .ci/locked share: a program that is built without proofs, the tables of
+crates/worked, and the scripts of .ci/cases."""
 
 import glob
 import os
+import re
 import shutil
 import signal
 import subprocess
@@ -53,3 +55,19 @@ def tables(name):
             if table:
                 found[table] = found.get(table, b"") + line
     return found
+
+
+def scripts(name):
+    """The scripts of the file `faults` or `answers` of .ci/cases, as bytes."""
+    with open(f"{TOP}/.ci/cases/{name}", encoding="utf-8") as it:
+        text = it.read()
+    if name == "faults":
+        found = [line.split("\t", 2)[2] for line in text.splitlines() if line[:1].isdigit()]
+    else:
+        cases = [re.sub(r"^\$.*\n", "", it, flags=re.M) for it in re.split(r"^== .*\n", text, flags=re.M)[1:]]
+        found = [it.split("\n--\n", 1)[0] + "\n" for it in cases if not it.startswith("--\n")]
+    return [unescaped(it) for it in found]
+
+
+def unescaped(text):
+    return subprocess.run(["printf", "%b", text], stdout=subprocess.PIPE, check=True).stdout

@@ -21,4 +21,4 @@ faulty() {
 }
 
 # shellcheck source=/dev/null
-for limit in ${limits:-lines sides clients calls branches changes catches files}; do . "$cases/limits/$limit.sh"; done
+for limit in ${limits:-lines sides clients calls full_sections branches changes catches files}; do . "$cases/limits/$limit.sh"; done

@@ -1,8 +1,12 @@
 use camp_base::Name;
 use camp_call::{Refusal, Reply};
+use camp_clients::LockFault;
+use camp_history::HeadFault;
 use camp_object::Fault;
-use camp_script::{append_reply, write_reply, write_text};
-use std::alloc::Global;
+use camp_run::RunFault;
+use camp_script::{FaultKind, LineFault, ScriptFault, append_reply, write_reply, write_text};
+use std::alloc::{AllocError, Global};
+use std::fmt::Display;
 use std::io;
 use std::io::{ErrorKind, Write};
 use std::test::Fail;
@@ -30,6 +34,59 @@ fn a_refused_merge_shows_its_number_and_its_names(rt: HostRuntime) -> Result<(),
     let mut text = Vec::new(rt.alloc());
     append_reply(&mut text, &Ok(Reply::Refused(refusal)))?;
     assert!(rt; text.as_slice() == b"refused 13 q p\n".as_slice());
+    Ok(())
+}
+
+fn shows<T: Display>(alloc: Global, fault: &T, words: &str) -> Result<bool, AllocError> {
+    let text = format!(in alloc; "{fault}")?;
+    Ok(text.as_str() == words)
+}
+
+const LINE: LineFault = LineFault {
+    line: 3,
+    kind: FaultKind::BadName,
+};
+
+#[test]
+fn the_fault_of_a_run_shows_its_words_and_has_its_status(rt: HostRuntime) -> Result<(), Fail> {
+    for (fault, words, status) in [
+        (RunFault::Script(LINE), "line 3: bad name", 1),
+        (RunFault::Foreign, "foreign call", 3),
+        (RunFault::Memory, "out of memory", 3),
+        (RunFault::Read, "cannot read input", 3),
+        (RunFault::Write, "cannot write output", 3),
+    ] {
+        assert!(rt; shows(rt.alloc(), &fault, words)?);
+        assert_eq!(rt; fault.status(), status);
+    }
+    Ok(())
+}
+
+#[test]
+fn the_fault_of_a_call_shows_its_words(rt: HostRuntime) -> Result<(), Fail> {
+    let alloc = rt.alloc();
+    assert!(rt; shows(alloc, &Fault::Memory, "out of memory")?);
+    assert!(rt;
+        shows(
+            alloc,
+            &Fault::Busy { lost: 3 },
+            "busy after 3 lost exchanges"
+        )?
+    );
+    assert!(rt; shows(alloc, &Fault::Full, "the seat is full")?);
+    Ok(())
+}
+
+#[test]
+fn the_faults_of_scripts_heads_and_locks_show_their_words(rt: HostRuntime) -> Result<(), Fail> {
+    let alloc = rt.alloc();
+    assert!(rt; shows(alloc, &ScriptFault::Line(LINE), "line 3: bad name")?);
+    assert!(rt; shows(alloc, &ScriptFault::Memory, "out of memory")?);
+    assert!(rt; shows(alloc, &ScriptFault::Write, "cannot write")?);
+    assert!(rt; shows(alloc, &HeadFault::BadSize, "bad size")?);
+    assert!(rt; shows(alloc, &HeadFault::Memory, "out of memory")?);
+    assert!(rt; shows(alloc, &LockFault::Memory, "out of memory")?);
+    assert!(rt; shows(alloc, &LockFault::Foreign, "foreign call")?);
     Ok(())
 }
 
