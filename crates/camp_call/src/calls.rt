@@ -40,7 +40,7 @@ pub enum Call {
 
 impl Call {
     pub fn try_clone(&self) -> Result<Call, AllocError>
-        ensures { IfOk result (λ copy. copy ≡ self.now) }
+        ensures exact { IfOk result (λ copy. copy ≡ self.now) }
     {
         match self {
             Call::Branch { new, from } => Ok(Call::Branch {
@@ -73,7 +73,7 @@ impl Call {
 
     /// Whether the two ask the same. It takes no memory.
     pub fn is_same(&self, other: &Call) -> bool
-        ensures { IsTrue result ↔ (self.now ≡ other.now) }
+        ensures exact { IsTrue result ↔ (self.now ≡ other.now) }
     {
         match (self, other) {
             (
@@ -119,7 +119,7 @@ impl Call {
 
     /// Whether the call may change the repository. Any but a question may.
     pub fn is_writing(&self) -> bool
-        ensures { result ≡ is_writing self.now }
+        ensures exact { result ≡ is_writing self.now }
     {
         match self {
             Call::Branch { .. }

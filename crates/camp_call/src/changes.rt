@@ -50,7 +50,7 @@ impl Changes {
 
     /// A copy, which shares the changes. It takes no memory: an error is a count of owners that is full.
     pub fn try_clone(&self) -> Result<Changes, AllocError>
-        ensures { IfOk result (λ copy. copy ≡ self.now) }
+        ensures exact { IfOk result (λ copy. copy ≡ self.now) }
     {
         let prims = self.prims.share()?;
         Ok(Changes { prims })
@@ -58,7 +58,7 @@ impl Changes {
 
     /// Whether the two are the same changes in the same order. It takes no memory.
     pub fn is_same(&self, other: &Changes) -> bool
-        ensures { IsTrue result ↔ (self.now ≡ other.now) }
+        ensures exact { IsTrue result ↔ (self.now ≡ other.now) }
     {
         if self.prims.len() != other.prims.len() {
             return false;

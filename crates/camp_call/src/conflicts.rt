@@ -20,13 +20,13 @@ impl Model for Conflicts {
 impl Conflicts {
     /// These pairs. It takes no memory.
     pub fn new(pairs: Vec<(Name, Name)>) -> Conflicts
-        ensures { result ≡ pairs.items }
+        ensures exact { result ≡ pairs.items }
     {
         Conflicts { pairs }
     }
 
     pub fn pairs(&self) -> &[(Name, Name)]
-        ensures { result.now ≡ self.now }
+        ensures exact { result.now ≡ self.now }
     {
         &self.pairs
     }

@@ -21,19 +21,19 @@ impl Model for Names {
 impl Names {
     /// These names. It takes no memory.
     pub fn new(names: Vec<Name>) -> Names
-        ensures { result ≡ names.items }
+        ensures exact { result ≡ names.items }
     {
         Names { names }
     }
 
     pub fn as_slice(&self) -> &[Name]
-        ensures { result.now ≡ self.now }
+        ensures exact { result.now ≡ self.now }
     {
         &self.names
     }
 
     pub fn try_clone(&self) -> Result<Names, AllocError>
-        ensures { IfOk result (λ copy. copy ≡ self.now) }
+        ensures exact { IfOk result (λ copy. copy ≡ self.now) }
     {
         let names = self.names.clone()?;
         Ok(Names { names })
@@ -41,7 +41,7 @@ impl Names {
 
     /// Whether the two are the same names in the same order. It takes no memory.
     pub fn is_same(&self, other: &Names) -> bool
-        ensures { IsTrue result ↔ (self.now ≡ other.now) }
+        ensures exact { IsTrue result ↔ (self.now ≡ other.now) }
     {
         if self.names.len() != other.names.len() {
             return false;

@@ -33,7 +33,7 @@ pub fn command_line<R: Env + AllocGlobal>(rt: &R) -> Result<Vec<String>, WordsFa
 impl WordsFault {
     /// Tells the user of a program, and gives the exit status.
     pub fn tell<R: Print + Eprint>(&self, rt: &R, program: &str) -> u8
-        ensures { TellsBy self.now result }
+        ensures status { TellsBy self.now result }
     {
         match self {
             WordsFault::NotText => {
@@ -63,7 +63,7 @@ fn tell_error<R: Print + Eprint>(rt: &R, program: &str, error: &Error) -> u8
 
 /// Tells the user of a program why it ends, and gives the exit status back.
 pub fn tell_fault<R: Eprint, F: Display>(rt: &R, program: &str, fault: &F, status: u8) -> u8
-    ensures { result ≡ status }
+    ensures exact { result ≡ status }
 {
     let _ = eprintln!(rt; "{program}: {fault}");
     status

@@ -1,10 +1,10 @@
-ghost use Rattle.std.specs.Prelude.{◌≡◌, IfOk, false, map, ◌≤◌};
-ghost use Rattle.clap.specs.Words.{FailsBy, app_of, fault_of, matches_of, rule_of};
-ghost use Rattle.camp_options.specs.Options.{Given, flag, program, tries};
+ghost use Rattle.std.specs.Prelude.{◌≡◌, ◌↔◌, IfOk, false, true, map, ◌≤◌};
+ghost use Rattle.clap.specs.Words.{FailsBy, app_of, fault_of, found_of, matches_of, rows_of, rule_of};
+ghost use Rattle.camp_options.specs.Options.{Given, IsSet, flag, program, tries};
 
 use crate::help::{REFERENCE, USAGE};
 use crate::kinds::Options;
-use clap::{Arg, ArgAction, Command, Error, value_parser};
+use clap::{Arg, ArgAction, ArgMatches, Command, Error, value_parser};
 use std::alloc::{AllocError, Global};
 use std::convert::AsStr;
 
@@ -18,10 +18,17 @@ pub fn options<'a, S: AsStr>(alloc: Global, words: &'a [S]) -> Result<Options, E
 {
     let matches = command(alloc)?.try_get_matches_from(words)?;
     Ok(Options {
-        serial: matches.get_flag("serial"),
+        serial: is_set(&matches, "serial"),
         tries: matches.get_one::<u32>("tries").unwrap(),
-        history: matches.get_flag("history"),
+        history: is_set(&matches, "history"),
     })
+}
+
+// Whether an option without a value is set.
+fn is_set(matches: &ArgMatches, name: &str) -> bool
+    ensures exact { (result ≡ true) ↔ IsSet name.now (rows_of (found_of matches.now)) }
+{
+    matches.get_one(name).unwrap_or(false)
 }
 
 fn command<'a>(alloc: Global) -> Result<Command<'a>, AllocError>

@@ -1,7 +1,7 @@
 -- What a line asks for is what its first words begin, and it can be done.
 use Rattle.std.proofs.Common.{◌≡◌, ℕ, Bool, true, false, ◌&&◌, ◌||◌, ◌==◌, ◌<◌, ◌≤◌, nat_le, List, [], ◌∷◌, length, drop, slice_index, codes, refl, sym, ap, subst, ◌∙◌, Result, Ok, ⊎_elim, arith}
 use Rattle.std.proofs.lemmas.Bool.Decides.{nat_tests}
-use Rattle.std.proofs.lemmas.Bool.{cases_Bool, both_ways}
+use Rattle.std.proofs.lemmas.Bool.{cases_Bool, both_ways, and_parts}
 use Rattle.std.proofs.lemmas.Slice.Eq.{bytes_eq-Decides}
 use Rattle.std.specs.Prelude.{IsTrue, bytes_eq}
 use Rattle.std.specs.List.{list_all}
@@ -16,7 +16,6 @@ use Rattle.camp_script.specs.Commands.{Command, Nothing, Ask, BeginEdit, BeginGr
 use Rattle.camp_script.specs.Pieces.{begins_with, begins_edit, begins_group}
 use Rattle.camp_script.specs.Words.{◌>>=◌, no_words, one_word, two_words, name_at, names_at, path_at, number_at, value_of, is_line_number}
 use Rattle.camp_script.specs.declared.faults.LineFault.{LineFault}
-use Rattle.camp_script.proofs.CanonicalLines.{second_of}
 use Rattle.camp_script.proofs.Holding.{Holds, fails, bind, either, behind}
 
 -- ---- words that are names, paths and numbers
@@ -45,7 +44,7 @@ some_line v h = grind (arith, nat_tests)
 number_good : (n : ℕ) (word : List ℕ) → Holds Place (number_at n word)
 number_good n word =
     either Place (is_line_number word) _ _
-    (λ h. record { value = some_line (value_of word) (second_of (list_all (is_between 48 57) word) _ (second_of (is_between 1 10 (length word)) _ h)) }) (λ _. fails)
+    (λ h. record { value = some_line (value_of word) ((and_parts (list_all (is_between 48 57) word) _ ((and_parts (is_between 1 10 (length word)) _ h).1)).1) }) (λ _. fails)
 
 names_good : (n : ℕ) (words : List (List ℕ)) → Holds (Names (length words)) (names_at n words)
 names_good n [] = record { value = (refl, tt) }

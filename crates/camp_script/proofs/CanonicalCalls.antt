@@ -1,6 +1,6 @@
 -- The canonical text of sections, read back call by call.
 use Rattle.std.proofs.Common.{◌≡◌, ℕ, ◌+◌, ◌^◌, ◌<◌, ◌≤◌, true, false, not, ◌&&◌, ◌==◌, nat_lt, nat_le, cond, List, [], ◌∷◌, ◌++◌, length, codes, count_by, slice_index, sym, ap, subst, ◌∙◌, refl, append_assoc, append-nil, None, Some, Option, Result, Ok, arith, length-append}
-use Rattle.std.proofs.lemmas.Bool.{cond-true, cond-false, false≢true}
+use Rattle.std.proofs.lemmas.Bool.{cond-true, cond-false, false≢true, and_parts}
 use Rattle.std.proofs.lemmas.Bool.Decides.{nat_tests}
 use Rattle.std.proofs.lemmas.List.Concat.{flat_map-cons}
 use Rattle.std.proofs.lemmas.List.Sums.{sum_by-append, sum_by-cons}
@@ -26,7 +26,7 @@ use Rattle.camp_script.specs.Inside.Progress.{Progress, OpenRecord, after_call, 
 use Rattle.camp_script.specs.Inside.Steps.{read_from, obey, heed, after_body}
 use Rattle.camp_script.specs.declared.faults.LineFault.{LineFault}
 use Rattle.camp_script.specs.Texts.{line_text, signed_line}
-use Rattle.camp_script.proofs.CanonicalLines.{both, first_of, second_of, all_weaker, is_word, is_word_byte, is_one_line, AreWords, first_line, first_words, words_of-joined, positive}
+use Rattle.camp_script.proofs.CanonicalLines.{both, all_weaker, is_word, is_word_byte, is_one_line, AreWords, first_line, first_words, words_of-joined, positive}
 use Rattle.camp_script.proofs.Agreement.{reads_as_defined}
 use Rattle.camp_script.proofs.CanonicalNumbers.{decimal_is_word, decimal_is_line_number, value_of-decimal}
 
@@ -70,14 +70,14 @@ some_bytes n h = grind (arith, nat_tests)
 
 name_is_word : (name : List ℕ) → is_name name ≡ true → is_word name ≡ true
 name_is_word name h =
-    let rest = second_of (not (length name == 0)) (not (slice_index name 0 == 45) && (nat_le (length name) MAX_NAME_LENGTH && list_all is_name_byte name)) h in
-    let bytes = second_of (nat_le (length name) MAX_NAME_LENGTH) (list_all is_name_byte name) (second_of (not (slice_index name 0 == 45)) _ rest) in
-    both (nat_lt 0 (length name)) (list_all is_word_byte name) (some_bytes (length name) (first_of (not (length name == 0)) _ h)) (all_weaker is_name_byte is_word_byte name_byte_is_word_byte name bytes)
+    let rest = (and_parts (not (length name == 0)) (not (slice_index name 0 == 45) && (nat_le (length name) MAX_NAME_LENGTH && list_all is_name_byte name)) h).1 in
+    let bytes = (and_parts (nat_le (length name) MAX_NAME_LENGTH) (list_all is_name_byte name) ((and_parts (not (slice_index name 0 == 45)) _ rest).1)).1 in
+    both (nat_lt 0 (length name)) (list_all is_word_byte name) (some_bytes (length name) ((and_parts (not (length name == 0)) _ h).0)) (all_weaker is_name_byte is_word_byte name_byte_is_word_byte name bytes)
 
 path_is_word : (path : List ℕ) → is_path path ≡ true → is_word path ≡ true
 path_is_word [] h = absurd (false≢true h)
 path_is_word (x ∷ path) h =
-    let bytes = first_of (list_all is_graphic (x ∷ path)) _ (second_of (nat_le (length (x ∷ path)) MAX_PATH_LENGTH) _ h) in
+    let bytes = (and_parts (list_all is_graphic (x ∷ path)) _ ((and_parts (nat_le (length (x ∷ path)) MAX_PATH_LENGTH) _ h).1)).0 in
     both (nat_lt 0 (length (x ∷ path))) (list_all is_word_byte (x ∷ path)) (positive x path) (all_weaker is_graphic is_word_byte graphic_is_word_byte (x ∷ path) bytes)
 
 named : (n : ℕ) (name : List ℕ) → is_name name ≡ true → name_at n name ≡ Ok name
@@ -148,7 +148,7 @@ AreLines lines = AllByRecursion (λ line. is_line line ≡ true) lines
 next_line : (sign : ℕ) (line : List ℕ) (lines : Lines) (rest : List ℕ) → (sign == 10) ≡ false → is_line line ≡ true → lines_of (flat_map (signed_line sign) (line ∷ lines) ++ rest) ≡ (sign ∷ line) ∷ lines_of (flat_map (signed_line sign) lines ++ rest)
 next_line sign line lines rest signed h =
     ap lines_of (ap (λ t. t ++ rest) (flat_map-cons (signed_line sign) line lines) ∙ append_assoc (signed_line sign line) (flat_map (signed_line sign) lines) rest ∙ append_assoc (sign ∷ line) (10 ∷ []) (flat_map (signed_line sign) lines ++ rest))
-    ∙ first_line (sign ∷ line) (flat_map (signed_line sign) lines ++ rest) (both (not (sign == 10)) (is_one_line line) (ap not signed) (second_of (nat_le (length line) _) (is_one_line line) h))
+    ∙ first_line (sign ∷ line) (flat_map (signed_line sign) lines ++ rest) (both (not (sign == 10)) (is_one_line line) (ap not signed) ((and_parts (nat_le (length line) _) (is_one_line line) h).1))
 
 regrouped : (a b c d : List ℕ) → ((a ++ b) ++ c) ++ d ≡ a ++ (b ++ (c ++ d))
 regrouped a b c d = simp append_assoc

@@ -1,30 +1,18 @@
 -- Lines of words, cut into lines and words again.
-use Rattle.std.proofs.Common.{◌≡◌, ℕ, Bool, true, false, not, ◌&&◌, ◌==◌, nat_lt, cond, List, [], ◌∷◌, ◌++◌, length, filter, sym, ap, ◌∙◌, refl, append_assoc, arith}
-use Rattle.std.proofs.lemmas.Bool.{cond-true, cond-false, false≢true}
+use Rattle.std.proofs.Common.{◌≡◌, ℕ, Bool, true, false, not, ◌&&◌, ◌==◌, nat_lt, cond, List, [], ◌∷◌, ◌++◌, length, filter, ap, ◌∙◌, refl, append_assoc, arith}
+use Rattle.std.proofs.lemmas.Bool.{cond-true, cond-false, false≢true, and_parts, not-true}
 use Rattle.std.proofs.lemmas.Bool.Decides.{nat_tests}
 use Rattle.std.specs.List.{list_all, slice_split, onto_first, join_with_byte, AllByRecursion}
 use Rattle.camp_script.specs.Lines.{lines_of, words_of, is_blank, without_empty_last}
 use Rattle.camp_script.specs.Texts.{line_text}
 
--- two tests that both pass, and that one passes
+-- two tests that both pass
 pub both : (a b : Bool) → a ≡ true → b ≡ true → (a && b) ≡ true
 both a b p q = ap (λ x. x && b) p ∙ q
 
-pub first_of : (a b : Bool) → (a && b) ≡ true → a ≡ true
-first_of true b h = refl
-first_of false b h = h
-
-pub second_of : (a b : Bool) → (a && b) ≡ true → b ≡ true
-second_of true b h = h
-second_of false b h = absurd (false≢true h)
-
-pub not_false : (a : Bool) → not a ≡ true → a ≡ false
-not_false true h = sym h
-not_false false h = refl
-
 pub all_weaker : (p q : ℕ → Bool) → ((x : ℕ) → p x ≡ true → q x ≡ true) → (xs : List ℕ) → list_all p xs ≡ true → list_all q xs ≡ true
 all_weaker p q each [] h = refl
-all_weaker p q each (x ∷ xs) h = both (q x) (list_all q xs) (each x (first_of (p x) (list_all p xs) h)) (all_weaker p q each xs (second_of (p x) (list_all p xs) h))
+all_weaker p q each (x ∷ xs) h = both (q x) (list_all q xs) (each x ((and_parts (p x) (list_all p xs) h).0)) (all_weaker p q each xs ((and_parts (p x) (list_all p xs) h).1))
 
 -- bytes at none of which a text is cut
 module _ (cuts : ℕ → Bool) where
@@ -34,12 +22,12 @@ module _ (cuts : ℕ → Bool) where
   pub split_none : (xs : List ℕ) → list_all keeps xs ≡ true → slice_split cuts xs ≡ xs ∷ []
   split_none [] h = refl
   split_none (x ∷ xs) h =
-      cond-false (cuts x) _ _ (not_false (cuts x) (first_of (keeps x) (list_all keeps xs) h)) ∙ ap (onto_first x) (split_none xs (second_of (keeps x) (list_all keeps xs) h))
+      cond-false (cuts x) _ _ (not-true (cuts x) ((and_parts (keeps x) (list_all keeps xs) h).0)) ∙ ap (onto_first x) (split_none xs ((and_parts (keeps x) (list_all keeps xs) h).1))
 
   pub split_at : (xs : List ℕ) (y : ℕ) (ys : List ℕ) → list_all keeps xs ≡ true → cuts y ≡ true → slice_split cuts (xs ++ y ∷ ys) ≡ xs ∷ slice_split cuts ys
   split_at [] y ys h cut = cond-true (cuts y) _ _ cut
   split_at (x ∷ xs) y ys h cut =
-      cond-false (cuts x) _ _ (not_false (cuts x) (first_of (keeps x) (list_all keeps xs) h)) ∙ ap (onto_first x) (split_at xs y ys (second_of (keeps x) (list_all keeps xs) h) cut)
+      cond-false (cuts x) _ _ (not-true (cuts x) ((and_parts (keeps x) (list_all keeps xs) h).0)) ∙ ap (onto_first x) (split_at xs y ys ((and_parts (keeps x) (list_all keeps xs) h).1) cut)
 
 -- whether bytes have no LF among them
 abbrev pub is_one_line : List ℕ → Bool
@@ -80,15 +68,15 @@ is_word bytes = nat_lt 0 (length bytes) && list_all is_word_byte bytes
 
 word_lacks_blank : (word : List ℕ) → is_word word ≡ true → list_all (keeps is_blank) word ≡ true
 word_lacks_blank word h =
-    all_weaker is_word_byte (keeps is_blank) (λ x. first_of (not (is_blank x)) (not (x == 10))) word (second_of (nat_lt 0 (length word)) (list_all is_word_byte word) h)
+    all_weaker is_word_byte (keeps is_blank) (λ x h. (and_parts (not (is_blank x)) (not (x == 10)) h).0) word ((and_parts (nat_lt 0 (length word)) (list_all is_word_byte word) h).1)
 
 word_is_one_line : (word : List ℕ) → is_word word ≡ true → is_one_line word ≡ true
 word_is_one_line word h =
-    all_weaker is_word_byte (λ byte. not (byte == 10)) (λ x. second_of (not (is_blank x)) (not (x == 10))) word (second_of (nat_lt 0 (length word)) (list_all is_word_byte word) h)
+    all_weaker is_word_byte (λ byte. not (byte == 10)) (λ x h. (and_parts (not (is_blank x)) (not (x == 10)) h).1) word ((and_parts (nat_lt 0 (length word)) (list_all is_word_byte word) h).1)
 
 all_append : (p : ℕ → Bool) (xs ys : List ℕ) → list_all p xs ≡ true → list_all p ys ≡ true → list_all p (xs ++ ys) ≡ true
 all_append p [] ys h k = k
-all_append p (x ∷ xs) ys h k = both (p x) (list_all p (xs ++ ys)) (first_of (p x) (list_all p xs) h) (all_append p xs ys (second_of (p x) (list_all p xs) h) k)
+all_append p (x ∷ xs) ys h k = both (p x) (list_all p (xs ++ ys)) ((and_parts (p x) (list_all p xs) h).0) (all_append p xs ys ((and_parts (p x) (list_all p xs) h).1) k)
 
 abbrev pub AreWords : List (List ℕ) → Type 0
 AreWords words = AllByRecursion (λ word. is_word word ≡ true) words
@@ -103,10 +91,10 @@ joined_is_one_line (word ∷ next ∷ words) h =
 pub words_of-joined : (word : List ℕ) (words : List (List ℕ)) → AreWords (word ∷ words) → words_of (join_with_byte 32 (word ∷ words)) ≡ word ∷ words
 words_of-joined word [] h =
     ap (filter (λ w. nat_lt 0 (length w))) (split_none is_blank word (word_lacks_blank word h.0))
-    ∙ cond-true (nat_lt 0 (length word)) _ _ (first_of (nat_lt 0 (length word)) (list_all is_word_byte word) h.0)
+    ∙ cond-true (nat_lt 0 (length word)) _ _ ((and_parts (nat_lt 0 (length word)) (list_all is_word_byte word) h.0).0)
 words_of-joined word (next ∷ words) h =
     ap (filter (λ w. nat_lt 0 (length w))) (split_at is_blank word 32 (join_with_byte 32 (next ∷ words)) (word_lacks_blank word h.0) refl)
-    ∙ cond-true (nat_lt 0 (length word)) _ _ (first_of (nat_lt 0 (length word)) (list_all is_word_byte word) h.0)
+    ∙ cond-true (nat_lt 0 (length word)) _ _ ((and_parts (nat_lt 0 (length word)) (list_all is_word_byte word) h.0).0)
     ∙ ap (λ ws. word ∷ ws) (words_of-joined next words h.1)
 
 -- the first line of a text that begins with a line of words

@@ -1,5 +1,13 @@
 -- How the lines of a script fall into edits, groups and sections. A line's first words decide it, and nothing is a fault
 -- here: where a line has one, reading ends there, and how the lines behind it are cut does not matter.
+--
+-- An example, a group of one edit and then a question. These six lines are four entries, and those are two items:
+--     1  record main all group     entry 1               item 1, which begins a group
+--     2  edit f 1                  entry 2, an edit        .
+--     3  +one                        .                     .
+--     4  end                         .                     .
+--     5  done                      entry 5                 .
+--     6  tree main                 entry 6               item 6
 use Rattle.std.specs.Prelude.{ℕ, ◌+◌, Bool, true, false, not, ◌&&◌, ◌||◌, if◌then◌else◌}
 use Rattle.std.specs.Prelude.{List, [], ◌∷◌, drop, bytes_eq, codes}
 use Rattle.camp_script.specs.Lines.{words_of}

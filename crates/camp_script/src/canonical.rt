@@ -4,10 +4,10 @@ ghost use Rattle.camp_script.specs.Canonical.{ReadIsWritable, ReadsBack};
 /// Sections of calls that a script can ask, within the limits, have a canonical text, and reading that text
 /// gives the sections back.
 pub fn canonical_text_reads_back()
-    ensures { ReadsBack }
+    ensures law { ReadsBack }
 {}
 
 /// Whatever is read can be written: its calls can stand in a script, and it is within the limits.
 pub fn what_is_read_can_be_written()
-    ensures { ReadIsWritable }
+    ensures law { ReadIsWritable }
 {}

@@ -7,7 +7,7 @@ use crate::lines::Words;
 
 /// Whether the first word of a line is this one.
 pub fn begins_with(line: &[u8], word: &[u8]) -> bool
-    ensures { result ≡ begins_with word.now (words_of line.now) }
+    ensures exact { result ≡ begins_with word.now (words_of line.now) }
 {
     match Words::new(line).next() {
         Some(first) => first == word,
@@ -17,7 +17,7 @@ pub fn begins_with(line: &[u8], word: &[u8]) -> bool
 
 /// Whether a line begins an edit, whose body follows, by its first words alone.
 pub fn begins_edit(line: &[u8]) -> bool
-    ensures { result ≡ begins_edit (words_of line.now) }
+    ensures exact { result ≡ begins_edit (words_of line.now) }
 {
     let mut words = Words::new(line);
     let Some(first) = words.next() else {

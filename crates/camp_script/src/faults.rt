@@ -27,7 +27,7 @@ pub enum FaultKind {
 impl FaultKind {
     /// The words that tell it.
     pub fn words(&self) -> &'static str
-        ensures { result.now ≡ kind_words self.now }
+        ensures exact { result.now ≡ kind_words self.now }
     {
         match self {
             FaultKind::UnknownCommand => "unknown command",

@@ -21,7 +21,7 @@ pub fn write_history<W: Write>(
     history: &[(u32, Call)],
     writer: &mut W,
 ) -> Result<(), ScriptFault>
-    ensures { Writes (W.contents writer.old) (history_text history.now) result (W.contents writer.new) }
+    ensures writes { Writes (W.contents writer.old) (history_text history.now) result (W.contents writer.new) }
 {
     let mut text = Vec::new(alloc);
     if append_history(&mut text, history).is_err() {
@@ -35,7 +35,7 @@ pub fn write_history<W: Write>(
 
 /// Appends the text of a history. Where memory runs out the text stays as it was.
 pub fn append_history(text: &mut Vec<u8>, history: &[(u32, Call)]) -> Result<(), AllocError>
-    ensures { ExtendsOrKeeps text.old.items (history_text history.now) result text.new.items }
+    ensures text { ExtendsOrKeeps text.old.items (history_text history.now) result text.new.items }
 {
     let length = text.len();
     let appended = extend_by_history(text, history);

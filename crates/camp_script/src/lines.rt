@@ -33,14 +33,14 @@ impl<'a> Words<'a> {
 
     /// The words of a line.
     pub fn new(line: &'a [u8]) -> Words<'a>
-        ensures { result ≡ words_of line.now }
+        ensures exact { result ≡ words_of line.now }
     {
         Words { rest: line }
     }
 
     /// The same words once more.
     pub fn again(&self) -> Words<'a>
-        ensures { result ≡ self.now }
+        ensures exact { result ≡ self.now }
     {
         Words { rest: self.rest }
     }
@@ -69,7 +69,7 @@ impl<'a> Iterator for Words<'a> {
 
 /// The first of some words.
 pub fn first_words(words: Words<'_>) -> FirstWords<'_>
-    ensures { map (λ word. word.now) result.items ≡ take 6 words.entry }
+    ensures exact { map (λ word. word.now) result.items ≡ take 6 words.entry }
 {
     let mut first = ArrayVec::new();
     for word in words {
@@ -118,7 +118,7 @@ fn is_blank(byte: u8) -> bool
 
 /// A line behind its first word, and the blanks around that.
 pub fn behind_word(line: &[u8]) -> &[u8]
-    ensures { result.now ≡ behind_word line.now }
+    ensures exact { result.now ≡ behind_word line.now }
 {
     let line = behind_blanks(line);
     behind_blanks(&line[word_len(line)..])
@@ -132,7 +132,7 @@ fn behind_blanks(line: &[u8]) -> &[u8]
 
 /// A line without the LF at its end, where it has one.
 pub fn without_end(line: &[u8]) -> &[u8]
-    ensures { result.now ≡ without_end line.now }
+    ensures exact { result.now ≡ without_end line.now }
 {
     match line {
         [bytes @ .., b'\n'] => bytes,

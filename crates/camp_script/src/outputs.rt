@@ -18,7 +18,7 @@ pub fn append_sections(
     sections: &[Vec<Result<Reply, Fault>>],
 ) -> Result<(), AllocError>
     requires { HaveTexts (map (λ section. section.items) sections.now) }
-    ensures { ExtendsOrKeeps text.old.items (sections_text (map (λ section. section.items) sections.now)) result text.new.items }
+    ensures text { ExtendsOrKeeps text.old.items (sections_text (map (λ section. section.items) sections.now)) result text.new.items }
 {
     let length = text.len();
     let appended = extend_by_sections(text, sections);

@@ -43,7 +43,7 @@ impl Script {
 
     /// The calls of each section, in order, given away.
     pub fn into_sections(self) -> Vec<Vec<Call>>
-        ensures { map (λ section. section.items) result.items ≡ self }
+        ensures exact { map (λ section. section.items) result.items ≡ self }
     {
         let Script { sections } = self;
         sections

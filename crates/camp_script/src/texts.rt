@@ -25,7 +25,7 @@ pub fn write_reply<W: Write>(
     writer: &mut W,
 ) -> Result<(), ScriptFault>
     requires { HasText answer.now }
-    ensures { Writes (W.contents writer.old) (answer_text answer.now) result (W.contents writer.new) }
+    ensures writes { Writes (W.contents writer.old) (answer_text answer.now) result (W.contents writer.new) }
 {
     let mut text = Vec::new(alloc);
     if append_reply(&mut text, answer).is_err() {
@@ -40,7 +40,7 @@ pub fn write_reply<W: Write>(
 /// Writes all bytes of a text. Where the writer fails, a front of the text is
 /// written, and not all of it. A writer that is interrupted is asked again.
 pub fn write_text<W: Write>(writer: &mut W, text: &[u8]) -> io::Result<()>
-    ensures { MatchResult result
+    ensures writes { MatchResult result
         (λ _. Appends (W.contents writer.old) (W.contents writer.new) text.now)
         (λ _. AppendsFront (W.contents writer.old) (W.contents writer.new) text.now) }
 {
@@ -65,7 +65,7 @@ pub fn write_text<W: Write>(writer: &mut W, text: &[u8]) -> io::Result<()>
 /// Appends the text of the answer to a call. Where memory runs out the text stays as it was.
 pub fn append_reply(text: &mut Vec<u8>, answer: &Result<Reply, Fault>) -> Result<(), AllocError>
     requires { HasText answer.now }
-    ensures { ExtendsOrKeeps text.old.items (answer_text answer.now) result text.new.items }
+    ensures text { ExtendsOrKeeps text.old.items (answer_text answer.now) result text.new.items }
 {
     let length = text.len();
     let appended = extend_by_answer(text, answer);

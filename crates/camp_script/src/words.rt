@@ -81,7 +81,7 @@ pub fn name_at(number: u64, word: &[u8]) -> Result<Name, ScriptFault>
 
 /// Words, all as names.
 pub fn names_at(alloc: Global, number: u64, words: Words<'_>) -> Result<Names, ScriptFault>
-    ensures { Gives result (names_at number words.entry) }
+    ensures given { Gives result (names_at number words.entry) }
 {
     let mut names = Vec::new(alloc);
     for word in words {

@@ -3,9 +3,10 @@ use Rattle.std.proofs.Common.{◌≡◌, ◌≢◌, ◌<◌, ◌^◌, ℕ, true,
 use Rattle.std.proofs.lemmas.List.Elements.{All-head, All-tail}
 use Rattle.std.proofs.lemmas.List.Folds.{list_all-append}
 use Rattle.std.specs.Fmt.{decimal}
+use Rattle.std.proofs.lemmas.Bool.{and_parts}
 use Rattle.std.specs.List.{All, list_all}
 use Rattle.camp_script.specs.Lines.{is_blank, lines_of}
-use Rattle.camp_script.proofs.CanonicalLines.{all_weaker, both, first_line, is_one_line, is_word_byte, second_of}
+use Rattle.camp_script.proofs.CanonicalLines.{all_weaker, both, first_line, is_one_line, is_word_byte}
 use Rattle.camp_script.proofs.CanonicalNumbers.{decimal_is_word}
 use Rattle.camp_talk.specs.Laws.{CountsAreTold}
 
@@ -19,8 +20,8 @@ word_is_one_line (byte ∷ word) is =
 -- a number
 number_is_one_line : (n : ℕ) → n < 2 ^ 64 → is_one_line (decimal n) ≡ true
 number_is_one_line n small =
-    all_weaker is_word_byte (λ byte. not (byte == 10)) (λ x. second_of (not (is_blank x)) (not (x == 10))) (decimal n)
-    (second_of (nat_lt 0 (length (decimal n))) (list_all is_word_byte (decimal n)) (decimal_is_word n small))
+    all_weaker is_word_byte (λ byte. not (byte == 10)) (λ x h. (and_parts (not (is_blank x)) (not (x == 10)) h).1) (decimal n)
+    ((and_parts (nat_lt 0 (length (decimal n))) (list_all is_word_byte (decimal n)) (decimal_is_word n small)).1)
 
 pub counts_are_told : CountsAreTold
 counts_are_told word text is small =

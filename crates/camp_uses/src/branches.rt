@@ -35,7 +35,7 @@ pub fn with_pulled(
 /// A branch without the patches of some names, if no other one depends on them. The others stay in
 /// their order.
 pub fn without(branch: &Branch, names: &SharedMap<Name, ()>) -> Result<Option<Branch>, AllocError>
-    ensures { IfOk result (λ found. IfSome found (λ left. names_of left ≡ other_names branch.now (names_in names.now))) }
+    ensures names { IfOk result (λ found. IfSome found (λ left. names_of left ≡ other_names branch.now (names_in names.now))) }
 {
     obliterates_keep_lawful();
     let _lawful = branch.catches();

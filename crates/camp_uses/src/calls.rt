@@ -10,7 +10,7 @@ use std::alloc::AllocError;
 
 /// The call that records these changes under a name, or none where they are no change or too many.
 pub fn record(branch: Name, name: Name, prims: Vec<Primitive>) -> Result<Option<Call>, AllocError>
-    ensures { IfOk result (λ call. MatchOption call
+    ensures exact { IfOk result (λ call. MatchOption call
         (¬ (IsPatchSized prims.items))
         (λ call. (call ≡ Call.Record branch name prims.items) × IsCall call × (is_writing call ≡ true))) }
 {
@@ -26,7 +26,7 @@ pub fn record(branch: Name, name: Name, prims: Vec<Primitive>) -> Result<Option<
 
 /// A copy of a call, and whether it asks the same: it does.
 pub fn copied(call: &Call) -> Result<(Call, bool), AllocError>
-    ensures { IfOk result (λ both. both.1 ≡ true) }
+    ensures same { IfOk result (λ both. both.1 ≡ true) }
 {
     let copy = call.try_clone()?;
     let is_same = copy.is_same(call);

@@ -18,7 +18,7 @@ pub fn in_other_order(
     j: &Catch,
     k: &Catch,
 ) -> Result<Option<(Catch, Catch)>, AllocError>
-    ensures { IfOk result (λ found. IfSome found (λ both. (old between new : Files) →
+    ensures fits { IfOk result (λ found. IfSome found (λ both. (old between new : Files) →
         Fits j.now old between → Fits k.now between new → (other : Files) × Fits both.0 old other × Fits both.1 other new)) }
 {
     commute_keeps_effects();
@@ -32,7 +32,7 @@ pub fn merged_either_way(
     j: &Catch,
     k: &Catch,
 ) -> Result<Option<((Catch, Catch), (Catch, Catch))>, AllocError>
-    ensures { IfOk result (λ found. IfSome found (λ both. (both.0.0 ≡ both.1.1) × (both.0.1 ≡ both.1.0))) }
+    ensures same { IfOk result (λ found. IfSome found (λ both. (both.0.0 ≡ both.1.1) × (both.0.1 ≡ both.1.0))) }
 {
     merge_is_symmetric();
     merge_is_unique();

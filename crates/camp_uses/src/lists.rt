@@ -14,7 +14,7 @@ use std::alloc::AllocError;
 
 /// A list and then its inverse leave the tree as it was.
 pub fn do_and_undo(list: &Seq, tree: &mut Tree) -> Result<(), Apply>
-    ensures { OnOk result (tree.new ≡ tree.old) }
+    ensures unchanged { OnOk result (tree.new ≡ tree.old) }
 {
     let inverse = invert_all(list)?;
     apply_all(list, tree)?;
@@ -28,7 +28,7 @@ pub fn do_and_undo(list: &Seq, tree: &mut Tree) -> Result<(), Apply>
 pub fn in_order_either_way(s: &Seq, t: &Seq) -> Result<(Seq, Seq), AllocError>
     requires room { HasRoom s.now }
     requires equivalent { s.now ~ t.now }
-    ensures { IfOk result (λ both. both.0 ≡ both.1) }
+    ensures same { IfOk result (λ both. both.0 ≡ both.1) }
 {
     results_of_lists_are_determined();
     Ok((norm(s)?, norm(t)?))
@@ -37,7 +37,7 @@ pub fn in_order_either_way(s: &Seq, t: &Seq) -> Result<(Seq, Seq), AllocError>
 /// A list in normal order, put in order again: with room it stays as it is.
 pub fn in_order_twice(list: &Seq) -> Result<(Seq, Seq), AllocError>
     requires { HasRoom list.now }
-    ensures { IfOk result (λ both. both.0 ≡ both.1) }
+    ensures same { IfOk result (λ both. both.0 ≡ both.1) }
 {
     lists_of_results_are_equivalent();
     results_of_lists_are_determined();
@@ -48,7 +48,7 @@ pub fn in_order_twice(list: &Seq) -> Result<(Seq, Seq), AllocError>
 
 /// The trees after two lists that merge cleanly, in both orders: it is one tree.
 pub fn merged_in_both_orders(a: &Seq, b: &Seq, tree: &Tree) -> Result<Option<(Tree, Tree)>, Apply>
-    ensures { IfOk result (λ found. IfSome found (λ both. both.0 ≡ both.1)) }
+    ensures same { IfOk result (λ found. IfSome found (λ both. both.0 ≡ both.1)) }
 {
     let Some((behind_a, behind_b)) = clean_merge(a, b)? else {
         return Ok(None);

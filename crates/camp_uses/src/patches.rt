@@ -7,7 +7,7 @@ use camp_prim::{Named, applied_is_applies, commute, inverse_leads_back};
 
 /// A patch and then its inverse leave the tree as it was.
 pub fn do_and_undo(patch: &Named, tree: &mut Tree) -> Result<(), Apply>
-    ensures { OnOk result (tree.new ≡ tree.old) }
+    ensures unchanged { OnOk result (tree.new ≡ tree.old) }
 {
     let inverse = patch.try_clone()?.invert();
     patch.apply(tree)?;
@@ -18,7 +18,7 @@ pub fn do_and_undo(patch: &Named, tree: &mut Tree) -> Result<(), Apply>
 
 /// The trees after two patches in their two orders, where they may change places: it is one tree.
 pub fn in_both_orders(p: &Named, q: &Named, tree: &Tree) -> Result<Option<(Tree, Tree)>, Apply>
-    ensures { IfOk result (λ found. IfSome found (λ both. both.0 ≡ both.1)) }
+    ensures same { IfOk result (λ found. IfSome found (λ both. both.0 ≡ both.1)) }
 {
     let Some((second, first)) = commute(p, q)? else {
         return Ok(None);

@@ -54,7 +54,7 @@ fn refusal_of(reply: &Reply) -> Refusal
 pub fn obliterate_held(state: &State, branch: &Name, names: &[Name]) -> Result<State, Unanswered>
     requires counts { state.now.count < 2 ^ 64 - 1 }
     requires some { 0 < length names.now }
-    ensures { Tells (GoesWithHeld state.now branch.now names.now) result }
+    ensures told { Tells (GoesWithHeld state.now branch.now names.now) result }
 {
     held_can_go();
     accepted_calls_have_effect();
@@ -80,7 +80,7 @@ pub fn show_and_read(
     name: &Name,
     to: &Name,
 ) -> Result<Option<Script>, Unanswered>
-    ensures { IfOk result (λ found. IsReadBack state.now branch.now name.now to.now found) }
+    ensures same { IfOk result (λ found. IsReadBack state.now branch.now name.now to.now found) }
 {
     canonical_text_reads_back();
     let shown = show(state, branch, name)?;

@@ -11,7 +11,7 @@ use std::alloc::AllocError;
 /// Asks a book at a seat. A call that is told a number is booked as the call of that number, behind all
 /// others; any other answer leaves the book as it was.
 pub fn ask(book: &mut Book<State>, seat: u32, call: &Call) -> Result<Reply, Fault>
-    ensures { Leaves seat book.old call.now result book.new }
+    ensures leaves { Leaves seat book.old call.now result book.new }
 {
     book.ask(seat, call)
 }
@@ -19,7 +19,7 @@ pub fn ask(book: &mut Book<State>, seat: u32, call: &Call) -> Result<Reply, Faul
 /// The tree of a branch, asked for by a call: there is one where there is the branch.
 pub fn tree(state: &State, branch: &Name) -> Result<Option<Tree>, AllocError>
     requires { state.now.count < 2 ^ 64 - 1 }
-    ensures { IfOk result (λ found. MatchOption found
+    ensures exact { IfOk result (λ found. MatchOption found
         (catches_of state.now.branches branch.now ≡ None)
         (λ tree. (catches : List Catch) × (catches_of state.now.branches branch.now ≡ Some catches) × (tree_of catches ≡ Some tree))) }
 {

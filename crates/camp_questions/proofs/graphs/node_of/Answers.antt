@@ -8,5 +8,5 @@ pub returns : goal.returns
 returns c =
     let test = needs_directly (map needing c.args.all.now) (needing c.args.patch.now) in
     let kept = filter_same _ test _ (λ x b f' k. search rules) _ _ c.retain.ensures.filtered in
-    let names = c.new.ensures ∙ kept ∙ ap (filter test) c.in_ok-names.ensures in
+    let names = c.new.ensures.exact ∙ kept ∙ ap (filter test) c.in_ok-names.ensures in
     λ i. record { name = c.args.patch.now.name; needs = names i }

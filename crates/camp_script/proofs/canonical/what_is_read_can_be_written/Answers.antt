@@ -2,4 +2,4 @@ use Rattle.camp_script.proofs.Writable.{read_is_writable}
 use Rattle.camp_script.proofs.canonical.what_is_read_can_be_written.Goals as goal
 
 pub returns : goal.returns
-returns c = read_is_writable
+returns c = record { law = read_is_writable }

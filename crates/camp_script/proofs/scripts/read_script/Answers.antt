@@ -25,7 +25,7 @@ loop-line-init c =
 
 pub loop-line-preserved : goal.loop-line-preserved
 loop-line-preserved c =
-    let lines = ap (map without_end) c.in-Some.ensures.steps ∙ ap (λ bytes. bytes ∷ map without_end c.next.new.self) (sym c.without_end.ensures) in
+    let lines = ap (map without_end) c.in-Some.ensures.steps ∙ ap (λ bytes. bytes ∷ map without_end c.next.new.self) (sym c.without_end.ensures.exact) in
     let short = ap (λ (ls : List (List ℕ)). length ls) c.in-Some.ensures.steps in (
       sym (ap (λ (r : Result Progress LineFault). r >>= λ next. read_from (c.loop-line.number + 1 + 1) next (map without_end c.next.new.self)) c.in_ok-reading.ensures.given)
           ∙ sym (ap (read_from (c.loop-line.number + 1) c.loop-line.reading) lines) ∙ c.loop-line.invariant.0,
@@ -36,7 +36,7 @@ loop-line-preserved c =
 
 pub returns-in_err-reading-clause-wanted : goal.returns-in_err-reading-clause-wanted
 returns-in_err-reading-clause-wanted c =
-    let lines = ap (map without_end) c.in-Some.ensures.steps ∙ ap (λ bytes. bytes ∷ map without_end c.next.new.self) (sym c.without_end.ensures) in
+    let lines = ap (map without_end) c.in-Some.ensures.steps ∙ ap (λ bytes. bytes ∷ map without_end c.next.new.self) (sym c.without_end.ensures.exact) in
     let wants : c.in_err-reading.field-0.0 ≡ Memory → ScriptMayWant c.args.bytes.now =
     wants_now c.loop-line.number c.loop-line.reading c.without_end.result.now (map without_end c.next.new.self) c.args.bytes.now c.in_err-reading.field-0.0
     (subst (λ rest. IsBegun c.loop-line.number c.loop-line.reading rest (lines_of c.args.bytes.now)) lines c.loop-line.invariant.2) c.in_err-reading.ensures.given c.in_err-reading.ensures.wanted in

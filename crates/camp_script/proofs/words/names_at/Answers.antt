@@ -13,11 +13,15 @@ loop-word-preserved c =
     (one_named c.args.number c.args.words c.loop-word.names.items c.loop-word.word-iterator c.next.new.self c.in-Some.word.now c.in_ok-name_at.field-0 c.loop-word.invariant c.in-Some.ensures.steps c.in_ok-name_at.ensures.given)
 
 pub returns : goal.returns
-returns c =
-    all_named c.args.number c.args.words c.loop-word.names.items c.loop-word.word-iterator c.loop-word.invariant c.in-None.ensures.steps.0 ∙ ap Ok (sym c.new.ensures)
+returns c = record {
+  given =
+      all_named c.args.number c.args.words c.loop-word.names.items c.loop-word.word-iterator c.loop-word.invariant c.in-None.ensures.steps.0 ∙ ap Ok (sym c.new.ensures.exact);
+}
 
 pub returns-in_err-name_at : goal.returns-in_err-name_at
-returns-in_err-name_at c =
-    let told = fault_named c.args.number c.args.words c.loop-word.names.items c.loop-word.word-iterator c.next.new.self c.in-Some.word.now c.in_err-name_at.field-0.0 c.loop-word.invariant c.in-Some.ensures.steps c.in_err-name_at.ensures.given c.in_err-name_at.ensures.told in
-    let of = is_fault_of _ _ told in
-    search (rules, of)
+returns-in_err-name_at c = record {
+  given =
+      let told = fault_named c.args.number c.args.words c.loop-word.names.items c.loop-word.word-iterator c.next.new.self c.in-Some.word.now c.in_err-name_at.field-0.0 c.loop-word.invariant c.in-Some.ensures.steps c.in_err-name_at.ensures.given c.in_err-name_at.ensures.told in
+      let of = is_fault_of _ _ told in
+      search (rules, of);
+}

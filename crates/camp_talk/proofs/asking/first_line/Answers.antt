@@ -8,7 +8,7 @@ use Rattle.camp_talk.proofs.asking.first_line.Goals.{After-without_end}
 
 first_is : (c : After-without_end) → c.without_end.result.now ≡ first_of (lines_of c.args.bytes.now)
 first_is c =
-    c.without_end.ensures
+    c.without_end.ensures.exact
     ∙ ap (λ (lines : List (List ℕ)). first_of (map without_end lines)) (sym c.in-Some.ensures.steps ∙ c.lines_with_terminator.ensures.value)
     ∙ ap first_of (lines_without_end c.args.bytes.now)
 

@@ -29,7 +29,7 @@ returns-then-not-branch-2-clause-part g c =
     c.last_line-head.ensures
     ∙ ap (λ (bytes : List ℕ). take (length bytes - 1 - c.len-start.result) (drop c.len-start.result bytes)) c.deref.ensures.value
     ∙ ap (λ n. take (length mid - 1 - n) (drop n mid)) start ∙ line_at a b old mid line.0 line.1 in
-    let opens : begins line.0 ≡ true = ap begins (sym head) ∙ sym c.begins_edit.ensures ∙ c.if-not-begins_edit.false in
+    let opens : begins line.0 ≡ true = ap begins (sym head) ∙ sym c.begins_edit.ensures.exact ∙ c.if-not-begins_edit.false in
     let last : c.in_ok-read_body.field-0 ≡ false = search rules in
     let cut = subst (λ w. ReadsPart b (g.R.Read.remaining c.read_body.new.reader) body_of (last_part w) mid
     c.read_body.new.text.items) last c.in_ok-read_body.ensures.part in
@@ -48,10 +48,10 @@ returns-clause-part g c =
     c.last_line-head.ensures
     ∙ ap (λ (bytes : List ℕ). take (length bytes - 1 - c.len-start.result) (drop c.len-start.result bytes)) c.deref.ensures.value
     ∙ ap (λ n. take (length mid - 1 - n) (drop n mid)) start ∙ line_at a b old mid line.0 line.1 in
-    let opens : begins line.0 ≡ true = ap begins (sym head) ∙ sym c.begins_edit.ensures ∙ c.if-not-begins_edit.false in
+    let opens : begins line.0 ≡ true = ap begins (sym head) ∙ sym c.begins_edit.ensures.exact ∙ c.if-not-begins_edit.false in
     let all = subst (λ w. ReadsPart b (g.R.Read.remaining c.read_body.new.reader) body_of (last_part w) mid
     c.read_body.new.text.items) c.if-not-branch-2.false c.in_ok-read_body.ensures.part in
-    let ends : is_done line.0 ≡ c.begins_with-ends.result = ap is_done (sym head) ∙ sym c.begins_with-ends.ensures in
+    let ends : is_done line.0 ≡ c.begins_with-ends.result = ap is_done (sym head) ∙ sym c.begins_with-ends.ensures.exact in
     subst (λ part. ReadsPart a (g.R.Read.remaining c.read_body.new.reader) group_of part old c.read_body.new.text.items)
     (sym c.entry_part-2.ensures)
     (entry_read_whole a b _ old mid _ line.0 line.1 opens all c.begins_with-ends.result ends)

@@ -8,12 +8,14 @@ use Rattle.camp_uses.proofs.questions.show_and_read.Goals as goal
 
 -- src/questions.rt:65:1
 pub returns : goal.returns
-returns c =
-    let shown = shown_is c.args.state.now c.args.branch.now c.args.name.now c.in_ok-shown.shown c.in_ok-shown.ensures in
-    let recorded = rw c.in-Some.is at c.in_ok-call.ensures in
-    let changes = c.into_changes.ensures ∙ ap (λ (patch : Patch). patch.changes) shown.2 in
-    let written = c.deref.ensures.value ∙ c.in_ok-append_call.ensures.text ∙ ap (λ t. t ++ call_text c.in-Some.call) c.new-text.ensures.items in (
-      shown.0,
-      shown.1,
-      shown_reads_back c.canonical_text_reads_back.ensures c.in-Some.call c.args.to.now c.args.name.now _ c.deref.result.now c.in-Ok.script (recorded.0 ∙ ap (call.Record c.args.to.now c.args.name.now) changes) c.in_ok-append_call.ensures.stands written c.in-Ok.ensures.given,
-    )
+returns c = record {
+  same =
+      let shown = shown_is c.args.state.now c.args.branch.now c.args.name.now c.in_ok-shown.shown c.in_ok-shown.ensures in
+      let recorded = rw c.in-Some.is at c.in_ok-call.ensures.exact in
+      let changes = c.into_changes.ensures ∙ ap (λ (patch : Patch). patch.changes) shown.2 in
+      let written = c.deref.ensures.value ∙ c.in_ok-append_call.ensures.text ∙ ap (λ t. t ++ call_text c.in-Some.call) c.new-text.ensures.items in (
+        shown.0,
+        shown.1,
+        shown_reads_back c.canonical_text_reads_back.ensures.law c.in-Some.call c.args.to.now c.args.name.now _ c.deref.result.now c.in-Ok.script (recorded.0 ∙ ap (call.Record c.args.to.now c.args.name.now) changes) c.in_ok-append_call.ensures.stands written c.in-Ok.ensures.given,
+      );
+}

@@ -8,14 +8,14 @@ use Rattle.camp_repo.proofs.states.State.obliterate.Goals as goal
 
 pub settled-requires-clause-lawful : goal.settled-requires-clause-lawful
 settled-requires-clause-lawful c =
-    let lent = c.as_slice-names.ensures in
+    let lent = c.as_slice-names.ensures.exact in
     let all = ap (first_lacked c.in-Some.old.now) (sym lent) ∙ sym c.first_lacked_of.ensures ∙ c.in_default-first_lacked_of.is in
     let some = ap is_empty (sym lent) ∙ none_among c.as_slice-names.result.now ∙ sym c.is_empty.ensures ∙ c.if-is_empty.false in
     obliterate_keeps c.args.self.now c.args.branch.now c.args.names.now c.in-Some.old.now c.in-Some.ensures.value all some (names_in c.in_ok-gone.gone) (λ n. c.in_ok-gone.ensures n ∙ ap (λ l. is_among l n) lent) c.in_ok-outcome.outcome c.in_ok-outcome.ensures.exact c.in-Some.place c.in-Some.ensures.placed c.in-Some.ensures.lawful
 
 pub returns-clause-exact : goal.returns-clause-exact
 returns-clause-exact c =
-    let lent = c.as_slice-names.ensures in
+    let lent = c.as_slice-names.ensures.exact in
     let all = ap (first_lacked c.in-Some.old.now) (sym lent) ∙ sym c.first_lacked_of.ensures ∙ c.in_default-first_lacked_of.is in
     let some = ap is_empty (sym lent) ∙ none_among c.as_slice-names.result.now ∙ sym c.is_empty.ensures ∙ c.if-is_empty.false in
     settled_is c.settled.result _ _ c.settled.ensures (obliterate_settles c.args.self.now c.args.branch.now c.args.names.now c.in-Some.old.now c.in-Some.ensures.value all some (names_in c.in_ok-gone.gone) (λ n. c.in_ok-gone.ensures n ∙ ap (λ l. is_among l n) lent) c.in_ok-outcome.outcome c.in_ok-outcome.ensures.exact c.in-Some.place c.in-Some.ensures.placed)

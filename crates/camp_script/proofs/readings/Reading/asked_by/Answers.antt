@@ -16,7 +16,7 @@ returns-then-eq-2 c =
 
 pub returns : goal.returns
 returns c =
-    let first = ap (map (λ word. word.now)) c.as_slice-3.ensures.value ∙ c.first_words-words.ensures in
+    let first = ap (map (λ word. word.now)) c.as_slice-3.ensures.value ∙ c.first_words-words.ensures.exact in
     let other : bytes_eq c.args.word.now (codes "pull") ≡ false = search rules in
     let neither : bytes_eq c.args.word.now (codes "obliterate") ≡ false = search rules in
     short c.args.number c.args.self.now c.args.word.now _ _ c.args.words first other neither c.read_short_command.ensures

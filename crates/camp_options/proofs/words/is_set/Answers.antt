@@ -1,0 +1,14 @@
+use Rattle.std.proofs.Common.{◌≡◌, ℕ, List, Option, Some, codes, subst, sym, true}
+use Rattle.std.specs.Prelude.{◌↔◌}
+use Rattle.clap.specs.Words.{found_of, one_text}
+use Rattle.clap.proofs.WalkLemmas.{one_text-rows}
+use Rattle.camp_options.proofs.Program.{flag_is}
+use Rattle.camp_options.proofs.words.is_set.Goals as goal
+
+-- src/words.rt
+pub returns : goal.returns
+returns c =
+    let found = found_of c.args.matches.now in
+    let set = flag_is _ (one_text found c.args.name.now) c.get_one.result c.get_one.ensures.none c.get_one.ensures.value in
+    let read = rw (sym c.unwrap_or.ensures) at set in
+    record { exact = subst (λ (o : Option (List ℕ)). (c.unwrap_or.result ≡ true) ↔ (o ≡ Some (codes "true"))) (one_text-rows found c.args.name.now) read }
