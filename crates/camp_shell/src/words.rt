@@ -17,8 +17,9 @@ command whose answer has none is ok NUMBER, refused NUMBER .. or one of these:
   memory                        there was no memory for the command or its answer; nothing has changed
 
 Lines without words and lines whose first word begins with # are not answered. client is no command
-here. Questions are commands, too: needs, held, missing, show, annotate, graph, whatif, history and
-keep. The command help tells how all are written, and help COMMAND more about one.
+here, and neither is a line of more than 1048576 bytes. Questions are commands, too: needs, held,
+missing, show, annotate, graph, whatif, history and keep. The command help tells how all are written,
+and help COMMAND more about one.
 
 With --load the commands of these files are asked first, and their answers are not shown. Where one of
 them is answered by fault, refused or memory, nothing more is read: standard error says the file, the

@@ -116,7 +116,7 @@ calls-cut (first ∷ rest) line is =
 
 -- behind the bytes before its call, a command is read as the script of that
 pub script_behind : (command line : List ℕ) → line ≡ first_of (lines_of command)
-    → script_of (drop (length line - length (call_line line)) command) ≡ script_in command
+    → script_of (drop (length line - length (call_line line)) command) ≡ script_in (lines_of command)
 script_behind command line is =
     script_cut (length line - length (call_line line)) command (omega (arith, ap length is))
     ∙ ap script_of_lines (calls-cut (lines_of command) line is)

@@ -1,6 +1,5 @@
 -- A command that was read is one: by its first line, and what that takes with it.
-use Rattle.std.proofs.Common.{◌≡◌, ℕ, Bool, true, false, List, [], ◌∷◌, ◌++◌, Option, Result, Ok, Err, refl, sym, ap, subst, ◌∙◌}
-use Rattle.std.specs.Io.KnownBytes.{Consumes}
+use Rattle.std.proofs.Common.{◌≡◌, ℕ, Bool, true, false, List, [], ◌∷◌, ◌++◌, length, map, Option, Result, Ok, Err, refl, sym, ap, subst, ◌∙◌, arith}
 use Rattle.camp_call.specs.declared.calls.Call.{Call}
 use Rattle.camp_script.specs.Lines.{lines_of}
 use Rattle.camp_script.specs.Reading.{script_of_lines}
@@ -10,10 +9,10 @@ use Rattle.camp_script.specs.declared.faults.FaultKind.TheVariants.{BadPath, Bad
 use Rattle.camp_script.specs.declared.faults.FaultKind.TheVariants.{EditNotEnded, TooManyClients, TooManyCommands}
 use Rattle.camp_script.specs.declared.faults.FaultKind.TheVariants.{BadGroup, GroupNotEnded}
 use Rattle.camp_script.specs.declared.faults.LineFault.{LineFault}
-use Rattle.camp_talk.specs.Cutting.{TakesAll, call_line, call_lines, script_in, taken, taken_at, taken_by}
-use Rattle.camp_talk.specs.Inside.Parts.{Ends, ReadsCommand, ReadsLine, ReadsLines, ReadsPart, ended, last_part, with_last}
-use Rattle.camp_talk.proofs.Cuts.{ends_with_line, lines_read}
-use Rattle.camp_talk.proofs.Parts.{behind, ends_behind}
+use Rattle.camp_talk.specs.Cutting.{TakesAll, as_read, call_line, script_in, taken, taken_at, taken_by}
+use Rattle.camp_talk.specs.Inside.Parts.{Ends, ReadsHeld, ReadsLine, ReadsLines, ReadsPart, ended, last_part, with_last}
+use Rattle.camp_talk.proofs.Cuts.{EndsWithLine, ends_with_line}
+use Rattle.camp_talk.proofs.Parts.{behind, ends_behind, lines_are_read, lines_held, none_left}
 
 -- nothing of no lines
 nothing_at : (kind : FaultKind) → taken_at kind [] ≡ []
@@ -37,52 +36,66 @@ nothing_by (Err fault) = nothing_at fault.kind
 module _ (a b : Option (List ℕ)) (bytes : List ℕ) where
   -- lines that were read are a command, where the first takes just the others
   is_command : (first : List ℕ) (rest : List (List ℕ)) → ReadsLines a b [] bytes (first ∷ rest) []
-      → ((others : List (List ℕ)) → taken first (rest ++ others) ≡ rest) → ReadsCommand a b true bytes
+      → ((others : List (List ℕ)) → taken first (rest ++ others) ≡ rest) → ReadsHeld a b true bytes
   is_command first rest reads takes =
-      let ends = ends_with_line first rest in (
-        subst (Consumes a b) (sym reads.grows) reads.consumes,
-        record {
-          first = first;
-          rest = rest;
-          lines = ap lines_of reads.grows ∙ lines_read (first ∷ rest) [] reads.are_lines reads.is_line;
-          front = ends.front;
-          ended = reads.grows ∙ ends.is;
-          takes = takes;
-        },
-      )
+      let ends = whole_ends reads.whole reads.left reads.are_read reads.is_read in
+      let lines = lines_are_read a b [] bytes (first ∷ rest) [] reads in
+      record {
+        command = ended reads.whole ++ reads.left;
+        lines = ap lines_of reads.grows ∙ lines_held a b [] bytes (first ∷ rest) [] reads ∙ sym lines;
+        reads = (
+          reads.consumes,
+          record {
+            first = first;
+            rest = rest;
+            lines = lines;
+            front = ends.front;
+            ended = ends.is;
+            takes = takes;
+          },
+        );
+      }
+    where
+      whole_ends : (whole : List (List ℕ)) (left : List ℕ) → first ∷ rest ≡ map as_read whole → [] ≡ as_read left
+          → EndsWithLine (ended whole ++ left)
+      whole_ends [] left are is = absurd (omega (arith, ap (λ (ls : List (List ℕ)). length ls) are))
+      whole_ends (line ∷ lines) left are is =
+          subst (λ (left : List ℕ). EndsWithLine (ended (line ∷ lines) ++ left)) (sym (none_left left is)) (ends_with_line line lines)
 
   is_left : (lines : List (List ℕ)) (last : List ℕ) → ReadsLines a b [] bytes lines last → TakesAll (with_last lines last)
-      → Ends a b → ReadsCommand a b false bytes
-  is_left lines last reads takes ends = (
-    subst (Consumes a b) (sym reads.grows) reads.consumes,
-    subst TakesAll (sym (ap lines_of reads.grows ∙ lines_read lines last reads.are_lines reads.is_line)) takes,
-    ends,
-  )
+      → Ends a b → ReadsHeld a b false bytes
+  is_left lines last reads takes ends =
+      let same = lines_are_read a b [] bytes lines last reads in
+      record {
+        command = ended reads.whole ++ reads.left;
+        lines = ap lines_of reads.grows ∙ lines_held a b [] bytes lines last reads ∙ sym same;
+        reads = (reads.consumes, subst TakesAll (sym same) takes, ends);
+      }
 
   script_is : (line : List ℕ) → ReadsLines a b [] bytes (line ∷ []) []
-      → script_in bytes ≡ script_of_lines (call_line line ∷ [])
+      → script_in (lines_of bytes) ≡ script_of_lines (call_line line ∷ [])
   script_is line reads =
-      ap (λ lines. script_of_lines (call_lines lines)) (ap lines_of reads.grows ∙ lines_read (line ∷ []) [] reads.are_lines reads.is_line)
+      ap script_in (ap lines_of reads.grows ∙ lines_held a b [] bytes (line ∷ []) [] reads)
 
   takes_last : (last : List ℕ) → TakesAll (with_last [] last)
   takes_last [] = tt
   takes_last (byte ∷ last) = nothing_by (script_of_lines (call_line (byte ∷ last) ∷ []))
 
   -- the input ends in or behind the first line
-  pub first_left : ReadsLine a b false [] bytes → ReadsCommand a b false bytes
+  pub first_left : ReadsLine a b false [] bytes → ReadsHeld a b false bytes
   first_left (last, reads, ends) = is_left [] last reads (takes_last last) ends
 
   -- a first line that has no fault, and is whole alone
-  pub first_alone : (whole : Bool) (script : List (List Call)) → ReadsLine a b whole [] bytes → script_in bytes ≡ Ok script
-      → ReadsCommand a b whole bytes
+  pub first_alone : (whole : Bool) (script : List (List Call)) → ReadsLine a b whole [] bytes → script_in (lines_of bytes) ≡ Ok script
+      → ReadsHeld a b whole bytes
   first_alone false script reads is = first_left reads
   first_alone true script (line, reads) is =
       is_command line [] reads (λ others. ap (λ r. taken_by r others) (sym (script_is line reads) ∙ is))
 
 module _ (a b c : Option (List ℕ)) (first bytes : List ℕ) (fault : LineFault) where
   -- a first line with a fault, and what it takes with it
-  pub first_with : (whole : Bool) → ReadsLine a b true [] first → script_in first ≡ Err fault
-      → ReadsPart b c (taken_at fault.kind) (last_part whole) first bytes → ReadsCommand a c whole bytes
+  pub first_with : (whole : Bool) → ReadsLine a b true [] first → script_in (lines_of first) ≡ Err fault
+      → ReadsPart b c (taken_at fault.kind) (last_part whole) first bytes → ReadsHeld a c whole bytes
   first_with true (line, reads) is (lines, then, closes) =
       let same = sym (script_is a b first line reads) ∙ is in
       is_command a c bytes line lines (behind a b c [] first bytes (line ∷ []) lines [] reads then)
@@ -90,7 +103,7 @@ module _ (a b c : Option (List ℕ)) (first bytes : List ℕ) (fault : LineFault
   first_with false (line, reads) is (lines, last, then, all, ends) =
       let same = sym (script_is a b first line reads) ∙ is in
       is_left a c bytes (line ∷ lines) last (behind a b c [] first bytes (line ∷ []) lines last reads then)
-      (by last same all) (ends_behind a b c (ended (line ∷ []) ++ []) reads.consumes ends)
+      (by last same all) (ends_behind a b c (ended reads.whole ++ reads.left) reads.consumes ends)
     where
       by : (last : List ℕ) → script_of_lines (call_line line ∷ []) ≡ Err fault
           → taken_at fault.kind (with_last lines last) ≡ with_last lines last → TakesAll (with_last (line ∷ lines) last)

@@ -2,6 +2,7 @@ pub mod CallLines
 pub mod CountLemmas
 pub mod Cuts
 pub mod Firsts
+pub mod LineReads
 pub mod Loading
 pub mod PairLemmas
 pub mod Parts

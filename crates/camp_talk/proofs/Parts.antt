@@ -1,121 +1,68 @@
 -- What is read of a command, part behind part.
-use Rattle.std.proofs.Common.{◌≡◌, ◌≢◌, ℕ, ◌+◌, ◌-◌, ◌<◌, Bool, true, false, cond, ◌==◌, List, [], ◌∷◌, ◌++◌, length, take, drop}
-use Rattle.std.proofs.Common.{Option, None, Some, true≢false, IfSome, slice_index, nat_lt, ◌&&◌}
-use Rattle.std.proofs.Common.{refl, sym, ap, subst, ◌∙◌, append_assoc, append-nil, arith, take_all, length-append}
-use Rattle.std.specs.Io.{StartsWith, StopsAt}
-use Rattle.std.specs.Io.BufRead.{DropsThrough, drop_through, ends_with_byte, take_through}
-use Rattle.std.specs.Io.KnownBytes.{Consumes, IsAtEnd}
-use Rattle.std.proofs.KnownBytes.{Consumes-nil, Consumes-trans, starts_with_rest}
+use Rattle.std.proofs.Common.{◌≡◌, ◌≢◌, ℕ, ◌-◌, Bool, true, false, cond, nat_lt, List, [], ◌∷◌, ◌++◌, length, map, take, drop, codes}
+use Rattle.std.proofs.Common.{Option, None, Some, refl, sym, ap, subst, ◌∙◌, append_assoc, append-nil, arith, length-append}
+use Rattle.std.specs.List.{All}
+use Rattle.std.specs.Io.KnownBytes.{Consumes}
+use Rattle.std.proofs.KnownBytes.{Consumes-nil, Consumes-trans}
 use Rattle.std.proofs.Math.Seq.{drop-append_seam, take-append_seam}
-use Rattle.std.proofs.lemmas.Bool.{eqb-true}
-use Rattle.std.proofs.lemmas.Bool.Decides.{nat_tests}
 use Rattle.std.proofs.lemmas.Grind.{flat_map-append}
-use Rattle.std.proofs.lemmas.List.{take_more}
-use Rattle.std.proofs.lemmas.List.Elements.{All-append, All-cons, All-head, All-nil, All-tail}
+use Rattle.std.proofs.lemmas.List.{map-append}
+use Rattle.std.proofs.lemmas.List.Elements.{All-append, All-cons, All-drop, All-head, All-nil, All-tail, All-take}
+use Rattle.camp_script.specs.Lines.{lines_of, words_of}
+use Rattle.camp_script.specs.Pieces.{begins_edit, begins_with}
+use Rattle.camp_talk.specs.Cutting.{as_read, body_of, ends_body, entries_of, group_of, lines_in}
 use Rattle.camp_talk.specs.Inside.Parts.{Ends, IsLine, ReadsLine, ReadsLines, ReadsPart, Uses, ended, entry_part, with_last}
 use Rattle.camp_talk.specs.declared.commands.Part.{Part}
 use Rattle.camp_talk.specs.declared.commands.Part.TheVariants.{More, Whole, Cut}
-use Rattle.std.specs.Prelude.{codes}
-use Rattle.camp_script.specs.Lines.{words_of}
-use Rattle.camp_script.specs.Pieces.{begins_edit, begins_with}
-use Rattle.camp_talk.specs.Cutting.{body_of, ends_body, entries_of, group_of}
-use Rattle.camp_talk.proofs.Cuts.{body_ends, body_goes, body_left, entry_alone, entry_with, group_ends, group_goes, group_left, with_last-append}
+use Rattle.camp_talk.proofs.Cuts.{body_ends, body_goes, body_left, entry_alone, entry_with, group_ends, group_goes, group_left, lines_read, with_last-append}
 
--- ---- a line
+-- ---- lines as they are read
 
--- what is read up to the first LF, where it has none, is all
-drops_at : (byte : ℕ) (bytes : List ℕ) → (IsLine (take_through 10 bytes) → drop_through 10 bytes ≡ []) → (b : Bool)
-    → (byte == 10) ≡ b → IsLine (cond b (byte ∷ []) (byte ∷ take_through 10 bytes))
-    → cond b bytes (drop_through 10 bytes) ≡ []
-drops_at byte bytes others true same line = absurd (All-head (λ b. b ≢ 10) byte [] line (eqb-true byte 10 same))
-drops_at byte bytes others false other line = others (All-tail (λ b. b ≢ 10) byte (take_through 10 bytes) line)
+as_read_first : (first : ℕ) (rest : List ℕ) (fits : Bool) → IsLine (first ∷ rest)
+    → IsLine (first ∷ cond fits rest (63 ∷ take 4_096 (drop 1 rest)))
+as_read_first first rest true is = is
+as_read_first first rest false is =
+    let front = take 4_096 (drop 1 rest) in
+    let differs : 63 ≢ 10 = λ (same : 63 ≡ 10). omega (arith, same) in
+    let others : IsLine front =
+    All-take (λ byte. byte ≢ 10) 4_096 (drop 1 rest) (All-drop (λ byte. byte ≢ 10) 1 rest (All-tail (λ byte. byte ≢ 10) first rest is)) in
+    All-cons (λ byte. byte ≢ 10) first (63 ∷ front) (All-head (λ byte. byte ≢ 10) first rest is)
+    (All-cons (λ byte. byte ≢ 10) 63 front differs others)
 
-drops_all : (bytes : List ℕ) → IsLine (take_through 10 bytes) → drop_through 10 bytes ≡ []
-drops_all [] is = refl
-drops_all (byte ∷ bytes) is = drops_at byte bytes (drops_all bytes) (byte == 10) refl is
+as_read_is_line : (line : List ℕ) → IsLine line → IsLine (as_read line)
+as_read_is_line [] is = is
+as_read_is_line (first ∷ rest) is = as_read_first first rest (nat_lt (length rest) 1_048_576) is
 
-module _ (a b : Option (List ℕ)) (old part new : List ℕ) (grows : new ≡ old ++ part) (consumes : Consumes a b part) where
-  whole_line : (front : List ℕ) → IsLine front → part ≡ front ++ 10 ∷ [] → ReadsLine a b true old new
-  whole_line front is splits = (
-    front,
-    record {
-      grows = grows ∙ ap (λ bytes. old ++ bytes) same;
-      consumes = subst (Consumes a b) same consumes;
-      are_lines = All-cons IsLine front [] is (All-nil IsLine);
-      is_line = All-nil (λ byte. byte ≢ 10);
-    },
-  )
-    where
-      same : part ≡ ended (front ∷ []) ++ []
-      same = splits ∙ sym (append-nil (front ++ 10 ∷ [])) ∙ sym (append-nil ((front ++ 10 ∷ []) ++ []))
+as_read_are_lines : (lines : List (List ℕ)) → All IsLine lines → All IsLine (map as_read lines)
+as_read_are_lines [] are = All-nil IsLine
+as_read_are_lines (line ∷ lines) are =
+    All-cons IsLine (as_read line) (map as_read lines) (as_read_is_line line (All-head IsLine line lines are))
+    (as_read_are_lines lines (All-tail IsLine line lines are))
 
-  last_line : IsLine part → Ends a b → ReadsLine a b false old new
-  last_line is end = (
-    part,
-    record {
-      grows = grows;
-      consumes = consumes;
-      are_lines = All-nil IsLine;
-      is_line = is;
-    },
-    end,
-  )
+-- nothing is read of no bytes alone
+pub none_left : (left : List ℕ) → [] ≡ as_read left → left ≡ []
+none_left [] is = refl
+none_left (byte ∷ left) is = cc
 
-ends_known : (a b : Option (List ℕ)) (part : List ℕ) → IsLine part → IfSome a (λ xs. part ≡ take_through 10 xs)
-    → DropsThrough a b 10 → Ends a b
-ends_known None b part is takes drops = tt
-ends_known (Some xs) b part is takes drops = subst IsAtEnd (sym drops) (drops_all xs (subst IsLine takes is))
+as_read_with_last : (lines : List (List ℕ)) (last : List ℕ)
+    → map as_read (with_last lines last) ≡ with_last (map as_read lines) (as_read last)
+as_read_with_last lines [] = refl
+as_read_with_last lines (byte ∷ last) = map-append as_read lines ((byte ∷ last) ∷ [])
 
--- a part without its last byte, and that byte
-split_last : (part : List ℕ) → 0 < length part
-    → part ≡ take (length part - 1) part ++ slice_index part (length part - 1) ∷ []
-split_last part some =
-    sym (take_all (length part - 1 + 1) part (omega arith)) ∙ take_more part (length part - 1) 0 (omega arith)
+module _ (a b : Option (List ℕ)) (old new : List ℕ) (lines : List (List ℕ)) (last : List ℕ) (reads : ReadsLines a b old new lines last) where
+  -- the lines that were put behind bytes
+  pub lines_held : lines_of (ended lines ++ last) ≡ with_last lines last
+  lines_held =
+      lines_read lines last (subst (All IsLine) (sym reads.are_read) (as_read_are_lines reads.whole reads.are_lines))
+      (subst IsLine (sym reads.is_read) (as_read_is_line reads.left reads.is_line))
 
--- whether a part ends with an LF is whether its last byte is one
-ends_as : (byte : ℕ) (bytes : List ℕ) → ends_with_byte 10 (byte ∷ bytes)
-    ≡ (slice_index (byte ∷ bytes) (length (byte ∷ bytes) - 1) == 10)
-ends_as byte bytes =
-    let some : nat_lt 0 (length (byte ∷ bytes)) ≡ true = grind (arith, nat_tests) in
-    ap (λ b. b && (slice_index (byte ∷ bytes) (length (byte ∷ bytes) - 1) == 10)) some
-
-with_end : (part : List ℕ) → ends_with_byte 10 part ≡ true → part ≡ take (length part - 1) part ++ 10 ∷ []
-with_end [] ends = cc
-with_end (byte ∷ bytes) ends =
-    let part = byte ∷ bytes in
-    split_last part (omega arith) ∙ ap (λ y. take (length part - 1) part ++ y ∷ []) (eqb-true _ 10 (sym (ends_as byte bytes) ∙ ends))
-
-without_end : (part : List ℕ) → ends_with_byte 10 part ≡ false → StopsAt part 10 → IsLine part
-without_end [] other stops = All-nil (λ byte. byte ≢ 10)
-without_end (byte ∷ bytes) other stops =
-    let part = byte ∷ bytes in
-    let last = slice_index part (length part - 1) in
-    let differs : last ≢ 10 = λ same. differ last (sym (ends_as byte bytes) ∙ other) same in
-    subst IsLine (sym (split_last part (omega arith)))
-    (All-append (λ b. b ≢ 10) (take (length part - 1) part) (last ∷ []) stops
-    (All-cons (λ b. b ≢ 10) last [] differs (All-nil (λ b. b ≢ 10))))
-  where
-    differ : (last : ℕ) → (last == 10) ≡ false → last ≡ 10 → ⊥
-    differ last other same = true≢false (sym (ap (λ n. n == 10) same) ∙ other)
-
-module _ (a b : Option (List ℕ)) (old new : List ℕ) where
-  abbrev read : List ℕ
-  read = drop (length old) new
-
-  part_known : (o : Option (List ℕ)) → new ≡ old ++ read → IfSome o (λ xs. new ≡ old ++ take_through 10 xs)
-      → IfSome o (λ xs. read ≡ take_through 10 xs)
-  part_known None grows known = tt
-  part_known (Some xs) grows known = ap (drop (length old)) known ∙ drop-append_seam old (take_through 10 xs)
-
-  pub line_by : (whole : Bool) → ends_with_byte 10 read ≡ whole → StartsWith new old → StopsAt read 10 → Consumes a b read
-      → IfSome a (λ xs. new ≡ old ++ take_through 10 xs) → DropsThrough a b 10 → ReadsLine a b whole old new
-  line_by true ends starts stops consumes known drops =
-      whole_line a b old read new (starts_with_rest new old starts) consumes (take (length read - 1) read) stops
-      (with_end read ends)
-  line_by false ends starts stops consumes known drops =
-      let is = without_end read ends stops in
-      let grows = starts_with_rest new old starts in
-      last_line a b old read new grows consumes is (ends_known a b read is (part_known a grows known) drops)
+  -- are those that were read
+  pub lines_are_read : lines_in (ended reads.whole ++ reads.left) ≡ with_last lines last
+  lines_are_read =
+      ap (map as_read) (lines_read reads.whole reads.left reads.are_lines reads.is_line)
+      ∙ as_read_with_last reads.whole reads.left
+      ∙ ap (λ (ls : List (List ℕ)). with_last ls (as_read reads.left)) (sym reads.are_read)
+      ∙ ap (with_last lines) (sym reads.is_read)
 
 -- ---- parts
 
@@ -133,15 +80,21 @@ module _ (a b c : Option (List ℕ)) (old mid new : List ℕ) where
       → ReadsLines b c mid new more last → ReadsLines a c old new (lines ++ more) last
   behind lines more last first then = record {
     grows = then.grows ∙ ap (λ bytes. bytes ++ (ended more ++ last)) first.grows
-        ∙ append_assoc old (ended lines ++ []) (ended more ++ last) ∙ ap (λ bytes. old ++ bytes) joined;
-    consumes = subst (Consumes a c) joined
-        (Consumes-trans a b c (ended lines ++ []) (ended more ++ last) first.consumes then.consumes);
-    are_lines = All-append IsLine lines more first.are_lines then.are_lines;
+        ∙ append_assoc old (ended lines ++ []) (ended more ++ last) ∙ ap (λ bytes. old ++ bytes) (joined lines more last);
+    whole = first.whole ++ then.whole;
+    left = then.left;
+    are_read = ap (λ ls. ls ++ more) first.are_read ∙ ap (λ ls. map as_read first.whole ++ ls) then.are_read
+        ∙ sym (map-append as_read first.whole then.whole);
+    is_read = then.is_read;
+    consumes = subst (Consumes a c) (joined first.whole then.whole then.left) (Consumes-trans a b c (ended first.whole ++ [])
+        (ended then.whole ++ then.left) (subst (λ left. Consumes a b (ended first.whole ++ left)) (none_left first.left first.is_read) first.consumes) then.consumes);
+    are_lines = All-append IsLine first.whole then.whole first.are_lines then.are_lines;
     is_line = then.is_line;
   }
     where
-      joined : (ended lines ++ []) ++ (ended more ++ last) ≡ ended (lines ++ more) ++ last
-      joined =
+      joined : (lines more : List (List ℕ)) (last : List ℕ)
+          → (ended lines ++ []) ++ (ended more ++ last) ≡ ended (lines ++ more) ++ last
+      joined lines more last =
           ap (λ bytes. bytes ++ (ended more ++ last)) (append-nil (ended lines))
           ∙ sym (append_assoc (ended lines) (ended more) last)
           ∙ ap (λ bytes. bytes ++ last) (sym (flat_map-append (λ line. line ++ 10 ∷ []) lines more))
@@ -167,22 +120,25 @@ module _ (a b c : Option (List ℕ)) (old mid new : List ℕ) where
       behind lines more last first then,
       ap take (with_last-append lines more last) ∙ goes (with_last more last) ∙ ap (λ ls. lines ++ ls) all
           ∙ sym (with_last-append lines more last),
-      ends_behind a b c (ended lines ++ []) first.consumes end,
+      ends_behind a b c (ended first.whole ++ first.left) first.consumes end,
     )
 
 -- nothing is read yet
+pub no_lines : (a : Option (List ℕ)) (old : List ℕ) → ReadsLines a a old old [] []
+no_lines a old = record {
+  whole = [];
+  left = [];
+  are_read = refl;
+  is_read = refl;
+  grows = sym (append-nil old);
+  consumes = Consumes-nil a;
+  are_lines = All-nil IsLine;
+  is_line = All-nil (λ byte. byte ≢ 10);
+}
+
 pub none_read : (a : Option (List ℕ)) (take : List (List ℕ) → List (List ℕ)) (old : List ℕ)
     → ReadsPart a a take More old old
-none_read a take old = (
-  [],
-  record {
-    grows = sym (append-nil old);
-    consumes = Consumes-nil a;
-    are_lines = All-nil IsLine;
-    is_line = All-nil (λ byte. byte ≢ 10);
-  },
-  λ others. refl,
-)
+none_read a take old = ([], no_lines a old, λ others. refl)
 
 -- the last line of bytes
 pub line_at : (a b : Option (List ℕ)) (old new line : List ℕ) → ReadsLines a b old new (line ∷ []) []
@@ -199,7 +155,7 @@ line_at a b old new line reads =
 -- behind lines with which the taking goes on, some bytes were used
 pub part_uses : (a b c : Option (List ℕ)) (take : List (List ℕ) → List (List ℕ)) (old mid : List ℕ)
     → ReadsPart a b take More old mid → Uses b c → Uses a c
-part_uses a b c take old mid reads uses = uses_behind a b c (ended reads.0 ++ []) reads.1.consumes uses
+part_uses a b c take old mid reads uses = uses_behind a b c (ended reads.1.whole ++ reads.1.left) reads.1.consumes uses
 
 -- ---- the lines of bodies
 
@@ -267,5 +223,5 @@ entry_read_cut a b c old mid new head reads opens (body, last, then, all, end) =
       behind a b c old mid new (head ∷ []) body last reads then,
       ap group_of (with_last-append (head ∷ []) body last ∙ ap (λ ls. head ∷ ls) (sym (append-nil lines)))
           ∙ group_left head lines (head ∷ (lines ++ [])) [] first refl ∙ sym (with_last-append (head ∷ []) body last),
-      ends_behind a b c (ended (head ∷ []) ++ []) reads.consumes end,
+      ends_behind a b c (ended reads.whole ++ reads.left) reads.consumes end,
     )

@@ -1,9 +1,9 @@
 -- What a command asks: nothing, a call, or a question.
 use Rattle.std.specs.Prelude.{ℕ, List, [], ◌∷◌, Option, None, Some, Result, Ok, bytes_eq, codes, if◌then◌else◌}
 use Rattle.camp_call.specs.declared.calls.Call.{Call}
-use Rattle.camp_talk.specs.Cutting.{script_in}
+use Rattle.camp_talk.specs.Cutting.{lines_in, script_in}
 use Rattle.camp_script.specs.Faults.{fault_at}
-use Rattle.camp_script.specs.Lines.{lines_of, words_of}
+use Rattle.camp_script.specs.Lines.{words_of}
 use Rattle.camp_script.specs.Words.{◌>>=◌, name_at, names_at, no_words, one_word, path_at, two_words}
 use Rattle.camp_script.specs.declared.faults.FaultKind.TheVariants.{UnknownCommand, WrongNumberOfWords}
 use Rattle.camp_script.specs.declared.faults.LineFault.{LineFault}
@@ -159,6 +159,10 @@ abbrev pub first_of : List (List ℕ) → List ℕ
 first_of [] = []
 first_of (first ∷ rest) = first
 
+-- what a command of these lines asks, or its fault
+abbrev pub asked_of : List (List ℕ) → Result Asked LineFault
+asked_of lines = asked_with (words_of (first_of lines)) (script_in lines)
+
 -- what a command asks, or its fault
 abbrev pub asked_by : List ℕ → Result Asked LineFault
-asked_by command = asked_with (words_of (first_of (lines_of command))) (script_in command)
+asked_by command = asked_of (lines_in command)

@@ -1,5 +1,5 @@
 -- How the lines of a conversation fall into commands: a first line, and those that it takes with it.
-use Rattle.std.specs.Prelude.{◌≡◌, ℕ, Bool, false, List, [], ◌∷◌, ◌++◌, Result, Ok, Err, bytes_eq, codes, if◌then◌else◌}
+use Rattle.std.specs.Prelude.{◌≡◌, ℕ, Bool, false, nat_lt, List, [], ◌∷◌, ◌++◌, length, map, take, drop, Result, Ok, Err, bytes_eq, codes, if◌then◌else◌}
 use Rattle.std.specs.List.{flat_map}
 use Rattle.camp_call.specs.declared.calls.Call.{Call}
 use Rattle.camp_script.specs.Behind.{behind_word}
@@ -10,6 +10,16 @@ use Rattle.camp_script.specs.declared.faults.FaultKind.{FaultKind}
 use Rattle.camp_script.specs.declared.faults.FaultKind.TheVariants.{EditNotEnded, GroupNotEnded}
 use Rattle.camp_script.specs.declared.faults.LineFault.{LineFault}
 
+-- a line as it is read. One of more than 1,048,576 bytes is too long: its first 4,098 bytes are read, with `?` in place of
+-- the second. So it begins no command; in a body it has the fault of a line that is too long; and a comment stays one.
+abbrev pub as_read : List ℕ → List ℕ
+as_read [] = []
+as_read (first ∷ rest) = first ∷ (if nat_lt (length rest) 1_048_576 then rest else 63 ∷ take 4_096 (drop 1 rest))
+
+-- the lines of bytes, as they are read
+abbrev pub lines_in : List ℕ → List (List ℕ)
+lines_in bytes = map as_read (lines_of bytes)
+
 -- the call of a first line: what stands behind `whatif`, or else the whole line
 abbrev pub call_line : List ℕ → List ℕ
 call_line line = if begins_with (codes "whatif") (words_of line) then behind_word line else line
@@ -19,9 +29,9 @@ abbrev pub call_lines : List (List ℕ) → List (List ℕ)
 call_lines [] = []
 call_lines (first ∷ rest) = call_line first ∷ rest
 
--- the script that the call of a command is
-abbrev pub script_in : List ℕ → Result (List (List Call)) LineFault
-script_in command = script_of_lines (call_lines (lines_of command))
+-- the script that the call of a command is, by its lines
+abbrev pub script_in : List (List ℕ) → Result (List (List Call)) LineFault
+script_in lines = script_of_lines (call_lines lines)
 
 -- whether a line ends the body of an edit: it is just `end`
 abbrev pub ends_body : List ℕ → Bool
@@ -67,7 +77,7 @@ taken first lines = taken_by (script_of_lines (call_line first ∷ [])) lines
 pub record IsCommand (bytes : List ℕ) : Type 0 where
   pub first : List ℕ
   pub rest : List (List ℕ)
-  pub lines : lines_of bytes ≡ first ∷ rest
+  pub lines : lines_in bytes ≡ first ∷ rest
   pub front : List ℕ
   pub ended : bytes ≡ front ++ 10 ∷ []
   pub takes : (others : List (List ℕ)) → taken first (rest ++ others) ≡ rest
@@ -79,4 +89,4 @@ TakesAll (first ∷ rest) = taken first rest ≡ rest
 
 -- bytes are what the end of the input leaves of a last command: nothing, or what its first line takes
 abbrev pub IsLeft : List ℕ → Type 0
-IsLeft bytes = TakesAll (lines_of bytes)
+IsLeft bytes = TakesAll (lines_in bytes)

@@ -18,7 +18,7 @@ use std::alloc::Global;
 
 /// Reads the script that the call of a command is.
 pub(crate) fn read_script_in(alloc: Global, command: &[u8]) -> Result<Script, ScriptFault>
-    ensures { Gives result (script_in command.now) }
+    ensures { Gives result (script_in (lines_of command.now)) }
 {
     let line = first_line(command);
     let start = line.len() - call_line(line).len();

@@ -1,10 +1,31 @@
 //! The lines of a reader, behind one another.
-ghost use Rattle.std.specs.Prelude.{◌≡◌, ◌-◌, ◌<◌, length, take, drop, IfOk, IfErr};
-ghost use Rattle.std.specs.Io.BufRead.{ends_with_byte};
-ghost use Rattle.camp_talk.specs.Inside.Parts.{IsReading, ReadsLine, Uses};
+ghost use Rattle.std.specs.Prelude.{◌≡◌, ◌==◌, ◌+◌, ◌-◌, ◌<◌, ◌≤◌, ◌++◌, length, take, drop, IfOk, IfErr};
+ghost use Rattle.std.specs.List.{position_or_len};
+ghost use Rattle.camp_talk.specs.Cutting.{as_read};
+ghost use Rattle.camp_talk.specs.Inside.Parts.{IsReading, ReadsLine, Takes, Uses, feed_of, last_seen, seen_of};
 
 use crate::TalkFault;
 use std::io::{BufRead, ErrorKind};
+
+/// The most bytes of a line.
+const MAX_LINE: usize = 1_048_576;
+
+// A line of so many is too long.
+const TOO_LONG: usize = 1_048_577;
+
+// So many bytes are read of a line that is too long.
+const CUT_LINE: usize = 4_098;
+
+/// What a reader was seen to have of a line.
+#[derive(Clone, Copy, Debug)]
+pub(crate) enum Seen {
+    /// A part, and more is to come.
+    Part,
+    /// The line, and its LF.
+    Line,
+    /// No more: the input has ended.
+    End,
+}
 
 /// Reads a line behind bytes. Whether it has its LF; where it has none, the input has ended.
 pub(crate) fn read_line<R: BufRead>(reader: &mut R, text: &mut Vec<u8>) -> Result<bool, TalkFault>
@@ -14,17 +35,119 @@ pub(crate) fn read_line<R: BufRead>(reader: &mut R, text: &mut Vec<u8>) -> Resul
     ensures uses { IfErr result (λ why. Uses (R.remaining reader.old) (R.remaining reader.new)) }
 {
     let start = text.len();
-    match reader.read_until(b'\n', text) {
-        Ok(_) => Ok(has_end(&text[start..])),
-        Err(error) if error.kind() == ErrorKind::OutOfMemory => Err(TalkFault::Memory),
-        Err(_) => Err(TalkFault::Read),
+    let is_whole = read_front(reader, text)?;
+    cut_line(text, start);
+    if !is_whole {
+        return Ok(false);
+    }
+    match text.push(b'\n') {
+        Ok(()) => Ok(true),
+        Err(_) => Err(TalkFault::Memory),
     }
 }
 
-fn has_end(line: &[u8]) -> bool
-    ensures { result ≡ ends_with_byte 10 line.now }
+// Reads a line and its LF. Puts as much of the line behind bytes as shows whether it is too long.
+fn read_front<R: BufRead>(reader: &mut R, text: &mut Vec<u8>) -> Result<bool, TalkFault>
+    ensures front { IfOk result (λ whole. Takes (R.remaining reader.old) (R.remaining reader.new)
+        1_048_577 (last_seen whole) text.old.items text.new.items) }
+    ensures fault { IfErr result IsReading }
+    ensures uses { IfErr result (λ why. Uses (R.remaining reader.old) (R.remaining reader.new)) }
 {
-    line.last() == Some(&b'\n')
+    let start = text.len();
+    for _ in 0..u64::MAX {
+        let room = TOO_LONG - (text.len() - start);
+        match read_some(reader, text, room)? {
+            Seen::Part => {}
+            Seen::Line => return Ok(true),
+            Seen::End => return Ok(false),
+        }
+    }
+    Err(TalkFault::Read)
+}
+
+// Reads what the reader shows of a line, and its LF where it shows that. Puts as much of the line behind
+// bytes as has room.
+fn read_some<R: BufRead>(reader: &mut R, text: &mut Vec<u8>, room: usize) -> Result<Seen, TalkFault>
+    ensures some { IfOk result (λ seen.
+        Takes (R.remaining reader.old) (R.remaining reader.new) room seen text.old.items text.new.items) }
+    ensures fault { IfErr result IsReading }
+    ensures uses { IfErr result (λ why. Uses (R.remaining reader.old) (R.remaining reader.new)) }
+{
+    let shown = match reader.fill_buf() {
+        Ok(shown) => shown,
+        Err(error) => {
+            return match error.kind() {
+                ErrorKind::Interrupted => Ok(Seen::Part),
+                ErrorKind::OutOfMemory => Err(TalkFault::Memory),
+                _ => Err(TalkFault::Read),
+            };
+        }
+    };
+    let len = line_len(shown);
+    let seen = seen_of(shown.len(), len);
+    let held = len.min(room);
+    hold(text, &shown[..held])?;
+    let taken = taken_len(len, seen);
+    reader.consume(taken);
+    Ok(seen)
+}
+
+// Puts bytes behind others.
+fn hold(text: &mut Vec<u8>, bytes: &[u8]) -> Result<(), TalkFault>
+    ensures items { IfOk result (λ _. text.new.items ≡ text.old.items ++ bytes.now) }
+    ensures fault { IfErr result IsReading }
+{
+    match text.extend_from_slice(bytes) {
+        Ok(()) => Ok(()),
+        Err(_) => Err(TalkFault::Memory),
+    }
+}
+
+// How many bytes stand before the first LF, or how many there are.
+fn line_len(shown: &[u8]) -> usize
+    ensures place { result ≡ position_or_len (λ byte. byte == 10) shown.now }
+    ensures within { result ≤ length shown.now }
+{
+    shown
+        .iter()
+        .position(|byte| *byte == b'\n')
+        .unwrap_or(shown.len())
+}
+
+// What is seen where so many bytes are shown, and so many of them stand before an LF.
+fn seen_of(shown: usize, len: usize) -> Seen
+    ensures { result ≡ seen_of shown len }
+{
+    if len < shown {
+        return Seen::Line;
+    }
+    if shown == 0 {
+        return Seen::End;
+    }
+    Seen::Part
+}
+
+// How many bytes of a line are taken, with its LF where that was seen.
+fn taken_len(len: usize, seen: Seen) -> usize
+    requires { len < 18_446_744_073_709_551_615 }
+    ensures { result ≡ len + length (feed_of seen) }
+{
+    match seen {
+        Seen::Line => len + 1,
+        _ => len,
+    }
+}
+
+// Cuts the line that stands behind so many bytes, where it is too long.
+fn cut_line(text: &mut Vec<u8>, start: usize)
+    requires { start ≤ length text.old.items }
+    ensures { text.new.items ≡ take start text.old.items ++ as_read (drop start text.old.items) }
+{
+    if text.len() - start <= MAX_LINE {
+        return;
+    }
+    text[start + 1] = b'?';
+    text.truncate(start + CUT_LINE);
 }
 
 /// The line that begins at a place of bytes and ends with them, without its LF.

@@ -2,9 +2,9 @@
 ghost use Rattle.std.specs.Prelude.{◌≡◌, length, IfOk, IfErr};
 ghost use Rattle.camp_script.specs.Gives.{Gives};
 ghost use Rattle.camp_script.specs.Lines.{lines_of};
-ghost use Rattle.camp_talk.specs.Asking.{asked_by};
+ghost use Rattle.camp_talk.specs.Asking.{asked_of};
 ghost use Rattle.camp_talk.specs.Cutting.{script_in, taken_at};
-ghost use Rattle.camp_talk.specs.Inside.Parts.{IsReading, ReadsCommand, ReadsPart, Uses, last_part};
+ghost use Rattle.camp_talk.specs.Inside.Parts.{IsReading, ReadsHeld, ReadsPart, Uses, last_part};
 
 use crate::TalkFault;
 use crate::asking::{read_asked, read_script_in};
@@ -16,7 +16,7 @@ use camp_script::{FaultKind, Script, ScriptFault};
 use std::alloc::Global;
 use std::io::BufRead;
 
-/// A command.
+/// A command: its lines, as they are read.
 #[derive(Drop)]
 pub(crate) struct Command {
     pub(crate) bytes: Vec<u8>,
@@ -36,8 +36,8 @@ struct CommandLines {
 /// Reads a command.
 pub(crate) fn read_command<R: BufRead>(alloc: Global, reader: &mut R) -> Result<Command, TalkFault>
     ensures command { IfOk result (λ command.
-        ReadsCommand (R.remaining reader.old) (R.remaining reader.new) command.is_whole command.bytes.items) }
-    ensures asked { IfOk result (λ command. Gives command.asked (asked_by command.bytes.items)) }
+        ReadsHeld (R.remaining reader.old) (R.remaining reader.new) command.is_whole command.bytes.items) }
+    ensures asked { IfOk result (λ command. Gives command.asked (asked_of (lines_of command.bytes.items))) }
     ensures fault { IfErr result IsReading }
     ensures uses { IfErr result (λ why. Uses (R.remaining reader.old) (R.remaining reader.new)) }
 {
@@ -57,8 +57,8 @@ pub(crate) fn read_command<R: BufRead>(alloc: Global, reader: &mut R) -> Result<
 // Reads the lines of a command.
 fn read_lines<R: BufRead>(alloc: Global, reader: &mut R) -> Result<CommandLines, TalkFault>
     ensures command { IfOk result (λ lines.
-        ReadsCommand (R.remaining reader.old) (R.remaining reader.new) lines.is_whole lines.bytes.items) }
-    ensures script { IfOk result (λ lines. Gives lines.script (script_in lines.bytes.items)) }
+        ReadsHeld (R.remaining reader.old) (R.remaining reader.new) lines.is_whole lines.bytes.items) }
+    ensures script { IfOk result (λ lines. Gives lines.script (script_in (lines_of lines.bytes.items))) }
     ensures fault { IfErr result IsReading }
     ensures uses { IfErr result (λ why. Uses (R.remaining reader.old) (R.remaining reader.new)) }
 {

@@ -1,12 +1,15 @@
 -- How far a command is read.
-use Rattle.std.specs.Prelude.{◌≡◌, ◌≢◌, ◌⊎◌, ℕ, Bool, true, false, List, [], ◌∷◌, ◌++◌, Option, OnSome}
+use Rattle.std.specs.Prelude.{◌≡◌, ◌≢◌, ◌⊎◌, ◌==◌, nat_lt, if◌then◌else◌, ℕ, Bool, true, false, List, [], ◌∷◌, ◌++◌, map, take, Option, OnSome}
 use Rattle.std.specs.List.{All, flat_map}
 use Rattle.std.specs.Io.KnownBytes.{Consumes, IsAtEnd}
-use Rattle.camp_talk.specs.Cutting.{IsCommand, IsLeft}
+use Rattle.camp_script.specs.Lines.{lines_of}
+use Rattle.camp_talk.specs.Cutting.{IsCommand, IsLeft, as_read, lines_in}
 use Rattle.camp_talk.specs.declared.commands.Part.{Part}
 use Rattle.camp_talk.specs.declared.commands.Part.TheVariants as part
 use Rattle.camp_talk.specs.declared.faults.TalkFault.{TalkFault}
 use Rattle.camp_talk.specs.declared.faults.TalkFault.TheVariants.{Memory, Read}
+use Rattle.camp_talk.specs.declared.lines.Seen.{Seen}
+use Rattle.camp_talk.specs.declared.lines.Seen.TheVariants as seen
 
 -- a line has no LF in it
 abbrev pub IsLine : List ℕ → Type 0
@@ -31,6 +34,20 @@ abbrev pub entry_part : Bool → Part
 entry_part true = part.Whole
 entry_part false = part.More
 
+-- what is seen of a line where so many bytes are shown, and so many of them stand before an LF
+abbrev pub seen_of : ℕ → ℕ → Seen
+seen_of shown before = if nat_lt before shown then seen.Line else (if shown == 0 then seen.End else seen.Part)
+
+-- what is seen last of a line: its LF, or that the input has ended
+abbrev pub last_seen : Bool → Seen
+last_seen true = seen.Line
+last_seen false = seen.End
+
+-- the LF of a line, where it is seen
+abbrev pub feed_of : Seen → List ℕ
+feed_of seen.Line = 10 ∷ []
+feed_of other = []
+
 module _ (remaining rest : Option (List ℕ)) where
   -- nothing is left, where it is known what there was
   abbrev pub Ends : Type 0
@@ -40,12 +57,29 @@ module _ (remaining rest : Option (List ℕ)) where
   abbrev pub Uses : Type 0
   Uses = (more : List ℕ) × Consumes remaining rest more
 
-  -- these lines were read behind bytes, and what had no LF
+  -- where the end of the input is seen, nothing is left
+  abbrev pub EndsAt : Seen → Type 0
+  EndsAt seen.End = Ends
+  EndsAt other = Unit {0}
+
+  -- bytes of a line were read, and its LF where that was seen; of the line as much as has room was put behind others
+  pub record Takes (room : ℕ) (met : Seen) (old new : List ℕ) : Type 0 where
+    pub line : List ℕ
+    pub is_line : IsLine line
+    pub grows : new ≡ old ++ take room line
+    pub consumes : Consumes remaining rest (line ++ feed_of met)
+    pub ends : EndsAt met
+
+  -- lines were read, and what had no LF: these, as they are read, were put behind bytes
   pub record ReadsLines (old new : List ℕ) (lines : List (List ℕ)) (last : List ℕ) : Type 0 where
+    pub whole : List (List ℕ)
+    pub left : List ℕ
+    pub are_read : lines ≡ map as_read whole
+    pub is_read : last ≡ as_read left
     pub grows : new ≡ old ++ (ended lines ++ last)
-    pub consumes : Consumes remaining rest (ended lines ++ last)
-    pub are_lines : All IsLine lines
-    pub is_line : IsLine last
+    pub consumes : Consumes remaining rest (ended whole ++ left)
+    pub are_lines : All IsLine whole
+    pub is_line : IsLine left
 
   -- a line was read with its LF, or the input has ended behind what had none
   abbrev pub ReadsLine : Bool → List ℕ → List ℕ → Type 0
@@ -66,6 +100,12 @@ module _ (remaining rest : Option (List ℕ)) where
   abbrev pub ReadsCommand : Bool → List ℕ → Type 0
   ReadsCommand true bytes = Consumes remaining rest bytes × IsCommand bytes
   ReadsCommand false bytes = Consumes remaining rest bytes × IsLeft bytes × Ends
+
+  -- a command was read, and bytes are its lines, as they are read
+  pub record ReadsHeld (whole : Bool) (held : List ℕ) : Type 0 where
+    pub command : List ℕ
+    pub lines : lines_of held ≡ lines_in command
+    pub reads : ReadsCommand whole command
 
 -- reading fails, or there is no memory for a line
 abbrev pub IsReading : TalkFault → Type 0

@@ -1,6 +1,7 @@
 use Rattle.std.proofs.Common.{◌≡◌, ◌-◌, ℕ, List, length, take, drop, ap, subst, ◌∙◌}
 use Rattle.std.proofs.lemmas.List.{take_rest}
 use Rattle.camp_script.specs.Gives.{Gives}
+use Rattle.camp_script.specs.Lines.{lines_of}
 use Rattle.camp_script.specs.Reading.{script_of}
 use Rattle.camp_talk.specs.Cutting.{script_in}
 use Rattle.camp_talk.proofs.CallLines.{script_behind}
@@ -11,7 +12,7 @@ returns c =
     let command = c.args.command.now in
     let line = c.first_line-line.result.now in
     let start = length line - length c.call_line.result.now in
-    let same : script_of (take (length command - start) (drop start command)) ≡ script_in command =
+    let same : script_of (take (length command - start) (drop start command)) ≡ script_in (lines_of command) =
     ap script_of (take_rest command start)
     ∙ ap (λ (call : List ℕ). script_of (drop (length line - length call) command)) c.call_line.ensures
     ∙ script_behind command line c.first_line-line.ensures.value in

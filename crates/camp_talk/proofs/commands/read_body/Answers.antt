@@ -3,8 +3,11 @@ use Rattle.camp_talk.specs.Cutting.{body_of}
 use Rattle.camp_talk.specs.Inside.Parts.{ReadsPart, Uses}
 use Rattle.camp_talk.specs.declared.commands.Part.{Part}
 use Rattle.camp_talk.specs.declared.commands.Part.TheVariants.{More, Whole, Cut}
-use Rattle.camp_talk.proofs.Parts.{part_behind, part_uses}
+use Rattle.camp_talk.proofs.Parts.{none_read, part_behind, part_uses}
 use Rattle.camp_talk.proofs.commands.read_body.Goals as goal
+
+pub loop-init : goal.loop-init
+loop-init g c = none_read (g.R.Read.remaining c.args.reader.now) body_of c.args.text.now.items
 
 pub returns-in_err-read_body_line-clause-uses : goal.returns-in_err-read_body_line-clause-uses
 returns-in_err-read_body_line-clause-uses g c =

@@ -1,8 +1,17 @@
 use Rattle.std.proofs.Common.{rules, ◌≡◌, ◌-◌, Bool, true, false, List, ℕ, length, take, drop, ap, sym, subst, ◌∙◌}
 use Rattle.camp_talk.specs.Cutting.{body_of, group_of}
 use Rattle.camp_talk.specs.Inside.Parts.{ReadsLine, ReadsPart, Uses, last_part}
-use Rattle.camp_talk.proofs.Parts.{begins, entry_read_cut, entry_read_whole, is_done, line_at, uses_behind}
+use Rattle.camp_talk.proofs.Parts.{begins, entry_cut, entry_read_cut, entry_read_whole, is_done, line_at, uses_behind}
 use Rattle.camp_talk.proofs.commands.read_entry.Goals as goal
+
+pub returns-then-not-branch-clause-part : goal.returns-then-not-branch-clause-part
+returns-then-not-branch-clause-part g c =
+    let a = g.R.Read.remaining c.args.reader.now in
+    let b = g.R.Read.remaining c.read_line.new.reader in
+    let old = c.args.text.now.items in
+    let mid = c.read_line.new.text.items in
+    let last : c.in_ok-read_line.field-0 ≡ false = search rules in
+    entry_cut a b old mid (subst (λ (w : Bool). ReadsLine a b w old mid) last c.in_ok-read_line.ensures.line)
 
 pub returns-in_err-read_body-clause-uses : goal.returns-in_err-read_body-clause-uses
 returns-in_err-read_body-clause-uses g c =

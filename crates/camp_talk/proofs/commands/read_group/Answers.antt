@@ -3,8 +3,11 @@ use Rattle.camp_talk.specs.Cutting.{group_of}
 use Rattle.camp_talk.specs.Inside.Parts.{ReadsPart, Uses}
 use Rattle.camp_talk.specs.declared.commands.Part.{Part}
 use Rattle.camp_talk.specs.declared.commands.Part.TheVariants.{More, Whole, Cut}
-use Rattle.camp_talk.proofs.Parts.{part_behind, part_uses}
+use Rattle.camp_talk.proofs.Parts.{none_read, part_behind, part_uses}
 use Rattle.camp_talk.proofs.commands.read_group.Goals as goal
+
+pub loop-init : goal.loop-init
+loop-init g c = none_read (g.R.Read.remaining c.args.reader.now) group_of c.args.text.now.items
 
 pub returns-in_err-read_entry-clause-uses : goal.returns-in_err-read_entry-clause-uses
 returns-in_err-read_entry-clause-uses g c =

@@ -1,20 +1,29 @@
-use Rattle.std.proofs.Common.{◌≡◌, ◌-◌, ℕ, List, length, take, drop, ap, sym, ◌∙◌, arith, rules, take_all, length-drop}
-use Rattle.std.specs.Io.BufRead.{ends_with_byte}
-use Rattle.camp_talk.proofs.Parts.{line_by}
+use Rattle.std.proofs.Common.{◌≡◌, ◌++◌, Bool, length, take, drop, subst, rules}
+use Rattle.camp_talk.specs.Cutting.{as_read}
+use Rattle.camp_talk.specs.Inside.Parts.{Takes, last_seen}
+use Rattle.camp_talk.proofs.LineReads.{last_line, whole_line}
 use Rattle.camp_talk.proofs.lines.read_line.Goals as goal
 
-tail_is : (bytes : List ℕ) (start : ℕ) → take (length bytes - start) (drop start bytes) ≡ drop start bytes
-tail_is bytes start = take_all (length bytes - start) (drop start bytes) (omega (arith, length-drop start bytes))
+pub returns-then-not-is_whole-clause-line : goal.returns-then-not-is_whole-clause-line
+returns-then-not-is_whole-clause-line g c =
+    let a = g.R.Read.remaining c.args.reader.now in
+    let b = g.R.Read.remaining c.read_front.new.reader in
+    let old = c.args.text.now.items in
+    let mid = c.read_front.new.text.items in
+    let new = c.cut_line.new.text.items in
+    let start : c.len-start.result ≡ length old = search rules in
+    last_line a b old mid new
+    (subst (λ (whole : Bool). Takes a b 1_048_577 (last_seen whole) old mid) c.if-not-is_whole.true c.in_ok-is_whole.ensures.front)
+    (subst (λ n. new ≡ take n mid ++ as_read (drop n mid)) start c.cut_line.ensures)
 
 pub returns-in-Ok-clause-line : goal.returns-in-Ok-clause-line
 returns-in-Ok-clause-line g c =
+    let a = g.R.Read.remaining c.args.reader.now in
+    let b = g.R.Read.remaining c.read_front.new.reader in
     let old = c.args.text.now.items in
-    let new = c.read_until.new.buf.items in
+    let mid = c.read_front.new.text.items in
+    let new = c.cut_line.new.text.items in
     let start : c.len-start.result ≡ length old = search rules in
-    let line : c.has_end.result ≡ ends_with_byte 10 (drop (length old) new) =
-    c.has_end.ensures ∙ ap (ends_with_byte 10) (tail_is c.deref.result.now c.len-start.result)
-    ∙ ap (λ bytes. ends_with_byte 10 (drop c.len-start.result bytes)) c.deref.ensures.value
-    ∙ ap (λ n. ends_with_byte 10 (drop n new)) start in
-    line_by (g.R.Read.remaining c.args.reader.now) (g.R.Read.remaining c.read_until.new.self) old new c.has_end.result
-    (sym line) c.read_until.ensures.appends c.read_until.ensures.stops c.read_until.ensures.none_lost c.in-Ok.ensures.bytes
-    c.in-Ok.ensures.rest
+    whole_line a b old mid new c.push.new.self.items
+    (subst (λ (whole : Bool). Takes a b 1_048_577 (last_seen whole) old mid) c.if-not-is_whole.false c.in_ok-is_whole.ensures.front)
+    (subst (λ n. new ≡ take n mid ++ as_read (drop n mid)) start c.cut_line.ensures) c.in-Ok.ensures.items

@@ -1,0 +1,250 @@
+-- A line is read, part by part, and as much of it is held as is read.
+use Rattle.std.proofs.Common.{◌≡◌, ◌≢◌, ℕ, zero, suc, ◌+◌, ◌-◌, ◌<◌, ◌≤◌, min, Bool, true, false, cond, ◌==◌, nat_lt, List, [], ◌∷◌, ◌++◌, length, take, drop}
+use Rattle.std.proofs.Common.{Option, refl, sym, ap, subst, ◌∙◌, append_assoc, append-nil, arith, take_all, take-take, length-append, length-take-le, eqb-true, eq-eqb, true≢false, zero-le}
+use Rattle.std.specs.List.{position_or_len}
+use Rattle.std.specs.Io.KnownBytes.{Consumes}
+use Rattle.std.proofs.KnownBytes.{Consumes-trans}
+use Rattle.std.proofs.Math.Seq.{drop-append_seam, take-append_seam}
+use Rattle.std.proofs.lemmas.Bool.Decides.{nat_tests}
+use Rattle.std.proofs.lemmas.List.{take_more}
+use Rattle.std.proofs.lemmas.List.Elements.{All-append, All-cons, All-nil}
+use Rattle.std.proofs.lemmas.List.Sums.{passes_at_first}
+use Rattle.std.specs.Prelude.{slice_set, not}
+use Rattle.camp_talk.specs.Cutting.{as_read}
+use Rattle.camp_talk.proofs.Parts.{ends_behind}
+use Rattle.camp_talk.specs.Inside.Parts.{Ends, EndsAt, IsLine, ReadsLine, Takes, feed_of, ended, seen_of}
+use Rattle.camp_talk.specs.declared.lines.Seen.{Seen}
+use Rattle.camp_talk.specs.declared.lines.Seen.TheVariants as seen
+
+is_less : (a b : ℕ) → nat_lt a b ≡ true → a < b
+is_less a b less = grind (arith, nat_tests, less)
+
+is_more : (a b : ℕ) → nat_lt a b ≡ false → b ≤ a
+is_more a b more = grind (arith, nat_tests, more)
+
+-- ---- fronts
+
+-- a front, and behind it as much as there is room for
+pub take_behind : (room : ℕ) (done more : List ℕ)
+    → take room done ++ take (room - length (take room done)) more ≡ take room (done ++ more)
+take_behind zero done more = refl
+take_behind (suc room) [] more =
+    let all : suc room - 0 ≡ suc room = omega arith in
+    ap (λ n. take n more) all
+take_behind (suc room) (byte ∷ done) more =
+    let front = take room done in
+    let left : suc room - suc (length front) ≡ room - length front = omega arith in
+    ap (λ n. byte ∷ (front ++ take n more)) left ∙ ap (λ bytes. byte ∷ bytes) (take_behind room done more)
+
+-- a front of a front
+pub take_least : (len room : ℕ) (bytes : List ℕ) (n : ℕ) → n ≡ min len room → take n bytes ≡ take room (take len bytes)
+take_least zero room bytes n is =
+    let none : n ≡ 0 = omega arith in
+    ap (λ k. take k bytes) none ∙ sym (take_all room [] zero-le)
+take_least (suc len) zero bytes n is =
+    let none : n ≡ 0 = omega arith in
+    ap (λ k. take k bytes) none
+take_least (suc len) (suc room) [] n is = take_all n [] zero-le
+take_least (suc len) (suc room) (byte ∷ bytes) n is =
+    let m = min len room in
+    let next : n ≡ suc m = omega arith in
+    ap (λ k. take k (byte ∷ bytes)) next ∙ ap (λ front. byte ∷ front) (take_least len room bytes m refl)
+
+-- ---- what a reader shows
+
+abbrev feed : ℕ → Bool
+feed byte = byte == 10
+
+not_at : (byte other : ℕ) → (byte == other) ≡ false → byte ≢ other
+not_at byte other differs same = true≢false (sym (eq-eqb byte other same) ∙ differs)
+
+pub before_feed : (shown : List ℕ) → IsLine (take (position_or_len feed shown) shown)
+before_feed [] = All-nil (λ byte. byte ≢ 10)
+before_feed (byte ∷ shown) = at (byte == 10) refl (before_feed shown)
+  where
+    at : (b : Bool) → (byte == 10) ≡ b → IsLine (take (position_or_len feed shown) shown)
+        → IsLine (take (cond (not b) (1 + position_or_len feed shown) 0) (byte ∷ shown))
+    at true same others = All-nil (λ byte. byte ≢ 10)
+    at false other others =
+        let n = position_or_len feed shown in
+        let next : suc n ≡ 1 + n = omega arith in
+        subst (λ k. IsLine (take k (byte ∷ shown))) next
+        (All-cons (λ byte. byte ≢ 10) byte (take n shown) (not_at byte 10 other) others)
+
+module _ (shown : List ℕ) where
+  abbrev len : ℕ
+  len = position_or_len feed shown
+
+  -- the bytes that are taken of what is shown
+  pub taken_of : take (len + length (feed_of (seen_of (length shown) len))) shown
+      ≡ take len shown ++ feed_of (seen_of (length shown) len)
+  taken_of = at (nat_lt len (length shown)) refl (length shown == 0)
+    where
+      at : (b : Bool) → nat_lt len (length shown) ≡ b → (empty : Bool)
+          → take (len + length (feed_of (cond b seen.Line (cond empty seen.End seen.Part)))) shown
+          ≡ take len shown ++ feed_of (cond b seen.Line (cond empty seen.End seen.Part))
+      at true more empty =
+          take_more shown len 0 (is_less len (length shown) more)
+          ∙ ap (λ byte. take len shown ++ byte ∷ []) (eqb-true _ 10 (passes_at_first feed shown 0 (is_less len (length shown) more)))
+      at false all true = ap (λ n. take n shown) (omega arith) ∙ sym (append-nil (take len shown))
+      at false all false = ap (λ n. take n shown) (omega arith) ∙ sym (append-nil (take len shown))
+
+-- no more is taken than is shown
+pub taken_within : (shown before : ℕ) → before ≤ shown → before + length (feed_of (seen_of shown before)) ≤ shown
+taken_within shown before within = at (nat_lt before shown) refl (shown == 0)
+  where
+    at : (more : Bool) → nat_lt before shown ≡ more → (empty : Bool)
+        → before + length (feed_of (cond more seen.Line (cond empty seen.End seen.Part))) ≤ shown
+    at true is empty = omega (arith, is_less before shown is)
+    at false is true = omega (arith, within)
+    at false is false = omega (arith, within)
+
+module _ (a b : Option (List ℕ)) where
+  pub ends_at : (shown len : ℕ) → (shown ≡ 0 → Ends a b) → EndsAt a b (seen_of shown len)
+  ends_at shown len ends = at (nat_lt len shown) (shown == 0) refl
+    where
+      at : (more empty : Bool) → (shown == 0) ≡ empty → EndsAt a b (cond more seen.Line (cond empty seen.End seen.Part))
+      at true empty is = tt
+      at false true is = ends (eqb-true shown 0 is)
+      at false false is = tt
+
+  -- nothing is taken
+  pub none_taken : (room : ℕ) (old : List ℕ) → Consumes a b [] → Takes a b room seen.Part old old
+  none_taken room old consumes = record {
+    line = [];
+    is_line = All-nil (λ byte. byte ≢ 10);
+    grows = sym (ap (λ bytes. old ++ bytes) (take_all room [] zero-le) ∙ append-nil old);
+    consumes = consumes;
+    ends = tt;
+  }
+
+  -- what is shown is taken
+  pub shown_taken : (room : ℕ) (shown old new : List ℕ)
+      → new ≡ old ++ take (min (position_or_len feed shown) room) shown
+      → Consumes a b (take (position_or_len feed shown + length (feed_of (seen_of (length shown) (position_or_len feed shown)))) shown)
+      → (length shown ≡ 0 → Ends a b) → Takes a b room (seen_of (length shown) (position_or_len feed shown)) old new
+  shown_taken room shown old new grows consumes ends = record {
+    line = take (position_or_len feed shown) shown;
+    is_line = before_feed shown;
+    grows = grows ∙ ap (λ bytes. old ++ bytes) (take_least (position_or_len feed shown) room shown (min (position_or_len feed shown) room) refl);
+    consumes = subst (Consumes a b) (taken_of shown) consumes;
+    ends = ends_at (length shown) (position_or_len feed shown) ends;
+  }
+
+module _ (a b c : Option (List ℕ)) (room : ℕ) (old mid new : List ℕ) where
+  -- a part of a line behind a part
+  pub taken_behind : (left : ℕ) (met : Seen) → Takes a b room seen.Part old mid → left ≡ room - (length mid - length old)
+      → Takes b c left met mid new → Takes a c room met old new
+  taken_behind left met first is then = record {
+    line = first.line ++ then.line;
+    is_line = All-append (λ byte. byte ≢ 10) first.line then.line first.is_line then.is_line;
+    grows = then.grows ∙ ap (λ bytes. bytes ++ take left then.line) first.grows
+        ∙ append_assoc old (take room first.line) (take left then.line)
+        ∙ ap (λ bytes. old ++ bytes) (ap (λ n. take room first.line ++ take n then.line) same ∙ take_behind room first.line then.line);
+    consumes = subst (Consumes a c) joined (Consumes-trans a b c (first.line ++ []) (then.line ++ feed_of met) first.consumes then.consumes);
+    ends = at met then.ends;
+  }
+    where
+      same : left ≡ room - length (take room first.line)
+      same = omega (arith, is, ap length first.grows, length-append old (take room first.line))
+
+      joined : (first.line ++ []) ++ (then.line ++ feed_of met) ≡ (first.line ++ then.line) ++ feed_of met
+      joined = ap (λ bytes. bytes ++ (then.line ++ feed_of met)) (append-nil first.line)
+          ∙ sym (append_assoc first.line then.line (feed_of met))
+
+      at : (s : Seen) → EndsAt b c s → EndsAt a c s
+      at seen.Part ends = tt
+      at seen.Line ends = tt
+      at seen.End ends = ends_behind a b c (first.line ++ []) first.consumes ends
+
+-- ---- a line that is too long is cut
+
+pub as_read_short : (line : List ℕ) → length line ≤ 1_048_576 → as_read line ≡ line
+as_read_short [] short = refl
+as_read_short (byte ∷ line) short =
+    let fits : nat_lt (length line) 1_048_576 ≡ true = grind (arith, nat_tests) in
+    ap (λ b. byte ∷ cond b line (63 ∷ take 4_096 (drop 1 line))) fits
+
+as_read_long : (first second : ℕ) (rest : List ℕ) → 1_048_575 ≤ length rest
+    → as_read (first ∷ second ∷ rest) ≡ first ∷ 63 ∷ take 4_096 rest
+as_read_long first second rest long =
+    let over : nat_lt (length (second ∷ rest)) 1_048_576 ≡ false = grind (arith, nat_tests) in
+    ap (λ b. first ∷ cond b (second ∷ rest) (63 ∷ take 4_096 rest)) over
+
+-- a line, and the front of it that is held
+pub as_read_front : (line : List ℕ) → as_read (take 1_048_577 line) ≡ as_read line
+as_read_front [] = refl
+as_read_front (first ∷ []) = refl
+as_read_front (first ∷ second ∷ rest) = at (nat_lt (length rest) 1_048_575) refl
+  where
+    at : (b : Bool) → nat_lt (length rest) 1_048_575 ≡ b
+        → as_read (first ∷ second ∷ take 1_048_575 rest) ≡ as_read (first ∷ second ∷ rest)
+    at true short = ap (λ bytes. as_read (first ∷ second ∷ bytes)) (take_all 1_048_575 rest (omega (arith, is_less (length rest) 1_048_575 short)))
+    at false long =
+        let most = is_more (length rest) 1_048_575 long in
+        let held = length-take-le 1_048_575 rest most in
+        as_read_long first second (take 1_048_575 rest) (omega arith)
+        ∙ ap (λ bytes. first ∷ 63 ∷ bytes) (take-take 4_096 1_048_575 rest (omega arith))
+        ∙ sym (as_read_long first second rest most)
+
+pub cut_is : (text : List ℕ) (start : ℕ) → 1_048_576 < length text - start
+    → take (start + 4_098) (slice_set text (start + 1) 63) ≡ take start text ++ as_read (drop start text)
+cut_is [] start long = absurd (omega arith)
+cut_is (first ∷ []) zero long = absurd (omega arith)
+cut_is (first ∷ second ∷ rest) zero long = sym (as_read_long first second rest (omega arith))
+cut_is (first ∷ text) (suc start) long =
+    let place : suc start + 1 ≡ suc (start + 1) = omega arith in
+    let size : suc start + 4_098 ≡ suc (start + 4_098) = omega arith in
+    ap (λ n. take (suc start + 4_098) (slice_set (first ∷ text) n 63)) place
+    ∙ ap (λ n. take n (first ∷ slice_set text (start + 1) 63)) size
+    ∙ ap (λ bytes. first ∷ bytes) (cut_is text start (omega (arith, long)))
+
+-- ---- a line
+
+module _ (a b : Option (List ℕ)) (old mid new : List ℕ) where
+  cut_behind : (line : List ℕ) → mid ≡ old ++ take 1_048_577 line
+      → new ≡ take (length old) mid ++ as_read (drop (length old) mid) → new ≡ old ++ as_read line
+  cut_behind line grows cut =
+      cut ∙ ap (λ bytes. take (length old) bytes ++ as_read (drop (length old) bytes)) grows
+      ∙ ap (λ front. front ++ as_read (drop (length old) (old ++ take 1_048_577 line))) (take-append_seam old (take 1_048_577 line))
+      ∙ ap (λ bytes. old ++ as_read bytes) (drop-append_seam old (take 1_048_577 line))
+      ∙ ap (λ bytes. old ++ bytes) (as_read_front line)
+
+  pub whole_line : (last : List ℕ) → Takes a b 1_048_577 seen.Line old mid
+      → new ≡ take (length old) mid ++ as_read (drop (length old) mid) → last ≡ new ++ 10 ∷ [] → ReadsLine a b true old last
+  whole_line last takes cut ended_is =
+      let line = takes.line in (
+        as_read line,
+        record {
+          whole = line ∷ [];
+          left = [];
+          are_read = refl;
+          is_read = refl;
+          grows = ended_is ∙ ap (λ bytes. bytes ++ 10 ∷ []) (cut_behind line takes.grows cut)
+              ∙ append_assoc old (as_read line) (10 ∷ []) ∙ ap (λ bytes. old ++ bytes) (nils (as_read line));
+          consumes = subst (Consumes a b) (nils line) takes.consumes;
+          are_lines = All-cons IsLine line [] takes.is_line (All-nil IsLine);
+          is_line = All-nil (λ byte. byte ≢ 10);
+        },
+      )
+    where
+      nils : (line : List ℕ) → line ++ 10 ∷ [] ≡ ended (line ∷ []) ++ []
+      nils line = sym (append-nil (line ++ 10 ∷ [])) ∙ sym (append-nil ((line ++ 10 ∷ []) ++ []))
+
+  pub last_line : Takes a b 1_048_577 seen.End old mid
+      → new ≡ take (length old) mid ++ as_read (drop (length old) mid) → ReadsLine a b false old new
+  last_line takes cut =
+      let line = takes.line in (
+        as_read line,
+        record {
+          whole = [];
+          left = line;
+          are_read = refl;
+          is_read = refl;
+          grows = cut_behind line takes.grows cut;
+          consumes = subst (Consumes a b) (append-nil line) takes.consumes;
+          are_lines = All-nil IsLine;
+          is_line = takes.is_line;
+        },
+        takes.ends,
+      )
