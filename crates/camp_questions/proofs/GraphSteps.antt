@@ -1,14 +1,15 @@
 -- The graph of a branch, patch by patch.
-use Rattle.std.proofs.Common.{◌≡◌, ◌<◌, ℕ, ◌+◌, Bool, true, false, not, ◌&&◌, ◌||◌, List, [], ◌∷◌, ◌++◌, map, length, take, drop, get_or, Ok, Some, refl, sym, ap, ◌∙◌, subst}
+use Rattle.std.proofs.Common.{◌≡◌, ◌<◌, ℕ, ◌+◌, Bool, true, false, cond, not, ◌&&◌, ◌||◌, List, [], ◌∷◌, ◌++◌, map, filter, length, take, drop, get_or, Ok, Some, refl, sym, ap, ◌∙◌, subst, arith}
 use Rattle.std.specs.List.{AllByRecursion, list_any}
-use Rattle.std.proofs.lemmas.List.{drop_more, map-append, take_more}
+use Rattle.std.proofs.lemmas.List.{drop_all, drop_more, map-append, take_more}
 use Rattle.camp_catch.specs.declared.catches.Catch.{Catch}
 use Rattle.camp_branch.specs.Branches.{names_of}
 use Rattle.camp_branch.specs.Conflicting.{AreConflicts}
 use Rattle.camp_branch.proofs.ConflictsDetermined.{conflicts_are_determined}
+use Rattle.camp_branch.proofs.NameSets.{and_true}
 use Rattle.camp_branch.proofs.Names.{all_append}
 use Rattle.camp_repo.specs.States.{Contents, catches_of}
-use Rattle.camp_questions.specs.Graphs.{Drawn, IsGraph, IsGraphOf, Needing, NeedsThese, node_of}
+use Rattle.camp_questions.specs.Graphs.{Drawn, IsGraph, IsGraphOf, Needing, NeedsThese, goes_between, needs_other, node_of}
 use Rattle.camp_questions.specs.Inside.Graphing.{NeedEach, needing}
 use Rattle.camp_questions.specs.declared.graphs.Needed.{Needed}
 use Rattle.camp_questions.specs.declared.graphs.Node.{Node}
@@ -31,28 +32,60 @@ one_node draw all i p d nodes next node within is so_far drawn becomes =
     let more : take (i + 1) all ≡ take i all ++ p ∷ [] = take_more all i d within ∙ ap (λ x. take i all ++ x ∷ []) (sym is) in
     becomes ∙ (λ k. so_far k ++ drawn k ∷ []) ∙ sym (ap (λ l. map draw (map needing l)) more ∙ ap (map draw) (map-append needing (take i all) (p ∷ [])) ∙ map-append draw (map needing (take i all)) (needing p ∷ []))
 
-module _ (test : Needing → Bool) (all : List Needed) (i : ℕ) (p d : Needed) (within : i < length all) (is : p ≡ get_or all i d) where
-  test_next : list_any test (map needing (drop i all)) ≡ (test (needing p) || list_any test (map needing (drop (i + 1) all)))
-  test_next =
-      ap (λ l. list_any test (map needing l)) (drop_more all i d within ∙ ap (λ x. x ∷ drop (i + 1) all) (sym is))
+filter_again_at : (g : List ℕ → Bool) (x : List ℕ) (b : Bool) (l : List (List ℕ)) → filter g (cond b (x ∷ l) l) ≡ cond (b && g x) (x ∷ filter g l) (filter g l)
+filter_again_at g x true l = refl
+filter_again_at g x false l = refl
 
-  pub passed_by : list_any test (map needing all) ≡ list_any test (map needing (drop i all)) → test (needing p) ≡ false → list_any test (map needing all) ≡ list_any test (map needing (drop (i + 1) all))
-  passed_by so_far fails =
-      so_far ∙ test_next ∙ ap (λ b. b || list_any test (map needing (drop (i + 1) all))) fails
+-- what passes one test and then another passes both
+pub filter_again : (f g : List ℕ → Bool) (names : List (List ℕ)) → filter g (filter f names) ≡ filter (λ name. f name && g name) names
+filter_again f g [] = refl
+filter_again f g (n ∷ names) =
+    filter_again_at g n (f n) (filter f names) ∙ ap (λ l. cond (f n && g n) (n ∷ l) l) (filter_again f g names)
 
-  pub stands_between : list_any test (map needing all) ≡ list_any test (map needing (drop i all)) → test (needing p) ≡ true → list_any test (map needing all) ≡ true
-  stands_between so_far passes =
-      so_far ∙ test_next ∙ ap (λ b. b || list_any test (map needing (drop (i + 1) all))) passes
+filter_alike : (f g : List ℕ → Bool) → ((name : List ℕ) → f name ≡ g name) → (names : List (List ℕ)) → filter f names ≡ filter g names
+filter_alike f g same [] = refl
+filter_alike f g same (n ∷ names) =
+    (λ i. cond (same n i) (n ∷ filter f names) (filter f names)) ∙ ap (λ l. cond (g n) (n ∷ l) l) (filter_alike f g same names)
 
-pub not_directly : (needs between : Bool) → between ≡ true → false ≡ (needs && not between)
-not_directly true true e = refl
-not_directly true false e = cc
-not_directly false b e = refl
+all_left : (names : List (List ℕ)) → names ≡ filter (λ name. true) names
+all_left [] = refl
+all_left (n ∷ names) = ap (λ l. n ∷ l) (all_left names)
 
-pub directly : (needs between : Bool) → needs ≡ true → between ≡ false → true ≡ (needs && not between)
-directly true false e f = refl
-directly true true e f = cc
-directly false b e f = cc
+-- a patch that is needed leaves out what it needs
+pub left_out : (patch other : Needing) (names next : List (List ℕ)) → needs_other patch other.name ≡ true → next ≡ filter (λ name. not (needs_other other name)) names → next ≡ filter (λ name. not (goes_between patch name other)) names
+left_out patch other names next needed are =
+    are ∙ filter_alike _ _ (λ name. ap (λ b. not (b && needs_other other name)) (sym needed)) names
+
+-- one that is not needed leaves out none
+pub none_left_out : (patch other : Needing) (names : List (List ℕ)) → needs_other patch other.name ≡ false → names ≡ filter (λ name. not (goes_between patch name other)) names
+none_left_out patch other names needless =
+    all_left names ∙ filter_alike _ _ (λ name. ap (λ b. not (b && needs_other other name)) (sym needless)) names
+
+-- whether a patch needs another one, and none of some others that it needs does
+abbrev pub needs_past : Needing → List Needing → List ℕ → Bool
+needs_past patch others name = needs_other patch name && not (list_any (goes_between patch name) others)
+
+one_past : (needs between more : Bool) → ((needs && not more) && not between) ≡ (needs && not (between || more))
+one_past true true true = refl
+one_past true true false = refl
+one_past true false more = and_true (not more)
+one_past false between more = refl
+
+-- with no other one looked at, what a patch needs is left
+pub left_at_first : (patch : Needing) (all : List Needed) (i : ℕ) (own names : List (List ℕ)) → i ≡ length all → names ≡ filter (needs_other patch) own → names ≡ filter (needs_past patch (map needing (drop i all))) own
+left_at_first patch all i own names whole are =
+    are ∙ filter_alike (needs_other patch) (needs_past patch []) (λ name. sym (and_true (needs_other patch name))) own
+    ∙ ap (λ l. filter (needs_past patch (map needing l)) own) (sym (drop_all i all (omega (arith, whole))))
+
+-- one more is looked at
+pub one_left_out : (patch : Needing) (all : List Needed) (left i : ℕ) (p d : Needed) (own names next : List (List ℕ)) → left ≡ i + 1 → i < length all → p ≡ get_or all i d → names ≡ filter (needs_past patch (map needing (drop left all))) own → next ≡ filter (λ name. not (goes_between patch name (needing p))) names → next ≡ filter (needs_past patch (map needing (drop i all))) own
+one_left_out patch all left i p d own names next one within is so_far becomes =
+    let past : List Needed → List ℕ → Bool = λ l. needs_past patch (map needing l) in
+    let between : List ℕ → Bool = λ name. goes_between patch name (needing p) in
+    becomes ∙ ap (filter (λ name. not (between name))) (so_far ∙ ap (λ n. filter (past (drop n all)) own) one)
+    ∙ filter_again (past (drop (i + 1) all)) (λ name. not (between name)) own
+    ∙ filter_alike (λ name. past (drop (i + 1) all) name && not (between name)) (past (p ∷ drop (i + 1) all)) (λ name. one_past (needs_other patch name) (between name) (list_any (goes_between patch name) (map needing (drop (i + 1) all)))) own
+    ∙ ap (λ l. filter (past l) own) (sym (drop_more all i d within ∙ ap (λ x. x ∷ drop (i + 1) all) (sym is)))
 
 -- what a patch needs in a branch
 abbrev needing_in : List Catch → List ℕ → Needing

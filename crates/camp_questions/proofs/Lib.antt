@@ -13,3 +13,4 @@ pub mod PatchFronts
 pub mod ReachedNeeds
 pub mod ShownPatches
 pub mod Stuck
+pub mod TakenNames

@@ -23,7 +23,7 @@ pub enum Annotated {
 /// Of each line of the file of a path the name of the patch that put it there. The lines are shared
 /// with the tree of the branch.
 pub fn annotate(state: &State, branch: &Name, path: &Path) -> Result<Annotated, Unanswered>
-    ensures { Tells (AreAnnotated state.now branch.now path.now) result }
+    ensures exact { Tells (AreAnnotated state.now branch.now path.now) result }
 {
     let branch = branch_of(state, branch)?;
     let Some(lines) = branch.tree().file(path) else {

@@ -17,7 +17,7 @@ use std::alloc::{AllocError, Global};
 /// The names that come along with these where they are pulled from a branch: these, and each on which
 /// bringing them to the front of the branch sticks. They are told in the order of the branch.
 pub fn needs(state: &State, branch: &Name, names: &[Name]) -> Result<Names, Unanswered>
-    ensures { Tells (AreNeeded state.now branch.now names.now) result }
+    ensures exact { Tells (AreNeeded state.now branch.now names.now) result }
 {
     let branch = branch_with(state, branch, names)?;
     let named = set_of(branch.catches().allocator(), names)?;
@@ -28,7 +28,7 @@ pub fn needs(state: &State, branch: &Name, names: &[Name]) -> Result<Names, Unan
 /// The names that must go with these where they are taken out of a branch: these, and each of a patch
 /// that depends on one of them. They are told in the order of the branch.
 pub fn held_by(state: &State, branch: &Name, names: &[Name]) -> Result<Names, Unanswered>
-    ensures { Tells (AreHeldBy state.now branch.now names.now) result }
+    ensures exact { Tells (AreHeldBy state.now branch.now names.now) result }
 {
     let branch = branch_with(state, branch, names)?;
     let named = set_of(branch.catches().allocator(), names)?;

@@ -9,7 +9,7 @@ use camp_repo::{Names, State};
 /// The names of the patches that the branch `from` has and `to` lacks, in the order of `from`. These
 /// are what a pull without names would bring.
 pub fn missing(state: &State, from: &Name, to: &Name) -> Result<Names, Unanswered>
-    ensures { Tells (IsMissing state.now from.now to.now) result }
+    ensures exact { Tells (IsMissing state.now from.now to.now) result }
 {
     let theirs = branch_of(state, from)?;
     let ours = branch_of(state, to)?;

@@ -10,7 +10,7 @@ use std::fmt::Write;
 /// A graph in DOT, which Graphviz draws: an arrow leads from a patch to each that it needs directly,
 /// and a dashed line joins two that are in conflict.
 pub fn graph_text(alloc: Global, graph: &PatchGraph) -> Result<String, AllocError>
-    ensures { IfOk result (λ text. string_bytes text ≡ graph_text graph.now) }
+    ensures exact { IfOk result (λ text. string_bytes text ≡ graph_text graph.now) }
 {
     let mut text = String::new(alloc);
     text.push_str("digraph {\n")?;

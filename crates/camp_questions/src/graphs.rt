@@ -1,7 +1,7 @@
-ghost use Rattle.std.specs.Prelude.{◌≡◌, ◌&&◌, ℕ, List, IfOk, map};
+ghost use Rattle.std.specs.Prelude.{◌≡◌, ℕ, List, IfOk, filter, map, not};
 ghost use Rattle.camp_branch.specs.Fields.{names_in};
 ghost use Rattle.camp_questions.specs.Answers.{Tells};
-ghost use Rattle.camp_questions.specs.Graphs.{IsGraphOf, NeedsThese, goes_between, needs_directly, needs_other, node_of};
+ghost use Rattle.camp_questions.specs.Graphs.{IsGraphOf, NeedsThese, goes_between, needs_other, node_of};
 ghost use Rattle.camp_questions.specs.Inside.Graphing.{NeedEach, needing};
 
 use crate::Unanswered;
@@ -47,14 +47,14 @@ impl Model for PatchGraph {
 impl PatchGraph {
     /// The patches, in the order of the branch.
     pub fn patches(&self) -> &[Node]
-        ensures { result.now ≡ self.now.patches }
+        ensures value { result.now ≡ self.now.patches }
     {
         &self.patches
     }
 
     /// The pairs of patches that are in conflict.
     pub fn conflicts(&self) -> &Conflicts
-        ensures { result.now ≡ self.now.conflicts }
+        ensures value { result.now ≡ self.now.conflicts }
     {
         &self.conflicts
     }
@@ -62,7 +62,7 @@ impl PatchGraph {
 
 /// The patches of a branch in its order, what each needs directly, and which are in conflict.
 pub fn graph(state: &State, branch: &Name) -> Result<PatchGraph, Unanswered>
-    ensures { Tells (IsGraphOf state.now branch.now) result }
+    ensures exact { Tells (IsGraphOf state.now branch.now) result }
 {
     let branch = branch_of(state, branch)?;
     let names = branch.names()?;
@@ -109,37 +109,31 @@ fn nodes(branch: &Branch, all: &[Needed]) -> Result<Vec<Node>, AllocError>
     Ok(nodes)
 }
 
+/// A patch with what it needs directly: all that it needs, without what others need that it needs. The
+/// last of these are looked at first, since mostly they leave little of what stands before them.
 fn node_of(branch: &Branch, all: &[Needed], patch: &Needed) -> Result<Node, AllocError>
     ensures { IfOk result (λ node. node ≡ node_of branch.now (map needing all.now) (needing patch.now)) }
 {
     let mut names = branch.names()?;
-    names.retain(|name| needs_directly(all, patch, name));
+    names.retain(|name| needs_other(patch, name));
+    let mut left = all.len();
+    while left > 0 {
+        left -= 1;
+        leave_out(&mut names, patch, &all[left]);
+    }
     Ok(Node {
         name: patch.name,
         needs: Names::new(names),
     })
 }
 
-/// Whether a patch needs another one, and no other one that it needs does.
-fn needs_directly(all: &[Needed], patch: &Needed, name: &Name) -> bool
-    ensures { result ≡ needs_directly (map needing all.now) (needing patch.now) name.now }
+/// Leaves out what another one that a patch needs needs.
+fn leave_out(names: &mut Vec<Name>, patch: &Needed, other: &Needed)
+    ensures { names.new.items ≡ filter (λ name. not (goes_between (needing patch.now) name (needing other.now))) names.old.items }
 {
-    if !needs_other(patch, name) {
-        return false;
+    if needs_other(patch, &other.name) {
+        names.retain(|name| !needs_other(other, name));
     }
-    for other in all {
-        if goes_between(patch, name, other) {
-            return false;
-        }
-    }
-    true
-}
-
-/// Whether another one that a patch needs needs this one.
-fn goes_between(patch: &Needed, name: &Name, other: &Needed) -> bool
-    ensures { result ≡ goes_between (needing patch.now) name.now (needing other.now) }
-{
-    needs_other(patch, &other.name) && needs_other(other, name)
 }
 
 /// Whether a patch needs another one.

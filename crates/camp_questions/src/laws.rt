@@ -3,55 +3,55 @@ ghost use Rattle.camp_questions.specs.Laws.{ArrowsAreDirectNeeds, HeldCanGo, Hel
 /// A pull without names that is accepted brings what is missing, in this order; where nothing is
 /// missing, it is refused as having nothing to do.
 pub fn missing_is_pulled()
-    ensures { MissingIsPulled }
+    ensures law { MissingIsPulled }
 {}
 
 /// What some patches need comes to the front of their branch, has the patches, and each other one of
 /// it was met by a part of it that stuck.
 pub fn needs_come_first()
-    ensures { NeedsComeFirst }
+    ensures law { NeedsComeFirst }
 {}
 
 /// Where all catches of a branch are plain and have room, what some patches need is the least that has
 /// them and comes to the front of the branch.
 pub fn needs_are_least()
-    ensures { NeedsAreLeast }
+    ensures law { NeedsAreLeast }
 {}
 
 /// Patches need exactly one list of names.
 pub fn needs_are_determined()
-    ensures { NeedsAreDetermined }
+    ensures law { NeedsAreDetermined }
 {}
 
 /// An obliteration of what is held by some patches is accepted; it has the patches, and each other one
 /// of it depends on a part of it.
 pub fn held_can_go()
-    ensures { HeldCanGo }
+    ensures law { HeldCanGo }
 {}
 
 /// What is held by patches is exactly one list of names.
 pub fn held_is_determined()
-    ensures { HeldIsDetermined }
+    ensures law { HeldIsDetermined }
 {}
 
 /// Each line of a file of a branch has a name, which is that of one of its patches; and where a hunk is
 /// undone, all lines have the names that they had.
 pub fn lines_have_names()
-    ensures { LinesHaveNames }
+    ensures law { LinesHaveNames }
 {}
 
 /// A patch is shown, in the state after its record, with the changes that were recorded.
 pub fn recorded_is_shown()
-    ensures { RecordedIsShown }
+    ensures law { RecordedIsShown }
 {}
 
 /// The arrows of a graph lead from each patch to just those that it needs directly.
 pub fn arrows_are_direct_needs()
-    ensures { ArrowsAreDirectNeeds }
+    ensures law { ArrowsAreDirectNeeds }
 {}
 
 /// In the graph of a lawful branch, where all catches are plain and have room, what a patch needs is
 /// what is reached from it along the arrows.
 pub fn needs_are_reached()
-    ensures { NeedsAreReached }
+    ensures law { NeedsAreReached }
 {}

@@ -10,7 +10,6 @@ mod foresight;
 mod graph_texts;
 mod graphs;
 mod laws;
-mod primitive_keys;
 mod showing;
 mod walks;
 

@@ -36,21 +36,21 @@ impl Model for Shown {
 impl Shown {
     /// Its catches, which are shared with the branch.
     pub fn catches(&self) -> &[Shared<Catch>]
-        ensures { result.now ≡ self.now.catches }
+        ensures value { result.now ≡ self.now.catches }
     {
         &self.catches
     }
 
     /// What they change, as a script has changes: each effect, one change after the other.
     pub fn changes(&self) -> &[Primitive]
-        ensures { result.now ≡ self.now.changes }
+        ensures value { result.now ≡ self.now.changes }
     {
         &self.changes
     }
 
     /// What they change, given away.
     pub fn into_changes(self) -> Vec<Primitive>
-        ensures { result.items ≡ self.changes }
+        ensures value { result.items ≡ self.changes }
     {
         let Shown { changes, .. } = self;
         changes
@@ -60,7 +60,7 @@ impl Shown {
 /// A patch as it stands in a branch. Its catches and the lines of its changes are shared with the
 /// branch.
 pub fn show(state: &State, branch: &Name, name: &Name) -> Result<Shown, Unanswered>
-    ensures { Tells (IsShown state.now branch.now name.now) result }
+    ensures exact { Tells (IsShown state.now branch.now name.now) result }
 {
     let branch = branch_with(state, branch, slice::from_ref(name))?;
     let catches = catches_named(branch.catches(), name)?;

@@ -1,17 +1,17 @@
-ghost use Rattle.std.specs.Prelude.{◌≡◌, ℕ, List, IfOk};
-ghost use Rattle.std.specs.FinMap.{get};
+ghost use Rattle.std.specs.Prelude.{◌≡◌, ℕ, List, IfOk, OnOk};
+ghost use Rattle.std.specs.FinMap.{get, insert};
 ghost use Rattle.camp_base.specs.Trees.{Files};
 ghost use Rattle.camp_prim.specs.Labels.{key_of, label_of};
 ghost use Rattle.camp_branch.specs.Branches.{LeadsTo};
 ghost use Rattle.camp_questions.specs.Annotations.{behind_all, behind_change, behind_hunk, names_coming, names_of_lines, nothing_known};
-ghost use Rattle.camp_questions.specs.Inside.Walking.{AppliesOn, FollowsOn, StandsWithin, known_in};
+ghost use Rattle.camp_questions.specs.Inside.Walking.{AppliesOn, FollowsOn, StandsWithin, kept_in, known_in};
 
-use crate::primitive_keys::PrimitiveKey;
 use camp_base::{Name, Path};
 use camp_catch::Catch;
 use camp_prim::{Hunk, Key, Named, Primitive};
-use camp_share::{Shared, SharedList, SharedMap};
+use camp_share::{Shared, SharedList};
 use std::alloc::{AllocError, Global};
+use std::collections::BTreeMap;
 
 /// Of each line of the file of a path the name of the patch that put it there.
 pub(crate) fn names_of_lines(
@@ -33,7 +33,7 @@ pub(crate) fn names_of_lines(
 #[derive(Drop)]
 struct Walk {
     names: SharedList<Name>,
-    taken: SharedMap<PrimitiveKey, Shared<SharedList<Name>>>,
+    taken: BTreeMap<Key, SharedList<Name>>,
 }
 
 impl Walk {
@@ -42,7 +42,7 @@ impl Walk {
     {
         Walk {
             names: SharedList::new(alloc),
-            taken: SharedMap::new(alloc),
+            taken: BTreeMap::new(alloc),
         }
     }
 
@@ -78,36 +78,48 @@ impl Walk {
         }
     }
 
-    // What is known behind a hunk of the file. It costs what the hunk changes, and a count for each
-    // part of the lists.
-    fn behind_hunk(&self, name: &Name, key: Key, hunk: &Hunk) -> Result<Walk, AllocError>
-        requires { StandsWithin hunk.now (known_in self.now) }
-        ensures { IfOk result (λ walk. known_in walk ≡ behind_hunk name.now key hunk.now (known_in self.now)) }
+    // What is known behind a hunk of the file. It costs what the hunk changes, a search among the hunks
+    // before it, and a count for each part of the list.
+    fn behind_hunk(self, name: &Name, key: Key, hunk: &Hunk) -> Result<Walk, AllocError>
+        requires { StandsWithin hunk.now (known_in self) }
+        ensures { IfOk result (λ walk. known_in walk ≡ behind_hunk name.now key hunk.now (known_in self)) }
     {
-        let key = PrimitiveKey::new(key);
+        let Walk { names, mut taken } = self;
+        let alloc = names.allocator();
         let from = hunk.line() as usize - 1;
         let to = from + hunk.old().len();
-        let coming = self.names_coming(name, &key, hunk.new().len())?;
-        let gone = self.names.copied(from, to)?;
-        let names = self.names.spliced(from, to, &coming)?;
-        let gone = Shared::new(self.names.allocator(), gone)?;
-        let taken = self.taken.inserted(key, gone)?;
+        let gone = names.copied(from, to)?;
+        let before = keep(&mut taken, key, gone)?;
+        let coming = names_coming(alloc, before, name, hunk.new().len())?;
+        let names = names.spliced(from, to, &coming)?;
         Ok(Walk { names, taken })
     }
+}
 
-    // The names of so many lines that come with a primitive of a patch.
-    fn names_coming(
-        &self,
-        name: &Name,
-        key: &PrimitiveKey,
-        count: usize,
-    ) -> Result<Vec<Name>, AllocError>
-        ensures { IfOk result (λ names.
-            names.items ≡ names_coming (get (known_in self.now).taken key.now) name.now count) }
-    {
-        match self.taken.get(key) {
-            Some(taken) if taken.len() == count => taken.to_vec(),
-            _ => vec![in self.names.allocator(); *name; count],
-        }
+// Keeps names under a key, and gives those that were kept there.
+fn keep(
+    taken: &mut BTreeMap<Key, SharedList<Name>>,
+    key: Key,
+    names: SharedList<Name>,
+) -> Result<Option<SharedList<Name>>, AllocError>
+    ensures before { IfOk result (λ before. before ≡ get (kept_in taken.old) key) }
+    ensures after { OnOk result (kept_in taken.new ≡ insert (kept_in taken.old) key names) }
+{
+    let before = taken.insert(key, names)?;
+    Ok(before)
+}
+
+// The names of so many lines that come with a primitive of a patch.
+fn names_coming(
+    alloc: Global,
+    taken: Option<SharedList<Name>>,
+    name: &Name,
+    count: usize,
+) -> Result<Vec<Name>, AllocError>
+    ensures { IfOk result (λ names. names.items ≡ names_coming taken name.now count) }
+{
+    match taken {
+        Some(taken) if taken.len() == count => taken.to_vec(),
+        _ => vec![in alloc; *name; count],
     }
 }

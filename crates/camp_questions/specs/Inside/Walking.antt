@@ -1,20 +1,25 @@
 -- What is known on a walk along effects, and where they may go on.
 use Rattle.std.specs.Prelude.{◌≡◌, ◌≤◌, ℕ, ◌+◌, ◌-◌, List, [], length, Option, None, Some}
-use Rattle.std.specs.FinMap.{get}
+use Rattle.std.specs.BTreeMap.{BTreeMap}
+use Rattle.std.specs.FinMap.{FinMap, from_entries, get}
 use Rattle.camp_base.specs.Trees.{Files, Lines}
 use Rattle.camp_prim.specs.Effect.{Applies}
 use Rattle.camp_prim.specs.Hunks.{Edit}
 use Rattle.camp_prim.specs.Labels.{key_cmp}
+use Rattle.camp_prim.specs.declared.labels.Key.{Key}
 use Rattle.camp_prim.specs.declared.named.Named.{Named}
 use Rattle.camp_prim.specs.declared.primitives.Primitive.{Primitive}
 use Rattle.camp_seq.specs.Running.{AppliesAll}
-use Rattle.camp_share.specs.Maps.{map_of}
 use Rattle.camp_questions.specs.Annotations.{Known}
 use Rattle.camp_questions.specs.declared.walks.Walk.{Walk}
 
+-- the names that are kept under the absolute labels of hunks
+abbrev pub kept_in : BTreeMap Key (List (List ℕ)) → FinMap key_cmp (List (List ℕ))
+kept_in taken = from_entries taken.entries
+
 -- what is known on a walk
 abbrev pub known_in : Walk → Known
-known_in walk = record { names = walk.names; taken = map_of key_cmp walk.taken }
+known_in walk = record { names = walk.names; taken = kept_in walk.taken }
 
 -- the lines that a hunk takes away are among those that are known
 abbrev pub StandsWithin : Edit → Known → Type 0

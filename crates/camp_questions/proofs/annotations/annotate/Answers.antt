@@ -10,7 +10,7 @@ use Rattle.camp_questions.proofs.annotations.annotate.Goals as goal
 pub returns-in_default : goal.returns-in_default
 returns-in_default c =
     let branch : List Catch = c.in_ok-branch.branch.now in
-    are_annotated c.args.state.now c.args.branch.now c.args.path.now branch c.tree.result.now _ c.in_ok-branch.ensures c.tree.ensures (sym (ap (λ o. annotated o (names_of_lines c.args.path.now branch)) c.in_default.ensures))
+    record { exact = are_annotated c.args.state.now c.args.branch.now c.args.path.now branch c.tree.result.now _ c.in_ok-branch.ensures c.tree.ensures (sym (ap (λ o. annotated o (names_of_lines c.args.path.now branch)) c.in_default.ensures)) }
 
 pub names_of_lines-requires : goal.names_of_lines-requires
 names_of_lines-requires c =
@@ -20,20 +20,26 @@ pub returns-in_err-names : goal.returns-in_err-names
 returns-in_err-names c =
     let branch : List Catch = c.in_ok-branch.branch.now in
     let told = annotated (get c.tree.result.now c.args.path.now) (names_of_lines c.args.path.now branch) in
-    memory_told (AreAnnotated c.args.state.now c.args.branch.now c.args.path.now) c.from_residual-in_err-names.result told c.from_residual-in_err-names.ensures.1
-    (are_annotated c.args.state.now c.args.branch.now c.args.path.now branch c.tree.result.now told c.in_ok-branch.ensures c.tree.ensures refl)
+    record {
+      exact = memory_told (AreAnnotated c.args.state.now c.args.branch.now c.args.path.now) c.from_residual-in_err-names.result told c.from_residual-in_err-names.ensures.1
+          (are_annotated c.args.state.now c.args.branch.now c.args.path.now branch c.tree.result.now told c.in_ok-branch.ensures c.tree.ensures refl);
+    }
 
 pub returns-in_err-lines : goal.returns-in_err-lines
 returns-in_err-lines c =
     let branch : List Catch = c.in_ok-branch.branch.now in
     let told = annotated (get c.tree.result.now c.args.path.now) (names_of_lines c.args.path.now branch) in
-    memory_told (AreAnnotated c.args.state.now c.args.branch.now c.args.path.now) c.from_residual-in_err-lines.result told c.from_residual-in_err-lines.ensures.1
-    (are_annotated c.args.state.now c.args.branch.now c.args.path.now branch c.tree.result.now told c.in_ok-branch.ensures c.tree.ensures refl)
+    record {
+      exact = memory_told (AreAnnotated c.args.state.now c.args.branch.now c.args.path.now) c.from_residual-in_err-lines.result told c.from_residual-in_err-lines.ensures.1
+          (are_annotated c.args.state.now c.args.branch.now c.args.path.now branch c.tree.result.now told c.in_ok-branch.ensures c.tree.ensures refl);
+    }
 
 pub returns : goal.returns
 returns c =
     let branch : List Catch = c.in_ok-branch.branch.now in
     let names = c.in_ok-names.ensures ∙ ap (names_of_lines c.args.path.now) c.catches.ensures.value in
     let lines = c.in_ok-lines.ensures in
-    are_annotated c.args.state.now c.args.branch.now c.args.path.now branch c.tree.result.now _ c.in_ok-branch.ensures c.tree.ensures
-    ((λ i. File (lines i) (names i)) ∙ sym (ap (λ o. annotated o (names_of_lines c.args.path.now branch)) c.in-Some.ensures))
+    record {
+      exact = are_annotated c.args.state.now c.args.branch.now c.args.path.now branch c.tree.result.now _ c.in_ok-branch.ensures c.tree.ensures
+          ((λ i. File (lines i) (names i)) ∙ sym (ap (λ o. annotated o (names_of_lines c.args.path.now branch)) c.in-Some.ensures));
+    }

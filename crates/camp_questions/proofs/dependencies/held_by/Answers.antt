@@ -12,26 +12,32 @@ pub returns-in_err-named : goal.returns-in_err-named
 returns-in_err-named c =
     let branch : List Catch = c.in_ok-branch.branch.now in
     let one = held_is_determined branch c.args.names.now in
-    memory_told (AreHeldBy c.args.state.now c.args.branch.now c.args.names.now) c.from_residual-in_err-named.result one.0 c.from_residual-in_err-named.ensures.1
-    (are_related HeldBy c.args.state.now c.args.branch.now c.args.names.now branch one.0 c.in_ok-branch.ensures one.1)
+    record {
+      exact = memory_told (AreHeldBy c.args.state.now c.args.branch.now c.args.names.now) c.from_residual-in_err-named.result one.0 c.from_residual-in_err-named.ensures.1
+          (are_related HeldBy c.args.state.now c.args.branch.now c.args.names.now branch one.0 c.in_ok-branch.ensures one.1);
+    }
 
 pub returns-in_err-held : goal.returns-in_err-held
 returns-in_err-held c =
     let branch : List Catch = c.in_ok-branch.branch.now in
     let one = held_is_determined branch c.args.names.now in
-    memory_told (AreHeldBy c.args.state.now c.args.branch.now c.args.names.now) c.from_residual-in_err-held.result one.0 c.from_residual-in_err-held.ensures.1
-    (are_related HeldBy c.args.state.now c.args.branch.now c.args.names.now branch one.0 c.in_ok-branch.ensures one.1)
+    record {
+      exact = memory_told (AreHeldBy c.args.state.now c.args.branch.now c.args.names.now) c.from_residual-in_err-held.result one.0 c.from_residual-in_err-held.ensures.1
+          (are_related HeldBy c.args.state.now c.args.branch.now c.args.names.now branch one.0 c.in_ok-branch.ensures one.1);
+    }
 
 pub returns-in_err-in_order : goal.returns-in_err-in_order
 returns-in_err-in_order c =
     let branch : List Catch = c.in_ok-branch.branch.now in
     let one = held_is_determined branch c.args.names.now in
-    memory_told (AreHeldBy c.args.state.now c.args.branch.now c.args.names.now) c.from_residual-in_err-in_order.result one.0 c.from_residual-in_err-in_order.ensures.1
-    (are_related HeldBy c.args.state.now c.args.branch.now c.args.names.now branch one.0 c.in_ok-branch.ensures one.1)
+    record {
+      exact = memory_told (AreHeldBy c.args.state.now c.args.branch.now c.args.names.now) c.from_residual-in_err-in_order.result one.0 c.from_residual-in_err-in_order.ensures.1
+          (are_related HeldBy c.args.state.now c.args.branch.now c.args.names.now branch one.0 c.in_ok-branch.ensures one.1);
+    }
 
 pub returns : goal.returns
 returns c =
     let branch : List Catch = c.in_ok-branch.branch.now in
     let told = c.in_ok-in_order.field-0 in
     let grown = grown_in_order (map name_of branch) (CanGo branch) (AreHeldIn branch) (to_go branch) branch c.args.names.now (names_in c.in_ok-named.named) (names_in c.in_ok-held.held) told c.in_ok-named.ensures c.in_ok-held.ensures c.in_ok-in_order.ensures in
-    are_related HeldBy c.args.state.now c.args.branch.now c.args.names.now branch told c.in_ok-branch.ensures grown
+    record { exact = are_related HeldBy c.args.state.now c.args.branch.now c.args.names.now branch told c.in_ok-branch.ensures grown }

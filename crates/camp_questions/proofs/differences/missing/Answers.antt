@@ -10,10 +10,10 @@ pub returns-in_err-names : goal.returns-in_err-names
 returns-in_err-names c =
     let state = c.args.state.now in
     let there = are_missing state c.args.from.now c.args.to.now c.in_ok-theirs.theirs.now c.in_ok-ours.ours.now (missing_in c.in_ok-ours.ours.now c.in_ok-theirs.theirs.now) c.in_ok-theirs.ensures c.in_ok-ours.ensures refl in
-    memory_told (IsMissing state c.args.from.now c.args.to.now) c.from_residual-in_err-names.result (missing_in c.in_ok-ours.ours.now c.in_ok-theirs.theirs.now) c.from_residual-in_err-names.ensures.1 there
+    record { exact = memory_told (IsMissing state c.args.from.now c.args.to.now) c.from_residual-in_err-names.result (missing_in c.in_ok-ours.ours.now c.in_ok-theirs.theirs.now) c.from_residual-in_err-names.ensures.1 there }
 
 pub returns : goal.returns
 returns c =
     let test : List ℕ → Bool = λ name. not (has_patch c.in_ok-ours.ours.now name) in
     let kept = filter_same _ test _ (λ x b f' k. search rules) _ _ c.retain.ensures.filtered in
-    are_missing c.args.state.now c.args.from.now c.args.to.now c.in_ok-theirs.theirs.now c.in_ok-ours.ours.now c.new.result c.in_ok-theirs.ensures c.in_ok-ours.ensures (c.new.ensures.exact ∙ kept ∙ ap (filter test) c.in_ok-names.ensures)
+    record { exact = are_missing c.args.state.now c.args.from.now c.args.to.now c.in_ok-theirs.theirs.now c.in_ok-ours.ours.now c.new.result c.in_ok-theirs.ensures c.in_ok-ours.ensures (c.new.ensures.exact ∙ kept ∙ ap (filter test) c.in_ok-names.ensures) }

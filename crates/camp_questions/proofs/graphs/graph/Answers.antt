@@ -9,31 +9,41 @@ use Rattle.camp_questions.proofs.graphs.graph.Goals as goal
 pub returns-in_err-names : goal.returns-in_err-names
 returns-in_err-names c =
     let branch : List Catch = c.in_ok-branch.branch.now in
-    memory_told (IsGraphOf c.args.state.now c.args.branch.now) c.from_residual-in_err-names.result (drawn_in branch) c.from_residual-in_err-names.ensures.1
-    (is_graph_of c.args.state.now c.args.branch.now branch (drawn_in branch) c.in_ok-branch.ensures (is_drawn branch))
+    record {
+      exact = memory_told (IsGraphOf c.args.state.now c.args.branch.now) c.from_residual-in_err-names.result (drawn_in branch) c.from_residual-in_err-names.ensures.1
+          (is_graph_of c.args.state.now c.args.branch.now branch (drawn_in branch) c.in_ok-branch.ensures (is_drawn branch));
+    }
 
 pub returns-in_err-all : goal.returns-in_err-all
 returns-in_err-all c =
     let branch : List Catch = c.in_ok-branch.branch.now in
-    memory_told (IsGraphOf c.args.state.now c.args.branch.now) c.from_residual-in_err-all.result (drawn_in branch) c.from_residual-in_err-all.ensures.1
-    (is_graph_of c.args.state.now c.args.branch.now branch (drawn_in branch) c.in_ok-branch.ensures (is_drawn branch))
+    record {
+      exact = memory_told (IsGraphOf c.args.state.now c.args.branch.now) c.from_residual-in_err-all.result (drawn_in branch) c.from_residual-in_err-all.ensures.1
+          (is_graph_of c.args.state.now c.args.branch.now branch (drawn_in branch) c.in_ok-branch.ensures (is_drawn branch));
+    }
 
 pub returns-in_err-patches : goal.returns-in_err-patches
 returns-in_err-patches c =
     let branch : List Catch = c.in_ok-branch.branch.now in
-    memory_told (IsGraphOf c.args.state.now c.args.branch.now) c.from_residual-in_err-patches.result (drawn_in branch) c.from_residual-in_err-patches.ensures.1
-    (is_graph_of c.args.state.now c.args.branch.now branch (drawn_in branch) c.in_ok-branch.ensures (is_drawn branch))
+    record {
+      exact = memory_told (IsGraphOf c.args.state.now c.args.branch.now) c.from_residual-in_err-patches.result (drawn_in branch) c.from_residual-in_err-patches.ensures.1
+          (is_graph_of c.args.state.now c.args.branch.now branch (drawn_in branch) c.in_ok-branch.ensures (is_drawn branch));
+    }
 
 pub returns-in_err-pairs : goal.returns-in_err-pairs
 returns-in_err-pairs c =
     let branch : List Catch = c.in_ok-branch.branch.now in
-    memory_told (IsGraphOf c.args.state.now c.args.branch.now) c.from_residual-in_err-pairs.result (drawn_in branch) c.from_residual-in_err-pairs.ensures.1
-    (is_graph_of c.args.state.now c.args.branch.now branch (drawn_in branch) c.in_ok-branch.ensures (is_drawn branch))
+    record {
+      exact = memory_told (IsGraphOf c.args.state.now c.args.branch.now) c.from_residual-in_err-pairs.result (drawn_in branch) c.from_residual-in_err-pairs.ensures.1
+          (is_graph_of c.args.state.now c.args.branch.now branch (drawn_in branch) c.in_ok-branch.ensures (is_drawn branch));
+    }
 
 pub returns : goal.returns
 returns c =
     let branch : List Catch = c.in_ok-branch.branch.now in
     let each = subst (λ names. NeedEach branch names c.in_ok-all.all.items) c.deref.ensures.value c.in_ok-all.ensures in
     let nodes = c.in_ok-patches.ensures ∙ ap (λ all. map (node_of branch (map needing all)) (map needing all)) c.deref-2.ensures.value in
-    is_graph_of c.args.state.now c.args.branch.now branch _ c.in_ok-branch.ensures
-    (graph_of_nodes branch c.in_ok-names.names.items c.in_ok-all.all.items c.in_ok-patches.patches.items c.in_ok-pairs.pairs.items c.new.result c.in_ok-names.ensures each nodes c.in_ok-pairs.ensures c.new.ensures.exact)
+    record {
+      exact = is_graph_of c.args.state.now c.args.branch.now branch _ c.in_ok-branch.ensures
+          (graph_of_nodes branch c.in_ok-names.names.items c.in_ok-all.all.items c.in_ok-patches.patches.items c.in_ok-pairs.pairs.items c.new.result c.in_ok-names.ensures each nodes c.in_ok-pairs.ensures c.new.ensures.exact);
+    }

@@ -1,12 +1,28 @@
-use Rattle.std.proofs.Common.{rules, ◌∙◌, ap, filter, map}
+use Rattle.std.proofs.Common.{rules, ◌≡◌, ◌-◌, ◌∙◌, ap, arith, drop, filter, length, map, refl}
 use Rattle.std.proofs.lemmas.Fn.{filter_same}
-use Rattle.camp_questions.specs.Graphs.{needs_directly}
+use Rattle.camp_branch.specs.Branches.{names_of}
+use Rattle.camp_questions.specs.Graphs.{needs_other}
 use Rattle.camp_questions.specs.Inside.Graphing.{needing}
+use Rattle.camp_questions.proofs.GraphSteps.{left_at_first, needs_past, one_left_out}
 use Rattle.camp_questions.proofs.graphs.node_of.Goals as goal
+
+pub loop-left-init : goal.loop-left-init
+loop-left-init c =
+    let patch = needing c.args.patch.now in
+    let kept = filter_same _ (needs_other patch) _ (λ x b f' k. search rules) _ _ c.retain.ensures.filtered in
+    record {
+      within = omega arith;
+      names = left_at_first patch c.args.all.now (length c.args.all.now) (names_of c.args.branch.now) c.retain.new.self.items refl (kept ∙ ap (filter (needs_other patch)) c.in_ok-names.ensures);
+    }
+
+pub loop-left-preserved : goal.loop-left-preserved
+loop-left-preserved c = record {
+  within = omega (arith, c.loop-left.invariant.within);
+  names = one_left_out (needing c.args.patch.now) c.args.all.now c.loop-left.left (c.loop-left.left - 1) c.index-all-left.result c.index-all-left.result (names_of c.args.branch.now) c.loop-left.names.items c.leave_out.new.names.items (omega (arith, c.loop-left-test.true)) (omega (arith, c.loop-left.invariant.within, c.loop-left-test.true)) c.index-all-left.is c.loop-left.invariant.names c.leave_out.ensures;
+}
 
 pub returns : goal.returns
 returns c =
-    let test = needs_directly (map needing c.args.all.now) (needing c.args.patch.now) in
-    let kept = filter_same _ test _ (λ x b f' k. search rules) _ _ c.retain.ensures.filtered in
-    let names = c.new.ensures.exact ∙ kept ∙ ap (filter test) c.in_ok-names.ensures in
+    let none : c.loop-left.left ≡ 0 = omega (arith, c.loop-left-test.false) in
+    let names = c.new.ensures.exact ∙ c.loop-left.invariant.names ∙ ap (λ n. filter (needs_past (needing c.args.patch.now) (map needing (drop n c.args.all.now))) (names_of c.args.branch.now)) none in
     λ i. record { name = c.args.patch.now.name; needs = names i }

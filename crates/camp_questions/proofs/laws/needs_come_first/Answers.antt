@@ -2,4 +2,4 @@ use Rattle.camp_questions.proofs.BranchGrowths.{needs_come_first as the_law}
 use Rattle.camp_questions.proofs.laws.needs_come_first.Goals as goal
 
 pub returns : goal.returns
-returns c = the_law
+returns c = record { law = the_law }

@@ -6,8 +6,8 @@ use Rattle.camp_talk.proofs.told_names.tell_held.Goals as goal
 
 pub returns-in-Ok : goal.returns-in-Ok
 returns-in-Ok c =
-    answer_told (names_told (codes "held")) (AreHeldBy c.args.state.now c.args.branch.now c.args.names.now) c.in-Ok.held c.tell_names.result c.in-Ok.ensures c.tell_names.ensures
+    answer_told (names_told (codes "held")) (AreHeldBy c.args.state.now c.args.branch.now c.args.names.now) c.in-Ok.held c.tell_names.result c.in-Ok.ensures.exact c.tell_names.ensures
 
 pub returns-in-Err : goal.returns-in-Err
 returns-in-Err c =
-    refusal_told (names_told (codes "held")) (AreHeldBy c.args.state.now c.args.branch.now c.args.names.now) c.in-Err.why c.unanswered.result c.in-Err.ensures c.unanswered.ensures
+    refusal_told (names_told (codes "held")) (AreHeldBy c.args.state.now c.args.branch.now c.args.names.now) c.in-Err.why c.unanswered.result c.in-Err.ensures.exact c.unanswered.ensures
