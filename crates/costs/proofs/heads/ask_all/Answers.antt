@@ -6,6 +6,6 @@ use Rattle.costs.proofs.heads.ask_all.Goals as goal
 
 pub shared_answers-requires-clause-writing : goal.shared_answers-requires-clause-writing
 shared_answers-requires-clause-writing g c lifetimes outlive =
-    lent_within c.sections.result.now
-    (subst (AllByRecursion (λ section. count_by is_writing section ≤ 65_536)) (sym c.sections.ensures.value)
-    c.sections.ensures.limits.writes_within)
+    lent_within c.sections-sections.result.now
+    (subst (AllByRecursion (λ section. count_by is_writing section ≤ 65_536)) (sym c.sections-sections.ensures.value)
+    c.sections-sections.ensures.limits.writes_within)
