@@ -7,10 +7,12 @@
 //! | `lists N` | those in which two lists of N patches are merged, of which each conflicts with one of the other list |
 //! | `calls` | those in which a book answers each section of the script |
 //! | `book`, `lock`, `head` | those of a run of the script in one thread, in threads over a lock, or over a head; how many calls were done and how many were busy, and how many exchanges were lost |
+//! | `head 8` | those in which a head with a version for each 8 calls, 0 to 4,096 and none for 0, answers the script, with its reading and without the text of its answers |
 //! | `list 640 push` | nothing: makes a list, tree, file, patch or state of a size, and takes one operation on it, or `none`. What the operation allocates is the difference of two runs |
 #![tactic(auto)]
 
 mod calls;
+mod heads;
 mod hunks;
 mod lists;
 mod merges;
@@ -49,6 +51,9 @@ fn measure<R: Threads + Wait + Sync>(
     let mut words = str::from_utf8(line)?.split_whitespace();
     match (words.next(), words.next(), words.next()) {
         (Some(way), None, _) => measure_script(rt, threads, way, script),
+        (Some("head"), Some(every), None) => {
+            heads::measure(rt, threads, every.parse::<u32>()?, script)
+        }
         (Some(what), Some(count), None) => merges::measure(rt, what, count.parse::<u32>()?),
         (Some(value), Some(size), Some(operation)) => {
             operate(rt.alloc(), value, size.parse::<u32>()?, operation)?;

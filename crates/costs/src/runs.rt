@@ -7,7 +7,7 @@ use std::thread::Threads;
 use std::time::Instant;
 
 /// The most exchanges that a call tries.
-const TRIES: u32 = 1_000;
+pub(crate) const TRIES: u32 = 1_000;
 
 /// How a script is run.
 #[derive(Clone, Copy)]
@@ -19,8 +19,8 @@ pub(crate) enum Way {
 
 /// Counts the exchanges that are tried.
 #[derive(Drop)]
-struct Counter {
-    exchanges: AtomicU64,
+pub(crate) struct Counter {
+    pub(crate) exchanges: AtomicU64,
 }
 
 impl Gate for Counter {
