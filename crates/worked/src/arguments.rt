@@ -1,208 +1,270 @@
-use crate::numbers::Numbers;
-use crate::places::Places;
-use crate::splits::split;
+use crate::numbers::{Numbers, numbers_text, read_number, read_numbers};
+use crate::places::{Places, places_text, read_places};
 use crate::tables::Table;
-use crate::values::{Kind, Value};
 use camp_base::{Name, Path, Tree};
 use camp_catch::Catch;
 use camp_ctx::{Contexted, CtxSet};
-use camp_notation::NotationError;
-use camp_prim::{Key, Label, Lines, Named};
+use camp_notation::{
+    NotationError, catch_text, catches_text, contexted_text, label_text, lines_text, list_text,
+    named_text, read_catch, read_catches, read_contexted, read_label, read_lines, read_list,
+    read_named, read_set, read_tree, read_word, set_text, tree_text, word_text,
+};
+use camp_prim::{Label, Lines, Named};
 use camp_seq::Seq;
 use camp_share::Shared;
-use std::alloc::Global;
+use std::alloc::AllocError;
 
-/// The arguments of a call: the text of each, and what was read from it.
-#[derive(Drop)]
-pub(crate) struct Arguments<'a> {
-    table: &'a Table,
-    texts: Vec<&'a [u8]>,
-    values: Vec<Value>,
+/// An argument of a call: a value that is read from its text, and written again.
+pub(crate) trait Argument: Drop {
+    /// The value of a text. A list or a tree may be called by its name.
+    fn read(table: &Table, text: &[u8]) -> Result<Self, NotationError>;
+
+    /// The text of the value.
+    fn text(&self, table: &Table) -> Result<String, AllocError>;
 }
 
-impl<'a> Arguments<'a> {
-    /// The arguments of a text, which are of these kinds and may name what stands in a table.
-    pub(crate) fn new(
-        table: &'a Table,
-        kinds: &[Kind],
-        text: &'a [u8],
-    ) -> Result<Arguments<'a>, NotationError> {
-        let texts = split(table.alloc(), text)?;
-        let values = read_values(table, kinds, &texts)?;
-        Ok(Arguments {
-            table,
-            texts,
-            values,
-        })
+/// The arguments of a call, one behind the other.
+pub(crate) trait Arguments: Drop {
+    /// The arguments of texts. One that is missing has an empty text; further ones are passed over.
+    fn read(table: &Table, texts: &[&[u8]]) -> Result<Self, NotationError>;
+
+    /// Whether the text of each is still the one that it was read from.
+    fn are_kept(&self, table: &Table, texts: &[&[u8]]) -> Result<bool, NotationError>;
+}
+
+/// No more arguments.
+#[derive(Clone, Copy, Drop)]
+pub(crate) struct End;
+
+/// An argument, and those behind it.
+#[derive(Drop)]
+pub(crate) struct Then<A, R> {
+    pub(crate) first: A,
+    pub(crate) rest: R,
+}
+
+pub(crate) type One<A> = Then<A, End>;
+
+pub(crate) type Two<A, B> = Then<A, One<B>>;
+
+pub(crate) type Three<A, B, C> = Then<A, Two<B, C>>;
+
+pub(crate) type Four<A, B, C, D> = Then<A, Three<B, C, D>>;
+
+pub(crate) type Five<A, B, C, D, E> = Then<A, Four<B, C, D, E>>;
+
+impl Arguments for End {
+    fn read(_table: &Table, _texts: &[&[u8]]) -> Result<End, NotationError> {
+        Ok(End)
     }
 
-    /// Whether the text of each value is still the one that it was read from.
-    pub(crate) fn are_kept(&self) -> Result<bool, NotationError> {
-        for (value, text) in self.values.iter().zip(self.texts.iter()) {
-            let written = value.text(self.table)?;
-            if written.as_bytes() != self.table.meaning(text) {
+    fn are_kept(&self, _table: &Table, _texts: &[&[u8]]) -> Result<bool, NotationError> {
+        Ok(true)
+    }
+}
+
+impl<A: Argument, R: Arguments> Arguments for Then<A, R> {
+    fn read(table: &Table, texts: &[&[u8]]) -> Result<Then<A, R>, NotationError> {
+        let (text, behind) = first_of(texts);
+        let first = A::read(table, text)?;
+        match R::read(table, behind) {
+            Ok(rest) => Ok(Then { first, rest }),
+            Err(why) => Err(why),
+        }
+    }
+
+    fn are_kept(&self, table: &Table, texts: &[&[u8]]) -> Result<bool, NotationError> {
+        let (text, behind) = first_of(texts);
+        let written = self.first.text(table)?;
+        if written.as_bytes() == table.meaning(text) {
+            self.rest.are_kept(table, behind)
+        } else {
+            Ok(false)
+        }
+    }
+}
+
+fn first_of<'a, 'b>(texts: &'b [&'a [u8]]) -> (&'a [u8], &'b [&'a [u8]]) {
+    match texts.split_first() {
+        Some((text, behind)) => (*text, behind),
+        None => (b"", texts),
+    }
+}
+
+/// A label, as each argument that stands behind it.
+impl Arguments for Vec<Label> {
+    fn read(table: &Table, texts: &[&[u8]]) -> Result<Vec<Label>, NotationError> {
+        let mut labels = Vec::new(table.alloc());
+        for text in texts {
+            labels.push(read_label(table.alloc(), text)?)?;
+        }
+        Ok(labels)
+    }
+
+    fn are_kept(&self, table: &Table, texts: &[&[u8]]) -> Result<bool, NotationError> {
+        for (label, text) in self.iter().zip(texts) {
+            let written = label_text(table.alloc(), *label)?;
+            if written.as_bytes() != *text {
                 return Ok(false);
             }
         }
         Ok(true)
     }
+}
 
-    pub(crate) fn alloc(&self) -> Global {
-        self.table.alloc()
+/// Bytes.
+impl Argument for Vec<u8> {
+    fn read(table: &Table, text: &[u8]) -> Result<Vec<u8>, NotationError> {
+        read_word(table.alloc(), text)
     }
 
-    /// The primitives that are known by their labels.
-    pub(crate) fn known(&self) -> &[Named] {
-        self.table.known()
-    }
-
-    /// How many they are.
-    pub(crate) fn len(&self) -> usize {
-        self.values.len()
-    }
-
-    /// Whether the first is a catch.
-    pub(crate) fn has_catch(&self) -> bool {
-        matches!(self.values.first(), Some(Value::Catch(_)))
-    }
-
-    pub(crate) fn word(&self, at: usize) -> Result<&[u8], NotationError> {
-        match self.values.get(at) {
-            Some(Value::Word(word)) => Ok(word),
-            _ => Err(OTHER),
-        }
-    }
-
-    pub(crate) fn name(&self, at: usize) -> Result<Name, NotationError> {
-        Ok(Name::new(self.word(at)?)?)
-    }
-
-    pub(crate) fn path(&self, at: usize) -> Result<&Path, NotationError> {
-        match self.values.get(at) {
-            Some(Value::Path(path)) => Ok(path),
-            _ => Err(OTHER),
-        }
-    }
-
-    pub(crate) fn lines(&self, at: usize) -> Result<&Lines, NotationError> {
-        match self.values.get(at) {
-            Some(Value::Lines(lines)) => Ok(lines),
-            _ => Err(OTHER),
-        }
-    }
-
-    pub(crate) fn number(&self, at: usize) -> Result<u32, NotationError> {
-        match self.values.get(at) {
-            Some(Value::Number(number)) => Ok(*number),
-            _ => Err(OTHER),
-        }
-    }
-
-    pub(crate) fn named(&self, at: usize) -> Result<&Named, NotationError> {
-        match self.values.get(at) {
-            Some(Value::Primitive(p)) => Ok(p),
-            _ => Err(OTHER),
-        }
-    }
-
-    pub(crate) fn list(&self, at: usize) -> Result<&Seq, NotationError> {
-        match self.values.get(at) {
-            Some(Value::List(s)) => Ok(s),
-            _ => Err(OTHER),
-        }
-    }
-
-    pub(crate) fn tree(&self, at: usize) -> Result<&Tree, NotationError> {
-        match self.values.get(at) {
-            Some(Value::Tree(tree)) => Ok(tree),
-            _ => Err(OTHER),
-        }
-    }
-
-    pub(crate) fn label(&self, at: usize) -> Result<Label, NotationError> {
-        match self.values.get(at) {
-            Some(Value::Label(label)) => Ok(*label),
-            _ => Err(OTHER),
-        }
-    }
-
-    /// An absolute label, which is written as a label without a caret.
-    pub(crate) fn key(&self, at: usize) -> Result<Key, NotationError> {
-        let label = self.label(at)?;
-        Ok(label.key())
-    }
-
-    pub(crate) fn contexted(&self, at: usize) -> Result<&Contexted, NotationError> {
-        match self.values.get(at) {
-            Some(Value::Contexted(x)) => Ok(x),
-            _ => Err(OTHER),
-        }
-    }
-
-    pub(crate) fn set(&self, at: usize) -> Result<&CtxSet, NotationError> {
-        match self.values.get(at) {
-            Some(Value::Set(set)) => Ok(set),
-            _ => Err(OTHER),
-        }
-    }
-
-    pub(crate) fn catch(&self, at: usize) -> Result<&Catch, NotationError> {
-        match self.values.get(at) {
-            Some(Value::Catch(j)) => Ok(j),
-            _ => Err(OTHER),
-        }
-    }
-
-    pub(crate) fn catches(&self, at: usize) -> Result<&[Shared<Catch>], NotationError> {
-        match self.values.get(at) {
-            Some(Value::Catches(list)) => Ok(list),
-            _ => Err(OTHER),
-        }
-    }
-
-    pub(crate) fn numbers(&self, at: usize) -> Result<&Numbers, NotationError> {
-        match self.values.get(at) {
-            Some(Value::Numbers(numbers)) => Ok(numbers),
-            _ => Err(OTHER),
-        }
-    }
-
-    pub(crate) fn places(&self, at: usize) -> Result<&Places, NotationError> {
-        match self.values.get(at) {
-            Some(Value::Places(places)) => Ok(places),
-            _ => Err(OTHER),
-        }
+    fn text(&self, table: &Table) -> Result<String, AllocError> {
+        word_text(table.alloc(), self)
     }
 }
 
-// A call asks for an argument of another kind than the one that was read.
-const OTHER: NotationError = NotationError::NoWord;
-
-/// The values of arguments of these kinds. One that is missing has an empty text; further ones are
-/// passed over.
-fn read_values(
-    table: &Table,
-    kinds: &[Kind],
-    texts: &[&[u8]],
-) -> Result<Vec<Value>, NotationError> {
-    let mut values = Vec::new(table.alloc());
-    for at in 0..argument_count(kinds, texts) {
-        let text = match texts.get(at) {
-            Some(text) => *text,
-            None => b"".as_slice(),
-        };
-        let kind = match kinds.get(at) {
-            Some(kind) => *kind,
-            None => Kind::Labels,
-        };
-        values.push(Value::read(table, kind, text)?)?;
+impl Argument for Name {
+    fn read(table: &Table, text: &[u8]) -> Result<Name, NotationError> {
+        let word = read_word(table.alloc(), text)?;
+        Ok(Name::new(&word)?)
     }
-    Ok(values)
+
+    fn text(&self, table: &Table) -> Result<String, AllocError> {
+        word_text(table.alloc(), self.bytes())
+    }
 }
 
-fn argument_count(kinds: &[Kind], texts: &[&[u8]]) -> usize {
-    match kinds {
-        [_, Kind::Labels] => texts.len().max(1),
-        _ => kinds.len(),
+impl Argument for Path {
+    fn read(table: &Table, text: &[u8]) -> Result<Path, NotationError> {
+        let word = read_word(table.alloc(), text)?;
+        Ok(Path::new(table.alloc(), &word)?)
+    }
+
+    fn text(&self, table: &Table) -> Result<String, AllocError> {
+        word_text(table.alloc(), self.bytes())
+    }
+}
+
+/// The lines of one side of a hunk.
+impl Argument for Lines {
+    fn read(table: &Table, text: &[u8]) -> Result<Lines, NotationError> {
+        let lines = read_lines(table.alloc(), text)?;
+        Ok(Lines::new(table.alloc(), lines)?)
+    }
+
+    fn text(&self, table: &Table) -> Result<String, AllocError> {
+        lines_text(table.alloc(), self.as_slice())
+    }
+}
+
+impl Argument for u32 {
+    fn read(_table: &Table, text: &[u8]) -> Result<u32, NotationError> {
+        read_number(text)
+    }
+
+    fn text(&self, table: &Table) -> Result<String, AllocError> {
+        format!(in table.alloc(); "{self}")
+    }
+}
+
+impl Argument for Named {
+    fn read(table: &Table, text: &[u8]) -> Result<Named, NotationError> {
+        read_named(table.alloc(), table.known(), text)
+    }
+
+    fn text(&self, table: &Table) -> Result<String, AllocError> {
+        named_text(table.alloc(), table.known(), self)
+    }
+}
+
+impl Argument for Seq {
+    fn read(table: &Table, text: &[u8]) -> Result<Seq, NotationError> {
+        read_list(table.alloc(), table.known(), table.meaning(text))
+    }
+
+    fn text(&self, table: &Table) -> Result<String, AllocError> {
+        list_text(table.alloc(), table.known(), self)
+    }
+}
+
+impl Argument for Tree {
+    fn read(table: &Table, text: &[u8]) -> Result<Tree, NotationError> {
+        read_tree(table.alloc(), table.meaning(text))
+    }
+
+    fn text(&self, table: &Table) -> Result<String, AllocError> {
+        tree_text(table.alloc(), self)
+    }
+}
+
+impl Argument for Label {
+    fn read(table: &Table, text: &[u8]) -> Result<Label, NotationError> {
+        read_label(table.alloc(), text)
+    }
+
+    fn text(&self, table: &Table) -> Result<String, AllocError> {
+        label_text(table.alloc(), *self)
+    }
+}
+
+impl Argument for Contexted {
+    fn read(table: &Table, text: &[u8]) -> Result<Contexted, NotationError> {
+        read_contexted(table.alloc(), table.known(), text)
+    }
+
+    fn text(&self, table: &Table) -> Result<String, AllocError> {
+        contexted_text(table.alloc(), table.known(), self)
+    }
+}
+
+impl Argument for CtxSet {
+    fn read(table: &Table, text: &[u8]) -> Result<CtxSet, NotationError> {
+        read_set(table.alloc(), table.known(), text)
+    }
+
+    fn text(&self, table: &Table) -> Result<String, AllocError> {
+        set_text(table.alloc(), table.known(), self)
+    }
+}
+
+impl Argument for Catch {
+    fn read(table: &Table, text: &[u8]) -> Result<Catch, NotationError> {
+        read_catch(table.alloc(), table.known(), text)
+    }
+
+    fn text(&self, table: &Table) -> Result<String, AllocError> {
+        catch_text(table.alloc(), table.known(), self)
+    }
+}
+
+impl Argument for Vec<Shared<Catch>> {
+    fn read(table: &Table, text: &[u8]) -> Result<Vec<Shared<Catch>>, NotationError> {
+        read_catches(table.alloc(), table.known(), text)
+    }
+
+    fn text(&self, table: &Table) -> Result<String, AllocError> {
+        catches_text(table.alloc(), table.known(), self)
+    }
+}
+
+/// A shared list of numbers.
+impl Argument for Numbers {
+    fn read(table: &Table, text: &[u8]) -> Result<Numbers, NotationError> {
+        read_numbers(table.alloc(), text)
+    }
+
+    fn text(&self, table: &Table) -> Result<String, AllocError> {
+        numbers_text(table.alloc(), self)
+    }
+}
+
+/// A shared map from names to numbers.
+impl Argument for Places {
+    fn read(table: &Table, text: &[u8]) -> Result<Places, NotationError> {
+        read_places(table.alloc(), text)
+    }
+
+    fn text(&self, table: &Table) -> Result<String, AllocError> {
+        places_text(table.alloc(), self)
     }
 }

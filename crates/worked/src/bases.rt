@@ -1,71 +1,124 @@
-use crate::arguments::Arguments;
-use crate::results::{fault, order};
+use crate::calls::{CallLine, ask_none, ask_one, ask_two, find};
+use crate::results::{Outcome, fault, order};
+use crate::tables::Table;
+use crate::wants::Wants;
 use camp_base::{Apply, BaseFault, Line, Name, Path};
 use camp_notation::{NotationError, lines_text, word_text};
 use camp_prim::Lines;
 use camp_share::Share;
+use std::alloc::AllocError;
 
-pub(crate) fn name(a: &Arguments) -> Result<String, NotationError> {
-    match Name::new(a.word(0)?) {
-        Ok(name) => Ok(format!(in a.alloc(); "{name}")?),
-        Err(why) => fault(a, why),
+/// The calls on names, paths, lines and faults.
+#[derive(Clone, Copy)]
+pub(crate) enum BaseCall {
+    Name,
+    Path,
+    Line,
+    CopyPath,
+    CopyLines,
+    CompareNames,
+    ComparePaths,
+    Faults,
+}
+
+const CALLS: [(&[u8], BaseCall); 8] = [
+    (b"name", BaseCall::Name),
+    (b"path", BaseCall::Path),
+    (b"line", BaseCall::Line),
+    (b"copy_path", BaseCall::CopyPath),
+    (b"copy_lines", BaseCall::CopyLines),
+    (b"compare_names", BaseCall::CompareNames),
+    (b"compare_paths", BaseCall::ComparePaths),
+    (b"faults", BaseCall::Faults),
+];
+
+impl BaseCall {
+    /// The call of a name.
+    pub(crate) fn of(name: &[u8]) -> Option<BaseCall> {
+        find(&CALLS, name)
+    }
+
+    /// Reads the arguments of a line, and makes the call.
+    pub(crate) fn ask(self, asked: CallLine<'_>, wants: &mut Wants) -> Outcome {
+        match self {
+            BaseCall::Name => ask_one(asked, wants, name),
+            BaseCall::Path => ask_one(asked, wants, path),
+            BaseCall::Line => ask_one(asked, wants, line),
+            BaseCall::CopyPath => ask_one(asked, wants, copy_path),
+            BaseCall::CopyLines => ask_one(asked, wants, copy_lines),
+            BaseCall::CompareNames => ask_two(asked, wants, compare_names),
+            BaseCall::ComparePaths => ask_two(asked, wants, compare_paths),
+            BaseCall::Faults => ask_none(asked, wants, faults),
+        }
     }
 }
 
-pub(crate) fn path(a: &Arguments) -> Result<String, NotationError> {
-    match Path::new(a.alloc(), a.word(0)?) {
-        Ok(path) => path_text(a, &path),
-        Err(why) => fault(a, why),
+fn name(table: &Table, word: &Vec<u8>) -> Outcome {
+    match Name::new(word) {
+        Ok(name) => Ok(format!(in table.alloc(); "{name}")?),
+        Err(why) => fault(table, why),
     }
 }
 
-fn path_text(a: &Arguments, path: &Path) -> Result<String, NotationError> {
-    Ok(format!(in a.alloc(); "{path}")?)
+fn path(table: &Table, word: &Vec<u8>) -> Outcome {
+    match Path::new(table.alloc(), word) {
+        Ok(path) => path_text(table, &path),
+        Err(why) => fault(table, why),
+    }
 }
 
-pub(crate) fn copy_path(a: &Arguments) -> Result<String, NotationError> {
-    let copy = a.path(0)?.try_clone()?;
-    path_text(a, &copy)
+fn path_text(table: &Table, path: &Path) -> Outcome {
+    Ok(format!(in table.alloc(); "{path}")?)
 }
 
-pub(crate) fn line(a: &Arguments) -> Result<String, NotationError> {
-    match Line::new(a.alloc(), a.word(0)?) {
-        Ok(line) => Ok(word_text(a.alloc(), line.bytes())?),
-        Err(why) => fault(a, why),
+fn copy_path(table: &Table, path: &Path) -> Outcome {
+    match path.try_clone() {
+        Ok(copy) => path_text(table, &copy),
+        Err(_) => Err(NotationError::Memory),
+    }
+}
+
+fn line(table: &Table, word: &Vec<u8>) -> Outcome {
+    match Line::new(table.alloc(), word) {
+        Ok(line) => Ok(word_text(table.alloc(), line.bytes())?),
+        Err(why) => fault(table, why),
     }
 }
 
 /// Copies of the lines, and one more that shares them with the first.
-pub(crate) fn copy_lines(a: &Arguments) -> Result<String, NotationError> {
-    let lines = a.lines(0)?;
-    let mut copies = Vec::with_capacity(a.alloc(), lines.as_slice().len())?;
-    for line in lines.as_slice() {
+fn copy_lines(table: &Table, lines: &Lines) -> Outcome {
+    let copies = copies_of(table, lines.as_slice())?;
+    match Lines::new(table.alloc(), copies) {
+        Ok(side) => side_text(table, &side),
+        Err(_) => Err(NotationError::Memory),
+    }
+}
+
+fn copies_of(table: &Table, lines: &[Line]) -> Result<Vec<Line>, AllocError> {
+    let mut copies = Vec::with_capacity(table.alloc(), lines.len())?;
+    for line in lines {
         copies.push(line.try_clone()?)?;
     }
-    side_text(a, copies)
+    Ok(copies)
 }
 
-fn side_text(a: &Arguments, lines: Vec<Line>) -> Result<String, NotationError> {
-    let side = Lines::new(a.alloc(), lines)?.share()?;
-    Ok(lines_text(a.alloc(), side.as_slice())?)
+fn side_text(table: &Table, side: &Lines) -> Outcome {
+    let shared = side.share()?;
+    Ok(lines_text(table.alloc(), shared.as_slice())?)
 }
 
-pub(crate) fn compare_names(a: &Arguments) -> Result<String, NotationError> {
-    let left = a.name(0)?;
-    let right = a.name(1)?;
-    order(a, left.cmp(&right))
+fn compare_names(table: &Table, left: &Name, right: &Name) -> Outcome {
+    order(table, left.cmp(right))
 }
 
-pub(crate) fn compare_paths(a: &Arguments) -> Result<String, NotationError> {
-    let left = a.path(0)?;
-    let right = a.path(1)?;
-    order(a, left.cmp(right))
+fn compare_paths(table: &Table, left: &Path, right: &Path) -> Outcome {
+    order(table, left.cmp(right))
 }
 
 /// The words of every fault.
-pub(crate) fn faults(a: &Arguments) -> Result<String, NotationError> {
+fn faults(table: &Table) -> Outcome {
     let (name, path, line) = (BaseFault::BadName, BaseFault::BadPath, BaseFault::BadLine);
     let (change, memory) = (Apply::DoesNotApply, Apply::Memory);
     let base_memory = BaseFault::Memory;
-    Ok(format!(in a.alloc(); "{name}, {path}, {line}, {base_memory}; {change}, {memory}")?)
+    Ok(format!(in table.alloc(); "{name}, {path}, {line}, {base_memory}; {change}, {memory}")?)
 }

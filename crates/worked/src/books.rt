@@ -18,13 +18,45 @@ pub(crate) fn ask(
     wants: &mut Wants,
 ) -> Result<(), PlayFault> {
     for time in 1..=command.count {
-        let call = call_again(alloc, command, time, wants)?;
-        let answer = ask_again(book, command.seat, &call, wants)?;
-        if time == command.count {
-            append_again(text, &answer, wants)?;
-        }
+        ask_once(alloc, book, command, time, text, wants)?;
     }
     Ok(())
+}
+
+fn ask_once(
+    alloc: Global,
+    book: &mut Book<State>,
+    command: Command<'_>,
+    time: u32,
+    text: &mut Vec<u8>,
+    wants: &mut Wants,
+) -> Result<(), PlayFault> {
+    let call = call_again(alloc, command, time, wants)?;
+    let answer = ask_again(book, command.seat, &call, wants);
+    if time == command.count {
+        append_answer(text, answer, wants)
+    } else {
+        pass_over(answer)
+    }
+}
+
+/// An answer that is not shown.
+pub(crate) fn pass_over(answer: Result<Answer, PlayFault>) -> Result<(), PlayFault> {
+    match answer {
+        Ok(_) => Ok(()),
+        Err(fault) => Err(fault),
+    }
+}
+
+fn append_answer(
+    text: &mut Vec<u8>,
+    answer: Result<Answer, PlayFault>,
+    wants: &mut Wants,
+) -> Result<(), PlayFault> {
+    match answer {
+        Ok(answer) => append_again(text, &answer, wants),
+        Err(fault) => Err(fault),
+    }
 }
 
 /// The call of a command, read again where that wanted memory.
@@ -51,15 +83,32 @@ fn ask_again(
     wants: &mut Wants,
 ) -> Result<Answer, PlayFault> {
     let before = state_again(book, wants)?;
+    ask_beside(book, &before, seat, call, wants)
+}
+
+fn ask_beside(
+    book: &mut Book<State>,
+    before: &State,
+    seat: u32,
+    call: &Call,
+    wants: &mut Wants,
+) -> Result<Answer, PlayFault> {
     let length = book.history().len();
-    if let Ok(reply) = book.ask(seat, call) {
-        return Ok(Ok(reply));
+    match book.ask(seat, call) {
+        Ok(reply) => Ok(Ok(reply)),
+        Err(_) => {
+            wants.note();
+            if is_kept(book, before, length) {
+                Ok(book.ask(seat, call))
+            } else {
+                Err(PlayFault::Wrong("out of memory, and another book"))
+            }
+        }
     }
-    wants.note();
-    if book.history().len() != length || !is_same_state(book.state(), &before, book.history()) {
-        return Err(PlayFault::Wrong("out of memory, and another book"));
-    }
-    Ok(book.ask(seat, call))
+}
+
+fn is_kept(book: &Book<State>, before: &State, length: usize) -> bool {
+    book.history().len() == length && is_same_state(book.state(), before, book.history())
 }
 
 fn state_again(book: &Book<State>, wants: &mut Wants) -> Result<State, AllocError> {

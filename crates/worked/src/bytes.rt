@@ -1,10 +1,42 @@
 //! Which bytes, and how many, names, paths and lines may have.
 
-use crate::arguments::Arguments;
-use crate::results::{none, word};
+use crate::calls::{CallLine, ask_one, find};
+use crate::results::{Outcome, none, word};
+use crate::tables::Table;
+use crate::wants::Wants;
 use camp_base::{BaseFault, Line, Name, Path};
 use camp_notation::{NotationError, word_text};
 use std::alloc::Global;
+
+/// The calls on bytes.
+#[derive(Clone, Copy)]
+pub(crate) enum ByteCall {
+    Alone,
+    Within,
+    Lengths,
+}
+
+const CALLS: [(&[u8], ByteCall); 3] = [
+    (b"bytes_alone", ByteCall::Alone),
+    (b"bytes_within", ByteCall::Within),
+    (b"lengths", ByteCall::Lengths),
+];
+
+impl ByteCall {
+    /// The call of a name.
+    pub(crate) fn of(name: &[u8]) -> Option<ByteCall> {
+        find(&CALLS, name)
+    }
+
+    /// Reads the arguments of a line, and makes the call.
+    pub(crate) fn ask(self, asked: CallLine<'_>, wants: &mut Wants) -> Outcome {
+        match self {
+            ByteCall::Alone => ask_one(asked, wants, bytes_alone),
+            ByteCall::Within => ask_one(asked, wants, bytes_within),
+            ByteCall::Lengths => ask_one(asked, wants, lengths),
+        }
+    }
+}
 
 /// A kind of value that is made of bytes.
 #[derive(Clone, Copy)]
@@ -15,13 +47,17 @@ enum Kind {
 }
 
 /// The bytes that may stand alone in a name, a path or a line, all 256 of them tried.
-pub(crate) fn bytes_alone(a: &Arguments) -> Result<String, NotationError> {
-    match kind_of(a)? {
-        Some(kind) => {
-            let bytes = alone(a.alloc(), kind)?;
-            Ok(word_text(a.alloc(), &bytes)?)
-        }
-        None => word(a, "no kind"),
+fn bytes_alone(table: &Table, kind: &Vec<u8>) -> Outcome {
+    match kind_of(kind) {
+        Some(kind) => bytes_text(table, alone(table.alloc(), kind)),
+        None => word(table, "no kind"),
+    }
+}
+
+fn bytes_text(table: &Table, bytes: Result<Vec<u8>, NotationError>) -> Outcome {
+    match bytes {
+        Ok(bytes) => Ok(word_text(table.alloc(), &bytes)?),
+        Err(why) => Err(why),
     }
 }
 
@@ -36,13 +72,10 @@ fn alone(alloc: Global, kind: Kind) -> Result<Vec<u8>, NotationError> {
 }
 
 /// The bytes that may stand between two letters of a name, a path or a line.
-pub(crate) fn bytes_within(a: &Arguments) -> Result<String, NotationError> {
-    match kind_of(a)? {
-        Some(kind) => {
-            let bytes = within(a.alloc(), kind)?;
-            Ok(word_text(a.alloc(), &bytes)?)
-        }
-        None => word(a, "no kind"),
+fn bytes_within(table: &Table, kind: &Vec<u8>) -> Outcome {
+    match kind_of(kind) {
+        Some(kind) => bytes_text(table, within(table.alloc(), kind)),
+        None => word(table, "no kind"),
     }
 }
 
@@ -58,13 +91,17 @@ fn within(alloc: Global, kind: Kind) -> Result<Vec<u8>, NotationError> {
 
 /// From how many to how many bytes a name, a path or a line may have, up to 5,000 tried. It is told
 /// where there are gaps.
-pub(crate) fn lengths(a: &Arguments) -> Result<String, NotationError> {
-    match kind_of(a)? {
-        Some(kind) => {
-            let lengths = lengths_of(a.alloc(), kind)?;
-            range_text(a, &lengths)
-        }
-        None => word(a, "no kind"),
+fn lengths(table: &Table, kind: &Vec<u8>) -> Outcome {
+    match kind_of(kind) {
+        Some(kind) => lengths_text(table, lengths_of(table.alloc(), kind)),
+        None => word(table, "no kind"),
+    }
+}
+
+fn lengths_text(table: &Table, lengths: Result<Vec<u32>, NotationError>) -> Outcome {
+    match lengths {
+        Ok(lengths) => range_text(table, &lengths),
+        Err(why) => Err(why),
     }
 }
 
@@ -80,9 +117,9 @@ fn lengths_of(alloc: Global, kind: Kind) -> Result<Vec<u32>, NotationError> {
     Ok(lengths)
 }
 
-fn range_text(a: &Arguments, numbers: &[u32]) -> Result<String, NotationError> {
+fn range_text(table: &Table, numbers: &[u32]) -> Outcome {
     let (Some(first), Some(last)) = (numbers.first(), numbers.last()) else {
-        return none(a);
+        return none(table);
     };
     let (first, last) = (*first, *last);
     let gaps = if numbers.len() as u64 + first as u64 == last as u64 + 1 {
@@ -90,33 +127,46 @@ fn range_text(a: &Arguments, numbers: &[u32]) -> Result<String, NotationError> {
     } else {
         ", with gaps"
     };
-    Ok(format!(in a.alloc(); "{first} to {last}{gaps}")?)
+    Ok(format!(in table.alloc(); "{first} to {last}{gaps}")?)
 }
 
-fn kind_of(a: &Arguments) -> Result<Option<Kind>, NotationError> {
-    Ok(match a.word(0)? {
-        b"name" => Some(Kind::Name),
-        b"path" => Some(Kind::Path),
-        b"line" => Some(Kind::Line),
-        _ => None,
-    })
+const KINDS: [(&[u8], Kind); 3] = [
+    (b"name", Kind::Name),
+    (b"path", Kind::Path),
+    (b"line", Kind::Line),
+];
+
+fn kind_of(word: &[u8]) -> Option<Kind> {
+    find(&KINDS, word)
 }
 
 /// Whether such a value is made of these bytes, and has them.
 fn is_made(alloc: Global, kind: Kind, bytes: &[u8]) -> Result<bool, NotationError> {
     match kind {
-        Kind::Name => match Name::new(bytes) {
-            Ok(name) => Ok(name.bytes() == bytes),
-            Err(why) => refuses(why),
-        },
-        Kind::Path => match Path::new(alloc, bytes) {
-            Ok(path) => Ok(path.bytes() == bytes),
-            Err(why) => refuses(why),
-        },
-        Kind::Line => match Line::new(alloc, bytes) {
-            Ok(line) => Ok(line.bytes() == bytes),
-            Err(why) => refuses(why),
-        },
+        Kind::Name => is_name(bytes),
+        Kind::Path => is_path(alloc, bytes),
+        Kind::Line => is_line(alloc, bytes),
+    }
+}
+
+fn is_name(bytes: &[u8]) -> Result<bool, NotationError> {
+    match Name::new(bytes) {
+        Ok(name) => Ok(name.bytes() == bytes),
+        Err(why) => refuses(why),
+    }
+}
+
+fn is_path(alloc: Global, bytes: &[u8]) -> Result<bool, NotationError> {
+    match Path::new(alloc, bytes) {
+        Ok(path) => Ok(path.bytes() == bytes),
+        Err(why) => refuses(why),
+    }
+}
+
+fn is_line(alloc: Global, bytes: &[u8]) -> Result<bool, NotationError> {
+    match Line::new(alloc, bytes) {
+        Ok(line) => Ok(line.bytes() == bytes),
+        Err(why) => refuses(why),
     }
 }
 

@@ -1,76 +1,128 @@
-use crate::arguments::Arguments;
-use crate::results::{catch_list_text, joined, key_text};
+use crate::calls::{CallLine, ask_one, ask_two, ask_with_labels, find};
+use crate::results::{Outcome, catch_list_text, joined, key_text};
+use crate::tables::Table;
+use crate::wants::Wants;
 use camp_base::Name;
-use camp_catch::{Arranged, NoMerge, Stuck, align, arrange, merge_lists};
+use camp_catch::{Arranged, Catch, NoMerge, Stuck, align, arrange, merge_lists};
 use camp_notation::NotationError;
-use camp_prim::Key;
-use camp_share::SharedMap;
+use camp_prim::{Key, Label};
+use camp_share::{Shared, SharedMap};
 use std::alloc::AllocError;
 
-pub(crate) fn read(a: &Arguments) -> Result<String, NotationError> {
-    catch_list_text(a, a.catches(0)?)
+/// The calls on lists of catches.
+#[derive(Clone, Copy)]
+pub(crate) enum CatchListCall {
+    Read,
+    Arrange,
+    Align,
+    MergeLists,
+}
+
+const CALLS: [(&[u8], CatchListCall); 4] = [
+    (b"read_catches", CatchListCall::Read),
+    (b"arrange", CatchListCall::Arrange),
+    (b"align", CatchListCall::Align),
+    (b"merge_lists", CatchListCall::MergeLists),
+];
+
+impl CatchListCall {
+    /// The call of a name.
+    pub(crate) fn of(name: &[u8]) -> Option<CatchListCall> {
+        find(&CALLS, name)
+    }
+
+    /// Reads the arguments of a line, and makes the call.
+    pub(crate) fn ask(self, asked: CallLine<'_>, wants: &mut Wants) -> Outcome {
+        match self {
+            CatchListCall::Read => ask_one(asked, wants, read),
+            CatchListCall::Arrange => ask_with_labels(asked, wants, arranged),
+            CatchListCall::Align => ask_with_labels(asked, wants, aligned),
+            CatchListCall::MergeLists => ask_two(asked, wants, merged),
+        }
+    }
+}
+
+type Catches = Vec<Shared<Catch>>;
+
+fn read(table: &Table, list: &Catches) -> Outcome {
+    catch_list_text(table, list)
 }
 
 /// The names stand behind the list, each as a label.
-pub(crate) fn arranged(a: &Arguments) -> Result<String, NotationError> {
-    let names = names(a)?;
-    match arrange(a.alloc(), a.catches(0)?, &names)? {
-        Ok(arranged) => arranged_text(a, &arranged),
-        Err(stuck) => Ok(stuck_on(a, stuck)?),
+fn arranged(table: &Table, list: &Catches, labels: &[Label]) -> Outcome {
+    match names(table, labels) {
+        Ok(names) => arranged_by(table, list, &names),
+        Err(_) => Err(NotationError::Memory),
     }
 }
 
-fn arranged_text(a: &Arguments, arranged: &Arranged) -> Result<String, NotationError> {
-    let first = catch_list_text(a, &arranged.first)?;
-    let rest = catch_list_text(a, &arranged.rest)?;
+fn arranged_by(table: &Table, list: &Catches, names: &SharedMap<Name, ()>) -> Outcome {
+    match arrange(table.alloc(), list, names) {
+        Ok(Ok(arranged)) => arranged_text(table, &arranged),
+        Ok(Err(stuck)) => Ok(stuck_on(table, stuck)?),
+        Err(_) => Err(NotationError::Memory),
+    }
+}
+
+fn arranged_text(table: &Table, arranged: &Arranged) -> Outcome {
+    let first = catch_list_text(table, &arranged.first)?;
+    let rest = catch_list_text(table, &arranged.rest)?;
     joined(first, ", ", &rest)
 }
 
-fn stuck_on(a: &Arguments, stuck: Stuck) -> Result<String, AllocError> {
-    let patch = key_text(a, stuck.patch)?;
-    let on = key_text(a, stuck.on)?;
-    format!(in a.alloc(); "stuck {patch} on {on}")
+fn stuck_on(table: &Table, stuck: Stuck) -> Result<String, AllocError> {
+    let patch = key_text(table, stuck.patch)?;
+    let on = key_text(table, stuck.on)?;
+    format!(in table.alloc(); "stuck {patch} on {on}")
 }
 
 /// The labels stand behind the list.
-pub(crate) fn aligned(a: &Arguments) -> Result<String, NotationError> {
-    let order = keys(a)?;
-    match align(a.alloc(), a.catches(0)?, &order)? {
-        Ok(aligned) => catch_list_text(a, &aligned),
-        Err(key) => Ok(stuck(a, key)?),
+fn aligned(table: &Table, list: &Catches, labels: &[Label]) -> Outcome {
+    match keys(table, labels) {
+        Ok(order) => aligned_by(table, list, &order),
+        Err(_) => Err(NotationError::Memory),
     }
 }
 
-fn stuck(a: &Arguments, key: Key) -> Result<String, AllocError> {
-    let key = key_text(a, key)?;
-    format!(in a.alloc(); "stuck {key}")
-}
-
-pub(crate) fn merged(a: &Arguments) -> Result<String, NotationError> {
-    match merge_lists(a.alloc(), a.catches(0)?, a.catches(1)?)? {
-        Ok(merged) => catch_list_text(a, &merged),
-        Err(pair) => Ok(no_merge(a, pair)?),
+fn aligned_by(table: &Table, list: &Catches, order: &[Key]) -> Outcome {
+    match align(table.alloc(), list, order) {
+        Ok(Ok(aligned)) => catch_list_text(table, &aligned),
+        Ok(Err(key)) => Ok(stuck(table, key)?),
+        Err(_) => Err(NotationError::Memory),
     }
 }
 
-fn no_merge(a: &Arguments, pair: NoMerge) -> Result<String, AllocError> {
-    let left = key_text(a, pair.left)?;
-    let right = key_text(a, pair.right)?;
-    format!(in a.alloc(); "no merge of {left} and {right}")
+fn stuck(table: &Table, key: Key) -> Result<String, AllocError> {
+    let key = key_text(table, key)?;
+    format!(in table.alloc(); "stuck {key}")
 }
 
-fn names(a: &Arguments) -> Result<SharedMap<Name, ()>, NotationError> {
-    let mut names = SharedMap::new(a.alloc());
-    for at in 1..a.len() {
-        names = names.inserted(a.key(at)?.name, ())?;
+fn merged(table: &Table, left: &Catches, right: &Catches) -> Outcome {
+    match merge_lists(table.alloc(), left, right) {
+        Ok(Ok(merged)) => catch_list_text(table, &merged),
+        Ok(Err(pair)) => Ok(no_merge(table, pair)?),
+        Err(_) => Err(NotationError::Memory),
+    }
+}
+
+fn no_merge(table: &Table, pair: NoMerge) -> Result<String, AllocError> {
+    let left = key_text(table, pair.left)?;
+    let right = key_text(table, pair.right)?;
+    format!(in table.alloc(); "no merge of {left} and {right}")
+}
+
+fn names(table: &Table, labels: &[Label]) -> Result<SharedMap<Name, ()>, AllocError> {
+    let mut names = SharedMap::new(table.alloc());
+    for label in labels {
+        names = names.inserted(label.name, ())?;
     }
     Ok(names)
 }
 
-fn keys(a: &Arguments) -> Result<Vec<Key>, NotationError> {
-    let mut keys = Vec::new(a.alloc());
-    for at in 1..a.len() {
-        keys.push(a.key(at)?)?;
+fn keys(table: &Table, labels: &[Label]) -> Result<Vec<Key>, AllocError> {
+    let mut keys = Vec::new(table.alloc());
+    for label in labels {
+        keys.push(label.key())?;
     }
     Ok(keys)
 }

@@ -1,41 +1,73 @@
-use crate::arguments::Arguments;
-use crate::results::{Shown, both, key_text, yes_or_no};
-use camp_catch::{commute, merge};
+use crate::calls::{CallLine, ask_one, ask_two, find};
+use crate::results::{Outcome, Shown, both, key_text, made, yes_or_no};
+use crate::tables::Table;
+use crate::wants::Wants;
+use camp_catch::{Catch, commute, merge};
 use camp_ctx::join;
-use camp_notation::NotationError;
 
-pub(crate) fn read(a: &Arguments) -> Result<String, NotationError> {
-    a.catch(0)?.text(a)
+/// The calls on catches.
+#[derive(Clone, Copy)]
+pub(crate) enum CatchCall {
+    Read,
+    Copy,
+    Key,
+    Effect,
+    AreSame,
+    Merge,
 }
 
-pub(crate) fn copy(a: &Arguments) -> Result<String, NotationError> {
-    a.catch(0)?.try_clone()?.text(a)
+const CALLS: [(&[u8], CatchCall); 6] = [
+    (b"read_catch", CatchCall::Read),
+    (b"copy_catch", CatchCall::Copy),
+    (b"key_of_catch", CatchCall::Key),
+    (b"effect", CatchCall::Effect),
+    (b"are_same_catches", CatchCall::AreSame),
+    (b"merge", CatchCall::Merge),
+];
+
+impl CatchCall {
+    /// The call of a name.
+    pub(crate) fn of(name: &[u8]) -> Option<CatchCall> {
+        find(&CALLS, name)
+    }
+
+    /// Reads the arguments of a line, and makes the call.
+    pub(crate) fn ask(self, asked: CallLine<'_>, wants: &mut Wants) -> Outcome {
+        match self {
+            CatchCall::Read => ask_one(asked, wants, read),
+            CatchCall::Copy => ask_one(asked, wants, copy),
+            CatchCall::Key => ask_one(asked, wants, key),
+            CatchCall::Effect => ask_one(asked, wants, effect),
+            CatchCall::AreSame => ask_two(asked, wants, are_same),
+            CatchCall::Merge => ask_two(asked, wants, merged),
+        }
+    }
 }
 
-pub(crate) fn key(a: &Arguments) -> Result<String, NotationError> {
-    let key = a.catch(0)?.key();
-    Ok(key_text(a, key)?)
+fn read(table: &Table, j: &Catch) -> Outcome {
+    j.shown(table)
 }
 
-pub(crate) fn effect(a: &Arguments) -> Result<String, NotationError> {
-    let j = a.catch(0)?;
-    join(a.alloc(), j.effect(), &[])?.text(a)
+fn copy(table: &Table, j: &Catch) -> Outcome {
+    made(table, j.try_clone())
 }
 
-pub(crate) fn are_same(a: &Arguments) -> Result<String, NotationError> {
-    let left = a.catch(0)?;
-    let right = a.catch(1)?;
-    yes_or_no(a, left.is_same(right))
+fn key(table: &Table, j: &Catch) -> Outcome {
+    Ok(key_text(table, j.key())?)
 }
 
-pub(crate) fn commuted(a: &Arguments) -> Result<String, NotationError> {
-    let j = a.catch(0)?;
-    let k = a.catch(1)?;
-    both(a, commute(a.alloc(), j, k)?)
+fn effect(table: &Table, j: &Catch) -> Outcome {
+    made(table, join(table.alloc(), j.effect(), &[]))
 }
 
-pub(crate) fn merged(a: &Arguments) -> Result<String, NotationError> {
-    let j = a.catch(0)?;
-    let k = a.catch(1)?;
-    both(a, merge(a.alloc(), j, k)?)
+fn are_same(table: &Table, left: &Catch, right: &Catch) -> Outcome {
+    yes_or_no(table, left.is_same(right))
+}
+
+pub(crate) fn commuted(table: &Table, j: &Catch, k: &Catch) -> Outcome {
+    both(table, commute(table.alloc(), j, k))
+}
+
+fn merged(table: &Table, j: &Catch, k: &Catch) -> Outcome {
+    both(table, merge(table.alloc(), j, k))
 }

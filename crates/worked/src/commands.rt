@@ -57,12 +57,20 @@ pub(crate) fn number(word: &[u8]) -> Result<u32, PlayFault> {
 impl<'a> Command<'a> {
     /// The call of the command. Each `%` of its first line stands for how often it was asked.
     pub(crate) fn call(self, alloc: Global, time: u32) -> Result<Call, PlayFault> {
-        match listless(alloc, self.first)? {
-            Some(call) => Ok(call),
-            None => {
-                let text = self.text(alloc, time)?;
-                only_call(read_script(alloc, &text)?)
-            }
+        if let Some(branches) = self.first.strip_prefix(b"pull-listed ") {
+            return listless_pull(alloc, branches);
+        }
+        if let Some(branch) = self.first.strip_prefix(b"obliterate-listed ") {
+            return listless_obliterate(alloc, branch);
+        }
+        self.read_call(alloc, time)
+    }
+
+    fn read_call(self, alloc: Global, time: u32) -> Result<Call, PlayFault> {
+        let text = self.text(alloc, time)?;
+        match read_script(alloc, &text) {
+            Ok(script) => only_call(script),
+            Err(fault) => Err(PlayFault::from(fault)),
         }
     }
 
@@ -102,26 +110,30 @@ fn append_line(text: &mut Vec<u8>, line: &[u8]) -> Result<(), PlayFault> {
 }
 
 fn only_call(script: Script) -> Result<Call, PlayFault> {
-    let mut sections = script.into_sections();
-    let Some(mut calls) = sections.pop() else {
+    if !has_one_call(script.sections()) {
         return Err(NO_COMMAND);
-    };
-    match calls.pop() {
-        Some(call) if calls.is_empty() && sections.is_empty() => Ok(call),
-        _ => Err(NO_COMMAND),
+    }
+    let mut sections = script.into_sections();
+    match sections.pop() {
+        Some(calls) => last_of(calls),
+        None => Err(NO_COMMAND),
     }
 }
 
-/// The calls that no script has: with an empty list of names, as `pull-listed FROM TO` and
-/// `obliterate-listed BRANCH`.
-fn listless(alloc: Global, line: &[u8]) -> Result<Option<Call>, PlayFault> {
-    match line.split_once_str(b" ") {
-        Some((b"pull-listed", branches)) => Ok(Some(listless_pull(alloc, branches)?)),
-        Some((b"obliterate-listed", branch)) => Ok(Some(listless_obliterate(alloc, branch)?)),
-        _ => Ok(None),
+fn has_one_call(sections: &[Vec<Call>]) -> bool {
+    match sections {
+        [calls] => calls.len() == 1,
+        _ => false,
     }
 }
 
+fn last_of(calls: Vec<Call>) -> Result<Call, PlayFault> {
+    let mut calls = calls;
+    calls.pop().ok_or(NO_COMMAND)
+}
+
+// The calls that no script has: with an empty list of names, as `pull-listed FROM TO` and
+// `obliterate-listed BRANCH`.
 fn listless_pull(alloc: Global, branches: &[u8]) -> Result<Call, PlayFault> {
     let Some((from, to)) = branches.split_once_str(b" ") else {
         return Err(NO_COMMAND);

@@ -1,4 +1,4 @@
-use crate::books::{Answer, append_history_again, call_again};
+use crate::books::{Answer, append_history_again, call_again, pass_over};
 use crate::commands::Command;
 use crate::faults::PlayFault;
 use crate::runs::append_again;
@@ -35,13 +35,39 @@ pub(crate) fn ask<R: Wait>(
     wants: &mut Wants,
 ) -> Result<(), PlayFault> {
     for time in 1..=command.count {
-        let call = call_again(alloc, command, time, wants)?;
-        let answer = ask_again(rt, seating, command.seat, &call, wants)?;
-        if time == command.count {
-            write_again(alloc, text, &answer, wants)?;
-        }
+        ask_once(rt, alloc, seating, command, time, text, wants)?;
     }
     Ok(())
+}
+
+fn ask_once<R: Wait>(
+    rt: &R,
+    alloc: Global,
+    seating: &mut Seating,
+    command: Command<'_>,
+    time: u32,
+    text: &mut Vec<u8>,
+    wants: &mut Wants,
+) -> Result<(), PlayFault> {
+    let call = call_again(alloc, command, time, wants)?;
+    let answer = ask_again(rt, seating, command.seat, &call, wants);
+    if time == command.count {
+        write_answer(alloc, text, answer, wants)
+    } else {
+        pass_over(answer)
+    }
+}
+
+fn write_answer(
+    alloc: Global,
+    text: &mut Vec<u8>,
+    answer: Result<Answer, PlayFault>,
+    wants: &mut Wants,
+) -> Result<(), PlayFault> {
+    match answer {
+        Ok(answer) => write_again(alloc, text, &answer, wants),
+        Err(fault) => Err(fault),
+    }
 }
 
 /// Asks at a seat, and asks again where the call wanted memory and left the seat with as many accepted
@@ -54,11 +80,20 @@ fn ask_again<R: Wait>(
     wants: &mut Wants,
 ) -> Result<Answer, PlayFault> {
     let before = seating.seen(seat)?;
-    let answer = seating.ask(rt, seat, call)?;
-    let is_wanting = matches!(answer, Err(Fault::Memory));
-    if !is_wanting {
-        return Ok(answer);
+    match seating.ask(rt, seat, call) {
+        Ok(Err(Fault::Memory)) => ask_once_more(rt, seating, seat, call, before, wants),
+        answer => answer,
     }
+}
+
+fn ask_once_more<R: Wait>(
+    rt: &R,
+    seating: &mut Seating,
+    seat: u32,
+    call: &Call,
+    before: Seen,
+    wants: &mut Wants,
+) -> Result<Answer, PlayFault> {
     wants.note();
     if before.is_kept_in(seating.seen(seat)?) {
         seating.ask(rt, seat, call)
@@ -142,12 +177,20 @@ pub(crate) fn tell_history(
     text: &mut Vec<u8>,
     wants: &mut Wants,
 ) -> Result<(), PlayFault> {
-    let history = match seating.history(number) {
+    let history = history_again(seating, number, wants)?;
+    append_history_again(text, &history, wants)
+}
+
+fn history_again(
+    seating: &Seating,
+    number: u32,
+    wants: &mut Wants,
+) -> Result<Vec<(u32, Call)>, PlayFault> {
+    match seating.history(number) {
         Err(PlayFault::Memory) => {
             wants.note();
-            seating.history(number)?
+            seating.history(number)
         }
-        told => told?,
-    };
-    append_history_again(text, &history, wants)
+        told => told,
+    }
 }

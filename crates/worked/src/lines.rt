@@ -21,9 +21,43 @@ pub(crate) fn print_tables<R: Threads + Wait + Sync, W: Write>(
     out: &mut W,
 ) -> io::Result<Wants> {
     let lines = lines_of(alloc, input)?;
-    let mut table = Table::new(alloc);
+    print_lines(rt, alloc, &lines, out)
+}
+
+fn print_lines<R: Threads + Wait + Sync, W: Write>(
+    rt: &R,
+    alloc: Global,
+    lines: &[&[u8]],
+    out: &mut W,
+) -> io::Result<Wants> {
     let mut stage = Stage::new(alloc)?;
+    print_at(rt, alloc, lines, &mut stage, out)
+}
+
+fn print_at<R: Threads + Wait + Sync, W: Write>(
+    rt: &R,
+    alloc: Global,
+    lines: &[&[u8]],
+    stage: &mut Stage,
+    out: &mut W,
+) -> io::Result<Wants> {
+    let mut table = Table::new(alloc);
     let mut wants = Wants::new();
+    print_entries(rt, lines, &mut table, stage, &mut wants, out)?;
+    if allocate(alloc).is_err() {
+        wants.note();
+    }
+    Ok(wants)
+}
+
+fn print_entries<R: Threads + Wait + Sync, W: Write>(
+    rt: &R,
+    lines: &[&[u8]],
+    table: &mut Table,
+    stage: &mut Stage,
+    wants: &mut Wants,
+    out: &mut W,
+) -> io::Result<()> {
     let mut at = 0;
     for _ in 0..lines.len() {
         if at >= lines.len() {
@@ -31,14 +65,11 @@ pub(crate) fn print_tables<R: Threads + Wait + Sync, W: Write>(
         }
         let rest = &lines[at..];
         let length = entry_len(rest);
-        let text = play(rt, &mut table, &mut stage, &rest[..length], &mut wants)?;
+        let text = play(rt, table, stage, &rest[..length], wants)?;
         write_text(out, &text)?;
         at += length;
     }
-    if allocate(alloc).is_err() {
-        wants.note();
-    }
-    Ok(wants)
+    Ok(())
 }
 
 fn lines_of(alloc: Global, input: &[u8]) -> Result<Vec<&[u8]>, AllocError> {

@@ -54,7 +54,6 @@ mod shares;
 mod splits;
 mod tables;
 mod trees;
-mod values;
 mod wants;
 
 use lines::print_tables;

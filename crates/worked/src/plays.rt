@@ -1,3 +1,4 @@
+use crate::calls::find;
 use crate::commands::{command_of, number};
 use crate::entries::is_command;
 use crate::faults::PlayFault;
@@ -19,16 +20,39 @@ pub(crate) struct Stage {
     seating: Option<Seating>,
 }
 
-/// Whether an entry is none of a table of values: it begins with one of these words, or is a command.
+/// What a line says that is no command.
+#[derive(Clone, Copy)]
+enum Word {
+    Book,
+    Head,
+    History,
+    Meet,
+    Seen,
+    Adopted,
+}
+
+const WORDS: [(&[u8], Word); 6] = [
+    (b"book", Word::Book),
+    (b"head", Word::Head),
+    (b"history", Word::History),
+    (b"meet", Word::Meet),
+    (b"seen", Word::Seen),
+    (b"adopted", Word::Adopted),
+];
+
+/// Whether an entry is none of a table of values: it begins with one of these words or with `run`, or is a
+/// command.
 pub(crate) fn is_play(line: &[u8]) -> bool {
-    let word = match line.split_once_str(b" ") {
-        Some((word, _)) => word,
-        None => line,
-    };
-    matches!(
-        word,
-        b"book" | b"head" | b"history" | b"meet" | b"seen" | b"adopted" | b"run"
-    ) || is_command(line)
+    let (word, _) = split_word(line);
+    find(&WORDS, word).is_some() || word == b"run".as_slice() || is_command(line)
+}
+
+/// The first word of a line, and what stands behind it.
+fn split_word(line: &[u8]) -> (&[u8], &[u8]) {
+    match line.split_once_str(b" ") {
+        Some((word, rest)) => (word, rest),
+        None => (line, b""),
+    }
 }
 
 impl Stage {
@@ -98,16 +122,51 @@ impl Stage {
         text: &mut Vec<u8>,
         wants: &mut Wants,
     ) -> Result<(), PlayFault> {
-        let (word, rest) = line.split_once_str(b" ").unwrap_or((line, b""));
-        match word {
-            b"book" => self.begin(alloc, wants),
-            b"head" => self.open(alloc, rest, text, wants),
-            b"history" => self.tell_history(rest, text, wants),
-            b"meet" => self.meet(rest, text, wants),
-            b"seen" => heads::tell_seen(alloc, self.seating()?, number(rest)?, text, wants),
-            b"adopted" => heads::tell_adopted(alloc, self.seating()?, number(rest)?, text, wants),
-            _ => Err(NO_LINE),
+        let (word, rest) = split_word(line);
+        match find(&WORDS, word) {
+            Some(word) => self.do_word(alloc, word, rest, text, wants),
+            None => Err(NO_LINE),
         }
+    }
+
+    fn do_word(
+        &mut self,
+        alloc: Global,
+        word: Word,
+        rest: &[u8],
+        text: &mut Vec<u8>,
+        wants: &mut Wants,
+    ) -> Result<(), PlayFault> {
+        match word {
+            Word::Book => self.begin(alloc, wants),
+            Word::Head => self.open(alloc, rest, text, wants),
+            Word::History => self.tell_history(rest, text, wants),
+            Word::Meet => self.meet(rest, text, wants),
+            Word::Seen => self.tell_seen(alloc, rest, text, wants),
+            Word::Adopted => self.tell_adopted(alloc, rest, text, wants),
+        }
+    }
+
+    fn tell_seen(
+        &self,
+        alloc: Global,
+        seat: &[u8],
+        text: &mut Vec<u8>,
+        wants: &mut Wants,
+    ) -> Result<(), PlayFault> {
+        let seating = self.seating()?;
+        heads::tell_seen(alloc, seating, number(seat)?, text, wants)
+    }
+
+    fn tell_adopted(
+        &self,
+        alloc: Global,
+        seat: &[u8],
+        text: &mut Vec<u8>,
+        wants: &mut Wants,
+    ) -> Result<(), PlayFault> {
+        let seating = self.seating()?;
+        heads::tell_adopted(alloc, seating, number(seat)?, text, wants)
     }
 
     fn begin(&mut self, alloc: Global, wants: &mut Wants) -> Result<(), PlayFault> {

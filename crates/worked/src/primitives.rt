@@ -1,130 +1,217 @@
-use crate::arguments::Arguments;
-use crate::results::{Shown, both, change, joined, none, order, pair_text, word, yes_or_no};
+use crate::calls::{CallLine, ask_four, ask_one, ask_two, find};
+use crate::catches;
+use crate::results::{
+    Outcome, Shown, both, changed, joined, made, none, order, pair_text, word, yes_or_no,
+};
+use crate::tables::Table;
+use crate::wants::Wants;
+use camp_base::{Path, Tree};
 use camp_notation::{NotationError, lines_text, word_text};
-use camp_prim::{Hunk, Named, Primitive, commute, exchange};
+use camp_prim::{Hunk, Lines, Named, Primitive, commute, exchange};
 use camp_share::Share;
 use std::alloc::AllocError;
 
-pub(crate) fn hunk(a: &Arguments) -> Result<String, NotationError> {
-    match hunk_of(a)? {
-        Some(Primitive::Hunk(hunk)) => parts(a, &hunk),
-        _ => none(a),
+/// The calls on primitives.
+#[derive(Clone, Copy)]
+pub(crate) enum PrimitiveCall {
+    Hunk,
+    Read,
+    Copy,
+    CopyPrimitive,
+    CopyHunk,
+    Invert,
+    AreSame,
+    CompareLabels,
+    Apply,
+    ApplyPrimitive,
+    Exchange,
+    Commute,
+}
+
+const CALLS: [(&[u8], PrimitiveCall); 12] = [
+    (b"hunk", PrimitiveCall::Hunk),
+    (b"read", PrimitiveCall::Read),
+    (b"copy", PrimitiveCall::Copy),
+    (b"copy_primitive", PrimitiveCall::CopyPrimitive),
+    (b"copy_hunk", PrimitiveCall::CopyHunk),
+    (b"invert", PrimitiveCall::Invert),
+    (b"are_same", PrimitiveCall::AreSame),
+    (b"compare_labels", PrimitiveCall::CompareLabels),
+    (b"apply", PrimitiveCall::Apply),
+    (b"apply_primitive", PrimitiveCall::ApplyPrimitive),
+    (b"exchange", PrimitiveCall::Exchange),
+    (b"commute", PrimitiveCall::Commute),
+];
+
+impl PrimitiveCall {
+    /// The call of a name.
+    pub(crate) fn of(name: &[u8]) -> Option<PrimitiveCall> {
+        find(&CALLS, name)
+    }
+
+    /// Reads the arguments of a line, and makes the call.
+    pub(crate) fn ask(self, asked: CallLine<'_>, wants: &mut Wants) -> Outcome {
+        match self {
+            PrimitiveCall::Hunk => ask_four(asked, wants, hunk),
+            PrimitiveCall::Read => ask_one(asked, wants, read),
+            PrimitiveCall::Copy => ask_one(asked, wants, copy),
+            PrimitiveCall::CopyPrimitive => ask_one(asked, wants, copy_primitive),
+            PrimitiveCall::CopyHunk => ask_one(asked, wants, copy_hunk),
+            PrimitiveCall::Invert => ask_one(asked, wants, invert),
+            PrimitiveCall::AreSame => ask_two(asked, wants, are_same),
+            PrimitiveCall::CompareLabels => ask_two(asked, wants, compare),
+            PrimitiveCall::Apply => ask_two(asked, wants, apply),
+            PrimitiveCall::ApplyPrimitive => ask_two(asked, wants, apply_primitive),
+            PrimitiveCall::Exchange => ask_two(asked, wants, exchanged),
+            PrimitiveCall::Commute if asked.is_of_catches() => {
+                ask_two(asked, wants, catches::commuted)
+            }
+            PrimitiveCall::Commute => ask_two(asked, wants, commuted),
+        }
     }
 }
 
-fn hunk_of(a: &Arguments) -> Result<Option<Primitive>, NotationError> {
-    let line = a.number(1)?;
-    let path = a.path(0)?.try_clone()?;
-    let old = a.lines(2)?.share()?;
-    let new = a.lines(3)?.share()?;
-    Ok(Primitive::hunk(path, line, old, new))
+fn hunk(table: &Table, path: &Path, line: &u32, old: &Lines, new: &Lines) -> Outcome {
+    match hunk_of(path, *line, old, new) {
+        Ok(Some(primitive)) => hunk_text(table, &primitive),
+        Ok(None) => none(table),
+        Err(_) => Err(NotationError::Memory),
+    }
 }
 
-fn parts(a: &Arguments, hunk: &Hunk) -> Result<String, NotationError> {
-    let place = place(a, hunk)?;
-    let sides = sides(a, hunk)?;
+fn hunk_of(
+    path: &Path,
+    line: u32,
+    old: &Lines,
+    new: &Lines,
+) -> Result<Option<Primitive>, AllocError> {
+    let path = path.try_clone()?;
+    match shared(old, new) {
+        Ok((old, new)) => Ok(Primitive::hunk(path, line, old, new)),
+        Err(error) => Err(error),
+    }
+}
+
+fn shared(old: &Lines, new: &Lines) -> Result<(Lines, Lines), AllocError> {
+    let old = old.share()?;
+    match new.share() {
+        Ok(new) => Ok((old, new)),
+        Err(error) => Err(error),
+    }
+}
+
+fn hunk_text(table: &Table, primitive: &Primitive) -> Outcome {
+    match primitive {
+        Primitive::Hunk(hunk) => parts(table, hunk),
+        _ => none(table),
+    }
+}
+
+fn parts(table: &Table, hunk: &Hunk) -> Outcome {
+    let place = place(table, hunk)?;
+    let sides = sides(table, hunk)?;
     joined(place, " ", &sides)
 }
 
-fn place(a: &Arguments, hunk: &Hunk) -> Result<String, NotationError> {
-    let path = word_text(a.alloc(), hunk.path().bytes())?;
-    let line = line_text(a, hunk.line())?;
+fn place(table: &Table, hunk: &Hunk) -> Outcome {
+    let path = word_text(table.alloc(), hunk.path().bytes())?;
+    let line = line_text(table, hunk.line())?;
     joined(path, " ", &line)
 }
 
-fn line_text(a: &Arguments, line: u32) -> Result<String, AllocError> {
-    format!(in a.alloc(); "{line}")
+fn line_text(table: &Table, line: u32) -> Result<String, AllocError> {
+    format!(in table.alloc(); "{line}")
 }
 
-fn sides(a: &Arguments, hunk: &Hunk) -> Result<String, NotationError> {
-    let old = lines_text(a.alloc(), hunk.old())?;
-    let new = lines_text(a.alloc(), hunk.new())?;
+fn sides(table: &Table, hunk: &Hunk) -> Outcome {
+    let old = lines_text(table.alloc(), hunk.old())?;
+    let new = lines_text(table.alloc(), hunk.new())?;
     joined(old, " -> ", &new)
 }
 
-pub(crate) fn read(a: &Arguments) -> Result<String, NotationError> {
-    a.named(0)?.text(a)
+fn read(table: &Table, p: &Named) -> Outcome {
+    p.shown(table)
 }
 
-pub(crate) fn copy(a: &Arguments) -> Result<String, NotationError> {
-    a.named(0)?.try_clone()?.text(a)
+fn copy(table: &Table, p: &Named) -> Outcome {
+    made(table, p.try_clone())
 }
 
 /// Whether a copy of what the primitive does is the same.
-pub(crate) fn copy_primitive(a: &Arguments) -> Result<String, NotationError> {
-    let p = a.named(0)?;
-    let copy = p.prim.try_clone()?;
-    yes_or_no(a, copy.is_same(&p.prim))
-}
-
-pub(crate) fn copy_hunk(a: &Arguments) -> Result<String, NotationError> {
-    match &a.named(0)?.prim {
-        Primitive::Hunk(hunk) => parts(a, &hunk.try_clone()?),
-        _ => none(a),
+fn copy_primitive(table: &Table, p: &Named) -> Outcome {
+    match p.prim.try_clone() {
+        Ok(copy) => yes_or_no(table, copy.is_same(&p.prim)),
+        Err(_) => Err(NotationError::Memory),
     }
 }
 
-pub(crate) fn invert(a: &Arguments) -> Result<String, NotationError> {
-    a.named(0)?.try_clone()?.invert().text(a)
+fn copy_hunk(table: &Table, p: &Named) -> Outcome {
+    match &p.prim {
+        Primitive::Hunk(hunk) => copied_parts(table, hunk),
+        _ => none(table),
+    }
 }
 
-pub(crate) fn are_same(a: &Arguments) -> Result<String, NotationError> {
-    let left = a.named(0)?;
-    let right = a.named(1)?;
-    yes_or_no(a, left.is_same(right))
+fn copied_parts(table: &Table, hunk: &Hunk) -> Outcome {
+    match hunk.try_clone() {
+        Ok(copy) => parts(table, &copy),
+        Err(_) => Err(NotationError::Memory),
+    }
 }
 
-pub(crate) fn compare(a: &Arguments) -> Result<String, NotationError> {
-    let left = a.named(0)?.label();
-    let right = a.named(1)?.label();
-    order(a, left.cmp(&right))
+fn invert(table: &Table, p: &Named) -> Outcome {
+    match p.try_clone() {
+        Ok(copy) => made(table, Ok(copy.invert())),
+        Err(_) => Err(NotationError::Memory),
+    }
 }
 
-pub(crate) fn apply(a: &Arguments) -> Result<String, NotationError> {
-    let p = a.named(0)?;
-    let before = a.tree(1)?;
+fn are_same(table: &Table, left: &Named, right: &Named) -> Outcome {
+    yes_or_no(table, left.is_same(right))
+}
+
+fn compare(table: &Table, left: &Named, right: &Named) -> Outcome {
+    order(table, left.label().cmp(&right.label()))
+}
+
+fn apply(table: &Table, p: &Named, before: &Tree) -> Outcome {
     let mut tree = before.try_clone()?;
     let answer = p.apply(&mut tree);
-    change(a, answer, before, &tree)
+    changed(table, before, tree, answer)
 }
 
-pub(crate) fn apply_primitive(a: &Arguments) -> Result<String, NotationError> {
-    let p = a.named(0)?;
-    let before = a.tree(1)?;
+fn apply_primitive(table: &Table, p: &Named, before: &Tree) -> Outcome {
     let mut tree = before.try_clone()?;
     let answer = p.prim.apply(&mut tree);
-    change(a, answer, before, &tree)
+    changed(table, before, tree, answer)
 }
 
-pub(crate) fn commuted(a: &Arguments) -> Result<String, NotationError> {
-    let p = a.named(0)?;
-    let q = a.named(1)?;
-    both(a, commute(p, q)?)
+fn commuted(table: &Table, p: &Named, q: &Named) -> Outcome {
+    both(table, commute(p, q))
 }
 
 /// The two as they stand after an exchange; both as they were where they can't change places.
-pub(crate) fn exchanged(a: &Arguments) -> Result<String, NotationError> {
-    let p = a.named(0)?;
-    let q = a.named(1)?;
-    exchanged_copies(a, p, q)
+fn exchanged(table: &Table, p: &Named, q: &Named) -> Outcome {
+    match p.try_clone() {
+        Ok(first) => exchanged_with(table, first, q),
+        Err(_) => Err(NotationError::Memory),
+    }
 }
 
-fn exchanged_copies(a: &Arguments, p: &Named, q: &Named) -> Result<String, NotationError> {
-    let mut first = p.try_clone()?;
-    let mut second = q.try_clone()?;
-    exchanged_here(a, &mut first, &mut second)
+fn exchanged_with(table: &Table, first: Named, q: &Named) -> Outcome {
+    let mut first = first;
+    match q.try_clone() {
+        Ok(mut second) => exchanged_here(table, &mut first, &mut second),
+        Err(_) => Err(NotationError::Memory),
+    }
 }
 
-fn exchanged_here(
-    a: &Arguments,
-    first: &mut Named,
-    second: &mut Named,
-) -> Result<String, NotationError> {
+fn exchanged_here(table: &Table, first: &mut Named, second: &mut Named) -> Outcome {
     let done = exchange(first, second);
-    let text = pair_text(a, first, second)?;
-    if done { Ok(text) } else { stayed(a, &text) }
+    let text = pair_text(table, first, second)?;
+    if done { Ok(text) } else { stayed(table, &text) }
 }
 
-fn stayed(a: &Arguments, text: &str) -> Result<String, NotationError> {
-    joined(word(a, "none")?, ": ", text)
+fn stayed(table: &Table, text: &str) -> Outcome {
+    joined(word(table, "none")?, ": ", text)
 }

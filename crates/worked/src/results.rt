@@ -1,6 +1,6 @@
-use crate::arguments::Arguments;
 use crate::numbers::{Numbers, numbers_text};
 use crate::places::{Places, places_text};
+use crate::tables::Table;
 use camp_base::{Apply, BaseFault, Tree};
 use camp_catch::Catch;
 use camp_ctx::{Contexted, CtxSet};
@@ -14,75 +14,83 @@ use camp_share::Shared;
 use std::alloc::AllocError;
 use std::cmp::Ordering;
 
+/// The result of a call, or in which words it is refused.
+pub(crate) type Outcome = Result<String, NotationError>;
+
 /// What a result may be. A contexted patch, a set, a catch and a list of catches are read back, and it
 /// is told where that gives another.
 pub(crate) trait Shown {
     /// The text of the value.
-    fn text(&self, a: &Arguments) -> Result<String, NotationError>;
+    fn shown(&self, table: &Table) -> Outcome;
 }
 
 impl Shown for Named {
-    fn text(&self, a: &Arguments) -> Result<String, NotationError> {
-        Ok(named_text(a.alloc(), a.known(), self)?)
+    fn shown(&self, table: &Table) -> Outcome {
+        Ok(named_text(table.alloc(), table.known(), self)?)
     }
 }
 
 impl Shown for Seq {
-    fn text(&self, a: &Arguments) -> Result<String, NotationError> {
-        Ok(list_text(a.alloc(), a.known(), self)?)
+    fn shown(&self, table: &Table) -> Outcome {
+        Ok(list_text(table.alloc(), table.known(), self)?)
     }
 }
 
 impl Shown for Tree {
-    fn text(&self, a: &Arguments) -> Result<String, NotationError> {
-        Ok(tree_text(a.alloc(), self)?)
+    fn shown(&self, table: &Table) -> Outcome {
+        Ok(tree_text(table.alloc(), self)?)
     }
 }
 
 impl Shown for Contexted {
-    fn text(&self, a: &Arguments) -> Result<String, NotationError> {
-        let text = contexted_text(a.alloc(), a.known(), self)?;
-        let read = read_contexted(a.alloc(), a.known(), text.as_bytes())?;
-        told(text, read.is_same(self))
+    fn shown(&self, table: &Table) -> Outcome {
+        let text = contexted_text(table.alloc(), table.known(), self)?;
+        match read_contexted(table.alloc(), table.known(), text.as_bytes()) {
+            Ok(read) => told(text, read.is_same(self)),
+            Err(why) => Err(why),
+        }
     }
 }
 
 impl Shown for CtxSet {
-    fn text(&self, a: &Arguments) -> Result<String, NotationError> {
-        let text = set_text(a.alloc(), a.known(), self)?;
-        let read = read_set(a.alloc(), a.known(), text.as_bytes())?;
-        told(text, read.is_same(self))
+    fn shown(&self, table: &Table) -> Outcome {
+        let text = set_text(table.alloc(), table.known(), self)?;
+        match read_set(table.alloc(), table.known(), text.as_bytes()) {
+            Ok(read) => told(text, read.is_same(self)),
+            Err(why) => Err(why),
+        }
     }
 }
 
 impl Shown for Catch {
-    fn text(&self, a: &Arguments) -> Result<String, NotationError> {
-        let text = catch_text(a.alloc(), a.known(), self)?;
-        let read = read_catch(a.alloc(), a.known(), text.as_bytes())?;
-        told(text, read.is_same(self))
+    fn shown(&self, table: &Table) -> Outcome {
+        let text = catch_text(table.alloc(), table.known(), self)?;
+        match read_catch(table.alloc(), table.known(), text.as_bytes()) {
+            Ok(read) => told(text, read.is_same(self)),
+            Err(why) => Err(why),
+        }
     }
 }
 
 impl Shown for Numbers {
-    fn text(&self, a: &Arguments) -> Result<String, NotationError> {
-        Ok(numbers_text(a.alloc(), self)?)
+    fn shown(&self, table: &Table) -> Outcome {
+        Ok(numbers_text(table.alloc(), self)?)
     }
 }
 
 impl Shown for Places {
-    fn text(&self, a: &Arguments) -> Result<String, NotationError> {
-        Ok(places_text(a.alloc(), self)?)
+    fn shown(&self, table: &Table) -> Outcome {
+        Ok(places_text(table.alloc(), self)?)
     }
 }
 
 /// The text of a list of catches, which is read back too.
-pub(crate) fn catch_list_text(
-    a: &Arguments,
-    list: &[Shared<Catch>],
-) -> Result<String, NotationError> {
-    let text = catches_text(a.alloc(), a.known(), list)?;
-    let read = read_catches(a.alloc(), a.known(), text.as_bytes())?;
-    told(text, are_same(list, &read))
+pub(crate) fn catch_list_text(table: &Table, list: &[Shared<Catch>]) -> Outcome {
+    let text = catches_text(table.alloc(), table.known(), list)?;
+    match read_catches(table.alloc(), table.known(), text.as_bytes()) {
+        Ok(read) => told(text, are_same(list, &read)),
+        Err(why) => Err(why),
+    }
 }
 
 fn are_same(list: &[Shared<Catch>], other: &[Shared<Catch>]) -> bool {
@@ -95,7 +103,7 @@ fn are_same(list: &[Shared<Catch>], other: &[Shared<Catch>]) -> bool {
 }
 
 // A text, and whether it is read back as the value that it was written for.
-fn told(text: String, is_read_back: bool) -> Result<String, NotationError> {
+fn told(text: String, is_read_back: bool) -> Outcome {
     let mut text = text;
     if !is_read_back {
         text.push_str(", which is read back as another")?;
@@ -103,53 +111,72 @@ fn told(text: String, is_read_back: bool) -> Result<String, NotationError> {
     Ok(text)
 }
 
-/// One result of a call, or none.
-pub(crate) fn found<T: Shown>(a: &Arguments, value: Option<&T>) -> Result<String, NotationError> {
+/// The result of a call.
+pub(crate) fn made<T: Shown + Drop>(table: &Table, value: Result<T, AllocError>) -> Outcome {
     match value {
-        Some(value) => value.text(a),
-        None => none(a),
+        Ok(value) => value.shown(table),
+        Err(_) => Err(NotationError::Memory),
+    }
+}
+
+/// One result of a call, or none.
+pub(crate) fn found<T: Shown>(table: &Table, value: Option<&T>) -> Outcome {
+    match value {
+        Some(value) => value.shown(table),
+        None => none(table),
+    }
+}
+
+/// One result of a call that takes memory, or none.
+pub(crate) fn found_one<T: Shown + Drop>(
+    table: &Table,
+    value: Result<Option<T>, AllocError>,
+) -> Outcome {
+    match value {
+        Ok(Some(value)) => value.shown(table),
+        Ok(None) => none(table),
+        Err(_) => Err(NotationError::Memory),
     }
 }
 
 /// Two results of a call, one behind the other, or none.
 pub(crate) fn both<T: Shown + Drop, U: Shown + Drop>(
-    a: &Arguments,
-    pair: Option<(T, U)>,
-) -> Result<String, NotationError> {
-    match &pair {
-        Some((first, second)) => pair_text(a, first, second),
-        None => none(a),
+    table: &Table,
+    pair: Result<Option<(T, U)>, AllocError>,
+) -> Outcome {
+    match pair {
+        Ok(Some((first, second))) => pair_text(table, &first, &second),
+        Ok(None) => none(table),
+        Err(_) => Err(NotationError::Memory),
     }
 }
 
 /// Two results of a call, one behind the other.
-pub(crate) fn pair_text<T: Shown, U: Shown>(
-    a: &Arguments,
-    first: &T,
-    second: &U,
-) -> Result<String, NotationError> {
-    let first = first.text(a)?;
-    let second = second.text(a)?;
-    joined(first, ", ", &second)
+pub(crate) fn pair_text<T: Shown, U: Shown>(table: &Table, first: &T, second: &U) -> Outcome {
+    let first = first.shown(table)?;
+    match second.shown(table) {
+        Ok(second) => joined(first, ", ", &second),
+        Err(why) => Err(why),
+    }
 }
 
 /// No result.
-pub(crate) fn none(a: &Arguments) -> Result<String, NotationError> {
-    word(a, "none")
+pub(crate) fn none(table: &Table) -> Outcome {
+    word(table, "none")
 }
 
 /// A word as it is.
-pub(crate) fn word(a: &Arguments, text: &str) -> Result<String, NotationError> {
-    Ok(String::from_str(a.alloc(), text)?)
+pub(crate) fn word(table: &Table, text: &str) -> Outcome {
+    Ok(String::from_str(table.alloc(), text)?)
 }
 
 /// The answer to a question.
-pub(crate) fn yes_or_no(a: &Arguments, is_so: bool) -> Result<String, NotationError> {
-    word(a, if is_so { "yes" } else { "no" })
+pub(crate) fn yes_or_no(table: &Table, is_so: bool) -> Outcome {
+    word(table, if is_so { "yes" } else { "no" })
 }
 
 /// A text, what stands between, and another text.
-pub(crate) fn joined(first: String, between: &str, second: &str) -> Result<String, NotationError> {
+pub(crate) fn joined(first: String, between: &str, second: &str) -> Outcome {
     let mut text = first;
     text.push_str(between)?;
     text.push_str(second)?;
@@ -157,18 +184,18 @@ pub(crate) fn joined(first: String, between: &str, second: &str) -> Result<Strin
 }
 
 /// An absolute label: a label without a caret.
-pub(crate) fn key_text(a: &Arguments, key: Key) -> Result<String, AllocError> {
+pub(crate) fn key_text(table: &Table, key: Key) -> Result<String, AllocError> {
     let label = Label {
         name: key.name,
         place: key.place,
         inverse: false,
     };
-    label_text(a.alloc(), label)
+    label_text(table.alloc(), label)
 }
 
-pub(crate) fn order(a: &Arguments, order: Ordering) -> Result<String, NotationError> {
+pub(crate) fn order(table: &Table, order: Ordering) -> Outcome {
     word(
-        a,
+        table,
         match order {
             Ordering::Less => "less",
             Ordering::Equal => "equal",
@@ -179,30 +206,30 @@ pub(crate) fn order(a: &Arguments, order: Ordering) -> Result<String, NotationEr
 
 /// The tree that a change leaves, or in which words it is refused. A change that is refused and yet
 /// leaves another tree is told.
-pub(crate) fn change(
-    a: &Arguments,
-    answer: Result<(), Apply>,
+pub(crate) fn changed(
+    table: &Table,
     before: &Tree,
-    after: &Tree,
-) -> Result<String, NotationError> {
+    after: Tree,
+    answer: Result<(), Apply>,
+) -> Outcome {
     match answer {
-        Ok(()) => after.text(a),
-        Err(why) => refused(a, why, after.is_same(before)),
+        Ok(()) => after.shown(table),
+        Err(why) => refused(table, why, after.is_same(before)),
     }
 }
 
-fn refused(a: &Arguments, why: Apply, is_kept: bool) -> Result<String, NotationError> {
+fn refused(table: &Table, why: Apply, is_kept: bool) -> Outcome {
     match why {
-        _ if !is_kept => Ok(format!(in a.alloc(); "{why}, and another tree")?),
-        Apply::DoesNotApply => Ok(format!(in a.alloc(); "{why}")?),
+        _ if !is_kept => Ok(format!(in table.alloc(); "{why}, and another tree")?),
+        Apply::DoesNotApply => Ok(format!(in table.alloc(); "{why}")?),
         Apply::Memory => Err(NotationError::Memory),
     }
 }
 
 /// In which words bytes are refused.
-pub(crate) fn fault(a: &Arguments, fault: BaseFault) -> Result<String, NotationError> {
+pub(crate) fn fault(table: &Table, fault: BaseFault) -> Outcome {
     match fault {
         BaseFault::Memory => Err(NotationError::Memory),
-        _ => Ok(format!(in a.alloc(); "{fault}")?),
+        _ => Ok(format!(in table.alloc(); "{fault}")?),
     }
 }

@@ -1,3 +1,4 @@
+use crate::calls::find;
 use crate::faults::PlayFault;
 use crate::ranks::ranked;
 use crate::wants::Wants;
@@ -38,13 +39,14 @@ pub(crate) fn run_of(line: &[u8]) -> Option<Manner> {
 }
 
 fn way_of(line: &[u8]) -> Option<Way> {
-    match line {
-        b"run book" => Some(Way::Book),
-        b"run locked" => Some(Way::Locked),
-        b"run head" => Some(Way::Head),
-        _ => None,
-    }
+    find(&WAYS, line)
 }
+
+const WAYS: [(&[u8], Way); 3] = [
+    (b"run book", Way::Book),
+    (b"run locked", Way::Locked),
+    (b"run head", Way::Head),
+];
 
 /// Runs a script, again where the run, or its writer, wanted memory and nothing was written, and appends
 /// what it writes.

@@ -1,59 +1,107 @@
-use crate::arguments::Arguments;
-use crate::results::{Shown, found, yes_or_no};
-use camp_ctx::CtxSet;
-use camp_notation::NotationError;
+use crate::calls::{CallLine, ask_one, ask_two, find};
+use crate::results::{Outcome, Shown, found, made, yes_or_no};
+use crate::tables::Table;
+use crate::wants::Wants;
+use camp_ctx::{Contexted, CtxSet};
+use camp_prim::{Label, Named};
+use camp_seq::Seq;
 
-pub(crate) fn read(a: &Arguments) -> Result<String, NotationError> {
-    a.set(0)?.text(a)
+/// The calls on sets of contexted patches.
+#[derive(Clone, Copy)]
+pub(crate) enum SetCall {
+    Read,
+    Copy,
+    AreSame,
+    Insert,
+    Without,
+    MemberCount,
+    Member,
+    Sole,
+    MemberAt,
+    AddOne,
+    Add,
 }
 
-pub(crate) fn copy(a: &Arguments) -> Result<String, NotationError> {
-    a.set(0)?.try_clone()?.text(a)
+const CALLS: [(&[u8], SetCall); 11] = [
+    (b"read_set", SetCall::Read),
+    (b"copy_set", SetCall::Copy),
+    (b"are_same_sets", SetCall::AreSame),
+    (b"insert", SetCall::Insert),
+    (b"without", SetCall::Without),
+    (b"member_count", SetCall::MemberCount),
+    (b"member", SetCall::Member),
+    (b"sole", SetCall::Sole),
+    (b"member_at", SetCall::MemberAt),
+    (b"add_one_to_set", SetCall::AddOne),
+    (b"add_to_set", SetCall::Add),
+];
+
+impl SetCall {
+    /// The call of a name.
+    pub(crate) fn of(name: &[u8]) -> Option<SetCall> {
+        find(&CALLS, name)
+    }
+
+    /// Reads the arguments of a line, and makes the call.
+    pub(crate) fn ask(self, asked: CallLine<'_>, wants: &mut Wants) -> Outcome {
+        match self {
+            SetCall::Read => ask_one(asked, wants, read),
+            SetCall::Copy => ask_one(asked, wants, copy),
+            SetCall::AreSame => ask_two(asked, wants, are_same),
+            SetCall::Insert => ask_two(asked, wants, insert),
+            SetCall::Without => ask_two(asked, wants, without),
+            SetCall::MemberCount => ask_one(asked, wants, member_count),
+            SetCall::Member => ask_two(asked, wants, member),
+            SetCall::Sole => ask_one(asked, wants, sole_member),
+            SetCall::MemberAt => ask_two(asked, wants, member_at),
+            SetCall::AddOne => ask_two(asked, wants, add_one),
+            SetCall::Add => ask_two(asked, wants, add),
+        }
+    }
 }
 
-pub(crate) fn are_same(a: &Arguments) -> Result<String, NotationError> {
-    let left = a.set(0)?;
-    let right = a.set(1)?;
-    yes_or_no(a, left.is_same(right))
+fn read(table: &Table, set: &CtxSet) -> Outcome {
+    set.shown(table)
 }
 
-pub(crate) fn member_count(a: &Arguments) -> Result<String, NotationError> {
-    let count = a.set(0)?.len();
-    Ok(format!(in a.alloc(); "{count}")?)
+fn copy(table: &Table, set: &CtxSet) -> Outcome {
+    made(table, set.try_clone())
 }
 
-pub(crate) fn member(a: &Arguments) -> Result<String, NotationError> {
-    let key = a.key(1)?;
-    found(a, a.set(0)?.get(&key))
+fn are_same(table: &Table, left: &CtxSet, right: &CtxSet) -> Outcome {
+    yes_or_no(table, left.is_same(right))
 }
 
-pub(crate) fn member_at(a: &Arguments) -> Result<String, NotationError> {
-    let index = a.number(1)?;
-    found(a, a.set(0)?.at(index as usize))
+fn member_count(table: &Table, set: &CtxSet) -> Outcome {
+    let count = set.len();
+    Ok(format!(in table.alloc(); "{count}")?)
 }
 
-pub(crate) fn sole_member(a: &Arguments) -> Result<String, NotationError> {
-    found(a, a.set(0)?.sole())
+/// An absolute label is written as a label without a caret.
+fn member(table: &Table, set: &CtxSet, label: &Label) -> Outcome {
+    found(table, set.get(&label.key()))
 }
 
-pub(crate) fn insert(a: &Arguments) -> Result<String, NotationError> {
-    let x = a.contexted(1)?;
-    a.set(0)?.insert(x)?.text(a)
+fn member_at(table: &Table, set: &CtxSet, index: &u32) -> Outcome {
+    found(table, set.at(*index as usize))
 }
 
-pub(crate) fn without(a: &Arguments) -> Result<String, NotationError> {
-    let key = a.key(1)?;
-    a.set(0)?.without(&key)?.text(a)
+fn sole_member(table: &Table, set: &CtxSet) -> Outcome {
+    found(table, set.sole())
 }
 
-pub(crate) fn add_one(a: &Arguments) -> Result<String, NotationError> {
-    let p = a.named(0)?;
-    let set = a.set(1)?;
-    CtxSet::add_one(p, set)?.text(a)
+fn insert(table: &Table, set: &CtxSet, x: &Contexted) -> Outcome {
+    made(table, set.insert(x))
 }
 
-pub(crate) fn add(a: &Arguments) -> Result<String, NotationError> {
-    let s = a.list(0)?;
-    let set = a.set(1)?;
-    CtxSet::add(s, set)?.text(a)
+fn without(table: &Table, set: &CtxSet, label: &Label) -> Outcome {
+    made(table, set.without(&label.key()))
+}
+
+fn add_one(table: &Table, p: &Named, set: &CtxSet) -> Outcome {
+    made(table, CtxSet::add_one(p, set))
+}
+
+fn add(table: &Table, s: &Seq, set: &CtxSet) -> Outcome {
+    made(table, CtxSet::add(s, set))
 }

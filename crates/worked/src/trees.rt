@@ -1,78 +1,123 @@
-use crate::arguments::Arguments;
-use crate::results::{Shown, change, none, yes_or_no};
-use camp_base::{Line, Path};
-use camp_notation::{NotationError, lines_text};
+use crate::calls::{CallLine, ask_five, ask_one, ask_two, find};
+use crate::results::{Outcome, changed, made, none, yes_or_no};
+use crate::tables::Table;
+use crate::wants::Wants;
+use camp_base::{Line, Path, Tree};
+use camp_notation::lines_text;
+use camp_prim::Lines;
 use camp_share::SharedList;
 use std::alloc::AllocError;
 
-pub(crate) fn file_count(a: &Arguments) -> Result<String, NotationError> {
-    let count = a.tree(0)?.len();
-    Ok(format!(in a.alloc(); "{count}")?)
+/// The calls on trees.
+#[derive(Clone, Copy)]
+pub(crate) enum TreeCall {
+    FileCount,
+    IsEmpty,
+    File,
+    At,
+    Copy,
+    AddFile,
+    RemoveFile,
+    Splice,
+    AreSame,
 }
 
-pub(crate) fn is_empty(a: &Arguments) -> Result<String, NotationError> {
-    let is_empty = a.tree(0)?.is_empty();
-    yes_or_no(a, is_empty)
-}
+const CALLS: [(&[u8], TreeCall); 9] = [
+    (b"len", TreeCall::FileCount),
+    (b"is_empty", TreeCall::IsEmpty),
+    (b"file", TreeCall::File),
+    (b"at", TreeCall::At),
+    (b"copy_tree", TreeCall::Copy),
+    (b"add_file", TreeCall::AddFile),
+    (b"remove_file", TreeCall::RemoveFile),
+    (b"splice", TreeCall::Splice),
+    (b"are_same_trees", TreeCall::AreSame),
+];
 
-pub(crate) fn file(a: &Arguments) -> Result<String, NotationError> {
-    match a.tree(0)?.file(a.path(1)?) {
-        Some(lines) => Ok(file_text(a, lines)?),
-        None => none(a),
+impl TreeCall {
+    /// The call of a name.
+    pub(crate) fn of(name: &[u8]) -> Option<TreeCall> {
+        find(&CALLS, name)
+    }
+
+    /// Reads the arguments of a line, and makes the call.
+    pub(crate) fn ask(self, asked: CallLine<'_>, wants: &mut Wants) -> Outcome {
+        match self {
+            TreeCall::FileCount => ask_one(asked, wants, file_count),
+            TreeCall::IsEmpty => ask_one(asked, wants, is_empty),
+            TreeCall::File => ask_two(asked, wants, file),
+            TreeCall::At => ask_two(asked, wants, at),
+            TreeCall::Copy => ask_one(asked, wants, copy),
+            TreeCall::AddFile => ask_two(asked, wants, add_file),
+            TreeCall::RemoveFile => ask_two(asked, wants, remove_file),
+            TreeCall::Splice => ask_five(asked, wants, splice),
+            TreeCall::AreSame => ask_two(asked, wants, are_same_trees),
+        }
     }
 }
 
-fn file_text(a: &Arguments, lines: &SharedList<Line>) -> Result<String, AllocError> {
+fn file_count(table: &Table, tree: &Tree) -> Outcome {
+    let count = tree.len();
+    Ok(format!(in table.alloc(); "{count}")?)
+}
+
+fn is_empty(table: &Table, tree: &Tree) -> Outcome {
+    yes_or_no(table, tree.is_empty())
+}
+
+fn file(table: &Table, tree: &Tree, path: &Path) -> Outcome {
+    match tree.file(path) {
+        Some(lines) => Ok(file_text(table, lines)?),
+        None => none(table),
+    }
+}
+
+fn file_text(table: &Table, lines: &SharedList<Line>) -> Result<String, AllocError> {
     let lines = lines.to_vec()?;
-    lines_text(a.alloc(), &lines)
+    lines_text(table.alloc(), &lines)
 }
 
-pub(crate) fn at(a: &Arguments) -> Result<String, NotationError> {
-    let index = a.number(1)?;
-    match a.tree(0)?.at(index as usize) {
-        Some((path, lines)) => Ok(entry_text(a, path, lines)?),
-        None => none(a),
+fn at(table: &Table, tree: &Tree, index: &u32) -> Outcome {
+    match tree.at(*index as usize) {
+        Some((path, lines)) => Ok(entry_text(table, path, lines)?),
+        None => none(table),
     }
 }
 
-fn entry_text(a: &Arguments, path: &Path, lines: &SharedList<Line>) -> Result<String, AllocError> {
-    let lines = file_text(a, lines)?;
-    format!(in a.alloc(); "{path}: {lines}")
+fn entry_text(table: &Table, path: &Path, lines: &SharedList<Line>) -> Result<String, AllocError> {
+    let lines = file_text(table, lines)?;
+    format!(in table.alloc(); "{path}: {lines}")
 }
 
-pub(crate) fn copy(a: &Arguments) -> Result<String, NotationError> {
-    a.tree(0)?.try_clone()?.text(a)
+fn copy(table: &Table, tree: &Tree) -> Outcome {
+    made(table, tree.try_clone())
 }
 
-pub(crate) fn add_file(a: &Arguments) -> Result<String, NotationError> {
-    let before = a.tree(0)?;
-    let path = a.path(1)?;
+fn add_file(table: &Table, before: &Tree, path: &Path) -> Outcome {
     let mut tree = before.try_clone()?;
     let answer = tree.add_file(path);
-    change(a, answer, before, &tree)
+    changed(table, before, tree, answer)
 }
 
-pub(crate) fn remove_file(a: &Arguments) -> Result<String, NotationError> {
-    let before = a.tree(0)?;
-    let path = a.path(1)?;
+fn remove_file(table: &Table, before: &Tree, path: &Path) -> Outcome {
     let mut tree = before.try_clone()?;
     let answer = tree.remove_file(path);
-    change(a, answer, before, &tree)
+    changed(table, before, tree, answer)
 }
 
-pub(crate) fn splice(a: &Arguments) -> Result<String, NotationError> {
-    let before = a.tree(0)?;
-    let path = a.path(1)?;
-    let line = a.number(2)?;
-    let old = a.lines(3)?.as_slice();
-    let new = a.lines(4)?.as_slice();
+fn splice(
+    table: &Table,
+    before: &Tree,
+    path: &Path,
+    line: &u32,
+    old: &Lines,
+    new: &Lines,
+) -> Outcome {
     let mut tree = before.try_clone()?;
-    let answer = tree.splice(path, line, old, new);
-    change(a, answer, before, &tree)
+    let answer = tree.splice(path, *line, old.as_slice(), new.as_slice());
+    changed(table, before, tree, answer)
 }
 
-pub(crate) fn are_same_trees(a: &Arguments) -> Result<String, NotationError> {
-    let left = a.tree(0)?;
-    let right = a.tree(1)?;
-    yes_or_no(a, left.is_same(right))
+fn are_same_trees(table: &Table, left: &Tree, right: &Tree) -> Outcome {
+    yes_or_no(table, left.is_same(right))
 }
