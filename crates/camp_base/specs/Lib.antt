@@ -1,5 +1,6 @@
 pub mod Answers
 pub mod Bytes
 pub mod Inside
+pub mod Limits
 pub mod Made
 pub mod Trees

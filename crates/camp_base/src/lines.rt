@@ -32,7 +32,7 @@ impl Model for Line {
 impl Line {
     /// The line of these bytes. Bytes that are no line are refused before memory is asked for.
     pub fn new(alloc: Global, bytes: &[u8]) -> Result<Line, BaseFault>
-        ensures { Makes (is_line bytes.now) fault.BadLine bytes.now result }
+        ensures exact { Makes (is_line bytes.now) fault.BadLine bytes.now result }
     {
         if !is_line(bytes) {
             return Err(BaseFault::BadLine);
@@ -51,7 +51,7 @@ impl Line {
 
     /// The same line. It shares its bytes with this one and takes no memory.
     pub fn try_clone(&self) -> Result<Line, AllocError>
-        ensures { IfOk result (λ copy. copy ≡ self.now) }
+        ensures exact { IfOk result (λ copy. copy ≡ self.now) }
     {
         self.share()
     }

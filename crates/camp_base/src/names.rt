@@ -66,7 +66,7 @@ impl Key for Name {
 impl Name {
     /// The name that the bytes spell. It takes no memory.
     pub fn new(bytes: &[u8]) -> Result<Name, BaseFault>
-        ensures { result ≡ (if is_name bytes.now then Ok bytes.now else Err BaseFault.BadName) }
+        ensures exact { result ≡ (if is_name bytes.now then Ok bytes.now else Err BaseFault.BadName) }
     {
         if !is_name(bytes) {
             return Err(BaseFault::BadName);

@@ -38,7 +38,7 @@ impl Model for Path {
 impl Path {
     /// The path that the bytes spell. Bytes that are no path are refused before memory is asked for.
     pub fn new(alloc: Global, bytes: &[u8]) -> Result<Path, BaseFault>
-        ensures { Makes (is_path bytes.now) fault.BadPath bytes.now result }
+        ensures exact { Makes (is_path bytes.now) fault.BadPath bytes.now result }
     {
         if !is_path(bytes) {
             return Err(BaseFault::BadPath);
@@ -57,7 +57,7 @@ impl Path {
 
     /// The same path. It shares its bytes with this one and takes no memory.
     pub fn try_clone(&self) -> Result<Path, AllocError>
-        ensures { IfOk result (λ copy. copy ≡ self.now) }
+        ensures exact { IfOk result (λ copy. copy ≡ self.now) }
     {
         self.share()
     }

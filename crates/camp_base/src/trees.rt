@@ -34,7 +34,7 @@ impl Model for Tree {
 impl Tree {
     /// The tree without a file.
     pub fn empty(alloc: Global) -> Tree
-        ensures { result ≡ map.empty }
+        ensures exact { result ≡ map.empty }
     {
         Tree {
             files: SharedMap::new(alloc),
@@ -43,21 +43,21 @@ impl Tree {
 
     /// How many files the tree has.
     pub fn len(&self) -> usize
-        ensures { result ≡ map.len self.now }
+        ensures exact { result ≡ map.len self.now }
     {
         self.files.len()
     }
 
     /// Whether the tree has no file.
     pub fn is_empty(&self) -> bool
-        ensures { result ≡ (map.len self.now == 0) }
+        ensures exact { result ≡ (map.len self.now == 0) }
     {
         self.len() == 0
     }
 
     /// The lines of the file of a path.
     pub fn file(&self, path: &Path) -> Option<&SharedList<Line>>
-        ensures { MatchOption result
+        ensures exact { MatchOption result
             (map.get self.now path.now ≡ None)
             (λ lines. map.get self.now path.now ≡ Some lines.now) }
     {
@@ -72,7 +72,7 @@ impl Tree {
 
     /// The file at a place in the order of the paths: its path and its lines.
     pub fn at(&self, index: usize) -> Option<(&Path, &SharedList<Line>)>
-        ensures { MatchOption result
+        ensures exact { MatchOption result
             (slice_get (map.entries self.now) index ≡ None)
             (λ file. slice_get (map.entries self.now) index ≡ Some (file.0.now, file.1.now)) }
     {
@@ -87,7 +87,7 @@ impl Tree {
 
     /// Adds a file without lines.
     pub fn add_file(&mut self, path: &Path) -> Result<(), Apply>
-        ensures { Answers (Adds path.now) self.old result self.new }
+        ensures exact { Answers (Adds path.now) self.old result self.new }
     {
         if self.files.contains_key(path) {
             return Err(Apply::DoesNotApply);
@@ -98,7 +98,7 @@ impl Tree {
 
     /// Removes a file without lines.
     pub fn remove_file(&mut self, path: &Path) -> Result<(), Apply>
-        ensures { Answers (Removes path.now) self.old result self.new }
+        ensures exact { Answers (Removes path.now) self.old result self.new }
     {
         match self.file(path) {
             Some(lines) if lines.is_empty() => self.erase(path),
@@ -115,7 +115,7 @@ impl Tree {
         old: &[Line],
         new: &[Line],
     ) -> Result<(), Apply>
-        ensures { Answers (Splices path.now line old.now new.now) self.old result self.new }
+        ensures exact { Answers (Splices path.now line old.now new.now) self.old result self.new }
     {
         let Some(lines) = self.file(path) else {
             return Err(Apply::DoesNotApply);
@@ -132,7 +132,7 @@ impl Tree {
 
     /// Whether the other tree has the same files with the same lines. It takes no memory.
     pub fn is_same(&self, other: &Tree) -> bool
-        ensures { IsTrue result ↔ (self.now ≡ other.now) }
+        ensures exact { IsTrue result ↔ (self.now ≡ other.now) }
     {
         if self.files.len() != other.files.len() {
             return false;
@@ -142,7 +142,7 @@ impl Tree {
 
     /// The same tree, which shares all its files with this one.
     pub fn try_clone(&self) -> Result<Tree, AllocError>
-        ensures { IfOk result (λ copy. copy ≡ self.now) }
+        ensures exact { IfOk result (λ copy. copy ≡ self.now) }
     {
         let files = self.files.share()?;
         Ok(Tree { files })

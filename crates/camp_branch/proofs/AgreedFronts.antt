@@ -58,21 +58,21 @@ same_head : (g k : Catch) (front t : List Catch) → (g ∷ front) ≡ (k ∷ t)
 same_head g k front t e = cc
 
 -- a front that comes into the order of another does so with more behind both
-pub aligned_front : (others front theirs ours aligned : List Catch) → Align (keys_of others) front others → Align (keys_of theirs) ours aligned → Align (keys_of (others ++ theirs)) (front ++ ours) (others ++ aligned)
-aligned_front [] front theirs ours aligned v w = subst (λ f. Align (keys_of theirs) (f ++ ours) aligned) v w
-aligned_front (g ∷ others) front theirs ours aligned v w =
+pub aligned_front : (others front to_common from_common aligned : List Catch) → Align (keys_of others) front others → Align (keys_of to_common) from_common aligned → Align (keys_of (others ++ to_common)) (front ++ from_common) (others ++ aligned)
+aligned_front [] front to_common from_common aligned v w = subst (λ f. Align (keys_of to_common) (f ++ from_common) aligned) v w
+aligned_front (g ∷ others) front to_common from_common aligned v w =
     let rest = subst (Align (keys_of others) v.1) (sym (same_tail g v.0 others v.2 v.5)) v.4 in
-    (v.0, v.1 ++ ours, others ++ aligned, comes_within (catch_key g) front ours v.0 v.1 v.3, aligned_front others v.1 theirs ours aligned rest w, ap (λ k. k ∷ (others ++ aligned)) (same_head g v.0 others v.2 v.5))
+    (v.0, v.1 ++ from_common, others ++ aligned, comes_within (catch_key g) front from_common v.0 v.1 v.3, aligned_front others v.1 to_common from_common aligned rest w, ap (λ k. k ∷ (others ++ aligned)) (same_head g v.0 others v.2 v.5))
 
-align_sticks_front : (others front theirs ours : List Catch) (stuck : Key) → Align (keys_of others) front others → AlignSticks (keys_of theirs) ours stuck → AlignSticks (keys_of (others ++ theirs)) (front ++ ours) stuck
-align_sticks_front [] front theirs ours stuck v w = subst (λ f. AlignSticks (keys_of theirs) (f ++ ours) stuck) v w
-align_sticks_front (g ∷ others) front theirs ours stuck v w =
+align_sticks_front : (others front to_common from_common : List Catch) (stuck : Key) → Align (keys_of others) front others → AlignSticks (keys_of to_common) from_common stuck → AlignSticks (keys_of (others ++ to_common)) (front ++ from_common) stuck
+align_sticks_front [] front to_common from_common stuck v w = subst (λ f. AlignSticks (keys_of to_common) (f ++ from_common) stuck) v w
+align_sticks_front (g ∷ others) front to_common from_common stuck v w =
     let rest = subst (Align (keys_of others) v.1) (sym (same_tail g v.0 others v.2 v.5)) v.4 in
-    inr (v.0, v.1 ++ ours, comes_within (catch_key g) front ours v.0 v.1 v.3, align_sticks_front others v.1 theirs ours stuck rest w)
+    inr (v.0, v.1 ++ from_common, comes_within (catch_key g) front from_common v.0 v.1 v.3, align_sticks_front others v.1 to_common from_common stuck rest w)
 
-differs_front : (front aligned theirs : List Catch) (name : List ℕ) → DiffersAt aligned theirs name → DiffersAt (front ++ aligned) (front ++ theirs) name
-differs_front [] aligned theirs name w = w
-differs_front (k ∷ front) aligned theirs name w = inr (refl, differs_front front aligned theirs name w)
+differs_front : (front aligned to_common : List Catch) (name : List ℕ) → DiffersAt aligned to_common name → DiffersAt (front ++ aligned) (front ++ to_common) name
+differs_front [] aligned to_common name w = w
+differs_front (k ∷ front) aligned to_common name w = inr (refl, differs_front front aligned to_common name w)
 
 -- a front of `from`, and the one of `to` with which it agrees
 module _ (names : List (List ℕ)) (front others : List Catch) (a : AllOf names front) (b : AllOf names others) (agree : Align (keys_of others) front others) where
@@ -81,18 +81,18 @@ module _ (names : List (List ℕ)) (front others : List Catch) (a : AllOf names 
       inl (w.0, w.1, w.2, ap (fronted others) w.3 ∙ ap Ok (sym (append_assoc others to w.0)))
   last_front chosen beside to outcome (inr w) = inr (w.0, w.1, w.2, ap (fronted others) w.3)
 
-  same_then : (ours theirs chosen beside to : List Catch) (outcome : Outcome) → SameThen ours theirs (MergedLast chosen beside (λ taken rest o. o ≡ Ok (to ++ taken))) outcome → SameThen (front ++ ours) (others ++ theirs) (MergedLast chosen beside (λ taken rest o. o ≡ Ok ((others ++ to) ++ taken))) (fronted others outcome)
-  same_then ours theirs chosen beside to outcome (inl w) =
-      inl (aligned_front others front theirs ours theirs agree w.0, last_front chosen beside to outcome w.1)
-  same_then ours theirs chosen beside to outcome (inr (inl w)) =
-      inr (inl (w.0, align_sticks_front others front theirs ours w.0 agree w.1, ap (fronted others) w.2))
-  same_then ours theirs chosen beside to outcome (inr (inr w)) =
-      inr (inr (others ++ w.0, w.1, aligned_front others front theirs ours w.0 agree w.2, differs_front others w.0 theirs w.1 w.3, ap (fronted others) w.4))
+  same_then : (from_common to_common chosen beside to : List Catch) (outcome : Outcome) → SameThen from_common to_common (MergedLast chosen beside (λ taken rest o. o ≡ Ok (to ++ taken))) outcome → SameThen (front ++ from_common) (others ++ to_common) (MergedLast chosen beside (λ taken rest o. o ≡ Ok ((others ++ to) ++ taken))) (fronted others outcome)
+  same_then from_common to_common chosen beside to outcome (inl w) =
+      inl (aligned_front others front to_common from_common to_common agree w.0, last_front chosen beside to outcome w.1)
+  same_then from_common to_common chosen beside to outcome (inr (inl w)) =
+      inr (inl (w.0, align_sticks_front others front to_common from_common w.0 agree w.1, ap (fronted others) w.2))
+  same_then from_common to_common chosen beside to outcome (inr (inr w)) =
+      inr (inr (others ++ w.0, w.1, aligned_front others front to_common from_common w.0 agree w.2, differs_front others w.0 to_common w.1 w.3, ap (fronted others) w.4))
 
-  merges_front : (ours chosen to : List Catch) (outcome : Outcome) → MergesBehind names ours chosen to outcome → MergesBehind names (front ++ ours) chosen (others ++ to) (fronted others outcome)
-  merges_front ours chosen to outcome (inl w) =
-      inl (others ++ w.0, w.1, arranged_front names others to w.0 w.1 b w.2, same_then ours w.0 chosen w.1 to outcome w.3)
-  merges_front ours chosen to outcome (inr w) =
+  merges_front : (from_common chosen to : List Catch) (outcome : Outcome) → MergesBehind names from_common chosen to outcome → MergesBehind names (front ++ from_common) chosen (others ++ to) (fronted others outcome)
+  merges_front from_common chosen to outcome (inl w) =
+      inl (others ++ w.0, w.1, arranged_front names others to w.0 w.1 b w.2, same_then from_common w.0 chosen w.1 to outcome w.3)
+  merges_front from_common chosen to outcome (inr w) =
       inr (w.0, w.1, sticks_front names others to w.0 w.1 b w.2, ap (fronted others) w.3)
 
   -- a pull goes by what stands behind the two fronts
@@ -226,12 +226,12 @@ agree_more from to n m w long long_too same =
         ap (take (n + m)) (sym (take-append-drop n list)) ∙ ap (λ k. take (k + m) (take n list ++ drop n list)) (sym (length-take-le n list fits)) ∙ take-append-add (take n list) (drop n list) m
 
 -- the same of parts of both lists
-pub agree_with : (from to theirs ours : List Catch) (n m : ℕ) → Agree from to n → n + m ≤ length from → n + m ≤ length to → theirs ≡ slice_range from n (n + m) → ours ≡ slice_range to n (n + m) → Align (keys_of ours) theirs ours → Agree from to (n + m)
-agree_with from to theirs ours n m w long long_too is is_too same =
+pub agree_with : (from to to_common from_common : List Catch) (n m : ℕ) → Agree from to n → n + m ≤ length from → n + m ≤ length to → to_common ≡ slice_range from n (n + m) → from_common ≡ slice_range to n (n + m) → Align (keys_of from_common) to_common from_common → Agree from to (n + m)
+agree_with from to to_common from_common n m w long long_too is is_too same =
     let e : n + m - n ≡ m = omega arith in
     let one = is ∙ ap (λ k. take k (drop n from)) e in
     let other = is_too ∙ ap (λ k. take k (drop n to)) e in
-    agree_more from to n m w long long_too (subst (λ f. Align (keys_of (take m (drop n to))) f (take m (drop n to))) one (subst (λ t. Align (keys_of t) theirs t) other same))
+    agree_more from to n m w long long_too (subst (λ f. Align (keys_of (take m (drop n to))) f (take m (drop n to))) one (subst (λ t. Align (keys_of t) to_common t) other same))
 
 pub split_has : (list : List Catch) (m : ℕ) (n : List ℕ) → has_patch list n ≡ (has_patch (take m list) n || has_patch (drop m list) n)
 split_has list m n =

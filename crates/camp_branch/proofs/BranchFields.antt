@@ -12,7 +12,7 @@ use Rattle.camp_catch.specs.Catches.{FitsAll}
 use Rattle.camp_catch.specs.declared.catches.Catch.{Catch}
 use Rattle.camp_catch.specs.declared.catches.Catch.TheVariants.{Plain}
 use Rattle.camp_base.specs.Trees.{Files}
-use Rattle.camp_branch.specs.Branches.{IsLawful, LeadsTo, has_patch, is_among, name_of, recorded}
+use Rattle.camp_branch.specs.Branches.{IsLawfulBranch, LeadsTo, has_patch, is_among, name_of, recorded}
 use Rattle.camp_branch.specs.Laws.{AppliesEach}
 use Rattle.camp_branch.proofs.BranchLabels.{recorded_patches}
 use Rattle.camp_branch.proofs.BranchTrees.{joined_fits, one_end, recorded_tree}
@@ -71,21 +71,21 @@ one_more_recorded catches list next name place done more change k was at longer 
     let here : place ≡ 1 + length done = omega (at, arith) in
     pushed ∙ (λ i. was i ++ (is ∙ ap (λ (p : ℕ). Plain (record { name = name; place = p; inverse = false; prim = change })) here) i ∷ []) ∙ append_assoc catches (recorded name 1 done) _ ∙ ap (λ t. catches ++ t) (sym (recorded_push name 1 done change)) ∙ ap (λ t. catches ++ recorded name 1 t) (sym longer)
 
-pub lawful_none : IsLawful []
+pub lawful_none : IsLawfulBranch []
 lawful_none =
     record { patches = []; has = record { distinct = tt; sized = tt; labels = refl }; tree = empty; leads = refl }
 
 -- what a record leaves
 pub record Grown (branch : List Catch) (tree : Files) : Type 0 where
-  pub lawful : IsLawful branch
+  pub lawful : IsLawfulBranch branch
   pub kept : LeadsTo branch tree
 
-pub grown : (branch more : List Catch) (name : List ℕ) (changes : List Primitive) (old new : Files) → IsLawful branch → LeadsTo branch old → has_patch branch name ≡ false → 1 ≤ length changes → length changes ≤ 64 → AppliesEach changes old new → more ≡ branch ++ recorded name 1 changes → Grown more new
+pub grown : (branch more : List Catch) (name : List ℕ) (changes : List Primitive) (old new : Files) → IsLawfulBranch branch → LeadsTo branch old → has_patch branch name ≡ false → 1 ≤ length changes → length changes ≤ 64 → AppliesEach changes old new → more ≡ branch ++ recorded name 1 changes → Grown more new
 grown branch more name changes old new lawful leads new_name some few applies is =
     let has = recorded_patches branch lawful.patches name changes lawful.has new_name some few in
     let tree = recorded_tree branch name changes old new leads applies in
     record {
-      lawful = subst IsLawful (sym is) (record { patches = lawful.patches ++ record { name = name; changes = length changes } ∷ []; has = has; tree = new; leads = tree });
+      lawful = subst IsLawfulBranch (sym is) (record { patches = lawful.patches ++ record { name = name; changes = length changes } ∷ []; has = has; tree = new; leads = tree });
       kept = subst (λ l. LeadsTo l new) (sym is) tree;
     }
 
@@ -104,7 +104,7 @@ appended catches own taken next n is was becomes =
     becomes ∙ spliced_at_end catches taken n is ∙ ap (λ l. l ++ taken) was
 
 -- what comes behind a branch fits the tree of the branch
-pub taken_fits : (catches own taken : List Catch) (tree : Files) → catches ≡ own → LeadsTo catches tree → IsLawful (own ++ taken) → (after : Files) × FitsAll taken tree after
+pub taken_fits : (catches own taken : List Catch) (tree : Files) → catches ≡ own → LeadsTo catches tree → IsLawfulBranch (own ++ taken) → (after : Files) × FitsAll taken tree after
 taken_fits catches own taken tree was leads lawful =
     let parts = second_fits own taken empty lawful.tree lawful.leads in
     let same = one_end own empty parts.0 tree parts.1 (subst (λ l. LeadsTo l tree) was leads) in

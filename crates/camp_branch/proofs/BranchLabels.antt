@@ -146,7 +146,7 @@ pub pulled_patches : (from to pulled : List Catch) (wanted : List (List ℕ)) (t
 pulled_patches from to pulled wanted theirs ours gives v w lacked =
     let p = pulled_by from to wanted pulled gives in
     let common = common_names from to in
-    let front = chosen_by common (keys_of from) (keys_of p.ours) (keys_of p.behind) (keep_labels.arranged common from p.ours p.behind p.own_front) in
+    let front = chosen_by common (keys_of from) (keys_of p.from_common) (keys_of p.behind) (keep_labels.arranged common from p.from_common p.behind p.own_front) in
     let choice = chosen_by wanted (keys_of p.behind) (keys_of p.chosen) (keys_of p.left) (keep_labels.arranged wanted p.behind p.chosen p.left p.choice) in
     let taken = (keep_labels.merged_lists p.chosen p.others p.taken p.beside p.merge).0 ∙ chosen_keys from to wanted theirs _ _ _ _ v.labels front choice lacked in
     let theirs_apart = apart_from wanted theirs (patch_names ours) (λ name e. not_a_patch to ours name w (lacked name e)) in

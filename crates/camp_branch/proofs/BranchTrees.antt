@@ -31,11 +31,11 @@ pub pulled_tree : (from to pulled : List Catch) (wanted : List (List ℕ)) (thei
 pulled_tree from to pulled wanted theirs ours gives v w =
     let p = pulled_by from to wanted pulled gives in
     let common = common_names from to in
-    let a = lists_keep_effects.arranged common from p.ours p.behind p.own_front empty theirs v in
+    let a = lists_keep_effects.arranged common from p.from_common p.behind p.own_front empty theirs v in
     let c = lists_keep_effects.arranged wanted p.behind p.chosen p.left p.choice a.0 theirs a.2 in
-    let b = lists_keep_effects.arranged common to p.theirs p.others p.their_front empty ours w in
-    let aligned = lists_keep_effects.aligned (keys_of p.theirs) p.ours p.theirs p.same empty a.0 a.1 in
-    let same : a.0 ≡ b.0 = one_end p.theirs empty a.0 b.0 aligned b.1 in
+    let b = lists_keep_effects.arranged common to p.to_common p.others p.their_front empty ours w in
+    let aligned = lists_keep_effects.aligned (keys_of p.to_common) p.from_common p.to_common p.same empty a.0 a.1 in
+    let same : a.0 ≡ b.0 = one_end p.to_common empty a.0 b.0 aligned b.1 in
     let m = lists_keep_effects.merged p.chosen p.others p.taken p.beside p.merge b.0 ours c.0 b.2 (subst (λ t. FitsAll p.chosen t c.0) same c.1) in
     (m.0, subst (λ l. LeadsTo l m.0) (sym p.becomes) (joined_fits to p.taken empty ours m.0 w m.1))
 

@@ -12,7 +12,7 @@ use Rattle.std.specs.declared.cmp.Ordering.{Ordering}
 use Rattle.std.specs.declared.cmp.Ordering.TheVariants.{Less, Equal, Greater}
 use Rattle.camp_prim.specs.declared.labels.Key.{Key}
 use Rattle.camp_prim.proofs.LabelOrder.{key_total, key_ties}
-use Rattle.camp_ctx.specs.Contexts.{Contexts, InContext}
+use Rattle.camp_ctx.specs.Contexts.{ContextedPatches, ContextedPatch}
 use Rattle.camp_catch.specs.declared.catches.Catch.{Catch}
 use Rattle.camp_catch.specs.declared.catches.Catch.TheVariants.{Plain}
 use Rattle.camp_branch.specs.Branches.{name_of}
@@ -58,11 +58,11 @@ value_of : {X : Type 0} (o : Option X) → is_some o ≡ true → (x : X) × (o 
 value_of None e = cc
 value_of (Some x) e = (x, refl)
 
-key_is_listed : (xs : Contexts) (key : Key) (x : InContext) → get xs key ≡ Some x → Contains (keys xs) key
+key_is_listed : (xs : ContextedPatches) (key : Key) (x : ContextedPatch) → get xs key ≡ Some x → Contains (keys xs) key
 key_is_listed xs key x is =
     Contains-from_any (tells_apart key_ties) key (keys xs) (sym (contains_key-keys xs key) ∙ ap is_some is)
 
-listed_has_member : (xs : Contexts) (key : Key) → Contains (keys xs) key → (x : InContext) × (get xs key ≡ Some x)
+listed_has_member : (xs : ContextedPatches) (key : Key) → Contains (keys xs) key → (x : ContextedPatch) × (get xs key ≡ Some x)
 listed_has_member xs key c =
     value_of (get xs key) (contains_key-keys xs key ∙ list_any-from_Contains (eq_by_cmp_equiv key_total) key (keys xs) c)
 

@@ -6,7 +6,7 @@ use Rattle.std.specs.List.{slice_range}
 use Rattle.camp_prim.specs.declared.labels.Key.{Key}
 use Rattle.camp_catch.specs.Arranging.{Arrange, ArrangeSticks}
 use Rattle.camp_catch.specs.declared.catches.Catch.{Catch}
-use Rattle.camp_branch.specs.Branches.{IsLawful, has_patch, is_among, name_of}
+use Rattle.camp_branch.specs.Branches.{IsLawfulBranch, has_patch, is_among, name_of}
 use Rattle.camp_branch.specs.Inside.Fronts.{front_of}
 use Rattle.camp_branch.specs.Inside.Stages.{DependsIn}
 use Rattle.camp_branch.specs.Obliterating.{ObliterateGives}
@@ -89,10 +89,10 @@ module _ (own : List Catch) (gone : List (List ℕ)) (staying : Names) (stays : 
       obliterate_depends own gone staying stays own blocked refl (w.0, w.1, sticks_behind (keys staying) own w.0 w.1 here, w.3)
 
   -- what it leaves is lawful, and has the names that stay
-  pub front_lawful : (first rest : List Catch) → Arrange (keys staying) behind first rest → IsLawful own → IsLawful (take start own ++ first)
+  pub front_lawful : (first rest : List Catch) → Arrange (keys staying) behind first rest → IsLawfulBranch own → IsLawfulBranch (take start own ++ first)
   front_lawful first rest w lawful =
       obliterates_keep_lawful.lawful own (take start own ++ first) gone (front_stays first rest w) lawful
 
-  pub front_named : (first rest : List Catch) → Arrange (keys staying) behind first rest → IsLawful own → (n : List ℕ) → contains_key staying n ≡ has_patch (take start own ++ first) n
+  pub front_named : (first rest : List Catch) → Arrange (keys staying) behind first rest → IsLawfulBranch own → (n : List ℕ) → contains_key staying n ≡ has_patch (take start own ++ first) n
   front_named first rest w lawful n =
       stays n ∙ sym (left_has own (take start own ++ first) gone lawful (front_stays first rest w) n)

@@ -42,9 +42,9 @@ module _ (names others : List (List ℕ)) where
   stuck_alike rest (k ∷ list) patch on same (inr (inr w)) =
       inr (inr (λ is. w.0 (same.0.1 is), stuck_alike (rest ++ k ∷ []) list patch on same.1 w.1))
 
-  merges_alike : (ours chosen to : List Catch) (outcome : Outcome) → AlikeOn to → MergesBehind names ours chosen to outcome → MergesBehind others ours chosen to outcome
-  merges_alike ours chosen to outcome same (inl w) = inl (w.0, w.1, arranged_alike [] to w.0 w.1 same w.2, w.3)
-  merges_alike ours chosen to outcome same (inr w) = inr (w.0, w.1, stuck_alike [] to w.0 w.1 same w.2, w.3)
+  merges_alike : (from_common chosen to : List Catch) (outcome : Outcome) → AlikeOn to → MergesBehind names from_common chosen to outcome → MergesBehind others from_common chosen to outcome
+  merges_alike from_common chosen to outcome same (inl w) = inl (w.0, w.1, arranged_alike [] to w.0 w.1 same w.2, w.3)
+  merges_alike from_common chosen to outcome same (inr w) = inr (w.0, w.1, stuck_alike [] to w.0 w.1 same w.2, w.3)
 
   pull_alike : (from to : List Catch) (wanted : List (List ℕ)) (outcome : Outcome) → AlikeOn from → AlikeOn to → PullBy names from to wanted outcome → PullBy others from to wanted outcome
   pull_alike from to wanted outcome a b (inl w) =

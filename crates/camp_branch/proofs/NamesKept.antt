@@ -6,7 +6,7 @@ use Rattle.camp_catch.specs.Arranging.{Arrange}
 use Rattle.camp_catch.specs.declared.catches.Catch.{Catch}
 use Rattle.camp_catch.proofs.ListResults.{arrange_by_members}
 use Rattle.camp_catch.proofs.MoveSteps.{names_decide}
-use Rattle.camp_branch.specs.Branches.{IsLawful, each_once, has_patch, is_among, name_of, names_of}
+use Rattle.camp_branch.specs.Branches.{IsLawfulBranch, each_once, has_patch, is_among, name_of, names_of}
 use Rattle.camp_branch.specs.Inside.Stages.{DependsIn}
 use Rattle.camp_branch.specs.Obliterating.{ObliterateGives, other_names}
 use Rattle.camp_branch.specs.Pulling.{common_names}
@@ -54,7 +54,7 @@ same_members set names same n =
     (λ c. (is_among_is names n).1 (sym (same n) ∙ (names_decide set n).1 c), λ c. (names_decide set n).0 (same n ∙ (is_among_is names n).0 c))
 
 -- what an obliteration leaves has the names that stay
-pub left_has : (branch left : List Catch) (gone : List (List ℕ)) → IsLawful branch → ObliterateGives branch gone (Ok left) → (n : List ℕ) → has_patch left n ≡ (has_patch branch n && not (is_among gone n))
+pub left_has : (branch left : List Catch) (gone : List (List ℕ)) → IsLawfulBranch branch → ObliterateGives branch gone (Ok left) → (n : List ℕ) → has_patch left n ≡ (has_patch branch n && not (is_among gone n))
 left_has branch left gone lawful gives n =
     sym (among_once (map name_of left) n) ∙ ap (λ names. is_among names n) (obliterates_keep_lawful.names branch left gone gives lawful) ∙ among_others branch gone n
 

@@ -83,53 +83,53 @@ one_difference (j ∷ s) (k ∷ t) name other (inl v) (inr w) = absurd (v.0 w.0)
 one_difference (j ∷ s) (k ∷ t) name other (inr v) (inl w) = absurd (w.0 v.0)
 one_difference (j ∷ s) (k ∷ t) name other (inr v) (inr w) = one_difference s t name other v.1 w.1
 
-module _ (ours theirs : List Catch) (Next : Outcome → Type 0) where
-  same_fronts : Align (keys_of theirs) ours theirs → ExactlyOne Next → ExactlyOne (SameThen ours theirs Next)
+module _ (from_common to_common : List Catch) (Next : Outcome → Type 0) where
+  same_fronts : Align (keys_of to_common) from_common to_common → ExactlyOne Next → ExactlyOne (SameThen from_common to_common Next)
   same_fronts align next = (
     next.0,
     inl (align, next.1),
     λ other o. elim o [
       | inl v ↦ next.2 other v.1
       | inr v ↦ elim v [
-        | inl s ↦ absurd ((lists_succeed_or_stick.aligns (keys_of theirs) ours).1 (theirs, align) (s.0, s.1))
-        | inr d ↦ absurd (not_from_itself theirs d.1 (subst (λ l. DiffersAt l theirs d.1) (lists_are_unique.aligned (keys_of theirs) ours d.0 theirs d.2 align) d.3))
+        | inl s ↦ absurd ((lists_succeed_or_stick.aligns (keys_of to_common) from_common).1 (to_common, align) (s.0, s.1))
+        | inr d ↦ absurd (not_from_itself to_common d.1 (subst (λ l. DiffersAt l to_common d.1) (lists_are_unique.aligned (keys_of to_common) from_common d.0 to_common d.2 align) d.3))
       ]
     ],
   )
 
-  other_fronts : (aligned : List Catch) (name : List ℕ) → Align (keys_of theirs) ours aligned → DiffersAt aligned theirs name → ExactlyOne (SameThen ours theirs Next)
+  other_fronts : (aligned : List Catch) (name : List ℕ) → Align (keys_of to_common) from_common aligned → DiffersAt aligned to_common name → ExactlyOne (SameThen from_common to_common Next)
   other_fronts aligned name align differs = (
     Err (Diverged name),
     inr (inr (aligned, name, align, differs, refl)),
     λ other o. elim o [
-      | inl v ↦ absurd (not_from_itself theirs name (subst (λ l. DiffersAt l theirs name) (lists_are_unique.aligned (keys_of theirs) ours aligned theirs align v.0) differs))
+      | inl v ↦ absurd (not_from_itself to_common name (subst (λ l. DiffersAt l to_common name) (lists_are_unique.aligned (keys_of to_common) from_common aligned to_common align v.0) differs))
       | inr v ↦ elim v [
-        | inl s ↦ absurd ((lists_succeed_or_stick.aligns (keys_of theirs) ours).1 (aligned, align) (s.0, s.1))
+        | inl s ↦ absurd ((lists_succeed_or_stick.aligns (keys_of to_common) from_common).1 (aligned, align) (s.0, s.1))
         | inr d ↦
-            let same = lists_are_unique.aligned (keys_of theirs) ours d.0 aligned d.2 align in
-            d.4 ∙ ap (λ n. Err (Diverged n)) (one_difference aligned theirs d.1 name (subst (λ l. DiffersAt l theirs d.1) same d.3) differs)
+            let same = lists_are_unique.aligned (keys_of to_common) from_common d.0 aligned d.2 align in
+            d.4 ∙ ap (λ n. Err (Diverged n)) (one_difference aligned to_common d.1 name (subst (λ l. DiffersAt l to_common d.1) same d.3) differs)
       ]
     ],
   )
 
-  order_sticks : (stuck : Key) → AlignSticks (keys_of theirs) ours stuck → ExactlyOne (SameThen ours theirs Next)
+  order_sticks : (stuck : Key) → AlignSticks (keys_of to_common) from_common stuck → ExactlyOne (SameThen from_common to_common Next)
   order_sticks stuck sticks =
-      let never = (lists_succeed_or_stick.aligns (keys_of theirs) ours).1 in (
+      let never = (lists_succeed_or_stick.aligns (keys_of to_common) from_common).1 in (
         Err (Diverged stuck.name),
         inr (inl (stuck, sticks, refl)),
         λ other o. elim o [
-          | inl v ↦ absurd (never (theirs, v.0) (stuck, sticks))
+          | inl v ↦ absurd (never (to_common, v.0) (stuck, sticks))
           | inr v ↦ elim v [
-            | inl s ↦ s.2 ∙ ap (λ (k : Key). Err (Diverged k.name)) (lists_are_unique.align_sticks (keys_of theirs) ours s.0 stuck s.1 sticks)
+            | inl s ↦ s.2 ∙ ap (λ (k : Key). Err (Diverged k.name)) (lists_are_unique.align_sticks (keys_of to_common) from_common s.0 stuck s.1 sticks)
             | inr d ↦ absurd (never (d.0, d.2) (stuck, sticks))
           ]
         ],
       )
 
-  same_then : ExactlyOne Next → ExactlyOne (SameThen ours theirs Next)
-  same_then next = elim (lists_succeed_or_stick.aligns (keys_of theirs) ours).0 [
-    | inl a ↦ elim (compared a.0 theirs) [
-      | inl e ↦ same_fronts (subst (λ l. Align (keys_of theirs) ours l) e a.1) next
+  same_then : ExactlyOne Next → ExactlyOne (SameThen from_common to_common Next)
+  same_then next = elim (lists_succeed_or_stick.aligns (keys_of to_common) from_common).0 [
+    | inl a ↦ elim (compared a.0 to_common) [
+      | inl e ↦ same_fronts (subst (λ l. Align (keys_of to_common) from_common l) e a.1) next
       | inr d ↦ other_fronts a.0 d.0 a.1 d.1
     ]
     | inr s ↦ order_sticks s.0 s.1
@@ -138,10 +138,10 @@ module _ (ours theirs : List Catch) (Next : Outcome → Type 0) where
 pub outcomes_are_determined : OutcomesAreDetermined
 outcomes_are_determined = record {
   pulls = λ from to wanted.
-      arranged (common_names from to) from _ _ (λ ours behind.
+      arranged (common_names from to) from _ _ (λ from_common behind.
       arranged wanted behind _ _ (λ chosen left.
-      arranged (common_names from to) to _ _ (λ theirs others.
-      same_then ours theirs _ (
+      arranged (common_names from to) to _ _ (λ to_common others.
+      same_then from_common to_common _ (
       step (MergeLists chosen others) (MergeSticks chosen others) _ _ (lists_are_unique.merged chosen others) (lists_are_unique.merge_sticks chosen others) (lists_succeed_or_stick.merges chosen others) (λ taken beside.
       (Ok (to ++ taken), refl, λ other is. is))))));
   obliterates = λ branch names. arranged (other_names branch names) branch _ _ (λ staying gone. (Ok staying, refl, λ other is. is));

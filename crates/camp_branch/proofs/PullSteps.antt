@@ -16,16 +16,16 @@ either_answer P P' Q Q' goes stops (Ok (Ok x)) w = goes x w
 either_answer P P' Q Q' goes stops (Ok (Err f)) w = stops f w
 either_answer P P' Q Q' goes stops (Err e) w = w
 
-module _ (common : List (List ℕ)) (ours chosen to theirs others : List Catch) (front : Arrange common to theirs others) where
-  pub no_merge : Align (keys_of theirs) ours theirs → (blocked : Blocked) → DoesNotMerge chosen others blocked → MergesBehind common ours chosen to (Err blocked)
-  no_merge same blocked w = inl (theirs, others, front, inl (same, inr (w.0, w.1, w.2, ap Err w.3)))
+module _ (common : List (List ℕ)) (from_common chosen to to_common others : List Catch) (front : Arrange common to to_common others) where
+  pub no_merge : Align (keys_of to_common) from_common to_common → (blocked : Blocked) → DoesNotMerge chosen others blocked → MergesBehind common from_common chosen to (Err blocked)
+  no_merge same blocked w = inl (to_common, others, front, inl (same, inr (w.0, w.1, w.2, ap Err w.3)))
 
-  pub merges : Align (keys_of theirs) ours theirs → (taken : List Catch) → (beside : List Catch) × MergeLists chosen others taken beside → MergesBehind common ours chosen to (Ok (to ++ taken))
-  merges same taken w = inl (theirs, others, front, inl (same, inl (taken, w.0, w.1, refl)))
+  pub merges : Align (keys_of to_common) from_common to_common → (taken : List Catch) → (beside : List Catch) × MergeLists chosen others taken beside → MergesBehind common from_common chosen to (Ok (to ++ taken))
+  merges same taken w = inl (to_common, others, front, inl (same, inl (taken, w.0, w.1, refl)))
 
-module _ (common : List (List ℕ)) (from to : List Catch) (wanted : List (List ℕ)) (ours behind : List Catch) (front : Arrange common from ours behind) where
+module _ (common : List (List ℕ)) (from to : List Catch) (wanted : List (List ℕ)) (from_common behind : List Catch) (front : Arrange common from from_common behind) where
   pub depends : (blocked : Blocked) → DependsIn wanted behind blocked → PullBy common from to wanted (Err blocked)
-  depends blocked w = inl (ours, behind, front, inr (w.0, w.1, w.2, ap Err w.3))
+  depends blocked w = inl (from_common, behind, front, inr (w.0, w.1, w.2, ap Err w.3))
 
-  pub goes_behind : (chosen left : List Catch) → Arrange wanted behind chosen left → (outcome : Outcome) → MergesBehind common ours chosen to outcome → PullBy common from to wanted outcome
-  goes_behind chosen left choice outcome w = inl (ours, behind, front, inl (chosen, left, choice, w))
+  pub goes_behind : (chosen left : List Catch) → Arrange wanted behind chosen left → (outcome : Outcome) → MergesBehind common from_common chosen to outcome → PullBy common from to wanted outcome
+  goes_behind chosen left choice outcome w = inl (from_common, behind, front, inl (chosen, left, choice, w))

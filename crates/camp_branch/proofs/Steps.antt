@@ -11,16 +11,16 @@ use Rattle.camp_branch.specs.declared.faults.Blocked.{Blocked}
 
 -- a pull that goes through
 pub record Pulled (from to : List Catch) (wanted : List (List ℕ)) (pulled : List Catch) : Type 0 where
-  pub ours : List Catch
+  pub from_common : List Catch
   pub behind : List Catch
-  pub own_front : Arrange (common_names from to) from ours behind
+  pub own_front : Arrange (common_names from to) from from_common behind
   pub chosen : List Catch
   pub left : List Catch
   pub choice : Arrange wanted behind chosen left
-  pub theirs : List Catch
+  pub to_common : List Catch
   pub others : List Catch
-  pub their_front : Arrange (common_names from to) to theirs others
-  pub same : Align (keys_of theirs) ours theirs
+  pub their_front : Arrange (common_names from to) to to_common others
+  pub same : Align (keys_of to_common) from_common to_common
   pub taken : List Catch
   pub beside : List Catch
   pub merge : MergeLists chosen others taken beside
@@ -47,13 +47,13 @@ pulled_by from to wanted pulled gives = elim gives [
         | inl d ↦ elim d.1 [
           | inr s ↦ apart pulled _ s.3
           | inl m ↦ record {
-            ours = a.0;
+            from_common = a.0;
             behind = a.1;
             own_front = a.2;
             chosen = b.0;
             left = b.1;
             choice = b.2;
-            theirs = c.0;
+            to_common = c.0;
             others = c.1;
             their_front = c.2;
             same = d.0;

@@ -2,6 +2,7 @@
 use Rattle.std.specs.Prelude.{◌≡◌, ◌≤◌, ℕ, zero, suc, ◌+◌, Bool, false, not, List, [], ◌∷◌, ◌++◌, map, filter, bytes_eq}
 use Rattle.std.specs.List.{AllByRecursion, flat_map, list_any}
 use Rattle.std.specs.FinMap.{empty}
+use Rattle.camp_base.specs.Limits.{most_changes}
 use Rattle.camp_base.specs.Trees.{Files}
 use Rattle.camp_prim.specs.declared.labels.Key.{Key}
 use Rattle.camp_prim.specs.declared.primitives.Primitive.{Primitive}
@@ -72,7 +73,7 @@ AreDistinct (name ∷ names) = (is_among names name ≡ false) × AreDistinct na
 
 -- a patch has 1 to 64 changes
 abbrev pub IsSized : Patch → Type 0
-IsSized patch = (1 ≤ patch.changes) × (patch.changes ≤ 64)
+IsSized patch = (1 ≤ patch.changes) × (patch.changes ≤ most_changes)
 
 -- a branch has these patches: their names are distinct, each has 1 to 64 changes, and the labels are theirs
 pub record HasPatches (branch : List Catch) (patches : List Patch) : Type 0 where
@@ -81,7 +82,7 @@ pub record HasPatches (branch : List Catch) (patches : List Patch) : Type 0 wher
   pub labels : keys_of branch ≡ labels_of patches
 
 -- a branch is lawful: its labels are those of some patches, or of none, and it leads to a tree
-pub record IsLawful (branch : List Catch) : Type 0 where
+pub record IsLawfulBranch (branch : List Catch) : Type 0 where
   pub patches : List Patch
   pub has : HasPatches branch patches
   pub tree : Files

@@ -5,7 +5,7 @@ use Rattle.std.specs.Cmp.Lexicographic.{slice_cmp}
 use Rattle.std.specs.declared.cmp.Ordering.TheVariants.{Less}
 use Rattle.std.specs.FinMap.{get}
 use Rattle.camp_prim.specs.declared.labels.Key.{Key}
-use Rattle.camp_ctx.specs.Contexts.{InContext}
+use Rattle.camp_ctx.specs.Contexts.{ContextedPatch}
 use Rattle.camp_catch.specs.declared.catches.Catch.{Catch}
 use Rattle.camp_catch.specs.declared.catches.Catch.TheVariants.{Plain}
 use Rattle.camp_branch.specs.Branches.{name_of}
@@ -14,7 +14,7 @@ use Rattle.camp_branch.specs.Branches.{name_of}
 abbrev pub ConflictsWith : Catch → List ℕ → Type 0
 ConflictsWith (Plain a) name = ⊥
 ConflictsWith (Catch.Conflictor k) name =
-    (key : Key) × (x : InContext) × (get k.conflicts key ≡ Some x) × (key.name ≡ name)
+    (key : Key) × (x : ContextedPatch) × (get k.conflicts key ≡ Some x) × (key.name ≡ name)
 
 -- a catch of one of these patches is a conflictor with the other in its set
 abbrev pub IsBetween : List ℕ → List ℕ → Catch → Type 0

@@ -4,7 +4,7 @@ use Rattle.std.specs.Ordering.{nat_cmp}
 use Rattle.std.specs.Cmp.Lexicographic.{slice_cmp}
 use Rattle.std.specs.FinMap.{contains_key, keys}
 use Rattle.camp_share.specs.Maps.{map_of}
-use Rattle.camp_branch.specs.Branches.{IsLawful, LeadsTo, has_patch}
+use Rattle.camp_branch.specs.Branches.{IsLawfulBranch, LeadsTo, has_patch}
 use Rattle.camp_branch.specs.declared.branches.Branch.TheInside.{Inside}
 
 -- the names of a set
@@ -17,7 +17,7 @@ has_name set name = contains_key (map_of (slice_cmp nat_cmp) set) name
 
 -- the catches are lawful, the index has the names of their patches, and the kept tree is the one that they lead to
 pub record IsBranch (branch : Inside) : Type 0 where
-  pub lawful : IsLawful branch.catches
+  pub lawful : IsLawfulBranch branch.catches
   pub named :
       (name : List ℕ) → contains_key (map_of (slice_cmp nat_cmp) branch.names) name ≡ has_patch branch.catches name
   pub kept : LeadsTo branch.catches branch.tree

@@ -1,11 +1,12 @@
 -- The laws of branches.
 use Rattle.std.specs.Prelude.{◌≡◌, ◌≤◌, ℕ, true, false, not, List, [], ◌∷◌, ◌++◌, filter, length, Ok}
 use Rattle.std.specs.FinMap.{empty as no_files}
+use Rattle.camp_base.specs.Limits.{most_changes}
 use Rattle.camp_base.specs.Trees.{Files}
 use Rattle.camp_prim.specs.Effect.{Applies}
 use Rattle.camp_prim.specs.declared.primitives.Primitive.{Primitive}
 use Rattle.camp_catch.specs.declared.catches.Catch.{Catch}
-use Rattle.camp_branch.specs.Branches.{HasPatches, IsLawful, IsTreeOf, LeadsTo, Patch, has_patch, is_among, names_of}
+use Rattle.camp_branch.specs.Branches.{HasPatches, IsLawfulBranch, IsTreeOf, LeadsTo, Patch, has_patch, is_among, names_of}
 use Rattle.camp_branch.specs.Branches.{patch_names, recorded}
 use Rattle.camp_branch.specs.Conflicting.{AreConflicts}
 use Rattle.camp_branch.specs.Obliterating.{ObliterateGives, other_names}
@@ -61,11 +62,11 @@ pub record PullsKeepLawful : Type 0 where
       HasPatches pulled (ours ++ those_of wanted theirs)
   pub names :
       (from to pulled : List Catch) (wanted : List (List ℕ)) → PullGives from to wanted (Ok pulled) →
-      IsLawful from → IsLawful to → AreLacked to wanted →
+      IsLawfulBranch from → IsLawfulBranch to → AreLacked to wanted →
       names_of pulled ≡ names_of to ++ filter (is_among wanted) (names_of from)
   pub lawful :
       (from to pulled : List Catch) (wanted : List (List ℕ)) → PullGives from to wanted (Ok pulled) →
-      IsLawful from → IsLawful to → AreLacked to wanted → IsLawful pulled
+      IsLawfulBranch from → IsLawfulBranch to → AreLacked to wanted → IsLawfulBranch pulled
 
 -- what an obliteration leaves has the other patches, in their order; it is lawful where the branch is
 pub record ObliteratesKeepLawful : Type 0 where
@@ -73,11 +74,11 @@ pub record ObliteratesKeepLawful : Type 0 where
       (branch left : List Catch) (names : List (List ℕ)) (own : List Patch) →
       ObliterateGives branch names (Ok left) → HasPatches branch own → HasPatches left (others_of names own)
   pub names :
-      (branch left : List Catch) (names : List (List ℕ)) → ObliterateGives branch names (Ok left) → IsLawful branch →
+      (branch left : List Catch) (names : List (List ℕ)) → ObliterateGives branch names (Ok left) → IsLawfulBranch branch →
       names_of left ≡ other_names branch names
   pub lawful :
-      (branch left : List Catch) (names : List (List ℕ)) → ObliterateGives branch names (Ok left) → IsLawful branch →
-      IsLawful left
+      (branch left : List Catch) (names : List (List ℕ)) → ObliterateGives branch names (Ok left) → IsLawfulBranch branch →
+      IsLawfulBranch left
 
 -- changes lead, one after the other, from one tree to another
 abbrev pub AppliesEach : List Primitive → Files → Files → Type 0
@@ -91,7 +92,7 @@ pub record RecordsKeepLawful : Type 0 where
   pub empty : HasPatches [] [] × LeadsTo [] no_files
   pub patches :
       (branch : List Catch) (patches : List Patch) (name : List ℕ) (changes : List Primitive) →
-      HasPatches branch patches → has_patch branch name ≡ false → 1 ≤ length changes → length changes ≤ 64 →
+      HasPatches branch patches → has_patch branch name ≡ false → 1 ≤ length changes → length changes ≤ most_changes →
       HasPatches (branch ++ recorded name 1 changes)
       (patches ++ record { name = name; changes = length changes } ∷ [])
   pub tree :

@@ -33,11 +33,11 @@ DiffersAt (j ∷ list) (k ∷ others) name =
 -- the common patches in the order of those of `to` are the same, and it goes on; or else the branches have diverged, at
 -- the one that does not come into this order, or at the first one that is not the same
 abbrev pub SameThen : List Catch → List Catch → (Outcome → Type 0) → Outcome → Type 0
-SameThen ours theirs Next outcome =
-    (Align (keys_of theirs) ours theirs × Next outcome)
-    ⊎ (((stuck : Key) × AlignSticks (keys_of theirs) ours stuck × (outcome ≡ Err (Diverged stuck.name)))
+SameThen from_common to_common Next outcome =
+    (Align (keys_of to_common) from_common to_common × Next outcome)
+    ⊎ (((stuck : Key) × AlignSticks (keys_of to_common) from_common stuck × (outcome ≡ Err (Diverged stuck.name)))
     ⊎ ((aligned : List Catch) × (name : List ℕ)
-    × Align (keys_of theirs) ours aligned × DiffersAt aligned theirs name × (outcome ≡ Err (Diverged name))))
+    × Align (keys_of to_common) from_common aligned × DiffersAt aligned to_common name × (outcome ≡ Err (Diverged name))))
 
 -- the names of the patches that both branches have
 abbrev pub common_names : List Catch → List Catch → List (List ℕ)
@@ -66,16 +66,16 @@ MergedLast wanted others =
 -- with the common patches before them, the wanted ones are merged with what the other branch has alone; the new branch
 -- is `to`, and behind it what they become
 abbrev pub MergesBehind : List (List ℕ) → List Catch → List Catch → List Catch → Outcome → Type 0
-MergesBehind common ours chosen to =
-    CommonFirst common to (λ theirs others.
-    SameThen ours theirs (
+MergesBehind common from_common chosen to =
+    CommonFirst common to (λ to_common others.
+    SameThen from_common to_common (
     MergedLast chosen others (λ taken beside outcome. outcome ≡ Ok (to ++ taken))))
 
 -- a pull by the names of the common patches: its steps in order, of which the first that fails decides
 abbrev pub PullBy : List (List ℕ) → List Catch → List Catch → List (List ℕ) → Outcome → Type 0
 PullBy common from to wanted =
-    CommonFirst common from (λ ours behind.
-    WantedNext wanted behind (λ chosen left. MergesBehind common ours chosen to))
+    CommonFirst common from (λ from_common behind.
+    WantedNext wanted behind (λ chosen left. MergesBehind common from_common chosen to))
 
 -- a pull comes to this: the common patches are those of the names that both branches have
 abbrev pub PullGives : List Catch → List Catch → List (List ℕ) → Outcome → Type 0

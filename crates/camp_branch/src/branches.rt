@@ -2,7 +2,7 @@ ghost use Rattle.std.specs.Prelude.{◌≡◌, ◌≤◌, ◌++◌, ℕ, List, [
 ghost use Rattle.std.specs.FinMap.{empty as no_files};
 ghost use Rattle.camp_base.specs.Trees.{Files};
 ghost use Rattle.camp_branch.specs.Agreeing.{Agree};
-ghost use Rattle.camp_branch.specs.Branches.{IsLawful, LeadsTo, has_patch, names_of, recorded};
+ghost use Rattle.camp_branch.specs.Branches.{IsLawfulBranch, LeadsTo, has_patch, names_of, recorded};
 ghost use Rattle.camp_branch.specs.Conflicting.{AreConflicts};
 ghost use Rattle.camp_branch.specs.Fields.{has_name, names_in};
 ghost use Rattle.camp_branch.specs.Laws.{AppliesEach, AreLacked};
@@ -34,7 +34,7 @@ pub struct Branch {
 impl Model for Branch {
     ghost use Rattle.std.specs.Prelude.{List};
     ghost use Rattle.std.specs.Coded.{codes};
-    ghost use Rattle.camp_ctx.specs.declared.sets.CtxSet.{the_code as code_of_sets};
+    ghost use Rattle.camp_ctx.specs.declared.sets.ContextedSet.{the_code as code_of_sets};
     ghost use Rattle.camp_catch.specs.declared.catches.Catch.{Catch};
 
     ghost Value = { List Catch };
@@ -52,7 +52,7 @@ impl Model for Branch {
 impl Branch {
     /// The branch without a patch. It takes no memory.
     pub fn empty(alloc: Global) -> Branch
-        ensures { result ≡ [] }
+        ensures exact { result ≡ [] }
     {
         Branch {
             catches: SharedList::new(alloc),
@@ -64,20 +64,20 @@ impl Branch {
     /// The catches, in the order in which they came.
     pub fn catches(&self) -> &SharedList<Shared<Catch>>
         ensures value { result.now ≡ self.now }
-        ensures lawful { IsLawful self.now }
+        ensures lawful { IsLawfulBranch self.now }
     {
         &self.catches
     }
 
     /// The tree that the catches lead to from the empty tree.
     pub fn tree(&self) -> &Tree
-        ensures { LeadsTo self.now result.now }
+        ensures exact { LeadsTo self.now result.now }
     {
         &self.tree
     }
 
     pub fn try_clone(&self) -> Result<Branch, AllocError>
-        ensures { IfOk result (λ copy. copy ≡ self.now) }
+        ensures exact { IfOk result (λ copy. copy ≡ self.now) }
     {
         let catches = self.catches.share()?;
         let names = self.names.share()?;
@@ -91,14 +91,14 @@ impl Branch {
 
     /// Whether a patch of this name is in the branch.
     pub fn has_patch(&self, name: &Name) -> bool
-        ensures { result ≡ has_patch self.now name.now }
+        ensures exact { result ≡ has_patch self.now name.now }
     {
         self.names.contains_key(name)
     }
 
     /// The names of the patches, each once, in the order of their first catches.
     pub fn names(&self) -> Result<Vec<Name>, AllocError>
-        ensures { IfOk result (λ names. names.items ≡ names_of self.now) }
+        ensures exact { IfOk result (λ names. names.items ≡ names_of self.now) }
     {
         let mut names = Vec::new(self.catches.allocator());
         for catch in self.catches.iter() {
@@ -112,7 +112,7 @@ impl Branch {
     /// The pairs of patches that are in conflict, each once, the lesser name first, in ascending
     /// order.
     pub fn conflicts(&self) -> Result<Vec<(Name, Name)>, AllocError>
-        ensures { IfOk result (λ pairs. AreConflicts self.now pairs.items) }
+        ensures exact { IfOk result (λ pairs. AreConflicts self.now pairs.items) }
     {
         conflicts_of(&self.catches)
     }
@@ -128,7 +128,7 @@ impl Branch {
         requires some { 1 ≤ length changes.now }
         requires few { length changes.now ≤ 64 }
         requires leads { (old : Files) → LeadsTo self.now old → AppliesEach changes.now old tree }
-        ensures { IfOk result (λ branch. branch ≡ self.now ++ recorded name.now 1 changes.now) }
+        ensures exact { IfOk result (λ branch. branch ≡ self.now ++ recorded name.now 1 changes.now) }
     {
         let catches = with_recorded(&self.catches, name, changes)?;
         let names = self.names.inserted(*name, ())?;
@@ -143,7 +143,7 @@ impl Branch {
     /// long as it was known, and longer where what stands behind agrees too.
     pub fn agreed(&self, from: &Branch, known: usize) -> Result<usize, AllocError>
         requires { Agree from.now self.now known }
-        ensures { IfOk result (Agree from.now self.now) }
+        ensures agree { IfOk result (Agree from.now self.now) }
     {
         agreed(
             self.catches.allocator(),
@@ -218,7 +218,7 @@ impl Branch {
     ) -> Result<Branch, AllocError>
         requires within { start ≤ length self.now }
         requires reordered { (tree : Files) → LeadsTo self.now tree → LeadsTo ((take start self.now ++ new.now) ++ gone.now) tree }
-        requires lawful { IsLawful (take start self.now ++ new.now) }
+        requires lawful { IsLawfulBranch (take start self.now ++ new.now) }
         requires named { (name : List ℕ) → has_name names name ≡ has_patch (take start self.now ++ new.now) name }
         ensures { IfOk result (λ branch. branch ≡ take start self.now ++ new.now) }
     {
@@ -233,7 +233,7 @@ impl Branch {
 
     /// The branch with further catches behind it.
     fn with_taken(&self, taken: &[Shared<Catch>]) -> Result<Branch, AllocError>
-        requires { IsLawful (self.now ++ taken.now) }
+        requires { IsLawfulBranch (self.now ++ taken.now) }
         ensures { IfOk result (λ branch. branch ≡ self.now ++ taken.now) }
     {
         let end = self.catches.len();

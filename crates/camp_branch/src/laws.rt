@@ -2,41 +2,41 @@ ghost use Rattle.camp_branch.specs.Laws.{ConflictsAreDetermined, NamesAreOfPatch
 
 /// A branch leads to one tree at most, which is the tree of its effects.
 pub fn trees_are_determined()
-    ensures { TreesAreDetermined }
+    ensures law { TreesAreDetermined }
 {}
 
 /// The names of a branch are those of its patches, in their order.
 pub fn names_are_of_patches()
-    ensures { NamesAreOfPatches }
+    ensures law { NamesAreOfPatches }
 {}
 
 /// A pull comes to one outcome, and so does an obliteration.
 pub fn outcomes_are_determined()
-    ensures { OutcomesAreDetermined }
+    ensures law { OutcomesAreDetermined }
 {}
 
 /// The conflicts of a branch are exactly one list of pairs.
 pub fn conflicts_are_determined()
-    ensures { ConflictsAreDetermined }
+    ensures law { ConflictsAreDetermined }
 {}
 
 /// A pulled branch begins with the branch that is pulled into.
 pub fn pulls_begin_with_own()
-    ensures { PullsBeginWithOwn }
+    ensures law { PullsBeginWithOwn }
 {}
 
 /// A pulled branch has its own patches and then the wanted ones, in the order of the other branch, and
 /// is lawful.
 pub fn pulls_keep_lawful()
-    ensures { PullsKeepLawful }
+    ensures law { PullsKeepLawful }
 {}
 
 /// What an obliteration leaves has the other patches, in their order, and is lawful.
 pub fn obliterates_keep_lawful()
-    ensures { ObliteratesKeepLawful }
+    ensures law { ObliteratesKeepLawful }
 {}
 
 /// A new branch is lawful, and a record under a new name keeps it so.
 pub fn records_keep_lawful()
-    ensures { RecordsKeepLawful }
+    ensures law { RecordsKeepLawful }
 {}

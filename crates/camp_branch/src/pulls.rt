@@ -43,19 +43,19 @@ pub(crate) fn pull(
 /// What the chosen catches, which stand behind the common ones, become behind the other branch.
 fn merge_behind(
     alloc: Global,
-    ours: &[Shared<Catch>],
+    from_common: &[Shared<Catch>],
     chosen: &[Shared<Catch>],
     to: &[Shared<Catch>],
     common: &SharedMap<Name, ()>,
 ) -> Result<Result<Vec<Shared<Catch>>, Blocked>, AllocError>
     ensures exact { IfOk result (λ answer. MatchResult answer
-        (λ taken. MergesBehind (names_in common.now) ours.now chosen.now to.now (ok (to.now ++ taken.items)))
-        (λ blocked. MergesBehind (names_in common.now) ours.now chosen.now to.now (err blocked))) }
+        (λ taken. MergesBehind (names_in common.now) from_common.now chosen.now to.now (ok (to.now ++ taken.items)))
+        (λ blocked. MergesBehind (names_in common.now) from_common.now chosen.now to.now (err blocked))) }
 {
     let front = common_first(alloc, to, common)?;
     match front {
         Ok(front) => {
-            let same = same_front(alloc, ours, &front.first)?;
+            let same = same_front(alloc, from_common, &front.first)?;
             match same {
                 Ok(()) => merged_last(alloc, chosen, &front.rest),
                 Err(blocked) => Ok(Err(blocked)),
@@ -105,17 +105,17 @@ pub(crate) fn wanted_next(
 /// Looks whether the common patches of one branch are those of the other in the other's order.
 pub(crate) fn same_front(
     alloc: Global,
-    ours: &[Shared<Catch>],
-    theirs: &[Shared<Catch>],
+    from_common: &[Shared<Catch>],
+    to_common: &[Shared<Catch>],
 ) -> Result<Result<(), Blocked>, AllocError>
     ensures exact { IfOk result (λ answer. MatchResult answer
-        (λ _. Align (keys_of theirs.now) ours.now theirs.now)
-        (λ blocked. DivergesFrom ours.now theirs.now blocked)) }
+        (λ _. Align (keys_of to_common.now) from_common.now to_common.now)
+        (λ blocked. DivergesFrom from_common.now to_common.now blocked)) }
 {
-    let order = keys(alloc, theirs)?;
-    let aligned = align(alloc, ours, &order)?;
+    let order = keys(alloc, to_common)?;
+    let aligned = align(alloc, from_common, &order)?;
     match aligned {
-        Ok(aligned) => match first_difference(&aligned, theirs) {
+        Ok(aligned) => match first_difference(&aligned, to_common) {
             None => Ok(Ok(())),
             Some(name) => Ok(Err(Blocked::Diverged(name))),
         },

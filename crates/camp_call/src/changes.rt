@@ -31,7 +31,7 @@ impl Changes {
         ensures exact { IfOk result (λ answer. MatchOption answer
             (¬ (IsPatchSized prims.items))
             (λ changes. IsPatchSized prims.items × (changes ≡ prims.items))) }
-        ensures wanted { IfErr result (λ error. IsPatchSized prims.items) }
+        ensures memory { IfErr result (λ error. IsPatchSized prims.items) }
     {
         if prims.is_empty() || prims.len() > MAX_CHANGES {
             return Ok(None);

@@ -11,7 +11,7 @@ use Rattle.camp_prim.proofs.LabelOrder.{key_total}
 use Rattle.camp_prim.proofs.SwapDecided.{le_or_not, swap_or_not}
 use Rattle.camp_prim.proofs.SwapUnique.{swap_unique}
 use Rattle.camp_seq.specs.Running.{inverse_all}
-use Rattle.camp_ctx.specs.Contexts.{InContext, Contexts, bare, only, patch_key, context_key}
+use Rattle.camp_ctx.specs.Contexts.{ContextedPatch, ContextedPatches, bare, only, patch_key, context_key}
 use Rattle.camp_ctx.proofs.ContextsDecided.{keys_or_not, lists_or_not}
 use Rattle.camp_catch.specs.Cases.{CasesExclude}
 use Rattle.camp_catch.specs.Commuting.{BothPlain, PlainPastConflictor, ConflictorPastPlain, TwoConflictorsApart, ConflictDissolves, PlainLeavesTheSet, OnlyConflictGoes, OneOfSeveralConflicts, CommutePlainConflictor, CommuteConflictors, CommuteCatch}
@@ -144,28 +144,28 @@ key_itself : (key : Key) → eq_by_cmp key_cmp key key ≡ true
 key_itself key = (Equal-is _).1 (tied_itself key_total key)
 
 -- the set of one has its member
-get_only : (x : InContext) → get (only x) (context_key x) ≡ Some x
+get_only : (x : ContextedPatch) → get (only x) (context_key x) ≡ Some x
 get_only x =
-    let none : Contexts = empty in
+    let none : ContextedPatches = empty in
     let k = context_key x in
     get-insert key_total none k x k ∙ ap (λ b. cond b (Some x) (get none k)) (key_itself k)
 
 -- and no second one
-len_only : (x : InContext) → len (only x) ≡ 1
+len_only : (x : ContextedPatch) → len (only x) ≡ 1
 len_only x =
-    let none : Contexts = empty in
+    let none : ContextedPatches = empty in
     let k = context_key x in
-    len-insert key_total none k x ∙ ap (λ o. cond (is_some o) (len none) (len none + 1)) (get-empty key_cmp k) ∙ ap (λ n. n + 1) (len-empty key_cmp InContext)
+    len-insert key_total none k x ∙ ap (λ o. cond (is_some o) (len none) (len none + 1)) (get-empty key_cmp k) ∙ ap (λ n. n + 1) (len-empty key_cmp ContextedPatch)
 
-pub not_none : (x : InContext) (o : Option InContext) → o ≡ Some x → o ≡ None → ⊥
+pub not_none : (x : ContextedPatch) (o : Option ContextedPatch) → o ≡ Some x → o ≡ None → ⊥
 not_none x o e f = cc
 
 -- a set that lacks a label is not that of one member with it
-pub lacks_its_only : (ys : Contexts) (x : InContext) (key : Key) → get ys key ≡ None → ys ≡ only x → context_key x ≡ key → ⊥
+pub lacks_its_only : (ys : ContextedPatches) (x : ContextedPatch) (key : Key) → get ys key ≡ None → ys ≡ only x → context_key x ≡ key → ⊥
 lacks_its_only ys x key lacks alone named =
     not_none x (get ys key) (subst (λ s. get s key ≡ Some x) (sym alone) (subst (λ q. get (only x) q ≡ Some x) named (get_only x))) lacks
 
-pub only_is_one : (ys : Contexts) (x : InContext) → ys ≡ only x → 2 ≤ len ys → ⊥
+pub only_is_one : (ys : ContextedPatches) (x : ContextedPatch) → ys ≡ only x → 2 ≤ len ys → ⊥
 only_is_one ys x e several =
     let one : len ys ≡ 1 = ap len e ∙ len_only x in
     absurd (omega (arith, one, several))

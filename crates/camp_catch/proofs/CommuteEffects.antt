@@ -13,7 +13,7 @@ use Rattle.camp_seq.specs.Running.{AppliesAll, inverse_all}
 use Rattle.camp_seq.proofs.ListEquivalence.{equal_are, before, behind, after_one, swapped, passed, all_passed, fronted, ordered, split, joined}
 use Rattle.camp_seq.proofs.ListRuns.{runs_back}
 use Rattle.camp_ctx.specs.Adding.{Adds, AddsAll, PassesBy, PassesByAll}
-use Rattle.camp_ctx.specs.Contexts.{Contexts, Valid, bare, patch_key, context_key}
+use Rattle.camp_ctx.specs.Contexts.{ContextedPatches, Valid, bare, patch_key, context_key}
 use Rattle.camp_ctx.proofs.AddValid.{valid_by_adding, valid_by_adding_all, valid_by_passing, valid_by_passing_all}
 use Rattle.camp_catch.specs.Catches.{Fits}
 use Rattle.camp_catch.specs.Commuting.{BothPlain, PlainPastConflictor, ConflictorPastPlain, EffectsPass, labels_undone, TwoConflictorsApart, ConflictDissolves, PlainLeavesTheSet, OnlyConflictGoes, OneOfSeveralConflicts}
@@ -53,14 +53,14 @@ conflictor_past_plain j b k' j' w old between new f g =
     let moved = becomes_fits (Norm w.left) (Adds back) (PassesBy back) (Applies back.prim) (valid_by_adding back) (valid_by_passing back) j w.moved w.becomes runs.0 new between runs.2 (one_back b between new g.effect) f.seen in
     fit_both_as (Plain w.b') (Catch.Conflictor w.moved) k' j' old new w.second w.first (runs.0, plain_fits w.b' old runs.0 runs.1, moved)
 
-effects_pass : (r s : List Named) (ys : Contexts) (effect rr' : List Named) → EffectsPass r s ys effect rr' → (r ++ s) ~ (effect ++ rr')
+effects_pass : (r s : List Named) (ys : ContextedPatches) (effect rr' : List Named) → EffectsPass r s ys effect rr' → (r ++ s) ~ (effect ++ rr')
 effects_pass r s ys effect rr' w =
     let first : (r ++ s) ~ ((w.common ++ w.rr) ++ s) = before r (w.common ++ w.rr) s (split (labels_undone r ys) r w.common w.rr w.split) in
     let pass : (w.rr ++ s) ~ (w.s' ++ rr') =
     through (all_passed w.rr s w.passed w.left w.passes) (joined w.passed w.s' w.left rr' (ordered w.passed w.s' w.second) (ordered w.left rr' w.first)) in
     let second : (w.common ++ (w.rr ++ s)) ~ (w.common ++ (w.s' ++ rr')) = behind w.common (w.rr ++ s) (w.s' ++ rr') pass in
     let last : ((w.common ++ w.s') ++ rr') ~ (effect ++ rr') =
-    before (w.common ++ w.s') effect rr' (ordered (w.common ++ w.s') effect w.joined) in
+    before (w.common ++ w.s') effect rr' (ordered (w.common ++ w.s') effect w.whole) in
     through first (through (equal_are _ _ (append_assoc w.common w.rr s)) (through second (through (equal_are _ _ (sym (append_assoc w.common w.s' rr'))) last)))
 
 two_conflictors_apart : (j k : Conflictor) → KeepsEffects (Catch.Conflictor j) (Catch.Conflictor k) (TwoConflictorsApart j k)

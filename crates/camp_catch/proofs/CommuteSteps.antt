@@ -13,7 +13,7 @@ use Rattle.camp_seq.specs.Passing.{Passes, PassesAll, Fronts}
 use Rattle.camp_seq.proofs.GatherSteps.{length-passes}
 use Rattle.camp_seq.proofs.ListResults.{one_front, one_split}
 use Rattle.camp_ctx.specs.Adding.{Adds, AddsAll, PassesBy, PassesByAll}
-use Rattle.camp_ctx.specs.Contexts.{InContext, Contexts, bare, only, patch_key, context_key}
+use Rattle.camp_ctx.specs.Contexts.{ContextedPatch, ContextedPatches, bare, only, patch_key, context_key}
 use Rattle.camp_ctx.proofs.AddResults.{one_add_of_all}
 use Rattle.camp_catch.specs.Commuting.{PlainPastConflictor, ConflictorPastPlain, EffectsPass, labels_undone, TwoConflictorsApart, ConflictDissolves, PlainLeavesTheSet, OnlyConflictGoes, OneOfSeveralConflicts, CommutePlainConflictor, CommuteConflictors}
 use Rattle.camp_catch.specs.Conflictors.{Becomes, in_conflict_with, with_conflicts, with_effect, without}
@@ -39,7 +39,7 @@ found_second One Other never None none = λ pair w. elim w [ inl v ↦ never pai
 found_second One Other never (Some pair) w = inr w
 
 -- a set with a member, and not with one alone, has several
-pub has_several : (ys : Contexts) (key : Key) (z : InContext) → get ys key ≡ Some z → ¬ (len ys ≡ 1) → 2 ≤ len ys
+pub has_several : (ys : ContextedPatches) (key : Key) (z : ContextedPatch) → get ys key ≡ Some z → ¬ (len ys ≡ 1) → 2 ≤ len ys
 has_several ys key z member not_one =
     let not_empty : ¬ (len ys ≡ 0) = λ none. not_none z (get ys key) member (ap (λ m. get m key) (empty_of_len ys none) ∙ get-empty key_cmp key) in
     omega arith
@@ -53,7 +53,7 @@ module _ (a : Named) (k : Conflictor) where
         | inr d ↦ not_none d.z (get k.conflicts (patch_key a)) d.member lacks
       ])
 
-  module _ (z : InContext) (member : get k.conflicts (patch_key a) ≡ Some z) (found : Option (Catch × Catch)) where
+  module _ (z : ContextedPatch) (member : get k.conflicts (patch_key a) ≡ Some z) (found : Option (Catch × Catch)) where
     in_the_set : FindsPair (λ k' j'. ConflictDissolves a k k' j' ⊎ PlainLeavesTheSet a k k' j') found → FindsPair (CommutePlainConflictor a k) found
     in_the_set =
         found_second (PlainPastConflictor a k) (λ k' j'. ConflictDissolves a k k' j' ⊎ PlainLeavesTheSet a k k' j') (λ pair v. not_none z (get k.conflicts (patch_key a)) member v.apart) found
@@ -75,7 +75,7 @@ module _ (j k : Conflictor) where
         | inr d ↦ not_none d.z (get k.conflicts (context_key j.identity)) d.member lacks
       ])
 
-  module _ (z : InContext) (member : get k.conflicts (context_key j.identity) ≡ Some z) (found : Option (Catch × Catch)) where
+  module _ (z : ContextedPatch) (member : get k.conflicts (context_key j.identity) ≡ Some z) (found : Option (Catch × Catch)) where
     has_conflict : FindsPair (λ k' j'. OnlyConflictGoes j k k' j' ⊎ OneOfSeveralConflicts j k k' j') found → FindsPair (CommuteConflictors j k) found
     has_conflict =
         found_second (TwoConflictorsApart j k) (λ k' j'. OnlyConflictGoes j k k' j' ⊎ OneOfSeveralConflicts j k k' j') (λ pair v. not_none z (get k.conflicts (context_key j.identity)) member v.apart) found
@@ -104,7 +104,7 @@ identity_not_past j b b' left passes never pair w =
     leads_nowhere (λ (p : Named × List Named). Becomes (Norm p.1) (Adds (inverse_of b)) (PassesBy (inverse_of b)) j) (comes_before j.effect b) (b', left) passes never (w.b', w.left) w.passes w.moved w.becomes
 
 -- what is left of an effect does not pass another
-pub no_passing : (r s : List Named) (ys : Contexts) (common rr : List Named) → Splits (labels_undone r ys) r common rr → ((pair : List Named × List Named) → ¬ (PassesAll rr s pair.0 pair.1)) → (pair : List Named × List Named) → ¬ (EffectsPass r s ys pair.0 pair.1)
+pub no_passing : (r s : List Named) (ys : ContextedPatches) (common rr : List Named) → Splits (labels_undone r ys) r common rr → ((pair : List Named × List Named) → ¬ (PassesAll rr s pair.0 pair.1)) → (pair : List Named × List Named) → ¬ (EffectsPass r s ys pair.0 pair.1)
 no_passing r s ys common rr parted never pair w =
     let same = one_split (labels_undone r ys) r w.common w.rr common rr w.split parted in
     never (w.passed, w.left) (subst (λ x. PassesAll x s w.passed w.left) same.1 w.passes)
@@ -124,8 +124,8 @@ identity_stays j k effect rr' pass never pair w =
     leads_nowhere (λ (e : List Named × List Named). Becomes (λ s. s ≡ e.0) (AddsAll e.1) (PassesByAll e.1) k) (effects_pass j.effect k.effect k.conflicts) (effect, rr') pass never (w.effect, w.rr') w.effects w.moved w.becomes
 
 -- one of several conflicts, where the others are what is left of the set
-module _ (j k : Conflictor) (others : Contexts) (left : others ≡ remove k.conflicts (context_key j.identity)) where
-  pub several_from : (z : InContext) → get k.conflicts (context_key j.identity) ≡ Some z → 2 ≤ len k.conflicts → (found : Option (Catch × Catch)) → FindsPair (JoinsBehindEffects j k others) found → FindsPair (OneOfSeveralConflicts j k) found
+module _ (j k : Conflictor) (others : ContextedPatches) (left : others ≡ remove k.conflicts (context_key j.identity)) where
+  pub several_from : (z : ContextedPatch) → get k.conflicts (context_key j.identity) ≡ Some z → 2 ≤ len k.conflicts → (found : Option (Catch × Catch)) → FindsPair (JoinsBehindEffects j k others) found → FindsPair (OneOfSeveralConflicts j k) found
   several_from z member several None never = λ pair w.
       never pair (record {
         effect = w.effect;
@@ -171,7 +171,7 @@ module _ (a : Named) (s : List Named) (label : Label) (labelled : label ≡ labe
         subst (λ y. Fronts (label_of (inverse_of a)) s y left) it (subst (λ x. Fronts x s first left) labelled comes)
 
 -- a plain catch that leaves the set of a conflictor
-pub leaves_from : (a : Named) (k : Conflictor) (z : InContext) → get k.conflicts (patch_key a) ≡ Some z → context_key z ≡ patch_key a → 2 ≤ len k.conflicts → (rest : List Named) (key : Key) (left beside : Conflictor) → Fronts (label_of (inverse_of a)) k.effect (inverse_of a) rest → key ≡ patch_key a → LeavesSet key rest k left → beside ≡ in_conflict_with k.identity z → PlainLeavesTheSet a k (Catch.Conflictor left) (Catch.Conflictor beside)
+pub leaves_from : (a : Named) (k : Conflictor) (z : ContextedPatch) → get k.conflicts (patch_key a) ≡ Some z → context_key z ≡ patch_key a → 2 ≤ len k.conflicts → (rest : List Named) (key : Key) (left beside : Conflictor) → Fronts (label_of (inverse_of a)) k.effect (inverse_of a) rest → key ≡ patch_key a → LeavesSet key rest k left → beside ≡ in_conflict_with k.identity z → PlainLeavesTheSet a k (Catch.Conflictor left) (Catch.Conflictor beside)
 leaves_from a k z member named several rest key left beside front is made alone = record {
   z = z;
   member = member;
@@ -187,21 +187,21 @@ leaves_from a k z member named several rest key left beside front is made alone 
 
 -- the conflict dissolves
 module _ (a : Named) (k : Conflictor) where
-  pub not_alone : ((x : InContext) → ¬ (k.conflicts ≡ only x)) → NoResult (ConflictDissolves a k)
+  pub not_alone : ((x : ContextedPatch) → ¬ (k.conflicts ≡ only x)) → NoResult (ConflictDissolves a k)
   not_alone never pair w = never (bare a) (its_only a k w.q w.is)
 
-  pub another_alone : (x : InContext) → k.conflicts ≡ only x → ¬ (x ≡ bare a) → NoResult (ConflictDissolves a k)
+  pub another_alone : (x : ContextedPatch) → k.conflicts ≡ only x → ¬ (x ≡ bare a) → NoResult (ConflictDissolves a k)
   another_alone x alone other pair w = other (same_only k.conflicts x (bare a) alone (its_only a k w.q w.is))
 
   pub has_context : ¬ (k.identity ≡ bare k.identity.patch) → NoResult (ConflictDissolves a k)
   has_context other pair w =
       let is = ap (λ (c : Conflictor). c.identity) w.is in
-      other (is ∙ ap (λ (y : InContext). bare y.patch) (sym is))
+      other (is ∙ ap (λ (y : ContextedPatch). bare y.patch) (sym is))
 
   pub does_more : ¬ (k.effect ≡ inverse_of a ∷ []) → NoResult (ConflictDissolves a k)
   does_more other pair w = other (ap (λ (c : Conflictor). c.effect) w.is)
 
-  pub dissolves_from : (x : InContext) (q : Named) (k' j' : Catch) → k.conflicts ≡ only x → x ≡ bare a → k.identity ≡ bare k.identity.patch → k.effect ≡ inverse_of a ∷ [] → q ≡ k.identity.patch → PlainAndFirstConflict a q k' j' → ConflictDissolves a k k' j'
+  pub dissolves_from : (x : ContextedPatch) (q : Named) (k' j' : Catch) → k.conflicts ≡ only x → x ≡ bare a → k.identity ≡ bare k.identity.patch → k.effect ≡ inverse_of a ∷ [] → q ≡ k.identity.patch → PlainAndFirstConflict a q k' j' → ConflictDissolves a k k' j'
   dissolves_from x q k' j' alone is no_context undoes patch (plain, made) =
       let identity = no_context ∙ ap bare (sym patch) in
       record { q = q; is = λ t. record { effect = undoes t; conflicts = (alone ∙ ap only is) t; identity = identity t }; second = plain; first = made }
@@ -215,16 +215,16 @@ is_nothing s (p ∷ items) test is counts same =
 
 -- the only conflict goes
 module _ (j k : Conflictor) where
-  pub another_goes : (x : InContext) → k.conflicts ≡ only x → ¬ (context_key x ≡ context_key j.identity) → NoResult (OnlyConflictGoes j k)
+  pub another_goes : (x : ContextedPatch) → k.conflicts ≡ only x → ¬ (context_key x ≡ context_key j.identity) → NoResult (OnlyConflictGoes j k)
   another_goes x alone other pair w = other (ap context_key (same_only k.conflicts x w.x alone w.alone) ∙ w.named)
 
-  module _ (y : InContext) (adds : AddsAll j.effect k.identity y) where
+  module _ (y : ContextedPatch) (adds : AddsAll j.effect k.identity y) where
     pub stays_in_conflict : ¬ (y ≡ bare y.patch) → NoResult (OnlyConflictGoes j k)
     stays_in_conflict other pair w =
         let same : y ≡ bare w.a = one_add_of_all j.effect k.identity y (bare w.a) adds w.becomes in
-        other (same ∙ ap (λ (z : InContext). bare z.patch) (sym same))
+        other (same ∙ ap (λ (z : ContextedPatch). bare z.patch) (sym same))
 
-    pub only_goes_from : (x : InContext) (a : Named) (k' j' : Catch) → k.conflicts ≡ only x → context_key x ≡ context_key j.identity → k.effect ≡ [] → y ≡ bare y.patch → a ≡ y.patch → PlainAndUndone a j k.identity k' j' → OnlyConflictGoes j k k' j'
+    pub only_goes_from : (x : ContextedPatch) (a : Named) (k' j' : Catch) → k.conflicts ≡ only x → context_key x ≡ context_key j.identity → k.effect ≡ [] → y ≡ bare y.patch → a ≡ y.patch → PlainAndUndone a j k.identity k' j' → OnlyConflictGoes j k k' j'
     only_goes_from x a k' j' alone named no_effect no_context patch (plain, made) =
         let takes = made.1 in record {
           x = x;

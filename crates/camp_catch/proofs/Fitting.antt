@@ -15,7 +15,7 @@ use Rattle.camp_seq.specs.Merging.{MergesOne}
 use Rattle.camp_seq.proofs.ListEquivalence.{passed}
 use Rattle.camp_seq.proofs.ListRuns.{joined_runs, cut_run, equivalent_run}
 use Rattle.camp_seq.proofs.MergeGrid.{row_passes}
-use Rattle.camp_ctx.specs.Contexts.{InContext, Contexts, AreValid, Valid, only, with_member, context_key}
+use Rattle.camp_ctx.specs.Contexts.{ContextedPatch, ContextedPatches, AreValid, Valid, only, with_member, context_key}
 use Rattle.camp_ctx.specs.Adding.{AddsAll}
 use Rattle.camp_ctx.specs.Laws.{KeepsValid}
 use Rattle.camp_ctx.proofs.AddValid.{valid_by_adding_all}
@@ -42,7 +42,7 @@ pub conflictor_fits : (k : Conflictor) (old new : Files) → AppliesAll k.effect
 conflictor_fits k old new run members identity = record { effect = run; seen = (members, identity) }
 
 -- a conflictor that is seen from before a step fits where the other was seen from behind it
-pub becomes_fits : (IsEffect : List Named → Type 0) (Member Identity : InContext → InContext → Type 0) (Step : Files → Files → Type 0) → KeepsValid Member Step → KeepsValid Identity Step → (j k : Conflictor) → Becomes IsEffect Member Identity j k → (old new behind : Files) → AppliesAll k.effect old new → Step new behind → IsSeenFrom behind (Catch.Conflictor j) → Fits (Catch.Conflictor k) old new
+pub becomes_fits : (IsEffect : List Named → Type 0) (Member Identity : ContextedPatch → ContextedPatch → Type 0) (Step : Files → Files → Type 0) → KeepsValid Member Step → KeepsValid Identity Step → (j k : Conflictor) → Becomes IsEffect Member Identity j k → (old new behind : Files) → AppliesAll k.effect old new → Step new behind → IsSeenFrom behind (Catch.Conflictor j) → Fits (Catch.Conflictor k) old new
 becomes_fits IsEffect Member Identity Step members identity j k w old new behind run step seen =
     conflictor_fits k old new run (members_valid Member Step members j.conflicts k.conflicts w.conflicts new behind step seen.0) (identity j.identity k.identity w.identity new behind step seen.1)
 
@@ -85,43 +85,43 @@ run_once [] old new other v w = subst (λ t. new ≡ t) (sym w) v
 run_once (p ∷ s) old new other v w =
     run_once s w.0 new other (subst (λ t. AppliesAll s t new) (applies_once p.prim old v.0 w.0 v.1 w.1) v.2) w.2
 
-never : (x : InContext) → None ≡ Some x → ⊥
+never : (x : ContextedPatch) → None ≡ Some x → ⊥
 never x e = cc
 
-pub same_some : (x y : InContext) → Some x ≡ Some y → x ≡ y
+pub same_some : (x y : ContextedPatch) → Some x ≡ Some y → x ≡ y
 same_some x y e = cc
 
-inserted_at : (tree : Files) (l : InContext) (x : Option InContext) (same : Bool) → Valid tree l → ((v : InContext) → x ≡ Some v → Valid tree v) → (w : InContext) → cond same (Some l) x ≡ Some w → Valid tree w
+inserted_at : (tree : Files) (l : ContextedPatch) (x : Option ContextedPatch) (same : Bool) → Valid tree l → ((v : ContextedPatch) → x ≡ Some v → Valid tree v) → (w : ContextedPatch) → cond same (Some l) x ≡ Some w → Valid tree w
 inserted_at tree l x true valid others w e = subst (Valid tree) (same_some l w e) valid
 inserted_at tree l x false valid others w e = others w e
 
 -- a set with one member more
-pub inserted_valid : (tree : Files) (xs : Contexts) (key : Key) (l : InContext) → AreValid tree xs → Valid tree l → AreValid tree (insert xs key l)
+pub inserted_valid : (tree : Files) (xs : ContextedPatches) (key : Key) (l : ContextedPatch) → AreValid tree xs → Valid tree l → AreValid tree (insert xs key l)
 inserted_valid tree xs key l members valid q w is =
     inserted_at tree l (get xs q) (eq_by_cmp key_cmp q key) valid (members q) w (subst (λ o. o ≡ Some w) (get-insert key_total xs key l q) is)
 
 -- the set of one
-pub only_valid : (tree : Files) (l : InContext) → Valid tree l → AreValid tree (only l)
+pub only_valid : (tree : Files) (l : ContextedPatch) → Valid tree l → AreValid tree (only l)
 only_valid tree l valid = inserted_valid tree empty (context_key l) l (λ q w e. absurd (never w (subst (λ o. o ≡ Some w) (get-empty key_cmp q) e))) valid
 
-joined_valid : (tree : Files) (xs : Contexts) (l : InContext) (there : Bool) → AreValid tree xs → Valid tree l → AreValid tree (cond there xs (insert xs (context_key l) l))
+joined_valid : (tree : Files) (xs : ContextedPatches) (l : ContextedPatch) (there : Bool) → AreValid tree xs → Valid tree l → AreValid tree (cond there xs (insert xs (context_key l) l))
 joined_valid tree xs l true members valid = members
 joined_valid tree xs l false members valid = inserted_valid tree xs (context_key l) l members valid
 
 -- a set that a member joins
-pub with_member_valid : (tree : Files) (xs : Contexts) (l : InContext) → AreValid tree xs → Valid tree l → AreValid tree (with_member xs l)
+pub with_member_valid : (tree : Files) (xs : ContextedPatches) (l : ContextedPatch) → AreValid tree xs → Valid tree l → AreValid tree (with_member xs l)
 with_member_valid tree xs l members valid = joined_valid tree xs l (contains_key xs (context_key l)) members valid
 
 -- a conflictor that l joins
-pub joined_fits : (k : Conflictor) (l : InContext) (old new : Files) → Fits (Catch.Conflictor k) old new → Valid new l → Fits (Catch.Conflictor (joined_by l k)) old new
+pub joined_fits : (k : Conflictor) (l : ContextedPatch) (old new : Files) → Fits (Catch.Conflictor k) old new → Valid new l → Fits (Catch.Conflictor (joined_by l k)) old new
 joined_fits k l old new f valid =
     conflictor_fits (joined_by l k) old new f.effect (with_member_valid new k.conflicts l f.seen.0 valid) f.seen.1
 
-removed_at : (tree : Files) (x : Option InContext) (same : Bool) → ((v : InContext) → x ≡ Some v → Valid tree v) → (w : InContext) → cond same None x ≡ Some w → Valid tree w
+removed_at : (tree : Files) (x : Option ContextedPatch) (same : Bool) → ((v : ContextedPatch) → x ≡ Some v → Valid tree v) → (w : ContextedPatch) → cond same None x ≡ Some w → Valid tree w
 removed_at tree x true others w e = absurd (never w e)
 removed_at tree x false others w e = others w e
 
 -- a set without a member
-pub without_valid : (tree : Files) (xs : Contexts) (key : Key) → AreValid tree xs → AreValid tree (remove xs key)
+pub without_valid : (tree : Files) (xs : ContextedPatches) (key : Key) → AreValid tree xs → AreValid tree (remove xs key)
 without_valid tree xs key members q w is =
     removed_at tree (get xs q) (eq_by_cmp key_cmp q key) (members q) w (subst (λ o. o ≡ Some w) (get-remove key_total xs key q) is)

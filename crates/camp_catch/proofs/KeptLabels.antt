@@ -9,7 +9,7 @@ use Rattle.camp_prim.specs.declared.named.Named.{Named}
 use Rattle.camp_seq.specs.Merging.{MergesOne}
 use Rattle.camp_seq.specs.Passing.{Passes, PassesAll}
 use Rattle.camp_ctx.specs.Adding.{Adds, PassesBy, PassesByAll}
-use Rattle.camp_ctx.specs.Contexts.{InContext, patch_key, context_key, bare}
+use Rattle.camp_ctx.specs.Contexts.{ContextedPatch, patch_key, context_key, bare}
 use Rattle.camp_ctx.proofs.AddResults.{same_key_of_sum}
 use Rattle.camp_catch.specs.Arranging.{ComesBefore, ArrangesBehind, ComesFirst, Align}
 use Rattle.camp_catch.specs.Catches.{catch_key}
@@ -46,13 +46,13 @@ merged_key : (a : Named) (s s' : List Named) (a' : Named) → MergesOne a s s' a
 merged_key a [] s' a' w = ap patch_key w.1
 merged_key a (b ∷ s) s' a' w = merged_key w.1 s w.2 a' w.4 ∙ ap key_of w.3.anywhere.first
 
-added_key : (a : Named) (x y : InContext) → Adds a x y → context_key y ≡ context_key x
+added_key : (a : Named) (x y : ContextedPatch) → Adds a x y → context_key y ≡ context_key x
 added_key a x y w = same_key_of_sum (a ∷ []) x y (x, refl, w)
 
-passed_context_key : (a : Named) (x y : InContext) → PassesBy a x y → context_key y ≡ context_key x
+passed_context_key : (a : Named) (x y : ContextedPatch) → PassesBy a x y → context_key y ≡ context_key x
 passed_context_key a x y w = ap key_of w.past_patch.anywhere.second
 
-passed_all_key : (r : List Named) (x y : InContext) → PassesByAll r x y → context_key y ≡ context_key x
+passed_all_key : (r : List Named) (x y : ContextedPatch) → PassesByAll r x y → context_key y ≡ context_key x
 passed_all_key [] x y w = ap context_key w
 passed_all_key (a ∷ r) x y w = passed_context_key a w.0 y w.2 ∙ passed_all_key r x w.0 w.1
 
@@ -85,7 +85,7 @@ beside_or_joined a k k' j' (inr w) =
     (ap catch_key w.after, ap catch_key w.beside ∙ same_key_of_sum _ (bare a) w.z w.becomes)
 
 -- a conflictor that another joins keeps its own
-joined_key : (Holds : Type 0) (l : InContext) (j k : Conflictor) → JoinsWhere Holds l j k → context_key k.identity ≡ context_key j.identity
+joined_key : (Holds : Type 0) (l : ContextedPatch) (j k : Conflictor) → JoinsWhere Holds l j k → context_key k.identity ≡ context_key j.identity
 joined_key Holds l j k (inl w) = ap (λ (c : Conflictor). context_key c.identity) w.1
 joined_key Holds l j k (inr w) = ap (λ (c : Conflictor). context_key c.identity) w.1
 

@@ -10,7 +10,7 @@ use Rattle.camp_seq.specs.Merging.{Merges, MergesOne}
 use Rattle.camp_seq.specs.Running.{inverse_all}
 use Rattle.camp_seq.proofs.MergeGrid.{row_passes, passes_row}
 use Rattle.camp_ctx.specs.Conflicts.{Conflict}
-use Rattle.camp_ctx.specs.Contexts.{InContext, bare}
+use Rattle.camp_ctx.specs.Contexts.{ContextedPatch, bare}
 use Rattle.camp_ctx.proofs.AddResults.{one_add_of_all}
 use Rattle.camp_ctx.proofs.ConflictLaws.{one_merge_behind}
 use Rattle.camp_ctx.proofs.ContextsDecided.{conflict_or_not, merge_behind_or_not}
@@ -45,7 +45,7 @@ no_merge_or_not a b =
 
 first_conflict : (a b : Named) → IsDetermined (FirstConflict a b)
 first_conflict a b =
-    made_of (where_holds (no_merge_or_not a b) (λ conflict. just (Catch.Conflictor (against a b), Catch.Conflictor (against b a)))) (λ x. x) (λ x w. record { conflict = w.0; after = ap (λ (p : Catch × Catch). p.0) w.1; beside = ap (λ (p : Catch × Catch). p.1) w.1 }) (λ pair c. (pair, (c.conflict, λ t. (c.after t, c.beside t)), refl))
+    made_of (where_holds (no_merge_or_not a b) (λ conflict. just (Catch.Conflictor (against a b), Catch.Conflictor (against b a)))) (λ x. x) (λ x w. record { no_merge = w.0; after = ap (λ (p : Catch × Catch). p.0) w.1; beside = ap (λ (p : Catch × Catch). p.1) w.1 }) (λ pair c. (pair, (c.no_merge, λ t. (c.after t, c.beside t)), refl))
 
 plain_beside_conflictor : (a : Named) (k : Conflictor) → IsDetermined (PlainBesideConflictor a k)
 plain_beside_conflictor a k =
@@ -80,7 +80,7 @@ plain_joins_conflictor a k =
       beside = refl;
     }) (λ pair c. ((c.seen, (c.z, c.effect)), (c.sees, (c.conflict, (c.becomes, c.joined))), λ t. (c.after t, c.beside t)))
 
-joins : {Holds : Type 0} → Decided Holds → (l : InContext) (old : Conflictor) → Determined (JoinsWhere Holds l old)
+joins : {Holds : Type 0} → Decided Holds → (l : ContextedPatch) (old : Conflictor) → Determined (JoinsWhere Holds l old)
 joins holds l old =
     either (λ x y v w. w.0 v.0) (where_holds holds (λ yes. just (joined_by l old))) (where_holds (not_or_not holds) (λ no. just old))
 
@@ -117,7 +117,7 @@ two_conflictors j k =
 
 pub cases_exclude : MergeCasesExclude
 cases_exclude = record {
-  both_plain = λ a b k' j' k j v w. w.conflict v.b' v.a' v.merge;
+  both_plain = λ a b k' j' k j v w. w.no_merge v.b' v.a' v.merge;
   plain_and_conflictor = λ a k k' j' l i v w.
       v.apart (subst (Conflict (bare a)) (one_add_of_all k.effect k.identity w.seen v.seen w.sees v.sees) w.conflict);
 }

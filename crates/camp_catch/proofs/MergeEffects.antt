@@ -10,7 +10,7 @@ use Rattle.camp_seq.proofs.ListRuns.{cut_run, runs_back}
 use Rattle.camp_seq.proofs.MergeGrid.{merge_closes, cell_is_symmetric}
 use Rattle.camp_ctx.specs.Adding.{Adds}
 use Rattle.camp_ctx.specs.Conflicts.{MergesBehindCommon, Conflict, common_labels}
-use Rattle.camp_ctx.specs.Contexts.{InContext, Valid, bare}
+use Rattle.camp_ctx.specs.Contexts.{ContextedPatch, Valid, bare}
 use Rattle.camp_ctx.proofs.AddValid.{valid_by_adding, valid_by_adding_all}
 use Rattle.camp_ctx.proofs.ConflictLaws.{merge_behind_is_symmetric, conflict_is_symmetric}
 use Rattle.camp_catch.specs.Catches.{Fits}
@@ -75,7 +75,7 @@ behind_common_closes s t t' s' w old left right first second =
     let same : other.0 ≡ one.0 = run_once w.common old other.0 one.0 other.1 one.1 in
     merge_closes w.s1 w.t1 t' s' w.merge one.0 left right one.2 (subst (λ tree. AppliesAll w.t1 tree right) same other.2)
 
-joins_fit : (Holds : Type 0) (l : InContext) (j k : Conflictor) → JoinsWhere Holds l j k → (old new : Files) → Fits (Catch.Conflictor j) old new → Valid new l → Fits (Catch.Conflictor k) old new
+joins_fit : (Holds : Type 0) (l : ContextedPatch) (j k : Conflictor) → JoinsWhere Holds l j k → (old new : Files) → Fits (Catch.Conflictor j) old new → Valid new l → Fits (Catch.Conflictor k) old new
 joins_fit Holds l j k (inl w) old new f valid =
     subst (λ c. Fits (Catch.Conflictor c) old new) (sym w.1) (joined_fits j l old new f valid)
 joins_fit Holds l j k (inr w) old new f valid = subst (λ c. Fits (Catch.Conflictor c) old new) (sym w.1) f
@@ -105,7 +105,7 @@ merge_keeps_effects (Catch.Conflictor j) (Plain b) k' j' (inr w) = λ old left r
     mirrored j' k' right left (plain_joins_conflictor b j j' k' w old right left g f)
 merge_keeps_effects (Catch.Conflictor j) (Catch.Conflictor k) k' j' w = two_conflictors j k k' j' w
 
-pub joins_alike : (One Other : Type 0) (l : InContext) (j k : Conflictor) → (One → Other) → (Other → One) → JoinsWhere One l j k → JoinsWhere Other l j k
+pub joins_alike : (One Other : Type 0) (l : ContextedPatch) (j k : Conflictor) → (One → Other) → (Other → One) → JoinsWhere One l j k → JoinsWhere Other l j k
 joins_alike One Other l j k to from (inl w) = inl (to w.0, w.1)
 joins_alike One Other l j k to from (inr w) = inr ((λ h. w.0 (from h)), w.1)
 
@@ -140,7 +140,7 @@ pub merging_is_symmetric : MergeIsSymmetric
 merging_is_symmetric (Plain a) (Plain b) k' j' (inl w) =
     inl (record { b' = w.a'; a' = w.b'; merge = cell_is_symmetric a b w.b' w.a' w.merge; after = w.beside; beside = w.after })
 merging_is_symmetric (Plain a) (Plain b) k' j' (inr w) =
-    inr (record { conflict = λ b' a' m. w.conflict a' b' (cell_is_symmetric b a b' a' m); after = w.beside; beside = w.after })
+    inr (record { no_merge = λ b' a' m. w.no_merge a' b' (cell_is_symmetric b a b' a' m); after = w.beside; beside = w.after })
 merging_is_symmetric (Plain a) (Catch.Conflictor k) k' j' w = w
 merging_is_symmetric (Catch.Conflictor j) (Plain b) k' j' w = w
 merging_is_symmetric (Catch.Conflictor j) (Catch.Conflictor k) k' j' w = two_are_symmetric j k k' j' w

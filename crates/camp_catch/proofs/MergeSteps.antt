@@ -12,7 +12,7 @@ use Rattle.camp_seq.specs.Running.{inverse_all}
 use Rattle.camp_seq.proofs.MergeGrid.{row_passes, passes_row}
 use Rattle.camp_ctx.specs.Adding.{Adds, AddsAll}
 use Rattle.camp_ctx.specs.Conflicts.{Conflict, MergesBehindCommon}
-use Rattle.camp_ctx.specs.Contexts.{Contexts, EachMember, InContext, bare}
+use Rattle.camp_ctx.specs.Contexts.{ContextedPatches, EachMember, ContextedPatch, bare}
 use Rattle.camp_ctx.proofs.AddResults.{add_of_all_exists, one_add_of_all}
 use Rattle.camp_ctx.proofs.SetChanges.{members_change}
 use Rattle.camp_catch.specs.Conflictors.{Becomes, joined_by}
@@ -61,7 +61,7 @@ module _ (a : Named) (k : Conflictor) where
   pub none_beside : NoPair (Passes (inverse_of a) k.effect) → NoPair (PlainBesideConflictor a k)
   none_beside never pair w = never (w.merged, inverse_of w.a') (row_passes a k.effect w.merged w.a' w.merge)
 
-  module _ (seen : InContext) (sees : AddsAll k.effect k.identity seen) where
+  module _ (seen : ContextedPatch) (sees : AddsAll k.effect k.identity seen) where
     pub beside_from : ¬ (Conflict (bare a) seen) → (merged : List Named) (back' a' : Named) (moved : Conflictor) → a' ≡ inverse_of back' → Passes (inverse_of a) k.effect merged back' → Becomes (Norm merged) (Adds back') (Adds back') k moved → PlainBesideConflictor a k (Catch.Conflictor moved) (Plain a')
     beside_from apart merged back' a' moved turned w made = record {
       seen = seen;
@@ -82,7 +82,7 @@ module _ (a : Named) (k : Conflictor) where
         inl (beside_from apart k.effect back a k (sym (back_again a back turned)) (subst (λ p. Passes p k.effect k.effect back) turned passes) becomes)
 
     -- a plain catch that conflicts with a conflictor joins it as it is seen behind its effect
-    pub joins_from : Conflict (bare a) seen → (z : InContext) → AddsAll (inverse_all k.effect) (bare a) z → (k' j' : Catch) → JoinsAs a k z k' j' → PlainJoinsConflictor a k k' j'
+    pub joins_from : Conflict (bare a) seen → (z : ContextedPatch) → AddsAll (inverse_all k.effect) (bare a) z → (k' j' : Catch) → JoinsAs a k z k' j' → PlainJoinsConflictor a k k' j'
     joins_from conflict z becomes k' j' (taken, takes, after, beside) = record {
       seen = seen;
       sees = sees;
@@ -145,16 +145,16 @@ module _ (j k : Conflictor) where
 
   -- what the second becomes, where nobody reads what the first becomes
   module _ (s2 r2 : List Named) (found : Bool) (moved : Conflictor) (effects : EffectsMerge j.effect k.effect s2 r2) (tells : TellsConflict j k found) (becomes : Becomes (λ t. t ≡ s2) (AddsAll (inverse_all r2)) (AddsAll (inverse_all r2)) k moved) where
-    members : (sum : Contexts) × EachMember (AddsAll (inverse_all moved.effect)) j.conflicts sum
+    members : (sum : ContextedPatches) × EachMember (AddsAll (inverse_all moved.effect)) j.conflicts sum
     members = members_change (AddsAll (inverse_all moved.effect)) (add_of_all_exists (inverse_all moved.effect)) j.conflicts
 
-    abbrev own : InContext → Conflictor
+    abbrev own : ContextedPatch → Conflictor
     own identity = record { effect = r2; conflicts = members.0; identity = identity }
 
-    own_becomes : (identity : InContext) → AddsAll (inverse_all moved.effect) j.identity identity → Becomes (λ t. t ≡ r2) (AddsAll (inverse_all moved.effect)) (AddsAll (inverse_all moved.effect)) j (own identity)
+    own_becomes : (identity : ContextedPatch) → AddsAll (inverse_all moved.effect) j.identity identity → Becomes (λ t. t ≡ r2) (AddsAll (inverse_all moved.effect)) (AddsAll (inverse_all moved.effect)) j (own identity)
     own_becomes identity adds = record { effect = refl; conflicts = members.1; identity = adds }
 
-    pub joined_behind : IsTrue found → (identity : InContext) → AddsAll (inverse_all moved.effect) j.identity identity → (k' : Conflictor) → k' ≡ joined_by identity moved → MergesBehind (Catch.Conflictor j) (Catch.Conflictor k) (Catch.Conflictor k')
+    pub joined_behind : IsTrue found → (identity : ContextedPatch) → AddsAll (inverse_all moved.effect) j.identity identity → (k' : Conflictor) → k' ≡ joined_by identity moved → MergesBehind (Catch.Conflictor j) (Catch.Conflictor k) (Catch.Conflictor k')
     joined_behind holds identity adds k' is =
         let own_joined = joined_by moved.identity (own identity) in (
           Catch.Conflictor own_joined,

@@ -13,7 +13,7 @@ use Rattle.camp_seq.proofs.ListResults.{one_pass, one_pass_of_all, one_front, on
 use Rattle.camp_seq.proofs.ListsDecided.{passes_or_not, all_pass_or_not, splits_or_not}
 use Rattle.camp_seq.proofs.NormalOrders.{has_normal_order}
 use Rattle.camp_ctx.specs.Adding.{Adds, AddsAll, PassesBy, PassesByAll}
-use Rattle.camp_ctx.specs.Contexts.{InContext, Contexts, EachMember, bare, only, patch_key, context_key}
+use Rattle.camp_ctx.specs.Contexts.{ContextedPatch, ContextedPatches, EachMember, bare, only, patch_key, context_key}
 use Rattle.camp_ctx.specs.Laws.{GivesOne, AlwaysGives}
 use Rattle.camp_ctx.proofs.AddResults.{add_exists, add_of_all_exists, front_as_or_not, one_add, one_add_of_all, one_passing_by, one_passing_of_all, passing_by_or_not, same_in_context}
 use Rattle.camp_ctx.proofs.ContextsDecided.{contexts_or_not, in_context_or_not, keys_or_not, list_passes_by_or_not, lists_or_not, only_or_not, same_alone}
@@ -37,23 +37,23 @@ order s = always (one_order s) (has_normal_order s)
 pub fronts : (y : Named) (s : List Named) → Determined (Fronts (label_of y) s y)
 fronts y s = record { one = λ t u v w. (one_front (label_of y) s t u y y v w).1; decided = front_as_or_not y s }
 
-pub adds_all : (r : List Named) (x : InContext) → Determined (AddsAll r x)
+pub adds_all : (r : List Named) (x : ContextedPatch) → Determined (AddsAll r x)
 adds_all r x = always (one_add_of_all r x) (add_of_all_exists r x)
 
 -- what a contexted patch without a context is
-pub adds_to_bare : (r : List Named) (x : InContext) → Determined (λ a. AddsAll r x (bare a))
+pub adds_to_bare : (r : List Named) (x : ContextedPatch) → Determined (λ a. AddsAll r x (bare a))
 adds_to_bare r x =
     let seen = add_of_all_exists r x in record {
-      one = λ a b v w. ap (λ (y : InContext). y.patch) (one_add_of_all r x (bare a) (bare b) v w);
-      decided = decided_by (λ e. (seen.0.patch, subst (AddsAll r x) (same_in_context seen.0 (bare seen.0.patch) e refl) seen.1)) (λ a. ap (λ (y : InContext). y.context) (one_add_of_all r x seen.0 (bare a.0) seen.1 a.1)) (lists_or_not seen.0.context []);
+      one = λ a b v w. ap (λ (y : ContextedPatch). y.patch) (one_add_of_all r x (bare a) (bare b) v w);
+      decided = decided_by (λ e. (seen.0.patch, subst (AddsAll r x) (same_in_context seen.0 (bare seen.0.patch) e refl) seen.1)) (λ a. ap (λ (y : ContextedPatch). y.context) (one_add_of_all r x seen.0 (bare a.0) seen.1 a.1)) (lists_or_not seen.0.context []);
     }
 
 -- the one member of a set
-pub same_only : (xs : Contexts) (x y : InContext) → xs ≡ only x → xs ≡ only y → x ≡ y
+pub same_only : (xs : ContextedPatches) (x y : ContextedPatch) → xs ≡ only x → xs ≡ only y → x ≡ y
 same_only xs x y e f =
-    ap (λ (e : Key × InContext). e.1) (same_alone (context_key x, x) (context_key y, y) (sym (entries-only x) ∙ ap entries (sym e ∙ f) ∙ entries-only y))
+    ap (λ (e : Key × ContextedPatch). e.1) (same_alone (context_key x, x) (context_key y, y) (sym (entries-only x) ∙ ap entries (sym e ∙ f) ∙ entries-only y))
 
-pub one_member : (xs : Contexts) → Determined (λ x. xs ≡ only x)
+pub one_member : (xs : ContextedPatches) → Determined (λ x. xs ≡ only x)
 one_member xs = record { one = same_only xs; decided = only_or_not xs }
 
 pub all_or_not : {X : Type 0} (Holds : X → Type 0) → ((x : X) → Decided (Holds x)) → (xs : List X) → Decided (All Holds xs)
@@ -70,7 +70,7 @@ LacksKey key s = All (λ p. patch_key p ≢ key) s
 pub lacks_or_not : (key : Key) (s : List Named) → Decided (LacksKey key s)
 lacks_or_not key s = all_or_not (λ p. patch_key p ≢ key) (λ p. not_or_not (keys_or_not (patch_key p) key)) s
 
-abbrev conflictor_of : List Named × (Contexts × InContext) → Conflictor
+abbrev conflictor_of : List Named × (ContextedPatches × ContextedPatch) → Conflictor
 conflictor_of parts = record { effect = parts.0; conflicts = parts.1.0; identity = parts.1.1 }
 
 -- two conflictors are the same, or they are not
@@ -86,7 +86,7 @@ against_one a k = record {
 }
 
 -- a conflictor that becomes another, part by part
-pub becomes : {IsEffect : List Named → Type 0} {Member Identity : InContext → InContext → Type 0} (old : Conflictor) → Determined IsEffect → GivesOne Member → AlwaysGives Member → Determined (Identity old.identity) → Determined (Becomes IsEffect Member Identity old)
+pub becomes : {IsEffect : List Named → Type 0} {Member Identity : ContextedPatch → ContextedPatch → Type 0} (old : Conflictor) → Determined IsEffect → GivesOne Member → AlwaysGives Member → Determined (Identity old.identity) → Determined (Becomes IsEffect Member Identity old)
 becomes {IsEffect} {Member} {Identity} old effect one exists identity =
     let members : Determined (EachMember Member old.conflicts) = always (one_change_of_members Member one old.conflicts) (members_change Member exists old.conflicts) in
     made_of (both effect (both members identity)) conflictor_of (λ x w. record { effect = w.0; conflicts = w.1.0; identity = w.1.1 }) (λ new w. ((new.effect, (new.conflicts, new.identity)), (w.effect, (w.conflicts, w.identity)), refl))
@@ -129,7 +129,7 @@ comes_before r b = record {
   ];
 }
 
-pub effects_pass : (r s : List Named) (ys : Contexts) → Determined (λ (p : List Named × List Named). EffectsPass r s ys p.0 p.1)
+pub effects_pass : (r s : List Named) (ys : ContextedPatches) → Determined (λ (p : List Named × List Named). EffectsPass r s ys p.0 p.1)
 effects_pass r s ys =
     let labels = labels_undone r ys in
     let parts : Determined (λ (p : List Named × List Named). Splits labels r p.0 p.1) = pairs (λ x z y w. one_split labels r x y z w) (splits_or_not labels r) in
@@ -143,5 +143,5 @@ effects_pass r s ys =
       s' = x.1.1.0;
       second = w.1.1.0;
       first = w.1.1.1.1;
-      joined = w.1.1.1.0;
-    }) (λ p c. (((c.common, c.rr), ((c.passed, c.left), (c.s', (p.0, p.1)))), (c.split, (c.passes, (c.second, (c.joined, c.first)))), refl))
+      whole = w.1.1.1.0;
+    }) (λ p c. (((c.common, c.rr), ((c.passed, c.left), (c.s', (p.0, p.1)))), (c.split, (c.passes, (c.second, (c.whole, c.first)))), refl))

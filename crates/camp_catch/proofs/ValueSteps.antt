@@ -6,10 +6,10 @@ use Rattle.camp_prim.specs.Labels.{key_cmp}
 use Rattle.camp_prim.specs.Effect.{inverse_of}
 use Rattle.camp_prim.specs.declared.named.Named.{Named}
 use Rattle.camp_prim.proofs.Inverses.{inverse_of-inverse_of}
-use Rattle.camp_ctx.specs.Contexts.{InContext, Contexts, context_key, only, with_member}
+use Rattle.camp_ctx.specs.Contexts.{ContextedPatch, ContextedPatches, context_key, only, with_member}
 
 -- the empty set with a member
-pub first_member : (none : Contexts) (x : InContext) → none ≡ empty → with_member none x ≡ only x
+pub first_member : (none : ContextedPatches) (x : ContextedPatch) → none ≡ empty → with_member none x ≡ only x
 first_member none x is =
     ap (λ s. with_member s x) is ∙ ap (λ o. cond (is_some o) empty (insert empty (context_key x) x)) (get-empty key_cmp (context_key x))
 

@@ -28,10 +28,6 @@ pub record Fits (j : Catch) (old new : Files) : Type 0 where
   pub effect : AppliesAll (effect_of j) old new
   pub seen : IsSeenFrom new j
 
--- a catch fits a tree
-abbrev pub Fit : Files → Catch → Type 0
-Fit tree j = (after : Files) × Fits j tree after
-
 -- catches, each in the tree that those before it leave, fit a tree and lead to another
 abbrev pub FitsAll : List Catch → Files → Files → Type 0
 FitsAll [] old new = new ≡ old

@@ -13,7 +13,7 @@ use Rattle.camp_seq.specs.NormalOrder.{Norm, Splits}
 use Rattle.camp_seq.specs.Passing.{Passes, PassesAll, Fronts}
 use Rattle.camp_seq.specs.Running.{inverse_all}
 use Rattle.camp_ctx.specs.Adding.{Adds, AddsAll, PassesBy, PassesByAll}
-use Rattle.camp_ctx.specs.Contexts.{InContext, Contexts, bare, only, patch_key, context_key}
+use Rattle.camp_ctx.specs.Contexts.{ContextedPatch, ContextedPatches, bare, only, patch_key, context_key}
 use Rattle.camp_catch.specs.Conflictors.{Becomes, against, in_conflict_with, joined_by, with_effect, without}
 use Rattle.camp_catch.specs.declared.catches.Catch.{Catch}
 use Rattle.camp_catch.specs.declared.catches.Catch.TheVariants.{Plain}
@@ -52,13 +52,13 @@ pub record ConflictorPastPlain (j : Conflictor) (b : Named) (k' j' : Catch) : Ty
   pub first : j' ≡ Catch.Conflictor moved
 
 -- the labels of the inverses in r whose absolute labels stand in a set
-abbrev pub labels_undone : List Named → Contexts → List Label
+abbrev pub labels_undone : List Named → ContextedPatches → List Label
 labels_undone r ys = map label_of (filter (λ p. p.inverse && contains_key ys (patch_key p)) r)
 
 -- two effects change places, but for what r undoes of Y, which stays first: r is split by the labels undone, and joined
 -- is what is behind the common part
 -- common rr s ~ common s' rr', where r ~ common rr by the labels undone, and rr s ~ s' rr'
-pub record EffectsPass (r s : List Named) (ys : Contexts) (effect rr' : List Named) : Type 0 where
+pub record EffectsPass (r s : List Named) (ys : ContextedPatches) (effect rr' : List Named) : Type 0 where
   pub common : List Named
   pub rr : List Named
   pub split : Splits (labels_undone r ys) r common rr
@@ -68,7 +68,7 @@ pub record EffectsPass (r s : List Named) (ys : Contexts) (effect rr' : List Nam
   pub s' : List Named
   pub second : Norm passed s'
   pub first : Norm left rr'
-  pub joined : Norm (common ++ s') effect
+  pub whole : Norm (common ++ s') effect
 
 -- two conflictors apart: j is not in Y, nor in the context of l; rr' passes by l
 -- (common rr, X, i) (s, Y, l) <-> (common s', Y', l') (rr', X', i')
@@ -97,7 +97,7 @@ pub record ConflictDissolves (a : Named) (k : Conflictor) (k' j' : Catch) : Type
 -- plain leaves the set: a is in Y, as z with its label, and not alone; s ~ a^ s'
 -- [a] (s, Y, l) <-> (s', Y without a, l) ([], {l}, z)
 pub record PlainLeavesTheSet (a : Named) (k : Conflictor) (k' j' : Catch) : Type 0 where
-  pub z : InContext
+  pub z : ContextedPatch
   pub member : get k.conflicts (patch_key a) ≡ Some z
   pub named : context_key z ≡ patch_key a
   pub several : 2 ≤ len k.conflicts
@@ -111,7 +111,7 @@ pub record PlainLeavesTheSet (a : Named) (k : Conflictor) (k' j' : Catch) : Type
 -- the only conflict goes: k has no effect and conflicts with j alone; r added to l gives :a
 -- (r, X, i) ([], {x}, l) <-> [a] (a^ r, X and l, i)
 pub record OnlyConflictGoes (j k : Conflictor) (k' j' : Catch) : Type 0 where
-  pub x : InContext
+  pub x : ContextedPatch
   pub named : context_key x ≡ context_key j.identity
   pub no_effect : k.effect ≡ []
   pub alone : k.conflicts ≡ only x
@@ -126,7 +126,7 @@ pub record OnlyConflictGoes (j k : Conflictor) (k' j' : Catch) : Type 0 where
 -- (common rr, X, i) (s, Y, l) <-> (common s', Z', l') (rr', X' and l, i')
 -- where rr' added to Z and l gives Z' and l', and s^ added to X and i gives X' and i'
 pub record OneOfSeveralConflicts (j k : Conflictor) (k' j' : Catch) : Type 0 where
-  pub z : InContext
+  pub z : ContextedPatch
   pub member : get k.conflicts (context_key j.identity) ≡ Some z
   pub several : 2 ≤ len k.conflicts
   pub effect : List Named

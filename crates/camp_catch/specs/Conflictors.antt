@@ -4,7 +4,7 @@ use Rattle.std.specs.FinMap.{remove}
 use Rattle.camp_prim.specs.Effect.{inverse_of}
 use Rattle.camp_prim.specs.declared.labels.Key.{Key}
 use Rattle.camp_prim.specs.declared.named.Named.{Named}
-use Rattle.camp_ctx.specs.Contexts.{InContext, Contexts, EachMember, bare, only, with_member}
+use Rattle.camp_ctx.specs.Contexts.{ContextedPatch, ContextedPatches, EachMember, bare, only, with_member}
 use Rattle.camp_catch.specs.declared.catches.Conflictor.{Conflictor}
 
 -- ([a^], {:a}, :b): the first conflict of b, with a alone, which it undoes
@@ -12,7 +12,7 @@ abbrev pub against : Named → Named → Conflictor
 against a b = record { effect = inverse_of a ∷ []; conflicts = only (bare a); identity = bare b }
 
 -- ([], {l}, i): a conflict with l alone, which has no effect
-abbrev pub in_conflict_with : InContext → InContext → Conflictor
+abbrev pub in_conflict_with : ContextedPatch → ContextedPatch → Conflictor
 in_conflict_with l i = record { effect = []; conflicts = only l; identity = i }
 
 -- (s, X, i): the same with another effect
@@ -20,11 +20,11 @@ abbrev pub with_effect : List Named → Conflictor → Conflictor
 with_effect s k = record { effect = s; conflicts = k.conflicts; identity = k.identity }
 
 -- (r, Y, i): the same with other conflicts
-abbrev pub with_conflicts : Contexts → Conflictor → Conflictor
+abbrev pub with_conflicts : ContextedPatches → Conflictor → Conflictor
 with_conflicts ys k = record { effect = k.effect; conflicts = ys; identity = k.identity }
 
 -- (r, X and l, i): the same in conflict with l too
-abbrev pub joined_by : InContext → Conflictor → Conflictor
+abbrev pub joined_by : ContextedPatch → Conflictor → Conflictor
 joined_by l k = with_conflicts (with_member k.conflicts l) k
 
 -- (r, X without a label, i): the same without the conflict of this absolute label
@@ -32,7 +32,7 @@ abbrev pub without : Key → Conflictor → Conflictor
 without key k = with_conflicts (remove k.conflicts key) k
 
 -- (r, X, i) becomes (r', X', i'): r' is as one relation says, each member of X changes by another, and i by a third
-pub record Becomes (IsEffect : List Named → Type 0) (ChangesMember ChangesIdentity : InContext → InContext → Type 0)
+pub record Becomes (IsEffect : List Named → Type 0) (ChangesMember ChangesIdentity : ContextedPatch → ContextedPatch → Type 0)
     (old new : Conflictor) : Type 0 where
   pub effect : IsEffect new.effect
   pub conflicts : EachMember ChangesMember old.conflicts new.conflicts

@@ -8,7 +8,7 @@ use Rattle.camp_seq.specs.NormalOrder.{Norm}
 use Rattle.camp_seq.specs.Running.{inverse_all}
 use Rattle.camp_ctx.specs.Adding.{Adds, AddsAll}
 use Rattle.camp_ctx.specs.Conflicts.{MergesBehindCommon, Conflict}
-use Rattle.camp_ctx.specs.Contexts.{InContext, bare}
+use Rattle.camp_ctx.specs.Contexts.{ContextedPatch, bare}
 use Rattle.camp_catch.specs.Conflictors.{Becomes, against, in_conflict_with, joined_by, with_effect}
 use Rattle.camp_catch.specs.declared.catches.Catch.{Catch}
 use Rattle.camp_catch.specs.declared.catches.Catch.TheVariants.{Plain}
@@ -26,14 +26,14 @@ pub record Clean (a b : Named) (k' j' : Catch) : Type 0 where
 -- first conflict: a and b do not merge cleanly
 -- [a] | [b] -> ([a^], {:a}, :b) | ([b^], {:b}, :a)
 pub record FirstConflict (a b : Named) (k' j' : Catch) : Type 0 where
-  pub conflict : (b' a' : Named) → ¬ (Merges a b b' a')
+  pub no_merge : (b' a' : Named) → ¬ (Merges a b b' a')
   pub after : k' ≡ Catch.Conflictor (against a b)
   pub beside : j' ≡ Catch.Conflictor (against b a)
 
 -- plain beside conflictor: :a does not conflict with l as seen before s; a and s merge cleanly to s' and a'
 -- [a] | (s, Y, l) -> (s', Y', l') | [a'], where a'^ added to Y and l gives Y', l'
 pub record PlainBesideConflictor (a : Named) (k : Conflictor) (k' j' : Catch) : Type 0 where
-  pub seen : InContext
+  pub seen : ContextedPatch
   pub sees : AddsAll k.effect k.identity seen
   pub apart : ¬ (Conflict (bare a) seen)
   pub merged : List Named
@@ -47,10 +47,10 @@ pub record PlainBesideConflictor (a : Named) (k : Conflictor) (k' j' : Catch) : 
 -- plain joins conflictor: :a conflicts with l as seen before s; z is :a as seen after s
 -- [a] | (s, Y, l) -> (a^ s, Y and z, l) | ([], {l}, z)
 pub record PlainJoinsConflictor (a : Named) (k : Conflictor) (k' j' : Catch) : Type 0 where
-  pub seen : InContext
+  pub seen : ContextedPatch
   pub sees : AddsAll k.effect k.identity seen
   pub conflict : Conflict (bare a) seen
-  pub z : InContext
+  pub z : ContextedPatch
   pub becomes : AddsAll (inverse_all k.effect) (bare a) z
   pub effect : List Named
   pub joined : Norm (inverse_of a ∷ k.effect) effect
@@ -67,7 +67,7 @@ abbrev pub Mirror : Conflictor → Named → Catch → Catch → Type 0
 Mirror j b k' j' = MergePlainConflictor b j j' k'
 
 -- l joins the conflicts where a fact holds, and elsewhere they stay
-abbrev pub JoinsWhere : Type 0 → InContext → Conflictor → Conflictor → Type 0
+abbrev pub JoinsWhere : Type 0 → ContextedPatch → Conflictor → Conflictor → Type 0
 JoinsWhere Holds l old new = (Holds × (new ≡ joined_by l old)) ⊎ ((¬ Holds) × (new ≡ old))
 
 -- two conflictors: r ~ common r1 and s ~ common s1; r1 and s1 merge cleanly to s2 and r2
@@ -85,8 +85,8 @@ pub record TwoConflictors (j k : Conflictor) (k' j' : Catch) : Type 0 where
   pub own : Conflictor
   pub becomes : Becomes (λ s. s ≡ s2) (AddsAll (inverse_all r2)) (AddsAll (inverse_all r2)) k moved
   pub own_becomes : Becomes (λ r. r ≡ r2) (AddsAll (inverse_all s2)) (AddsAll (inverse_all s2)) j own
-  pub y : InContext
-  pub x : InContext
+  pub y : ContextedPatch
+  pub x : ContextedPatch
   pub sees : AddsAll k.effect k.identity y
   pub own_sees : AddsAll j.effect j.identity x
   pub joined : Conflictor

@@ -2,7 +2,7 @@ ghost use Rattle.std.specs.Prelude.{◌≡◌, ◌↔◌, IfOk, IsTrue};
 ghost use Rattle.camp_catch.specs.Catches.{catch_key, effect_of};
 
 use camp_base::Name;
-use camp_ctx::{Contexted, CtxSet};
+use camp_ctx::{Contexted, ContextedSet};
 use camp_prim::{Key, Named};
 use camp_seq::Seq;
 use camp_share::Share;
@@ -21,14 +21,14 @@ pub enum Catch {
 #[derive(Drop)]
 pub struct Conflictor {
     pub effect: Seq,
-    pub conflicts: CtxSet,
+    pub conflicts: ContextedSet,
     pub identity: Contexted,
 }
 
 impl Catch {
     /// The name of its patch.
     pub fn name(&self) -> &Name
-        ensures { result.now ≡ (catch_key self.now).name }
+        ensures exact { result.now ≡ (catch_key self.now).name }
     {
         match self {
             Catch::Plain(patch) => &patch.name,
@@ -38,7 +38,7 @@ impl Catch {
 
     /// The place in its patch.
     pub fn place(&self) -> u8
-        ensures { result ≡ (catch_key self.now).place }
+        ensures exact { result ≡ (catch_key self.now).place }
     {
         match self {
             Catch::Plain(patch) => patch.place,
@@ -48,7 +48,7 @@ impl Catch {
 
     /// The absolute label: that of its patch, or of its identity.
     pub fn key(&self) -> Key
-        ensures { result ≡ catch_key self.now }
+        ensures exact { result ≡ catch_key self.now }
     {
         match self {
             Catch::Plain(patch) => patch.label().key(),
@@ -58,7 +58,7 @@ impl Catch {
 
     /// What it does to a tree, primitive by primitive.
     pub fn effect(&self) -> &[Named]
-        ensures { result.now ≡ effect_of self.now }
+        ensures exact { result.now ≡ effect_of self.now }
     {
         match self {
             Catch::Plain(patch) => slice::from_ref(patch),
@@ -67,7 +67,7 @@ impl Catch {
     }
 
     pub fn try_clone(&self) -> Result<Catch, AllocError>
-        ensures { IfOk result (λ copy. copy ≡ self.now) }
+        ensures exact { IfOk result (λ copy. copy ≡ self.now) }
     {
         match self {
             Catch::Plain(patch) => Ok(Catch::Plain(patch.try_clone()?)),
@@ -78,7 +78,7 @@ impl Catch {
     /// Whether the two are plain with the same patch, or conflictors with the same parts. It takes
     /// no memory.
     pub fn is_same(&self, other: &Catch) -> bool
-        ensures { IsTrue result ↔ (self.now ≡ other.now) }
+        ensures exact { IsTrue result ↔ (self.now ≡ other.now) }
     {
         match (self, other) {
             (Catch::Plain(a), Catch::Plain(b)) => a.is_same(b),
@@ -90,7 +90,7 @@ impl Catch {
 
 impl Conflictor {
     pub fn try_clone(&self) -> Result<Conflictor, AllocError>
-        ensures { IfOk result (λ copy. copy ≡ self.now) }
+        ensures exact { IfOk result (λ copy. copy ≡ self.now) }
     {
         let effect = self.effect.try_clone()?;
         let conflicts = self.conflicts.try_clone()?;
@@ -104,7 +104,7 @@ impl Conflictor {
 
     /// Whether the two have the same parts. It takes no memory.
     pub fn is_same(&self, other: &Conflictor) -> bool
-        ensures { IsTrue result ↔ (self.now ≡ other.now) }
+        ensures exact { IsTrue result ↔ (self.now ≡ other.now) }
     {
         if !self.identity.is_same(&other.identity) {
             return false;

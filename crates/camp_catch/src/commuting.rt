@@ -26,7 +26,7 @@ use std::alloc::{AllocError, Global};
 /// catches None is answered whatever memory does.
 pub fn commute(alloc: Global, j: &Catch, k: &Catch) -> Result<Option<(Catch, Catch)>, AllocError>
     ensures exact { IfOk result (FindsPair (CommuteCatch j.now k.now)) }
-    ensures wanted { IfErr result (λ error. MayWant j.now k.now) }
+    ensures memory { IfErr result (λ error. MayWant j.now k.now) }
 {
     match (j, k) {
         (Catch::Plain(a), Catch::Plain(b)) => both_plain(a, b),
@@ -39,7 +39,7 @@ pub fn commute(alloc: Global, j: &Catch, k: &Catch) -> Result<Option<(Catch, Cat
 /// `[a] [b] <-> [b'] [a']`
 fn both_plain(a: &Named, b: &Named) -> Result<Option<(Catch, Catch)>, AllocError>
     ensures exact { IfOk result (FindsPair (BothPlain a.now b.now)) }
-    ensures wanted { IfErr result (λ error. MayWant (Plain a.now) (Plain b.now)) }
+    ensures memory { IfErr result (λ error. MayWant (Plain a.now) (Plain b.now)) }
 {
     let swapped = camp_prim::commute(a, b)?;
     let Some((b, a)) = swapped else {

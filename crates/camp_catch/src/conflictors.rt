@@ -2,7 +2,7 @@ ghost use Rattle.std.specs.Prelude.{◌≡◌, ◌≢◌, ◌≤◌, ◌↔◌, 
 ghost use Rattle.std.specs.FinMap.{get, len};
 ghost use Rattle.camp_base.specs.Answers.{FindsPair};
 ghost use Rattle.camp_seq.specs.NormalOrder.{Splits};
-ghost use Rattle.camp_ctx.specs.Contexts.{context_key, patch_key, InContext};
+ghost use Rattle.camp_ctx.specs.Contexts.{context_key, patch_key, ContextedPatch};
 ghost use Rattle.camp_catch.specs.Commuting.{CommuteConflictors, EffectsPass, OneOfSeveralConflicts, OnlyConflictGoes, TwoConflictorsApart, labels_undone};
 ghost use Rattle.camp_catch.specs.Inside.Pairs.{JoinsBehindEffects, PlainAndUndone};
 ghost use Rattle.camp_catch.specs.Inside.Seen.{JoinsInOrder};
@@ -12,7 +12,7 @@ use crate::seen::{
 };
 use crate::values::is_undone;
 use crate::{Catch, Conflictor};
-use camp_ctx::{Contexted, CtxSet, join};
+use camp_ctx::{Contexted, ContextedSet, join};
 use camp_prim::{Key, Label, Named};
 use camp_seq::{Seq, ordered, past_all, split};
 use std::alloc::{AllocError, Global};
@@ -37,7 +37,7 @@ fn conflictor_in_the_set(
     j: &Conflictor,
     k: &Conflictor,
 ) -> Result<Option<(Catch, Catch)>, AllocError>
-    requires { (z : InContext) × (get k.now.conflicts (context_key j.now.identity) ≡ Some z) }
+    requires { (z : ContextedPatch) × (get k.now.conflicts (context_key j.now.identity) ≡ Some z) }
     ensures { IfOk result (FindsPair (CommuteConflictors j.now k.now)) }
 {
     if k.conflicts.len() == 1 {
@@ -117,7 +117,7 @@ fn one_of_several_conflicts(
     j: &Conflictor,
     k: &Conflictor,
 ) -> Result<Option<(Catch, Catch)>, AllocError>
-    requires member { (z : InContext) × (get k.now.conflicts (context_key j.now.identity) ≡ Some z) }
+    requires member { (z : ContextedPatch) × (get k.now.conflicts (context_key j.now.identity) ≡ Some z) }
     requires several { 2 ≤ len k.now.conflicts }
     ensures { IfOk result (FindsPair (OneOfSeveralConflicts j.now k.now)) }
 {
@@ -130,7 +130,7 @@ fn joins_behind_effects(
     alloc: Global,
     j: &Conflictor,
     k: &Conflictor,
-    others: &CtxSet,
+    others: &ContextedSet,
 ) -> Result<Option<(Catch, Catch)>, AllocError>
     ensures { IfOk result (FindsPair (JoinsBehindEffects j.now k.now others.now)) }
 {
@@ -148,7 +148,7 @@ fn effects_pass(
     alloc: Global,
     r: &Seq,
     s: &Seq,
-    ys: &CtxSet,
+    ys: &ContextedSet,
 ) -> Result<Option<(Seq, Seq)>, AllocError>
     ensures { IfOk result (FindsPair (EffectsPass r.now s.now ys.now)) }
 {
@@ -165,7 +165,7 @@ fn effects_pass(
 }
 
 /// What a list undoes of a set, and the rest.
-fn parted(alloc: Global, r: &Seq, ys: &CtxSet) -> Result<Option<(Seq, Seq)>, AllocError>
+fn parted(alloc: Global, r: &Seq, ys: &ContextedSet) -> Result<Option<(Seq, Seq)>, AllocError>
     ensures { IfOk result (FindsPair (Splits (labels_undone r.now ys.now) r.now)) }
 {
     let labels = labels_undone(alloc, r.items(), ys)?;
@@ -183,7 +183,7 @@ fn joined(alloc: Global, common: &Seq, s: Seq) -> Result<Seq, AllocError>
 }
 
 /// The labels of the inverses in a list whose absolute labels stand in a set.
-fn labels_undone(alloc: Global, r: &[Named], ys: &CtxSet) -> Result<Vec<Label>, AllocError>
+fn labels_undone(alloc: Global, r: &[Named], ys: &ContextedSet) -> Result<Vec<Label>, AllocError>
     ensures { IfOk result (λ labels. labels.items ≡ labels_undone r.now ys.now) }
 {
     r.iter()

@@ -5,80 +5,80 @@ ghost use Rattle.camp_catch.specs.ListLaws.{ArrangeByMembers, CatchesAreDecided,
 /// Where two catches fit a tree one after the other, so do those that they become, and both orders
 /// end in one tree.
 pub fn commute_keeps_effects()
-    ensures { CommuteKeepsEffects }
+    ensures law { CommuteKeepsEffects }
 {}
 
 /// Where two catches fit one tree, each of those that they become fits after the other, and both
 /// orders end in one tree.
 pub fn merge_keeps_effects()
-    ensures { MergeKeepsEffects }
+    ensures law { MergeKeepsEffects }
 {}
 
 /// What two catches become by merging does not depend on which comes first.
 pub fn merge_is_symmetric()
-    ensures { MergeIsSymmetric }
+    ensures law { MergeIsSymmetric }
 {}
 
 /// The cases of commuting exclude one another.
 pub fn cases_exclude_one_another()
-    ensures { CasesExclude }
+    ensures law { CasesExclude }
 {}
 
 /// What two catches become by changing places is determined, whichever of the cases gives it.
 pub fn commute_is_unique()
-    ensures { CommuteIsUnique }
+    ensures law { CommuteIsUnique }
 {}
 
 /// The cases of merging exclude one another.
 pub fn merge_cases_exclude()
-    ensures { MergeCasesExclude }
+    ensures law { MergeCasesExclude }
 {}
 
 /// What two catches become by merging is determined, whichever of the cases gives it.
 pub fn merge_is_unique()
-    ensures { MergeIsUnique }
+    ensures law { MergeIsUnique }
 {}
 
 /// What is arranged, aligned or merged keeps fitting, and ends in the same tree.
 pub fn lists_keep_effects()
-    ensures { ListsKeepEffects }
+    ensures law { ListsKeepEffects }
 {}
 
 /// Commuting and merging keep labels, and so do arranging, aligning and merging lists.
 pub fn labels_are_kept()
-    ensures { KeepLabels }
+    ensures law { KeepLabels }
 {}
 
 /// What a list becomes by arranging, aligning and merging is determined, and so are the labels where
 /// there is nothing that it becomes.
 pub fn lists_are_unique()
-    ensures { ListsAreUnique }
+    ensures law { ListsAreUnique }
 {}
 
 /// Any two catches commute, or they do not, and so with merging.
 pub fn catches_are_decided()
-    ensures { CatchesAreDecided }
+    ensures law { CatchesAreDecided }
 {}
 
 /// Exactly one of two facts holds of a list: it is arranged, aligned or merged, or there are the
 /// labels where it sticks.
 pub fn lists_succeed_or_stick()
-    ensures { ListsSucceedOrStick }
+    ensures law { ListsSucceedOrStick }
 {}
 
 /// What is arranged by names depends on which names there are, and not on their order.
 pub fn arrange_goes_by_members()
-    ensures { ArrangeByMembers }
+    ensures law { ArrangeByMembers }
 {}
 
 /// Of plain catches with room: what stops those of some names on their way to the front comes along
 /// wherever these come there with others.
 pub fn what_stops_comes_along()
-    ensures { WhatStopsComesAlong }
+    ensures law { WhatStopsComesAlong }
 {}
 
 /// Of plain catches with room: those of some names that come to the front come there behind those of
 /// others too.
 pub fn fronts_come_behind_fronts()
-    ensures { FrontsComeBehindFronts }
+    ensures law { FrontsComeBehindFronts }
 {}

@@ -8,7 +8,7 @@ ghost use Rattle.camp_seq.specs.Passing.{Passes};
 ghost use Rattle.camp_seq.specs.Running.{inverse_all};
 ghost use Rattle.camp_ctx.specs.Adding.{AddsAll};
 ghost use Rattle.camp_ctx.specs.Conflicts.{Conflict};
-ghost use Rattle.camp_ctx.specs.Contexts.{InContext, bare};
+ghost use Rattle.camp_ctx.specs.Contexts.{ContextedPatch, bare};
 ghost use Rattle.camp_catch.specs.Inside.InPlace.{MergesBehind};
 ghost use Rattle.camp_catch.specs.Inside.Pairs.{JoinsAs};
 ghost use Rattle.camp_catch.specs.Inside.TwoConflictors.{EffectsMerge, JoinEachOther, TellsConflict};
@@ -114,7 +114,7 @@ fn plain_and_conflictor(
 
 /// `[a] | (s, Y, l) -> (s', Y', l') | [a']`, where `a'^` added to `Y` and `l` gives `Y'` and `l'`
 fn plain_beside_conflictor(a: &Named, k: &Conflictor) -> Result<Option<(Catch, Catch)>, AllocError>
-    requires { (seen : InContext) × AddsAll k.now.effect k.now.identity seen × (¬ (Conflict (bare a.now) seen)) }
+    requires { (seen : ContextedPatch) × AddsAll k.now.effect k.now.identity seen × (¬ (Conflict (bare a.now) seen)) }
     ensures exact { IfOk result (FindsPair (PlainBesideConflictor a.now k.now)) }
 {
     let passed = past_inverse(a, &k.effect)?;
@@ -139,7 +139,7 @@ fn plain_joins_conflictor(
     a: &Named,
     k: &Conflictor,
 ) -> Result<(Catch, Catch), AllocError>
-    requires { (seen : InContext) × AddsAll k.now.effect k.now.identity seen × Conflict (bare a.now) seen }
+    requires { (seen : ContextedPatch) × AddsAll k.now.effect k.now.identity seen × Conflict (bare a.now) seen }
     ensures { IfOk result (λ pair. PlainJoinsConflictor a.now k.now pair.0 pair.1) }
 {
     let z = bare_behind(alloc, a, &k.effect)?;

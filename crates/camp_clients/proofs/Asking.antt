@@ -4,7 +4,7 @@ use Rattle.std.proofs.lemmas.List.{append-nil, append_cancel_right, length-appen
 use Rattle.std.specs.Option.{option_and_then}
 use Rattle.camp_object.specs.Asking.{Ask, Caller, Accepts, AddsNothing}
 use Rattle.camp_object.specs.Histories.{IsFront, IsLegal, IsAccepted, IsAnswered, replay, own}
-use Rattle.camp_object.specs.Objects.{Sequential, IsLawful}
+use Rattle.camp_object.specs.Objects.{Sequential, IsLawfulObject}
 use Rattle.camp_object.specs.declared.faults.Fault.{Fault}
 use Rattle.camp_object.specs.declared.faults.Fault.TheVariants.{Memory, Busy, Full}
 use Rattle.camp_clients.specs.Answers.{Asks, GoesOn, HasMemory, told}
@@ -13,7 +13,7 @@ use Rattle.camp_object.proofs.Replays.{own_mine}
 use Rattle.camp_clients.proofs.Histories.{last_accepted}
 use Rattle.camp_clients.proofs.Positions.{own_at_front, own_at_push}
 
-module _ {State Call Reply : Type 0} (object : Sequential State Call Reply) (lawful : IsLawful object) where
+module _ {State Call Reply : Type 0} (object : Sequential State Call Reply) (lawful : IsLawfulObject object) where
   writes_at : (call : Call) (state : Option State) → IsSome (option_and_then (λ s. object.after s call) state) → object.is_writing call ≡ true
   writes_at call None = λ some. absurd (cc some)
   writes_at call (Some state) = λ some.

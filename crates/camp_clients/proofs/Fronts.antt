@@ -4,10 +4,10 @@ use Rattle.std.proofs.lemmas.List.{append-nil, length-append, take_more}
 use Rattle.std.proofs.lemmas.List.Sums.{sum_by-drop_more}
 use Rattle.camp_object.specs.Asking.{Ask, Caller, Accepts, AddsNothing, IsBusy, Loses, alone_at}
 use Rattle.camp_object.specs.Histories.{IsFront, IsLegal, IsAnswered, own}
-use Rattle.camp_object.specs.Objects.{Sequential, IsLawful}
+use Rattle.camp_object.specs.Objects.{Sequential, IsLawfulObject}
 use Rattle.camp_object.specs.declared.faults.Fault.{Fault}
 use Rattle.camp_object.specs.declared.faults.Fault.TheVariants.{Memory, Busy, Full}
-use Rattle.camp_clients.specs.Answers.{Asks, HasMemory, IsDone, IsOvertaken, Says, SaysAlone, told}
+use Rattle.camp_clients.specs.Answers.{Asks, HasMemory, IsDone, IsOvertaken, SaysAmongThreads, SaysAlone, told}
 use Rattle.camp_clients.specs.Positions.{own_at, where_done, done_at}
 use Rattle.camp_clients.specs.Runs.{OneByOne}
 use Rattle.camp_clients.specs.Sections.{Section}
@@ -16,11 +16,11 @@ use Rattle.camp_object.proofs.Fronts.{front_longer, front_self, front_front}
 use Rattle.camp_clients.proofs.Histories.{own_rest}
 use Rattle.camp_clients.proofs.Positions.{where_done-append}
 
-module _ {Front Call Answer : Type 0} (Says : Front → Call → Answer → Front → Type 0) where
+module _ {Front Call Answer : Type 0} (SaysAmongThreads : Front → Call → Answer → Front → Type 0) where
   -- one more call at the end
   pub section_push : (first : Front) (calls : List Call) (answers : List Answer) (next last : Front) (call : Call) (answer : Answer)
-      → Section Says first calls answers next → Says next call answer last
-      → Section Says first (calls ++ call ∷ []) (answers ++ answer ∷ []) last
+      → Section SaysAmongThreads first calls answers next → SaysAmongThreads next call answer last
+      → Section SaysAmongThreads first (calls ++ call ∷ []) (answers ++ answer ∷ []) last
   section_push first [] [] next last call answer e says = (last, rw e says, refl)
   section_push first [] (a ∷ answers) next last call answer s says = absurd s
   section_push first (c ∷ calls) [] next last call answer s says = absurd s
@@ -29,9 +29,9 @@ module _ {Front Call Answer : Type 0} (Says : Front → Call → Answer → Fron
 
   -- what each answer says, in other words
   pub section_map : (Tells : Front → Call → Answer → Front → Type 0)
-      → ((before : Front) (call : Call) (answer : Answer) (front : Front) → Says before call answer front → Tells before call answer front)
+      → ((before : Front) (call : Call) (answer : Answer) (front : Front) → SaysAmongThreads before call answer front → Tells before call answer front)
       → (first : Front) (calls : List Call) (answers : List Answer) (last : Front)
-      → Section Says first calls answers last → Section Tells first calls answers last
+      → Section SaysAmongThreads first calls answers last → Section Tells first calls answers last
   section_map Tells each first [] [] last s = s
   section_map Tells each first [] (a ∷ answers) last s = s
   section_map Tells each first (c ∷ calls) [] last s = s
@@ -39,11 +39,11 @@ module _ {Front Call Answer : Type 0} (Says : Front → Call → Answer → Fron
       (s.0, each first c a s.0 s.1, section_map Tells each s.0 calls answers last s.2)
 
 -- where each answer's front begins with the one before it
-module _ {Entry Call Answer : Type 0} (Says : List Entry → Call → Answer → List Entry → Type 0)
-    (grows : (before : List Entry) (call : Call) (answer : Answer) (front : List Entry) → Says before call answer front → IsFront before front) where
+module _ {Entry Call Answer : Type 0} (SaysAmongThreads : List Entry → Call → Answer → List Entry → Type 0)
+    (grows : (before : List Entry) (call : Call) (answer : Answer) (front : List Entry) → SaysAmongThreads before call answer front → IsFront before front) where
   -- a section's last front begins with its first
   pub section_front : (first : List Entry) (calls : List Call) (answers : List Answer) (last : List Entry)
-      → Section Says first calls answers last → IsFront first last
+      → Section SaysAmongThreads first calls answers last → IsFront first last
   section_front first [] [] last s = subst (IsFront first) s (front_self first)
   section_front first [] (a ∷ answers) last s = absurd s
   section_front first (c ∷ calls) [] last s = absurd s
@@ -52,9 +52,9 @@ module _ {Entry Call Answer : Type 0} (Says : List Entry → Call → Answer →
 
   -- what each answer says, in other words that hold at the fronts of a history
   pub section_within : (Tells : List Entry → Call → Answer → List Entry → Type 0) (history : List Entry)
-      → ((before : List Entry) (call : Call) (answer : Answer) (front : List Entry) → IsFront front history → Says before call answer front → Tells before call answer front)
+      → ((before : List Entry) (call : Call) (answer : Answer) (front : List Entry) → IsFront front history → SaysAmongThreads before call answer front → Tells before call answer front)
       → (first : List Entry) (calls : List Call) (answers : List Answer) (last : List Entry) → IsFront last history
-      → Section Says first calls answers last → Section Tells first calls answers last
+      → Section SaysAmongThreads first calls answers last → Section Tells first calls answers last
   section_within Tells history each first [] [] last within s = s
   section_within Tells history each first [] (a ∷ answers) last within s = s
   section_within Tells history each first (c ∷ calls) [] last within s = s
@@ -125,7 +125,7 @@ module _ {State Call Reply : Type 0} (object : Sequential State Call Reply) wher
         (says.ends ∙ ap (λ h. h ++ (caller.seat, call) ∷ []) (says.exact alone), says.position)
 
   pub says : (caller : Caller) (before : List (ℕ × Call)) (call : Call) (answer : Result Reply Fault) (front : List (ℕ × Call))
-      → Asks object caller before call answer front → Says object caller.seat caller.tries before call answer front
+      → Asks object caller before call answer front → SaysAmongThreads object caller.seat caller.tries before call answer front
   says caller before call (Ok reply) front asks = says_reply caller before call front asks.asks.grows (object.done_at reply) reply asks.asks.says
   says caller before call (Err Memory) front asks = asks.goes_on
   says caller before call (Err (Busy lost)) front asks = overtaken caller before call front asks.asks.grows lost asks.asks.says
@@ -148,7 +148,7 @@ module _ {State Call Reply : Type 0} (object : Sequential State Call Reply) (sea
   reply_grows before call (Some at) reply front says = subst (IsFront before) says.ends (front_longer ((seat, call) ∷ []) says.since)
 
   pub says_grows : (before : List (ℕ × Call)) (call : Call) (answer : Result Reply Fault) (front : List (ℕ × Call))
-      → Says object seat tries before call answer front → IsFront before front
+      → SaysAmongThreads object seat tries before call answer front → IsFront before front
   says_grows before call (Ok reply) front says = reply_grows before call (object.done_at reply) reply front says
   says_grows before call (Err Memory) front says = absurd says
   says_grows before call (Err (Busy lost)) front says = record { rest = says.others; makes = says.makes }
@@ -167,7 +167,7 @@ module _ {State Call Reply : Type 0} (object : Sequential State Call Reply) (sea
   alone_grows before call (Err fault) front says = absurd says
 
 -- one more call of a section, at place i
-module _ {State Call Reply : Type 0} (object : Sequential State Call Reply) (lawful : IsLawful object) (caller : Caller)
+module _ {State Call Reply : Type 0} (object : Sequential State Call Reply) (lawful : IsLawfulObject object) (caller : Caller)
     (first : List (ℕ × Call)) (calls : List Call) (i : ℕ) (below : i < length calls) (seen : List (ℕ × Call)) (call : Call) (at : call ≡ get_or calls i call)
     (answer : Result Reply Fault) (now : List (ℕ × Call)) (memory : HasMemory answer) (asks : Ask object caller seen call answer now)
     (room : caller.alone ≡ false → length (own caller.seat seen) + count_by object.is_writing (drop i calls) ≤ caller.per_seat) where

@@ -6,8 +6,8 @@ use Rattle.camp_object.specs.Histories.{IsFront, IsAnswered, IsLegal, own}
 use Rattle.camp_object.specs.Objects.{Sequential}
 use Rattle.camp_object.specs.declared.faults.Fault.{Fault}
 use Rattle.camp_object.specs.declared.faults.Fault.TheVariants.{Memory, Busy, Full}
-use Rattle.camp_clients.specs.Answers.{Asks, Says, IsDone, told}
-use Rattle.camp_clients.specs.Meeting.{Sight, AreNew, Meets, IsMet, Ran, caller_of}
+use Rattle.camp_clients.specs.Answers.{Asks, SaysAmongThreads, IsDone, told}
+use Rattle.camp_clients.specs.Meeting.{Sight, AreNew, HasMet, IsMet, Ran, caller_of}
 use Rattle.camp_clients.specs.Positions.{own_at, done_at}
 use Rattle.camp_clients.specs.Runs.{HasFronts, IsShared, OwnDone, section_of}
 use Rattle.camp_clients.specs.Sections.{Section}
@@ -52,7 +52,7 @@ module _ {State Call Reply : Type 0} (object : Sequential State Call Reply) (sea
     position = said.position;
   }
 
-  says_earlier : (call : Call) (answer : Result Reply Fault) (next : List (ℕ × Call)) → Says object seat tries first call answer next → Says object seat tries earlier call answer next
+  says_earlier : (call : Call) (answer : Result Reply Fault) (next : List (ℕ × Call)) → SaysAmongThreads object seat tries first call answer next → SaysAmongThreads object seat tries earlier call answer next
   says_earlier call (Ok reply) next said = earlier_reply call (object.done_at reply) reply next said
   says_earlier call (Err Memory) next said = said
   says_earlier call (Err (Busy lost)) next said = record {
@@ -78,7 +78,7 @@ module _ {State Call Reply : Type 0} (object : Sequential State Call Reply) (sea
 -- from a new client to the end of the run
 module _ {State Call Reply Client : Type 0} (object : Sequential State Call Reply) (sight : Sight Client Call (Result Reply Fault)) (tries per_seat : ℕ)
     (sections : List (List Call)) (opened history : List (ℕ × Call)) where
-  module _ (c0 c1 c2 c3 : Client) (fresh : sight.seen c0 ≡ []) (m1 : Meets sight opened c0 c1) (ran : Ran object sight tries per_seat sections c1 c2)
+  module _ (c0 c1 c2 c3 : Client) (fresh : sight.seen c0 ≡ []) (m1 : HasMet sight opened c0 c1) (ran : Ran object sight tries per_seat sections c1 c2)
       (met : IsMet sight history c2 c3) where
     asked : Section (Asks object (caller_of tries per_seat (sight.number c0))) (sight.seen c1) (section_of sections (sight.number c0)) (sight.answers c2) (sight.seen c2)
     asked = subst (λ n. Section (Asks object (caller_of tries per_seat n)) (sight.seen c1) (section_of sections n) (sight.answers c2) (sight.seen c2)) m1.number ran.section
@@ -100,7 +100,7 @@ module _ {State Call Reply Client : Type 0} (object : Sequential State Call Repl
         (front_front (section_grows object (caller_of tries per_seat (sight.number c0)) (sight.seen c1) _ _ (sight.seen c2) asked) met.known))
         (record {
           last = sight.seen c2;
-          fronts = section_map (Asks object (caller_of tries per_seat (sight.number c0))) (Says object (sight.number c0) tries)
+          fronts = section_map (Asks object (caller_of tries per_seat (sight.number c0))) (SaysAmongThreads object (sight.number c0) tries)
               (says object (caller_of tries per_seat (sight.number c0))) (sight.seen c1) _ _ (sight.seen c2) asked;
           within = met.known;
         }))
@@ -120,14 +120,14 @@ module _ {State Call Reply Client : Type 0} (object : Sequential State Call Repl
     pub fronts : HasFronts object seat tries opened (section_of sections seat) answers history
     pub own_done : own_at seat 0 history ≡ done_at (told object) (section_of sections seat) answers
 
-  pub clients_hold : (l0 l1 l2 l3 : List Client) → AreNew sight l0 → AllZip (Meets sight opened) l0 l1 → AllZip (Ran object sight tries per_seat sections) l1 l2
+  pub clients_hold : (l0 l1 l2 l3 : List Client) → AreNew sight l0 → AllZip (HasMet sight opened) l0 l1 → AllZip (Ran object sight tries per_seat sections) l1 l2
       → AllZip (IsMet sight history) l2 l3
       → (k : ℕ) (d : Client) → k < length l0 → Holds (k + 1) (sight.answers (get_or l3 k d))
   clients_hold l0 l1 l2 l3 fresh one two three k d below =
       let R2 : Client → Client → Type 0 = Then (Ran object sight tries per_seat sections) (IsMet sight history) in
-      let R1 : Client → Client → Type 0 = Then (Meets sight opened) R2 in
+      let R1 : Client → Client → Type 0 = Then (HasMet sight opened) R2 in
       let z2 = zip_then (Ran object sight tries per_seat sections) (IsMet sight history) l1 l2 l3 two three in
-      let z1 = zip_then (Meets sight opened) R2 l0 l1 l3 one z2 in
+      let z1 = zip_then (HasMet sight opened) R2 l0 l1 l3 one z2 in
       let at = zip_at R1 l0 l3 k d d below z1 in
       let new = fresh k d below in
       let c0 = get_or l0 k d in
@@ -205,7 +205,7 @@ module _ {State Call Reply Client : Type 0} (object : Sequential State Call Repl
     exactly = record { own_done = own_done; no_other = no_other };
     opening = record {
       last = opened;
-      fronts = section_map (Asks object (caller_of tries per_seat 0)) (Says object 0 tries) (says object (caller_of tries per_seat 0)) [] _ _ opened ran;
+      fronts = section_map (Asks object (caller_of tries per_seat 0)) (SaysAmongThreads object 0 tries) (says object (caller_of tries per_seat 0)) [] _ _ opened ran;
       within = front;
     };
     clients = at_clients;
@@ -218,10 +218,10 @@ pub record CanBegin {Client Call Answer : Type 0} (sight : Sight Client Call Ans
   pub none_own : own (sight.number client) (sight.seen client) ≡ []
 
 pub can_begin : {Client Call Answer : Type 0} (sight : Sight Client Call Answer) (opened : List (ℕ × Call)) (l0 l1 : List Client)
-    → AreNew sight l0 → AllZip (Meets sight opened) l0 l1 → (k : ℕ) (d : Client) → k < length l1 → CanBegin sight k (get_or l1 k d)
+    → AreNew sight l0 → AllZip (HasMet sight opened) l0 l1 → (k : ℕ) (d : Client) → k < length l1 → CanBegin sight k (get_or l1 k d)
 can_begin sight opened l0 l1 fresh met k d below =
-    let short : k < length l0 = omega (arith, zip_length (Meets sight opened) l0 l1 met) in
-    let m = zip_at (Meets sight opened) l0 l1 k d d short met in
+    let short : k < length l0 = omega (arith, zip_length (HasMet sight opened) l0 l1 met) in
+    let m = zip_at (HasMet sight opened) l0 l1 k d d short met in
     let new = fresh k d short in
     record {
       is_seat = m.is_seat;

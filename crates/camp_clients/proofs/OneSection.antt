@@ -10,7 +10,7 @@ use Rattle.camp_object.specs.declared.faults.Fault.{Fault}
 use Rattle.camp_object.specs.declared.faults.Fault.TheVariants.{Memory, Busy, Full}
 use Rattle.camp_object.proofs.Fronts.{front_whole, length-front}
 use Rattle.camp_object.proofs.Replays.{length-own-all, length-own-within}
-use Rattle.camp_clients.specs.Answers.{IsDone, IsOvertaken, Says, SaysAlone, told}
+use Rattle.camp_clients.specs.Answers.{IsDone, IsOvertaken, SaysAmongThreads, SaysAlone, told}
 use Rattle.camp_clients.specs.Positions.{own_at, where_done, done_at}
 use Rattle.camp_clients.specs.Runs.{HasOpening}
 use Rattle.camp_clients.specs.Sections.{Section}
@@ -40,7 +40,7 @@ module _ {State Call Reply : Type 0} (object : Sequential State Call Reply) (sea
       omega (arith, first.0, says.position, ap length says.ends, length-append says.stood ((seat, call) ∷ []), length-front says.since)
 
   behind_says : (before : List (ℕ × Call)) (call : Call) (answer : Result Reply Fault) (next left : List (ℕ × Call))
-      → Says object seat tries before call answer next → Behind next left → Behind before (where_done (told object answer) call left)
+      → SaysAmongThreads object seat tries before call answer next → Behind next left → Behind before (where_done (told object answer) call left)
   behind_says before call (Ok reply) next left says behind = behind_reply before call (object.done_at reply) reply next left says behind
   behind_says before call (Err Memory) next left says behind = absurd says
   behind_says before call (Err (Busy lost)) next left says behind = λ at other more is.
@@ -49,7 +49,7 @@ module _ {State Call Reply : Type 0} (object : Sequential State Call Reply) (sea
 
   -- what a section tells lies behind its first front
   pub section_behind : (first : List (ℕ × Call)) (calls : List Call) (answers : List (Result Reply Fault)) (last : List (ℕ × Call))
-      → Section (Says object seat tries) first calls answers last → Behind first (done_at (told object) calls answers)
+      → Section (SaysAmongThreads object seat tries) first calls answers last → Behind first (done_at (told object) calls answers)
   section_behind first [] [] last s = λ at call more is. absurd (cc is)
   section_behind first [] (a ∷ answers) last s = absurd s
   section_behind first (c ∷ calls) [] last s = absurd s
@@ -182,7 +182,7 @@ module _ {State Call Reply : Type 0} (object : Sequential State Call Reply) (sea
             )
 
         says_is_alone : (answer : Result Reply Fault) → Leaves before (where_done (told object answer) call left)
-            → Says object seat tries before call answer next → SaysAlone object seat before call answer next
+            → SaysAmongThreads object seat tries before call answer next → SaysAlone object seat before call answer next
         says_is_alone (Ok reply) leaves says = reply_alone (object.done_at reply) reply leaves says
         says_is_alone (Err Memory) leaves says = says
         says_is_alone (Err (Busy lost)) leaves says = never_overtaken lost says
@@ -190,14 +190,14 @@ module _ {State Call Reply : Type 0} (object : Sequential State Call Reply) (sea
 
       -- a section whose calls are all that the history has was asked alone
       pub section_is_alone : (first : List (ℕ × Call)) (calls : List Call) (answers : List (Result Reply Fault)) (last : List (ℕ × Call))
-          → IsFront last history → Leaves first (done_at (told object) calls answers) → Section (Says object seat tries) first calls answers last
+          → IsFront last history → Leaves first (done_at (told object) calls answers) → Section (SaysAmongThreads object seat tries) first calls answers last
           → Section (SaysAlone object seat) first calls answers last
       section_is_alone first [] [] last within leaves s = s
       section_is_alone first [] (a ∷ answers) last within leaves s = absurd s
       section_is_alone first (c ∷ calls) [] last within leaves s = absurd s
       section_is_alone first (c ∷ calls) (a ∷ answers) last within leaves s =
           let left = done_at (told object) calls answers in
-          let grows = section_front (Says object seat tries) (says_grows object seat tries) s.0 calls answers last s.2 in
+          let grows = section_front (SaysAmongThreads object seat tries) (says_grows object seat tries) s.0 calls answers last s.2 in
           let next = front_front grows within in
           let alone = says_is_alone first c s.0 left next (section_behind object seat tries s.0 calls answers last s.2) a leaves s.1 in
           (s.0, alone, section_is_alone s.0 calls answers last within (says_leaves first c a s.0 left leaves alone) s.2)

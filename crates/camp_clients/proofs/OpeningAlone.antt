@@ -9,7 +9,7 @@ use Rattle.camp_object.specs.Histories.{IsFront, IsAnswered, own}
 use Rattle.camp_object.specs.Objects.{Sequential}
 use Rattle.camp_object.specs.declared.faults.Fault.{Fault}
 use Rattle.camp_object.proofs.Fronts.{length-front}
-use Rattle.camp_clients.specs.Answers.{IsDone, Says, told}
+use Rattle.camp_clients.specs.Answers.{IsDone, SaysAmongThreads, told}
 use Rattle.camp_clients.specs.Laws.{OpeningIsAlone}
 use Rattle.camp_clients.specs.Positions.{own_at, where_done, done_at}
 use Rattle.camp_clients.specs.Runs.{section_of}
@@ -84,25 +84,25 @@ module _ {State Call Reply : Type 0} (object : Sequential State Call Reply) (sea
   done_up_to before call (Some at) reply next left end says within all = (let is = says.position in omega arith, all)
 
   says_up_to : (before : List (ℕ × Call)) (call : Call) (answer : Result Reply Fault) (next left : List (ℕ × Call)) (end : ℕ)
-      → Says object seat tries before call answer next → length next ≤ end → AreUpTo end left
+      → SaysAmongThreads object seat tries before call answer next → length next ≤ end → AreUpTo end left
       → AreUpTo end (where_done (told object answer) call left)
   says_up_to before call (Ok reply) next left end says within all = done_up_to before call (object.done_at reply) reply next left end says within all
   says_up_to before call (Err fault) next left end says within all = all
 
   section_up_to : (first : List (ℕ × Call)) (calls : List Call) (answers : List (Result Reply Fault)) (last : List (ℕ × Call))
-      → Section (Says object seat tries) first calls answers last → AreUpTo (length last) (done_at (told object) calls answers)
+      → Section (SaysAmongThreads object seat tries) first calls answers last → AreUpTo (length last) (done_at (told object) calls answers)
   section_up_to first [] [] last s = tt
   section_up_to first [] (a ∷ answers) last s = absurd s
   section_up_to first (c ∷ calls) [] last s = absurd s
   section_up_to first (c ∷ calls) (a ∷ answers) last s =
       says_up_to first c a s.0 (done_at (told object) calls answers) (length last) s.1
-      (length-front (section_front (Says object seat tries) (says_grows object seat tries) s.0 calls answers last s.2))
+      (length-front (section_front (SaysAmongThreads object seat tries) (says_grows object seat tries) s.0 calls answers last s.2))
       (section_up_to s.0 calls answers last s.2)
 
   -- a front that holds what a section tells has all calls of its seat
   own_at_last : (last history : List (ℕ × Call)) (calls : List Call) (answers : List (Result Reply Fault))
       → (within : IsFront last history) → own_at seat 0 history ≡ done_at (told object) calls answers
-      → Section (Says object seat tries) [] calls answers last → own_at seat 0 last ≡ done_at (told object) calls answers
+      → Section (SaysAmongThreads object seat tries) [] calls answers last → own_at seat 0 last ≡ done_at (told object) calls answers
   own_at_last last history calls answers within is s =
       let from_end : length last ≡ 0 + length last = omega arith in
       let parts : own_at seat 0 last ++ own_at seat (length last) within.rest ≡ done_at (told object) calls answers =

@@ -6,7 +6,7 @@ use Rattle.camp_object.specs.Histories.{IsFront, IsAnswered, IsLegal}
 use Rattle.camp_object.specs.Objects.{Sequential}
 use Rattle.camp_object.specs.declared.faults.Fault.{Fault}
 use Rattle.camp_object.proofs.Replays.{legal_front}
-use Rattle.camp_clients.specs.Answers.{Says, SaysAlone, StepsAlone, told}
+use Rattle.camp_clients.specs.Answers.{SaysAmongThreads, SaysAlone, StepsAlone, told}
 use Rattle.camp_clients.specs.Laws.{DoneWasAccepted, LockedIsSerial, SharedIsSerial}
 use Rattle.camp_clients.specs.Runs.{InTurn, IsExactly, OneByOne}
 use Rattle.camp_clients.specs.Sections.{Section}
@@ -30,7 +30,7 @@ module _ {State Call Reply : Type 0} (object : Sequential State Call Reply) wher
 
     -- and so has one that was asked over a head
     pub shared_is_whole : (tries : ℕ) → 0 < tries → (last : List (ℕ × Call)) → IsFront last history
-        → Section (Says object 0 tries) [] calls answers last → Section (SaysAlone object 0) [] calls answers history
+        → Section (SaysAmongThreads object 0 tries) [] calls answers last → Section (SaysAlone object 0) [] calls answers history
     shared_is_whole tries some last within s =
         alone_is_whole last (section_is_alone object 0 history mine tries some [] calls answers last within
         (record { begins = record { rest = history; makes = refl }; are = exactly.own_done 0 (omega arith) }) s)

@@ -49,14 +49,14 @@ pub record IsOvertaken {Call : Type 0} (seat tries : ℕ) (before : List (ℕ ×
   pub all_lost : lost ≡ tries
 
 -- what an answer says among threads; any reply but done is the object's at the front
-abbrev pub Says : {State Call Reply : Type 0} → Sequential State Call Reply → (seat tries : ℕ)
+abbrev pub SaysAmongThreads : {State Call Reply : Type 0} → Sequential State Call Reply → (seat tries : ℕ)
     → List (ℕ × Call) → Call → Result Reply Fault → List (ℕ × Call) → Type 0
-Says object seat tries before call (Ok reply) front =
+SaysAmongThreads object seat tries before call (Ok reply) front =
     MatchOption (object.done_at reply) (IsFront before front × IsAnswered object front call reply)
     (λ at. IsDone seat before call at front)
-Says object seat tries before call (Err Memory) front = ⊥
-Says object seat tries before call (Err (Busy lost)) front = IsOvertaken seat tries before lost front
-Says object seat tries before call (Err Full) front = ⊥
+SaysAmongThreads object seat tries before call (Err Memory) front = ⊥
+SaysAmongThreads object seat tries before call (Err (Busy lost)) front = IsOvertaken seat tries before lost front
+SaysAmongThreads object seat tries before call (Err Full) front = ⊥
 
 -- what an answer says where nobody else asks: it is the object's at the history as it stood, and only a call that is
 -- done lengthens the history, by itself

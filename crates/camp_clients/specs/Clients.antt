@@ -2,14 +2,14 @@
 use Rattle.std.specs.Prelude.{◌≡◌, ℕ, ◌<◌, [], Result}
 use Rattle.camp_object.specs.Histories.{own}
 use Rattle.camp_object.specs.declared.faults.Fault.{Fault}
-use Rattle.camp_history.specs.Seats.{HeadId, Seated, IsSeatOf, history_of}
+use Rattle.camp_history.specs.Seats.{HeadId, Seated, IsSeatOf, history_of, number_of}
 use Rattle.camp_clients.specs.Meeting.{Sight}
 use Rattle.camp_clients.specs.declared.heads.Client.{Client}
 
 -- a client at a seat of a head
 abbrev pub sight_of : {Call Reply : Type 0} → HeadId → Sight (Client (Seated Call) Reply) Call (Result Reply Fault)
 sight_of head = record {
-  number = λ client. client.seat.known.number;
+  number = λ client. number_of client.seat;
   seen = λ client. history_of client.seat;
   is_seat = λ client. IsSeatOf head client.seat;
   answers = λ client. client.answers.items;
@@ -19,5 +19,5 @@ sight_of head = record {
 pub record IsReady {Call Reply : Type 0} (head : HeadId) (sections : ℕ) (client : Client (Seated Call) Reply)
     : Type 0 where
   pub is_seat : IsSeatOf head client.seat
-  pub has_section : client.seat.known.number < sections
-  pub none_own : own client.seat.known.number (history_of client.seat) ≡ []
+  pub has_section : number_of client.seat < sections
+  pub none_own : own (number_of client.seat) (history_of client.seat) ≡ []

@@ -24,7 +24,7 @@ module _ {Client Call Answer : Type 0} (sight : Sight Client Call Answer) where
       × (sight.seen (slice_index_or clients k d) ≡ [])
 
   -- a client met a seat: it knows what that had seen, and its own calls and answers stay
-  pub record Meets (known : List (ℕ × Call)) (before after : Client) : Type 0 where
+  pub record HasMet (known : List (ℕ × Call)) (before after : Client) : Type 0 where
     pub is_seat : sight.is_seat after
     pub number : sight.number after ≡ sight.number before
     pub answers : sight.answers after ≡ sight.answers before

@@ -5,7 +5,7 @@ use Rattle.std.specs.List.{All, AllZip}
 use Rattle.camp_object.specs.Histories.{IsFront, IsAnswered, IsLegal}
 use Rattle.camp_object.specs.Objects.{Sequential}
 use Rattle.camp_object.specs.declared.faults.Fault.{Fault}
-use Rattle.camp_clients.specs.Answers.{Says, SaysAlone, told}
+use Rattle.camp_clients.specs.Answers.{SaysAmongThreads, SaysAlone, told}
 use Rattle.camp_clients.specs.Positions.{own_at, done_at}
 use Rattle.camp_clients.specs.Sections.{Section}
 
@@ -32,11 +32,11 @@ pub record IsExactly {Call Answer : Type 0} (told : Answer → Option ℕ) (sect
 -- sections one after the other, from the section of a seat on: what each answer says, by its seat
 abbrev pub InTurn : {Front Call Answer : Type 0} → (ℕ → Front → Call → Answer → Front → Type 0) → (seat : ℕ) → Front
     → List (List Call) → List (List Answer) → Front → Type 0
-InTurn Says seat first [] [] last = first ≡ last
-InTurn Says seat first [] (answers ∷ others) last = ⊥
-InTurn Says seat first (calls ∷ sections) [] last = ⊥
-InTurn {Front} Says seat first (calls ∷ sections) (answers ∷ others) last =
-    (next : Front) × Section (Says seat) first calls answers next × InTurn Says (seat + 1) next sections others last
+InTurn SaysAmongThreads seat first [] [] last = first ≡ last
+InTurn SaysAmongThreads seat first [] (answers ∷ others) last = ⊥
+InTurn SaysAmongThreads seat first (calls ∷ sections) [] last = ⊥
+InTurn {Front} SaysAmongThreads seat first (calls ∷ sections) (answers ∷ others) last =
+    (next : Front) × Section (SaysAmongThreads seat) first calls answers next × InTurn SaysAmongThreads (seat + 1) next sections others last
 
 -- sections one after the other, where nobody else asks
 abbrev pub OneByOne : {State Call Reply : Type 0} → Sequential State Call Reply → (seat : ℕ) → List (ℕ × Call)
@@ -72,7 +72,7 @@ pub record HasFronts {State Call Reply : Type 0} (object : Sequential State Call
     (first : List (ℕ × Call)) (calls : List Call) (answers : List (Result Reply Fault)) (history : List (ℕ × Call))
     : Type 0 where
   pub last : List (ℕ × Call)
-  pub fronts : Section (Says object seat tries) first calls answers last
+  pub fronts : Section (SaysAmongThreads object seat tries) first calls answers last
   pub within : IsFront last history
 
 -- a run over a head: one legal history of exactly the calls that are done, whose fronts the answers tell. The opening's

@@ -19,7 +19,7 @@ pub fn has_exactly<State: Object>(
 ) -> bool
     requires few { length sections.now ≤ 64 }
     requires as_many { length answers.now ≡ length sections.now }
-    ensures { IsTrue result ↔
+    ensures exact { IsTrue result ↔
         IsExactly (told State.object) (lists_of sections.now) (lists_of answers.now) history.now }
 {
     let mut places = [0; MAX_SECTIONS];

@@ -3,10 +3,10 @@ ghost use Rattle.std.specs.List.{All, AllZip};
 ghost use Rattle.std.specs.Thread.{IsSync};
 ghost use Rattle.camp_object.specs.Histories.{IsFront, IsLegal, own};
 ghost use Rattle.camp_history.specs.Opening.{IsInRange, IsOpened};
-ghost use Rattle.camp_history.specs.Seats.{IsSeatOf, history_of, caller_at};
+ghost use Rattle.camp_history.specs.Seats.{IsSeatOf, calls_per_seat, history_of, caller_at, number_of, seats_of};
 ghost use Rattle.camp_clients.specs.Answers.{Asks};
 ghost use Rattle.camp_clients.specs.Clients.{sight_of, IsReady};
-ghost use Rattle.camp_clients.specs.Meeting.{AreNew, IsMet, Meets, Ran};
+ghost use Rattle.camp_clients.specs.Meeting.{AreNew, IsMet, HasMet, Ran};
 ghost use Rattle.camp_clients.specs.Runs.{HasShared, IsShared, TellsShared, lists_of};
 ghost use Rattle.camp_clients.specs.Sections.{Section};
 
@@ -59,10 +59,10 @@ fn each_meets<State: Object>(
     requires opener { IsSeatOf head.now opener }
     requires clients { All (λ client. IsSeatOf head.now client.seat) clients.items }
     ensures seat { IfOk result (λ met. IsSeatOf head.now met.1) }
-    ensures number { IfOk result (λ met. met.1.known.number ≡ opener.known.number) }
+    ensures number { IfOk result (λ met. number_of met.1 ≡ number_of opener) }
     ensures seen { IfOk result (λ met. history_of met.1 ≡ history_of opener) }
     ensures clients { IfOk result (λ met. AllZip
-        (Meets (sight_of head.now) (history_of opener)) clients.items met.0.items) }
+        (HasMet (sight_of head.now) (history_of opener)) clients.items met.0.items) }
 {
     let mut all = Vec::with_capacity(alloc, clients.len())?;
     let mut known = opener;
@@ -96,9 +96,9 @@ fn meets_each<State: Object>(
     requires opener { IsSeatOf head.now opener }
     requires clients { All (λ client. IsSeatOf head.now client.seat) clients.items }
     ensures seat { IfOk result (λ met. IsSeatOf head.now met.0) }
-    ensures number { IfOk result (λ met. met.0.known.number ≡ opener.known.number) }
+    ensures number { IfOk result (λ met. number_of met.0 ≡ number_of opener) }
     ensures grows { IfOk result (λ met. IsFront (history_of opener) (history_of met.0)) }
-    ensures own { IfOk result (λ met. own (opener.known.number) (history_of met.0) ≡ own (opener.known.number) (history_of opener)) }
+    ensures own { IfOk result (λ met. own (number_of opener) (history_of met.0) ≡ own (number_of opener) (history_of opener)) }
     ensures clients { IfOk result (λ met. AllZip
         (IsMet (sight_of head.now) (history_of met.0)) clients.items met.1.items) }
 {
@@ -130,10 +130,10 @@ fn at_seat<R: Wait, State: Object, G: Gate>(
     calls: &[State::Call],
 ) -> Result<Answers<State>, AllocError>
     requires seat { IsSeatOf head.now seat.old }
-    requires room { length (own seat.old.known.number (history_of seat.old)) + count_by State.object.is_writing calls.now
-        ≤ head.now.row.per_seat }
+    requires room { length (own (number_of seat.old) (history_of seat.old)) + count_by State.object.is_writing calls.now
+        ≤ calls_per_seat head.now }
     ensures seat { IsSeatOf head.now seat.new }
-    ensures number { seat.new.known.number ≡ seat.old.known.number }
+    ensures number { number_of seat.new ≡ number_of seat.old }
     ensures section { IfOk result (λ answers. Section (Asks State.object (caller_at head.now seat.old))
         (history_of seat.old) calls.now answers.items (history_of seat.new)) }
 {
@@ -147,12 +147,12 @@ fn at_desk<'r, 'h, 's, 'g, R: Wait, State: Object, G: Gate>(
     desk: &mut HeadDesk<'r, 'h, 's, 'g, R, State, G>,
     calls: &[State::Call],
 ) -> Result<Answers<State>, AllocError>
-    requires room { length (own desk.old.seat.now.known.number (history_of desk.old.seat.now)) + count_by State.object.is_writing calls.now
-        ≤ desk.old.head.now.row.per_seat }
+    requires room { length (own (number_of desk.old.seat.now) (history_of desk.old.seat.now)) + count_by State.object.is_writing calls.now
+        ≤ calls_per_seat desk.old.head.now }
     ensures head { desk.new.head.now ≡ desk.old.head.now }
     ensures lends { desk.new.seat.ghost_name ≡ desk.old.seat.ghost_name }
     ensures seat { IsSeatOf desk.new.head.now desk.new.seat.now }
-    ensures number { desk.new.seat.now.known.number ≡ desk.old.seat.now.known.number }
+    ensures number { number_of desk.new.seat.now ≡ number_of desk.old.seat.now }
     ensures section { IfOk result (λ answers. Section (Asks State.object (caller_at desk.old.head.now desk.old.seat.now))
         (history_of desk.old.seat.now) calls.now answers.items (history_of desk.new.seat.now)) }
 {
@@ -169,9 +169,9 @@ fn run_client<R: Wait, State: Object, G: Gate>(
     client: Client<Seat<State>, State::Reply>,
 ) -> Result<Client<Seat<State>, State::Reply>, AllocError>
     requires ready { IsReady head.now (length sections.now) client }
-    requires room { All (λ calls. count_by State.object.is_writing calls.items ≤ head.now.row.per_seat) sections.now }
+    requires room { All (λ calls. count_by State.object.is_writing calls.items ≤ calls_per_seat head.now) sections.now }
     ensures { IfOk result (λ ran. Ran State.object (sight_of head.now)
-        (head.now.tries) (head.now.row.per_seat) (lists_of sections.now) client ran) }
+        (head.now.tries) (calls_per_seat head.now) (lists_of sections.now) client ran) }
 {
     let Client {
         mut seat,
@@ -195,9 +195,9 @@ where
     State::Call: Send + Sync,
     State::Reply: Send,
     requires ready { All (IsReady head.now (length sections.now)) clients.items }
-    requires room { All (λ calls. count_by State.object.is_writing calls.items ≤ head.now.row.per_seat) sections.now }
+    requires room { All (λ calls. count_by State.object.is_writing calls.items ≤ calls_per_seat head.now) sections.now }
     ensures { IfOk result (λ ran. AllZip (Ran State.object (sight_of head.now)
-        (head.now.tries) (head.now.row.per_seat) (lists_of sections.now)) clients.items ran.items) }
+        (head.now.tries) (calls_per_seat head.now) (lists_of sections.now)) clients.items ran.items) }
 {
     let made = thread::map_vec(
         rt,
@@ -207,9 +207,9 @@ where
             AllocError,
         >
             requires { IsSync R.row × IsReady head.now (length sections.now) client
-                × All (λ calls. count_by State.object.is_writing calls.items ≤ head.now.row.per_seat) sections.now }
+                × All (λ calls. count_by State.object.is_writing calls.items ≤ calls_per_seat head.now) sections.now }
             ensures { IfOk result (λ ran. Ran State.object (sight_of head.entry.now)
-                (head.entry.now.tries) (head.entry.now.row.per_seat) (lists_of sections.entry.now) client ran) }
+                (head.entry.now.tries) (calls_per_seat head.entry.now) (lists_of sections.entry.now) client ran) }
         { run_client::<R, State, G>(rt, alloc, head, gate, sections, client) },
     )?;
     gather(Vec::new(alloc), made)
@@ -294,7 +294,7 @@ where
     requires writing { All (λ calls. count_by State.object.is_writing calls.items ≤ 65536) sections.now }
     requires tries { (0 < tries) × (tries ≤ 1000) }
     requires every { every ≤ 4096 }
-    ensures { IfOk result (λ run.
+    ensures shared { IfOk result (λ run.
         IsShared State.object tries (lists_of sections.now) (lists_of run.answers.items) run.history.items) }
 {
     over_new_head::<R, State, G>(rt, alloc, sections, tries, every, gate, true)
@@ -316,7 +316,7 @@ where
     requires writing { All (λ calls. count_by State.object.is_writing calls.items ≤ 65536) sections.now }
     requires tries { (0 < tries) × (tries ≤ 1000) }
     requires every { every ≤ 4096 }
-    ensures { IfOk result (λ answers.
+    ensures shared { IfOk result (λ answers.
         HasShared State.object tries (lists_of sections.now) (lists_of answers.items)) }
 {
     let run = over_new_head::<R, State, G>(rt, alloc, sections, tries, every, gate, false)?;
@@ -374,11 +374,11 @@ fn over_head<R: Threads + Wait + Sync, State: Object + Send + Sync, G: Gate + Sy
 where
     State::Call: Send + Sync,
     State::Reply: Send,
-    requires opener { (IsSeatOf head.now opener) × (opener.known.number ≡ 0) × (history_of opener ≡ []) }
+    requires opener { (IsSeatOf head.now opener) × (number_of opener ≡ 0) × (history_of opener ≡ []) }
     requires clients { AreNew (sight_of {Reply = State.Reply} head.now) clients.items }
     requires as_many { length clients.items + 1 ≡ length sections.now }
-    requires seats { head.now.row.seats ≡ length sections.now }
-    requires room { All (λ calls. count_by State.object.is_writing calls.items ≤ head.now.row.per_seat) sections.now }
+    requires seats { seats_of head.now ≡ length sections.now }
+    requires room { All (λ calls. count_by State.object.is_writing calls.items ≤ calls_per_seat head.now) sections.now }
     ensures { IfOk result (λ run. TellsShared State.object (head.now.tries) (lists_of sections.now) wants_history
         (lists_of run.answers.items) run.history.items) }
 {

@@ -4,22 +4,22 @@ use camp_object::Object;
 
 /// A single section over a head has answers and a history of a run one after the other.
 pub fn shared_is_serial<State: Object>()
-    ensures { SharedIsSerial State.object }
+    ensures law { SharedIsSerial State.object }
 {}
 
 /// A single section over a lock has answers and a history of a run one after the other.
 pub fn locked_is_serial<State: Object>()
-    ensures { LockedIsSerial State.object }
+    ensures law { LockedIsSerial State.object }
 {}
 
 /// In a run one after the other whose history is legal, each call that is done was accepted after
 /// what stood before it.
 pub fn done_was_accepted<State: Object>()
-    ensures { DoneWasAccepted State.object }
+    ensures law { DoneWasAccepted State.object }
 {}
 
 /// The opening of a run over a head runs alone: the history begins with its accepted calls, in their
 /// order, and with no other call between them.
 pub fn opening_is_alone<State: Object>()
-    ensures { OpeningIsAlone State.object }
+    ensures law { OpeningIsAlone State.object }
 {}

@@ -25,7 +25,7 @@ where
     State::Call: Send + Sync,
     State::Reply: Send,
     requires { (0 < length sections.now) × (length sections.now ≤ 64) }
-    ensures { IfOk result (λ run.
+    ensures locked { IfOk result (λ run.
         IsLocked State.object (lists_of sections.now) (lists_of run.answers.items) run.book) }
 {
     let mut book = Book::<State>::new(alloc)?;

@@ -20,7 +20,7 @@ pub fn serial<State: Object>(
     sections: &[Vec<State::Call>],
 ) -> Result<BookRun<State>, AllocError>
     requires { length sections.now ≤ 64 }
-    ensures { IfOk result (λ run.
+    ensures serial { IfOk result (λ run.
         OneByOne State.object 0 [] (lists_of sections.now) (lists_of run.answers.items) run.book) }
 {
     let mut book = Book::new(alloc)?;

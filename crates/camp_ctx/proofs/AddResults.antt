@@ -12,11 +12,11 @@ use Rattle.camp_seq.proofs.ListsDecided.{passes_or_not}
 use Rattle.camp_seq.proofs.NormalOrders.{front_or_not, has_normal_order}
 use Rattle.camp_prim.proofs.SwapDecided.{Decided, decided_by, swap_or_not}
 use Rattle.camp_ctx.specs.Adding.{Cancels, PassesBy, Keeps, Adds, cancel, commute, keep, FromLast, AddsAll, PassesByAll}
-use Rattle.camp_ctx.specs.Contexts.{InContext, patch_key, context_key}
+use Rattle.camp_ctx.specs.Contexts.{ContextedPatch, patch_key, context_key}
 use Rattle.camp_ctx.specs.Laws.{GivesOne, AlwaysGives}
 use Rattle.camp_ctx.proofs.NamedDecided.{named_or_not}
 
-pub same_in_context : (x y : InContext) → x.context ≡ y.context → x.patch ≡ y.patch → x ≡ y
+pub same_in_context : (x y : ContextedPatch) → x.context ≡ y.context → x.patch ≡ y.patch → x ≡ y
 same_in_context x y contexts patches = λ i. record { context = contexts i; patch = patches i }
 
 -- two normal orders of one list
@@ -49,7 +49,7 @@ one_add a x y z (keep never none v) (commute other w) = absurd (none z w)
 one_add a x y z (keep never none v) (keep other more w) = one_keep a x y z v w
 
 -- a change of one result makes a change of one result by lists
-pub one_from_last : (Change : Named → InContext → InContext → Type 0) → ((a : Named) → GivesOne (Change a)) → (r : List Named) → GivesOne (FromLast Change r)
+pub one_from_last : (Change : Named → ContextedPatch → ContextedPatch → Type 0) → ((a : Named) → GivesOne (Change a)) → (r : List Named) → GivesOne (FromLast Change r)
 one_from_last Change one [] x y z v w = v ∙ sym w
 one_from_last Change one (a ∷ r) x y z v w =
     one a w.0 y z (subst (λ u. Change a u y) (one_from_last Change one r x v.0 w.0 v.1 w.1) v.2) w.2
@@ -70,11 +70,11 @@ front_as_or_not y s = elim (front_or_not (label_of y) s) [
   | inr never ↦ inr (λ g. never (y, g.0, g.1))
 ]
 
-cancel_or_not : (a : Named) (x : InContext) → Decided ((y : InContext) × Cancels a x y)
+cancel_or_not : (a : Named) (x : ContextedPatch) → Decided ((y : ContextedPatch) × Cancels a x y)
 cancel_or_not a x =
     decided_by (λ f. let order = has_normal_order f.0 in (record { context = order.0; patch = x.patch }, record { rest = f.0; front = f.1; context = order.1; patch = refl })) (λ c. (c.1.rest, c.1.front)) (front_as_or_not (inverse_of a) x.context)
 
-pass_patch_or_not : (a : Named) (x : InContext) → ((s' : List Named) × (p' : Named) × Passes a x.context s' p') → Decided ((y : InContext) × PassesBy a x y)
+pass_patch_or_not : (a : Named) (x : ContextedPatch) → ((s' : List Named) × (p' : Named) × Passes a x.context s' p') → Decided ((y : ContextedPatch) × PassesBy a x y)
 pass_patch_or_not a x w =
     decided_by (λ v.
     let order = has_normal_order w.0 in
@@ -82,7 +82,7 @@ pass_patch_or_not a x w =
     let pass = one_pass a x.context c.1.passed w.0 c.1.a' w.1 c.1.past_context w.2 in
     (c.0.patch, c.1.a'', subst (λ b. Swap b x.patch c.0.patch c.1.a'') pass.1 c.1.past_patch)) (swap_or_not w.1 x.patch)
 
-pub passing_by_or_not : (a : Named) (x : InContext) → Decided ((y : InContext) × PassesBy a x y)
+pub passing_by_or_not : (a : Named) (x : ContextedPatch) → Decided ((y : ContextedPatch) × PassesBy a x y)
 passing_by_or_not a x = elim (passes_or_not a x.context) [
   | inl w ↦ pass_patch_or_not a x w
   | inr never ↦ inr (λ c. never (c.1.passed, c.1.a', c.1.past_context))
@@ -107,11 +107,11 @@ add_of_all_exists (a ∷ r) x =
     (last.0, (rest.0, rest.1, last.1))
 
 -- adding keeps the absolute label
-same_key_of_one : (a : Named) (x y : InContext) → Adds a x y → context_key y ≡ context_key x
+same_key_of_one : (a : Named) (x y : ContextedPatch) → Adds a x y → context_key y ≡ context_key x
 same_key_of_one a x y (cancel w) = ap patch_key w.patch
 same_key_of_one a x y (commute never w) = ap key_of w.past_patch.anywhere.second
 same_key_of_one a x y (keep never none w) = ap patch_key w.patch
 
-pub same_key_of_sum : (r : List Named) (x y : InContext) → AddsAll r x y → context_key y ≡ context_key x
+pub same_key_of_sum : (r : List Named) (x y : ContextedPatch) → AddsAll r x y → context_key y ≡ context_key x
 same_key_of_sum [] x y is = ap context_key is
 same_key_of_sum (a ∷ r) x y w = same_key_of_one a w.0 y w.2 ∙ same_key_of_sum r x w.0 w.1

@@ -12,7 +12,7 @@ use Rattle.camp_seq.specs.Running.{AppliesAll}
 use Rattle.camp_seq.proofs.ListEquivalence.{equal_are, before, behind, after_one, swapped, passed, fronted, ordered}
 use Rattle.camp_seq.proofs.ListRuns.{cut_run, equivalent_run}
 use Rattle.camp_ctx.specs.Adding.{Cancels, PassesBy, Keeps, Adds, cancel, commute, keep, FromLast, AddsAll, PassesByAll}
-use Rattle.camp_ctx.specs.Contexts.{InContext, whole, Valid}
+use Rattle.camp_ctx.specs.Contexts.{ContextedPatch, whole, Valid}
 use Rattle.camp_ctx.specs.Laws.{KeepsValid}
 
 -- lists that are equivalent lead from the same trees
@@ -50,7 +50,7 @@ valid_by_adding a x y (commute never w) = valid_by_passing a x y w
 valid_by_adding a x y (keep never none w) = valid_by_keeping a x y w
 
 -- a change that keeps validity, by lists
-valid_from_last : (Change : Named → InContext → InContext → Type 0) → ((a : Named) → KeepsValid (Change a) (Applies a.prim)) → (r : List Named) → KeepsValid (FromLast Change r) (AppliesAll r)
+valid_from_last : (Change : Named → ContextedPatch → ContextedPatch → Type 0) → ((a : Named) → KeepsValid (Change a) (Applies a.prim)) → (r : List Named) → KeepsValid (FromLast Change r) (AppliesAll r)
 valid_from_last Change keeps [] x y w old new run valid = subst (λ t. Valid t y) run (subst (Valid new) (sym w) valid)
 valid_from_last Change keeps (a ∷ r) x y w old new run valid =
     keeps a w.0 y w.2 old run.0 run.1 (valid_from_last Change keeps r x w.0 w.1 run.0 new run.2 valid)

@@ -9,7 +9,7 @@ use Rattle.camp_seq.specs.Passing.{Parts}
 use Rattle.camp_seq.proofs.ListResults.{one_split, one_clean_merge}
 use Rattle.camp_seq.proofs.MergeGrid.{merge_is_symmetric}
 use Rattle.camp_ctx.specs.Conflicts.{common_labels, MergesBehindCommon, Conflict}
-use Rattle.camp_ctx.specs.Contexts.{InContext, whole}
+use Rattle.camp_ctx.specs.Contexts.{ContextedPatch, whole}
 use Rattle.camp_ctx.proofs.CommonLabels.{common_turned}
 
 pub one_merge_behind : (s t t' s' u v : List Named) → MergesBehindCommon s t t' s' → MergesBehindCommon s t u v → (t' ≡ u) × (s' ≡ v)
@@ -47,5 +47,5 @@ merge_behind_is_symmetric s t t' s' w = record {
   merge = merge_is_symmetric w.s1 w.t1 t' s' w.merge;
 }
 
-pub conflict_is_symmetric : (x y : InContext) → Conflict x y → Conflict y x
+pub conflict_is_symmetric : (x y : ContextedPatch) → Conflict x y → Conflict y x
 conflict_is_symmetric x y c t' s' w = c s' t' (merge_behind_is_symmetric (whole y) (whole x) t' s' w)

@@ -7,7 +7,7 @@ use Rattle.camp_seq.specs.Merging.{CleanMerge}
 use Rattle.camp_seq.specs.NormalOrder.{Splits}
 use Rattle.camp_seq.proofs.ListResults.{one_split}
 use Rattle.camp_ctx.specs.Conflicts.{common_labels, MergesBehindCommon, Conflict}
-use Rattle.camp_ctx.specs.Contexts.{InContext, whole}
+use Rattle.camp_ctx.specs.Contexts.{ContextedPatch, whole}
 
 -- no two lists merge behind what these have in common
 abbrev pub NoMerge : List Named → List Named → Type 0
@@ -54,7 +54,7 @@ module _ (s t : List Named) (labels : List Label) (are : labels ≡ common_label
     merges_as_the_rests same None never = no_clean_merge never
     merges_as_the_rests same (Some pair) merge = merges_from same pair.0 pair.1 merge
 
-pub conflicts_from : (s t : List Named) (x y : InContext) → s ≡ whole x → t ≡ whole y → NoMerge s t → Conflict x y
+pub conflicts_from : (s t : List Named) (x y : ContextedPatch) → s ≡ whole x → t ≡ whole y → NoMerge s t → Conflict x y
 conflicts_from s t x y first second never t' s' =
     let none = subst (λ u. NoMerge u (whole y)) first (subst (λ u. NoMerge s u) second never) in
     none (t', s')

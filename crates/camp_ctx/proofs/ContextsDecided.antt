@@ -10,7 +10,7 @@ use Rattle.camp_seq.specs.NormalOrder.{Splits}
 use Rattle.camp_seq.proofs.ListsDecided.{TwoOrNone, clean_merge_or_not, splits_or_not}
 use Rattle.camp_ctx.specs.Adding.{PassesBy, PassesByAll}
 use Rattle.camp_ctx.specs.Conflicts.{common_labels, MergesBehindCommon, Conflict}
-use Rattle.camp_ctx.specs.Contexts.{InContext, Contexts, context_key, only, whole}
+use Rattle.camp_ctx.specs.Contexts.{ContextedPatch, ContextedPatches, context_key, only, whole}
 use Rattle.camp_ctx.proofs.AddResults.{one_passing_of_all, passing_by_or_not, same_in_context}
 use Rattle.camp_ctx.proofs.ConflictSteps.{no_first, no_second, other_fronts, merges_as_the_rests}
 use Rattle.camp_ctx.proofs.NamedDecided.{both_or_not, named_or_not}
@@ -24,14 +24,14 @@ lists_or_not (p ∷ s) [] = inr (λ e. cc)
 lists_or_not (p ∷ s) (q ∷ t) =
     decided_by (λ e i. e.0 i ∷ e.1 i) (λ e. (cc, cc)) (both_or_not (named_or_not p q) (lists_or_not s t))
 
-pub in_context_or_not : (x y : InContext) → Decided (x ≡ y)
+pub in_context_or_not : (x y : ContextedPatch) → Decided (x ≡ y)
 in_context_or_not x y =
     decided_by (λ e. same_in_context x y e.0 e.1) (λ e. (ap (λ z. z.context) e, ap (λ z. z.patch) e)) (both_or_not (lists_or_not x.context y.context) (named_or_not x.patch y.patch))
 
 pub keys_or_not : (k l : Key) → Decided (k ≡ l)
 keys_or_not = same_or_not key_cmp key_total key_ties
 
-pub list_passes_by_or_not : (r : List Named) (x : InContext) → Decided ((y : InContext) × PassesByAll r x y)
+pub list_passes_by_or_not : (r : List Named) (x : ContextedPatch) → Decided ((y : ContextedPatch) × PassesByAll r x y)
 list_passes_by_or_not [] x = inl (x, refl)
 list_passes_by_or_not (a ∷ r) x = elim (list_passes_by_or_not r x) [
   | inl w ↦ decided_by (λ v. (v.0, (w.0, w.1, v.1))) (λ v. (v.0, subst (λ u. PassesBy a u v.0) (one_passing_of_all r x v.1.0 w.0 v.1.1 w.1) v.1.2)) (passing_by_or_not a w.0)
@@ -55,7 +55,7 @@ merge_behind_or_not s t = elim (splits_or_not (common_labels s t) s) [
   | inr never ↦ inr (λ u. no_first s t (common_labels s t) refl (λ pair w. never (pair.0, pair.1, w)) (u.0, u.1) u.2)
 ]
 
-pub conflict_or_not : (x y : InContext) → Decided (Conflict x y)
+pub conflict_or_not : (x y : ContextedPatch) → Decided (Conflict x y)
 conflict_or_not x y = elim (merge_behind_or_not (whole x) (whole y)) [
   | inl m ↦ inr (λ never. never m.0 m.1 m.2)
   | inr never ↦ inl (λ t' s' m. never (t', s', m))
@@ -64,14 +64,14 @@ conflict_or_not x y = elim (merge_behind_or_not (whole x) (whole y)) [
 pub same_alone : {X : Type 0} (x y : X) → x ∷ [] ≡ y ∷ [] → x ≡ y
 same_alone x y e = cc
 
-one_entry_or_not : (xs : Contexts) (k : Key) (x : InContext) → entries xs ≡ (k, x) ∷ [] → Decided (k ≡ context_key x) → Decided ((y : InContext) × (xs ≡ only y))
+one_entry_or_not : (xs : ContextedPatches) (k : Key) (x : ContextedPatch) → entries xs ≡ (k, x) ∷ [] → Decided (k ≡ context_key x) → Decided ((y : ContextedPatch) × (xs ≡ only y))
 one_entry_or_not xs k x is (inl own) =
     inl (x, same_entries_map xs (only x) (is ∙ ap (λ l. (l, x) ∷ []) own ∙ sym (entries-only x)))
 one_entry_or_not xs k x is (inr other) = inr (λ y.
     let same = same_alone (k, x) (context_key y.0, y.0) (sym is ∙ ap entries y.1 ∙ entries-only y.0) in
-    other (ap (λ (e : Key × InContext). e.0) same ∙ ap (λ (e : Key × InContext). context_key e.1) (sym same)))
+    other (ap (λ (e : Key × ContextedPatch). e.0) same ∙ ap (λ (e : Key × ContextedPatch). context_key e.1) (sym same)))
 
-entries_or_not : (xs : Contexts) (es : List (Key × InContext)) → entries xs ≡ es → Decided ((y : InContext) × (xs ≡ only y))
+entries_or_not : (xs : ContextedPatches) (es : List (Key × ContextedPatch)) → entries xs ≡ es → Decided ((y : ContextedPatch) × (xs ≡ only y))
 entries_or_not xs [] is = inr (λ y.
     let e : [] ≡ (context_key y.0, y.0) ∷ [] = sym is ∙ ap entries y.1 ∙ entries-only y.0 in cc)
 entries_or_not xs ((k, x) ∷ []) is = one_entry_or_not xs k x is (keys_or_not k (context_key x))
@@ -79,25 +79,25 @@ entries_or_not xs (e ∷ f ∷ es) is = inr (λ y.
     let same : e ∷ f ∷ es ≡ (context_key y.0, y.0) ∷ [] = sym is ∙ ap entries y.1 ∙ entries-only y.0 in cc)
 
 -- a set has one member, which stands under its own label, or it is another
-pub only_or_not : (xs : Contexts) → Decided ((x : InContext) × (xs ≡ only x))
+pub only_or_not : (xs : ContextedPatches) → Decided ((x : ContextedPatch) × (xs ≡ only x))
 only_or_not xs = entries_or_not xs (entries xs) refl
 
-first_entry : (e f : Key × InContext) (es fs : List (Key × InContext)) → e ∷ es ≡ f ∷ fs → e ≡ f
+first_entry : (e f : Key × ContextedPatch) (es fs : List (Key × ContextedPatch)) → e ∷ es ≡ f ∷ fs → e ≡ f
 first_entry e f es fs same = cc
 
-rest_entries : (e f : Key × InContext) (es fs : List (Key × InContext)) → e ∷ es ≡ f ∷ fs → es ≡ fs
+rest_entries : (e f : Key × ContextedPatch) (es fs : List (Key × ContextedPatch)) → e ∷ es ≡ f ∷ fs → es ≡ fs
 rest_entries e f es fs same = cc
 
-entry_lists_or_not : (es fs : List (Key × InContext)) → Decided (es ≡ fs)
+entry_lists_or_not : (es fs : List (Key × ContextedPatch)) → Decided (es ≡ fs)
 entry_lists_or_not [] [] = inl refl
 entry_lists_or_not [] (f ∷ fs) = inr (λ e. cc)
 entry_lists_or_not (e ∷ es) [] = inr (λ e. cc)
 entry_lists_or_not ((k, x) ∷ es) ((l, y) ∷ fs) =
     decided_by (λ e i. (e.0.0 i, e.0.1 i) ∷ e.1 i) (λ e.
     let head = first_entry (k, x) (l, y) es fs e in
-    ((ap (λ (p : Key × InContext). p.0) head, ap (λ (p : Key × InContext). p.1) head), rest_entries (k, x) (l, y) es fs e)) (both_or_not (both_or_not (keys_or_not k l) (in_context_or_not x y)) (entry_lists_or_not es fs))
+    ((ap (λ (p : Key × ContextedPatch). p.0) head, ap (λ (p : Key × ContextedPatch). p.1) head), rest_entries (k, x) (l, y) es fs e)) (both_or_not (both_or_not (keys_or_not k l) (in_context_or_not x y)) (entry_lists_or_not es fs))
 
 -- two sets are the same, or they are not
-pub contexts_or_not : (xs ys : Contexts) → Decided (xs ≡ ys)
+pub contexts_or_not : (xs ys : ContextedPatches) → Decided (xs ≡ ys)
 contexts_or_not xs ys =
     decided_by (same_entries_map xs ys) (ap entries) (entry_lists_or_not (entries xs) (entries ys))

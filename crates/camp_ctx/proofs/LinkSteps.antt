@@ -7,10 +7,10 @@ use Rattle.camp_prim.specs.declared.named.Named.{Named}
 use Rattle.camp_seq.specs.Chains.{Chain}
 use Rattle.camp_seq.proofs.OwnOrders.{chain_is_ordered, front_of_chain}
 use Rattle.camp_ctx.specs.Adding.{Adds, AddsAll, Cancels, GivesNone, PassesBy, keep}
-use Rattle.camp_ctx.specs.Contexts.{InContext}
+use Rattle.camp_ctx.specs.Contexts.{ContextedPatch}
 use Rattle.camp_ctx.specs.Inside.Links.{Links}
 
-abbrev at : List Named → Named → InContext
+abbrev at : List Named → Named → ContextedPatch
 at s patch = record { context = s; patch = patch }
 
 no_cancel : (a : Named) (s : List Named) (patch : Named) → Chain s → Links a s patch → GivesNone (Cancels a) (at s patch)

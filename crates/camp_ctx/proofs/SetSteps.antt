@@ -13,7 +13,7 @@ use Rattle.camp_prim.specs.declared.labels.Key.{Key}
 use Rattle.camp_prim.specs.declared.named.Named.{Named}
 use Rattle.camp_prim.proofs.LabelOrder.{key_total, key_ties}
 use Rattle.camp_ctx.specs.Adding.{AddsAll}
-use Rattle.camp_ctx.specs.Contexts.{InContext, Contexts, context_key, only, AreKeyed, ChangesAt, EachMember}
+use Rattle.camp_ctx.specs.Contexts.{ContextedPatch, ContextedPatches, context_key, only, AreKeyed, ChangesAt, EachMember}
 use Rattle.camp_ctx.proofs.AddResults.{same_key_of_sum}
 use Rattle.camp_ctx.proofs.EntrySteps.{take_push, found_at, not_before}
 use Rattle.camp_ctx.proofs.SetChanges.{member_before}
@@ -21,54 +21,54 @@ use Rattle.camp_ctx.proofs.SetChanges.{member_before}
 pub keyed_empty : AreKeyed empty
 keyed_empty key x is = absurd (none-some x (sym (get-empty key_cmp key) ∙ is))
 
-keyed_at : (xs : Contexts) (l : InContext) → AreKeyed xs → (key : Key) (y : InContext) (b : Bool) → eq_by_cmp key_cmp key (context_key l) ≡ b → cond b (Some l) (get xs key) ≡ Some y → key ≡ context_key y
+keyed_at : (xs : ContextedPatches) (l : ContextedPatch) → AreKeyed xs → (key : Key) (y : ContextedPatch) (b : Bool) → eq_by_cmp key_cmp key (context_key l) ≡ b → cond b (Some l) (get xs key) ≡ Some y → key ≡ context_key y
 keyed_at xs l keyed key y true same is = key_ties key (context_key l) ((Equal-is _).0 same) ∙ ap context_key (same_Some l y is)
 keyed_at xs l keyed key y false other is = keyed key y is
 
-keyed_insert : (xs : Contexts) (l : InContext) → AreKeyed xs → AreKeyed (insert xs (context_key l) l)
+keyed_insert : (xs : ContextedPatches) (l : ContextedPatch) → AreKeyed xs → AreKeyed (insert xs (context_key l) l)
 keyed_insert xs l keyed key y is =
     keyed_at xs l keyed key y _ refl (sym (get-insert key_total xs (context_key l) l key) ∙ is)
 
-pub keyed_with : (xs : Contexts) (k : Key) (l : InContext) → k ≡ context_key l → AreKeyed xs → AreKeyed (cond (contains_key xs k) xs (insert xs k l))
+pub keyed_with : (xs : ContextedPatches) (k : Key) (l : ContextedPatch) → k ≡ context_key l → AreKeyed xs → AreKeyed (cond (contains_key xs k) xs (insert xs k l))
 keyed_with xs k l own keyed = subst (λ j. AreKeyed (cond (contains_key xs j) xs (insert xs j l))) (sym own) (elim (contains_key xs (context_key l)) as (λ b. AreKeyed (cond b xs (insert xs (context_key l) l))) [
   | true ↦ keyed
   | false ↦ keyed_insert xs l keyed
 ])
 
-keyed_left : (xs : Contexts) (key : Key) (y : InContext) (b : Bool) → AreKeyed xs → cond b None (get xs key) ≡ Some y → key ≡ context_key y
+keyed_left : (xs : ContextedPatches) (key : Key) (y : ContextedPatch) (b : Bool) → AreKeyed xs → cond b None (get xs key) ≡ Some y → key ≡ context_key y
 keyed_left xs key y true keyed is = absurd (none-some y is)
 keyed_left xs key y false keyed is = keyed key y is
 
-pub keyed_without : (xs : Contexts) (k : Key) → AreKeyed xs → AreKeyed (remove xs k)
+pub keyed_without : (xs : ContextedPatches) (k : Key) → AreKeyed xs → AreKeyed (remove xs k)
 keyed_without xs k keyed key y is = keyed_left xs key y _ keyed (sym (get-remove key_total xs k key) ∙ is)
 
-pub keyed_sum : (r : List Named) (xs ys : Contexts) → EachMember (AddsAll r) xs ys → AreKeyed xs → AreKeyed ys
+pub keyed_sum : (r : List Named) (xs ys : ContextedPatches) → EachMember (AddsAll r) xs ys → AreKeyed xs → AreKeyed ys
 keyed_sum r xs ys w keyed key y is =
     let b = member_before (AddsAll r) (get xs key) (get ys key) y (w key) is in
     keyed key b.0 b.1 ∙ sym (same_key_of_sum r b.0 y b.2)
 
 -- the values of entries
-abbrev pub members_of : Contexts → List InContext
+abbrev pub members_of : ContextedPatches → List ContextedPatch
 members_of xs = map (λ e. e.1) (entries xs)
 
-pub count_of_members : (xs : Contexts) → length (members_of xs) ≡ len xs
+pub count_of_members : (xs : ContextedPatches) → length (members_of xs) ≡ len xs
 count_of_members xs = length-map (entries xs) (λ e. e.1) ∙ sym (len-entries xs)
 
-abbrev entry_of : InContext → Key × InContext
+abbrev entry_of : ContextedPatch → Key × ContextedPatch
 entry_of x = (context_key x, x)
 
-entries_by_index : (es : List (Key × InContext)) → ((i : ℕ) (k : Key) (x : InContext) → slice_get es i ≡ Some (k, x) → k ≡ context_key x) → es ≡ map entry_of (map (λ e. e.1) es)
+entries_by_index : (es : List (Key × ContextedPatch)) → ((i : ℕ) (k : Key) (x : ContextedPatch) → slice_get es i ≡ Some (k, x) → k ≡ context_key x) → es ≡ map entry_of (map (λ e. e.1) es)
 entries_by_index [] own = refl
 entries_by_index (e ∷ es) own =
     λ i. (own 0 e.0 e.1 refl i, e.1) ∷ entries_by_index es (λ j k x is. own (suc j) k x is) i
 
 -- each entry is that of its member
-entries_are : (xs : Contexts) → AreKeyed xs → entries xs ≡ map entry_of (members_of xs)
+entries_are : (xs : ContextedPatches) → AreKeyed xs → entries xs ≡ map entry_of (members_of xs)
 entries_are xs keyed =
     entries_by_index (entries xs) (λ i k x is. keyed k x (get-entries xs k ∙ found_at key_cmp key_total (entries xs) i k x is (entries_sorted xs)))
 
 -- sets of the same members are the same
-pub same_members : (xs ys : Contexts) → AreKeyed xs → AreKeyed ys → members_of xs ≡ members_of ys → xs ≡ ys
+pub same_members : (xs ys : ContextedPatches) → AreKeyed xs → AreKeyed ys → members_of xs ≡ members_of ys → xs ≡ ys
 same_members xs ys keyed also same =
     same_entries_map xs ys (entries_are xs keyed ∙ ap (map entry_of) same ∙ sym (entries_are ys also))
 
@@ -87,24 +87,24 @@ past_end (x ∷ xs) zero is = absurd (none-some x (sym is))
 past_end (x ∷ xs) (suc i) is = let rest = past_end xs i is in omega arith
 
 -- an entry at its place
-pub entry_at : (as_kept xs : Contexts) (i : ℕ) (e : Key × InContext) → as_kept ≡ xs → Some e ≡ slice_get (entries as_kept) i → slice_get (entries xs) i ≡ Some e
+pub entry_at : (as_kept xs : ContextedPatches) (i : ℕ) (e : Key × ContextedPatch) → as_kept ≡ xs → Some e ≡ slice_get (entries as_kept) i → slice_get (entries xs) i ≡ Some e
 entry_at as_kept xs i e is entry = ap (λ m. slice_get (entries m) i) (sym is) ∙ sym entry
 
 -- a member at its place
-pub member_at : (as_kept xs : Contexts) (i : ℕ) (e : Key × InContext) → as_kept ≡ xs → Some e ≡ slice_get (entries as_kept) i → slice_get (members_of xs) i ≡ Some e.1
+pub member_at : (as_kept xs : ContextedPatches) (i : ℕ) (e : Key × ContextedPatch) → as_kept ≡ xs → Some e ≡ slice_get (entries as_kept) i → slice_get (members_of xs) i ≡ Some e.1
 member_at as_kept xs i e is entry =
-    slice_get-map (λ e. e.1) (entries xs) i ∙ ap (option_map (λ (e : Key × InContext). e.1)) (entry_at as_kept xs i e is entry)
+    slice_get-map (λ e. e.1) (entries xs) i ∙ ap (option_map (λ (e : Key × ContextedPatch). e.1)) (entry_at as_kept xs i e is entry)
 
 no_length : {X : Type 0} (xs : List X) → length xs ≡ 0 → xs ≡ []
 no_length [] is = refl
 no_length (x ∷ xs) is = absurd (omega arith)
 
 -- what one member's entries are
-pub entries-only : (x : InContext) → entries (only x) ≡ entry_of x ∷ []
+pub entries-only : (x : ContextedPatch) → entries (only x) ≡ entry_of x ∷ []
 entries-only x =
-    entries-insert key_total empty (context_key x) x ∙ ap (put key_cmp (context_key x) x) (no_length (entries empty) (sym (len-entries empty) ∙ len-empty key_cmp InContext))
+    entries-insert key_total empty (context_key x) x ∙ ap (put key_cmp (context_key x) x) (no_length (entries empty) (sym (len-entries empty) ∙ len-empty key_cmp ContextedPatch))
 
-pub len-only : (x : InContext) → len (only x) ≡ 1
+pub len-only : (x : ContextedPatch) → len (only x) ≡ 1
 len-only x = len-entries (only x) ∙ ap length (entries-only x)
 
 one_element : {X : Type 0} (xs : List X) (x : X) → length xs ≡ 1 → slice_get xs 0 ≡ Some x → xs ≡ x ∷ []
@@ -112,12 +112,12 @@ one_element [] x long is = absurd (omega arith)
 one_element (y ∷ []) x long is = ap (λ z. z ∷ []) (same_Some y x is)
 one_element (y ∷ z ∷ xs) x long is = absurd (omega arith)
 
-pub is_only : (xs : Contexts) (x : InContext) → AreKeyed xs → len xs ≡ 1 → slice_get (members_of xs) 0 ≡ Some x → xs ≡ only x
+pub is_only : (xs : ContextedPatches) (x : ContextedPatch) → AreKeyed xs → len xs ≡ 1 → slice_get (members_of xs) 0 ≡ Some x → xs ≡ only x
 is_only xs x keyed one is =
     let long : length (members_of xs) ≡ 1 = length-map (entries xs) (λ e. e.1) ∙ sym (len-entries xs) ∙ one in
     same_entries_map xs (only x) (entries_are xs keyed ∙ ap (map entry_of) (one_element (members_of xs) x long is) ∙ sym (entries-only x))
 
-pub none_only : (xs : Contexts) (x : InContext) → slice_get (members_of xs) 0 ≡ None → ¬ (xs ≡ only x)
+pub none_only : (xs : ContextedPatches) (x : ContextedPatch) → slice_get (members_of xs) 0 ≡ None → ¬ (xs ≡ only x)
 none_only xs x none is =
     let one : len xs ≡ 1 = ap len is ∙ len-only x in
     let counted = len-entries xs in
@@ -126,14 +126,14 @@ none_only xs x none is =
     omega arith
 
 -- a list is added to the members one after the other
-pub nothing_added : (r : List Named) (none : Contexts) → none ≡ empty → (key : Key) → ChangesAt (AddsAll r) None (get none key)
+pub nothing_added : (r : List Named) (none : ContextedPatches) → none ≡ empty → (key : Key) → ChangesAt (AddsAll r) None (get none key)
 nothing_added r none is key = subst (ChangesAt (AddsAll r) None) (sym (ap (λ m. get m key) is ∙ get-empty key_cmp key)) tt
 
-changes_choose : (Change : InContext → InContext → Type 0) (b : Bool) (x y : InContext) (was now : Option InContext) → Change x y → ChangesAt Change was now → ChangesAt Change (cond b (Some x) was) (cond b (Some y) now)
+changes_choose : (Change : ContextedPatch → ContextedPatch → Type 0) (b : Bool) (x y : ContextedPatch) (was now : Option ContextedPatch) → Change x y → ChangesAt Change was now → ChangesAt Change (cond b (Some x) was) (cond b (Some y) now)
 changes_choose Change true x y was now change w = change
 changes_choose Change false x y was now change w = w
 
-pub one_more_added : (r : List Named) (xs sum after : Contexts) (i : ℕ) (k : Key) (x y : InContext) → slice_get (entries xs) i ≡ Some (k, x) → AddsAll r x y → after ≡ insert sum k y → ((key : Key) → ChangesAt (AddsAll r) (find key_cmp key (take i (entries xs))) (get sum key)) → (key : Key) → ChangesAt (AddsAll r) (find key_cmp key (take (i + 1) (entries xs))) (get after key)
+pub one_more_added : (r : List Named) (xs sum after : ContextedPatches) (i : ℕ) (k : Key) (x y : ContextedPatch) → slice_get (entries xs) i ≡ Some (k, x) → AddsAll r x y → after ≡ insert sum k y → ((key : Key) → ChangesAt (AddsAll r) (find key_cmp key (take i (entries xs))) (get sum key)) → (key : Key) → ChangesAt (AddsAll r) (find key_cmp key (take (i + 1) (entries xs))) (get after key)
 one_more_added r xs sum after i k x y is adds becomes before key =
     let es = entries xs in
     let test = eq_by_cmp key_cmp key k in
@@ -143,13 +143,13 @@ one_more_added r xs sum after i k x y is adds becomes before key =
     subst (ChangesAt (AddsAll r) (find key_cmp key (take (i + 1) es))) (sym now) (subst (λ w. ChangesAt (AddsAll r) w (cond test (Some y) (get sum key))) (sym was) (changes_choose (AddsAll r) test x y _ _ adds (before key)))
 
 -- no place below the number of entries is empty
-pub none_missing : (xs : Contexts) (i n : ℕ) → n ≡ len xs → i < n → ¬ (None ≡ slice_get (entries xs) i)
+pub none_missing : (xs : ContextedPatches) (i n : ℕ) → n ≡ len xs → i < n → ¬ (None ≡ slice_get (entries xs) i)
 none_missing xs i n counted within none =
     let long = len-entries xs in
     let past : length (entries xs) ≤ i = past_end (entries xs) i (sym none) in
     omega arith
 
-pub all_added : (r : List Named) (as_kept xs sum : Contexts) (i n : ℕ) → as_kept ≡ xs → n ≡ len as_kept → n ≤ i → ((key : Key) → ChangesAt (AddsAll r) (find key_cmp key (take i (entries xs))) (get sum key)) → EachMember (AddsAll r) xs sum
+pub all_added : (r : List Named) (as_kept xs sum : ContextedPatches) (i n : ℕ) → as_kept ≡ xs → n ≡ len as_kept → n ≤ i → ((key : Key) → ChangesAt (AddsAll r) (find key_cmp key (take i (entries xs))) (get sum key)) → EachMember (AddsAll r) xs sum
 all_added r as_kept xs sum i n is counted all w key =
     let long = len-entries xs in
     let same : n ≡ len xs = counted ∙ ap len is in

@@ -17,7 +17,7 @@ use Rattle.camp_seq.proofs.MergeGrid.{passes_row}
 use Rattle.camp_seq.proofs.OwnOrders.{chain_is_ordered}
 use Rattle.camp_ctx.specs.Adding.{Adds, commute}
 use Rattle.camp_ctx.specs.Conflicts.{MergesBehindCommon, common_labels, has_label}
-use Rattle.camp_ctx.specs.Contexts.{ChangesAt, Contexts, EachMember, InContext}
+use Rattle.camp_ctx.specs.Contexts.{ChangesAt, ContextedPatches, EachMember, ContextedPatch}
 use Rattle.camp_ctx.proofs.CommonLabels.{IsIn, in_from_has}
 use Rattle.camp_ctx.proofs.SetSteps.{members_of}
 
@@ -36,13 +36,13 @@ front_is_in l (p ∷ s) y t (inl here) = inl here.0
 front_is_in l (p ∷ s) y t (inr later) = inr (front_is_in l s later.1.0 later.1.2 later.1.3)
 
 -- what passes by a contexted patch in normal order, where all stay as they are, is added to it so
-pub stays_put : (a : Named) (x : InContext) → Passes a x.context x.context a → Norm x.context x.context → Swap a x.patch x.patch a → Adds a x x
+pub stays_put : (a : Named) (x : ContextedPatch) → Passes a x.context x.context a → Norm x.context x.context → Swap a x.patch x.patch a → Adds a x x
 stays_put a x passes own swap =
     commute (λ y w. has_other_labels a x.context x.context a passes (label_of (inverse_of a)) refl (front_is_in _ x.context _ _ w.front))
     (record { a' = a; a'' = a; passed = x.context; past_context = passes; past_patch = swap; context = own })
 
 -- what changes each element of entries to itself changes each value to itself
-same_at_each : (Change : InContext → InContext → Type 0) (es : List (Key × InContext)) → ((k : ℕ) → k < length es → ChangesAt Change (slice_get (map (λ e. e.1) es) k) (slice_get (map (λ e. e.1) es) k)) → (key : Key) → ChangesAt Change (find key_cmp key es) (find key_cmp key es)
+same_at_each : (Change : ContextedPatch → ContextedPatch → Type 0) (es : List (Key × ContextedPatch)) → ((k : ℕ) → k < length es → ChangesAt Change (slice_get (map (λ e. e.1) es) k) (slice_get (map (λ e. e.1) es) k)) → (key : Key) → ChangesAt Change (find key_cmp key es) (find key_cmp key es)
 same_at_each Change [] own key = tt
 same_at_each Change (e ∷ es) own key =
     elim (eq_by_cmp key_cmp key e.0) as (λ b. ChangesAt Change (cond b (Some e.1) (find key_cmp key es)) (cond b (Some e.1) (find key_cmp key es))) [
@@ -50,7 +50,7 @@ same_at_each Change (e ∷ es) own key =
       | false ↦ same_at_each Change es (λ k within. own (suc k) (omega arith)) key
     ]
 
-pub each_is_same : (Change : InContext → InContext → Type 0) (xs : Contexts) (i n : ℕ) → n ≡ len xs → n ≤ i → ((k : ℕ) → k < i → ChangesAt Change (slice_get (members_of xs) k) (slice_get (members_of xs) k)) → EachMember Change xs xs
+pub each_is_same : (Change : ContextedPatch → ContextedPatch → Type 0) (xs : ContextedPatches) (i n : ℕ) → n ≡ len xs → n ≤ i → ((k : ℕ) → k < i → ChangesAt Change (slice_get (members_of xs) k) (slice_get (members_of xs) k)) → EachMember Change xs xs
 each_is_same Change xs i n counted past own key =
     let long = len-entries xs in
     subst (λ o. ChangesAt Change o o) (sym (get-entries xs key)) (same_at_each Change (entries xs) (λ k within. own k (omega arith)) key)

@@ -6,17 +6,17 @@ use Rattle.camp_prim.specs.Swaps.{Swap}
 use Rattle.camp_prim.specs.declared.named.Named.{Named}
 use Rattle.camp_seq.specs.NormalOrder.{Norm}
 use Rattle.camp_seq.specs.Passing.{Passes, Fronts}
-use Rattle.camp_ctx.specs.Contexts.{InContext}
+use Rattle.camp_ctx.specs.Contexts.{ContextedPatch}
 
 -- cancel: a and c:p give c':p, where c ~ a^ c'; what comes to the front is a^ itself
-pub record Cancels (a : Named) (x y : InContext) : Type 0 where
+pub record Cancels (a : Named) (x y : ContextedPatch) : Type 0 where
   pub rest : List Named
   pub front : Fronts (label_of (inverse_of a)) x.context (inverse_of a) rest
   pub context : Norm rest y.context
   pub patch : y.patch ≡ x.patch
 
 -- commute: a and c:p give c':p', where a c ~ c' a' and a' p <-> p' a''; a passes by c:p
-pub record PassesBy (a : Named) (x y : InContext) : Type 0 where
+pub record PassesBy (a : Named) (x y : ContextedPatch) : Type 0 where
   pub a' : Named
   pub a'' : Named
   pub passed : List Named
@@ -25,29 +25,29 @@ pub record PassesBy (a : Named) (x y : InContext) : Type 0 where
   pub context : Norm passed y.context
 
 -- keep: a and c:p give a c:p
-pub record Keeps (a : Named) (x y : InContext) : Type 0 where
+pub record Keeps (a : Named) (x y : ContextedPatch) : Type 0 where
   pub context : Norm (a ∷ x.context) y.context
   pub patch : y.patch ≡ x.patch
 
 -- a change gives nothing
-abbrev pub GivesNone : (InContext → InContext → Type 0) → InContext → Type 0
-GivesNone Change x = (y : InContext) → ¬ (Change x y)
+abbrev pub GivesNone : (ContextedPatch → ContextedPatch → Type 0) → ContextedPatch → Type 0
+GivesNone Change x = (y : ContextedPatch) → ¬ (Change x y)
 
 -- a added to a contexted patch: the first of cancel, commute and keep that gives something
-pub data Adds (a : Named) (x y : InContext) : Type 0 where
+pub data Adds (a : Named) (x y : ContextedPatch) : Type 0 where
   cancel : Cancels a x y → Adds a x y
   commute : GivesNone (Cancels a) x → PassesBy a x y → Adds a x y
   keep : GivesNone (Cancels a) x → GivesNone (PassesBy a) x → Keeps a x y → Adds a x y
 
 -- the elements of a list change a contexted patch, from the last to the first
-abbrev pub FromLast : (Named → InContext → InContext → Type 0) → List Named → InContext → InContext → Type 0
+abbrev pub FromLast : (Named → ContextedPatch → ContextedPatch → Type 0) → List Named → ContextedPatch → ContextedPatch → Type 0
 FromLast Change [] x z = z ≡ x
-FromLast Change (a ∷ r) x z = (y : InContext) × FromLast Change r x y × Change a y z
+FromLast Change (a ∷ r) x z = (y : ContextedPatch) × FromLast Change r x y × Change a y z
 
 -- a list added to a contexted patch
-abbrev pub AddsAll : List Named → InContext → InContext → Type 0
+abbrev pub AddsAll : List Named → ContextedPatch → ContextedPatch → Type 0
 AddsAll = FromLast Adds
 
 -- a list that passes by a contexted patch
-abbrev pub PassesByAll : List Named → InContext → InContext → Type 0
+abbrev pub PassesByAll : List Named → ContextedPatch → ContextedPatch → Type 0
 PassesByAll = FromLast PassesBy

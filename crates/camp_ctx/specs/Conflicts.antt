@@ -7,7 +7,7 @@ use Rattle.camp_prim.specs.declared.labels.Label.{Label}
 use Rattle.camp_prim.specs.declared.named.Named.{Named}
 use Rattle.camp_seq.specs.Merging.{CleanMerge}
 use Rattle.camp_seq.specs.NormalOrder.{Splits}
-use Rattle.camp_ctx.specs.Contexts.{InContext, whole}
+use Rattle.camp_ctx.specs.Contexts.{ContextedPatch, whole}
 
 -- whether a list has an element with this signed label
 abbrev pub has_label : List Named → Label → Bool
@@ -28,5 +28,5 @@ pub record MergesBehindCommon (s t t' s' : List Named) : Type 0 where
   pub merge : CleanMerge s1 t1 t' s'
 
 -- c:p and d:q conflict unless c p and d q merge cleanly behind what they have in common
-abbrev pub Conflict : InContext → InContext → Type 0
+abbrev pub Conflict : ContextedPatch → ContextedPatch → Type 0
 Conflict x y = (t' s' : List Named) → ¬ (MergesBehindCommon (whole x) (whole y) t' s')

@@ -8,16 +8,16 @@ use Rattle.camp_seq.specs.Running.{AppliesAll}
 use Rattle.camp_prim.specs.declared.labels.Key.{Key}
 
 -- c:p, a patch p with a list c that leads to it from the state where it is seen
-pub record InContext : Type 0 where
+pub record ContextedPatch : Type 0 where
   pub context : List Named
   pub patch : Named
 
 -- :p, a patch seen from the state where it stands
-abbrev pub bare : Named → InContext
+abbrev pub bare : Named → ContextedPatch
 bare p = record { context = []; patch = p }
 
 -- c p, the context and then the patch
-abbrev pub whole : InContext → List Named
+abbrev pub whole : ContextedPatch → List Named
 whole x = x.context ++ x.patch ∷ []
 
 -- the absolute label of a patch
@@ -25,40 +25,40 @@ abbrev pub patch_key : Named → Key
 patch_key p = key_of (label_of p)
 
 -- the absolute label of a contexted patch is that of its patch
-abbrev pub context_key : InContext → Key
+abbrev pub context_key : ContextedPatch → Key
 context_key x = patch_key x.patch
 
 -- the context and then the patch apply to a tree
-abbrev pub Valid : Files → InContext → Type 0
+abbrev pub Valid : Files → ContextedPatch → Type 0
 Valid tree x = (after : Files) × AppliesAll (whole x) tree after
 
 -- a set of contexted patches: a finite map from their absolute labels
-abbrev pub Contexts : Type 0
-Contexts = FinMap key_cmp InContext
+abbrev pub ContextedPatches : Type 0
+ContextedPatches = FinMap key_cmp ContextedPatch
 
 -- each member stands under its own label
-abbrev pub AreKeyed : Contexts → Type 0
-AreKeyed xs = (key : Key) (x : InContext) → get xs key ≡ Some x → key ≡ context_key x
+abbrev pub AreKeyed : ContextedPatches → Type 0
+AreKeyed xs = (key : Key) (x : ContextedPatch) → get xs key ≡ Some x → key ≡ context_key x
 
 -- {x}: the set of one member
-abbrev pub only : InContext → Contexts
+abbrev pub only : ContextedPatch → ContextedPatches
 only x = insert empty (context_key x) x
 
 -- X and l: the set with l too; a member with the label of l that is there stays
-abbrev pub with_member : Contexts → InContext → Contexts
+abbrev pub with_member : ContextedPatches → ContextedPatch → ContextedPatches
 with_member xs l = if contains_key xs (context_key l) then xs else insert xs (context_key l) l
 
 -- every member is valid in a tree
-abbrev pub AreValid : Files → Contexts → Type 0
-AreValid tree xs = (key : Key) (x : InContext) → get xs key ≡ Some x → Valid tree x
+abbrev pub AreValid : Files → ContextedPatches → Type 0
+AreValid tree xs = (key : Key) (x : ContextedPatch) → get xs key ≡ Some x → Valid tree x
 
 -- what stands at a label before and after a change of members: nothing both times, or a member and what it becomes
-abbrev pub ChangesAt : (InContext → InContext → Type 0) → Option InContext → Option InContext → Type 0
+abbrev pub ChangesAt : (ContextedPatch → ContextedPatch → Type 0) → Option ContextedPatch → Option ContextedPatch → Type 0
 ChangesAt Change None None = Unit {0}
 ChangesAt Change None (Some y) = ⊥
 ChangesAt Change (Some x) None = ⊥
 ChangesAt Change (Some x) (Some y) = Change x y
 
 -- a set becomes another by a change of every member; the labels stay
-abbrev pub EachMember : (InContext → InContext → Type 0) → Contexts → Contexts → Type 0
+abbrev pub EachMember : (ContextedPatch → ContextedPatch → Type 0) → ContextedPatches → ContextedPatches → Type 0
 EachMember Change old new = (key : Key) → ChangesAt Change (get old key) (get new key)

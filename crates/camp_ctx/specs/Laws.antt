@@ -6,7 +6,7 @@ use Rattle.camp_prim.specs.declared.named.Named.{Named}
 use Rattle.camp_seq.specs.Running.{AppliesAll}
 use Rattle.camp_ctx.specs.Adding.{Adds, AddsAll, PassesBy, PassesByAll}
 use Rattle.camp_ctx.specs.Conflicts.{MergesBehindCommon, Conflict}
-use Rattle.camp_ctx.specs.Contexts.{InContext, Valid, Contexts, AreValid, EachMember}
+use Rattle.camp_ctx.specs.Contexts.{ContextedPatch, Valid, ContextedPatches, AreValid, EachMember}
 
 -- a change has at most one result
 abbrev pub GivesOne : {X : Type 0} → (X → X → Type 0) → Type 0
@@ -35,13 +35,13 @@ pub record AddingGives : Type 0 where
   pub adds_all_to_members : (r : List Named) → AlwaysGives (EachMember (AddsAll r))
 
 -- where a step leads from one tree to another, what is valid in the second becomes by a change valid in the first
-abbrev pub KeepsValid : (InContext → InContext → Type 0) → (Files → Files → Type 0) → Type 0
-KeepsValid Change Step = (x y : InContext) → Change x y → (old new : Files) → Step old new → Valid new x → Valid old y
+abbrev pub KeepsValid : (ContextedPatch → ContextedPatch → Type 0) → (Files → Files → Type 0) → Type 0
+KeepsValid Change Step = (x y : ContextedPatch) → Change x y → (old new : Files) → Step old new → Valid new x → Valid old y
 
 -- the same of the members of a set
-abbrev pub KeepsMembersValid : (InContext → InContext → Type 0) → (Files → Files → Type 0) → Type 0
+abbrev pub KeepsMembersValid : (ContextedPatch → ContextedPatch → Type 0) → (Files → Files → Type 0) → Type 0
 KeepsMembersValid Change Step =
-    (xs ys : Contexts) → EachMember Change xs ys →
+    (xs ys : ContextedPatches) → EachMember Change xs ys →
     (old new : Files) → Step old new → AreValid new xs → AreValid old ys
 
 -- adding and passing by keep what is valid
@@ -55,10 +55,10 @@ pub record KeepValid : Type 0 where
 
 -- adding the empty list changes nothing, of a contexted patch and of a set
 pub record EmptyChangesNothing : Type 0 where
-  pub adds : (x y : InContext) → AddsAll [] x y → y ≡ x
-  pub adds_to_members : (xs ys : Contexts) → EachMember (AddsAll []) xs ys → ys ≡ xs
+  pub adds : (x y : ContextedPatch) → AddsAll [] x y → y ≡ x
+  pub adds_to_members : (xs ys : ContextedPatches) → EachMember (AddsAll []) xs ys → ys ≡ xs
 
 -- what merges cleanly behind a common front, and what conflicts, does so in either order
 pub record AreSymmetric : Type 0 where
   pub merges : (s t t' s' : List Named) → MergesBehindCommon s t t' s' → MergesBehindCommon t s s' t'
-  pub conflicts : (x y : InContext) → Conflict x y → Conflict y x
+  pub conflicts : (x y : ContextedPatch) → Conflict x y → Conflict y x

@@ -18,7 +18,7 @@ impl Contexted {
     /// What is seen behind a list, as it is seen before the list: each primitive of the list, from
     /// the last to the first, is added.
     pub fn add(r: &Seq, x: &Contexted) -> Result<Contexted, AllocError>
-        ensures { IfOk result (λ y. AddsAll r.now x.now y) }
+        ensures exact { IfOk result (λ y. AddsAll r.now x.now y) }
     {
         let items = r.items();
         let (start, mut sum) = linked(items, x)?;
@@ -31,7 +31,7 @@ impl Contexted {
     /// What is seen behind a primitive, as it is seen before it: its inverse at the front of the
     /// context is taken away; else it passes by; else it comes into the context.
     pub fn add_one(a: &Named, x: &Contexted) -> Result<Contexted, AllocError>
-        ensures { IfOk result (λ y. Adds a.now x.now y) }
+        ensures exact { IfOk result (λ y. Adds a.now x.now y) }
     {
         let cancelled = cancelled(a, x)?;
         if let Some(y) = cancelled {

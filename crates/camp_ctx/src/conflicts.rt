@@ -15,7 +15,7 @@ use std::slice;
 
 /// Whether two contexted patches that are seen from one state conflict.
 pub fn conflict(x: &Contexted, y: &Contexted) -> Result<bool, AllocError>
-    ensures { IfOk result (λ found. IsTrue found ↔ Conflict x.now y.now) }
+    ensures exact { IfOk result (λ found. IsTrue found ↔ Conflict x.now y.now) }
 {
     let first = whole(x)?;
     let second = whole(y)?;

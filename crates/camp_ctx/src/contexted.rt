@@ -23,9 +23,9 @@ struct Parts {
 }
 
 impl Model for Contexted {
-    ghost use Rattle.camp_ctx.specs.Contexts.{InContext};
+    ghost use Rattle.camp_ctx.specs.Contexts.{ContextedPatch};
 
-    ghost Value = { InContext };
+    ghost Value = { ContextedPatch };
 
     ghost view = { λ x. record { context = x.parts.context; patch = x.parts.patch } };
 }
@@ -33,47 +33,47 @@ impl Model for Contexted {
 impl Contexted {
     /// `c:p`, with the context as it is given.
     pub fn new(alloc: Global, context: Seq, patch: Named) -> Result<Contexted, AllocError>
-        ensures { IfOk result (λ x. x ≡ record { context = context; patch = patch }) }
+        ensures exact { IfOk result (λ x. x ≡ record { context = context; patch = patch }) }
     {
         let parts = Shared::new(alloc, Parts { context, patch })?;
         Ok(Contexted { alloc, parts })
     }
 
     pub fn context(&self) -> &Seq
-        ensures { result.now ≡ self.now.context }
+        ensures exact { result.now ≡ self.now.context }
     {
         &self.parts.context
     }
 
     pub fn patch(&self) -> &Named
-        ensures { result.now ≡ self.now.patch }
+        ensures exact { result.now ≡ self.now.patch }
     {
         &self.parts.patch
     }
 
     /// The name of the patch.
     pub fn name(&self) -> &Name
-        ensures { result.now ≡ self.now.patch.name }
+        ensures exact { result.now ≡ self.now.patch.name }
     {
         &self.patch().name
     }
 
     /// The place in the patch.
     pub fn place(&self) -> u8
-        ensures { result ≡ self.now.patch.place }
+        ensures exact { result ≡ self.now.patch.place }
     {
         self.patch().place
     }
 
     /// The absolute label of the patch.
     pub fn key(&self) -> Key
-        ensures { result ≡ context_key self.now }
+        ensures exact { result ≡ context_key self.now }
     {
         self.patch().label().key()
     }
 
     pub fn try_clone(&self) -> Result<Contexted, AllocError>
-        ensures { IfOk result (λ copy. copy ≡ self.now) }
+        ensures exact { IfOk result (λ copy. copy ≡ self.now) }
     {
         let parts = self.parts.share()?;
         Ok(Contexted {
@@ -84,7 +84,7 @@ impl Contexted {
 
     /// Whether the two have the same context and the same patch. It takes no memory.
     pub fn is_same(&self, other: &Contexted) -> bool
-        ensures { IsTrue result ↔ (self.now ≡ other.now) }
+        ensures exact { IsTrue result ↔ (self.now ≡ other.now) }
     {
         if !self.context().is_same(other.context()) {
             return false;

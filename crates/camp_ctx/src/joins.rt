@@ -6,7 +6,7 @@ use std::alloc::{AllocError, Global};
 
 /// A list and then another, copied.
 pub fn join(alloc: Global, s: &[Named], t: &[Named]) -> Result<Seq, AllocError>
-    ensures { IfOk result (λ joined. joined ≡ s.now ++ t.now) }
+    ensures exact { IfOk result (λ joined. joined ≡ s.now ++ t.now) }
 {
     let mut joined = Seq::empty(alloc);
     push_all(&mut joined, s)?;

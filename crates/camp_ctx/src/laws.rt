@@ -2,26 +2,26 @@ ghost use Rattle.camp_ctx.specs.Laws.{AddingGives, AreDetermined, AreSymmetric, 
 
 /// Adding, passing by, and merging behind a common front have at most one result.
 pub fn results_in_context_are_determined()
-    ensures { AreDetermined }
+    ensures law { AreDetermined }
 {}
 
 /// Adding always has a result.
 pub fn adding_always_gives()
-    ensures { AddingGives }
+    ensures law { AddingGives }
 {}
 
 /// What is valid behind a primitive or a list becomes valid before it, where that is added or passes
 /// by.
 pub fn adding_and_passing_keep_valid()
-    ensures { KeepValid }
+    ensures law { KeepValid }
 {}
 
 /// Adding the empty list changes nothing.
 pub fn adding_the_empty_list_changes_nothing()
-    ensures { EmptyChangesNothing }
+    ensures law { EmptyChangesNothing }
 {}
 
 /// Whether two contexted patches conflict does not depend on which comes first.
 pub fn conflict_is_symmetric()
-    ensures { AreSymmetric }
+    ensures law { AreSymmetric }
 {}

@@ -1,6 +1,6 @@
 ghost use Rattle.std.specs.Prelude.{◌≡◌, ◌↔◌, IfOk, IsTrue, MatchOption, None, Some, slice_get};
 ghost use Rattle.std.specs.FinMap as map;
-ghost use Rattle.camp_ctx.specs.Contexts.{context_key, only, with_member, InContext, AreKeyed, EachMember};
+ghost use Rattle.camp_ctx.specs.Contexts.{context_key, only, with_member, ContextedPatch, AreKeyed, EachMember};
 ghost use Rattle.camp_ctx.specs.Adding.{Adds, AddsAll};
 
 use crate::keys::MemberKey;
@@ -14,19 +14,19 @@ use std::slice;
 
 /// A set of contexted patches with different absolute labels.
 #[derive(Drop)]
-pub struct CtxSet {
+pub struct ContextedSet {
     alloc: Global,
     members: SharedMap<MemberKey, Contexted>,
 }
 
-impl Model for CtxSet {
+impl Model for ContextedSet {
     ghost use Rattle.std.specs.FinMap as map;
     ghost use Rattle.camp_prim.specs.Labels.{coded_key, key_cmp};
     ghost use Rattle.camp_share.specs.Maps.{map_of};
-    ghost use Rattle.camp_ctx.specs.Contexts.{AreKeyed, Contexts};
+    ghost use Rattle.camp_ctx.specs.Contexts.{AreKeyed, ContextedPatches};
     ghost use Rattle.camp_ctx.specs.declared.contexted.Contexted.{the_code};
 
-    ghost Value = { Contexts };
+    ghost Value = { ContextedPatches };
 
     ghost coded = { map.code coded_key the_code };
 
@@ -35,12 +35,12 @@ impl Model for CtxSet {
     ghost invariant = { λ set. AreKeyed (map_of key_cmp set.members) };
 }
 
-impl CtxSet {
+impl ContextedSet {
     /// The set without a member. It takes no memory.
-    pub fn empty(alloc: Global) -> CtxSet
-        ensures { result ≡ map.empty }
+    pub fn empty(alloc: Global) -> ContextedSet
+        ensures exact { result ≡ map.empty }
     {
-        CtxSet {
+        ContextedSet {
             alloc,
             members: SharedMap::new(alloc),
         }
@@ -56,7 +56,7 @@ impl CtxSet {
 
     /// The member with an absolute label.
     pub fn get(&self, key: &Key) -> Option<&Contexted>
-        ensures { MatchOption result
+        ensures exact { MatchOption result
             (map.get self.now key.now ≡ None)
             (λ member. map.get self.now key.now ≡ Some member.now) }
     {
@@ -64,23 +64,23 @@ impl CtxSet {
     }
 
     /// The set with a member too. A member with its label that is there stays.
-    pub fn insert(&self, member: &Contexted) -> Result<CtxSet, AllocError>
-        ensures { IfOk result (λ set. set ≡ with_member self.now member.now) }
+    pub fn insert(&self, member: &Contexted) -> Result<ContextedSet, AllocError>
+        ensures exact { IfOk result (λ set. set ≡ with_member self.now member.now) }
     {
         let key = MemberKey::new(member.key());
         let members = self.members.inserted_if_absent(key, member.try_clone()?)?;
-        Ok(CtxSet {
+        Ok(ContextedSet {
             alloc: self.alloc,
             members,
         })
     }
 
     /// The set without the member of a label.
-    pub fn without(&self, key: &Key) -> Result<CtxSet, AllocError>
-        ensures { IfOk result (λ set. set ≡ map.remove self.now key.now) }
+    pub fn without(&self, key: &Key) -> Result<ContextedSet, AllocError>
+        ensures exact { IfOk result (λ set. set ≡ map.remove self.now key.now) }
     {
         let members = self.members.without(&MemberKey::new(*key))?;
-        Ok(CtxSet {
+        Ok(ContextedSet {
             alloc: self.alloc,
             members,
         })
@@ -88,7 +88,7 @@ impl CtxSet {
 
     /// The member at a place in the order of the labels.
     pub fn at(&self, index: usize) -> Option<&Contexted>
-        ensures { MatchOption result
+        ensures exact { MatchOption result
             (slice_get (map.values self.now) index ≡ None)
             (λ member. slice_get (map.values self.now) index ≡ Some member.now) }
     {
@@ -100,8 +100,8 @@ impl CtxSet {
 
     /// The member of a set that has no other. None where it has none, or more than one.
     pub fn sole(&self) -> Option<&Contexted>
-        ensures { MatchOption result
-            ((x : InContext) → ¬ (self.now ≡ only x))
+        ensures exact { MatchOption result
+            ((x : ContextedPatch) → ¬ (self.now ≡ only x))
             (λ member. self.now ≡ only member.now) }
     {
         if self.len() != 1 {
@@ -111,8 +111,8 @@ impl CtxSet {
     }
 
     /// What is seen behind a list, as it is seen before the list: the list is added to every member.
-    pub fn add(r: &Seq, set: &CtxSet) -> Result<CtxSet, AllocError>
-        ensures { IfOk result (λ sum. EachMember (AddsAll r.now) set.now sum) }
+    pub fn add(r: &Seq, set: &ContextedSet) -> Result<ContextedSet, AllocError>
+        ensures exact { IfOk result (λ sum. EachMember (AddsAll r.now) set.now sum) }
     {
         if r.items().is_empty() {
             return set.try_clone();
@@ -124,34 +124,34 @@ impl CtxSet {
                 members = members.inserted(*key, sum)?;
             }
         }
-        Ok(CtxSet {
+        Ok(ContextedSet {
             alloc: set.alloc,
             members,
         })
     }
 
     /// The same with a primitive in place of a list.
-    pub fn add_one(a: &Named, set: &CtxSet) -> Result<CtxSet, AllocError>
-        ensures { IfOk result (λ sum. EachMember (Adds a.now) set.now sum) }
+    pub fn add_one(a: &Named, set: &ContextedSet) -> Result<ContextedSet, AllocError>
+        ensures exact { IfOk result (λ sum. EachMember (Adds a.now) set.now sum) }
     {
         let list = join(set.alloc, slice::from_ref(a), &[])?;
-        let sum = CtxSet::add(&list, set)?;
+        let sum = ContextedSet::add(&list, set)?;
         Ok(sum)
     }
 
-    pub fn try_clone(&self) -> Result<CtxSet, AllocError>
-        ensures { IfOk result (λ copy. copy ≡ self.now) }
+    pub fn try_clone(&self) -> Result<ContextedSet, AllocError>
+        ensures exact { IfOk result (λ copy. copy ≡ self.now) }
     {
         let members = self.members.share()?;
-        Ok(CtxSet {
+        Ok(ContextedSet {
             alloc: self.alloc,
             members,
         })
     }
 
     /// Whether the two sets have the same members. It takes no memory.
-    pub fn is_same(&self, other: &CtxSet) -> bool
-        ensures { IsTrue result ↔ (self.now ≡ other.now) }
+    pub fn is_same(&self, other: &ContextedSet) -> bool
+        ensures exact { IsTrue result ↔ (self.now ≡ other.now) }
     {
         if self.len() != other.len() {
             return false;
@@ -165,7 +165,7 @@ impl CtxSet {
     }
 }
 
-fn have_same_member(a: &CtxSet, b: &CtxSet, index: usize) -> bool
+fn have_same_member(a: &ContextedSet, b: &ContextedSet, index: usize) -> bool
     ensures { IsTrue result ↔ (slice_get (map.values a.now) index ≡ slice_get (map.values b.now) index) }
 {
     match (a.at(index), b.at(index)) {

@@ -4,7 +4,7 @@ ghost use Rattle.std.specs.FinMap as map;
 ghost use Rattle.camp_ctx.specs.Adding.{Adds};
 ghost use Rattle.camp_ctx.specs.Contexts.{ChangesAt, EachMember};
 
-use crate::{Contexted, CtxSet};
+use crate::{Contexted, ContextedSet};
 use camp_prim::{Named, stay};
 use camp_seq::{is_own_order, stays_past};
 
@@ -12,7 +12,7 @@ impl Contexted {
     /// Whether the contexted patch is as it was where `a` is added. Where it says no, it may still be.
     /// It takes no memory.
     pub fn stays_behind(&self, a: &Named) -> bool
-        ensures { IsTrue result → Adds a.now self.now self.now }
+        ensures sound { IsTrue result → Adds a.now self.now self.now }
     {
         let context = self.context().items();
         if !stays_past(a, context) {
@@ -25,11 +25,11 @@ impl Contexted {
     }
 }
 
-impl CtxSet {
+impl ContextedSet {
     /// Whether each member is as it was where `a` is added. Where it says no, they may still be. It
     /// takes no memory.
     pub fn stays_behind(&self, a: &Named) -> bool
-        ensures { IsTrue result → EachMember (Adds a.now) self.now self.now }
+        ensures sound { IsTrue result → EachMember (Adds a.now) self.now self.now }
     {
         for index in 0..self.len() {
             if !member_stays(self, index, a) {
@@ -41,7 +41,7 @@ impl CtxSet {
 }
 
 /// Whether the member at a place, if there is one, is as it was where `a` is added.
-fn member_stays(set: &CtxSet, index: usize, a: &Named) -> bool
+fn member_stays(set: &ContextedSet, index: usize, a: &Named) -> bool
     ensures { IsTrue result → ChangesAt (Adds a.now)
         (slice_get (map.values set.now) index) (slice_get (map.values set.now) index) }
 {

@@ -3,7 +3,7 @@ use Rattle.std.proofs.Common.{◌≡◌, ◌≢◌, ℕ, suc, ◌+◌, ◌<◌, 
 use Rattle.std.proofs.lemmas.List.{length-append, append-nil, append_assoc, map-append}
 use Rattle.std.proofs.lemmas.List.Elements.{All-same}
 use Rattle.boxcar.specs.Table.{Where, Shows}
-use Rattle.camp_object.specs.Objects.{Sequential, IsLawful}
+use Rattle.camp_object.specs.Objects.{Sequential, IsLawfulObject}
 use Rattle.camp_object.specs.Histories.{IsFront, replay, IsLegal, IsAccepted, own}
 use Rattle.camp_object.specs.Deciding.{Decides}
 use Rattle.camp_object.specs.Asking.{Caller, Ask, AddsNothing, Loses, IsNotBusy}
@@ -35,7 +35,7 @@ module _ {State Call Reply : Type 0} (object : Sequential State Call Reply) wher
   decided_accepted history call next at = accepted_at object history call at.state next at.replays at.decides
 
   -- a call that was published
-  pub ask_published : IsLawful object → (head : HeadId) (old new : Seated Call) (call : Where Call) (at : ℕ) (reply : Reply)
+  pub ask_published : IsLawfulObject object → (head : HeadId) (old new : Seated Call) (call : Where Call) (at : ℕ) (reply : Reply)
       → IsAccepted object (history_of old) call.value → length (own old.known.number (history_of old)) < head.row.per_seat → Publishes old call new
       → at ≡ length (history_of new) → reply ≡ object.done at → Ask object (caller_at head old) (history_of old) call.value (Ok reply) (history_of new)
   ask_published lawful head old new call at reply accepted room publishes position is =

@@ -3,7 +3,7 @@ use Rattle.std.proofs.Common.{◌≡◌, ◌≢◌, ℕ, ◌+◌, ◌<◌, ◌�
 use Rattle.std.proofs.lemmas.List.Elements.{All-push, All-same}
 use Rattle.std.proofs.lemmas.List.{append_assoc, map-append, length-map}
 use Rattle.boxcar.specs.Table.{Shows}
-use Rattle.camp_object.specs.Objects.{Sequential, IsLawful}
+use Rattle.camp_object.specs.Objects.{Sequential, IsLawfulObject}
 use Rattle.camp_object.specs.Histories.{IsFront, replay, own}
 use Rattle.camp_object.specs.Deciding.{Decides}
 use Rattle.camp_object.specs.declared.objects.Decided.{Decided}
@@ -67,7 +67,7 @@ history_front {old = old} {new = new} more =
     record { rest = map asked more.more.rest; makes = sym (map-append asked old.marks more.more.rest) ∙ ap (map asked) more.more.makes }
 
 -- a list of marks has no more than memory has room for
-pub few_marks : {State Call Reply : Type 0} (object : Sequential State Call Reply) → IsLawful object → (marks : List (Mark Call)) (state : State) (len cap : ℕ)
+pub few_marks : {State Call Reply : Type 0} (object : Sequential State Call Reply) → IsLawfulObject object → (marks : List (Mark Call)) (state : State) (len cap : ℕ)
     → (len ≡ length marks) × (len ≤ cap) → cap < 9223372036854775808 → replay object (map asked marks) ≡ Some state → object.count state < 18446744073709551615
 few_marks object lawful marks state len cap ok small replays =
     let counts = count-replay object lawful (map asked marks) state replays in

@@ -7,7 +7,7 @@ use Rattle.camp_object.specs.declared.faults.Fault.TheVariants.{Memory}
 use Rattle.camp_object.proofs.Fronts.{front_front, front_shorter, length-front}
 use Rattle.camp_object.proofs.Replays.{own-append}
 use Rattle.camp_row.specs.Chains as chain
-use Rattle.camp_row.specs.Known.{Finds}
+use Rattle.camp_row.specs.Known.{FindsChain}
 use Rattle.camp_history.specs.Meeting.{Meets}
 use Rattle.camp_history.specs.Seats.{Seated, asked, history_of}
 use Rattle.camp_history.specs.Inside.Steps.{entry_of, entries_of, SeesMore}
@@ -31,7 +31,7 @@ own_front seat front whole begins same =
     let none : own seat begins.rest ≡ [] = nil_from_length (own seat begins.rest) (omega (arith, length-append (own seat front) (own seat begins.rest))) in
     parts ∙ ap (λ rest. own seat front ++ rest) none ∙ append-nil (own seat front)
 
-module _ {Call : Type 0} (a b met a' b' : Seated Call) (a_finds : Finds a.known met.known) (a_marks : met.marks ≡ a.marks) (b_finds : Finds b.known b'.known) (b_marks : b'.marks ≡ b.marks)
+module _ {Call : Type 0} (a b met a' b' : Seated Call) (a_finds : FindsChain a.known met.known) (a_marks : met.marks ≡ a.marks) (b_finds : FindsChain b.known b'.known) (b_marks : b'.marks ≡ b.marks)
     (more : SeesMore met a') (a_shorter : length a'.marks ≤ length b'.marks → IsFront (history_of a') (history_of b'))
     (b_shorter : length b'.marks ≤ length a'.marks → IsFront (history_of b') (history_of a')) where
   b_stays : history_of b' ≡ history_of b

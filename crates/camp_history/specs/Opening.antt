@@ -2,7 +2,7 @@
 use Rattle.std.specs.Prelude.{◌≡◌, ℕ, ◌≤◌, List, map, All, Result, Ok, Err}
 use Rattle.std.specs.List.{range_with_len}
 use Rattle.camp_row.specs.Known.{newcomer}
-use Rattle.camp_history.specs.Seats.{HeadId, Seated, unseen, IsSeatOf}
+use Rattle.camp_history.specs.Seats.{HeadId, Seated, calls_per_seat, unseen, IsSeatOf}
 use Rattle.camp_history.specs.declared.faults.HeadFault.{HeadFault}
 use Rattle.camp_history.specs.declared.faults.HeadFault.TheVariants.{BadSize, Memory}
 
@@ -21,7 +21,7 @@ seat_at head number = unseen (newcomer head.row number)
 pub record IsOpened {Call : Type 0} (seats per_seat tries : ℕ) (head : HeadId) (made : List (Seated Call))
     : Type 0 where
   pub has_seats : head.row.seats ≡ seats
-  pub has_calls : head.row.per_seat ≡ per_seat
+  pub has_calls : calls_per_seat head ≡ per_seat
   pub has_tries : head.tries ≡ tries
   pub all : made ≡ map (seat_at head) (range_with_len 0 seats)
   pub are_seats : All (IsSeatOf head) made

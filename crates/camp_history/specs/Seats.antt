@@ -37,7 +37,27 @@ pub record IsSeatOf {Call : Type 0} (head : HeadId) (seat : Seated Call) : Type 
   pub stored : All (λ mark. Shows head.store mark.call) seat.marks
   pub front_stored : All (λ mark. Shows head.store mark.call) seat.front
 
+-- how many seats a head has
+abbrev pub seats_of : HeadId → ℕ
+seats_of head = head.row.seats
+
+-- how many calls of each seat of a head can be accepted
+abbrev pub calls_per_seat : HeadId → ℕ
+calls_per_seat head = head.row.per_seat
+
+-- the number of a seat, from 0
+abbrev pub number_of : {Call : Type 0} → Seated Call → ℕ
+number_of seat = seat.known.number
+
+-- how many seats its head has
+abbrev pub seats_beside : {Call : Type 0} → Seated Call → ℕ
+seats_beside seat = seat.known.row.seats
+
+-- how many calls of this seat can be accepted
+abbrev pub most_calls_of : {Call : Type 0} → Seated Call → ℕ
+most_calls_of seat = seat.known.row.per_seat
+
 -- who asks at a seat of a head, and under which bounds; others may add to the history
 abbrev pub caller_at : {Call : Type 0} → HeadId → Seated Call → Caller
 caller_at head seat =
-    record { seat = seat.known.number; tries = head.tries; per_seat = head.row.per_seat; alone = false }
+    record { seat = number_of seat; tries = head.tries; per_seat = calls_per_seat head; alone = false }

@@ -13,7 +13,7 @@ use camp_share::Shared;
 
 impl<State: Object> Head<State> {
     ghost use Rattle.camp_history.specs.Kept.{IsKeptBy};
-    ghost use Rattle.camp_history.specs.Seats.{IsSeatOf, history_of, caller_at};
+    ghost use Rattle.camp_history.specs.Seats.{IsSeatOf, history_of, caller_at, seats_of};
     ghost use Rattle.camp_history.specs.Inside.Steps.{Attempts};
 
     /// Asks a kept call at a seat. It takes part in the history if it is accepted.
@@ -23,7 +23,7 @@ impl<State: Object> Head<State> {
         ensures seat { IsSeatOf self.now seat.new }
         ensures caller { caller_at self.now seat.new ≡ caller_at self.now seat.old }
         ensures asks { Ask State.object (caller_at self.now seat.old) (history_of seat.old) kept.call result (history_of seat.new) }
-        ensures one_seat { self.now.row.seats ≡ 1 → IsNotBusy result }
+        ensures one_seat { seats_of self.now ≡ 1 → IsNotBusy result }
     {
         self.ask_at(seat, kept, &NoGate)
     }
@@ -40,7 +40,7 @@ impl<State: Object> Head<State> {
         ensures seat { IsSeatOf self.now seat.new }
         ensures caller { caller_at self.now seat.new ≡ caller_at self.now seat.old }
         ensures asks { Ask State.object (caller_at self.now seat.old) (history_of seat.old) kept.call result (history_of seat.new) }
-        ensures one_seat { self.now.row.seats ≡ 1 → IsNotBusy result }
+        ensures one_seat { seats_of self.now ≡ 1 → IsNotBusy result }
     {
         let _tries = self.tries;
         let answer = match kept.place {

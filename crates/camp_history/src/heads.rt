@@ -94,7 +94,7 @@ impl<State: Object> Head<State> {
         tries: u32,
         every: u32,
     ) -> Result<(Head<State>, Vec<Seat<State>>), HeadFault>
-        ensures { Opens (λ made. made.0) (λ made. made.1.items) seats per_seat tries every result }
+        ensures opens { Opens (λ made. made.0) (λ made. made.1.items) seats per_seat tries every result }
     {
         if !is_in_range(seats, per_seat, tries, every) {
             return Err(HeadFault::BadSize);

@@ -31,29 +31,29 @@ impl<State: Object> Model for Seat<State> {
 
 impl<State: Object> Seat<State> {
     ghost use Rattle.camp_object.specs.Histories.{IsLegal, own};
-    ghost use Rattle.camp_history.specs.Seats.{history_of};
+    ghost use Rattle.camp_history.specs.Seats.{history_of, most_calls_of, number_of, seats_beside};
 
     /// Its number.
     pub fn number(&self) -> u32
-        ensures number { result ≡ self.now.known.number }
-        ensures below { result < self.now.known.row.seats }
+        ensures number { result ≡ number_of self.now }
+        ensures below { result < seats_beside self.now }
         ensures legal { IsLegal State.object (history_of self.now) }
-        ensures seats_below { All (λ entry. entry.0 < self.now.known.row.seats) (history_of self.now) }
+        ensures seats_below { All (λ entry. entry.0 < seats_beside self.now) (history_of self.now) }
     {
         self.pass.number()
     }
 
     /// How many calls it has seen.
     pub fn position(&self) -> u64
-        ensures { result ≡ length (history_of self.now) }
+        ensures exact { result ≡ length (history_of self.now) }
     {
         self.marks.len() as u64
     }
 
     /// How many calls of its own were accepted.
     pub fn accepted(&self) -> u32
-        ensures accepted { result ≡ length (own self.now.known.number (history_of self.now)) }
-        ensures within { result ≤ self.now.known.row.per_seat }
+        ensures accepted { result ≡ length (own (number_of self.now) (history_of self.now)) }
+        ensures within { result ≤ most_calls_of self.now }
     {
         self.pass.turns()
     }

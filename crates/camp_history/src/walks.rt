@@ -14,7 +14,7 @@ use std::alloc::AllocError;
 
 impl<State: Object> Seat<State> {
     ghost use Rattle.camp_object.specs.Histories.{replay, IsLegal, own};
-    ghost use Rattle.camp_row.specs.Known.{Finds, Leads, ComesNext, IsSound};
+    ghost use Rattle.camp_row.specs.Known.{FindsChain, Leads, ComesNext, IsSound};
     ghost use Rattle.camp_history.specs.Seats.{history_of};
     ghost use Rattle.camp_history.specs.Inside.Steps.{entries_of, DecidesAt, Publishes, FindsMore};
 
@@ -41,10 +41,10 @@ impl<State: Object> Seat<State> {
     /// Both seats find one chain, which begins with what either has seen.
     pub(crate) fn meet(&mut self, row: &Row, other: Seat<State>) -> Seat<State>
         requires { (self.old.known.row ≡ row.now) × (other.known.row ≡ row.now) }
-        ensures self_finds { Finds self.old.known self.new.known }
+        ensures self_finds { FindsChain self.old.known self.new.known }
         ensures self_marks { self.new.marks ≡ self.old.marks }
         ensures self_front { self.new.front ≡ self.old.front }
-        ensures other_finds { Finds other.known result.known }
+        ensures other_finds { FindsChain other.known result.known }
         ensures other_marks { result.marks ≡ other.marks }
         ensures other_front { result.front ≡ other.front }
         ensures one_chain { result.known.ahead ≡ self.new.known.ahead }

@@ -6,7 +6,7 @@ use Rattle.std.proofs.lemmas.Option.{slice_get-get_or, slice_get_within, get_or_
 use Rattle.std.specs.List.{flat_map, slice_get}
 use Rattle.std.specs.FinMap.{entries, values, len, len-entries}
 use Rattle.camp_base.specs.Trees.{Files}
-use Rattle.camp_ctx.specs.Contexts.{InContext, Contexts}
+use Rattle.camp_ctx.specs.Contexts.{ContextedPatch, ContextedPatches}
 use Rattle.camp_ctx.proofs.SetSteps.{count_of_members}
 use Rattle.camp_notation.specs.Words.{row, separator}
 
@@ -49,13 +49,13 @@ all_files text tree n i old now is past so =
     all_items text (entries tree) i old now (omega arith) so
 
 -- a set has a member at each place below its number of members
-pub no_member : (xs : Contexts) (n i : ℕ) → n ≡ len xs → i < n → slice_get (values xs) i ≡ None → ⊥
+pub no_member : (xs : ContextedPatches) (n i : ℕ) → n ≡ len xs → i < n → slice_get (values xs) i ≡ None → ⊥
 no_member xs n i is within none =
     let size = count_of_members xs in
     no_item (values xs) i (omega arith) none
 
 -- all members of a set
-pub all_members : (text : InContext → List ℕ) (xs : Contexts) (n i : ℕ) (old now : List ℕ) → n ≡ len xs → n ≤ i → now ≡ old ++ row text (take i (values xs)) → now ≡ old ++ row text (values xs)
+pub all_members : (text : ContextedPatch → List ℕ) (xs : ContextedPatches) (n i : ℕ) (old now : List ℕ) → n ≡ len xs → n ≤ i → now ≡ old ++ row text (take i (values xs)) → now ≡ old ++ row text (values xs)
 all_members text xs n i old now is past so =
     let size = count_of_members xs in
     all_items text (values xs) i old now (omega arith) so

@@ -2,7 +2,7 @@
 use Rattle.std.specs.Prelude.{ℕ, List, [], ◌∷◌, ◌++◌}
 use Rattle.std.specs.FinMap.{values}
 use Rattle.camp_prim.specs.declared.named.Named.{Named}
-use Rattle.camp_ctx.specs.Contexts.{InContext, Contexts}
+use Rattle.camp_ctx.specs.Contexts.{ContextedPatch, ContextedPatches}
 use Rattle.camp_notation.specs.Words.{row}
 use Rattle.camp_notation.specs.Patches.{named_text}
 use Rattle.camp_notation.specs.Lists.{list_text}
@@ -14,9 +14,9 @@ context_text known (p ∷ []) = named_text known p
 context_text known (p ∷ q ∷ s) = list_text known (p ∷ q ∷ s)
 
 -- CONTEXT:PATCH
-abbrev pub contexted_text : List Named → InContext → List ℕ
+abbrev pub contexted_text : List Named → ContextedPatch → List ℕ
 contexted_text known x = context_text known x.context ++ 58 ∷ named_text known x.patch
 
 -- the members in the order of their labels, in a row, between braces
-abbrev pub set_text : List Named → Contexts → List ℕ
+abbrev pub set_text : List Named → ContextedPatches → List ℕ
 set_text known xs = 123 ∷ row (contexted_text known) (values xs) ++ 125 ∷ []

@@ -7,7 +7,7 @@ use crate::readings::{read_item, read_items};
 use crate::rows::{Row, SQUARE, kept, read_row};
 use crate::{NotationError, catch_text, catches_text};
 use camp_catch::{Catch, Conflictor};
-use camp_ctx::{Contexted, CtxSet};
+use camp_ctx::{Contexted, ContextedSet};
 use camp_prim::Named;
 use camp_seq::Seq;
 use camp_share::Shared;
@@ -15,7 +15,7 @@ use std::alloc::Global;
 
 /// The catch of a text.
 pub fn read_catch(alloc: Global, known: &[Named], text: &[u8]) -> Result<Catch, NotationError>
-    ensures { IfOk result (λ j. text.now ≡ catch_text known.now j) }
+    ensures text { IfOk result (λ j. text.now ≡ catch_text known.now j) }
 {
     let mut cursor = Cursor::new(text);
     let j = read_catch_there(alloc, known, &mut cursor)?;
@@ -47,7 +47,7 @@ pub fn read_catches(
     known: &[Named],
     text: &[u8],
 ) -> Result<Vec<Shared<Catch>>, NotationError>
-    ensures { IfOk result (λ list. text.now ≡ catches_text known.now list.items) }
+    ensures text { IfOk result (λ list. text.now ≡ catches_text known.now list.items) }
 {
     let mut cursor = Cursor::new(text);
     let list = read_row_of_catches(alloc, known, &mut cursor)?;
@@ -147,7 +147,7 @@ fn read_conflicts(
     alloc: Global,
     known: &[Named],
     cursor: &mut Cursor,
-) -> Result<CtxSet, NotationError> {
+) -> Result<ContextedSet, NotationError> {
     cursor.expect(b", ", ',')?;
     read_members(alloc, known, cursor)
 }
@@ -157,7 +157,7 @@ fn read_identity(
     known: &[Named],
     cursor: &mut Cursor,
     effect: Seq,
-    conflicts: CtxSet,
+    conflicts: ContextedSet,
 ) -> Result<Catch, NotationError> {
     match read_last_member(alloc, known, cursor) {
         Ok(identity) => Ok(Catch::Conflictor(Conflictor {

@@ -13,7 +13,7 @@ use std::alloc::{AllocError, Global};
 /// A catch: a plain one as `[p]`, a conflictor as `([p^], {:p}, :q)`, its effect, what it conflicts
 /// with, and its identity. Primitives that are known are written by their labels alone.
 pub fn catch_text(alloc: Global, known: &[Named], j: &Catch) -> Result<String, AllocError>
-    ensures { IfOk result (λ text. string_bytes text ≡ catch_text known.now j.now) }
+    ensures exact { IfOk result (λ text. string_bytes text ≡ catch_text known.now j.now) }
 {
     let mut text = String::new(alloc);
     append_catch(&mut text, known, j)?;
@@ -26,7 +26,7 @@ pub fn catches_text(
     known: &[Named],
     list: &[Shared<Catch>],
 ) -> Result<String, AllocError>
-    ensures { IfOk result (λ text. string_bytes text ≡ catches_text known.now list.now) }
+    ensures exact { IfOk result (λ text. string_bytes text ≡ catches_text known.now list.now) }
 {
     let mut text = String::new(alloc);
     append_catches(&mut text, known, list)?;

@@ -5,7 +5,7 @@ use crate::cursors::Cursor;
 use crate::readings::{read_item, read_items};
 use crate::rows::{CURLY, Row, kept, read_row};
 use crate::{NotationError, contexted_text, set_text};
-use camp_ctx::{Contexted, CtxSet};
+use camp_ctx::{Contexted, ContextedSet};
 use camp_prim::Named;
 use camp_seq::Seq;
 use std::alloc::Global;
@@ -16,7 +16,7 @@ pub fn read_contexted(
     known: &[Named],
     text: &[u8],
 ) -> Result<Contexted, NotationError>
-    ensures { IfOk result (λ x. text.now ≡ contexted_text known.now x) }
+    ensures text { IfOk result (λ x. text.now ≡ contexted_text known.now x) }
 {
     let mut cursor = Cursor::new(text);
     let x = read_member(alloc, known, &mut cursor)?;
@@ -42,8 +42,8 @@ fn expect_contexted(
 
 /// The set of a text. Members in another order than that of their labels, and a label that stands
 /// there twice, are refused as written otherwise.
-pub fn read_set(alloc: Global, known: &[Named], text: &[u8]) -> Result<CtxSet, NotationError>
-    ensures { IfOk result (λ xs. text.now ≡ set_text known.now xs) }
+pub fn read_set(alloc: Global, known: &[Named], text: &[u8]) -> Result<ContextedSet, NotationError>
+    ensures text { IfOk result (λ xs. text.now ≡ set_text known.now xs) }
 {
     let mut cursor = Cursor::new(text);
     let xs = read_members(alloc, known, &mut cursor)?;
@@ -54,7 +54,7 @@ pub fn read_set(alloc: Global, known: &[Named], text: &[u8]) -> Result<CtxSet, N
 fn expect_set(
     alloc: Global,
     known: &[Named],
-    xs: &CtxSet,
+    xs: &ContextedSet,
     cursor: &Cursor,
     text: &[u8],
 ) -> Result<(), NotationError>
@@ -71,13 +71,13 @@ pub(crate) fn read_members(
     alloc: Global,
     known: &[Named],
     cursor: &mut Cursor,
-) -> Result<CtxSet, NotationError> {
-    let mut xs = CtxSet::empty(alloc);
+) -> Result<ContextedSet, NotationError> {
+    let mut xs = ContextedSet::empty(alloc);
     let read = read_row(&mut xs, CURLY, alloc, known, cursor);
     kept(xs, read)
 }
 
-impl Row for CtxSet {
+impl Row for ContextedSet {
     fn read_next(
         &mut self,
         alloc: Global,
@@ -89,7 +89,7 @@ impl Row for CtxSet {
     }
 }
 
-fn insert(xs: &mut CtxSet, x: &Contexted) -> Result<(), NotationError> {
+fn insert(xs: &mut ContextedSet, x: &Contexted) -> Result<(), NotationError> {
     *xs = xs.insert(x)?;
     Ok(())
 }

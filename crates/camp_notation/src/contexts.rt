@@ -6,14 +6,14 @@ ghost use Rattle.camp_notation.specs.Words.{row};
 use crate::lists::append_list;
 use crate::patches::append_named;
 use crate::words::append_separator;
-use camp_ctx::{Contexted, CtxSet};
+use camp_ctx::{Contexted, ContextedSet};
 use camp_prim::Named;
 use std::alloc::{AllocError, Global};
 
 /// A contexted patch, as `:p`, `p:q` and `[a, b]:q`. Primitives that are known are written by their
 /// labels alone.
 pub fn contexted_text(alloc: Global, known: &[Named], x: &Contexted) -> Result<String, AllocError>
-    ensures { IfOk result (λ text. string_bytes text ≡ contexted_text known.now x.now) }
+    ensures exact { IfOk result (λ text. string_bytes text ≡ contexted_text known.now x.now) }
 {
     let mut text = String::new(alloc);
     append_contexted(&mut text, known, x)?;
@@ -21,8 +21,8 @@ pub fn contexted_text(alloc: Global, known: &[Named], x: &Contexted) -> Result<S
 }
 
 /// A set of contexted patches in the order of their labels, as `{:p, p:q}`.
-pub fn set_text(alloc: Global, known: &[Named], xs: &CtxSet) -> Result<String, AllocError>
-    ensures { IfOk result (λ text. string_bytes text ≡ set_text known.now xs.now) }
+pub fn set_text(alloc: Global, known: &[Named], xs: &ContextedSet) -> Result<String, AllocError>
+    ensures exact { IfOk result (λ text. string_bytes text ≡ set_text known.now xs.now) }
 {
     let mut text = String::new(alloc);
     append_set(&mut text, known, xs)?;
@@ -51,7 +51,11 @@ fn append_context(text: &mut String, known: &[Named], context: &[Named]) -> Resu
     }
 }
 
-pub(crate) fn append_set(text: &mut String, known: &[Named], xs: &CtxSet) -> Result<(), AllocError>
+pub(crate) fn append_set(
+    text: &mut String,
+    known: &[Named],
+    xs: &ContextedSet,
+) -> Result<(), AllocError>
     ensures { OnOk result (string_bytes text.new ≡ string_bytes text.old ++ set_text known.now xs.now) }
 {
     text.push('{')?;
@@ -59,7 +63,7 @@ pub(crate) fn append_set(text: &mut String, known: &[Named], xs: &CtxSet) -> Res
     text.push('}')
 }
 
-fn append_members(text: &mut String, known: &[Named], xs: &CtxSet) -> Result<(), AllocError>
+fn append_members(text: &mut String, known: &[Named], xs: &ContextedSet) -> Result<(), AllocError>
     ensures { OnOk result
         (string_bytes text.new ≡ string_bytes text.old ++ row (contexted_text known.now) (values xs.now)) }
 {

@@ -10,7 +10,7 @@ use std::alloc::{AllocError, Global};
 /// A list of labelled primitives, as `[a add f, p f 1 [] -> [x]]`. Those that are known are written
 /// by their labels alone, as `[a, p^]`.
 pub fn list_text(alloc: Global, known: &[Named], s: &Seq) -> Result<String, AllocError>
-    ensures { IfOk result (λ text. string_bytes text ≡ list_text known.now s.now) }
+    ensures exact { IfOk result (λ text. string_bytes text ≡ list_text known.now s.now) }
 {
     let mut text = String::new(alloc);
     append_list(&mut text, known, s.items())?;
@@ -19,7 +19,7 @@ pub fn list_text(alloc: Global, known: &[Named], s: &Seq) -> Result<String, Allo
 
 /// The same primitives one a line, each line with its end: for lists that are long.
 pub fn listing(alloc: Global, known: &[Named], s: &Seq) -> Result<String, AllocError>
-    ensures { IfOk result (λ text. string_bytes text ≡ listing known.now s.now) }
+    ensures exact { IfOk result (λ text. string_bytes text ≡ listing known.now s.now) }
 {
     let mut text = String::new(alloc);
     append_lines_of(&mut text, known, s.items())?;

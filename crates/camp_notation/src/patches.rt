@@ -10,7 +10,7 @@ use std::fmt::Write;
 /// A label: `NAME.PLACE^`, without the place where it is 1, and without the caret
 /// where it is no inverse.
 pub fn label_text(alloc: Global, label: Label) -> Result<String, AllocError>
-    ensures { IfOk result (λ text. string_bytes text ≡ label_text label) }
+    ensures exact { IfOk result (λ text. string_bytes text ≡ label_text label) }
 {
     let mut text = String::new(alloc);
     append_label(&mut text, label)?;
@@ -21,7 +21,7 @@ pub fn label_text(alloc: Global, label: Label) -> Result<String, AllocError>
 /// `p.2^ f 5 [e] -> [g]`. One that is known is written by its label alone, if it is the first of them
 /// with that label.
 pub fn named_text(alloc: Global, known: &[Named], p: &Named) -> Result<String, AllocError>
-    ensures { IfOk result (λ text. string_bytes text ≡ named_text known.now p.now) }
+    ensures exact { IfOk result (λ text. string_bytes text ≡ named_text known.now p.now) }
 {
     let mut text = String::new(alloc);
     append_named(&mut text, known, p)?;

@@ -16,7 +16,7 @@ use std::alloc::Global;
 /// The labelled primitive of a text. A label alone stands for the first of the known primitives with
 /// that label.
 pub fn read_named(alloc: Global, known: &[Named], text: &[u8]) -> Result<Named, NotationError>
-    ensures { IfOk result (λ p. text.now ≡ named_text known.now p) }
+    ensures text { IfOk result (λ p. text.now ≡ named_text known.now p) }
 {
     let mut cursor = Cursor::new(text);
     let p = read_item(alloc, known, &mut cursor)?;
@@ -42,7 +42,7 @@ fn expect_named(
 
 /// The list of a text.
 pub fn read_list(alloc: Global, known: &[Named], text: &[u8]) -> Result<Seq, NotationError>
-    ensures { IfOk result (λ s. text.now ≡ list_text known.now s) }
+    ensures text { IfOk result (λ s. text.now ≡ list_text known.now s) }
 {
     let mut cursor = Cursor::new(text);
     let s = read_items(alloc, known, &mut cursor)?;
@@ -68,7 +68,7 @@ fn expect_list(
 
 /// The tree of a text.
 pub fn read_tree(alloc: Global, text: &[u8]) -> Result<Tree, NotationError>
-    ensures { IfOk result (λ tree. text.now ≡ tree_text tree) }
+    ensures text { IfOk result (λ tree. text.now ≡ tree_text tree) }
 {
     let mut cursor = Cursor::new(text);
     let tree = read_files(alloc, &mut cursor)?;
@@ -93,7 +93,7 @@ fn expect_tree(
 
 /// The bytes of a word.
 pub fn read_word(alloc: Global, text: &[u8]) -> Result<Vec<u8>, NotationError>
-    ensures { IfOk result (λ bytes. text.now ≡ word_text bytes.items) }
+    ensures text { IfOk result (λ bytes. text.now ≡ word_text bytes.items) }
 {
     let mut cursor = Cursor::new(text);
     let bytes = cursor.word(alloc)?;
@@ -118,7 +118,7 @@ fn expect_word(
 
 /// The lines between brackets.
 pub fn read_lines(alloc: Global, text: &[u8]) -> Result<Vec<Line>, NotationError>
-    ensures { IfOk result (λ lines. text.now ≡ lines_text lines.items) }
+    ensures text { IfOk result (λ lines. text.now ≡ lines_text lines.items) }
 {
     let mut cursor = Cursor::new(text);
     let lines = read_row_of_lines(alloc, &mut cursor)?;
@@ -143,7 +143,7 @@ fn expect_lines(
 
 /// The label of a text.
 pub fn read_label(alloc: Global, text: &[u8]) -> Result<Label, NotationError>
-    ensures { IfOk result (λ label. text.now ≡ label_text label) }
+    ensures text { IfOk result (λ label. text.now ≡ label_text label) }
 {
     let mut cursor = Cursor::new(text);
     let label = read_label_there(&mut cursor)?;

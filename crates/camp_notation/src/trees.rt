@@ -8,7 +8,7 @@ use std::alloc::{AllocError, Global};
 
 /// A tree, as `{d/e: [], f: [one, two]}`.
 pub fn tree_text(alloc: Global, tree: &Tree) -> Result<String, AllocError>
-    ensures { IfOk result (λ text. string_bytes text ≡ tree_text tree.now) }
+    ensures exact { IfOk result (λ text. string_bytes text ≡ tree_text tree.now) }
 {
     let mut text = String::new(alloc);
     text.push('{')?;

@@ -8,7 +8,7 @@ use std::alloc::{AllocError, Global};
 /// Bytes as a word: as they are where they are letters, digits and `-`, `.`, `/`, `_`, and else
 /// between quotes, as `"two words"`.
 pub fn word_text(alloc: Global, bytes: &[u8]) -> Result<String, AllocError>
-    ensures { IfOk result (λ text. string_bytes text ≡ word_text bytes.now) }
+    ensures exact { IfOk result (λ text. string_bytes text ≡ word_text bytes.now) }
 {
     let mut text = String::new(alloc);
     append_word(&mut text, bytes)?;
@@ -17,7 +17,7 @@ pub fn word_text(alloc: Global, bytes: &[u8]) -> Result<String, AllocError>
 
 /// Lines as `[one, two]`.
 pub fn lines_text(alloc: Global, lines: &[Line]) -> Result<String, AllocError>
-    ensures { IfOk result (λ text. string_bytes text ≡ lines_text lines.now) }
+    ensures exact { IfOk result (λ text. string_bytes text ≡ lines_text lines.now) }
 {
     let mut text = String::new(alloc);
     append_lines(&mut text, lines)?;

@@ -2,7 +2,7 @@
 use Rattle.std.proofs.Common.{◌≡◌, ℕ, zero, suc, ◌+◌, ◌<◌, ◌≤◌, All, arith, Bool, true, false, List, [], ◌∷◌, ◌++◌, length, Option, Some, None, MatchOption, Result, Ok, Err, refl, sym, ◌∙◌, ap, subst, is_some}
 use Rattle.std.specs.Option.{option_and_then}
 use Rattle.std.proofs.lemmas.Option.{option_and_then_some}
-use Rattle.camp_object.specs.Objects.{Sequential, IsLawful}
+use Rattle.camp_object.specs.Objects.{Sequential, IsLawfulObject}
 use Rattle.camp_object.specs.Histories.{IsFront, replay, IsLegal, IsAccepted, IsAnswered, own}
 use Rattle.camp_object.specs.Asking.{Caller, alone_at, Accepts, AddsNothing, Loses, Says, Ask, IsNotBusy}
 use Rattle.camp_object.specs.declared.faults.Fault.TheVariants.{Memory, Busy, Full}
@@ -12,7 +12,7 @@ use Rattle.camp_object.proofs.Fronts.{front_longer, front_front, length-front}
 use Rattle.camp_object.proofs.Replays.{own_mine, length-own-within, length-own-all, replay_more, some_is_some, state_of_legal}
 
 -- a call that was accepted after what stands before it
-pub ask_done : {State Call Reply : Type 0} (object : Sequential State Call Reply) → IsLawful object → (caller : Caller) (seen before now : List (ℕ × Call)) (call : Call) (at : ℕ) (reply : Reply)
+pub ask_done : {State Call Reply : Type 0} (object : Sequential State Call Reply) → IsLawfulObject object → (caller : Caller) (seen before now : List (ℕ × Call)) (call : Call) (at : ℕ) (reply : Reply)
     → IsFront seen before → own caller.seat before ≡ own caller.seat seen → IsAccepted object before call
     → (caller.alone ≡ false → length (own caller.seat seen) < caller.per_seat) → (caller.alone ≡ true → before ≡ seen)
     → now ≡ before ++ (caller.seat, call) ∷ [] → at ≡ length now → reply ≡ object.done at
@@ -34,7 +34,7 @@ ask_done {Call = Call} {Reply = Reply} object lawful caller seen before now call
     }
 
 -- a call that was not accepted
-pub ask_answered : {State Call Reply : Type 0} (object : Sequential State Call Reply) → IsLawful object → (caller : Caller) (seen now : List (ℕ × Call)) (call : Call) (reply : Reply) (state : State)
+pub ask_answered : {State Call Reply : Type 0} (object : Sequential State Call Reply) → IsLawfulObject object → (caller : Caller) (seen now : List (ℕ × Call)) (call : Call) (reply : Reply) (state : State)
     → IsFront seen now → AddsNothing caller seen now → replay object now ≡ Some state → object.after state call ≡ None → object.answers state call reply
     → Ask object caller seen call (Ok reply) now
 ask_answered object lawful caller seen now call reply state grows adds_nothing replays stays gives =
@@ -81,7 +81,7 @@ accepted_before object caller seen call at now accepts legal =
     sym (ap {B = Bool} is_some (replay_more object accepts.before (caller.seat, call))) ∙ ap {B = Bool} (λ list. is_some (replay object list)) (sym accepts.ends) ∙ legal
 
 -- an accepted call writes
-pub accepted_writes : {State Call Reply : Type 0} (object : Sequential State Call Reply) → IsLawful object → (history : List (ℕ × Call)) (call : Call)
+pub accepted_writes : {State Call Reply : Type 0} (object : Sequential State Call Reply) → IsLawfulObject object → (history : List (ℕ × Call)) (call : Call)
     → IsAccepted object history call → object.is_writing call ≡ true
 accepted_writes object lawful history call accepted =
     let next = state_of_legal (option_and_then (λ s. object.after s call) (replay object history)) accepted in

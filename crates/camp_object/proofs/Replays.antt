@@ -5,7 +5,7 @@ use Rattle.std.proofs.lemmas.Bool.{ne_eqb}
 use Rattle.std.proofs.lemmas.Option.{option_and_then_some, same_Some}
 use Rattle.std.proofs.lemmas.List.{append-nil}
 use Rattle.std.proofs.lemmas.List.Elements.{All-tail}
-use Rattle.camp_object.specs.Objects.{Sequential, IsLawful}
+use Rattle.camp_object.specs.Objects.{Sequential, IsLawfulObject}
 use Rattle.camp_object.specs.Histories.{IsFront, run, replay, IsLegal, IsAccepted, own}
 
 pub run-none : {State Call Reply : Type 0} (object : Sequential State Call Reply) (history : List (ℕ × Call)) → run object None history ≡ None
@@ -48,7 +48,7 @@ legal_front object {front = front} {whole = whole} begins legal =
     )
 
 -- a state counts the calls that led to it
-run_counts : {State Call Reply : Type 0} (object : Sequential State Call Reply) → IsLawful object → (from : Option State) (before : ℕ) (history : List (ℕ × Call)) (to : State)
+run_counts : {State Call Reply : Type 0} (object : Sequential State Call Reply) → IsLawfulObject object → (from : Option State) (before : ℕ) (history : List (ℕ × Call)) (to : State)
     → ((state : State) → from ≡ Some state → object.count state ≡ before) → run object from history ≡ Some to → object.count to ≡ before + length history
 run_counts object lawful from before [] to counts leads = let at = counts to leads in omega arith
 run_counts object lawful from before (entry ∷ history) to counts leads =
@@ -59,7 +59,7 @@ run_counts object lawful from before (entry ∷ history) to counts leads =
     ) leads in
     omega arith
 
-pub count-replay : {State Call Reply : Type 0} (object : Sequential State Call Reply) → IsLawful object → (history : List (ℕ × Call)) (state : State) → replay object history ≡ Some state → object.count state ≡ length history
+pub count-replay : {State Call Reply : Type 0} (object : Sequential State Call Reply) → IsLawfulObject object → (history : List (ℕ × Call)) (state : State) → replay object history ≡ Some state → object.count state ≡ length history
 count-replay object lawful history state replays =
     let counts = run_counts object lawful (Some object.initial) 0 history state (λ first is. ap object.count (same_Some first object.initial (sym is)) ∙ lawful.starts) replays in omega arith
 

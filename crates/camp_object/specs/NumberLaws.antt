@@ -2,7 +2,7 @@
 use Rattle.std.proofs.Common.{◌≡◌, ℕ, ◌+◌, Bool, true, false, List, [], ◌∷◌, ◌++◌, length}
 use Rattle.std.proofs.Common.{None, Some, refl, ap, ◌∙◌, if◌then◌else◌}
 use Rattle.std.proofs.lemmas.List.{length_push}
-use Rattle.camp_object.specs.Objects.{IsLawful}
+use Rattle.camp_object.specs.Objects.{IsLawfulObject}
 use Rattle.camp_object.specs.NumberList.{numbers_object, inserted, has_number, is_insert, position_of, Replies}
 use Rattle.camp_object.specs.declared.numbers.NumberCall.{NumberCall}
 use Rattle.camp_object.specs.declared.numbers.NumberCall.TheVariants.{Insert, Show}
@@ -40,7 +40,7 @@ tells_none numbers Show (Done at) shows = absurd shows
 tells_none numbers Show Present shows = refl
 tells_none numbers Show (Shown list) shows = refl
 
-pub numbers_are_lawful : IsLawful numbers_object
+pub numbers_are_lawful : IsLawfulObject numbers_object
 numbers_are_lawful = record {
   starts = refl;
   counts = counts;

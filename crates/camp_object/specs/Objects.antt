@@ -19,7 +19,7 @@ pub record Sequential (State Call Reply : Type 0) : Type 1 where
   pub done_at : Reply → Option ℕ
 
 -- what holds of every object
-pub record IsLawful {State Call Reply : Type 0} (object : Sequential State Call Reply) : Type 0 where
+pub record IsLawfulObject {State Call Reply : Type 0} (object : Sequential State Call Reply) : Type 0 where
   -- at first no call was accepted, and each accepted call counts one
   pub starts : object.count object.initial ≡ 0
   pub counts : (state : State) (call : Call) (next : State)

@@ -30,7 +30,7 @@ impl<State: Object> Model for Book<State> {
 
 impl<State: Object> Book<State> {
     pub fn new(alloc: Global) -> Result<Book<State>, AllocError>
-        ensures { IfOk result (λ book. book ≡ []) }
+        ensures exact { IfOk result (λ book. book ≡ []) }
     {
         let state = State::initial(alloc)?;
         Ok(Book {
@@ -41,7 +41,7 @@ impl<State: Object> Book<State> {
 
     /// The state after the calls of the history.
     pub fn state(&self) -> &State
-        ensures { replay State.object self.now ≡ Some result.now }
+        ensures exact { replay State.object self.now ≡ Some result.now }
     {
         &self.state
     }
@@ -56,7 +56,7 @@ impl<State: Object> Book<State> {
 
     /// Asks for a seat. An accepted call is booked under it. The only fault is want of memory.
     pub fn ask(&mut self, seat: u32, call: &State::Call) -> Result<State::Reply, Fault>
-        ensures { Ask State.object (alone_at seat) self.old call.now result self.new }
+        ensures asks { Ask State.object (alone_at seat) self.old call.now result self.new }
     {
         self.history.reserve(1)?;
         match self.state.decide(call)? {

@@ -1,5 +1,5 @@
 ghost use Rattle.std.specs.Prelude.{◌≡◌, ◌<◌, ◌^◌, ◌-◌, ◌↔◌, IfOk, IsTrue};
-ghost use Rattle.camp_object.specs.Objects.{Sequential, IsLawful};
+ghost use Rattle.camp_object.specs.Objects.{Sequential, IsLawfulObject};
 ghost use Rattle.camp_object.specs.Deciding.{Decides};
 
 use std::alloc::{AllocError, Global};
@@ -45,5 +45,5 @@ pub trait Object: Sized + Drop {
     fn copy(call: &Self::Call) -> Result<Self::Call, AllocError>
         ensures { IfOk result (λ copy. copy ≡ call.now) };
 
-    ghost lawful: { IsLawful object };
+    ghost lawful: { IsLawfulObject object };
 }

@@ -18,7 +18,7 @@ use Rattle.clap.specs.declared.builder.arg.Arg.{Arg}
 use Rattle.clap.specs.declared.builder.command.Command.{Command}
 use Rattle.clap.specs.declared.builder.value_parser.ValueParser.TheVariants as vp
 use Rattle.clap.specs.declared.parser.matches.ArgMatches.{ArgMatches}
-use Rattle.camp_options.specs.Options.{Writes, program, tries}
+use Rattle.camp_options.specs.Options.{WritesNumber, program, tries}
 use Rattle.clap.proofs.CallerReads.{signed_reads}
 use Rattle.clap.proofs.SimpleLemmas.{all_simple, ready_simple, simple_groups}
 use Rattle.clap.proofs.WalkLemmas.{one_text-rows}
@@ -61,7 +61,7 @@ pub record TriesOf (m : ArgMatches) (read : Option ℕ) : Type 0 where
   pub is : read ≡ Some number
   pub least : 1 ≤ number
   pub most : number ≤ 1000
-  pub writes : Writes (codes "tries") number (rows_of (found_of m))
+  pub writes : WritesNumber (codes "tries") number (rows_of (found_of m))
 
 -- a command that is the program's, and a parse of it
 module _ (c : Command) (m : ArgMatches) (is : app_of c ≡ program) (p : IsParsedFrom c m) where

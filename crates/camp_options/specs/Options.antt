@@ -33,12 +33,12 @@ abbrev pub IsSet : List ℕ → List Row → Type 0
 IsSet name rows = one_of name rows ≡ Some (codes "true")
 
 -- the option's value is a numeral, behind a plus or not, and writes the number
-abbrev pub Writes : List ℕ → ℕ → List Row → Type 0
-Writes name number rows = (text : List ℕ) × (one_of name rows ≡ Some text) × IsNumeral 10 (without_leading_plus text)
+abbrev pub WritesNumber : List ℕ → ℕ → List Row → Type 0
+WritesNumber name number rows = (text : List ℕ) × (one_of name rows ≡ Some text) × IsNumeral 10 (without_leading_plus text)
     × (number ≡ digits_value 10 (without_leading_plus text))
 
 -- the options are those that clap has found
 pub record Given (rows : List Row) (options : Options) : Type 0 where
   pub serial : (options.serial ≡ true) ↔ IsSet (codes "serial") rows
-  pub tries : Writes (codes "tries") options.tries rows
+  pub tries : WritesNumber (codes "tries") options.tries rows
   pub history : (options.history ≡ true) ↔ IsSet (codes "history") rows

@@ -2,11 +2,11 @@ ghost use Rattle.camp_prim.specs.Applied.{AppliedIsApplies, InverseLeadsBack};
 
 /// The tree that a primitive leads to is a function of the tree that it is applied to.
 pub fn applied_is_applies()
-    ensures { AppliedIsApplies }
+    ensures law { AppliedIsApplies }
 {}
 
 /// What a primitive does to a tree, its inverse undoes, and what the inverse undoes the primitive
 /// did.
 pub fn inverse_leads_back()
-    ensures { InverseLeadsBack }
+    ensures law { InverseLeadsBack }
 {}

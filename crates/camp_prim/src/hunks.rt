@@ -68,14 +68,14 @@ impl Hunk {
 
     /// The lines that it takes away.
     pub fn old(&self) -> &[Line]
-        ensures { result.now ≡ self.now.old }
+        ensures exact { result.now ≡ self.now.old }
     {
         self.old.as_slice()
     }
 
     /// The lines that it puts in their place.
     pub fn new(&self) -> &[Line]
-        ensures { result.now ≡ self.now.new }
+        ensures exact { result.now ≡ self.now.new }
     {
         self.new.as_slice()
     }
@@ -115,7 +115,7 @@ impl Hunk {
 
     /// The same hunk. It shares its path and its lines with this one and takes no memory.
     pub fn try_clone(&self) -> Result<Hunk, AllocError>
-        ensures { IfOk result (λ copy. copy ≡ self.now) }
+        ensures exact { IfOk result (λ copy. copy ≡ self.now) }
     {
         let path = self.path.try_clone()?;
         let old = self.old.share()?;
@@ -130,7 +130,7 @@ impl Hunk {
 
     /// Whether all parts of the two are equal.
     pub fn is_same(&self, other: &Hunk) -> bool
-        ensures { IsTrue result ↔ (self.now ≡ other.now) }
+        ensures exact { IsTrue result ↔ (self.now ≡ other.now) }
     {
         if self.path != other.path {
             return false;

@@ -29,7 +29,7 @@ pub struct Label {
 impl Label {
     /// The absolute label: name and place.
     pub fn key(self) -> Key
-        ensures { result ≡ key_of self }
+        ensures exact { result ≡ key_of self }
     {
         Key {
             name: self.name,
@@ -39,7 +39,7 @@ impl Label {
 
     /// The label with the other sign.
     pub fn opposite(self) -> Label
-        ensures { result ≡ opposite self }
+        ensures exact { result ≡ opposite self }
     {
         Label {
             name: self.name,

@@ -22,7 +22,7 @@ pub struct Named {
 impl Named {
     /// The label: name, place and sign.
     pub fn label(&self) -> Label
-        ensures { result ≡ label_of self.now }
+        ensures exact { result ≡ label_of self.now }
     {
         Label {
             name: self.name,
@@ -33,7 +33,7 @@ impl Named {
 
     /// The inverse primitive under the same absolute label, with the other sign.
     pub fn invert(self) -> Named
-        ensures { result ≡ inverse_of self }
+        ensures exact { result ≡ inverse_of self }
     {
         let Named {
             name,
@@ -51,7 +51,7 @@ impl Named {
 
     /// The same primitive under the same label. It takes no memory.
     pub fn try_clone(&self) -> Result<Named, AllocError>
-        ensures { IfOk result (λ copy. copy ≡ self.now) }
+        ensures exact { IfOk result (λ copy. copy ≡ self.now) }
     {
         let prim = self.prim.try_clone()?;
         Ok(Named {
@@ -64,7 +64,7 @@ impl Named {
 
     /// Whether both labels and both primitives are equal.
     pub fn is_same(&self, other: &Named) -> bool
-        ensures { IsTrue result ↔ (self.now ≡ other.now) }
+        ensures exact { IsTrue result ↔ (self.now ≡ other.now) }
     {
         if self.name != other.name {
             return false;
@@ -80,7 +80,7 @@ impl Named {
 
     /// Makes the primitive's change to a tree. After an error the tree is as it was.
     pub fn apply(&self, tree: &mut Tree) -> Result<(), Apply>
-        ensures { Answers (Applies self.now.prim) tree.old result tree.new }
+        ensures exact { Answers (Applies self.now.prim) tree.old result tree.new }
     {
         self.prim.apply(tree)
     }

@@ -23,7 +23,7 @@ impl Primitive {
     /// The hunk of these parts. None where the line is 0, where both sides are empty, or where the
     /// line and the numbers of old and of new lines add up to more than 2^30.
     pub fn hunk(path: Path, line: u32, old: Lines, new: Lines) -> Option<Primitive>
-        ensures { let edit : Edit = record { path = path; line = line; old = old; new = new } in
+        ensures exact { let edit : Edit = record { path = path; line = line; old = old; new = new } in
             MatchOption result (¬ (IsInRange edit)) (λ made. IsInRange edit × (made ≡ Primitive.Hunk edit)) }
     {
         let hunk = Hunk::from_parts(path, line, old, new)?;
@@ -45,7 +45,7 @@ impl Primitive {
     /// What takes it back: adding a file and removing it are inverse, and a hunk's sides change
     /// over.
     pub fn invert(self) -> Primitive
-        ensures { result ≡ inverted self }
+        ensures exact { result ≡ inverted self }
     {
         match self {
             Primitive::Add(path) => Primitive::Remove(path),
@@ -56,7 +56,7 @@ impl Primitive {
 
     /// The same change. It shares its path and its lines with this one and takes no memory.
     pub fn try_clone(&self) -> Result<Primitive, AllocError>
-        ensures { IfOk result (λ copy. copy ≡ self.now) }
+        ensures exact { IfOk result (λ copy. copy ≡ self.now) }
     {
         match self {
             Primitive::Add(path) => Ok(Primitive::Add(path.try_clone()?)),
@@ -67,7 +67,7 @@ impl Primitive {
 
     /// Whether the two are the same change.
     pub fn is_same(&self, other: &Primitive) -> bool
-        ensures { IsTrue result ↔ (self.now ≡ other.now) }
+        ensures exact { IsTrue result ↔ (self.now ≡ other.now) }
     {
         match (self, other) {
             (Primitive::Add(path), Primitive::Add(other)) => path == other,
@@ -79,7 +79,7 @@ impl Primitive {
 
     /// Makes the change to a tree. After an error the tree is as it was.
     pub fn apply(&self, tree: &mut Tree) -> Result<(), Apply>
-        ensures { Answers (Applies self.now) tree.old result tree.new }
+        ensures exact { Answers (Applies self.now) tree.old result tree.new }
     {
         match self {
             Primitive::Add(path) => tree.add_file(path),

@@ -22,7 +22,7 @@ impl Model for Lines {
 impl Lines {
     /// The side of these lines.
     pub fn new(alloc: Global, lines: Vec<Line>) -> Result<Lines, AllocError>
-        ensures { IfOk result (λ side. side ≡ lines.items) }
+        ensures exact { IfOk result (λ side. side ≡ lines.items) }
     {
         let lines = Shared::new(alloc, lines)?;
         Ok(Lines { lines })
@@ -30,7 +30,7 @@ impl Lines {
 
     /// The lines, from the first to the last.
     pub fn as_slice(&self) -> &[Line]
-        ensures { result.now ≡ self.now }
+        ensures exact { result.now ≡ self.now }
     {
         &self.lines
     }

@@ -8,7 +8,7 @@ use crate::{Named, Primitive};
 
 /// Whether `p` and then `q` change places as they are: `p q <-> q p`. It takes no memory.
 pub fn stay(p: &Named, q: &Named) -> bool
-    ensures { IsTrue result ↔ Swap p.now q.now q.now p.now }
+    ensures exact { IsTrue result ↔ Swap p.now q.now q.now p.now }
 {
     if have_same_key(p, q) {
         return false;

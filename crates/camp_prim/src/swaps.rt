@@ -17,7 +17,7 @@ use std::alloc::AllocError;
 pub fn commute(p: &Named, q: &Named) -> Result<Option<(Named, Named)>, AllocError>
     ensures exact { IfOk result (FindsPair (Swap p.now q.now)) }
     ensures laws { IfOk result (λ found. IfSome found (λ pair. SwapLaws p.now q.now pair.0 pair.1)) }
-    ensures wanted { IfErr result (λ error. (q' : Named) × ((p' : Named) × Swap p.now q.now q' p')) }
+    ensures memory { IfErr result (λ error. (q' : Named) × ((p' : Named) × Swap p.now q.now q' p')) }
 {
     if have_same_key(p, q) {
         return Ok(None);
@@ -34,17 +34,17 @@ pub fn commute(p: &Named, q: &Named) -> Result<Option<(Named, Named)>, AllocErro
 
 /// What two primitives become is determined.
 pub fn swap_is_unique()
-    ensures { SwapIsUnique }
+    ensures law { SwapIsUnique }
 {}
 
 /// The laws of swapping two primitives: own inverse, inverse, square and effect.
 pub fn swap_has_laws()
-    ensures { (p q q' p' : Named) → Swap p q q' p' → SwapLaws p q q' p' }
+    ensures law { (p q q' p' : Named) → Swap p q q' p' → SwapLaws p q q' p' }
 {}
 
 /// `commute` answers None exactly where `exchange` answers false, and else both give the same two.
 pub fn commute_is_exchange()
-    ensures { CommuteIsExchange }
+    ensures law { CommuteIsExchange }
 {}
 
 /// The lines to which two primitives move as they change places, where they move.

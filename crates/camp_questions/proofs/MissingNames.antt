@@ -6,7 +6,7 @@ use Rattle.camp_branch.specs.Branches.{has_patch, is_among, names_of}
 use Rattle.camp_branch.proofs.Names.{name_itself, or_true, passes_is_kept, same_name}
 use Rattle.camp_call.specs.declared.calls.Call.TheVariants as call
 use Rattle.camp_object.specs.declared.objects.Decided.TheVariants.{Next}
-use Rattle.camp_repo.specs.Lawful.{IsLawful}
+use Rattle.camp_repo.specs.Lawful.{IsLawfulState}
 use Rattle.camp_repo.specs.Laws.{Has}
 use Rattle.camp_repo.specs.States.{Contents}
 use Rattle.camp_repo.specs.Steps.{is_empty, step}
@@ -32,7 +32,7 @@ among_passed p names = alike_there (is_among (filter p names)) p names (λ name 
 pub same_catches : {o : Option (List Catch)} {catches other : List Catch} → o ≡ Some catches → o ≡ Some other → catches ≡ other
 same_catches e f = same_Some _ _ (sym e ∙ f)
 
-comes : (state next : Contents) (from to : List ℕ) (theirs ours new : List Catch) → IsLawful state → Has state from theirs → Has state to ours → step state (call.Pull from to None) ≡ Next next → Has next to new → names_of new ≡ names_of ours ++ missing_in ours theirs
+comes : (state next : Contents) (from to : List ℕ) (theirs ours new : List Catch) → IsLawfulState state → Has state from theirs → Has state to ours → step state (call.Pull from to None) ≡ Next next → Has next to new → names_of new ≡ names_of ours ++ missing_in ours theirs
 comes state next from to theirs ours new lawful from_has to_has e becomes =
     let pulls = accepted_calls state (call.Pull from to None) next lawful e in
     let the_theirs : pulls.theirs ≡ theirs = same_catches pulls.from_has from_has in

@@ -3,7 +3,7 @@ use Rattle.std.proofs.Common.{◌≡◌, ◌<◌, ◌≤◌, ℕ, zero, suc, ◌
 use Rattle.std.specs.Prelude.{◌↔◌, Contains}
 use Rattle.std.specs.List.{AllByRecursion, list_any}
 use Rattle.camp_catch.specs.declared.catches.Catch.{Catch}
-use Rattle.camp_branch.specs.Branches.{IsLawful, has_patch, is_among, name_of, names_of}
+use Rattle.camp_branch.specs.Branches.{IsLawfulBranch, has_patch, is_among, name_of, names_of}
 use Rattle.camp_branch.proofs.Names.{name_itself, same_name}
 use Rattle.camp_branch.proofs.NamesKept.{among_once}
 use Rattle.camp_repo.specs.Steps.{first_lacked}
@@ -98,7 +98,7 @@ module _ (branch : List Catch) (graph : Drawn) (plain : IsPlain branch) (is : Is
       let later = reached_is_needed between other one.0 rest (sym (has_own between) ∙ is_there branch name between first) one.1 in
       needs_are_least branch (between ∷ []) one.0 needed plain one.1 (alone_among between needed among) (needs_come_first branch (name ∷ []) needed (none_lacked name has) needs).0 other later
 
-  module _ (lawful : IsLawful branch) where
+  module _ (lawful : IsLawfulBranch branch) where
     -- what a patch needs stands before it
     stands_before : (name other : List ℕ) → is_among own name ≡ true → NeedsPatch branch name other → place_of own other < place_of own name
     stands_before name other there needs =

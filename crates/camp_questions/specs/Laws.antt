@@ -12,12 +12,12 @@ use Rattle.camp_prim.specs.declared.primitives.Primitive.{Primitive}
 use Rattle.camp_seq.specs.Room.{HasRoom}
 use Rattle.camp_catch.specs.declared.catches.Catch.{Catch}
 use Rattle.camp_catch.specs.declared.catches.Catch.TheVariants.{Plain}
-use Rattle.camp_branch.specs.Branches.{IsLawful as IsLawfulBranch, LeadsTo, has_patch, is_among, names_of, recorded}
+use Rattle.camp_branch.specs.Branches.{IsLawfulBranch as IsLawfulBranch, LeadsTo, has_patch, is_among, names_of, recorded}
 use Rattle.camp_branch.specs.Laws.{ExactlyOne}
 use Rattle.camp_call.specs.declared.calls.Call.TheVariants as call
 use Rattle.camp_call.specs.declared.replies.Refusal.TheVariants.{NothingToDo}
 use Rattle.camp_object.specs.declared.objects.Decided.TheVariants.{Next}
-use Rattle.camp_repo.specs.Lawful.{IsLawful}
+use Rattle.camp_repo.specs.Lawful.{IsLawfulState}
 use Rattle.camp_repo.specs.Laws.{Has}
 use Rattle.camp_repo.specs.States.{Contents}
 use Rattle.camp_repo.specs.Steps.{first_lacked, refused, step}
@@ -32,7 +32,7 @@ use Rattle.camp_questions.specs.declared.graphs.Node.{Node}
 -- missing none, such a pull has nothing to do
 pub record MissingIsPulled : Type 0 where
   pub comes :
-      (state next : Contents) (from to : List ℕ) (theirs ours new : List Catch) → IsLawful state →
+      (state next : Contents) (from to : List ℕ) (theirs ours new : List Catch) → IsLawfulState state →
       Has state from theirs → Has state to ours → step state (call.Pull from to None) ≡ Next next →
       Has next to new → names_of new ≡ names_of ours ++ missing_in ours theirs
   pub nothing :
@@ -105,7 +105,7 @@ pub record LinesHaveNames : Type 0 where
 -- a patch is shown, in the state after its record, with the changes that were recorded
 abbrev pub RecordedIsShown : Type 0
 RecordedIsShown =
-    (state next : Contents) (branch name : List ℕ) (changes : List Primitive) (catches : List Catch) → IsLawful state →
+    (state next : Contents) (branch name : List ℕ) (changes : List Primitive) (catches : List Catch) → IsLawfulState state →
     step state (call.Record branch name changes) ≡ Next next → Has next branch catches →
     patch_in catches name ≡ record { catches = recorded name 1 changes; changes = changes }
 

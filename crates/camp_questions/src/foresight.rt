@@ -28,7 +28,7 @@ pub struct Standing {
 pub fn what_if(state: &State, call: &Call) -> Result<Foreseen, AllocError>
     requires { state.now.count < 2 ^ 64 - 1 }
     ensures exact { IfOk result (λ seen. Foresees state.now call.now seen) }
-    ensures wanted { IfErr result (λ error. MayWantForesight state.now call.now) }
+    ensures memory { IfErr result (λ error. MayWantForesight state.now call.now) }
 {
     let _lawful = state.count();
     match state.decide(call)? {

@@ -15,7 +15,7 @@ use Rattle.camp_call.specs.declared.replies.Reply.TheVariants as reply
 use Rattle.camp_call.specs.declared.replies.Refusal.{Refusal}
 use Rattle.camp_object.specs.declared.objects.Decided.TheVariants.{Next, Answer}
 use Rattle.camp_repo.specs.Laws.{Has}
-use Rattle.camp_repo.specs.Lawful.{IsLawful}
+use Rattle.camp_repo.specs.Lawful.{IsLawfulState}
 use Rattle.camp_repo.specs.Outcomes.{obliterated, pulled}
 use Rattle.camp_repo.specs.Placing.{placed, settled}
 use Rattle.camp_repo.specs.States.{Contents, after, stands, with_catches}
@@ -47,7 +47,7 @@ conflicts_shown state name catches pairs has are =
     rw has (ap (λ l. Answer (reply.Conflicts l)) ((conflicts_are_determined catches).2 pairs are))
 
 -- a call that is accepted leads to a lawful state
-pub next_lawful : (state : Contents) (call : Call) (next : Contents) → IsLawful state → Next next ≡ step state call → IsLawful next
+pub next_lawful : (state : Contents) (call : Call) (next : Contents) → IsLawfulState state → Next next ≡ step state call → IsLawfulState next
 next_lawful state call next lawful e = steps_lawful state call next lawful (sym e)
 
 module _ (state : Contents) (branch name : List ℕ) (changes : List Primitive) (catches : List Catch) (tree : Files) (has : Has state branch catches) (free : stands state.branches name ≡ false) (small : is_too_large catches changes ≡ false) (leads : LeadsTo catches tree) where
@@ -89,7 +89,7 @@ module _ (state : Contents) (from to : List ℕ) (names : Option (List (List ℕ
         pub pull_settles : settled state place outcome ≡ step_pull state from to names
         pull_settles = settled_by_name state to place outcome there ∙ pull_comes
 
-        pub pull_keeps : IsLawful state → (catches : List Catch) → outcome ≡ Ok catches → IsLawful (after state (placed state.branches place catches))
+        pub pull_keeps : IsLawfulState state → (catches : List Catch) → outcome ≡ Ok catches → IsLawfulState (after state (placed state.branches place catches))
         pull_keeps lawful catches is =
             next_lawful state (call.Pull from to names) _ lawful (ap (settled state place) (sym is) ∙ pull_settles)
 
@@ -106,6 +106,6 @@ module _ (state : Contents) (branch : List ℕ) (names : List (List ℕ)) (catch
     pub obliterate_settles : settled state place outcome ≡ step_obliterate state branch names
     obliterate_settles = settled_by_name state branch place outcome there ∙ obliterate_comes
 
-    pub obliterate_keeps : IsLawful state → (left : List Catch) → outcome ≡ Ok left → IsLawful (after state (placed state.branches place left))
+    pub obliterate_keeps : IsLawfulState state → (left : List Catch) → outcome ≡ Ok left → IsLawfulState (after state (placed state.branches place left))
     obliterate_keeps lawful left is =
         next_lawful state (call.Obliterate branch names) _ lawful (ap (settled state place) (sym is) ∙ obliterate_settles)

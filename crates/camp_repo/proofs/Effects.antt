@@ -17,7 +17,7 @@ use Rattle.camp_call.specs.declared.calls.Call.TheVariants as call
 use Rattle.camp_call.specs.declared.replies.Refusal.TheVariants.{BranchExists, NothingToDo, PatchExists, SameBranch, TooLarge}
 use Rattle.camp_object.specs.declared.objects.Decided.TheVariants.{Next}
 use Rattle.camp_repo.specs.Laws.{AcceptedCallsHaveEffect, ChangesOne, Copies, Has, Obliterates, OutcomesAreDefined, Pulls, Records}
-use Rattle.camp_repo.specs.Lawful.{IsLawful, IsLawfulBy, names_of_branches}
+use Rattle.camp_repo.specs.Lawful.{IsLawfulState, IsLawfulBy, names_of_branches}
 use Rattle.camp_repo.specs.Outcomes.{obliterated, pulled}
 use Rattle.camp_repo.specs.States.{Contents, catches_of, stands, tree_of, with_catches}
 use Rattle.camp_repo.specs.Steps.{accepted, is_empty, is_full_with, is_too_large, listed, shown, step, wanted}
@@ -59,7 +59,7 @@ module _ (state next : Contents) (branch : List ℕ) (old new : List Catch) wher
       )
 
 -- a lawful state has lawful branches
-pub lawful_branch : (state : Contents) (lawful : IsLawful state) (branch : List ℕ) (catches : List Catch) → Has state branch catches → IsLawfulBy lawful.changes_of catches
+pub lawful_branch : (state : Contents) (lawful : IsLawfulState state) (branch : List ℕ) (catches : List Catch) → Has state branch catches → IsLawfulBy lawful.changes_of catches
 lawful_branch state lawful branch catches has =
     of_one (IsLawfulBy lawful.changes_of) state.branches branch catches lawful.lawful has
 
@@ -79,7 +79,7 @@ copies state next new from e =
 same_tree : {o : Option Files} {tree other : Files} → o ≡ Some tree → o ≡ Some other → tree ≡ other
 same_tree e f = same_Some _ _ (sym e ∙ f)
 
-records : (state next : Contents) (branch name : List ℕ) (changes : List Primitive) → IsLawful state → step state (call.Record branch name changes) ≡ Next next → Records branch name changes state next
+records : (state next : Contents) (branch name : List ℕ) (changes : List Primitive) → IsLawfulState state → step state (call.Record branch name changes) ≡ Next next → Records branch name changes state next
 records state next branch name changes lawful e =
     let there = has_branch state next branch _ e in
     let free = passes state next (stands state.branches name) (PatchExists name) _ there.2 in
@@ -100,7 +100,7 @@ records state next branch name changes lawful e =
       applies = changes_apply changes from.0 on.0 on.1;
     }
 
-pulls : (state next : Contents) (from to : List ℕ) (names : Option (List (List ℕ))) → IsLawful state → step state (call.Pull from to names) ≡ Next next → Pulls from to names state next
+pulls : (state next : Contents) (from to : List ℕ) (names : Option (List (List ℕ))) → IsLawfulState state → step state (call.Pull from to names) ≡ Next next → Pulls from to names state next
 pulls state next from to names lawful e =
     let theirs = has_branch state next from _ e in
     let ours = has_branch state next to _ theirs.2 in
@@ -126,7 +126,7 @@ pulls state next from to names lawful e =
       named = ap names_of (sym parts.becomes) ∙ pulls_keep_lawful.names theirs.0 ours.0 other.0 names_wanted gives v w (wanted_is_lacked ours.0 (listed theirs.0 names));
     }
 
-obliterates : (state next : Contents) (branch : List ℕ) (names : List (List ℕ)) → IsLawful state → step state (call.Obliterate branch names) ≡ Next next → Obliterates branch names state next
+obliterates : (state next : Contents) (branch : List ℕ) (names : List (List ℕ)) → IsLawfulState state → step state (call.Obliterate branch names) ≡ Next next → Obliterates branch names state next
 obliterates state next branch names lawful e =
     let there = has_branch state next branch _ e in
     let all = lacks_none state next there.0 names _ there.2 in

@@ -6,7 +6,7 @@ use Rattle.camp_call.specs.declared.calls.Call.{Call}
 use Rattle.camp_object.specs.Histories.{run}
 use Rattle.camp_object.proofs.Replays.{count-replay}
 use Rattle.camp_object.specs.declared.objects.Decided.TheVariants.{Next, Answer}
-use Rattle.camp_repo.specs.Lawful.{IsLawful}
+use Rattle.camp_repo.specs.Lawful.{IsLawfulState}
 use Rattle.camp_repo.specs.Laws.{HistoriesAreCounted, HistoriesAreLawful, HistoriesTellTrees}
 use Rattle.camp_repo.specs.Objects.{next_of, repository}
 use Rattle.camp_repo.specs.ObjectLaws.{repository_is_lawful}
@@ -16,7 +16,7 @@ use Rattle.camp_repo.proofs.StepsLawful.{initial_lawful, steps_lawful, trees_ans
 
 -- a state that is there is lawful
 abbrev IsLawfulIfThere : Option Contents → Type 0
-IsLawfulIfThere o = (state : Contents) → o ≡ Some state → IsLawful state
+IsLawfulIfThere o = (state : Contents) → o ≡ Some state → IsLawfulState state
 
 -- what a decision leads to
 of_decision : (d : Decision) (state : Contents) → next_of d ≡ Some state → d ≡ Next state
@@ -38,7 +38,7 @@ run_lawful (entry ∷ entries) first lawful = run_lawful entries _ (one_more fir
 pub histories_lawful : HistoriesAreLawful
 histories_lawful history state replays =
     run_lawful history (Some initial)
-    (λ first is. subst IsLawful (same_Some initial first is) initial_lawful) state replays
+    (λ first is. subst IsLawfulState (same_Some initial first is) initial_lawful) state replays
 
 pub histories_tell : HistoriesTellTrees
 histories_tell history state branch catches replays has =

@@ -5,7 +5,7 @@ use Rattle.std.specs.List.{AllByRecursion}
 use Rattle.camp_base.specs.Trees.{Files}
 use Rattle.camp_prim.specs.declared.primitives.Primitive.{Primitive}
 use Rattle.camp_catch.specs.declared.catches.Catch.{Catch}
-use Rattle.camp_branch.specs.Branches.{IsLawful as IsLawfulBranch, LeadsTo, Patch, has_patch, is_among, patch_names, recorded}
+use Rattle.camp_branch.specs.Branches.{IsLawfulBranch as IsLawfulBranch, LeadsTo, Patch, has_patch, is_among, patch_names, recorded}
 use Rattle.camp_branch.specs.Laws.{AppliesEach, AreLacked, others_of, those_of}
 use Rattle.camp_branch.specs.Obliterating.{ObliterateGives}
 use Rattle.camp_branch.specs.Pulling.{PullGives}

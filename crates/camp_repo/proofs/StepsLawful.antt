@@ -11,7 +11,7 @@ use Rattle.camp_call.specs.declared.replies.Refusal.TheVariants.{BranchExists, N
 use Rattle.camp_object.specs.declared.objects.Decided.TheVariants.{Next}
 use Rattle.camp_call.specs.declared.replies.Refusal.TheVariants.{NoBranch}
 use Rattle.camp_repo.specs.Laws.{Has, InitialIsLawful, StepsKeepLawful, TreesAreAnswered}
-use Rattle.camp_repo.specs.Lawful.{IsLawful, IsLawfulBy, names_of_branches}
+use Rattle.camp_repo.specs.Lawful.{IsLawfulState, IsLawfulBy, names_of_branches}
 use Rattle.camp_repo.specs.Outcomes.{obliterated, pulled}
 use Rattle.camp_repo.specs.States.{Branches, Contents, catches_of, stands, tree_of, with_catches}
 use Rattle.camp_repo.specs.Steps.{is_empty, is_full_with, is_too_large, listed, refused, shown, step, wanted}
@@ -30,7 +30,7 @@ initial_lawful = record {
 }
 
 -- the branches, one of them with other catches, by these numbers of changes
-pub with_lawful : (state : Contents) (branch : List ℕ) (catches : List Catch) (changes_of : List ℕ → ℕ) → IsLawful state → OfEach (IsLawfulBy changes_of) state.branches → IsLawfulBy changes_of catches → IsLawful (record { branches = with_catches state.branches branch catches; count = state.count + 1 })
+pub with_lawful : (state : Contents) (branch : List ℕ) (catches : List Catch) (changes_of : List ℕ → ℕ) → IsLawfulState state → OfEach (IsLawfulBy changes_of) state.branches → IsLawfulBy changes_of catches → IsLawfulState (record { branches = with_catches state.branches branch catches; count = state.count + 1 })
 with_lawful state branch catches changes_of lawful each new = record {
   distinct = subst AreDistinct (sym (names_stay state.branches branch catches)) lawful.distinct;
   changes_of = changes_of;
@@ -38,7 +38,7 @@ with_lawful state branch catches changes_of lawful each new = record {
 }
 
 -- a copy of a branch under a new name
-pub copy_lawful : (state : Contents) (new from : List ℕ) (catches : List Catch) → IsLawful state → Has state from catches → catches_of state.branches new ≡ None → IsLawful (record { branches = state.branches ++ (new, catches) ∷ []; count = state.count + 1 })
+pub copy_lawful : (state : Contents) (new from : List ℕ) (catches : List Catch) → IsLawfulState state → Has state from catches → catches_of state.branches new ≡ None → IsLawfulState (record { branches = state.branches ++ (new, catches) ∷ []; count = state.count + 1 })
 copy_lawful state new from catches lawful has fresh = record {
   distinct =
       subst AreDistinct (sym (names_grown state.branches ((new, catches) ∷ [])))
@@ -60,15 +60,15 @@ is_none : {X : Type 0} (o : Option X) → is_some o ≡ false → o ≡ None
 is_none None e = refl
 is_none (Some x) e = cc
 
-branch_lawful : (state next : Contents) (new from : List ℕ) → IsLawful state → step state (call.Branch new from) ≡ Next next → IsLawful next
+branch_lawful : (state next : Contents) (new from : List ℕ) → IsLawfulState state → step state (call.Branch new from) ≡ Next next → IsLawfulState next
 branch_lawful state next new from lawful e =
     let there = has_branch state next from _ e in
     let fresh = passes state next (is_some (catches_of state.branches new)) (BranchExists new) _ there.2 in
     let few = passes state next (nat_le 256 (length state.branches)) TooLarge _ fresh.1 in
     let same = next_is state next (state.branches ++ (new, there.0) ∷ []) few.1 in
-    subst IsLawful same (copy_lawful state new from there.0 lawful there.1 (is_none _ fresh.0))
+    subst IsLawfulState same (copy_lawful state new from there.0 lawful there.1 (is_none _ fresh.0))
 
-record_lawful : (state next : Contents) (branch name : List ℕ) (changes : List Primitive) → IsLawful state → step state (call.Record branch name changes) ≡ Next next → IsLawful next
+record_lawful : (state next : Contents) (branch name : List ℕ) (changes : List Primitive) → IsLawfulState state → step state (call.Record branch name changes) ≡ Next next → IsLawfulState next
 record_lawful state next branch name changes lawful e =
     let there = has_branch state next branch _ e in
     let free = passes state next (stands state.branches name) (PatchExists name) _ there.2 in
@@ -84,9 +84,9 @@ record_lawful state next branch name changes lawful e =
     let new = recorded_lawful lawful.changes_of there.0 name changes from.0 on.0 own own_free sized.0 sized.1 leads (changes_apply changes from.0 on.0 on.1) in
     let each = each_still lawful.changes_of name (length changes) state.branches all_free lawful.lawful in
     let same = next_is state next (with_catches state.branches branch (there.0 ++ recorded name 1 changes)) on.2 in
-    subst IsLawful same (with_lawful state branch _ _ lawful each new)
+    subst IsLawfulState same (with_lawful state branch _ _ lawful each new)
 
-pull_lawful : (state next : Contents) (from to : List ℕ) (names : Option (List (List ℕ))) → IsLawful state → step state (call.Pull from to names) ≡ Next next → IsLawful next
+pull_lawful : (state next : Contents) (from to : List ℕ) (names : Option (List (List ℕ))) → IsLawfulState state → step state (call.Pull from to names) ≡ Next next → IsLawfulState next
 pull_lawful state next from to names lawful e =
     let theirs = has_branch state next from _ e in
     let ours = has_branch state next to _ theirs.2 in
@@ -101,9 +101,9 @@ pull_lawful state next from to names lawful e =
     let w = lawful_branch state lawful to ours.0 ours.1 in
     let new = pulled_lawful lawful.changes_of theirs.0 ours.0 other.0 names_wanted gives v w (wanted_is_lacked ours.0 (listed theirs.0 names)) in
     let same = next_is state next (with_catches state.branches to other.0) other.2 in
-    subst IsLawful same (with_lawful state to other.0 lawful.changes_of lawful lawful.lawful new)
+    subst IsLawfulState same (with_lawful state to other.0 lawful.changes_of lawful lawful.lawful new)
 
-obliterate_lawful : (state next : Contents) (branch : List ℕ) (names : List (List ℕ)) → IsLawful state → step state (call.Obliterate branch names) ≡ Next next → IsLawful next
+obliterate_lawful : (state next : Contents) (branch : List ℕ) (names : List (List ℕ)) → IsLawfulState state → step state (call.Obliterate branch names) ≡ Next next → IsLawfulState next
 obliterate_lawful state next branch names lawful e =
     let there = has_branch state next branch _ e in
     let all = lacks_none state next there.0 names _ there.2 in
@@ -112,7 +112,7 @@ obliterate_lawful state next branch names lawful e =
     let gives = obliterate_gives there.0 other.0 names other.1 in
     let new = left_lawful lawful.changes_of there.0 other.0 names gives (lawful_branch state lawful branch there.0 there.1) in
     let same = next_is state next (with_catches state.branches branch other.0) other.2 in
-    subst IsLawful same (with_lawful state branch other.0 lawful.changes_of lawful lawful.lawful new)
+    subst IsLawfulState same (with_lawful state branch other.0 lawful.changes_of lawful lawful.lawful new)
 
 pub steps_lawful : StepsKeepLawful
 steps_lawful state (call.Branch new from) next lawful e = branch_lawful state next new from lawful e

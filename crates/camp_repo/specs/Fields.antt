@@ -1,7 +1,7 @@
 -- How a state lies in its fields.
 use Rattle.std.specs.Prelude.{◌≡◌, length, zip}
 use Rattle.camp_repo.specs.Fronts.{AllHold}
-use Rattle.camp_repo.specs.Lawful.{IsLawful}
+use Rattle.camp_repo.specs.Lawful.{IsLawfulState}
 use Rattle.camp_repo.specs.States.{Contents}
 use Rattle.camp_repo.specs.declared.states.State.TheInside.{Inside}
 
@@ -12,5 +12,5 @@ contents_of state = record { branches = zip state.names.keys state.branches; cou
 -- there are as many names as branches, the state is lawful, and what is known of fronts of its branches holds
 pub record IsState (state : Inside) : Type 0 where
   pub as_many : length state.names.keys ≡ length state.branches
-  pub lawful : IsLawful (contents_of state)
+  pub lawful : IsLawfulState (contents_of state)
   pub known : AllHold (contents_of state).branches state.known

@@ -21,7 +21,7 @@ names_of_branches branches = map (λ branch. branch.0) branches
 
 -- a state is lawful: its branches have distinct names, each branch is lawful, and a patch has the same number of
 -- changes in each branch that has it
-pub record IsLawful (state : Contents) : Type 0 where
+pub record IsLawfulState (state : Contents) : Type 0 where
   pub distinct : AreDistinct (names_of_branches state.branches)
   pub changes_of : List ℕ → ℕ
   pub lawful : AllByRecursion (λ branch. IsLawfulBy changes_of branch.1) state.branches

@@ -14,7 +14,7 @@ use Rattle.camp_call.specs.declared.replies.Reply.TheVariants as reply
 use Rattle.camp_object.specs.Histories.{replay}
 use Rattle.camp_object.specs.Objects as object
 use Rattle.camp_object.specs.declared.objects.Decided.TheVariants.{Next, Answer}
-use Rattle.camp_repo.specs.Lawful.{IsLawful, names_of_branches}
+use Rattle.camp_repo.specs.Lawful.{IsLawfulState, names_of_branches}
 use Rattle.camp_repo.specs.Objects.{repository}
 use Rattle.camp_repo.specs.Outcomes.{conflicts_of, obliterated, pulled}
 use Rattle.camp_repo.specs.States.{Contents, catches_of, initial, tree_of}
@@ -85,31 +85,31 @@ Effect (call.Names branch) old new = ⊥
 -- each accepted call has its effect
 abbrev pub AcceptedCallsHaveEffect : Type 0
 AcceptedCallsHaveEffect =
-    (state : Contents) (call : Call) (next : Contents) → IsLawful state → step state call ≡ Next next →
+    (state : Contents) (call : Call) (next : Contents) → IsLawfulState state → step state call ≡ Next next →
     Effect call state next
 
 -- a new repository is lawful
 abbrev pub InitialIsLawful : Type 0
-InitialIsLawful = IsLawful initial
+InitialIsLawful = IsLawfulState initial
 
 -- from a lawful state each accepted call leads to a lawful one
 abbrev pub StepsKeepLawful : Type 0
 StepsKeepLawful =
-    (state : Contents) (call : Call) (next : Contents) → IsLawful state → step state call ≡ Next next →
-    IsLawful next
+    (state : Contents) (call : Call) (next : Contents) → IsLawfulState state → step state call ≡ Next next →
+    IsLawfulState next
 
 -- each branch of a lawful state has a tree: that which its catches lead to, and with which the question for it is
 -- answered; so no record is refused for want of one
 abbrev pub TreesAreAnswered : Type 0
 TreesAreAnswered =
-    (state : Contents) (branch : List ℕ) (catches : List Catch) → IsLawful state → Has state branch catches →
+    (state : Contents) (branch : List ℕ) (catches : List Catch) → IsLawfulState state → Has state branch catches →
     (tree : Files) × LeadsTo catches tree × (tree_of catches ≡ Some tree)
     × (step state (call.Tree branch) ≡ Answer (reply.Tree tree))
 
 -- every legal history leads to a lawful state
 abbrev pub HistoriesAreLawful : Type 0
 HistoriesAreLawful =
-    (history : List (ℕ × Call)) (state : Contents) → replay repository history ≡ Some state → IsLawful state
+    (history : List (ℕ × Call)) (state : Contents) → replay repository history ≡ Some state → IsLawfulState state
 
 -- after a legal history each branch has a tree: the effects of its catches, in their order, applied to the
 -- empty tree; with it the question for the tree is answered
@@ -135,4 +135,4 @@ pub record OutcomesAreDefined : Type 0 where
 
 -- the repository is an object
 abbrev pub RepositoryIsLawful : Type 0
-RepositoryIsLawful = object.IsLawful repository
+RepositoryIsLawful = object.IsLawfulObject repository

@@ -15,13 +15,13 @@ use Rattle.camp_call.specs.declared.replies.Reply.TheVariants as reply
 use Rattle.camp_call.specs.declared.replies.Refusal.{Refusal}
 use Rattle.camp_call.specs.declared.replies.Refusal.TheVariants.{BranchExists, DoesNotApply, NoBranch, NoPatch}
 use Rattle.camp_call.specs.declared.replies.Refusal.TheVariants.{NothingToDo, PatchExists, SameBranch, TooLarge}
-use Rattle.camp_object.specs.Objects.{IsLawful}
+use Rattle.camp_object.specs.Objects.{IsLawfulObject}
 use Rattle.camp_object.specs.declared.objects.Decided.TheVariants.{Next, Answer}
 use Rattle.camp_repo.specs.Objects.{next_of, number_told, repository}
 use Rattle.camp_repo.specs.Outcomes.{obliterated, pulled}
 use Rattle.camp_repo.specs.States.{Contents, after, catches_of, stands, tree_of, with_catches}
 use Rattle.camp_repo.specs.Steps.{Decision, becomes, changed, first_lacked, is_empty, is_full_with, is_too_large}
-use Rattle.camp_repo.specs.Steps.{listed, record_leads, refused, refused_if, shown, step, wanted}
+use Rattle.camp_repo.specs.Steps.{listed, most_branches, record_leads, refused, refused_if, shown, step, wanted}
 
 -- one thing of the next state, another of the answer
 abbrev pub Comes : (Contents → Type 0) → (Reply → Type 0) → Decision → Type 0
@@ -79,7 +79,7 @@ step_comes state (call.Branch new from) =
     let P = CountsOne state (call.Branch new from) in
     of_branch P TellsNone none_told from _ (catches_of state.branches from)
     (λ catches. past_test P TellsNone none_told (is_some (catches_of state.branches new)) (BranchExists new) _
-    (past_test P TellsNone none_told (nat_le 256 (length state.branches)) TooLarge _ (refl, refl)))
+    (past_test P TellsNone none_told (nat_le most_branches (length state.branches)) TooLarge _ (refl, refl)))
 step_comes state (call.Record branch name changes) =
     let P = CountsOne state (call.Record branch name changes) in
     of_branch P TellsNone none_told branch _ (catches_of state.branches branch)
@@ -127,7 +127,7 @@ tells_exactly (reply.Tree tree) at is = cc
 tells_exactly (reply.Conflicts pairs) at is = cc
 tells_exactly (reply.Names names) at is = cc
 
-pub repository_is_lawful : IsLawful repository
+pub repository_is_lawful : IsLawfulObject repository
 repository_is_lawful = record {
   starts = refl;
   counts = λ state call next is. (on_next (CountsOne state call) TellsNone (step state call) next

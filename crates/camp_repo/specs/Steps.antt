@@ -4,6 +4,7 @@ use Rattle.std.specs.Prelude.{length, filter, Option, None, Some, Result, Ok, Er
 use Rattle.std.specs.Option.{option_map_or}
 use Rattle.std.specs.List.{list_any}
 use Rattle.std.specs.FinMap.{get}
+use Rattle.camp_base.specs.Limits.{most_changes}
 use Rattle.camp_base.specs.Trees.{Files}
 use Rattle.camp_prim.specs.Applied.{applied}
 use Rattle.camp_prim.specs.Swaps.{path_of}
@@ -58,12 +59,16 @@ abbrev pub becomes : Contents → List ℕ → Outcome → Decision
 becomes state branch (Ok catches) = accepted state (with_catches state.branches branch catches)
 becomes state branch (Err why) = refused (refusal_of why)
 
--- a branch is copied; the copy comes last, and there are 256 branches at most
+-- branches in a repository
+abbrev pub most_branches : ℕ
+most_branches = 256
+
+-- a branch is copied; the copy comes last, and there are so many branches at most
 abbrev pub step_branch : Contents → List ℕ → List ℕ → Decision
 step_branch state new from =
     with_branch state from (λ catches.
     refused_if (is_some (catches_of state.branches new)) (BranchExists new) (
-    refused_if (nat_le 256 (length state.branches)) TooLarge (
+    refused_if (nat_le most_branches (length state.branches)) TooLarge (
     accepted state (state.branches ++ (new, catches) ∷ []))))
 
 -- whether a side of a hunk has more than the 65,535 lines that a record takes
@@ -98,7 +103,7 @@ record_leads state branch catches (Err refusal) = refused refusal
 
 -- whether there are as many changes as a patch may have, as there are in each record that a program holds
 abbrev pub is_patch_sized : List Primitive → Bool
-is_patch_sized changes = nat_le 1 (length changes) && nat_le (length changes) 64
+is_patch_sized changes = nat_le 1 (length changes) && nat_le (length changes) most_changes
 
 -- whether a record is too large for a branch: it would have more than 4,096 catches, or a side of a hunk is too long;
 -- or it has not the size of a patch, which no program comes to

@@ -5,7 +5,7 @@ use Rattle.camp_catch.specs.declared.catches.Catch.{Catch}
 use Rattle.camp_call.specs.declared.calls.Call.{Call}
 use Rattle.camp_call.specs.declared.calls.Call.TheVariants as call
 use Rattle.camp_repo.specs.States.{Contents, catches_of, stands}
-use Rattle.camp_repo.specs.Steps.{first_lacked, is_empty, is_too_large, listed}
+use Rattle.camp_repo.specs.Steps.{first_lacked, is_empty, is_too_large, listed, most_branches}
 
 -- there is a branch of a name, with such catches
 abbrev pub HasBranch : Contents → List ℕ → (List Catch → Type 0) → Type 0
@@ -24,7 +24,7 @@ lists_none (Some names) = is_empty names
 pub record MayWantCopy (state : Contents) (new from : List ℕ) : Type 0 where
   pub from_stands : HasBranch state from (λ catches. Unit {0})
   pub is_new : catches_of state.branches new ≡ None
-  pub few : length state.branches < 256
+  pub few : length state.branches < most_branches
 
 -- a record, where its branch is there, its name is free, and it is not too large for the branch
 pub record MayWantRecord (state : Contents) (branch name : List ℕ) (too_large : List Catch → Bool) : Type 0 where

@@ -3,51 +3,51 @@ ghost use Rattle.camp_repo.specs.Laws.{InitialIsLawful, OutcomesAreDefined, Repo
 
 /// A new repository is lawful.
 pub fn initial_is_lawful()
-    ensures { InitialIsLawful }
+    ensures law { InitialIsLawful }
 {}
 
 /// An accepted call leads from a lawful state to a lawful one.
 pub fn steps_keep_lawful()
-    ensures { StepsKeepLawful }
+    ensures law { StepsKeepLawful }
 {}
 
 /// A branch is copied, and the copy comes last; a record puts its patch at the end of its branch; a
 /// pull puts the wanted patches behind those of its branch; an obliteration leaves the others. No
 /// other branch changes, and one more call is counted.
 pub fn accepted_calls_have_effect()
-    ensures { AcceptedCallsHaveEffect }
+    ensures law { AcceptedCallsHaveEffect }
 {}
 
 /// Every legal history leads to a lawful state.
 pub fn histories_are_lawful()
-    ensures { HistoriesAreLawful }
+    ensures law { HistoriesAreLawful }
 {}
 
 /// After every legal history, the tree of a branch is the effects of its catches applied to
 /// the empty tree, and the question for it is answered with that tree.
 pub fn histories_tell_trees()
-    ensures { HistoriesTellTrees }
+    ensures law { HistoriesTellTrees }
 {}
 
 /// A state counts the calls of the history that leads to it: the number that an accepted call is told
 /// is its place in the history, from 1.
 pub fn histories_are_counted()
-    ensures { HistoriesAreCounted }
+    ensures law { HistoriesAreCounted }
 {}
 
 /// Each branch of a lawful state has a tree, with which the question for it is answered.
 pub fn trees_are_answered()
-    ensures { TreesAreAnswered }
+    ensures law { TreesAreAnswered }
 {}
 
 /// What a pull, an obliteration and the question for conflicts come to is what the definitions of
 /// branches say.
 pub fn outcomes_are_defined()
-    ensures { OutcomesAreDefined }
+    ensures law { OutcomesAreDefined }
 {}
 
 /// The repository is an object: it counts its accepted calls, and only calls that write are
 /// accepted.
 pub fn repository_is_lawful()
-    ensures { RepositoryIsLawful }
+    ensures law { RepositoryIsLawful }
 {}

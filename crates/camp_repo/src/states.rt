@@ -3,7 +3,7 @@ ghost use Rattle.std.specs.List.{list_any};
 ghost use Rattle.camp_branch.specs.Branches.{has_patch};
 ghost use Rattle.camp_catch.specs.declared.catches.Catch.{Catch};
 ghost use Rattle.camp_repo.specs.Fronts.{AllHold, catches_in};
-ghost use Rattle.camp_repo.specs.Lawful.{IsLawful};
+ghost use Rattle.camp_repo.specs.Lawful.{IsLawfulState};
 ghost use Rattle.camp_repo.specs.Placing.{placed};
 ghost use Rattle.camp_repo.specs.States.{after, catches_of, initial, stands, with_catches};
 
@@ -27,7 +27,7 @@ pub struct State {
 
 impl Model for State {
     ghost use Rattle.std.specs.Coded.{codes};
-    ghost use Rattle.camp_ctx.specs.declared.sets.CtxSet.{the_code as code_of_sets};
+    ghost use Rattle.camp_ctx.specs.declared.sets.ContextedSet.{the_code as code_of_sets};
     ghost use Rattle.camp_repo.specs.States.{Contents};
 
     ghost Value = { Contents };
@@ -44,7 +44,7 @@ impl Model for State {
 impl State {
     /// A new repository: one branch `main` without a patch, and no call accepted.
     pub fn new(alloc: Global) -> Result<State, AllocError>
-        ensures { IfOk result (λ state. state ≡ initial) }
+        ensures exact { IfOk result (λ state. state ≡ initial) }
     {
         let mut names = IndexSet::new(alloc);
         names.insert(main_name())?;
@@ -62,7 +62,7 @@ impl State {
     /// How many calls were accepted.
     pub fn count(&self) -> u64
         ensures value { result ≡ self.now.count }
-        ensures lawful { IsLawful self.now }
+        ensures lawful { IsLawfulState self.now }
     {
         self.count
     }
@@ -72,7 +72,7 @@ impl State {
         ensures value { MatchOption result
             (catches_of self.now.branches name.now ≡ None)
             (λ branch. catches_of self.now.branches name.now ≡ Some branch.now) }
-        ensures lawful { IsLawful self.now }
+        ensures lawful { IsLawfulState self.now }
     {
         match self.find(name) {
             Some((_, branch)) => Some(branch),
@@ -82,7 +82,7 @@ impl State {
 
     /// A state that is the same. It shares all with this one.
     pub fn try_clone(&self) -> Result<State, AllocError>
-        ensures { IfOk result (λ copy. copy ≡ self.now) }
+        ensures exact { IfOk result (λ copy. copy ≡ self.now) }
     {
         let names = self.names.share()?;
         let branches = self.branches.share()?;
@@ -119,7 +119,7 @@ impl State {
         ensures value { MatchOption result
             (catches_of self.now.branches name.now ≡ None)
             (λ found. catches_of self.now.branches name.now ≡ Some found.1.now) }
-        ensures lawful { IsLawful self.now }
+        ensures lawful { IsLawfulState self.now }
         ensures within { IfSome result (λ found. found.0 < length self.now.branches) }
         ensures placed { IfSome result (λ found. (catches : List Catch) →
             placed self.now.branches found.0 catches ≡ with_catches self.now.branches name.now catches) }
@@ -151,7 +151,7 @@ impl State {
     ) -> Result<State, AllocError>
         requires counts { self.now.count < 2 ^ 64 - 1 }
         requires within { place < length self.now.branches }
-        requires lawful { IsLawful (after self.now (placed self.now.branches place branch)) }
+        requires lawful { IsLawfulState (after self.now (placed self.now.branches place branch)) }
         requires known { AllHold (placed self.now.branches place branch) known }
         ensures { IfOk result (λ next. next ≡ after self.now (placed self.now.branches place branch)) }
     {
@@ -170,7 +170,7 @@ impl State {
     pub(crate) fn with_new_branch(&self, name: &Name, branch: &Branch) -> Result<State, AllocError>
         requires counts { self.now.count < 2 ^ 64 - 1 }
         requires fresh { catches_of self.now.branches name.now ≡ None }
-        requires lawful { IsLawful (after self.now (self.now.branches ++ (name.now, branch.now) ∷ [])) }
+        requires lawful { IsLawfulState (after self.now (self.now.branches ++ (name.now, branch.now) ∷ [])) }
         ensures { IfOk result (λ next. next ≡ after self.now (self.now.branches ++ (name.now, branch.now) ∷ [])) }
     {
         let mut names = (*self.names).clone()?;

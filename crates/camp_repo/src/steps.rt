@@ -1,7 +1,7 @@
 ghost use Rattle.std.specs.Prelude.{◌≡◌, ◌-◌, ◌^◌, ◌<◌, List, Ok, length, IfErr, IfOk};
 ghost use Rattle.camp_catch.specs.declared.catches.Catch.{Catch};
 ghost use Rattle.camp_repo.specs.Fronts.{AllHold};
-ghost use Rattle.camp_repo.specs.Lawful.{IsLawful};
+ghost use Rattle.camp_repo.specs.Lawful.{IsLawfulState};
 ghost use Rattle.camp_repo.specs.Placing.{placed, settled};
 ghost use Rattle.camp_repo.specs.States.{after};
 ghost use Rattle.camp_repo.specs.Steps.{is_too_large, refused, refusal_of, step, step_branch, step_obliterate, step_pull, step_record};
@@ -23,7 +23,7 @@ impl State {
     pub fn decide(&self, call: &Call) -> Result<Decided<State, Reply>, AllocError>
         requires { self.now.count < 2 ^ 64 - 1 }
         ensures exact { IfOk result (λ decided. decided ≡ step self.now call.now) }
-        ensures wanted { IfErr result (λ error. MayWant self.now call.now) }
+        ensures memory { IfErr result (λ error. MayWant self.now call.now) }
     {
         match call {
             Call::Branch { new, from } => self.copy_branch(new, from),
@@ -43,7 +43,7 @@ impl State {
     fn copy_branch(&self, new: &Name, from: &Name) -> Result<Decided<State, Reply>, AllocError>
         requires { self.now.count < 2 ^ 64 - 1 }
         ensures exact { IfOk result (λ decided. decided ≡ step_branch self.now new.now from.now) }
-        ensures wanted { IfErr result (λ error. MayWantCopy self.now new.now from.now) }
+        ensures memory { IfErr result (λ error. MayWantCopy self.now new.now from.now) }
     {
         let Some(branch) = self.branch(from) else {
             return Ok(refused(Refusal::NoBranch(*from)));
@@ -66,7 +66,7 @@ impl State {
     ) -> Result<Decided<State, Reply>, AllocError>
         requires { self.now.count < 2 ^ 64 - 1 }
         ensures exact { IfOk result (λ decided. decided ≡ step_record self.now branch.now name.now changes.now) }
-        ensures wanted { IfErr result (λ error. MayWantRecord self.now branch.now name.now (λ catches. is_too_large catches changes.now)) }
+        ensures memory { IfErr result (λ error. MayWantRecord self.now branch.now name.now (λ catches. is_too_large catches changes.now)) }
     {
         let Some((place, old)) = self.find(branch) else {
             return Ok(refused(Refusal::NoBranch(*branch)));
@@ -94,7 +94,7 @@ impl State {
     ) -> Result<Decided<State, Reply>, AllocError>
         requires { self.now.count < 2 ^ 64 - 1 }
         ensures exact { IfOk result (λ decided. decided ≡ step_pull self.now from.now to.now names.now) }
-        ensures wanted { IfErr result (λ error. MayWantPull self.now from.now to.now names.now) }
+        ensures memory { IfErr result (λ error. MayWantPull self.now from.now to.now names.now) }
     {
         let Some((other, theirs)) = self.find(from) else {
             return Ok(refused(Refusal::NoBranch(*from)));
@@ -128,7 +128,7 @@ impl State {
     fn obliterate(&self, branch: &Name, names: &Names) -> Result<Decided<State, Reply>, AllocError>
         requires { self.now.count < 2 ^ 64 - 1 }
         ensures exact { IfOk result (λ decided. decided ≡ step_obliterate self.now branch.now names.now) }
-        ensures wanted { IfErr result (λ error. MayWantObliterate self.now branch.now names.now) }
+        ensures memory { IfErr result (λ error. MayWantObliterate self.now branch.now names.now) }
     {
         let Some((place, old)) = self.find(branch) else {
             return Ok(refused(Refusal::NoBranch(*branch)));
@@ -155,7 +155,7 @@ impl State {
     ) -> Result<Decided<State, Reply>, AllocError>
         requires counts { self.now.count < 2 ^ 64 - 1 }
         requires within { place < length self.now.branches }
-        requires lawful { (catches : List Catch) → outcome ≡ Ok catches → IsLawful (after self.now (placed self.now.branches place catches)) }
+        requires lawful { (catches : List Catch) → outcome ≡ Ok catches → IsLawfulState (after self.now (placed self.now.branches place catches)) }
         requires known { (catches : List Catch) → outcome ≡ Ok catches → AllHold (placed self.now.branches place catches) known }
         ensures { IfOk result (λ decided. decided ≡ settled self.now place outcome) }
     {
@@ -170,7 +170,7 @@ impl State {
 
     fn show_tree(&self, branch: &Name) -> Result<Decided<State, Reply>, AllocError>
         ensures exact { IfOk result (λ decided. decided ≡ step self.now (Call.Tree branch.now)) }
-        ensures wanted { IfErr result (λ error. HasBranch self.now branch.now (λ catches. Unit {0})) }
+        ensures memory { IfErr result (λ error. HasBranch self.now branch.now (λ catches. Unit {0})) }
     {
         let Some(branch) = self.branch(branch) else {
             return Ok(refused(Refusal::NoBranch(*branch)));
@@ -181,7 +181,7 @@ impl State {
 
     fn show_conflicts(&self, branch: &Name) -> Result<Decided<State, Reply>, AllocError>
         ensures exact { IfOk result (λ decided. decided ≡ step self.now (Call.Conflicts branch.now)) }
-        ensures wanted { IfErr result (λ error. HasBranch self.now branch.now (λ catches. Unit {0})) }
+        ensures memory { IfErr result (λ error. HasBranch self.now branch.now (λ catches. Unit {0})) }
     {
         let Some(branch) = self.branch(branch) else {
             return Ok(refused(Refusal::NoBranch(*branch)));
@@ -192,7 +192,7 @@ impl State {
 
     fn show_names(&self, branch: &Name) -> Result<Decided<State, Reply>, AllocError>
         ensures exact { IfOk result (λ decided. decided ≡ step self.now (Call.Names branch.now)) }
-        ensures wanted { IfErr result (λ error. HasBranch self.now branch.now (λ catches. Unit {0})) }
+        ensures memory { IfErr result (λ error. HasBranch self.now branch.now (λ catches. Unit {0})) }
     {
         let Some(branch) = self.branch(branch) else {
             return Ok(refused(Refusal::NoBranch(*branch)));

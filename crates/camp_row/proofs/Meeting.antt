@@ -6,7 +6,7 @@ use Rattle.camp_row.specs.declared.entries.Entry.{Entry}
 use Rattle.camp_row.specs.declared.knowledge.Knowledge.{Knowledge}
 use Rattle.camp_row.specs.declared.passes.Pass.TheInside.{Inside as PassInside}
 use Rattle.camp_row.specs.Chains.{IsFront}
-use Rattle.camp_row.specs.Known.{Known, Finds, OneBegins}
+use Rattle.camp_row.specs.Known.{Known, FindsChain, OneBegins}
 use Rattle.camp_row.specs.Inside.Parts.{Part, part_of, known_of, parts_of, finds}
 use Rattle.camp_row.specs.Inside.PassFields.{part, known, IsPass}
 use Rattle.camp_row.specs.Inside.Steps.{Sees, Looked}
@@ -55,9 +55,9 @@ found_pass pass seat found chain alone slots sees is = at_part (record pass { se
 
 -- and what contracts see of it
 pub finds_known : (pass : PassInside) (seat : Seat (Unit {0}) Knowledge) (found : ℕ) (chain : List Entry) → seat.table_id ≡ pass.seat.table_id → seat.me.0.parts ≡ finds chain (part pass) ∷ [] → Sees found chain (part pass)
-    → Finds (known pass) (known_of seat.table_id (part_of seat.me.0.parts))
+    → FindsChain (known pass) (known_of seat.table_id (part_of seat.me.0.parts))
 finds_known pass seat found chain table alone sees =
-    subst (Finds (known pass)) (sym (known_at seat.table_id seat.me.0.parts (finds chain (part pass)) alone)) (record {
+    subst (FindsChain (known pass)) (sym (known_at seat.table_id seat.me.0.parts (finds chain (part pass)) alone)) (record {
       is = ap (λ t. known_of t (finds chain (part pass))) table;
       grows = sees.grows;
       sound = record { front = sees.sound.front; own_seen = sees.sound.own_seen };

@@ -31,7 +31,7 @@ pub record IsSound (known : Known) : Type 0 where
   pub own_seen : own known.number known.ahead ≡ own known.number known.seen
 
 -- the chain was found: it has only grown, it begins with what was seen, and the seat has no new entry in it
-pub record Finds (old new : Known) : Type 0 where
+pub record FindsChain (old new : Known) : Type 0 where
   pub is : new ≡ record old { ahead = new.ahead }
   pub grows : IsFront old.ahead new.ahead
   pub sound : IsSound new

@@ -49,7 +49,7 @@ fn place_word(cell: usize) -> usize
 impl Row {
     ghost use Rattle.camp_row.specs.Chains.{turns};
     ghost use Rattle.camp_row.specs.Inside.Parts.{all_fresh};
-    ghost use Rattle.camp_row.specs.Known.{newcomer, Finds, Leads, ComesNext, IsDrafted, with_draft, Won, Lost, OneBegins};
+    ghost use Rattle.camp_row.specs.Known.{newcomer, FindsChain, Leads, ComesNext, IsDrafted, with_draft, Won, Lost, OneBegins};
 
     /// A row with nothing published, and a pass for each of its seats, in their order. It has
     /// `1 + 2 * seats * per_seat` words of eight bytes, for which it takes twice the memory while
@@ -110,7 +110,7 @@ impl Row {
     /// Finds the chain.
     pub fn look(&self, pass: &mut Pass)
         requires { pass.old.row ≡ self.now }
-        ensures { Finds pass.old pass.new }
+        ensures finds { FindsChain pass.old pass.new }
     {
         pass.head = self.table.shared.load::<Look>(&mut pass.seat, 0);
     }
@@ -178,7 +178,7 @@ impl Row {
     pub fn advance(&self, pass: &mut Pass, next: Next)
         requires row { pass.old.row ≡ self.now }
         requires next { ComesNext pass.old next }
-        ensures { pass.new ≡ record pass.old { seen = pass.old.seen ++ next.entry ∷ [] } }
+        ensures exact { pass.new ≡ record pass.old { seen = pass.old.seen ++ next.entry ∷ [] } }
     {
         self.table
             .shared
@@ -218,7 +218,7 @@ impl Row {
     pub fn draft(&self, pass: &mut Pass, place: usize)
         requires row { pass.old.row ≡ self.now }
         requires room { turns pass.old.number pass.old.seen < self.now.per_seat }
-        ensures { pass.new ≡ with_draft pass.old place }
+        ensures exact { pass.new ≡ with_draft pass.old place }
     {
         let cell = self.own_cell(pass);
         let shared = &self.table.shared;
@@ -232,7 +232,7 @@ impl Row {
         requires row { pass.old.row ≡ self.now }
         requires room { turns pass.old.number pass.old.seen < self.now.per_seat }
         requires drafted { IsDrafted pass.old }
-        ensures { MatchBool result (Won pass.old pass.new) (Lost pass.old pass.new) }
+        ensures exact { MatchBool result (Won pass.old pass.new) (Lost pass.old pass.new) }
     {
         let own = self.own_cell(pass) as u64 + 1;
         let found = self
@@ -252,8 +252,8 @@ impl Row {
     /// Both passes find one chain, which begins with what either has seen.
     pub fn meet(&self, a: &mut Pass, b: Pass) -> Pass
         requires { (a.old.row ≡ self.now) × (b.row ≡ self.now) }
-        ensures a { Finds a.old a.new }
-        ensures b { Finds b result }
+        ensures a { FindsChain a.old a.new }
+        ensures b { FindsChain b result }
         ensures one_chain { result.ahead ≡ a.new.ahead }
         ensures one_begins { OneBegins a.old b }
         ensures apart { a.old.number ≢ b.number }

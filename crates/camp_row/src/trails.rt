@@ -21,7 +21,7 @@ impl Model for Trail {
 impl Trail {
     /// How many entries it leads to.
     pub fn len(&self) -> usize
-        ensures { result ≡ length self.now }
+        ensures exact { result ≡ length self.now }
     {
         self.cells.len()
     }

@@ -21,7 +21,7 @@ use Rattle.camp_repo.specs.States.{Contents, catches_of, initial}
 use Rattle.camp_repo.specs.Steps.{Decision, refused, refused_if, step}
 use Rattle.camp_run.specs.Keeping.{KeptLeadsBack, SeatZeroStays, at_seat_0, dones}
 use Rattle.camp_run.specs.Serial.{accepted_from, booked}
-use Rattle.camp_script.specs.Canonical.{IsCall, CanBeWritten}
+use Rattle.camp_script.specs.Canonical.{IsScriptCall, CanBeWritten}
 use Rattle.camp_script.specs.Keeping.{CanStand, ListsNames, calls_of}
 use Rattle.camp_script.proofs.CanonicalCalls.{reads_back}
 
@@ -101,7 +101,7 @@ retraces (entry ∷ history) state end leads =
     retraced state end entry history (step state entry.1) refl leads (λ next further. retraces history next end further)
 
 can_stand : (calls : List Call) → AllByRecursion CanStand calls → AllByRecursion ListsNames calls
-    → AllByRecursion IsCall calls
+    → AllByRecursion IsScriptCall calls
 can_stand [] stand lists = tt
 can_stand (asked ∷ calls) stand lists = (stand.0 lists.0, can_stand calls stand.1 lists.1)
 
@@ -111,7 +111,7 @@ run_at_seat_0 [] from = refl
 run_at_seat_0 (entry ∷ history) from =
     run_at_seat_0 history (option_and_then (λ s. repository.after s entry.1) from)
 
-can_be_written : (history : Entries) → AllByRecursion IsCall (calls_of history) → length history ≤ 65_536
+can_be_written : (history : Entries) → AllByRecursion IsScriptCall (calls_of history) → length history ≤ 65_536
     → CanBeWritten (calls_of history ∷ [])
 can_be_written history are few =
     let short = count_by-le-length is_writing (calls_of history) in

@@ -7,7 +7,7 @@ use Rattle.camp_object.specs.declared.faults.Fault.{Fault}
 use Rattle.camp_object.specs.declared.faults.Fault.TheVariants.{Memory, Busy, Full}
 use Rattle.camp_call.specs.declared.calls.Call.{Call}
 use Rattle.camp_call.specs.declared.replies.Reply.{Reply}
-use Rattle.camp_clients.specs.Answers.{Says, SaysAlone}
+use Rattle.camp_clients.specs.Answers.{SaysAmongThreads, SaysAlone}
 use Rattle.camp_clients.specs.Runs.{IsLocked, IsShared, OneByOne, SaysSomewhere}
 use Rattle.camp_clients.specs.Sections.{Section}
 use Rattle.camp_repo.specs.Objects.{repository}
@@ -26,7 +26,7 @@ alone_has seat before call (Ok reply) front says = reply_has reply
 alone_has seat before call (Err fault) front says = absurd says
 
 shared_has : (seat tries : ℕ) (before : Entries) (call : Call) (answer : Result Reply Fault) (front : Entries)
-    → Says repository seat tries before call answer front → HasText answer
+    → SaysAmongThreads repository seat tries before call answer front → HasText answer
 shared_has seat tries before call (Ok reply) front says = reply_has reply
 shared_has seat tries before call (Err Memory) front says = absurd says
 shared_has seat tries before call (Err (Busy lost)) front says = λ is. cc
@@ -87,11 +87,11 @@ module _ (sections : List (List Call)) (answers : List (List (Result Reply Fault
   shared_section : (tries : ℕ) → IsShared repository tries sections answers history
       → (seat : ℕ) → seat < length answers → All HasText (get_or answers seat [])
   shared_section tries is zero within =
-      section_has (Says repository 0 tries) (shared_has 0 tries) [] (get_or sections 0 []) (get_or answers 0 [])
+      section_has (SaysAmongThreads repository 0 tries) (shared_has 0 tries) [] (get_or sections 0 []) (get_or answers 0 [])
       is.opening.last is.opening.fronts
   shared_section tries is (suc k) within =
       let client = is.clients (suc k) (omega arith) (omega (arith, within, is.as_many)) in
-      section_has (Says repository (suc k) tries) (shared_has (suc k) tries) is.opening.last
+      section_has (SaysAmongThreads repository (suc k) tries) (shared_has (suc k) tries) is.opening.last
       (get_or sections (suc k) []) (get_or answers (suc k) []) client.last client.fronts
 
   pub shared_texts : (tries : ℕ) → IsShared repository tries sections answers history → HaveTexts answers

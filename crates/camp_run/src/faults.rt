@@ -25,7 +25,7 @@ pub enum RunFault {
 impl RunFault {
     /// The exit status of a program that ends with it.
     pub fn status(&self) -> u8
-        ensures { result ≡ status_of self.now }
+        ensures exact { result ≡ status_of self.now }
     {
         match self {
             RunFault::Script(_) => 1,

@@ -4,29 +4,29 @@ ghost use Rattle.camp_run.specs.Laws.{LockedSectionIsSerial, OneByOneIsSerial, S
 /// A script of one section comes over a lock to the answers and the history that it comes to in one
 /// thread, so `run_locked` writes what `run_book` writes.
 pub fn locked_section_is_serial()
-    ensures { LockedSectionIsSerial }
+    ensures law { LockedSectionIsSerial }
 {}
 
 /// A script of one section comes over a head to the answers and the history that it comes to in one
 /// thread, so `run_head` writes what `run_book` writes.
 pub fn shared_section_is_serial()
-    ensures { SharedSectionIsSerial }
+    ensures law { SharedSectionIsSerial }
 {}
 
 /// Sections that `camp_clients::serial` asks come to the answers and the history that the definitions of a
 /// serial run say, which are functions of the sections alone.
 pub fn one_by_one_is_serial()
-    ensures { OneByOneIsSerial }
+    ensures law { OneByOneIsSerial }
 {}
 
 /// A history of 65,536 calls at most that leads to a state is kept by its text: read as a script and asked
 /// of a new repository, each of its calls is accepted, and they come to the same state, and to the
 /// same history but for the seats.
 pub fn kept_text_leads_back()
-    ensures { KeptLeadsBack }
+    ensures law { KeptLeadsBack }
 {}
 
 /// A history whose calls are all at seat 0, as that of a book at one seat, comes back as it was.
 pub fn seat_zero_stays()
-    ensures { SeatZeroStays }
+    ensures law { SeatZeroStays }
 {}

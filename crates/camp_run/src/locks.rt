@@ -24,7 +24,7 @@ pub fn run_locked<T: Threads + Wait + Sync, R: Read, W: Write>(
     writer: &mut W,
     history: bool,
 ) -> Result<(), RunFault>
-    ensures { Runs (IsLocked repository) history
+    ensures runs { Runs (IsLocked repository) history
         (R.remaining reader.old) (R.remaining reader.new) (W.contents writer.old) result (W.contents writer.new) }
 {
     let text = locked_output(rt, alloc, reader, history)?;

@@ -15,7 +15,7 @@ use Rattle.camp_script.specs.Commands.{Command, Nothing, Ask, BeginEdit, BeginGr
 use Rattle.camp_script.specs.Faults.{fault_at}
 use Rattle.camp_script.specs.Lines.{words_of}
 use Rattle.camp_script.specs.Pieces.{NumberedLine, Entry, Item, numbered, up_to, pieces, begins_with, begins_edit, begins_group, words_on, ends_body, entries_of, entry_words, ends_group, items_of, first_section, clients_of}
-use Rattle.camp_script.specs.Reading.{is_full, with_command, after_item, after_client, script_of_lines}
+use Rattle.camp_script.specs.Reading.{is_full, with_asked, after_item, after_client, script_of_lines}
 use Rattle.camp_script.specs.Words.{◌>>=◌, in_turn}
 use Rattle.camp_script.specs.Inside.Progress.{OpenEdit, OpenRecord, Progress, start, after_change}
 use Rattle.camp_script.specs.Inside.Steps.{obey, heed, read_from}
@@ -197,7 +197,7 @@ module _ (n : ℕ) (bytes : List ℕ) (lines : List (List ℕ)) (next : Agrees (
   -- the rest of the script, where its first line asks for this in its section, and begins an edit or a group or not
   abbrev section_where : Bool → Bool → Result Command LineFault → Result (List (List Call)) LineFault
   section_where edits groups asked =
-      ((asked >>= with_command calls (item edits groups)) >>= λ calls. in_turn after_item calls (first_section (items_from groups (behind_line edits))))
+      ((asked >>= with_asked calls (item edits groups)) >>= λ calls. in_turn after_item calls (first_section (items_from groups (behind_line edits))))
       >>= λ calls. in_turn after_client (closed ++ calls ∷ []) (clients_of (items_from groups (behind_line edits)))
 
   -- the same, where the line is one of a client

@@ -10,7 +10,7 @@ use Rattle.camp_prim.specs.declared.primitives.Primitive.{Primitive}
 use Rattle.camp_prim.specs.declared.primitives.Primitive.TheVariants.{Add, Remove}
 use Rattle.camp_call.specs.declared.calls.Call.{Call}
 use Rattle.camp_call.specs.declared.calls.Call.TheVariants as call
-use Rattle.camp_script.specs.Canonical.{IsCall, IsChange, IsListed, AreNames}
+use Rattle.camp_script.specs.Canonical.{IsScriptCall, IsChange, IsListed, AreNames}
 use Rattle.camp_script.specs.Changes.{GroupLine, NoChange, WholeChange, EditChange, EndGroup, whole_change, edit_change, change_of, group_line_of}
 use Rattle.camp_script.specs.Commands.{Command, Nothing, Ask, BeginEdit, BeginGroup, BeginSection, branch_line, whole_record, edit_record, record_of, record_line, listed, pull_line, obliterate_line, branch_at, question, command, command_of}
 use Rattle.camp_script.specs.Pieces.{begins_with, begins_edit, begins_group}
@@ -56,7 +56,7 @@ names_good n (word ∷ words) =
 -- what a line asks for can be done
 abbrev pub CanBeAsked : Command → Type 0
 CanBeAsked Nothing = Unit {0}
-CanBeAsked (Ask new) = IsCall new
+CanBeAsked (Ask new) = IsScriptCall new
 CanBeAsked (BeginEdit branch name path place) = Name branch × Name name × Path path × Place place
 CanBeAsked (BeginGroup branch name) = Name branch × Name name
 CanBeAsked BeginSection = Unit {0}
@@ -164,7 +164,7 @@ module _ (n : ℕ) where
       bind Name P (name_at n branch) _ (name_good n branch) (λ branch a. bind Name P (name_at n name) _ (name_good n name) (λ name b. h branch name a b))
 
   whole_fits : (words : List (List ℕ)) (change : List ℕ → Primitive) → ((path : List ℕ) → Path path → IsChange (change path)) → (branch name path : List ℕ)
-      → ((asked : Call) → IsCall asked → Fits words (Ask asked)) → Holds (Fits words) (whole_record change n branch name path)
+      → ((asked : Call) → IsScriptCall asked → Fits words (Ask asked)) → Holds (Fits words) (whole_record change n branch name path)
   whole_fits words change fits branch name path h =
       named_fits (Fits words) branch name _ (λ branch name a b. bind Path (Fits words) (path_at n path) _ (path_good n path) (λ path c.
       record { value = h (call.Record branch name (change path ∷ [])) (a, b, (omega arith, omega arith), (fits path c, tt)) }))

@@ -14,7 +14,7 @@ use Rattle.camp_prim.specs.declared.primitives.Primitive.TheVariants.{Add, Remov
 use Rattle.camp_call.specs.Calls.{is_writing}
 use Rattle.camp_call.specs.declared.calls.Call.{Call}
 use Rattle.camp_call.specs.declared.calls.Call.TheVariants as call
-use Rattle.camp_script.specs.Canonical.{ReadsBack, IsCall, IsChange, AreNames, IsListed, change_head, change_body, change_text, record_text, call_text, section_text, client_text, script_text}
+use Rattle.camp_script.specs.Canonical.{ReadsBack, IsScriptCall, IsChange, AreNames, IsListed, change_head, change_body, change_text, record_text, call_text, section_text, client_text, script_text}
 use Rattle.camp_script.specs.Words.{◌>>=◌, name_at, names_at, path_at, number_at, is_line_number}
 use Rattle.camp_script.specs.HistoryTexts.{listed_words}
 use Rattle.camp_prim.specs.Hunks.{Edit, IsInRange}
@@ -291,7 +291,7 @@ record_read n closed done branch name (change ∷ []) rest b m some few h room =
     same_bytes _ _ (append_assoc (line_text (codes "record" ∷ branch ∷ name ∷ change_head change)) (change_body change) rest) (alone_read n closed done branch name change rest b m h.0 room)
 record_read n closed done branch name (change ∷ next ∷ changes) rest b m some few h room = group_read n closed done branch name (change ∷ next ∷ changes) rest b m some few h room
 
-call_read : (n : ℕ) (closed : List (List Call)) (done : List Call) (new : Call) (rest : List ℕ) → IsCall new → (is_writing new ≡ true → is_full done ≡ false) → Reads n (after closed done) (call_text new ++ rest) (after closed (done ++ new ∷ [])) rest
+call_read : (n : ℕ) (closed : List (List Call)) (done : List Call) (new : Call) (rest : List ℕ) → IsScriptCall new → (is_writing new ≡ true → is_full done ≡ false) → Reads n (after closed done) (call_text new ++ rest) (after closed (done ++ new ∷ [])) rest
 call_read n closed done (call.Branch new from) rest h room =
     call_line_read n closed done (call.Branch new from) (codes "branch") (new ∷ from ∷ []) rest (refl, (name_is_word new h.0, (name_is_word from h.1, tt))) (two_named n new from _ h.0 h.1) room
 call_read n closed done (call.Record branch name changes) rest h room = record_read n closed done branch name changes rest h.0 h.1 h.2.0 h.2.1 h.3 (room refl)
@@ -315,7 +315,7 @@ room_for done new calls few writes =
     let less : count_by is_writing done < 65_536 = omega arith in
     grind (arith, nat_tests)
 
-section_read : (n : ℕ) (closed : List (List Call)) (done calls : List Call) (rest : List ℕ) → AllByRecursion IsCall calls → count_by is_writing (done ++ calls) ≤ 65_536 → Reads n (after closed done) (section_text calls ++ rest) (after closed (done ++ calls)) rest
+section_read : (n : ℕ) (closed : List (List Call)) (done calls : List Call) (rest : List ℕ) → AllByRecursion IsScriptCall calls → count_by is_writing (done ++ calls) ≤ 65_536 → Reads n (after closed done) (section_text calls ++ rest) (after closed (done ++ calls)) rest
 section_read n closed done [] rest h few = record { line = n; is = ap (λ d. read_from n (after closed d) (lines_of rest)) (sym (append-nil done)) }
 section_read n closed done (new ∷ calls) rest h few =
     same_bytes (section_text (new ∷ calls) ++ rest) _ (ap (λ t. t ++ rest) (flat_map-cons call_text new calls) ∙ append_assoc (call_text new) (section_text calls) rest)
@@ -330,7 +330,7 @@ AreFew sections = AllByRecursion (λ section. count_by is_writing section ≤ 65
 may_begin : (closed : List (List Call)) → length closed < 63 → nat_le 63 (length closed) ≡ false
 may_begin closed few = grind (arith, nat_tests)
 
-clients_read : (n : ℕ) (closed : List (List Call)) (done : List Call) (clients : List (List Call)) → AllByRecursion (AllByRecursion IsCall) clients → AreFew clients → length closed + length clients ≤ 63
+clients_read : (n : ℕ) (closed : List (List Call)) (done : List Call) (clients : List (List Call)) → AllByRecursion (AllByRecursion IsScriptCall) clients → AreFew clients → length closed + length clients ≤ 63
     → read_from n (after closed done) (lines_of (flat_map client_text clients)) ≡ Ok (closed ++ done ∷ clients)
 clients_read n closed done [] h writes few = refl
 clients_read n closed done (calls ∷ clients) h writes few =

@@ -4,7 +4,7 @@ use Rattle.std.proofs.lemmas.Bool.{cond-true, cond-false}
 use Rattle.std.specs.Prelude.{bytes_eq, codes, Result}
 use Rattle.std.proofs.Math.Seq.{take-append_seam}
 use Rattle.camp_script.specs.Commands.{Command, command, short_command, pull_line, obliterate_line, record_line, question}
-use Rattle.camp_script.specs.Gives.{GivesLine}
+use Rattle.camp_script.specs.Gives.{GivesFaultFirst}
 use Rattle.camp_script.specs.Changes.{GroupLine, change_of, group_line_of}
 use Rattle.camp_script.specs.Inside.Progress.{Progress, OpenRecord}
 use Rattle.camp_script.specs.Inside.Asking.{Asks}
@@ -53,9 +53,9 @@ module _ (line : ℕ) (progress : Progress) (word : List ℕ) (result : Result A
 -- a line of a group, by its first words
 pub group_words : (line count : ℕ) (progress : Progress) (begun : OpenRecord) (word : List ℕ) (words all bytes : List (List ℕ)) (result : Result Progress ScriptFault)
     → bytes ≡ word ∷ all → (slice_index word 0 == 35) ≡ false → words ≡ take 6 all
-    → GivesLine result (heeded line progress begun (change_of line count word words)) → GivesLine result (heeded line progress begun (group_line_of line count bytes))
+    → GivesFaultFirst result (heeded line progress begun (change_of line count word words)) → GivesFaultFirst result (heeded line progress begun (group_line_of line count bytes))
 group_words line count progress begun word words all bytes result is says first given =
-    subst (λ (said : Result GroupLine LineFault). GivesLine result (heeded line progress begun said))
+    subst (λ (said : Result GroupLine LineFault). GivesFaultFirst result (heeded line progress begun said))
     (ap (change_of line count word) first ∙ six_are_enough_in_group line count word all ∙ sym (cond-false _ _ _ says) ∙ ap (group_line_of line count) (sym is)) given
 
 -- as many as six, at the front

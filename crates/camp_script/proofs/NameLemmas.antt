@@ -1,7 +1,7 @@
 -- Names that are read word by word.
 use Rattle.std.proofs.Common.{◌≡◌, ◌≢◌, ℕ, List, [], ◌∷◌, ◌++◌, refl, sym, ap, subst, ◌∙◌, append_assoc, append-nil, Result, Ok, Err}
 use Rattle.camp_script.specs.Words.{◌>>=◌, name_at, names_at}
-use Rattle.camp_script.specs.Gives.{IsFaultIn, IsFaultOf}
+use Rattle.camp_script.specs.Gives.{IsFaultFirst, IsFaultOf}
 use Rattle.camp_script.specs.declared.faults.LineFault.{LineFault}
 use Rattle.camp_script.specs.declared.faults.ScriptFault.{ScriptFault}
 use Rattle.camp_script.specs.declared.faults.ScriptFault.TheVariants.{Line, Memory, Write}
@@ -31,7 +31,7 @@ first_fault : (line : ℕ) (words done more : List (List ℕ)) (word : List ℕ)
 first_fault line words done more word fault so is =
     so ∙ ap (λ (r : Result (List ℕ) LineFault). (r >>= λ name. names_at line more >>= λ names. Ok (name ∷ names)) >>= λ names. Ok (done ++ names)) is
 
-pub fault_named : (line : ℕ) (words done rest more : List (List ℕ)) (word : List ℕ) (fault : ScriptFault) → NamesFrom line words done rest → rest ≡ word ∷ more → IsFaultIn fault (name_at line word) → fault ≢ Memory → IsFaultIn fault (names_at line words)
+pub fault_named : (line : ℕ) (words done rest more : List (List ℕ)) (word : List ℕ) (fault : ScriptFault) → NamesFrom line words done rest → rest ≡ word ∷ more → IsFaultFirst fault (name_at line word) → fault ≢ Memory → IsFaultFirst fault (names_at line words)
 fault_named line words done rest more word (Line fault) so is told other = first_fault line words done more word fault (subst (NamesFrom line words done) is so) told
 fault_named line words done rest more word Memory so is told other = absurd (other refl)
 fault_named line words done rest more word Write so is told other = told
@@ -40,7 +40,7 @@ pub all_named : (line : ℕ) (words done rest : List (List ℕ)) → NamesFrom l
 all_named line words done rest so is = so ∙ ap (λ (ws : List (List ℕ)). names_at line ws >>= λ names. Ok (done ++ names)) is ∙ ap Ok (append-nil done)
 
 -- what is told of a line is told of the reading
-pub is_fault_of : {A : Type 0} (fault : ScriptFault) (reading : Result A LineFault) → IsFaultIn fault reading → IsFaultOf fault reading
+pub is_fault_of : {A : Type 0} (fault : ScriptFault) (reading : Result A LineFault) → IsFaultFirst fault reading → IsFaultOf fault reading
 is_fault_of (Line fault) reading is = is
 is_fault_of Memory reading is = tt
 is_fault_of Write reading is = is

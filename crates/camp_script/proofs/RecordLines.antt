@@ -7,7 +7,7 @@ use Rattle.camp_prim.specs.declared.primitives.Primitive.{Primitive}
 use Rattle.camp_prim.specs.declared.primitives.Primitive.TheVariants.{Hunk}
 use Rattle.camp_call.specs.declared.calls.Call.{Call}
 use Rattle.camp_script.specs.Commands.{command_of}
-use Rattle.camp_script.specs.Gives.{GivesLine, IsFaultIn, HasNoFault}
+use Rattle.camp_script.specs.Gives.{GivesFaultFirst, IsFaultFirst, HasNoFault}
 use Rattle.camp_script.specs.Lines.{words_of}
 use Rattle.camp_script.specs.Words.{◌>>=◌}
 use Rattle.camp_script.specs.Inside.Progress.{OpenEdit, OpenRecord, Progress, with_record, with_one_more, after_record, after_change}
@@ -32,9 +32,9 @@ same_calls line p q begun edit bytes closed calls =
     ∙ sym (of_calls line q begun edit bytes)
 
 pub in_record : (line : ℕ) (o : Option OpenRecord) (begun : OpenRecord) (p q : Progress) (bytes : List ℕ) (result : Result Progress ScriptFault) → o ≡ Some begun → p.closed ≡ q.closed → p.calls ≡ q.calls
-    → GivesLine result (after_record_line line p begun begun.open_edit bytes) → GivesLine result (after_line line o q bytes)
+    → GivesFaultFirst result (after_record_line line p begun begun.open_edit bytes) → GivesFaultFirst result (after_line line o q bytes)
 in_record line o begun p q bytes result is closed calls given =
-    subst (λ s. GivesLine result (after_line line s q bytes)) (sym is) (subst (GivesLine result) (same_calls line p q begun begun.open_edit bytes closed calls) given)
+    subst (λ s. GivesFaultFirst result (after_line line s q bytes)) (sym is) (subst (GivesFaultFirst result) (same_calls line p q begun begun.open_edit bytes closed calls) given)
 
 -- progress with these parts
 abbrev progress_with : List (List Call) → List Call → Option OpenRecord → Progress
@@ -45,10 +45,10 @@ same_progress p q closed calls begun =
     ap (λ c. progress_with c p.calls p.open_record) closed ∙ ap (λ c. progress_with q.closed c p.open_record) calls ∙ ap (λ b. progress_with q.closed q.calls b) begun
 
 pub no_record : (line : ℕ) (o : Option OpenRecord) (p q : Progress) (bytes : List ℕ) (result : Result Progress ScriptFault) → o ≡ None → p.closed ≡ q.closed → p.calls ≡ q.calls → p.open_record ≡ q.open_record
-    → GivesLine result (obeyed line p (command_of line (words_of bytes))) → GivesLine result (after_line line o q bytes)
+    → GivesFaultFirst result (obeyed line p (command_of line (words_of bytes))) → GivesFaultFirst result (after_line line o q bytes)
 no_record line o p q bytes result is closed calls begun given =
-    subst (λ s. GivesLine result (after_line line s q bytes)) (sym is)
-    (subst (λ p. GivesLine result (obeyed line p (command_of line (words_of bytes)))) (same_progress p q closed calls begun) given)
+    subst (λ s. GivesFaultFirst result (after_line line s q bytes)) (sym is)
+    (subst (λ p. GivesFaultFirst result (obeyed line p (command_of line (words_of bytes)))) (same_progress p q closed calls begun) given)
 
 -- a side has lines
 pub some_old : (old new : ℕ) → (old == 0) ≡ false → (old + new == 0) ≡ false
@@ -76,7 +76,7 @@ module _ (line : ℕ) (p : Progress) (begun : OpenRecord) where
   end_goes_on (Ok edit) change is = ap (λ (r : Result Primitive LineFault). r >>= after_change line p begun) is
   end_goes_on (Err fault) change is = ap (λ (r : Result Primitive LineFault). r >>= after_change line p begun) is
 
-  pub end_fails : (r : Result Edit LineFault) (fault : ScriptFault) → IsFaultIn fault (r >>= λ edit. Ok (Hunk edit)) → IsFaultIn fault (r >>= λ edit. after_change line p begun (Hunk edit))
+  pub end_fails : (r : Result Edit LineFault) (fault : ScriptFault) → IsFaultFirst fault (r >>= λ edit. Ok (Hunk edit)) → IsFaultFirst fault (r >>= λ edit. after_change line p begun (Hunk edit))
   end_fails (Ok edit) (Line fault) h = ap (λ (r : Result Primitive LineFault). r >>= after_change line p begun) h
   end_fails (Err other) (Line fault) h = ap (λ (r : Result Primitive LineFault). r >>= after_change line p begun) h
   end_fails (Ok edit) Memory h = change_has_no_fault line p begun (Hunk edit)

@@ -1,12 +1,12 @@
 -- Where memory may be wanted as a script is read.
 use Rattle.std.proofs.Common.{◌≡◌, ℕ, ◌+◌, ◌⊎◌, Bool, true, false, cond, List, [], ◌∷◌, refl, sym, ap, subst, ◌∙◌, Result, Ok, Err, inl, inr}
 use Rattle.camp_script.specs.Commands.{Command, Nothing, command, command_of}
-use Rattle.camp_script.specs.Gives.{IsFaultIn, HasNoFault}
+use Rattle.camp_script.specs.Gives.{IsFaultFirst, HasNoFault}
 use Rattle.camp_script.specs.Lines.{lines_of, words_of, is_skipped}
 use Rattle.camp_script.specs.Pieces.{numbered}
 use Rattle.camp_script.specs.Wanting.{ScriptMayWant, first_command}
 use Rattle.camp_script.specs.Inside.Progress.{Progress, start}
-use Rattle.camp_script.specs.Inside.Steps.{after_line, obeyed, Says}
+use Rattle.camp_script.specs.Inside.Steps.{after_line, obeyed, SaysSomething}
 use Rattle.camp_script.specs.declared.faults.LineFault.{LineFault}
 use Rattle.camp_script.specs.declared.faults.ScriptFault.{ScriptFault}
 use Rattle.camp_script.specs.declared.faults.ScriptFault.TheVariants.{Memory}
@@ -62,13 +62,13 @@ one_read number reading next bytes rest lines begun read = elim begun [
 
 -- memory is wanted for a line
 pub wants_now : (number : ℕ) (reading : Progress) (bytes : List ℕ) (rest : List (List ℕ)) (script : List ℕ) (fault : ScriptFault) → IsBegun number reading (bytes ∷ rest) (lines_of script)
-    → IsFaultIn fault (after_line (number + 1) reading.open_record reading bytes) → (fault ≡ Memory → Says reading.open_record bytes)
+    → IsFaultFirst fault (after_line (number + 1) reading.open_record reading bytes) → (fault ≡ Memory → SaysSomething reading.open_record bytes)
     → fault ≡ Memory → ScriptMayWant script
 wants_now number reading bytes rest script fault begun given says is = elim begun [
   | inl h ↦ h
   | inr h ↦ subst HasNoFault (sym h.1) (good_first (number + 1) bytes rest
-      (subst (λ (p : Progress). Says p.open_record bytes) h.0 (says is))
-      (subst (λ (p : Progress). HasNoFault (after_line (number + 1) p.open_record p bytes)) h.0 (subst (λ f. IsFaultIn f (after_line (number + 1) reading.open_record reading bytes)) is given)))
+      (subst (λ (p : Progress). SaysSomething p.open_record bytes) h.0 (says is))
+      (subst (λ (p : Progress). HasNoFault (after_line (number + 1) p.open_record p bytes)) h.0 (subst (λ f. IsFaultFirst f (after_line (number + 1) reading.open_record reading bytes)) is given)))
 ]
 
 -- memory is wanted behind the last line

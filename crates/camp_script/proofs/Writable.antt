@@ -10,7 +10,7 @@ use Rattle.camp_prim.specs.declared.primitives.Primitive.TheVariants.{Hunk}
 use Rattle.camp_call.specs.Calls.{is_writing}
 use Rattle.camp_call.specs.declared.calls.Call.{Call}
 use Rattle.camp_call.specs.declared.calls.Call.TheVariants as call
-use Rattle.camp_script.specs.Canonical.{IsCall, IsChange, AreLines, CanBeWritten, ReadIsWritable}
+use Rattle.camp_script.specs.Canonical.{IsScriptCall, IsChange, AreLines, CanBeWritten, ReadIsWritable}
 use Rattle.camp_prim.specs.Hunks.{Edit}
 use Rattle.camp_script.specs.Changes.{GroupLine, NoChange, WholeChange, EditChange, EndGroup, group_line_of, side_at, with_old, with_new, grown, ended}
 use Rattle.camp_script.specs.Commands.{Command, Nothing, Ask, BeginEdit, BeginGroup, BeginSection, command_of}
@@ -55,8 +55,8 @@ abbrev IsWithin : List Call → Type 0
 IsWithin calls = count_by is_writing calls ≤ 65_536
 
 record GoodCalls (p : Progress) : Type 0 where
-  pub closed : AllByRecursion (AllByRecursion IsCall) p.closed
-  pub calls : AllByRecursion IsCall p.calls
+  pub closed : AllByRecursion (AllByRecursion IsScriptCall) p.closed
+  pub calls : AllByRecursion IsScriptCall p.calls
   pub few : length p.closed ≤ 63
   pub writes : AllByRecursion IsWithin p.closed
   pub within : IsWithin p.calls
@@ -87,9 +87,9 @@ stays_within calls new few room =
     one_more (is_writing new) (count_by is_writing calls) (count_by is_writing (calls ++ new ∷ [])) room few (omega arith)
 
 module _ (n : ℕ) (p : Progress) (g : GoodCalls p) where
-  asks : (new : Call) → IsCall new → (is_writing new && is_full p.calls) ≡ false → Good (with_call p new)
+  asks : (new : Call) → IsScriptCall new → (is_writing new && is_full p.calls) ≡ false → Good (with_call p new)
   asks new h room = record {
-    so_far = record { closed = g.closed; calls = all_more IsCall p.calls new g.calls h; few = g.few; writes = g.writes; within = stays_within p.calls new g.within room };
+    so_far = record { closed = g.closed; calls = all_more IsScriptCall p.calls new g.calls h; few = g.few; writes = g.writes; within = stays_within p.calls new g.within room };
     awaited = tt;
   }
 
@@ -102,7 +102,7 @@ module _ (n : ℕ) (p : Progress) (g : GoodCalls p) where
   next_good : nat_le 63 (length p.closed) ≡ false → Good (record { closed = p.closed ++ p.calls ∷ []; calls = []; open_record = None })
   next_good free = record {
     so_far = record {
-      closed = all_more (AllByRecursion IsCall) p.closed p.calls g.closed g.calls;
+      closed = all_more (AllByRecursion IsScriptCall) p.closed p.calls g.closed g.calls;
       calls = tt;
       few = omega (arith, length-append p.closed (p.calls ∷ []), few_clients (length p.closed) free);
       writes = all_more IsWithin p.closed p.calls g.writes g.within;
@@ -193,7 +193,7 @@ finished_good p None g =
     let long : length (p.closed ++ p.calls ∷ []) ≡ length p.closed + 1 = length-append p.closed (p.calls ∷ []) in
     record {
       value = record {
-        calls = all_more (AllByRecursion IsCall) p.closed p.calls g.closed g.calls;
+        calls = all_more (AllByRecursion IsScriptCall) p.closed p.calls g.closed g.calls;
         limits = record {
           has_opening = omega (arith, long);
           sections_within = omega (arith, long, g.few);

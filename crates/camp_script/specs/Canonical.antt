@@ -10,6 +10,7 @@ use Rattle.camp_prim.specs.declared.primitives.Primitive.TheVariants.{Add, Remov
 use Rattle.camp_call.specs.Patches.{IsPatchSized}
 use Rattle.camp_call.specs.declared.calls.Call.{Call}
 use Rattle.camp_call.specs.declared.calls.Call.TheVariants as call
+use Rattle.camp_script.specs.Signs.{minus_sign, plus_sign}
 use Rattle.camp_script.specs.Texts.{line_text, signed_line}
 use Rattle.camp_script.specs.HistoryTexts.{call_words}
 use Rattle.camp_script.specs.Reading.{script_of}
@@ -26,7 +27,7 @@ abbrev pub change_body : Primitive → List ℕ
 change_body (Add path) = []
 change_body (Remove path) = []
 change_body (Hunk hunk) =
-    flat_map (signed_line 45) hunk.old ++ flat_map (signed_line 43) hunk.new ++ line_text (codes "end" ∷ [])
+    flat_map (signed_line minus_sign) hunk.old ++ flat_map (signed_line plus_sign) hunk.new ++ line_text (codes "end" ∷ [])
 
 -- a change of a group
 abbrev pub change_text : Primitive → List ℕ
@@ -78,19 +79,19 @@ IsListed None = Unit {0}
 IsListed (Some names) = (1 ≤ length names) × AreNames names
 
 -- a call that a script can ask: its names are names, its changes can be held, and its lists have a name
-abbrev pub IsCall : Call → Type 0
-IsCall (call.Branch new from) = IsTrue (is_name new) × IsTrue (is_name from)
-IsCall (call.Record branch name changes) =
+abbrev pub IsScriptCall : Call → Type 0
+IsScriptCall (call.Branch new from) = IsTrue (is_name new) × IsTrue (is_name from)
+IsScriptCall (call.Record branch name changes) =
     IsTrue (is_name branch) × IsTrue (is_name name) × IsPatchSized changes × AllByRecursion IsChange changes
-IsCall (call.Pull from to names) = IsTrue (is_name from) × IsTrue (is_name to) × IsListed names
-IsCall (call.Obliterate branch names) = IsTrue (is_name branch) × (1 ≤ length names) × AreNames names
-IsCall (call.Tree branch) = IsTrue (is_name branch)
-IsCall (call.Conflicts branch) = IsTrue (is_name branch)
-IsCall (call.Names branch) = IsTrue (is_name branch)
+IsScriptCall (call.Pull from to names) = IsTrue (is_name from) × IsTrue (is_name to) × IsListed names
+IsScriptCall (call.Obliterate branch names) = IsTrue (is_name branch) × (1 ≤ length names) × AreNames names
+IsScriptCall (call.Tree branch) = IsTrue (is_name branch)
+IsScriptCall (call.Conflicts branch) = IsTrue (is_name branch)
+IsScriptCall (call.Names branch) = IsTrue (is_name branch)
 
 -- sections that a script can be: calls that it can ask, within the limits
 pub record CanBeWritten (sections : List (List Call)) : Type 0 where
-  pub calls : AllByRecursion (AllByRecursion IsCall) sections
+  pub calls : AllByRecursion (AllByRecursion IsScriptCall) sections
   pub limits : AreWithinLimits sections
 
 -- the canonical text of such sections reads back as just these

@@ -3,12 +3,14 @@ use Rattle.std.specs.Prelude.{ℕ, ◌+◌, ◌^◌, ◌&&◌, ◌==◌, nat_le,
 use Rattle.std.specs.Prelude.{List, [], ◌∷◌, ◌++◌, length, Result, Ok, bytes_eq, codes}
 use Rattle.std.specs.List.{list_any}
 use Rattle.camp_base.specs.Bytes.{is_line}
+use Rattle.camp_base.specs.Limits.{most_changes}
 use Rattle.camp_prim.specs.Hunks.{Edit}
 use Rattle.camp_prim.specs.declared.primitives.Primitive.{Primitive}
 use Rattle.camp_prim.specs.declared.primitives.Primitive.TheVariants.{Add, Remove, Hunk}
 use Rattle.camp_script.specs.Faults.{fault_at}
 use Rattle.camp_script.specs.Lines.{is_skipped}
 use Rattle.camp_script.specs.Pieces.{NumberedLine, Entry, ends_body, ends_group, entry_words}
+use Rattle.camp_script.specs.Signs.{minus_sign, plus_sign}
 use Rattle.camp_script.specs.Words.{◌>>=◌, in_turn, no_words, one_word, two_words, path_at, number_at}
 use Rattle.camp_script.specs.declared.faults.FaultKind.TheVariants.{BadGroup, BadEdit, BadNumber, BadLine}
 use Rattle.camp_script.specs.declared.faults.FaultKind.TheVariants.{EditNotEnded, GroupNotEnded}
@@ -30,8 +32,8 @@ side_at line bytes edit = if is_line bytes then Ok edit else fault_at line BadLi
 abbrev pub grown : ℕ → Edit → List ℕ → Result Edit LineFault
 grown line edit [] = fault_at line BadEdit
 grown line edit (sign ∷ bytes) =
-    if sign == 45 && length edit.new == 0 then side_at line bytes (with_old edit bytes)
-    else (if sign == 43 then side_at line bytes (with_new edit bytes)
+    if sign == minus_sign && length edit.new == 0 then side_at line bytes (with_old edit bytes)
+    else (if sign == plus_sign then side_at line bytes (with_new edit bytes)
     else fault_at line BadEdit)
 
 -- an edit whose `end` stands at a line: a side has lines, and the edit's line and the counts of its old and new lines
@@ -64,12 +66,12 @@ pub data GroupLine : Type 0 where
 -- `add PATH` and `remove PATH`, behind so many changes: a group has 64 at most
 abbrev pub whole_change : (List ℕ → Primitive) → ℕ → ℕ → List ℕ → Result GroupLine LineFault
 whole_change change line count path =
-    if nat_le 64 count then fault_at line BadGroup else (path_at line path >>= λ path. Ok (WholeChange (change path)))
+    if nat_le most_changes count then fault_at line BadGroup else (path_at line path >>= λ path. Ok (WholeChange (change path)))
 
 -- `edit PATH LINE`, behind so many changes; the body follows
 abbrev pub edit_change : ℕ → ℕ → List ℕ → List ℕ → Result GroupLine LineFault
 edit_change line count path place =
-    if nat_le 64 count then fault_at line BadGroup
+    if nat_le most_changes count then fault_at line BadGroup
     else (path_at line path >>= λ path. number_at line place >>= λ place. Ok (EditChange path place))
 
 -- a line of a group, behind so many changes: its first word, and those behind it; nothing stands behind `done`

@@ -22,12 +22,12 @@ HasNoFault (Ok value) = Unit {0}
 HasNoFault (Err fault) = ⊥
 
 -- a fault of a line is the one that reading it comes to; memory runs out only for a line without a fault
-abbrev pub IsFaultIn : {A : Type 0} → ScriptFault → Result A LineFault → Type 0
-IsFaultIn (Line fault) reading = reading ≡ Err fault
-IsFaultIn Memory reading = HasNoFault reading
-IsFaultIn Write reading = ⊥
+abbrev pub IsFaultFirst : {A : Type 0} → ScriptFault → Result A LineFault → Type 0
+IsFaultFirst (Line fault) reading = reading ≡ Err fault
+IsFaultFirst Memory reading = HasNoFault reading
+IsFaultFirst Write reading = ⊥
 
 -- an answer to a line is what reading it comes to: just its value, or its fault, unless memory ran out for it
-abbrev pub GivesLine : {A : Type 0} → Result A ScriptFault → Result A LineFault → Type 0
-GivesLine (Ok value) reading = reading ≡ Ok value
-GivesLine (Err fault) reading = IsFaultIn fault reading
+abbrev pub GivesFaultFirst : {A : Type 0} → Result A ScriptFault → Result A LineFault → Type 0
+GivesFaultFirst (Ok value) reading = reading ≡ Ok value
+GivesFaultFirst (Err fault) reading = IsFaultFirst fault reading

@@ -2,7 +2,7 @@
 use Rattle.std.specs.Prelude.{ℕ, ◌≤◌, List, [], ◌∷◌, length, map, Option, None, Some}
 use Rattle.camp_call.specs.declared.calls.Call.{Call}
 use Rattle.camp_call.specs.declared.calls.Call.TheVariants as call
-use Rattle.camp_script.specs.Canonical.{IsCall, script_text}
+use Rattle.camp_script.specs.Canonical.{IsScriptCall, script_text}
 
 -- a list of names, where there is one, has a name
 abbrev pub HasName : Option (List (List ℕ)) → Type 0
@@ -21,7 +21,7 @@ ListsNames (call.Names branch) = Unit {0}
 
 -- a script can ask the call, unless it has an empty list of names
 abbrev pub CanStand : Call → Type 0
-CanStand call = ListsNames call → IsCall call
+CanStand call = ListsNames call → IsScriptCall call
 
 -- the calls of a history, without their seats
 abbrev pub calls_of : {Call : Type 0} → List (ℕ × Call) → List Call

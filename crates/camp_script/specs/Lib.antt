@@ -12,6 +12,7 @@ pub mod Outputs
 pub mod Pieces
 pub mod Reading
 pub mod Sections
+pub mod Signs
 pub mod Texts
 pub mod Wanting
 pub mod Words

@@ -2,6 +2,7 @@
 use Rattle.std.specs.Prelude.{ℕ, ◌-◌, Bool, true, ◌==◌, ◌||◌, nat_lt, if◌then◌else◌}
 use Rattle.std.specs.Prelude.{List, [], ◌∷◌, length, take, filter, slice_index}
 use Rattle.std.specs.List.{slice_split}
+use Rattle.camp_script.specs.Signs.{number_sign}
 
 -- pieces without the last one, where that is empty
 abbrev pub without_empty_last : List (List ℕ) → List (List ℕ)
@@ -24,7 +25,7 @@ words_of line = filter (λ word. nat_lt 0 (length word)) (slice_split is_blank l
 -- whether a line of these words says nothing: it has none, or the first begins with `#`
 abbrev pub is_skipped : List (List ℕ) → Bool
 is_skipped [] = true
-is_skipped (word ∷ words) = slice_index word 0 == 35
+is_skipped (word ∷ words) = slice_index word 0 == number_sign
 
 -- bytes without the LF at their end, where they have one
 abbrev pub without_end : List ℕ → List ℕ

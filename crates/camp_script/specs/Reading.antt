@@ -10,46 +10,47 @@ use Rattle.camp_script.specs.Commands.{Command, Nothing, Ask, BeginEdit, BeginGr
 use Rattle.camp_script.specs.Faults.{fault_at}
 use Rattle.camp_script.specs.Lines.{lines_of}
 use Rattle.camp_script.specs.Pieces.{Piece, Item, numbered, words_on, entries_of, items_of, item_line, first_section, clients_of}
+use Rattle.camp_script.specs.Sections.{most_sections, most_writing_calls}
 use Rattle.camp_script.specs.Words.{◌>>=◌, in_turn}
 use Rattle.camp_script.specs.declared.faults.FaultKind.TheVariants.{TooManyClients, TooManyCommands}
 use Rattle.camp_script.specs.declared.faults.LineFault.{LineFault}
 
--- whether a section has as many writing calls as it may have, 65,536
+-- whether a section has as many writing calls as it may have
 abbrev pub is_full : List Call → Bool
-is_full calls = nat_le 65_536 (count_by is_writing calls)
+is_full calls = nat_le most_writing_calls (count_by is_writing calls)
 
 -- a section has room for a record that begins at a line, which is one more writing call
 abbrev pub room_at : ℕ → List Call → Result (Unit {0}) LineFault
 room_at line calls = if is_full calls then fault_at line TooManyCommands else Ok tt
 
 -- what the line of an item asks for
-abbrev pub command_at : Item → Result Command LineFault
-command_at item = command_of (item_line item).number (words_on (item_line item))
+abbrev pub command_of_item : Item → Result Command LineFault
+command_of_item item = command_of (item_line item).number (words_on (item_line item))
 
 -- the calls of a section with what an item asks for; no item of a section asks for the next one
-abbrev pub with_command : List Call → Item → Command → Result (List Call) LineFault
-with_command calls item Nothing = Ok calls
-with_command calls item (Ask new) =
+abbrev pub with_asked : List Call → Item → Command → Result (List Call) LineFault
+with_asked calls item Nothing = Ok calls
+with_asked calls item (Ask new) =
     if is_writing new && is_full calls then fault_at (item_line item).number TooManyCommands
     else Ok (calls ++ new ∷ [])
-with_command calls item (BeginEdit branch name path place) =
+with_asked calls item (BeginEdit branch name path place) =
     room_at (item_line item).number calls >>= λ room.
     edit_of (item_line item).number path place item.head.rest >>= λ change.
     Ok (calls ++ call.Record branch name (change ∷ []) ∷ [])
-with_command calls item (BeginGroup branch name) =
+with_asked calls item (BeginGroup branch name) =
     room_at (item_line item).number calls >>= λ room. group_of (item_line item).number item.rest >>= λ changes.
     Ok (calls ++ call.Record branch name changes ∷ [])
-with_command calls item BeginSection = Ok calls
+with_asked calls item BeginSection = Ok calls
 
 -- the calls of a section behind an item
 abbrev pub after_item : List Call → Item → Result (List Call) LineFault
-after_item calls item = command_at item >>= with_command calls item
+after_item calls item = command_of_item item >>= with_asked calls item
 
 -- the sections with that of a client: a script has 64 at most
 abbrev pub after_client : List (List Call) → Piece Item → Result (List (List Call)) LineFault
 after_client sections client =
-    command_at client.head >>= λ begins.
-    if nat_le 64 (length sections) then fault_at (item_line client.head).number TooManyClients
+    command_of_item client.head >>= λ begins.
+    if nat_le most_sections (length sections) then fault_at (item_line client.head).number TooManyClients
     else (in_turn after_item [] client.rest >>= λ calls. Ok (sections ++ calls ∷ []))
 
 -- the script that lines are: the calls of the opening, and then those of each client

@@ -1,11 +1,23 @@
 -- The limits of a script.
-use Rattle.std.specs.Prelude.{◌≤◌, List, length, count_by}
+use Rattle.std.specs.Prelude.{◌≤◌, ℕ, List, length, count_by}
 use Rattle.std.specs.List.{AllByRecursion}
 use Rattle.camp_call.specs.Calls.{is_writing}
 use Rattle.camp_call.specs.declared.calls.Call.{Call}
 
--- a script has its opening and the sections of 63 clients at most, and each has 65,536 writing calls at most
+-- clients of a script
+abbrev pub most_clients : ℕ
+most_clients = 63
+
+-- sections of a script: the opening, and one for each client
+abbrev pub most_sections : ℕ
+most_sections = 64
+
+-- calls of a section that write
+abbrev pub most_writing_calls : ℕ
+most_writing_calls = 65_536
+
+-- a script has its opening and the sections of its clients, and none has more writing calls than it may
 pub record AreWithinLimits (sections : List (List Call)) : Type 0 where
   pub has_opening : 1 ≤ length sections
-  pub sections_within : length sections ≤ 64
-  pub writes_within : AllByRecursion (λ section. count_by is_writing section ≤ 65_536) sections
+  pub sections_within : length sections ≤ most_sections
+  pub writes_within : AllByRecursion (λ section. count_by is_writing section ≤ most_writing_calls) sections

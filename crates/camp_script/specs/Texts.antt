@@ -12,6 +12,7 @@ use Rattle.camp_call.specs.declared.replies.Refusal.TheVariants.{NothingToDo, To
 use Rattle.camp_call.specs.declared.replies.Refusal.TheVariants.{Diverged, NoMerge, SameBranch}
 use Rattle.camp_call.specs.declared.replies.Reply.{Reply}
 use Rattle.camp_call.specs.declared.replies.Reply.TheVariants.{Done, Refused, Tree, Conflicts, Names}
+use Rattle.camp_script.specs.Signs.{equals_sign}
 
 -- words on a line: one space between them, and LF behind
 abbrev pub line_text : List (List ℕ) → List ℕ
@@ -37,7 +38,7 @@ refusal_words (SameBranch branch) = decimal 14 ∷ branch ∷ []
 
 -- a file: its path and the number of its lines, and then each line behind `=`
 abbrev pub file_text : List ℕ × Lines → List ℕ
-file_text file = line_text (codes "file" ∷ file.0 ∷ decimal (length file.1) ∷ []) ++ flat_map (signed_line 61) file.1
+file_text file = line_text (codes "file" ∷ file.0 ∷ decimal (length file.1) ∷ []) ++ flat_map (signed_line equals_sign) file.1
 
 -- a tree: the number of its files, and then each in the order of the bytes of the paths
 abbrev pub tree_text : Files → List ℕ

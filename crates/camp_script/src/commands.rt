@@ -1,6 +1,6 @@
 //! Lines outside groups and bodies.
 ghost use Rattle.std.specs.Prelude.{◌≡◌, ◌≢◌, ◌≤◌, ◌∷◌, [], false, IfErr, IfOk, map};
-ghost use Rattle.camp_script.specs.Gives.{GivesLine};
+ghost use Rattle.camp_script.specs.Gives.{GivesFaultFirst};
 ghost use Rattle.camp_script.specs.Inside.Files.{change_at};
 ghost use Rattle.camp_script.specs.Lines.{is_skipped, words_of};
 ghost use Rattle.camp_script.specs.Commands as command;
@@ -40,8 +40,8 @@ pub(crate) enum Asked {
 impl Reading {
     /// A line outside groups and bodies.
     pub(crate) fn read_words(self, number: u64, line: &[u8]) -> Result<Reading, ScriptFault>
-        ensures given { GivesLine result (obeyed number self (command_of number (words_of line.now))) }
-        ensures wanted { IfErr result (λ fault. fault ≡ ScriptFault.Memory → is_skipped (words_of line.now) ≡ false) }
+        ensures given { GivesFaultFirst result (obeyed number self (command_of number (words_of line.now))) }
+        ensures memory { IfErr result (λ fault. fault ≡ ScriptFault.Memory → is_skipped (words_of line.now) ≡ false) }
     {
         let mut words = Words::new(line);
         let Some(word) = words.next() else {
@@ -60,7 +60,7 @@ impl Reading {
         word: &[u8],
         words: Words<'_>,
     ) -> Result<Reading, ScriptFault>
-        ensures { GivesLine result (obeyed number self (command number word.now words.entry)) }
+        ensures { GivesFaultFirst result (obeyed number self (command number word.now words.entry)) }
     {
         let asked = self.asked_by(number, word, words)?;
         self.obey(number, asked)
@@ -69,7 +69,7 @@ impl Reading {
     // Does what a line asks for.
     fn obey(self, number: u64, asked: Asked) -> Result<Reading, ScriptFault>
         requires { IsCounted asked }
-        ensures { GivesLine result (obey number self (command_asked asked)) }
+        ensures { GivesFaultFirst result (obey number self (command_asked asked)) }
     {
         match asked {
             Asked::Call(call) => self.follow(number, call),
@@ -85,7 +85,7 @@ impl Reading {
     }
 
     fn begin_group(self, number: u64, branch: Name, name: Name) -> Result<Reading, ScriptFault>
-        ensures { GivesLine result (obey number self (command.BeginGroup branch name)) }
+        ensures { GivesFaultFirst result (obey number self (command.BeginGroup branch name)) }
     {
         self.test_room(number)?;
         let changes = Vec::new(self.allocator());
@@ -108,7 +108,7 @@ impl Reading {
         line: u32,
     ) -> Result<Reading, ScriptFault>
         requires { 1 ≤ line }
-        ensures { GivesLine result (obey number self (command.BeginEdit branch name path line)) }
+        ensures { GivesFaultFirst result (obey number self (command.BeginEdit branch name path line)) }
     {
         self.test_room(number)?;
         let alloc = self.allocator();
@@ -305,7 +305,7 @@ impl Reading {
 
 // The one word of a question.
 fn branch_at(number: u64, words: &[&[u8]]) -> Result<Name, ScriptFault>
-    ensures given { GivesLine result (branch_at number (map (λ word. word.now) words.now)) }
+    ensures given { GivesFaultFirst result (branch_at number (map (λ word. word.now) words.now)) }
     ensures told { IfErr result (λ fault. fault ≢ ScriptFault.Memory) }
 {
     name_at(number, one_word(number, words)?)

@@ -5,14 +5,14 @@ ghost use Rattle.camp_base.specs.Bytes.{is_line};
 ghost use Rattle.camp_prim.specs.Hunks.{IsInRange};
 ghost use Rattle.camp_script.specs.declared.faults.FaultKind.TheVariants as kind;
 ghost use Rattle.camp_script.specs.Faults.{fault_at};
-ghost use Rattle.camp_script.specs.Gives.{GivesLine, IsFaultIn};
+ghost use Rattle.camp_script.specs.Gives.{GivesFaultFirst, IsFaultFirst};
 ghost use Rattle.camp_script.specs.Inside.Files.{change_at};
 ghost use Rattle.camp_script.specs.Inside.ReadingFields.{open_record_of, open_edit_of, edit_so_far, IsOpen, HasRoomFor};
 ghost use Rattle.camp_script.specs.Lines.{is_skipped, words_of};
 ghost use Rattle.camp_script.specs.Changes.{whole_change, edit_change, change_of, group_line_of, grown, ended};
 ghost use Rattle.camp_script.specs.Inside.Asking.{HasRoomToAdd, Tells, ended_change, line_told};
 ghost use Rattle.camp_script.specs.Inside.Progress.{after_change, with_edit, with_one_more, with_record};
-ghost use Rattle.camp_script.specs.Inside.Steps.{heed, heeded, after_end, after_body, after_record_line, SaysIn};
+ghost use Rattle.camp_script.specs.Inside.Steps.{heed, heeded, after_end, after_body, after_record_line, SaysSomethingIn};
 
 use crate::faults::{FaultKind, ScriptFault, at_line};
 use crate::lines::{Words, first_words, is_comment};
@@ -44,8 +44,8 @@ impl Reading {
         mut begun: OpenRecord,
     ) -> Result<Reading, ScriptFault>
         requires { IsOpen self.calls begun }
-        ensures given { GivesLine result (after_record_line number self (open_record_of begun) (option_map open_edit_of begun.open_edit) line.now) }
-        ensures wanted { IfErr result (λ fault. fault ≡ ScriptFault.Memory → SaysIn (option_map open_edit_of begun.open_edit) line.now) }
+        ensures given { GivesFaultFirst result (after_record_line number self (open_record_of begun) (option_map open_edit_of begun.open_edit) line.now) }
+        ensures memory { IfErr result (λ fault. fault ≡ ScriptFault.Memory → SaysSomethingIn (option_map open_edit_of begun.open_edit) line.now) }
     {
         match begun.open_edit.take() {
             None => self.read_group_words(number, line, begun),
@@ -61,8 +61,8 @@ impl Reading {
         begun: OpenRecord,
     ) -> Result<Reading, ScriptFault>
         requires { IsOpen self.calls begun }
-        ensures given { GivesLine result (heeded number self (open_record_of begun) (group_line_of number (length begun.changes.items) (words_of line.now))) }
-        ensures wanted { IfErr result (λ fault. fault ≡ ScriptFault.Memory → is_skipped (words_of line.now) ≡ false) }
+        ensures given { GivesFaultFirst result (heeded number self (open_record_of begun) (group_line_of number (length begun.changes.items) (words_of line.now))) }
+        ensures memory { IfErr result (λ fault. fault ≡ ScriptFault.Memory → is_skipped (words_of line.now) ≡ false) }
     {
         let mut words = Words::new(line);
         let Some(word) = words.next() else {
@@ -84,7 +84,7 @@ impl Reading {
         words: &[&[u8]],
     ) -> Result<Reading, ScriptFault>
         requires { IsOpen self.calls begun }
-        ensures { GivesLine result (heeded number self (open_record_of begun) (change_of number (length begun.changes.items) word.now (map (λ word. word.now) words.now))) }
+        ensures { GivesFaultFirst result (heeded number self (open_record_of begun) (change_of number (length begun.changes.items) word.now (map (λ word. word.now) words.now))) }
     {
         let told = self.told_by(number, &begun, word, words)?;
         self.heed(number, begun, told)
@@ -94,7 +94,7 @@ impl Reading {
     fn heed(self, number: u64, begun: OpenRecord, told: Told) -> Result<Reading, ScriptFault>
         requires open { IsOpen self.calls begun }
         requires room { HasRoomToAdd (length begun.changes.items) told }
-        ensures { GivesLine result (heed number self (open_record_of begun) (line_told told)) }
+        ensures { GivesFaultFirst result (heed number self (open_record_of begun) (line_told told)) }
     {
         match told {
             Told::Change(change) => self.add_change(begun, change),
@@ -107,7 +107,7 @@ impl Reading {
     fn add_change(self, mut begun: OpenRecord, change: Primitive) -> Result<Reading, ScriptFault>
         requires open { IsOpen self.calls begun }
         requires room { length begun.changes.items < 64 }
-        ensures { GivesLine result (Ok (with_record self (with_one_more (open_record_of begun) change))) }
+        ensures { GivesFaultFirst result (Ok (with_record self (with_one_more (open_record_of begun) change))) }
     {
         begun.changes.push(change)?;
         begun.open_edit = None;
@@ -204,7 +204,7 @@ impl Reading {
     ) -> Result<Reading, ScriptFault>
         requires open { IsOpen self.calls begun }
         requires room { HasRoomFor begun.changes.items (Some edit) }
-        ensures { GivesLine result (after_body number self (open_record_of begun) (open_edit_of edit) line.now) }
+        ensures { GivesFaultFirst result (after_body number self (open_record_of begun) (open_edit_of edit) line.now) }
     {
         if line == b"end".as_slice() {
             return self.end_edit(number, begun, edit);
@@ -223,7 +223,7 @@ impl Reading {
     ) -> Result<Reading, ScriptFault>
         requires open { IsOpen self.calls begun }
         requires room { HasRoomFor begun.changes.items (Some edit) }
-        ensures { GivesLine result (after_end number self (open_record_of begun) (open_edit_of edit)) }
+        ensures { GivesFaultFirst result (after_end number self (open_record_of begun) (open_edit_of edit)) }
     {
         let change = close(self.allocator(), number, edit)?;
         self.end_change(number, begun, change)
@@ -238,7 +238,7 @@ impl Reading {
     ) -> Result<Reading, ScriptFault>
         requires open { IsOpen self.calls begun }
         requires room { length begun.changes.items < 64 }
-        ensures { GivesLine result (after_change number self (open_record_of begun) change) }
+        ensures { GivesFaultFirst result (after_change number self (open_record_of begun) change) }
     {
         begun.changes.push(change)?;
         begun.open_edit = None;
@@ -252,7 +252,7 @@ impl Reading {
 // The change of an edit whose `end` stands at a line.
 fn close(alloc: Global, number: u64, edit: OpenEdit) -> Result<Primitive, ScriptFault>
     requires { 1 ≤ edit.line }
-    ensures { GivesLine result (ended_change number (edit_so_far edit)) }
+    ensures { GivesFaultFirst result (ended_change number (edit_so_far edit)) }
 {
     test_body(number, &edit)?;
     let OpenEdit {
@@ -274,7 +274,7 @@ fn test_body(number: u64, edit: &OpenEdit) -> Result<(), ScriptFault>
     requires { 1 ≤ edit.now.line }
     ensures passed { IfOk result (λ _. ended number (edit_so_far edit.now) ≡ Ok (edit_so_far edit.now)) }
     ensures range { IfOk result (λ _. IsInRange (edit_so_far edit.now)) }
-    ensures fault { IfErr result (λ fault. IsFaultIn fault (ended number (edit_so_far edit.now))) }
+    ensures fault { IfErr result (λ fault. IsFaultFirst fault (ended number (edit_so_far edit.now))) }
     ensures told { IfErr result (λ fault. fault ≢ ScriptFault.Memory) }
 {
     if edit.old.is_empty() && edit.new.is_empty() {
@@ -300,7 +300,7 @@ fn reaches_too_far(line: u32, old: usize, new: usize) -> bool
 fn grow(alloc: Global, number: u64, line: &[u8], edit: &mut OpenEdit) -> Result<(), ScriptFault>
     ensures given { IfOk result (λ _. grown number (edit_so_far edit.entry.now) line.now ≡ Ok (edit_so_far edit.exit.now)) }
     ensures placed { IfOk result (λ _. (edit.exit.now.line ≡ edit.entry.now.line) × (edit.exit.now.opened ≡ edit.entry.now.opened)) }
-    ensures fault { IfErr result (λ fault. IsFaultIn fault (grown number (edit_so_far edit.entry.now) line.now)) }
+    ensures fault { IfErr result (λ fault. IsFaultFirst fault (grown number (edit_so_far edit.entry.now) line.now)) }
 {
     match line {
         [b'-', bytes @ ..] if edit.new.is_empty() => {
@@ -319,7 +319,7 @@ fn grow(alloc: Global, number: u64, line: &[u8], edit: &mut OpenEdit) -> Result<
 
 // The bytes behind the sign of a line of a side.
 fn line_at(alloc: Global, number: u64, bytes: &[u8]) -> Result<Line, ScriptFault>
-    ensures given { GivesLine result (if is_line bytes.now then Ok bytes.now else fault_at number kind.BadLine) }
+    ensures given { GivesFaultFirst result (if is_line bytes.now then Ok bytes.now else fault_at number kind.BadLine) }
 {
     match Line::new(alloc, bytes) {
         Ok(line) => Ok(line),

@@ -1,11 +1,11 @@
 //! How far a script is read, and what the pieces of lines do to it.
 ghost use Rattle.std.specs.Prelude.{◌≡◌, false, true, IfErr, IfOk, Ok};
 ghost use Rattle.camp_call.specs.Calls.{is_writing};
-ghost use Rattle.camp_script.specs.Gives.{GivesLine};
+ghost use Rattle.camp_script.specs.Gives.{GivesFaultFirst};
 ghost use Rattle.camp_script.specs.Reading.{is_full};
 ghost use Rattle.camp_script.specs.Inside.Progress.{start, with_call, with_record, after_call, after_client, after_record, finished};
 ghost use Rattle.camp_script.specs.declared.faults.FaultKind.TheVariants as kind;
-ghost use Rattle.camp_script.specs.Inside.Steps.{after_line, Says};
+ghost use Rattle.camp_script.specs.Inside.Steps.{after_line, SaysSomething};
 ghost use Rattle.camp_script.specs.Inside.ReadingFields.{open_record_of};
 
 use crate::faults::{FaultKind, ScriptFault, at_line};
@@ -60,8 +60,8 @@ impl Reading {
 
     /// Reads the line of a number, counted from 1.
     pub(crate) fn read_line(mut self, number: u64, line: &[u8]) -> Result<Reading, ScriptFault>
-        ensures given { GivesLine result (after_line number self.open_record self line.now) }
-        ensures wanted { IfErr result (λ fault. fault ≡ ScriptFault.Memory → Says self.open_record line.now) }
+        ensures given { GivesFaultFirst result (after_line number self.open_record self line.now) }
+        ensures memory { IfErr result (λ fault. fault ≡ ScriptFault.Memory → SaysSomething self.open_record line.now) }
     {
         match self.open_record.take() {
             None => self.read_words(number, line),
@@ -71,7 +71,7 @@ impl Reading {
 
     /// Ends the reading behind the last line.
     pub(crate) fn finish(self) -> Result<Script, ScriptFault>
-        ensures { GivesLine result (finished self self.open_record) }
+        ensures { GivesFaultFirst result (finished self self.open_record) }
     {
         let Reading {
             mut closed,
@@ -99,7 +99,7 @@ impl Reading {
 
     pub(crate) fn with_call(mut self, call: Call) -> Result<Reading, ScriptFault>
         requires { is_writing call ≡ true → MayGrow self.calls }
-        ensures { GivesLine result (Ok (with_call self call)) }
+        ensures { GivesFaultFirst result (Ok (with_call self call)) }
     {
         let writing = call.is_writing();
         self.calls.push(call)?;
@@ -121,7 +121,7 @@ impl Reading {
     /// The last line of a record.
     pub(crate) fn end_record(self, number: u64, begun: OpenRecord) -> Result<Reading, ScriptFault>
         requires { IsOpen self.calls begun }
-        ensures { GivesLine result (after_record number self (open_record_of begun)) }
+        ensures { GivesFaultFirst result (after_record number self (open_record_of begun)) }
     {
         let OpenRecord {
             branch,
@@ -141,7 +141,7 @@ impl Reading {
 
     /// A call that a line holds whole.
     pub(crate) fn follow(self, number: u64, call: Call) -> Result<Reading, ScriptFault>
-        ensures { GivesLine result (after_call number self call) }
+        ensures { GivesFaultFirst result (after_call number self call) }
     {
         if call.is_writing() {
             self.test_room(number)?;
@@ -151,7 +151,7 @@ impl Reading {
 
     /// The line of a client: the next section begins.
     pub(crate) fn next_section(mut self, number: u64) -> Result<Reading, ScriptFault>
-        ensures { GivesLine result (after_client number self) }
+        ensures { GivesFaultFirst result (after_client number self) }
     {
         if self.closed.len() >= MAX_SECTIONS - 1 {
             return Err(at_line(number, FaultKind::TooManyClients));

@@ -61,7 +61,7 @@ impl Script {
 /// the place of either, and not where the first line that says something has a fault.
 pub fn read_script(alloc: Global, bytes: &[u8]) -> Result<Script, ScriptFault>
     ensures given { Gives result (script_of bytes.now) }
-    ensures wanted { IfErr result (λ fault. fault ≡ ScriptFault.Memory → ScriptMayWant bytes.now) }
+    ensures memory { IfErr result (λ fault. fault ≡ ScriptFault.Memory → ScriptMayWant bytes.now) }
 {
     let mut reading = Reading::new(alloc);
     let mut number = 0;

@@ -3,7 +3,7 @@ ghost use Rattle.std.specs.Prelude.{◌≡◌, ◌≢◌, ◌≤◌, IfErr, IfOk
 ghost use Rattle.std.specs.List.{list_all};
 ghost use Rattle.camp_base.specs.Bytes.{is_between};
 ghost use Rattle.camp_script.specs.Words.{no_words, one_word, two_words, three_words, name_at, names_at, path_at, number_at, value_of, is_line_number};
-ghost use Rattle.camp_script.specs.Gives.{Gives, GivesLine, IsFaultIn};
+ghost use Rattle.camp_script.specs.Gives.{Gives, GivesFaultFirst, IsFaultFirst};
 
 use crate::faults::{FaultKind, ScriptFault, at_line};
 use crate::lines::Words;
@@ -19,7 +19,7 @@ const MAX_LINE: u64 = 1_073_741_823;
 
 /// No word, where no word is to stand.
 pub fn no_words(number: u64, words: &[&[u8]]) -> Result<(), ScriptFault>
-    ensures given { GivesLine result (no_words number (map (λ word. word.now) words.now)) }
+    ensures given { GivesFaultFirst result (no_words number (map (λ word. word.now) words.now)) }
     ensures told { IfErr result (λ fault. fault ≢ ScriptFault.Memory) }
 {
     match words {
@@ -31,7 +31,7 @@ pub fn no_words(number: u64, words: &[&[u8]]) -> Result<(), ScriptFault>
 /// The one word that stands there.
 pub fn one_word<'a>(number: u64, words: &[&'a [u8]]) -> Result<&'a [u8], ScriptFault>
     ensures given { IfOk result (λ word. one_word number (map (λ word. word.now) words.now) ≡ Ok word.now) }
-    ensures fault { IfErr result (λ fault. IsFaultIn fault (one_word number (map (λ word. word.now) words.now))) }
+    ensures fault { IfErr result (λ fault. IsFaultFirst fault (one_word number (map (λ word. word.now) words.now))) }
     ensures told { IfErr result (λ fault. fault ≢ ScriptFault.Memory) }
 {
     match words {
@@ -43,7 +43,7 @@ pub fn one_word<'a>(number: u64, words: &[&'a [u8]]) -> Result<&'a [u8], ScriptF
 /// The two words that stand there.
 pub fn two_words<'a>(number: u64, words: &[&'a [u8]]) -> Result<(&'a [u8], &'a [u8]), ScriptFault>
     ensures given { IfOk result (λ pair. two_words number (map (λ word. word.now) words.now) ≡ Ok (pair.0.now, pair.1.now)) }
-    ensures fault { IfErr result (λ fault. IsFaultIn fault (two_words number (map (λ word. word.now) words.now))) }
+    ensures fault { IfErr result (λ fault. IsFaultFirst fault (two_words number (map (λ word. word.now) words.now))) }
     ensures told { IfErr result (λ fault. fault ≢ ScriptFault.Memory) }
 {
     match words {
@@ -59,7 +59,7 @@ pub(crate) fn three_words<'a, 'w>(
 ) -> Result<(&'a [u8], &'a [u8], &'a [u8], &'w [&'a [u8]]), ScriptFault>
     ensures given { IfOk result (λ head. three_words number (map (λ word. word.now) words.now)
         ≡ Ok (head.0.now, head.1.now, head.2.now, map (λ word. word.now) head.3.now)) }
-    ensures fault { IfErr result (λ fault. IsFaultIn fault (three_words number (map (λ word. word.now) words.now))) }
+    ensures fault { IfErr result (λ fault. IsFaultFirst fault (three_words number (map (λ word. word.now) words.now))) }
     ensures told { IfErr result (λ fault. fault ≢ ScriptFault.Memory) }
 {
     match words {
@@ -70,7 +70,7 @@ pub(crate) fn three_words<'a, 'w>(
 
 /// A word as a name.
 pub fn name_at(number: u64, word: &[u8]) -> Result<Name, ScriptFault>
-    ensures given { GivesLine result (name_at number word.now) }
+    ensures given { GivesFaultFirst result (name_at number word.now) }
     ensures told { IfErr result (λ fault. fault ≢ ScriptFault.Memory) }
 {
     match Name::new(word) {
@@ -93,7 +93,7 @@ pub fn names_at(alloc: Global, number: u64, words: Words<'_>) -> Result<Names, S
 /// Words are names: a test that asks for no memory.
 pub(crate) fn test_names(number: u64, words: Words<'_>) -> Result<(), ScriptFault>
     ensures passed { IfOk result (λ _. (names : List (List ℕ)) × (names_at number words.entry ≡ Ok names)) }
-    ensures given { IfErr result (λ fault. IsFaultIn fault (names_at number words.entry)) }
+    ensures given { IfErr result (λ fault. IsFaultFirst fault (names_at number words.entry)) }
     ensures told { IfErr result (λ fault. fault ≢ ScriptFault.Memory) }
 {
     for word in words {
@@ -111,7 +111,7 @@ pub fn path_at(
 ) -> Result<Result<Path, AllocError>, ScriptFault>
     ensures passed { IfOk result (λ _. path_at number word.now ≡ Ok word.now) }
     ensures made { IfOk result (λ made. IfOk made (λ path. path ≡ word.now)) }
-    ensures fault { IfErr result (λ fault. IsFaultIn fault (path_at number word.now)) }
+    ensures fault { IfErr result (λ fault. IsFaultFirst fault (path_at number word.now)) }
     ensures told { IfErr result (λ fault. fault ≢ ScriptFault.Memory) }
 {
     match Path::new(alloc, word) {
@@ -123,7 +123,7 @@ pub fn path_at(
 
 /// The number of a line of a file.
 pub(crate) fn number_at(number: u64, word: &[u8]) -> Result<u32, ScriptFault>
-    ensures value { GivesLine result (number_at number word.now) }
+    ensures value { GivesFaultFirst result (number_at number word.now) }
     ensures counted { IfOk result (λ line. 1 ≤ line) }
     ensures told { IfErr result (λ fault. fault ≢ ScriptFault.Memory) }
 {

@@ -5,7 +5,7 @@ use camp_prim::{Named, commute};
 
 /// Whether no two neighbours of a list swap. It takes no memory.
 pub fn is_chain(items: &[Named]) -> bool
-    ensures { IsTrue result ↔ Chain items.now }
+    ensures exact { IsTrue result ↔ Chain items.now }
 {
     for at in (0..items.len()).rev() {
         if !stays_before(&items[at], &items[at + 1..]) {
@@ -17,7 +17,7 @@ pub fn is_chain(items: &[Named]) -> bool
 
 /// Whether two neighbours change places. It takes no memory.
 pub fn can_swap(p: &Named, q: &Named) -> bool
-    ensures { IsTrue result ↔ CanSwap p.now q.now }
+    ensures exact { IsTrue result ↔ CanSwap p.now q.now }
 {
     match commute(p, q) {
         Ok(None) => false,

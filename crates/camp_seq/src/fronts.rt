@@ -15,7 +15,7 @@ use std::alloc::AllocError;
 #[tactic(auto, using(crate::proofs::FrontSteps::first_contained))]
 pub fn front(s: &Seq, label: &Label) -> Result<Option<(Named, Seq)>, AllocError>
     ensures exact { IfOk result (FindsPair (Fronts label.now s.now)) }
-    ensures wanted { IfErr result (λ error. Contains (map label_of s.now) label.now) }
+    ensures memory { IfErr result (λ error. Contains (map label_of s.now) label.now) }
 {
     let Some(_) = place_of(&s.items, label) else {
         return Ok(None);

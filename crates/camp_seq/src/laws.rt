@@ -3,59 +3,59 @@ ghost use Rattle.camp_seq.specs.Laws.{AreDetermined, AreEquivalent, EquivalentRu
 /// Equivalent lists lead from the same trees to the same trees.
 #[tactic(auto, using(crate::proofs::ListRuns::equivalent_run))]
 pub fn equivalent_lists_run_alike()
-    ensures { EquivalentRun }
+    ensures law { EquivalentRun }
 {}
 
 /// What passes a list, comes to its front, is split off or put in order, is equivalent to what it
 /// came from.
 #[tactic(auto, using(crate::proofs::ListEquivalence::are_equivalent))]
 pub fn lists_of_results_are_equivalent()
-    ensures { AreEquivalent }
+    ensures law { AreEquivalent }
 {}
 
 /// Passing, coming to the front, splitting, putting in order and merging have at most one result.
 #[tactic(auto, using(crate::proofs::ListResults::are_determined))]
 pub fn results_of_lists_are_determined()
-    ensures { AreDetermined }
+    ensures law { AreDetermined }
 {}
 
 /// What a list does to a tree, its inverse undoes, and what the inverse undoes the list did.
 #[tactic(auto, using(crate::proofs::ListRuns::inverse_all_leads_back))]
 pub fn inverse_of_a_list_leads_back()
-    ensures { InverseOfListLeadsBack }
+    ensures law { InverseOfListLeadsBack }
 {}
 
 /// Every list has a normal order.
 #[tactic(auto, using(crate::proofs::NormalOrders::has_normal_order))]
 pub fn every_list_has_a_normal_order()
-    ensures { HasNormalOrder }
+    ensures law { HasNormalOrder }
 {}
 
 /// Two lists that merge cleanly lead to one tree in both orders.
 pub fn clean_merge_closes()
-    ensures { MergeCloses }
+    ensures law { MergeCloses }
 {}
 
 /// The two orders of a clean merge are equivalent.
 #[tactic(auto, using(crate::proofs::MergeGrid::merge_is_equivalent))]
 pub fn clean_merge_is_equivalent()
-    ensures { MergeIsEquivalent }
+    ensures law { MergeIsEquivalent }
 {}
 
 /// The clean merge of two lists does not depend on which comes first.
 #[tactic(auto, using(crate::proofs::MergeGrid::merge_is_symmetric))]
 pub fn clean_merge_is_symmetric()
-    ensures { MergeIsSymmetric }
+    ensures law { MergeIsSymmetric }
 {}
 
 /// Two lists merge cleanly just where the inverse of the one passes the other.
 #[tactic(auto, using(crate::proofs::MergeGrid::merge_is_passing))]
 pub fn clean_merge_is_passing_the_inverse()
-    ensures { MergeIsPassing }
+    ensures law { MergeIsPassing }
 {}
 
 /// Each element of the first part of a split has one of the given labels, and no element of the
 /// second has.
 pub fn splits_are_by_labels()
-    ensures { SplitByLabels }
+    ensures law { SplitByLabels }
 {}

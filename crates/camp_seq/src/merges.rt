@@ -9,7 +9,7 @@ use std::alloc::AllocError;
 
 /// The inverse of a list: the inverses of its primitives, in reverse order.
 pub fn invert_all(s: &Seq) -> Result<Seq, AllocError>
-    ensures { IfOk result (λ inverse. inverse ≡ inverse_all s.now) }
+    ensures exact { IfOk result (λ inverse. inverse ≡ inverse_all s.now) }
 {
     let mut items = Vec::with_capacity(*s.items.allocator(), s.items.len())?;
     for p in &s.items {

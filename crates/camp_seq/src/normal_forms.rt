@@ -4,11 +4,11 @@ ghost use Rattle.camp_seq.specs.Room.{LawOfThree, NormalForm};
 /// the three exist and agree, given room.
 #[tactic(auto, using(crate::proofs::LawOfThree::law_of_three))]
 pub fn six_orders_of_three_agree()
-    ensures { LawOfThree }
+    ensures law { LawOfThree }
 {}
 
 /// A list with room and every list equivalent to it have one normal order.
 #[tactic(auto, using(crate::proofs::NormalForms::normal_form))]
 pub fn normal_order_is_a_normal_form()
-    ensures { NormalForm }
+    ensures law { NormalForm }
 {}

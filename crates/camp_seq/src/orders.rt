@@ -33,7 +33,7 @@ pub fn norm(s: &Seq) -> Result<Seq, AllocError>
 
 /// The list in normal order, in its place in memory. It takes no memory.
 pub fn ordered(mut s: Seq) -> Seq
-    ensures { Norm s result }
+    ensures exact { Norm s result }
 {
     order(&mut s.items);
     s
@@ -68,7 +68,7 @@ pub(crate) fn order(items: &mut [Named])
 /// Whether one look at each two neighbours tells that a list is its own normal order. Where it says no,
 /// the list may still be. It takes no memory.
 pub fn is_own_order(items: &[Named]) -> bool
-    ensures { IsTrue result → Norm items.now items.now }
+    ensures sound { IsTrue result → Norm items.now items.now }
 {
     if ascends(items) {
         return true;

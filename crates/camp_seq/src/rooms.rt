@@ -12,7 +12,7 @@ const MAX_REACH: usize = 1 << 30;
 /// A list of primitives in range whose reach is in range has room.
 #[tactic(auto, using(crate::proofs::Reaching::room_within))]
 pub fn reach_gives_room()
-    ensures { ReachGivesRoom }
+    ensures law { ReachGivesRoom }
 {}
 
 /// Whether a list has room for sure: the greatest line of its hunks and the numbers of all their

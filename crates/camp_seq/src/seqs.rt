@@ -22,7 +22,7 @@ impl Model for Seq {
 impl Seq {
     /// The list without a primitive. It takes no memory.
     pub fn empty(alloc: Global) -> Seq
-        ensures { result ≡ [] }
+        ensures exact { result ≡ [] }
     {
         Seq {
             items: Vec::new(alloc),
@@ -38,13 +38,13 @@ impl Seq {
     }
 
     pub fn items(&self) -> &[Named]
-        ensures { result.now ≡ self.now }
+        ensures exact { result.now ≡ self.now }
     {
         &self.items
     }
 
     pub fn try_clone(&self) -> Result<Seq, AllocError>
-        ensures { IfOk result (λ copy. copy ≡ self.now) }
+        ensures exact { IfOk result (λ copy. copy ≡ self.now) }
     {
         let mut items = Vec::with_capacity(*self.items.allocator(), self.items.len())?;
         for p in &self.items {
@@ -55,7 +55,7 @@ impl Seq {
 
     /// Whether the two have the same primitives in the same order. It takes no memory.
     pub fn is_same(&self, other: &Seq) -> bool
-        ensures { IsTrue result ↔ (self.now ≡ other.now) }
+        ensures exact { IsTrue result ↔ (self.now ≡ other.now) }
     {
         if self.items.len() != other.items.len() {
             return false;

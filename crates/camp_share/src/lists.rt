@@ -33,7 +33,7 @@ impl<T> Model for SharedList<T> {
 impl<T> SharedList<T> {
     /// The list without an element.
     pub fn new(alloc: Global) -> SharedList<T>
-        ensures { result ≡ [] }
+        ensures exact { result ≡ [] }
     {
         SharedList {
             parts: Vec::new(alloc),
@@ -43,21 +43,21 @@ impl<T> SharedList<T> {
 
     /// How many elements the list has.
     pub fn len(&self) -> usize
-        ensures { result ≡ length self.now }
+        ensures exact { result ≡ length self.now }
     {
         self.len
     }
 
     /// Whether the list has no element.
     pub fn is_empty(&self) -> bool
-        ensures { result ≡ (length self.now == 0) }
+        ensures exact { result ≡ (length self.now == 0) }
     {
         self.len == 0
     }
 
     /// The element at a place.
     pub fn get(&self, index: usize) -> Option<&T>
-        ensures { option_copied result ≡ slice_get self.now index }
+        ensures exact { option_copied result ≡ slice_get self.now index }
     {
         let mut left = index;
         for part in &self.parts {
@@ -111,7 +111,7 @@ impl<T> SharedList<T> {
 impl<T: Share + Drop> SharedList<T> {
     /// The list of copies of these elements.
     pub fn from_items(alloc: Global, items: &[T]) -> Result<SharedList<T>, AllocError>
-        ensures { IfOk result (λ list. list ≡ items.now) }
+        ensures exact { IfOk result (λ list. list ≡ items.now) }
     {
         let mut grown = Growing::with_room(alloc, items.len() / MAX_PART_LENGTH)?;
         grown.push_items(items)?;
@@ -124,7 +124,7 @@ impl<T: Share + Drop> SharedList<T> {
 
     /// Copies of all elements, in one vector.
     pub fn to_vec(&self) -> Result<Vec<T>, AllocError>
-        ensures { IfOk result (λ items. items.items ≡ self.now) }
+        ensures exact { IfOk result (λ items. items.items ≡ self.now) }
     {
         let mut items = Vec::with_capacity(*self.parts.allocator(), self.len)?;
         for part in &self.parts {
@@ -135,7 +135,7 @@ impl<T: Share + Drop> SharedList<T> {
 
     /// The list with one element more at its end.
     pub fn pushed(&self, item: T) -> Result<SharedList<T>, AllocError>
-        ensures { IfOk result (λ list. list ≡ self.now ++ item ∷ []) }
+        ensures exact { IfOk result (λ list. list ≡ self.now ++ item ∷ []) }
     {
         let Some(len) = self.len.checked_add(1) else {
             return Err(AllocError);
@@ -151,7 +151,7 @@ impl<T: Share + Drop> SharedList<T> {
     /// The list with one element more before the one at a place.
     pub fn inserted(&self, index: usize, item: T) -> Result<SharedList<T>, AllocError>
         requires { index ≤ length self.now }
-        ensures { IfOk result (λ list. list ≡ insert self.now index item) }
+        ensures exact { IfOk result (λ list. list ≡ insert self.now index item) }
     {
         let Some(len) = self.len.checked_add(1) else {
             return Err(AllocError);
@@ -169,7 +169,7 @@ impl<T: Share + Drop> SharedList<T> {
     pub fn spliced(&self, from: usize, to: usize, items: &[T]) -> Result<SharedList<T>, AllocError>
         requires range { from ≤ to }
         requires within { to ≤ length self.now }
-        ensures { IfOk result (λ list. list ≡ splice self.now from to items.now) }
+        ensures exact { IfOk result (λ list. list ≡ splice self.now from to items.now) }
     {
         let Some(len) = (self.len - (to - from)).checked_add(items.len()) else {
             return Err(AllocError);
@@ -186,7 +186,7 @@ impl<T: Share + Drop> SharedList<T> {
     /// The list with another element at a place.
     pub fn replaced(&self, index: usize, item: T) -> Result<SharedList<T>, AllocError>
         requires { index < length self.now }
-        ensures { IfOk result (λ list. list ≡ slice_set self.now index item) }
+        ensures exact { IfOk result (λ list. list ≡ slice_set self.now index item) }
     {
         prove!(index < self.len);
         let mut grown = Growing::with_room(*self.parts.allocator(), self.parts.len())?;
@@ -203,7 +203,7 @@ impl<T: Share + Drop> SharedList<T> {
     /// The list without the element at a place.
     pub fn without(&self, index: usize) -> Result<SharedList<T>, AllocError>
         requires { index < length self.now }
-        ensures { IfOk result (λ list. list ≡ remove self.now index) }
+        ensures exact { IfOk result (λ list. list ≡ remove self.now index) }
     {
         prove!(index < self.len);
         let mut grown = Growing::with_room(*self.parts.allocator(), self.parts.len())?;
@@ -220,7 +220,7 @@ impl<T: Share + Drop> SharedList<T> {
     pub fn copied(&self, from: usize, to: usize) -> Result<SharedList<T>, AllocError>
         requires range { from ≤ to }
         requires within { to ≤ length self.now }
-        ensures { IfOk result (λ list. list ≡ slice_range self.now from to) }
+        ensures exact { IfOk result (λ list. list ≡ slice_range self.now from to) }
     {
         prove!(to <= self.len);
         let mut grown = Growing::with_room(*self.parts.allocator(), self.parts.len())?;
@@ -268,7 +268,7 @@ impl<T: PartialEq> PartialEq for SharedList<T> {
 impl<T: PartialEq> SharedList<T> {
     /// Whether these elements stand in the list from a place on.
     pub fn has_at(&self, from: usize, items: &[T]) -> bool
-        ensures { result ≡ pointwise T.eq (take (length items.now) (drop from self.now)) items.now }
+        ensures exact { result ≡ pointwise T.eq (take (length items.now) (drop from self.now)) items.now }
     {
         let mut rest = self.iter_from(from);
         for item in items {

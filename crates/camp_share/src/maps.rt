@@ -39,7 +39,7 @@ impl<K: Key, V> Model for SharedMap<K, V> {
 impl<K: Key, V> SharedMap<K, V> {
     /// The map without an entry.
     pub fn new(alloc: Global) -> SharedMap<K, V>
-        ensures { map_of K.cmp result ≡ map.empty }
+        ensures exact { map_of K.cmp result ≡ map.empty }
     {
         SharedMap {
             entries: SharedList::new(alloc),
@@ -56,14 +56,14 @@ impl<K: Key, V> SharedMap<K, V> {
 
     /// Whether the map has no entry.
     pub fn is_empty(&self) -> bool
-        ensures { result ≡ (map.len (map_of K.cmp self.now) == 0) }
+        ensures exact { result ≡ (map.len (map_of K.cmp self.now) == 0) }
     {
         self.len() == 0
     }
 
     /// The entry at a place in the order of the keys.
     pub fn at(&self, index: usize) -> Option<&(K, V)>
-        ensures { option_copied result ≡ slice_get (map.entries (map_of K.cmp self.now)) index }
+        ensures exact { option_copied result ≡ slice_get (map.entries (map_of K.cmp self.now)) index }
     {
         self.entries.get(index)
     }
@@ -78,7 +78,7 @@ impl<K: Key, V> SharedMap<K, V> {
 
     /// The value of a key.
     pub fn get(&self, key: &K) -> Option<&V>
-        ensures { option_copied result ≡ map.get (map_of K.cmp self.now) key.now }
+        ensures exact { option_copied result ≡ map.get (map_of K.cmp self.now) key.now }
     {
         let parts = self.entries.parts();
         match search(parts, key) {
@@ -92,7 +92,7 @@ impl<K: Key, V> SharedMap<K, V> {
 
     /// Whether the map has the key.
     pub fn contains_key(&self, key: &K) -> bool
-        ensures { result ≡ map.contains_key (map_of K.cmp self.now) key.now }
+        ensures exact { result ≡ map.contains_key (map_of K.cmp self.now) key.now }
     {
         self.get(key).is_some()
     }
@@ -119,7 +119,7 @@ impl<K: Key, V> SharedMap<K, V> {
 impl<K: Key, V: Share + Drop> SharedMap<K, V> {
     /// The map in which the key has the value, whether or not it had one.
     pub fn inserted(&self, key: K, value: V) -> Result<SharedMap<K, V>, AllocError>
-        ensures { IfOk result (λ new. map_of K.cmp new ≡ map.insert (map_of K.cmp self.now) key value) }
+        ensures exact { IfOk result (λ new. map_of K.cmp new ≡ map.insert (map_of K.cmp self.now) key value) }
     {
         match self.place(&key) {
             Ok(index) => {
@@ -135,7 +135,7 @@ impl<K: Key, V: Share + Drop> SharedMap<K, V> {
 
     /// The map in which the key has the value that it had, or else this one.
     pub fn inserted_if_absent(&self, key: K, value: V) -> Result<SharedMap<K, V>, AllocError>
-        ensures { IfOk result (λ new. map_of K.cmp new ≡ (if map.contains_key (map_of K.cmp self.now) key then map_of K.cmp self.now else map.insert (map_of K.cmp self.now) key value)) }
+        ensures exact { IfOk result (λ new. map_of K.cmp new ≡ (if map.contains_key (map_of K.cmp self.now) key then map_of K.cmp self.now else map.insert (map_of K.cmp self.now) key value)) }
     {
         if self.contains_key(&key) {
             self.share()
@@ -146,7 +146,7 @@ impl<K: Key, V: Share + Drop> SharedMap<K, V> {
 
     /// The map without the key, whether or not it had it.
     pub fn without(&self, key: &K) -> Result<SharedMap<K, V>, AllocError>
-        ensures { IfOk result (λ new. map_of K.cmp new ≡ map.remove (map_of K.cmp self.now) key.now) }
+        ensures exact { IfOk result (λ new. map_of K.cmp new ≡ map.remove (map_of K.cmp self.now) key.now) }
     {
         match self.place(key) {
             Ok(index) => {
@@ -162,7 +162,7 @@ impl<K: Key, V: Share + Drop> SharedMap<K, V> {
 
     /// The map of the entries whose keys another map has too. It looks at each entry once.
     pub fn intersection<W>(&self, others: &SharedMap<K, W>) -> Result<SharedMap<K, V>, AllocError>
-        ensures { IfOk result (λ new. map_of K.cmp new ≡ map.retain_keys (map_of K.cmp self.now) (map.contains_key (map_of K.cmp others.now))) }
+        ensures exact { IfOk result (λ new. map_of K.cmp new ≡ map.retain_keys (map_of K.cmp self.now) (map.contains_key (map_of K.cmp others.now))) }
     {
         let mut kept = Vec::new(self.allocator());
         for entry in self.iter() {

@@ -29,7 +29,7 @@ impl<T> Model for Shared<T> {
 impl<T: Drop> Shared<T> {
     /// The value with its first owner. Where memory runs out, the value is dropped.
     pub fn new(alloc: Global, value: T) -> Result<Shared<T>, AllocError>
-        ensures { IfOk result (λ shared. shared ≡ value) }
+        ensures exact { IfOk result (λ shared. shared ≡ value) }
     {
         let arc = Arc::new(alloc, value)?;
         Ok(Shared { arc })

@@ -24,6 +24,7 @@ use Rattle.camp_script.specs.Canonical.{change_text}
 use Rattle.camp_script.specs.HistoryTexts.{history_text}
 use Rattle.camp_script.specs.Keeping.{kept_text}
 use Rattle.camp_script.specs.Lines.{lines_of}
+use Rattle.camp_script.specs.Signs.{equals_sign}
 use Rattle.camp_script.specs.Texts.{conflicts_text, name_text, reply_text, signed_line, tree_text}
 use Rattle.camp_talk.specs.Entries.{Entries}
 use Rattle.camp_talk.specs.Help.{help_text}
@@ -56,7 +57,7 @@ graph_told graph = counted (codes "graph") (graph_text graph)
 
 -- NAME =LINE: a line of a file behind the name of the patch that put it there
 abbrev pub annotated_line : List ℕ × List ℕ → List ℕ
-annotated_line pair = pair.1 ++ 32 ∷ signed_line 61 pair.0
+annotated_line pair = pair.1 ++ 32 ∷ signed_line equals_sign pair.0
 
 -- the lines of a file with their names, or that there is no file
 abbrev pub annotated_told : Annotated → List ℕ

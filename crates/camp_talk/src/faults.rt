@@ -21,7 +21,7 @@ pub enum TalkFault {
 impl TalkFault {
     /// The exit status of a program that ends with it.
     pub fn status(&self) -> u8
-        ensures { result ≡ 3 }
+        ensures exact { result ≡ 3 }
     {
         3
     }
@@ -55,7 +55,7 @@ pub enum LoadFault {
 impl LoadFault {
     /// The exit status of a program that ends with it.
     pub fn status(&self) -> u8
-        ensures { result ≡ load_status self.now }
+        ensures exact { result ≡ load_status self.now }
     {
         match self {
             LoadFault::Answer { .. } => 1,

@@ -16,7 +16,7 @@ pub fn load<R: BufRead>(
     book: &mut Book<State>,
     reader: &mut R,
 ) -> Result<(), LoadFault>
-    ensures { Loads (R.remaining reader.old) (R.remaining reader.new) book.old result book.new }
+    ensures loads { Loads (R.remaining reader.old) (R.remaining reader.new) book.old result book.new }
 {
     let mut lines = 0;
     for _ in 0..u64::MAX {

@@ -62,7 +62,7 @@ pub fn turn<R: BufRead, W: Write>(
     reader: &mut R,
     writer: &mut W,
 ) -> Result<bool, TalkFault>
-    ensures { Turns (R.remaining reader.old) (R.remaining reader.new) (W.contents writer.old) (W.contents writer.new)
+    ensures turns { Turns (R.remaining reader.old) (R.remaining reader.new) (W.contents writer.old) (W.contents writer.new)
         (record { history = book.old; lines = lines.old }) result (record { history = book.new; lines = lines.new }) }
 {
     let heard = hear(alloc, book, *lines, reader)?;
@@ -83,7 +83,7 @@ pub fn talk<R: BufRead, W: Write>(
     reader: &mut R,
     writer: &mut W,
 ) -> Result<(), TalkFault>
-    ensures { Talks (R.remaining reader.old) (R.remaining reader.new) (W.contents writer.old) (W.contents writer.new)
+    ensures talks { Talks (R.remaining reader.old) (R.remaining reader.new) (W.contents writer.old) (W.contents writer.new)
         book.old result book.new }
 {
     let mut lines = 0;

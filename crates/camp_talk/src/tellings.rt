@@ -19,7 +19,7 @@ pub fn answer_question(
     book: &Book<State>,
     question: &Question,
 ) -> Result<Vec<u8>, AllocError>
-    ensures { IfOk result (λ text. TellsQuestion book.now question.now text.items) }
+    ensures text { IfOk result (λ text. TellsQuestion book.now question.now text.items) }
 {
     answer_at(alloc, book.history(), book.state(), question)
 }

@@ -16,7 +16,7 @@ use Rattle.camp_call.specs.declared.replies.Reply.TheVariants as reply
 use Rattle.camp_call.specs.declared.replies.Refusal.{Refusal}
 use Rattle.camp_call.specs.declared.replies.Refusal.TheVariants.{NoBranch, NoPatch, NothingToDo, SameBranch, TooLarge}
 use Rattle.camp_object.specs.declared.objects.Decided.TheVariants.{Next, Answer}
-use Rattle.camp_repo.specs.Lawful.{IsLawful}
+use Rattle.camp_repo.specs.Lawful.{IsLawfulState}
 use Rattle.camp_repo.specs.Laws.{AcceptedCallsHaveEffect, Has}
 use Rattle.camp_repo.specs.Outcomes.{pulled}
 use Rattle.camp_repo.specs.States.{Contents, catches_of}
@@ -181,7 +181,7 @@ module _ (state : Contents) (from to : List ℕ) (names needed : List (List ℕ)
   either_way false = refl
 
   -- what an accepted pull brings
-  pub pull_brings : NeedsComeFirst → AcceptedCallsHaveEffect → (next : Contents) → IsLawful state → Next next ≡ step state (call.Pull from to (Some needed)) → PullsWithNeeds state from to names next
+  pub pull_brings : NeedsComeFirst → AcceptedCallsHaveEffect → (next : Contents) → IsLawfulState state → Next next ≡ step state (call.Pull from to (Some needed)) → PullsWithNeeds state from to names next
   pull_brings first effect next lawful e =
       let pulls = effect state (call.Pull from to (Some needed)) next lawful (sym e) in
       let ours = pulls.ours in
@@ -208,7 +208,7 @@ not_none names some e = let none : length names ≡ 0 = ap length e in absurd (o
 accepted_and_answered : {A : Type 0} (decision : Decision) (next : Contents) (answer : Reply) → decision ≡ Next next → Answer answer ≡ decision → A
 accepted_and_answered decision next answer v w = cc
 
-module _ (state : Contents) (branch : List ℕ) (names : List (List ℕ)) (some : 0 < length names) (can : HeldCanGo) (effect : AcceptedCallsHaveEffect) (lawful : IsLawful state) where
+module _ (state : Contents) (branch : List ℕ) (names : List (List ℕ)) (some : 0 < length names) (can : HeldCanGo) (effect : AcceptedCallsHaveEffect) (lawful : IsLawfulState state) where
   module _ (held : List (List ℕ)) (told : AreHeldBy state branch names (Ok held)) where
     found_held : IsAnswered state branch names (Related HeldBy names) (Ok held)
     found_held = answered state branch names (Related HeldBy names) (Ok held) held refl told

@@ -3,7 +3,7 @@ use Rattle.std.proofs.Common.{◌≡◌, ◌≤◌, ℕ, List, [], ◌∷◌, �
 use Rattle.camp_call.specs.declared.calls.Call.TheVariants as call
 use Rattle.camp_call.specs.declared.calls.Call.{Call}
 use Rattle.camp_prim.specs.declared.primitives.Primitive.{Primitive}
-use Rattle.camp_script.specs.Canonical.{IsCall, ReadsBack, call_text}
+use Rattle.camp_script.specs.Canonical.{IsScriptCall, ReadsBack, call_text}
 use Rattle.camp_script.specs.Keeping.{CanStand}
 use Rattle.camp_script.specs.Reading.{script_of}
 use Rattle.camp_script.specs.declared.faults.LineFault.{LineFault}

@@ -2,7 +2,7 @@
 ghost use Rattle.std.specs.Prelude.{IfOk, IfSome, OnOk};
 ghost use Rattle.camp_object.specs.Histories.{IsFront, own};
 ghost use Rattle.camp_history.specs.Kept.{IsKeptBy};
-ghost use Rattle.camp_history.specs.Seats.{IsSeatOf, history_of};
+ghost use Rattle.camp_history.specs.Seats.{IsSeatOf, history_of, number_of};
 ghost use Rattle.camp_uses.specs.Shared.{Grows, HoldsTree};
 
 use camp_base::{Name, Tree};
@@ -46,8 +46,8 @@ pub fn tree_at(
 pub fn ask_and_meet(head: &Head, first: Seat, second: Seat, one: Kept, two: Kept) -> Met
     requires seats { IsSeatOf head.now first × IsSeatOf head.now second }
     requires kept { IsKeptBy head.now one × IsKeptBy head.now two }
-    ensures first { Grows (own first.known.number (history_of first)) one.call result.first_answer (own first.known.number (history_of result.first)) }
-    ensures second { Grows (own second.known.number (history_of second)) two.call result.second_answer (own second.known.number (history_of result.second)) }
+    ensures first { Grows (own (number_of first) (history_of first)) one.call result.first_answer (own (number_of first) (history_of result.first)) }
+    ensures second { Grows (own (number_of second) (history_of second)) two.call result.second_answer (own (number_of second) (history_of result.second)) }
     ensures one_history { OnOk result.met (IsFront (history_of result.second) (history_of result.first)) }
 {
     let mut first = first;

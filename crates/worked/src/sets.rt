@@ -2,7 +2,7 @@ use crate::calls::{CallLine, ask_one, ask_two, find};
 use crate::results::{Outcome, Shown, found, made, yes_or_no};
 use crate::tables::Table;
 use crate::wants::Wants;
-use camp_ctx::{Contexted, CtxSet};
+use camp_ctx::{Contexted, ContextedSet};
 use camp_prim::{Label, Named};
 use camp_seq::Seq;
 
@@ -60,48 +60,48 @@ impl SetCall {
     }
 }
 
-fn read(table: &Table, set: &CtxSet) -> Outcome {
+fn read(table: &Table, set: &ContextedSet) -> Outcome {
     set.shown(table)
 }
 
-fn copy(table: &Table, set: &CtxSet) -> Outcome {
+fn copy(table: &Table, set: &ContextedSet) -> Outcome {
     made(table, set.try_clone())
 }
 
-fn are_same(table: &Table, left: &CtxSet, right: &CtxSet) -> Outcome {
+fn are_same(table: &Table, left: &ContextedSet, right: &ContextedSet) -> Outcome {
     yes_or_no(table, left.is_same(right))
 }
 
-fn member_count(table: &Table, set: &CtxSet) -> Outcome {
+fn member_count(table: &Table, set: &ContextedSet) -> Outcome {
     let count = set.len();
     Ok(format!(in table.alloc(); "{count}")?)
 }
 
 /// An absolute label is written as a label without a caret.
-fn member(table: &Table, set: &CtxSet, label: &Label) -> Outcome {
+fn member(table: &Table, set: &ContextedSet, label: &Label) -> Outcome {
     found(table, set.get(&label.key()))
 }
 
-fn member_at(table: &Table, set: &CtxSet, index: &u32) -> Outcome {
+fn member_at(table: &Table, set: &ContextedSet, index: &u32) -> Outcome {
     found(table, set.at(*index as usize))
 }
 
-fn sole_member(table: &Table, set: &CtxSet) -> Outcome {
+fn sole_member(table: &Table, set: &ContextedSet) -> Outcome {
     found(table, set.sole())
 }
 
-fn insert(table: &Table, set: &CtxSet, x: &Contexted) -> Outcome {
+fn insert(table: &Table, set: &ContextedSet, x: &Contexted) -> Outcome {
     made(table, set.insert(x))
 }
 
-fn without(table: &Table, set: &CtxSet, label: &Label) -> Outcome {
+fn without(table: &Table, set: &ContextedSet, label: &Label) -> Outcome {
     made(table, set.without(&label.key()))
 }
 
-fn add_one(table: &Table, p: &Named, set: &CtxSet) -> Outcome {
-    made(table, CtxSet::add_one(p, set))
+fn add_one(table: &Table, p: &Named, set: &ContextedSet) -> Outcome {
+    made(table, ContextedSet::add_one(p, set))
 }
 
-fn add(table: &Table, s: &Seq, set: &CtxSet) -> Outcome {
-    made(table, CtxSet::add(s, set))
+fn add(table: &Table, s: &Seq, set: &ContextedSet) -> Outcome {
+    made(table, ContextedSet::add(s, set))
 }

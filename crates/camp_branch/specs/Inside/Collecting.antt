@@ -6,7 +6,7 @@ use Rattle.std.specs.Cmp.Lexicographic.{slice_cmp}
 use Rattle.std.specs.FinMap.{keys}
 use Rattle.std.specs.declared.cmp.Ordering.{Ordering}
 use Rattle.std.specs.declared.cmp.Ordering.TheVariants.{Less, Equal, Greater}
-use Rattle.camp_ctx.specs.Contexts.{Contexts}
+use Rattle.camp_ctx.specs.Contexts.{ContextedPatches}
 use Rattle.camp_catch.specs.declared.catches.Catch.{Catch}
 use Rattle.camp_catch.specs.declared.catches.Catch.TheVariants.{Plain}
 use Rattle.camp_branch.specs.Branches.{name_of}
@@ -22,7 +22,7 @@ abbrev pub pair_of : List ℕ → List ℕ → List (List ℕ × List ℕ)
 pair_of first second = ordered_by (slice_cmp nat_cmp first second) first second
 
 -- the names of the patches in a set
-abbrev pub names_within : Contexts → List (List ℕ)
+abbrev pub names_within : ContextedPatches → List (List ℕ)
 names_within xs = map (λ key. key.name) (keys xs)
 
 -- the names of the patches in the set of a catch

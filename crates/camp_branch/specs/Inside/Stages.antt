@@ -21,10 +21,10 @@ DivergesIn names list blocked =
 
 -- the common patches are not the same in the order of those of the other branch
 abbrev pub DivergesFrom : List Catch → List Catch → Blocked → Type 0
-DivergesFrom ours theirs blocked =
-    ((stuck : Key) × AlignSticks (keys_of theirs) ours stuck × (blocked ≡ Diverged stuck.name))
+DivergesFrom from_common to_common blocked =
+    ((stuck : Key) × AlignSticks (keys_of to_common) from_common stuck × (blocked ≡ Diverged stuck.name))
     ⊎ ((aligned : List Catch) × (name : List ℕ)
-    × Align (keys_of theirs) ours aligned × DiffersAt aligned theirs name × (blocked ≡ Diverged name))
+    × Align (keys_of to_common) from_common aligned × DiffersAt aligned to_common name × (blocked ≡ Diverged name))
 
 -- two patches do not merge
 abbrev pub DoesNotMerge : List Catch → List Catch → Blocked → Type 0

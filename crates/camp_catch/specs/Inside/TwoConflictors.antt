@@ -4,7 +4,7 @@ use Rattle.camp_prim.specs.declared.named.Named.{Named}
 use Rattle.camp_seq.specs.NormalOrder.{Norm}
 use Rattle.camp_ctx.specs.Adding.{AddsAll}
 use Rattle.camp_ctx.specs.Conflicts.{MergesBehindCommon, Conflict}
-use Rattle.camp_ctx.specs.Contexts.{InContext}
+use Rattle.camp_ctx.specs.Contexts.{ContextedPatch}
 use Rattle.camp_catch.specs.Merging.{JoinsWhere}
 use Rattle.camp_catch.specs.declared.catches.Catch.{Catch}
 use Rattle.camp_catch.specs.declared.catches.Conflictor.{Conflictor}
@@ -19,8 +19,8 @@ pub record EffectsMerge (r s s2 r2 : List Named) : Type 0 where
 
 -- whether two identities conflict, as seen before the effects
 pub record TellsConflict (j k : Conflictor) (found : Bool) : Type 0 where
-  pub x : InContext
-  pub y : InContext
+  pub x : ContextedPatch
+  pub y : ContextedPatch
   pub own_sees : AddsAll j.effect j.identity x
   pub sees : AddsAll k.effect k.identity y
   pub tells : IsTrue found ↔ Conflict x y

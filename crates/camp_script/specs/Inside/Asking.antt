@@ -1,11 +1,12 @@
 -- What a line asks a reader for, and what a line of a group tells it.
 use Rattle.std.specs.Prelude.{◌≡◌, ◌≤◌, ◌<◌, ℕ, length, Result, Ok, Err}
+use Rattle.camp_base.specs.Limits.{most_changes}
 use Rattle.camp_prim.specs.Hunks.{Edit}
 use Rattle.camp_prim.specs.declared.primitives.Primitive.{Primitive}
 use Rattle.camp_prim.specs.declared.primitives.Primitive.TheVariants.{Hunk}
 use Rattle.camp_script.specs.Changes.{GroupLine, WholeChange, EditChange, EndGroup, ended}
 use Rattle.camp_script.specs.Commands.{Command, Ask, BeginEdit, BeginGroup, BeginSection}
-use Rattle.camp_script.specs.Gives.{IsFaultIn}
+use Rattle.camp_script.specs.Gives.{IsFaultFirst}
 use Rattle.camp_script.specs.Words.{◌>>=◌}
 use Rattle.camp_script.specs.Inside.Progress.{Progress, OpenRecord}
 use Rattle.camp_script.specs.Inside.Steps.{obeyed, heeded}
@@ -31,7 +32,7 @@ IsCounted other = Unit {0}
 -- an answer is what the line of a number asks for, or its fault; memory runs out only where the reader would have none
 abbrev pub Asks : ℕ → Progress → Result Asked ScriptFault → Result Command LineFault → Type 0
 Asks number progress (Ok asked) reading = (reading ≡ Ok (command_asked asked)) × IsCounted asked
-Asks number progress (Err fault) reading = IsFaultIn fault (obeyed number progress reading)
+Asks number progress (Err fault) reading = IsFaultFirst fault (obeyed number progress reading)
 
 -- what is told of a group
 abbrev pub line_told : Told → GroupLine
@@ -41,14 +42,14 @@ line_told told.Done = EndGroup
 
 -- a group of so many changes has room for what is told, and the line of an edit is counted from 1
 abbrev pub HasRoomToAdd : ℕ → Told → Type 0
-HasRoomToAdd count (told.Change change) = count < 64
-HasRoomToAdd count (told.Edit path line) = (1 ≤ line) × (count < 64)
+HasRoomToAdd count (told.Change change) = count < most_changes
+HasRoomToAdd count (told.Edit path line) = (1 ≤ line) × (count < most_changes)
 HasRoomToAdd count told.Done = Unit {0}
 
 -- an answer is what a line of a group tells, or its fault; memory runs out only where the reader would have none
 abbrev pub Tells : ℕ → Progress → OpenRecord → Result Told ScriptFault → Result GroupLine LineFault → Type 0
 Tells number progress begun (Ok told) reading = (reading ≡ Ok (line_told told)) × HasRoomToAdd (length begun.changes) told
-Tells number progress begun (Err fault) reading = IsFaultIn fault (heeded number progress begun reading)
+Tells number progress begun (Err fault) reading = IsFaultFirst fault (heeded number progress begun reading)
 
 -- the change of an edit whose `end` stands at a line
 abbrev pub ended_change : ℕ → Edit → Result Primitive LineFault

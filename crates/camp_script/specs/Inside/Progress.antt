@@ -8,6 +8,7 @@ use Rattle.camp_call.specs.declared.calls.Call.{Call}
 use Rattle.camp_call.specs.declared.calls.Call.TheVariants as call
 use Rattle.camp_script.specs.Faults.{fault_at}
 use Rattle.camp_script.specs.Reading.{is_full}
+use Rattle.camp_script.specs.Sections.{most_clients}
 use Rattle.camp_script.specs.declared.faults.FaultKind.TheVariants.{TooManyClients, TooManyCommands}
 use Rattle.camp_script.specs.declared.faults.FaultKind.TheVariants.{BadGroup, EditNotEnded, GroupNotEnded}
 use Rattle.camp_script.specs.declared.faults.LineFault.{LineFault}
@@ -76,7 +77,7 @@ after_head line progress begun =
 -- after the line of a client: the next section begins
 abbrev pub after_client : ℕ → Progress → Result Progress LineFault
 after_client line progress =
-    if nat_le 63 (length progress.closed) then fault_at line TooManyClients
+    if nat_le most_clients (length progress.closed) then fault_at line TooManyClients
     else Ok (record { closed = progress.closed ++ progress.calls ∷ []; calls = []; open_record = None })
 
 -- after the last line of a record

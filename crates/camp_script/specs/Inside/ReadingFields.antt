@@ -2,11 +2,13 @@
 use Rattle.std.specs.Prelude.{◌≡◌, ◌≤◌, ◌<◌, length, map, count_by, Option, None, Some, List}
 use Rattle.std.specs.List.{AllByRecursion}
 use Rattle.std.specs.Option.{option_map}
+use Rattle.camp_base.specs.Limits.{most_changes}
 use Rattle.camp_prim.specs.Hunks.{Edit}
 use Rattle.camp_prim.specs.declared.primitives.Primitive.{Primitive}
 use Rattle.camp_call.specs.Calls.{is_writing}
 use Rattle.camp_call.specs.declared.calls.Call.{Call}
-use Rattle.camp_script.specs.Gives.{IsFaultIn}
+use Rattle.camp_script.specs.Gives.{IsFaultFirst}
+use Rattle.camp_script.specs.Sections.{most_clients, most_writing_calls}
 use Rattle.camp_script.specs.declared.faults.ScriptFault.{ScriptFault}
 use Rattle.camp_script.specs.Inside.Progress as progress
 use Rattle.camp_script.specs.Inside.Progress.{Progress}
@@ -35,7 +37,7 @@ open_record_of begun = record {
 
 -- a fault is what is told where a script ends in a record
 abbrev pub IsNotEnded : ScriptFault → progress.OpenRecord → Type 0
-IsNotEnded fault begun = IsFaultIn {A = List (List Call)} fault (progress.not_ended begun begun.open_edit)
+IsNotEnded fault begun = IsFaultFirst {A = List (List Call)} fault (progress.not_ended begun begun.open_edit)
 
 -- the progress that the fields stand for
 abbrev pub progress_of : Inside → Progress
@@ -47,16 +49,16 @@ progress_of reading = record {
 
 -- the section may have one more writing call
 abbrev pub MayGrow : List Call → Type 0
-MayGrow calls = count_by is_writing calls < 65_536
+MayGrow calls = count_by is_writing calls < most_writing_calls
 
 -- an edit has a line, counted from 1, and the record has room for it
 abbrev pub HasRoomFor : List Primitive → Option OpenEdit → Type 0
 HasRoomFor changes None = Unit {0}
-HasRoomFor changes (Some edit) = (1 ≤ edit.line) × (length changes < 64)
+HasRoomFor changes (Some edit) = (1 ≤ edit.line) × (length changes < most_changes)
 
 -- an open record has room for its changes, and its section for its call
 abbrev pub IsOpen : List Call → OpenRecord → Type 0
-IsOpen calls begun = MayGrow calls × (length begun.changes.items ≤ 64) × HasRoomFor begun.changes.items begun.open_edit
+IsOpen calls begun = MayGrow calls × (length begun.changes.items ≤ most_changes) × HasRoomFor begun.changes.items begun.open_edit
 
 -- the same where a record is open
 abbrev pub IsAwaited : List Call → Option OpenRecord → Type 0
@@ -65,12 +67,12 @@ IsAwaited calls (Some begun) = IsOpen calls begun
 
 -- sections that are closed: each has as many writing calls as it may have at most, and there is room for one more
 pub record AreClosed (sections : List (List Call)) : Type 0 where
-  pub few : length sections ≤ 63
-  pub writes : AllByRecursion (λ section. count_by is_writing section ≤ 65_536) sections
+  pub few : length sections ≤ most_clients
+  pub writes : AllByRecursion (λ section. count_by is_writing section ≤ most_writing_calls) sections
 
 -- the number of writing calls is kept and within the limit
 pub record IsKept (reading : Inside) : Type 0 where
   pub closed : AreClosed (map (λ section. section.items) reading.closed.items)
   pub writes : reading.writes ≡ count_by is_writing reading.calls.items
-  pub few : count_by is_writing reading.calls.items ≤ 65_536
+  pub few : count_by is_writing reading.calls.items ≤ most_writing_calls
   pub awaited : IsAwaited reading.calls.items reading.open_record

@@ -66,11 +66,11 @@ read_from line progress (bytes ∷ lines) =
     after_line line progress.open_record progress bytes >>= λ next. read_from (line + 1) next lines
 
 -- a line says something: it is a line of a body, or it is not skipped
-abbrev pub SaysIn : Option OpenEdit → List ℕ → Type 0
-SaysIn None bytes = is_skipped (words_of bytes) ≡ false
-SaysIn (Some body) bytes = Unit {0}
+abbrev pub SaysSomethingIn : Option OpenEdit → List ℕ → Type 0
+SaysSomethingIn None bytes = is_skipped (words_of bytes) ≡ false
+SaysSomethingIn (Some body) bytes = Unit {0}
 
 -- the same, whether a record is open or not
-abbrev pub Says : Option OpenRecord → List ℕ → Type 0
-Says None bytes = is_skipped (words_of bytes) ≡ false
-Says (Some begun) bytes = SaysIn begun.open_edit bytes
+abbrev pub SaysSomething : Option OpenRecord → List ℕ → Type 0
+SaysSomething None bytes = is_skipped (words_of bytes) ≡ false
+SaysSomething (Some begun) bytes = SaysSomethingIn begun.open_edit bytes

@@ -3,4 +3,4 @@ use Rattle.camp_base.proofs.LineLemmas.{lines_told}
 use Rattle.camp_base.proofs.trees.stands_at.Goals as goal
 
 pub returns : goal.returns
-returns c = lines_told c.args.line c.args.old.now c.args.lines.now _ (omega arith) (omega arith) c.has_at.ensures
+returns c = lines_told c.args.line c.args.old.now c.args.lines.now _ (omega arith) (omega arith) c.has_at.ensures.exact

@@ -11,5 +11,5 @@ loop-change-preserved c =
 
 pub returns : goal.returns
 returns c =
-    appended c.args.catches.now c.args.catches.now c.deref.result.now c.in_ok-list.list c.len-end.result c.len-end.ensures refl c.in_ok-list.ensures
+    appended c.args.catches.now c.args.catches.now c.deref.result.now c.in_ok-list.list c.len-end.result c.len-end.ensures.exact refl c.in_ok-list.ensures.exact
     ∙ ap (λ xs. c.args.catches.now ++ xs) (c.deref.ensures.value ∙ c.loop-change.invariant.0 ∙ ap (recorded c.args.name.now 1) (take_all c.loop-change.change-index c.args.changes.now (omega arith)))

@@ -8,10 +8,10 @@ use Rattle.camp_branch.proofs.conflicts.pair_with_each.Goals as goal
 pub loop-index-preserved : goal.loop-index-preserved
 loop-index-preserved c = elim c.match-at.branch [
   | in-Some+in_ok-push_pair w ↦
-      let at = rw w.in-Some.is at c.at.ensures in
-      one_more_paired c.args.name.now (members_of c.args.set.now) c.loop-index.index _ c.args.pairs.now.items c.loop-index.pairs.items c.match-at.pairs.items at c.loop-index.invariant (ap (λ v. v.items) w.pairs-is ∙ w.in_ok-push_pair.ensures ∙ ap (λ n. c.loop-index.pairs.items ++ pair_of c.args.name.now n) w.name.ensures)
+      let at = rw w.in-Some.is at c.at.ensures.exact in
+      one_more_paired c.args.name.now (members_of c.args.set.now) c.loop-index.index _ c.args.pairs.now.items c.loop-index.pairs.items c.match-at.pairs.items at c.loop-index.invariant (ap (λ v. v.items) w.pairs-is ∙ w.in_ok-push_pair.ensures ∙ ap (λ n. c.loop-index.pairs.items ++ pair_of c.args.name.now n) w.name.ensures.exact)
   | in_default w ↦
-      let none = rw w.in_default.is at c.at.ensures in
+      let none = rw w.in_default.is at c.at.ensures.exact in
       some_member c.args.set.now c.loop-index.index _ c.len-index-end.ensures.value c.loop-index-test.true none
 ]
 

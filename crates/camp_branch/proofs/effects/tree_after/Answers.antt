@@ -5,9 +5,9 @@ use Rattle.camp_branch.proofs.effects.tree_after.Goals as goal
 
 pub run-requires : goal.run-requires
 run-requires c = record {
-  runs = next_effect c.args.catches.now c.loop-catch.catch-index c.catch-item.result c.catch-item.result c.effect.result.now c.args.tree.now c.loop-catch.after c.requires.fits.0 c.loop-catch.invariant (omega arith) c.catch-item.is (c.effect.ensures ∙ ap effect_of c.deref.ensures) c.requires.fits.1;
+  runs = next_effect c.args.catches.now c.loop-catch.catch-index c.catch-item.result c.catch-item.result c.effect.result.now c.args.tree.now c.loop-catch.after c.requires.fits.0 c.loop-catch.invariant (omega arith) c.catch-item.is (c.effect.ensures.exact ∙ ap effect_of c.deref.ensures) c.requires.fits.1;
 }
 
 pub loop-catch-preserved : goal.loop-catch-preserved
 loop-catch-preserved c =
-    one_fits_on c.args.catches.now c.loop-catch.catch-index c.catch-item.result c.catch-item.result c.effect.result.now c.args.tree.now c.loop-catch.after c.run.new.tree c.loop-catch.invariant (omega arith) c.catch-item.is (c.effect.ensures ∙ ap effect_of c.deref.ensures) c.in_ok-run.ensures
+    one_fits_on c.args.catches.now c.loop-catch.catch-index c.catch-item.result c.catch-item.result c.effect.result.now c.args.tree.now c.loop-catch.after c.run.new.tree c.loop-catch.invariant (omega arith) c.catch-item.is (c.effect.ensures.exact ∙ ap effect_of c.deref.ensures) c.in_ok-run.ensures

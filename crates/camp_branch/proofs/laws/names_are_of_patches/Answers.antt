@@ -2,4 +2,4 @@ use Rattle.camp_branch.proofs.BranchLabels.{names_of_patches}
 use Rattle.camp_branch.proofs.laws.names_are_of_patches.Goals as goal
 
 pub returns : goal.returns
-returns c = names_of_patches
+returns c = record { law = names_of_patches }

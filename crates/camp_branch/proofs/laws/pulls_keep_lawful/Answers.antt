@@ -2,4 +2,4 @@ use Rattle.camp_branch.proofs.KeepLawful.{pulls_keep_lawful}
 use Rattle.camp_branch.proofs.laws.pulls_keep_lawful.Goals as goal
 
 pub returns : goal.returns
-returns c = pulls_keep_lawful
+returns c = record { law = pulls_keep_lawful }

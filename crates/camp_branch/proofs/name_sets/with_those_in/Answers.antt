@@ -8,8 +8,8 @@ use Rattle.camp_branch.proofs.name_sets.with_those_in.Goals as goal
 
 pub loop-catch-preserved-then-not-contains_key : goal.loop-catch-preserved-then-not-contains_key
 loop-catch-preserved-then-not-contains_key c =
-    one_not_held (map_of (slice_cmp nat_cmp) c.args.names.now) (map_of (slice_cmp nat_cmp) c.loop-catch.all) c.args.list.now c.loop-catch.catch-index c.catch-item.result c.catch-item.result c.name-name.result.now _ c.loop-catch.invariant (omega arith) c.catch-item.is (c.name-name.ensures ∙ ap name_of c.deref.ensures) (sym c.contains_key.ensures ∙ c.if-not-contains_key.true)
+    one_not_held (map_of (slice_cmp nat_cmp) c.args.names.now) (map_of (slice_cmp nat_cmp) c.loop-catch.all) c.args.list.now c.loop-catch.catch-index c.catch-item.result c.catch-item.result c.name-name.result.now _ c.loop-catch.invariant (omega arith) c.catch-item.is (c.name-name.ensures.exact ∙ ap name_of c.deref.ensures) (sym c.contains_key.ensures.exact ∙ c.if-not-contains_key.true)
 
 pub loop-catch-preserved : goal.loop-catch-preserved
 loop-catch-preserved c =
-    one_held (map_of (slice_cmp nat_cmp) c.args.names.now) (map_of (slice_cmp nat_cmp) c.loop-catch.all) c.args.list.now c.loop-catch.catch-index c.catch-item.result c.catch-item.result c.name-name.result.now _ c.loop-catch.invariant (omega arith) c.catch-item.is (c.name-name.ensures ∙ ap name_of c.deref.ensures) (map_of (slice_cmp nat_cmp) c.in_ok-all-2.all) (sym c.contains_key.ensures ∙ c.if-not-contains_key.false) c.in_ok-all-2.ensures
+    one_held (map_of (slice_cmp nat_cmp) c.args.names.now) (map_of (slice_cmp nat_cmp) c.loop-catch.all) c.args.list.now c.loop-catch.catch-index c.catch-item.result c.catch-item.result c.name-name.result.now _ c.loop-catch.invariant (omega arith) c.catch-item.is (c.name-name.ensures.exact ∙ ap name_of c.deref.ensures) (map_of (slice_cmp nat_cmp) c.in_ok-all-2.all) (sym c.contains_key.ensures.exact ∙ c.if-not-contains_key.false) c.in_ok-all-2.ensures.exact

@@ -11,7 +11,7 @@ returns-in-Ok-choice c =
     let wanted = names_in c.args.wanted.now in
     let from : List Catch = c.args.from.now in
     let to : List Catch = c.args.to.now in
-    let ours : List Catch = c.deref-in-Ok-choice.result.now in
+    let from_common : List Catch = c.deref-in-Ok-choice.result.now in
     let behind : List Catch = c.deref.result.now in
     let chosen : List Catch = c.deref-in-Ok-choice-2.result.now in
     let left : List Catch = c.in-Ok-choice.choice.rest.items in
@@ -20,7 +20,7 @@ returns-in-Ok-choice c =
     let next = rw c.in-Ok-choice.is at c.in_ok-choice-in-Ok.ensures.exact in
     let choice = subst (λ x. Arrange wanted behind x left) (sym c.deref-in-Ok-choice-2.ensures.value) next in
     record {
-      exact = either_answer _ _ _ _ (λ taken w. goes_behind common from to wanted ours behind front chosen left choice (Ok (to ++ taken.items)) w) (λ blocked w. goes_behind common from to wanted ours behind front chosen left choice (Err blocked) w) c.merge_behind.result c.merge_behind.ensures.exact;
+      exact = either_answer _ _ _ _ (λ taken w. goes_behind common from to wanted from_common behind front chosen left choice (Ok (to ++ taken.items)) w) (λ blocked w. goes_behind common from to wanted from_common behind front chosen left choice (Err blocked) w) c.merge_behind.result c.merge_behind.ensures.exact;
     }
 
 pub returns-in-Ok : goal.returns-in-Ok

@@ -37,7 +37,7 @@ returns-in-Err g c =
     let is = subst (IsOf names) c.deref.ensures (c.is_of.ensures.0 c.if-not-is_of.false) in
     let stopped = rw c.in-Err.is at c.in_ok-moved.ensures.exact in
     let stops = subst (λ x. StopsAt x k on) c.deref_mut.ensures.value stopped in
-    let patch = c.key-patch.ensures ∙ ap catch_key c.deref-in-loop-catch.ensures in
+    let patch = c.key-patch.ensures.exact ∙ ap catch_key c.deref-in-loop-catch.ensures in
     record { exact = up.sticks c.key-patch.result on (inl (is, stops, patch)) }
 
 pub loop-catch-preserved : goal.loop-catch-preserved

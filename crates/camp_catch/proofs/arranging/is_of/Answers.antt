@@ -10,5 +10,5 @@ pub returns : goal.returns
 returns g c =
     let m = map_of (slice_cmp nat_cmp) c.args.names.now in
     let seen = names_decide m c.name.result.now in
-    let named = c.name.ensures in
-    (λ yes. subst (Contains (keys m)) named (seen.0 (sym c.contains_key.ensures ∙ yes)), λ is. c.contains_key.ensures ∙ seen.1 (subst (Contains (keys m)) (sym named) is))
+    let named = c.name.ensures.exact in
+    (λ yes. subst (Contains (keys m)) named (seen.0 (sym c.contains_key.ensures.exact ∙ yes)), λ is. c.contains_key.ensures.exact ∙ seen.1 (subst (Contains (keys m)) (sym named) is))

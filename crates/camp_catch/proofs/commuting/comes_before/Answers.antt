@@ -11,9 +11,9 @@ returns-in_default c =
 pub first_of-requires : goal.first_of-requires
 first_of-requires c =
     let passes = rw c.in-Some.is at c.in_ok-behind.ensures in
-    ap length c.items.ensures ∙ length-passes_all c.args.r.now (c.args.b.now ∷ []) _ _ passes
+    ap length c.items.ensures.exact ∙ length-passes_all c.args.r.now (c.args.b.now ∷ []) _ _ passes
 
 pub returns : goal.returns
 returns c =
     let passes = rw c.in-Some.is at c.in_ok-behind.ensures in
-    subst (λ t. PassesAll c.args.r.now (c.args.b.now ∷ []) t c.in-Some.left) (sym c.items.ensures ∙ c.in_ok-first.ensures) passes
+    subst (λ t. PassesAll c.args.r.now (c.args.b.now ∷ []) t c.in-Some.left) (sym c.items.ensures.exact ∙ c.in_ok-first.ensures) passes

@@ -11,4 +11,4 @@ returns-in_default c =
 pub returns : goal.returns
 returns c =
     let front = rw c.in-Some.is at c.in_ok-found.ensures in
-    leaves_from c.args.a.now c.args.k.now _ c.requires.member c.requires.named c.requires.several _ _ _ _ front (c.key.ensures ∙ ap key_of c.label.ensures) c.in_ok-second.ensures c.in_ok-first.ensures
+    leaves_from c.args.a.now c.args.k.now _ c.requires.member c.requires.named c.requires.several _ _ _ _ front (c.key.ensures.exact ∙ ap key_of c.label.ensures.exact) c.in_ok-second.ensures c.in_ok-first.ensures

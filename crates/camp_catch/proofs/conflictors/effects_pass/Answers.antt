@@ -25,6 +25,6 @@ returns c =
       passes = passes;
       s' = joins.0;
       second = joins.1;
-      first = c.ordered.ensures;
-      joined = joins.2;
+      first = c.ordered.ensures.exact;
+      whole = joins.2;
     }

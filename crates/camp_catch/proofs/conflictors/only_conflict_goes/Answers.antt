@@ -4,20 +4,20 @@ use Rattle.camp_catch.proofs.CommuteSteps.{another_goes, is_nothing, stays_in_co
 use Rattle.camp_catch.proofs.conflictors.only_conflict_goes.Goals as goal
 
 pub returns-in_default : goal.returns-in_default
-returns-in_default c = λ pair w. c.in_default.ensures w.x w.alone
+returns-in_default c = λ pair w. c.in_default.ensures.exact w.x w.alone
 
 pub returns-then-not-has_key : goal.returns-then-not-has_key
 returns-then-not-has_key c =
     let no = c.if-not-has_key.true in
-    another_goes c.args.j.now c.args.k.now _ c.in-Some.ensures (λ same. let yes = c.has_key.ensures.1 (ap patch_key c.patch.ensures ∙ same ∙ sym c.key.ensures) in cc)
+    another_goes c.args.j.now c.args.k.now _ c.in-Some.ensures.exact (λ same. let yes = c.has_key.ensures.1 (ap patch_key c.patch.ensures.exact ∙ same ∙ sym c.key.ensures.exact) in cc)
 
 pub returns-then-not-has_no_context : goal.returns-then-not-has_no_context
 returns-then-not-has_no_context c =
     let no = c.if-not-has_no_context.true in
-    stays_in_conflict c.args.j.now c.args.k.now _ c.in_ok-seen.ensures (λ same. let yes = c.has_no_context.ensures.1 same in cc)
+    stays_in_conflict c.args.j.now c.args.k.now _ c.in_ok-seen.ensures.exact (λ same. let yes = c.has_no_context.ensures.1 same in cc)
 
 pub returns : goal.returns
 returns c =
-    let named = sym (ap patch_key c.patch.ensures) ∙ c.has_key.ensures.0 c.if-not-has_key.false ∙ c.key.ensures in
-    let nothing = is_nothing c.args.k.now.effect _ _ c.is_empty.ensures c.if-not-is_empty.false c.items.ensures in
-    only_goes_from c.args.j.now c.args.k.now _ c.in_ok-seen.ensures _ _ _ _ c.in-Some.ensures named nothing (c.has_no_context.ensures.0 c.if-not-has_no_context.false) c.patch-2.ensures c.in_ok-pair.ensures
+    let named = sym (ap patch_key c.patch.ensures.exact) ∙ c.has_key.ensures.0 c.if-not-has_key.false ∙ c.key.ensures.exact in
+    let nothing = is_nothing c.args.k.now.effect _ _ c.is_empty.ensures c.if-not-is_empty.false c.items.ensures.exact in
+    only_goes_from c.args.j.now c.args.k.now _ c.in_ok-seen.ensures.exact _ _ _ _ c.in-Some.ensures.exact named nothing (c.has_no_context.ensures.0 c.if-not-has_no_context.false) c.patch-2.ensures.exact c.in_ok-pair.ensures

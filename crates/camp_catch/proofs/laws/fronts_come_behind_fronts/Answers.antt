@@ -2,4 +2,4 @@ use Rattle.camp_catch.proofs.PlainArranging.{fronts_come_behind_fronts as the_la
 use Rattle.camp_catch.proofs.laws.fronts_come_behind_fronts.Goals as goal
 
 pub returns : goal.returns
-returns c = the_law
+returns c = record { law = the_law }

@@ -4,7 +4,7 @@ use Rattle.camp_catch.proofs.merging.clean.Goals as goal
 pub returns-in-Some : goal.returns-in-Some
 returns-in-Some c =
     let swap = rw c.in-Some.is at c.in_ok-swapped.ensures.exact in
-    record { exact = clean_from c.args.a.now c.args.b.now _ _ _ c.invert.ensures swap }
+    record { exact = clean_from c.args.a.now c.args.b.now _ _ _ c.invert.ensures.exact swap }
 
 pub returns-in-None : goal.returns-in-None
 returns-in-None c =

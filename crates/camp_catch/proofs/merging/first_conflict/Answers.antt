@@ -3,4 +3,4 @@ use Rattle.camp_catch.specs.declared.catches.Catch.{Catch}
 use Rattle.camp_catch.proofs.merging.first_conflict.Goals as goal
 
 pub returns : goal.returns
-returns c = record { conflict = c.requires; after = ap Catch.Conflictor c.in_ok-after.ensures; beside = ap Catch.Conflictor c.in_ok-beside.ensures }
+returns c = record { no_merge = c.requires; after = ap Catch.Conflictor c.in_ok-after.ensures; beside = ap Catch.Conflictor c.in_ok-beside.ensures }

@@ -10,4 +10,4 @@ pub returns : goal.returns
 returns c =
     let passes = rw c.in-Some.is at c.in_ok-passed.ensures.exact in
     let apart = c.requires in
-    record { exact = beside_from c.args.a.now c.args.k.now apart.0 apart.1 apart.2 _ _ _ _ c.invert.ensures passes c.in_ok-moved.ensures }
+    record { exact = beside_from c.args.a.now c.args.k.now apart.0 apart.1 apart.2 _ _ _ _ c.invert.ensures.exact passes c.in_ok-moved.ensures }

@@ -24,7 +24,7 @@ returns-then-not-branch c =
     let next = at_last s0 s i c.index-list-at.result (omega arith) waiting in
     let stopped = rw c.if-not-branch.true at c.in_ok-exchange.ensures.exact in
     let stops = stops_behind (take i s0) j (drop (i + 1) s0) c.args.coming.now c.loop-at.coming (drop (i + 1) s) came (λ k' j'. stopped.0 (j', k')) in
-    let is : c.key.result ≡ catch_key j = c.key.ensures ∙ ap catch_key (c.deref.ensures ∙ get_or-set_same s i _ _ (omega arith) ∙ ap (λ x. x.0) stopped.1) in
+    let is : c.key.result ≡ catch_key j = c.key.ensures.exact ∙ ap catch_key (c.deref.ensures ∙ get_or-set_same s i _ _ (omega arith) ∙ ap (λ x. x.0) stopped.1) in
     record {
       exact = subst (λ on. StopsAt s0 c.args.coming.now on) (sym is) (subst (λ t. StopsAt t c.args.coming.now (catch_key j)) (sym (whole s0 i (j ∷ drop (i + 1) s0) next)) stops);
     }

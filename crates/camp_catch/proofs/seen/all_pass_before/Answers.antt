@@ -9,4 +9,4 @@ returns-in_default c =
 pub returns : goal.returns
 returns c =
     let identity = rw c.in-Some.is at c.in_ok-moved.ensures.exact in
-    record { effect = refl; conflicts = c.in_ok-conflicts.ensures; identity = identity }
+    record { effect = refl; conflicts = c.in_ok-conflicts.ensures.exact; identity = identity }

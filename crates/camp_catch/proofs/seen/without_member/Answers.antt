@@ -4,5 +4,5 @@ pub returns : goal.returns
 returns c = record {
   s' = c.in_ok-effect.effect;
   effect = c.in_ok-effect.ensures.order;
-  is = λ t. record { effect = c.in_ok-effect.effect; conflicts = c.in_ok-conflicts.ensures t; identity = c.in_ok-identity.ensures t };
+  is = λ t. record { effect = c.in_ok-effect.effect; conflicts = c.in_ok-conflicts.ensures.exact t; identity = c.in_ok-identity.ensures.exact t };
 }

@@ -4,4 +4,4 @@ use Rattle.camp_catch.proofs.values.alone.Goals as goal
 
 pub returns : goal.returns
 returns c =
-    subst (λ s. IfOk c.insert-2.result (λ set. set ≡ s)) (first_member _ c.args.x.now c.empty.ensures) c.insert-2.ensures
+    subst (λ s. IfOk c.insert-2.result (λ set. set ≡ s)) (first_member _ c.args.x.now c.empty.ensures.exact) c.insert-2.ensures.exact

@@ -15,12 +15,14 @@ loop-before-init g c = record {
 }
 
 pub returns-then-not-goes_on : goal.returns-then-not-goes_on
-returns-then-not-goes_on g c = (
-  (λ h. absurd (cc h)),
-  λ exact. absurd (differs_no_more (told g.State.Object.object) (lists_of c.args.sections.now) (lists_of c.args.answers.now) c.args.history.now
-      c.loop-before.before c.loop-before-test.true c.index-history-before.result c.index-history-before.is c.loop-before.places c.loop-before.invariant.found
-      c.if-not-goes_on.ensures exact),
-)
+returns-then-not-goes_on g c = record {
+  exact = (
+    (λ h. absurd (cc h)),
+    λ exact. absurd (differs_no_more (told g.State.Object.object) (lists_of c.args.sections.now) (lists_of c.args.answers.now) c.args.history.now
+        c.loop-before.before c.loop-before-test.true c.index-history-before.result c.index-history-before.is c.loop-before.places c.loop-before.invariant.found
+        c.if-not-goes_on.ensures exact),
+  );
+}
 
 pub loop-before-preserved : goal.loop-before-preserved
 loop-before-preserved g c =
@@ -36,14 +38,16 @@ loop-before-preserved g c =
     }
 
 pub returns-then-not-is_used_up : goal.returns-then-not-is_used_up
-returns-then-not-is_used_up g c =
-    let inside : length (lists_of c.args.sections.now) ≡ length c.args.sections.now = length-lists_of c.args.sections.now in (
-      (λ h. absurd (cc h)),
-      λ exact. absurd (
-          let none = none_left (told g.State.Object.object) (lists_of c.args.sections.now) (lists_of c.args.answers.now) c.args.history.now c.loop-before.before
-          c.loop-before-test.false c.loop-before.places c.loop-before.invariant.found c.loop-seat.seat (omega (arith, inside)) exact in
-          let used_up = c.is_used_up.ensures.1 none in let not = c.if-not-is_used_up.true in cc (used_up, not)),
-    )
+returns-then-not-is_used_up g c = record {
+  exact =
+      let inside : length (lists_of c.args.sections.now) ≡ length c.args.sections.now = length-lists_of c.args.sections.now in (
+        (λ h. absurd (cc h)),
+        λ exact. absurd (
+            let none = none_left (told g.State.Object.object) (lists_of c.args.sections.now) (lists_of c.args.answers.now) c.args.history.now c.loop-before.before
+            c.loop-before-test.false c.loop-before.places c.loop-before.invariant.found c.loop-seat.seat (omega (arith, inside)) exact in
+            let used_up = c.is_used_up.ensures.1 none in let not = c.if-not-is_used_up.true in cc (used_up, not)),
+      );
+}
 
 pub loop-seat-preserved : goal.loop-seat-preserved
 loop-seat-preserved g c =
@@ -55,8 +59,10 @@ loop-seat-preserved g c =
     c.loop-seat.seat c.loop-seat.invariant exact
 
 pub returns : goal.returns
-returns g c =
-    let inside : length (lists_of c.args.sections.now) ≡ length c.args.sections.now = length-lists_of c.args.sections.now in (
-      (λ h. record { own_done = λ seat below. c.loop-seat.invariant seat (omega (arith, inside)); no_other = λ k d below. rw inside (c.loop-before.invariant.seats k d (omega arith)) }),
-      λ exact. refl,
-    )
+returns g c = record {
+  exact =
+      let inside : length (lists_of c.args.sections.now) ≡ length c.args.sections.now = length-lists_of c.args.sections.now in (
+        (λ h. record { own_done = λ seat below. c.loop-seat.invariant seat (omega (arith, inside)); no_other = λ k d below. rw inside (c.loop-before.invariant.seats k d (omega arith)) }),
+        λ exact. refl,
+      );
+}

@@ -2,7 +2,7 @@ use Rattle.std.proofs.Common.{sym, ◌∙◌, subst, refl}
 use Rattle.camp_object.specs.Histories.{IsFront}
 use Rattle.camp_history.specs.Seats.{IsSeatOf, history_of}
 use Rattle.camp_clients.specs.Clients.{sight_of}
-use Rattle.camp_clients.specs.Meeting.{Meets}
+use Rattle.camp_clients.specs.Meeting.{HasMet}
 use Rattle.camp_clients.proofs.Gathering.{zip_push, all_first, all_rest, ok_holds}
 use Rattle.camp_clients.proofs.heads.each_meets.Goals as goal
 
@@ -19,7 +19,7 @@ loop-client-preserved g c =
       seen = m.meets.b_seen ∙ inv.seen;
       left = all_rest (λ client. has client.seat) c.loop-client.client-iterator.rest.items c.in-Some.client _ c.in-Some.ensures.steps.0 inv.left;
       clients = rw c.in_ok-push.ensures.items
-          (zip_push (Meets (sight_of c.args.head.now) (history_of c.args.opener)) c.loop-client.yielded c.loop-client.all.items c.in-Some.client _ inv.clients
+          (zip_push (HasMet (sight_of c.args.head.now) (history_of c.args.opener)) c.loop-client.yielded c.loop-client.all.items c.in-Some.client _ inv.clients
           (record {
             is_seat = m.seats.0;
             number = m.meets.a_number;

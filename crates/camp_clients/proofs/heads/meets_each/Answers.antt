@@ -26,7 +26,7 @@ loop-client-preserved g c =
       clients = rw c.in_ok-push.ensures.items
           (zip_push (IsMet (sight_of c.args.head.now) (history_of c.meet-other.result.0)) c.loop-client.yielded c.loop-client.all.items c.in-Some.client _
           (met_still (sight_of c.args.head.now) (history_of c.loop-client.known) (history_of c.meet-other.result.0) c.len-in-loop-client.result c.position-earlier.result c.position.result m.meets.a_grows
-          c.position-earlier.ensures c.position.ensures c.loop-client.yielded c.loop-client.all.items (c.len-in-loop-client.ensures ∙ c.loop-client.all.ok.0) (c.if-not-stays.ensures refl) inv.clients)
+          c.position-earlier.ensures.exact c.position.ensures.exact c.loop-client.yielded c.loop-client.all.items (c.len-in-loop-client.ensures ∙ c.loop-client.all.ok.0) (c.if-not-stays.ensures refl) inv.clients)
           (record { is_seat = m.seats.1; number = m.meets.b_number; answers = refl; seen = m.meets.b_seen; known = knows; own_known = own_knows }));
     }
 

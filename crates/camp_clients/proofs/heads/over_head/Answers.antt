@@ -3,7 +3,7 @@ use Rattle.camp_object.specs.Histories.{IsFront, IsLegal, own}
 use Rattle.camp_clients.specs.Answers.{Asks}
 use Rattle.camp_history.specs.Seats.{IsSeatOf, history_of}
 use Rattle.camp_clients.specs.Clients.{sight_of}
-use Rattle.camp_clients.specs.Meeting.{Ran, IsMet, Meets, caller_of}
+use Rattle.camp_clients.specs.Meeting.{Ran, IsMet, HasMet, caller_of}
 use Rattle.camp_clients.specs.Runs.{lists_of, section_of}
 use Rattle.camp_clients.specs.Sections.{Section}
 use Rattle.camp_clients.proofs.Gathering.{zip_all, zip_length}
@@ -18,7 +18,7 @@ run_clients-requires-clause-ready g c _ _ k d below =
     let b = can_begin sight opened c.args.clients.items c.in_ok-clients.clients.items c.requires.clients c.in_ok-clients.ensures.clients k d below in
     record {
       is_seat = b.is_seat;
-      has_section = rw b.number (omega (arith, c.requires.as_many, zip_length (Meets sight opened) c.args.clients.items c.in_ok-clients.clients.items c.in_ok-clients.ensures.clients));
+      has_section = rw b.number (omega (arith, c.requires.as_many, zip_length (HasMet sight opened) c.args.clients.items c.in_ok-clients.clients.items c.in_ok-clients.ensures.clients));
       none_own = b.none_own;
     }
 
@@ -43,7 +43,7 @@ returns g c =
     let l2 = c.in_ok-clients-2.clients.items in
     let l3 = c.in_ok-opener.clients.items in
     let long : length l3 ≡ length l0 =
-    sym (zip_length (Meets sight opened) l0 l1 c.in_ok-clients.ensures.clients
+    sym (zip_length (HasMet sight opened) l0 l1 c.in_ok-clients.ensures.clients
     ∙ zip_length (Ran object sight tries per_seat sections) l1 l2 c.in_ok-clients-2.ensures
     ∙ zip_length (IsMet sight history) l2 l3 c.in_ok-opener.ensures.clients) in
     let holds = λ (k : ℕ) (d : _) (below : k < length l3).

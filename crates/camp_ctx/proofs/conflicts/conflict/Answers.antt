@@ -3,6 +3,8 @@ use Rattle.camp_ctx.proofs.ConflictSteps.{conflicts_from}
 use Rattle.camp_ctx.proofs.conflicts.conflict.Goals as goal
 
 pub returns-in-None : goal.returns-in-None
-returns-in-None c =
-    let never = rw c.in-None.is at c.in_ok-merged.ensures.exact in
-    (λ yes. conflicts_from _ _ _ _ c.in_ok-first.ensures c.in_ok-second.ensures never, λ conflict. refl)
+returns-in-None c = record {
+  exact =
+      let never = rw c.in-None.is at c.in_ok-merged.ensures.exact in
+      (λ yes. conflicts_from _ _ _ _ c.in_ok-first.ensures c.in_ok-second.ensures never, λ conflict. refl);
+}

@@ -7,19 +7,19 @@ use Rattle.camp_ctx.proofs.conflicts.merge_behind_common.Goals as goal
 
 pub returns-in_default : goal.returns-in_default
 returns-in_default c =
-    let labels = c.as_slice-labels.ensures.value ∙ c.in_ok-common.ensures ∙ (λ i. common_labels (c.items.ensures i) (c.items-2.ensures i)) in
+    let labels = c.as_slice-labels.ensures.value ∙ c.in_ok-common.ensures ∙ (λ i. common_labels (c.items.ensures.exact i) (c.items-2.ensures.exact i)) in
     let never = rw c.in_default.is at c.in_ok-first.ensures.exact in
     record { exact = no_first c.args.s.now c.args.t.now _ labels never }
 
 pub returns-in_default-second : goal.returns-in_default-second
 returns-in_default-second c =
-    let labels = c.as_slice-labels.ensures.value ∙ c.in_ok-common.ensures ∙ (λ i. common_labels (c.items.ensures i) (c.items-2.ensures i)) in
+    let labels = c.as_slice-labels.ensures.value ∙ c.in_ok-common.ensures ∙ (λ i. common_labels (c.items.ensures.exact i) (c.items-2.ensures.exact i)) in
     let never = rw c.in_default-second.is at c.in_ok-second.ensures.exact in
     record { exact = no_second c.args.s.now c.args.t.now _ labels never }
 
 pub returns-then-are_apart : goal.returns-then-are_apart
 returns-then-are_apart c =
-    let labels = c.as_slice-labels.ensures.value ∙ c.in_ok-common.ensures ∙ (λ i. common_labels (c.items.ensures i) (c.items-2.ensures i)) in
+    let labels = c.as_slice-labels.ensures.value ∙ c.in_ok-common.ensures ∙ (λ i. common_labels (c.items.ensures.exact i) (c.items-2.ensures.exact i)) in
     let s = c.args.s.now in
     let t = c.args.t.now in
     let none = c.are_apart.ensures.none c.if-are_apart.true in
@@ -29,15 +29,15 @@ returns-then-are_apart c =
 
 pub returns-then-not-is_same : goal.returns-then-not-is_same
 returns-then-not-is_same c =
-    let labels = c.as_slice-labels.ensures.value ∙ c.in_ok-common.ensures ∙ (λ i. common_labels (c.items.ensures i) (c.items-2.ensures i)) in
+    let labels = c.as_slice-labels.ensures.value ∙ c.in_ok-common.ensures ∙ (λ i. common_labels (c.items.ensures.exact i) (c.items-2.ensures.exact i)) in
     let first = rw c.in-Some.is at c.in_ok-first.ensures.exact in
     let second = rw c.in-Some-second.is at c.in_ok-second.ensures.exact in
     let no = c.if-not-is_same.true in
-    record { exact = other_fronts c.args.s.now c.args.t.now _ labels _ _ _ _ first second (λ same. let yes = c.is_same.ensures.1 same in cc) }
+    record { exact = other_fronts c.args.s.now c.args.t.now _ labels _ _ _ _ first second (λ same. let yes = c.is_same.ensures.exact.1 same in cc) }
 
 pub returns : goal.returns
 returns c =
-    let labels = c.as_slice-labels.ensures.value ∙ c.in_ok-common.ensures ∙ (λ i. common_labels (c.items.ensures i) (c.items-2.ensures i)) in
+    let labels = c.as_slice-labels.ensures.value ∙ c.in_ok-common.ensures ∙ (λ i. common_labels (c.items.ensures.exact i) (c.items-2.ensures.exact i)) in
     let first = rw c.in-Some.is at c.in_ok-first.ensures.exact in
     let second = rw c.in-Some-second.is at c.in_ok-second.ensures.exact in
-    record { exact = merges_as_the_rests c.args.s.now c.args.t.now _ labels _ _ _ _ first second (c.is_same.ensures.0 c.if-not-is_same.false) _ c.in_ok-merged.ensures.exact }
+    record { exact = merges_as_the_rests c.args.s.now c.args.t.now _ labels _ _ _ _ first second (c.is_same.ensures.exact.0 c.if-not-is_same.false) _ c.in_ok-merged.ensures.exact }

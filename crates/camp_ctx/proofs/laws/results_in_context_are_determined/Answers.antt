@@ -6,11 +6,13 @@ use Rattle.camp_ctx.proofs.laws.results_in_context_are_determined.Goals as goal
 
 pub returns : goal.returns
 returns c = record {
-  adds = one_add;
-  adds_all = one_add_of_all;
-  adds_to_members = λ a. one_change_of_members (Adds a) (one_add a);
-  adds_all_to_members = λ r. one_change_of_members (AddsAll r) (one_add_of_all r);
-  passes_by = one_passing_by;
-  passes_by_all = one_passing_of_all;
-  merges = one_merge_behind;
+  law = record {
+    adds = one_add;
+    adds_all = one_add_of_all;
+    adds_to_members = λ a. one_change_of_members (Adds a) (one_add a);
+    adds_all_to_members = λ r. one_change_of_members (AddsAll r) (one_add_of_all r);
+    passes_by = one_passing_by;
+    passes_by_all = one_passing_of_all;
+    merges = one_merge_behind;
+  };
 }

@@ -4,5 +4,7 @@ use Rattle.camp_prim.proofs.Staying.{stay_there, none_moves}
 use Rattle.camp_prim.proofs.stays.stay.Goals as goal
 
 pub returns-in-None : goal.returns-in-None
-returns-in-None c =
-    (λ yes. cc, λ swap. absurd (no_swap c.args.p.now c.args.q.now c.in-None.ensures (c.args.q.now, c.args.p.now) swap))
+returns-in-None c = record {
+  exact =
+      (λ yes. cc, λ swap. absurd (no_swap c.args.p.now c.args.q.now c.in-None.ensures (c.args.q.now, c.args.p.now) swap));
+}

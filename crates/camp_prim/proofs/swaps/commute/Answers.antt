@@ -2,12 +2,12 @@ use Rattle.camp_prim.proofs.Moving.{no_swap, swap_from, swap_wanted, told_not}
 use Rattle.camp_prim.proofs.SwapLaws.{swap_laws}
 use Rattle.camp_prim.proofs.swaps.commute.Goals as goal
 
-pub returns-in_err-second-in-Some-clause-wanted : goal.returns-in_err-second-in-Some-clause-wanted
-returns-in_err-second-in-Some-clause-wanted c =
+pub returns-in_err-second-in-Some-clause-memory : goal.returns-in_err-second-in-Some-clause-memory
+returns-in_err-second-in-Some-clause-memory c =
     swap_wanted _ c.args.p.now c.args.q.now c.in-Some.targets (told_not _ c.if-have_same_key.false c.have_same_key.ensures) c.in-Some.ensures
 
-pub returns-in_err-first-in-Some-clause-wanted : goal.returns-in_err-first-in-Some-clause-wanted
-returns-in_err-first-in-Some-clause-wanted c =
+pub returns-in_err-first-in-Some-clause-memory : goal.returns-in_err-first-in-Some-clause-memory
+returns-in_err-first-in-Some-clause-memory c =
     swap_wanted _ c.args.p.now c.args.q.now c.in-Some.targets (told_not _ c.if-have_same_key.false c.have_same_key.ensures) c.in-Some.ensures
 
 pub returns-in-None-clause-exact : goal.returns-in-None-clause-exact

@@ -10,11 +10,11 @@ use Rattle.camp_questions.proofs.annotations.annotate.Goals as goal
 pub returns-in_default : goal.returns-in_default
 returns-in_default c =
     let branch : List Catch = c.in_ok-branch.branch.now in
-    record { exact = are_annotated c.args.state.now c.args.branch.now c.args.path.now branch c.tree.result.now _ c.in_ok-branch.ensures c.tree.ensures (sym (ap (λ o. annotated o (names_of_lines c.args.path.now branch)) c.in_default.ensures)) }
+    record { exact = are_annotated c.args.state.now c.args.branch.now c.args.path.now branch c.tree.result.now _ c.in_ok-branch.ensures c.tree.ensures.exact (sym (ap (λ o. annotated o (names_of_lines c.args.path.now branch)) c.in_default.ensures.exact)) }
 
 pub names_of_lines-requires : goal.names_of_lines-requires
 names_of_lines-requires c =
-    (c.tree.result.now, subst (λ l. LeadsTo l c.tree.result.now) (sym c.catches.ensures.value) c.tree.ensures)
+    (c.tree.result.now, subst (λ l. LeadsTo l c.tree.result.now) (sym c.catches.ensures.value) c.tree.ensures.exact)
 
 pub returns-in_err-names : goal.returns-in_err-names
 returns-in_err-names c =
@@ -22,7 +22,7 @@ returns-in_err-names c =
     let told = annotated (get c.tree.result.now c.args.path.now) (names_of_lines c.args.path.now branch) in
     record {
       exact = memory_told (AreAnnotated c.args.state.now c.args.branch.now c.args.path.now) c.from_residual-in_err-names.result told c.from_residual-in_err-names.ensures.1
-          (are_annotated c.args.state.now c.args.branch.now c.args.path.now branch c.tree.result.now told c.in_ok-branch.ensures c.tree.ensures refl);
+          (are_annotated c.args.state.now c.args.branch.now c.args.path.now branch c.tree.result.now told c.in_ok-branch.ensures c.tree.ensures.exact refl);
     }
 
 pub returns-in_err-lines : goal.returns-in_err-lines
@@ -31,7 +31,7 @@ returns-in_err-lines c =
     let told = annotated (get c.tree.result.now c.args.path.now) (names_of_lines c.args.path.now branch) in
     record {
       exact = memory_told (AreAnnotated c.args.state.now c.args.branch.now c.args.path.now) c.from_residual-in_err-lines.result told c.from_residual-in_err-lines.ensures.1
-          (are_annotated c.args.state.now c.args.branch.now c.args.path.now branch c.tree.result.now told c.in_ok-branch.ensures c.tree.ensures refl);
+          (are_annotated c.args.state.now c.args.branch.now c.args.path.now branch c.tree.result.now told c.in_ok-branch.ensures c.tree.ensures.exact refl);
     }
 
 pub returns : goal.returns
@@ -40,6 +40,6 @@ returns c =
     let names = c.in_ok-names.ensures ∙ ap (names_of_lines c.args.path.now) c.catches.ensures.value in
     let lines = c.in_ok-lines.ensures in
     record {
-      exact = are_annotated c.args.state.now c.args.branch.now c.args.path.now branch c.tree.result.now _ c.in_ok-branch.ensures c.tree.ensures
-          ((λ i. File (lines i) (names i)) ∙ sym (ap (λ o. annotated o (names_of_lines c.args.path.now branch)) c.in-Some.ensures));
+      exact = are_annotated c.args.state.now c.args.branch.now c.args.path.now branch c.tree.result.now _ c.in_ok-branch.ensures c.tree.ensures.exact
+          ((λ i. File (lines i) (names i)) ∙ sym (ap (λ o. annotated o (names_of_lines c.args.path.now branch)) c.in-Some.ensures.exact));
     }

@@ -15,7 +15,7 @@ pub returns-in-Ok : goal.returns-in-Ok
 returns-in-Ok c =
     let branch : List Catch = c.args.branch.now in
     let grown = names_in c.loop-grown.grown in
-    let is : c.deref.result.now ≡ branch = c.deref.ensures.value ∙ c.in_ok-catches.ensures ∙ c.catches-2.ensures.value in
+    let is : c.deref.result.now ≡ branch = c.deref.ensures.value ∙ c.in_ok-catches.ensures.exact ∙ c.catches-2.ensures.value in
     let front = rw c.in-Ok.is at c.in_ok-arrange.ensures.exact in
     let first : List Catch = c.in-Ok.field-0.first.items in
     let rest : List Catch = c.in-Ok.field-0.rest.items in
@@ -26,18 +26,18 @@ pub loop-grown-smaller : goal.loop-grown-smaller
 loop-grown-smaller c =
     let branch : List Catch = c.args.branch.now in
     let grown = names_in c.loop-grown.grown in
-    let is : c.deref.result.now ≡ branch = c.deref.ensures.value ∙ c.in_ok-catches.ensures ∙ c.catches-2.ensures.value in
+    let is : c.deref.result.now ≡ branch = c.deref.ensures.value ∙ c.in_ok-catches.ensures.exact ∙ c.catches-2.ensures.value in
     let on = c.in-Err.stuck.on in
     let stuck = rw c.in-Err.is at c.in_ok-arrange.ensures.exact in
     let stops : StickOn branch grown on.name = (c.in-Err.stuck.patch, on, subst (λ l. ArrangeSticks grown l c.in-Err.stuck.patch on) is stuck, refl) in
-    fewer_to_come (map name_of branch) (ComeToFront branch) (StickOn branch) (to_front branch) (map_of (slice_cmp nat_cmp) c.loop-grown.grown) (map_of (slice_cmp nat_cmp) c.in_ok-grown-in-Err.grown) on.name stops c.in_ok-grown-in-Err.ensures
+    fewer_to_come (map name_of branch) (ComeToFront branch) (StickOn branch) (to_front branch) (map_of (slice_cmp nat_cmp) c.loop-grown.grown) (map_of (slice_cmp nat_cmp) c.in_ok-grown-in-Err.grown) on.name stops c.in_ok-grown-in-Err.ensures.exact
 
 pub loop-grown-preserved : goal.loop-grown-preserved
 loop-grown-preserved c =
     let branch : List Catch = c.args.branch.now in
     let grown = names_in c.loop-grown.grown in
-    let is : c.deref.result.now ≡ branch = c.deref.ensures.value ∙ c.in_ok-catches.ensures ∙ c.catches-2.ensures.value in
+    let is : c.deref.result.now ≡ branch = c.deref.ensures.value ∙ c.in_ok-catches.ensures.exact ∙ c.catches-2.ensures.value in
     let on = c.in-Err.stuck.on in
     let stuck = rw c.in-Err.is at c.in_ok-arrange.ensures.exact in
     let stops : StickOn branch grown on.name = (c.in-Err.stuck.patch, on, subst (λ l. ArrangeSticks grown l c.in-Err.stuck.patch on) is stuck, refl) in
-    one_grown (map name_of branch) (ComeToFront branch) (StickOn branch) (to_front branch) (names_in c.args.names) (map_of (slice_cmp nat_cmp) c.loop-grown.grown) (map_of (slice_cmp nat_cmp) c.in_ok-grown-in-Err.grown) on.name c.loop-grown.invariant stops c.in_ok-grown-in-Err.ensures
+    one_grown (map name_of branch) (ComeToFront branch) (StickOn branch) (to_front branch) (names_in c.args.names) (map_of (slice_cmp nat_cmp) c.loop-grown.grown) (map_of (slice_cmp nat_cmp) c.in_ok-grown-in-Err.grown) on.name c.loop-grown.invariant stops c.in_ok-grown-in-Err.ensures.exact

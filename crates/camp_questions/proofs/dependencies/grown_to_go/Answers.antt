@@ -26,7 +26,7 @@ loop-grown-smaller c =
     let on = c.dependent.ensures.0 in
     let blocked = subst (ObliterateGives branch grown) c.in-Err.is c.in_ok-without.ensures.exact in
     let held : AreHeldIn branch grown patch = (on, subst (λ why. ObliterateGives branch grown (Err why)) c.dependent.ensures.1 blocked) in
-    fewer_to_come (map name_of branch) (CanGo branch) (AreHeldIn branch) (to_go branch) (map_of (slice_cmp nat_cmp) c.loop-grown.grown) (map_of (slice_cmp nat_cmp) c.in_ok-grown-in-Err.grown) patch held c.in_ok-grown-in-Err.ensures
+    fewer_to_come (map name_of branch) (CanGo branch) (AreHeldIn branch) (to_go branch) (map_of (slice_cmp nat_cmp) c.loop-grown.grown) (map_of (slice_cmp nat_cmp) c.in_ok-grown-in-Err.grown) patch held c.in_ok-grown-in-Err.ensures.exact
 
 pub loop-grown-preserved : goal.loop-grown-preserved
 loop-grown-preserved c =
@@ -36,4 +36,4 @@ loop-grown-preserved c =
     let on = c.dependent.ensures.0 in
     let blocked = subst (ObliterateGives branch grown) c.in-Err.is c.in_ok-without.ensures.exact in
     let held : AreHeldIn branch grown patch = (on, subst (λ why. ObliterateGives branch grown (Err why)) c.dependent.ensures.1 blocked) in
-    one_grown (map name_of branch) (CanGo branch) (AreHeldIn branch) (to_go branch) (names_in c.args.names) (map_of (slice_cmp nat_cmp) c.loop-grown.grown) (map_of (slice_cmp nat_cmp) c.in_ok-grown-in-Err.grown) patch c.loop-grown.invariant held c.in_ok-grown-in-Err.ensures
+    one_grown (map name_of branch) (CanGo branch) (AreHeldIn branch) (to_go branch) (names_in c.args.names) (map_of (slice_cmp nat_cmp) c.loop-grown.grown) (map_of (slice_cmp nat_cmp) c.in_ok-grown-in-Err.grown) patch c.loop-grown.invariant held c.in_ok-grown-in-Err.ensures.exact

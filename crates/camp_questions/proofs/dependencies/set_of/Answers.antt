@@ -8,11 +8,11 @@ use Rattle.camp_repo.proofs.NameSteps.{all_filled, none_filled, one_listed}
 use Rattle.camp_questions.proofs.dependencies.set_of.Goals as goal
 
 pub loop-name-init : goal.loop-name-init
-loop-name-init c = none_filled (map_of (slice_cmp nat_cmp) c.new-set.result) c.args.names.now c.new-set.ensures
+loop-name-init c = none_filled (map_of (slice_cmp nat_cmp) c.new-set.result) c.args.names.now c.new-set.ensures.exact
 
 pub loop-name-preserved : goal.loop-name-preserved
 loop-name-preserved c =
-    one_listed (map_of (slice_cmp nat_cmp) c.loop-name.set) (map_of (slice_cmp nat_cmp) c.in_ok-set.set) c.args.names.now c.loop-name.name-index c.name-item.result c.name-item.result (is_among c.args.names.now) c.loop-name.invariant (omega arith) c.name-item.is c.in_ok-set.ensures
+    one_listed (map_of (slice_cmp nat_cmp) c.loop-name.set) (map_of (slice_cmp nat_cmp) c.in_ok-set.set) c.args.names.now c.loop-name.name-index c.name-item.result c.name-item.result (is_among c.args.names.now) c.loop-name.invariant (omega arith) c.name-item.is c.in_ok-set.ensures.exact
 
 pub returns : goal.returns
 returns c =

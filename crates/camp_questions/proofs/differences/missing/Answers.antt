@@ -16,4 +16,4 @@ pub returns : goal.returns
 returns c =
     let test : List ℕ → Bool = λ name. not (has_patch c.in_ok-ours.ours.now name) in
     let kept = filter_same _ test _ (λ x b f' k. search rules) _ _ c.retain.ensures.filtered in
-    record { exact = are_missing c.args.state.now c.args.from.now c.args.to.now c.in_ok-theirs.theirs.now c.in_ok-ours.ours.now c.new.result c.in_ok-theirs.ensures c.in_ok-ours.ensures (c.new.ensures.exact ∙ kept ∙ ap (filter test) c.in_ok-names.ensures) }
+    record { exact = are_missing c.args.state.now c.args.from.now c.args.to.now c.in_ok-theirs.theirs.now c.in_ok-ours.ours.now c.new.result c.in_ok-theirs.ensures c.in_ok-ours.ensures (c.new.ensures.exact ∙ kept ∙ ap (filter test) c.in_ok-names.ensures.exact) }

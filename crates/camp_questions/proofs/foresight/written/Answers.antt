@@ -8,4 +8,4 @@ unreachable-requires-in_default-branch c =
 
 pub returns-clause-stands : goal.returns-clause-stands
 returns-clause-stands c =
-    stands_so c.args.next.now c.in-Some.name c.in_Some-branch.branch.now c.tree.result.now c.in_ok-tree.tree c.in_ok-pairs.pairs.items c.new.result c.in_Some-branch.ensures.value c.tree.ensures c.in_ok-tree.ensures c.in_ok-pairs.ensures c.new.ensures.exact
+    stands_so c.args.next.now c.in-Some.name c.in_Some-branch.branch.now c.tree.result.now c.in_ok-tree.tree c.in_ok-pairs.pairs.items c.new.result c.in_Some-branch.ensures.value c.tree.ensures.exact c.in_ok-tree.ensures.exact c.in_ok-pairs.ensures.exact c.new.ensures.exact

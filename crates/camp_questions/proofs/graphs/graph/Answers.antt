@@ -45,5 +45,5 @@ returns c =
     let nodes = c.in_ok-patches.ensures ∙ ap (λ all. map (node_of branch (map needing all)) (map needing all)) c.deref-2.ensures.value in
     record {
       exact = is_graph_of c.args.state.now c.args.branch.now branch _ c.in_ok-branch.ensures
-          (graph_of_nodes branch c.in_ok-names.names.items c.in_ok-all.all.items c.in_ok-patches.patches.items c.in_ok-pairs.pairs.items c.new.result c.in_ok-names.ensures each nodes c.in_ok-pairs.ensures c.new.ensures.exact);
+          (graph_of_nodes branch c.in_ok-names.names.items c.in_ok-all.all.items c.in_ok-patches.patches.items c.in_ok-pairs.pairs.items c.new.result c.in_ok-names.ensures.exact each nodes c.in_ok-pairs.ensures.exact c.new.ensures.exact);
     }

@@ -10,4 +10,4 @@ use Rattle.camp_questions.proofs.graphs.needs_other.Goals as goal
 pub returns-then-ne : goal.returns-then-ne
 returns-then-ne c =
     let set = map_of (slice_cmp nat_cmp) c.args.patch.now.needs in
-    c.contains_key.ensures ∙ has_listed set c.args.name.now ∙ ap (λ b. b && is_among (keys set) c.args.name.now) (sym (sym c.ne.ensures ∙ c.if-ne.true))
+    c.contains_key.ensures.exact ∙ has_listed set c.args.name.now ∙ ap (λ b. b && is_among (keys set) c.args.name.now) (sym (sym c.ne.ensures ∙ c.if-ne.true))

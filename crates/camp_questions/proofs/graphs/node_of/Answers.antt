@@ -12,7 +12,7 @@ loop-left-init c =
     let kept = filter_same _ (needs_other patch) _ (λ x b f' k. search rules) _ _ c.retain.ensures.filtered in
     record {
       within = omega arith;
-      names = left_at_first patch c.args.all.now (length c.args.all.now) (names_of c.args.branch.now) c.retain.new.self.items refl (kept ∙ ap (filter (needs_other patch)) c.in_ok-names.ensures);
+      names = left_at_first patch c.args.all.now (length c.args.all.now) (names_of c.args.branch.now) c.retain.new.self.items refl (kept ∙ ap (filter (needs_other patch)) c.in_ok-names.ensures.exact);
     }
 
 pub loop-left-preserved : goal.loop-left-preserved

@@ -2,4 +2,4 @@ use Rattle.camp_repo.proofs.Effects.{accepted_calls}
 use Rattle.camp_repo.proofs.laws.accepted_calls_have_effect.Goals as goal
 
 pub returns : goal.returns
-returns c = accepted_calls
+returns c = record { law = accepted_calls }

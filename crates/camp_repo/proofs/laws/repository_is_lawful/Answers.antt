@@ -2,4 +2,4 @@ use Rattle.camp_repo.specs.ObjectLaws.{repository_is_lawful}
 use Rattle.camp_repo.proofs.laws.repository_is_lawful.Goals as goal
 
 pub returns : goal.returns
-returns c = repository_is_lawful
+returns c = record { law = repository_is_lawful }

@@ -12,15 +12,15 @@ loop-catch-init c =
     let set = map_of (slice_cmp nat_cmp) c.new-set.result in
     let aim = wanted c.args.ours.now (map name_of (drop c.args.long c.args.theirs.now)) in
     let from = c.into_iter-catch-iterator.ensures.into_iter_gives ∙ c.iter_from-catch-items.ensures.rest ∙ ap (drop c.args.long) c.catches-2.ensures.value in
-    subst (λ l. IsFilled set (wanted c.args.ours.now (map name_of l)) (is_among aim)) (sym from) (none_filled set aim c.new-set.ensures)
+    subst (λ l. IsFilled set (wanted c.args.ours.now (map name_of l)) (is_among aim)) (sym from) (none_filled set aim c.new-set.ensures.exact)
 
 pub loop-catch-preserved-then-has_patch : goal.loop-catch-preserved-then-has_patch
 loop-catch-preserved-then-has_patch c =
-    catch_passed c.args.ours.now (map_of (slice_cmp nat_cmp) c.loop-catch.set) c.loop-catch.catch-iterator c.next.new.self c.in-Some.catch.now c.name-name.result.now _ c.loop-catch.invariant c.in-Some.ensures.steps (c.name-name.ensures ∙ ap name_of c.deref.ensures) (sym c.has_patch.ensures ∙ c.if-has_patch.true)
+    catch_passed c.args.ours.now (map_of (slice_cmp nat_cmp) c.loop-catch.set) c.loop-catch.catch-iterator c.next.new.self c.in-Some.catch.now c.name-name.result.now _ c.loop-catch.invariant c.in-Some.ensures.steps (c.name-name.ensures.exact ∙ ap name_of c.deref.ensures) (sym c.has_patch.ensures.exact ∙ c.if-has_patch.true)
 
 pub loop-catch-preserved : goal.loop-catch-preserved
 loop-catch-preserved c =
-    catch_wanted c.args.ours.now (map_of (slice_cmp nat_cmp) c.loop-catch.set) (map_of (slice_cmp nat_cmp) c.in_ok-set.set) c.loop-catch.catch-iterator c.next.new.self c.in-Some.catch.now c.name-name.result.now _ c.loop-catch.invariant c.in-Some.ensures.steps (c.name-name.ensures ∙ ap name_of c.deref.ensures) (sym c.has_patch.ensures ∙ c.if-has_patch.false) c.in_ok-set.ensures
+    catch_wanted c.args.ours.now (map_of (slice_cmp nat_cmp) c.loop-catch.set) (map_of (slice_cmp nat_cmp) c.in_ok-set.set) c.loop-catch.catch-iterator c.next.new.self c.in-Some.catch.now c.name-name.result.now _ c.loop-catch.invariant c.in-Some.ensures.steps (c.name-name.ensures.exact ∙ ap name_of c.deref.ensures) (sym c.has_patch.ensures.exact ∙ c.if-has_patch.false) c.in_ok-set.ensures.exact
 
 pub returns : goal.returns
 returns c name =

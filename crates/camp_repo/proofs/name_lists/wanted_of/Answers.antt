@@ -10,11 +10,11 @@ use Rattle.camp_repo.proofs.name_lists.wanted_of.Goals as goal
 
 pub loop-name-init : goal.loop-name-init
 loop-name-init c =
-    none_filled (map_of (slice_cmp nat_cmp) c.new-set.result) (wanted c.args.branch.now c.args.names.now) c.new-set.ensures
+    none_filled (map_of (slice_cmp nat_cmp) c.new-set.result) (wanted c.args.branch.now c.args.names.now) c.new-set.ensures.exact
 
 pub loop-name-preserved : goal.loop-name-preserved
 loop-name-preserved c =
-    one_wanted c.args.branch.now (map_of (slice_cmp nat_cmp) c.loop-name.set) (map_of (slice_cmp nat_cmp) c.in_ok-set.set) c.args.names.now c.loop-name.name-index c.name-item.result c.name-item.result (is_among (wanted c.args.branch.now c.args.names.now)) c.loop-name.invariant (omega arith) c.name-item.is (sym c.has_patch.ensures ∙ c.if-has_patch.false) c.in_ok-set.ensures
+    one_wanted c.args.branch.now (map_of (slice_cmp nat_cmp) c.loop-name.set) (map_of (slice_cmp nat_cmp) c.in_ok-set.set) c.args.names.now c.loop-name.name-index c.name-item.result c.name-item.result (is_among (wanted c.args.branch.now c.args.names.now)) c.loop-name.invariant (omega arith) c.name-item.is (sym c.has_patch.ensures.exact ∙ c.if-has_patch.false) c.in_ok-set.ensures.exact
 
 pub returns : goal.returns
 returns c =

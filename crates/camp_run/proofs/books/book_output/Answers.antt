@@ -11,7 +11,7 @@ pub text_of-requires : goal.text_of-requires
 text_of-requires g c =
     subst (λ answers. HaveTexts (lists_of answers)) (sym c.deref.ensures.value)
     (serial_texts 0 [] (lists_of c.sections.result.now) (lists_of c.in_ok-run.run'.answers.items) c.in_ok-run.run'.book
-    c.in_ok-run.ensures)
+    c.in_ok-run.ensures.serial)
 
 pub returns-clause-text : goal.returns-clause-text
 returns-clause-text g c =
@@ -19,5 +19,5 @@ returns-clause-text g c =
     (lists_of c.deref.result.now) c.in_ok-run.run'.book c.history.result.now c.in_ok-text_of.field-0.items
     c.in_ok-script.ensures.script c.sections.ensures.value
     (serial_run (lists_of c.sections.result.now) (lists_of c.in_ok-run.run'.answers.items) c.in_ok-run.run'.book
-    c.history.ensures.legal c.in_ok-run.ensures)
+    c.history.ensures.legal c.in_ok-run.ensures.serial)
     (ap lists_of c.deref.ensures.value) c.history.ensures.value c.in_ok-text_of.ensures

@@ -11,13 +11,13 @@ pub text_of-requires : goal.text_of-requires
 text_of-requires g c =
     subst (λ answers. HaveTexts (lists_of answers)) (sym c.deref.ensures.value)
     (shared_texts (lists_of c.sections-sections.result.now) (lists_of c.in_ok-answers.answers.items)
-    c.in_ok-answers.ensures.history c.args.tries c.in_ok-answers.ensures.shared)
+    c.in_ok-answers.ensures.shared.history c.args.tries c.in_ok-answers.ensures.shared.shared)
 
 pub text_of-requires-2 : goal.text_of-requires-2
 text_of-requires-2 g c =
     subst (λ answers. HaveTexts (lists_of answers)) (sym c.deref-2.ensures.value)
     (shared_texts (lists_of c.sections-sections.result.now) (lists_of c.in_ok-run.run'.answers.items)
-    c.in_ok-run.run'.history.items c.args.tries c.in_ok-run.ensures)
+    c.in_ok-run.run'.history.items c.args.tries c.in_ok-run.ensures.shared)
 
 pub shared_answers-requires-clause-writing : goal.shared_answers-requires-clause-writing
 shared_answers-requires-clause-writing g c lifetimes outlive =

@@ -2,4 +2,4 @@ use Rattle.camp_run.proofs.Keeping.{kept_leads_back}
 use Rattle.camp_run.proofs.laws.kept_text_leads_back.Goals as goal
 
 pub returns : goal.returns
-returns c = kept_leads_back
+returns c = record { law = kept_leads_back }

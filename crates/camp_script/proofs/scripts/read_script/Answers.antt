@@ -34,16 +34,16 @@ loop-line-preserved c =
           (subst (λ rest. IsBegun c.loop-line.number c.loop-line.reading rest (lines_of c.args.bytes.now)) lines c.loop-line.invariant.2) c.in_ok-reading.ensures.given,
     )
 
-pub returns-in_err-reading-clause-wanted : goal.returns-in_err-reading-clause-wanted
-returns-in_err-reading-clause-wanted c =
+pub returns-in_err-reading-clause-memory : goal.returns-in_err-reading-clause-memory
+returns-in_err-reading-clause-memory c =
     let lines = ap (map without_end) c.in-Some.ensures.steps ∙ ap (λ bytes. bytes ∷ map without_end c.next.new.self) (sym c.without_end.ensures.exact) in
     let wants : c.in_err-reading.field-0.0 ≡ Memory → ScriptMayWant c.args.bytes.now =
     wants_now c.loop-line.number c.loop-line.reading c.without_end.result.now (map without_end c.next.new.self) c.args.bytes.now c.in_err-reading.field-0.0
-    (subst (λ rest. IsBegun c.loop-line.number c.loop-line.reading rest (lines_of c.args.bytes.now)) lines c.loop-line.invariant.2) c.in_err-reading.ensures.given c.in_err-reading.ensures.wanted in
+    (subst (λ rest. IsBegun c.loop-line.number c.loop-line.reading rest (lines_of c.args.bytes.now)) lines c.loop-line.invariant.2) c.in_err-reading.ensures.given c.in_err-reading.ensures.memory in
     search (rules, wants)
 
-pub returns-clause-wanted : goal.returns-clause-wanted
-returns-clause-wanted c =
+pub returns-clause-memory : goal.returns-clause-memory
+returns-clause-memory c =
     let none = ap (map without_end) c.in-None.ensures.steps.0 in
     let wants : ScriptMayWant c.args.bytes.now =
     wants_at_end c.loop-line.number c.loop-line.reading c.args.bytes.now (subst (λ rest. IsBegun c.loop-line.number c.loop-line.reading rest (lines_of c.args.bytes.now)) none c.loop-line.invariant.2) in

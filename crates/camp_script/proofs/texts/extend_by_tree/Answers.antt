@@ -7,7 +7,7 @@ use Rattle.camp_script.proofs.TextLemmas.{one_more, no_file, tree_done, kept_fur
 use Rattle.camp_script.proofs.texts.extend_by_tree.Goals as goal
 
 pub unreachable-requires : goal.unreachable-requires
-unreachable-requires c = no_file c.args.tree.now c.len-index-end.result c.loop-index.index c.len-index-end.ensures c.loop-index-test.true c.in_default.ensures
+unreachable-requires c = no_file c.args.tree.now c.len-index-end.result c.loop-index.index c.len-index-end.ensures.exact c.loop-index-test.true c.in_default.ensures.exact
 
 pub returns-in_err-extend_by_file : goal.returns-in_err-extend_by_file
 returns-in_err-extend_by_file c =
@@ -18,10 +18,10 @@ returns-in_err-extend_by_file c =
 
 pub loop-index-preserved : goal.loop-index-preserved
 loop-index-preserved c =
-    one_more file_text c.extend_by_count.new.text.items c.loop-index.text.items c.extend_by_file.new.text.items (entries c.args.tree.now) c.loop-index.index _ c.loop-index.invariant c.in-Some.ensures
+    one_more file_text c.extend_by_count.new.text.items c.loop-index.text.items c.extend_by_file.new.text.items (entries c.args.tree.now) c.loop-index.index _ c.loop-index.invariant c.in-Some.ensures.exact
     c.in_ok-extend_by_file.ensures
 
 pub returns : goal.returns
 returns c =
     tree_done c.args.tree.now c.args.text.now.items (decimal c.len.result) c.extend_by_count.new.text.items c.loop-index.text.items c.len-index-end.result c.loop-index.index
-    (ap decimal c.len.ensures) c.in_ok-extend_by_count.ensures c.loop-index.invariant c.len-index-end.ensures c.loop-index-test.false
+    (ap decimal c.len.ensures.exact) c.in_ok-extend_by_count.ensures c.loop-index.invariant c.len-index-end.ensures.exact c.loop-index-test.false

@@ -6,10 +6,12 @@ use Rattle.camp_seq.proofs.OwnOrders.{no_chain}
 use Rattle.camp_seq.proofs.chains.is_chain.Goals as goal
 
 pub returns-then-not-stays_before : goal.returns-then-not-stays_before
-returns-then-not-stays_before c =
-    let s : List Named = c.args.items.now in
-    let i = c.loop-at.at - 1 in
-    let p = c.index-items-at.result in
-    let next : drop i s ≡ p ∷ drop (i + 1) s = drop_more s i p (omega arith) ∙ ap (λ x. x ∷ drop (i + 1) s) (sym c.index-items-at.is) in
-    let moves : ¬ (StaysBefore p (drop (i + 1) s)) = λ stays. let no : false ≡ true = c.if-not-stays_before.ensures.1 (subst (StaysBefore p) (sym (take_rest s (i + 1))) stays) in cc in
-    (λ no. let e : false ≡ true = no in cc, λ chain. absurd (no_chain s i p (drop (i + 1) s) next moves chain))
+returns-then-not-stays_before c = record {
+  exact =
+      let s : List Named = c.args.items.now in
+      let i = c.loop-at.at - 1 in
+      let p = c.index-items-at.result in
+      let next : drop i s ≡ p ∷ drop (i + 1) s = drop_more s i p (omega arith) ∙ ap (λ x. x ∷ drop (i + 1) s) (sym c.index-items-at.is) in
+      let moves : ¬ (StaysBefore p (drop (i + 1) s)) = λ stays. let no : false ≡ true = c.if-not-stays_before.ensures.1 (subst (StaysBefore p) (sym (take_rest s (i + 1))) stays) in cc in
+      (λ no. let e : false ≡ true = no in cc, λ chain. absurd (no_chain s i p (drop (i + 1) s) next moves chain));
+}

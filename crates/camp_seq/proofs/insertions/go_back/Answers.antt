@@ -16,14 +16,14 @@ loop-at-preserved c =
     let at = c.loop-at.at in
     let d = c.index-s-at-in-loop-at.result in
     let less = less_from_lt (label_cmp c.label.result c.label-in-loop-at.result) (sym c.is_less.ensures ∙ c.if-not-is_less.false) in
-    let there : c.label.result ≡ label_of (get_or s at d) = c.label.ensures ∙ ap label_of (get_or_default s at c.index-s-at.result d (omega arith)) in
-    let lesser = subst (λ l. label_cmp (label_of (get_or s at d)) l ≡ Less) c.label-in-loop-at.ensures (subst (λ l. label_cmp l c.label-in-loop-at.result ≡ Less) there less) in
+    let there : c.label.result ≡ label_of (get_or s at d) = c.label.ensures.exact ∙ ap label_of (get_or_default s at c.index-s-at.result d (omega arith)) in
+    let lesser = subst (λ l. label_cmp (label_of (get_or s at d)) l ≡ Less) c.label-in-loop-at.ensures.exact (subst (λ l. label_cmp l c.label-in-loop-at.result ≡ Less) there less) in
     λ s0 x0 w. goes_on s0 s x0 c.loop-at.x at d c.pass_one.new.q c.pass_one.new.p (omega arith) lesser c.if-not-pass_one.ensures.exact (c.loop-at.invariant s0 x0 w)
 
 pub returns-then-not-is_less : goal.returns-then-not-is_less
 returns-then-not-is_less c =
     let not = not_less_where (label_cmp c.label.result c.label-in-loop-at.result) (sym c.is_less.ensures ∙ c.if-not-is_less.true) in
-    let above = subst (λ l. label_cmp (label_of (get_or c.loop-at.s c.loop-at.at c.index-s-at.result)) l ≢ Less) c.label-in-loop-at.ensures (subst (λ l. label_cmp l c.label-in-loop-at.result ≢ Less) c.label.ensures not) in
+    let above = subst (λ l. label_cmp (label_of (get_or c.loop-at.s c.loop-at.at c.index-s-at.result)) l ≢ Less) c.label-in-loop-at.ensures.exact (subst (λ l. label_cmp l c.label-in-loop-at.result ≢ Less) c.label.ensures.exact not) in
     λ s0 x0 w. stays_before s0 c.loop-at.s x0 c.loop-at.x c.loop-at.at c.index-s-at.result (omega arith) above (c.loop-at.invariant s0 x0 w)
 
 pub returns-then-not-pass_one : goal.returns-then-not-pass_one

@@ -14,7 +14,7 @@ loop-p-preserved c =
     let i = c.loop-p.p-index in
     let d : Named = c.p-item.result in
     let label = c.label-label.result in
-    let at : label ≡ label_of (get_or s i d) = c.label-label.ensures ∙ ap label_of c.p-item.is in
+    let at : label ≡ label_of (get_or s i d) = c.label-label.ensures.exact ∙ ap label_of c.p-item.is in
     elim c.if-comes_before.branch [
       | then-comes_before w ↦
           let before = w.if-comes_before.ensures.0 refl in

@@ -13,7 +13,7 @@ loop-preserved g c =
     let middle : Standing = record { history = c.loop.book; lines = c.loop.lines } in
     let last : Standing = record { history = c.turn.new.book; lines = c.turn.new.lines } in
     holds_on _ b d _ held new _ middle last c.loop.invariant
-    (subst (λ (more : Bool). Turns b d held new middle (Ok more) last) c.in-Ok-true.field-0-test c.in-Ok-true.ensures)
+    (subst (λ (more : Bool). Turns b d held new middle (Ok more) last) c.in-Ok-true.field-0-test c.in-Ok-true.ensures.turns)
 
 pub returns : goal.returns
-returns g c = gives_up _ _ _ _ _ (record { history = c.loop.book; lines = c.loop.lines }) c.loop.invariant
+returns g c = record { talks = gives_up _ _ _ _ _ (record { history = c.loop.book; lines = c.loop.lines }) c.loop.invariant }

@@ -7,5 +7,5 @@ pub returns-in-Ok : goal.returns-in-Ok
 returns-in-Ok c = record {
   names =
       let gives : ObliterateGives c.args.branch.now (names_in c.args.names.now) (Ok c.in-Ok.left) = rw c.in-Ok.is at c.in_ok-left.ensures.exact in
-      c.obliterates_keep_lawful.ensures.names _ _ _ gives c.catches-lawful.ensures.lawful;
+      c.obliterates_keep_lawful.ensures.law.names _ _ _ gives c.catches-lawful.ensures.lawful;
 }

@@ -12,8 +12,8 @@ again : (c : goal.After-drop-text-2) → (c.in_ok-run.run'.book ≡ at_seat_0 c.
 again c =
     let stand = subst (λ history. AllByRecursion CanStand (calls_of history)) c.history.ensures.value c.in_ok-append_script.ensures.stand in
     let written = c.deref.ensures.value ∙ c.in_ok-append_script.ensures.text ∙ ap (λ t. t ++ kept_text c.history.result.now) c.new-text.ensures.items ∙ ap kept_text c.history.ensures.value in
-    comes_back c.kept_text_leads_back.ensures c.one_by_one_is_serial.ensures c.args.book.now c.deref.result.now _ (lists_of c.sections.result.now) (lists_of c.in_ok-run.run'.answers.items) c.in_ok-run.run'.book
-    c.history.ensures.legal stand c.requires written c.in-Ok.ensures.given c.sections.ensures.value c.history-kept.ensures.legal c.in_ok-run.ensures
+    comes_back c.kept_text_leads_back.ensures.law c.one_by_one_is_serial.ensures.law c.args.book.now c.deref.result.now _ (lists_of c.sections.result.now) (lists_of c.in_ok-run.run'.answers.items) c.in_ok-run.run'.book
+    c.history.ensures.legal stand c.requires written c.in-Ok.ensures.given c.sections.ensures.value c.history-kept.ensures.legal c.in_ok-run.ensures.serial
 
 pub returns-clause-history : goal.returns-clause-history
 returns-clause-history c = (again c).0

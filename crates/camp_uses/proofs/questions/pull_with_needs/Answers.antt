@@ -8,7 +8,7 @@ use Rattle.camp_uses.proofs.questions.pull_with_needs.Goals as goal
 pub returns-in-Next-clause-accepted : goal.returns-in-Next-clause-accepted
 returns-in-Next-clause-accepted c =
     let comes : Next c.in-Next.next ≡ step c.args.state.now (call.Pull c.args.from.now c.args.to.now (Some c.in_ok-needed.needed)) = rw c.in-Next.is at c.in_ok-next.ensures.exact in
-    pull_brings c.args.state.now c.args.from.now c.args.to.now c.args.names.now c.in_ok-needed.needed c.in_ok-needed.ensures.exact c.needs_come_first.ensures.law c.accepted_calls_have_effect.ensures c.in-Next.next c.count-lawful.ensures.lawful comes
+    pull_brings c.args.state.now c.args.from.now c.args.to.now c.args.names.now c.in_ok-needed.needed c.in_ok-needed.ensures.exact c.needs_come_first.ensures.law c.accepted_calls_have_effect.ensures.law c.in-Next.next c.count-lawful.ensures.lawful comes
 
 pub refusal_of-requires : goal.refusal_of-requires
 refusal_of-requires c =

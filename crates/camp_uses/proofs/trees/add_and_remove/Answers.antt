@@ -3,12 +3,12 @@ use Rattle.camp_uses.proofs.trees.add_and_remove.Goals as goal
 
 pub returns-in-Ok-clause-same : goal.returns-in-Ok-clause-same
 returns-in-Ok-clause-same c =
-    (taken_away c.applied_is_applies.ensures c.inverse_leads_back.ensures _ _ _ _ _ c.in-Ok.ensures c.remove_file.ensures).0
+    (taken_away c.applied_is_applies.ensures.law c.inverse_leads_back.ensures.law _ _ _ _ _ c.in-Ok.ensures.exact c.remove_file.ensures.exact).0
 
 pub returns-in-Ok-clause-told : goal.returns-in-Ok-clause-told
 returns-in-Ok-clause-told c =
-    let applies = (taken_away c.applied_is_applies.ensures c.inverse_leads_back.ensures _ _ _ _ _ c.in-Ok.ensures c.remove_file.ensures).1 in
+    let applies = (taken_away c.applied_is_applies.ensures.law c.inverse_leads_back.ensures.law _ _ _ _ _ c.in-Ok.ensures.exact c.remove_file.ensures.exact).1 in
     λ failed. absurd (applies failed)
 
 pub returns-in-Err-clause-told : goal.returns-in-Err-clause-told
-returns-in-Err-clause-told c = λ told. present _ _ _ c.in-Err.fault c.in-Err.ensures cc
+returns-in-Err-clause-told c = λ told. present _ _ _ c.in-Err.fault c.in-Err.ensures.exact cc

@@ -3,6 +3,8 @@ use Rattle.camp_base.proofs.TreeLemmas.{answered, adds_file}
 use Rattle.camp_base.proofs.trees.Tree.add_file.Goals as goal
 
 pub returns : goal.returns
-returns c =
-    answered (Adds c.args.path.now) _ _ _ _
-    (adds_file c.args.path.now _ _ _ _ c.self.view_is c.contains_key.ensures c.if-contains_key.false c.new-lines.ensures) c.write.ensures
+returns c = record {
+  exact =
+      answered (Adds c.args.path.now) _ _ _ _
+      (adds_file c.args.path.now _ _ _ _ c.self.view_is c.contains_key.ensures.exact c.if-contains_key.false c.new-lines.ensures.exact) c.write.ensures;
+}

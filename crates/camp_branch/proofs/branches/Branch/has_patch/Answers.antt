@@ -3,5 +3,7 @@ use Rattle.camp_branch.specs.Branches.{has_patch}
 use Rattle.camp_branch.proofs.branches.Branch.has_patch.Goals as goal
 
 pub returns : goal.returns
-returns c =
-    c.contains_key.ensures ∙ c.self.invariant.named c.args.name.now ∙ ap (λ l. has_patch l c.args.name.now) c.self.view_is
+returns c = record {
+  exact =
+      c.contains_key.ensures.exact ∙ c.self.invariant.named c.args.name.now ∙ ap (λ l. has_patch l c.args.name.now) c.self.view_is;
+}

@@ -13,6 +13,6 @@ pub invariant_of-result : goal.invariant_of-result
 invariant_of-result c =
     record {
       lawful = (made c).lawful;
-      named = recorded_indexed _ _ c.self.inside.catches _ c.args.name.now c.args.changes.now c.self.invariant.named c.in_ok-names.ensures c.in_ok-catches.ensures c.requires.some;
+      named = recorded_indexed _ _ c.self.inside.catches _ c.args.name.now c.args.changes.now c.self.invariant.named c.in_ok-names.ensures.exact c.in_ok-catches.ensures c.requires.some;
       kept = (made c).kept;
     }

@@ -3,7 +3,7 @@ use Rattle.std.specs.Cmp.Lexicographic.{slice_cmp}
 use Rattle.std.specs.Ordering.{nat_cmp}
 use Rattle.camp_share.specs.Maps.{map_of}
 use Rattle.camp_catch.specs.declared.catches.Catch.{Catch}
-use Rattle.camp_branch.specs.Branches.{IsLawful}
+use Rattle.camp_branch.specs.Branches.{IsLawfulBranch}
 use Rattle.camp_branch.proofs.BranchFields.{appended, taken_fits, taken_indexed, taken_lead}
 use Rattle.camp_branch.proofs.branches.Branch.with_taken.Goals as goal
 
@@ -18,9 +18,9 @@ invariant_of-result c =
     let own : List Catch = c.args.self.now in
     let taken : List Catch = c.args.taken.now in
     let next : List Catch = c.in_ok-catches.catches in
-    let becomes = appended catches own taken next c.len-end.result c.len-end.ensures c.self.view_is c.in_ok-catches.ensures in
+    let becomes = appended catches own taken next c.len-end.result c.len-end.ensures.exact c.self.view_is c.in_ok-catches.ensures.exact in
     record {
-      lawful = subst IsLawful (sym becomes) c.requires;
+      lawful = subst IsLawfulBranch (sym becomes) c.requires;
       named = taken_indexed (map_of (slice_cmp nat_cmp) c.self.inside.names) (map_of (slice_cmp nat_cmp) c.in_ok-names.names) catches own taken next c.self.invariant.named c.self.view_is c.in_ok-names.ensures becomes;
       kept = taken_lead catches own taken next c.self.inside.tree c.in_ok-tree.tree c.self.view_is becomes c.self.invariant.kept c.in_ok-tree.ensures;
     }

@@ -11,4 +11,4 @@ returns-in-None c =
     let e : c.loop-at.at ≡ i + 1 = omega arith in
     let taken = subst (λ n. PassesByAll (drop n r) c.args.x.now c.loop-at.passed) e c.loop-at.invariant in
     let never = rw c.in-None.is at c.in_ok-next.ensures.exact in
-    record { exact = subst (λ s. GivesNone (PassesByAll s) c.args.x.now) c.items-items.ensures (none_at_step PassesBy one_passing_by r i _ _ _ (omega arith) c.index-items-at.is taken never) }
+    record { exact = subst (λ s. GivesNone (PassesByAll s) c.args.x.now) c.items-items.ensures.exact (none_at_step PassesBy one_passing_by r i _ _ _ (omega arith) c.index-items-at.is taken never) }

@@ -14,13 +14,13 @@ pub version_for-requires-clause-next : goal.version_for-requires-clause-next
 version_for-requires-clause-next g c =
     let decided : DecidesAt g.State.Object.object (history_of c.args.seat.now) c.value.result.now (Next c.in-Next.next) = rw c.in-Next.is at c.in_ok-reply.ensures in
     let here : DecidesAt g.State.Object.object (history_of c.args.seat.now) c.args.call.now.value (Next c.in-Next.next) = rw c.value.ensures at decided in
-    decided_next g.State.Object.object (history_of c.args.seat.now) c.args.seat.now.known.number c.args.call.now.value c.in-Next.next here ∙ ap Some (sym c.in_ok-state.ensures)
+    decided_next g.State.Object.object (history_of c.args.seat.now) c.args.seat.now.known.number c.args.call.now.value c.in-Next.next here ∙ ap Some (sym c.in_ok-state.ensures.exact)
 
 pub publish-requires-clause-next : goal.publish-requires-clause-next
 publish-requires-clause-next g c =
     let decided : DecidesAt g.State.Object.object (history_of c.args.seat.now) c.value.result.now (Next c.in-Next.next) = rw c.in-Next.is at c.in_ok-reply.ensures in
     let here : DecidesAt g.State.Object.object (history_of c.args.seat.now) c.args.call.now.value (Next c.in-Next.next) = rw c.value.ensures at decided in
-    decided_next g.State.Object.object (history_of c.args.seat.now) c.args.seat.now.known.number c.args.call.now.value c.in-Next.next here ∙ ap Some (sym c.in_ok-state.ensures)
+    decided_next g.State.Object.object (history_of c.args.seat.now) c.args.seat.now.known.number c.args.call.now.value c.in-Next.next here ∙ ap Some (sym c.in_ok-state.ensures.exact)
 
 pub returns-in_err-publish-clause-attempts : goal.returns-in_err-publish-clause-attempts
 returns-in_err-publish-clause-attempts g c =
@@ -50,7 +50,7 @@ returns-clause-attempts g c =
     let room : length (own c.args.seat.now.known.number (history_of c.args.seat.now)) < c.args.self.now.row.per_seat = omega arith in
     let publishes : Publishes c.args.seat.now c.args.call.now c.publish.new.self = rw c.if-not-branch.false at c.in_ok-publish.ensures in
     let marks : c.put.new.seat.marks ≡ c.publish.new.self.marks = c.put.ensures.marks in
-    let position : c.position.result ≡ length (history_of c.publish.new.self) = c.position.ensures ∙ ap (λ marks. length (map asked marks)) marks in
+    let position : c.position.result ≡ length (history_of c.publish.new.self) = c.position.ensures.exact ∙ ap (λ marks. length (map asked marks)) marks in
     let Asks : List (Mark g.row.State-Call.Denot) → Type 0 = λ marks. Ask g.State.Object.object (caller_at c.args.self.now c.args.seat.now) (history_of c.args.seat.now) c.args.call.now.value (Ok c.done.result) (map asked marks) in
     subst Asks (sym marks) (
     ask_published g.State.Object.object g.met.State.Object.lawful c.args.self.now c.args.seat.now c.publish.new.self c.args.call.now c.position.result c.done.result

@@ -22,7 +22,7 @@ loop-mark-preserved g c =
     let place : entry.place ≡ mark.call.index = c.if-entry-index.false ∙ c.index.ensures in
     let is : entry ≡ entry_of mark = λ k. record { seat = c.if-entry-mark.false k; place = place k } in
     let index = c.if-index-len.false in
-    let len = c.len-in-Some.ensures in
+    let len = c.len-in-Some.ensures.exact in
     let within = past.within in
     let other : i ≢ length c.args.trail.now = λ same. index (same ∙ sym len) in
     let Below : Mark g.row.State-Call.Denot → Type 0 = λ mark. mark.seat < seat.known.row.seats in

@@ -18,17 +18,19 @@ numbered g c =
     c.in_ok-all.ensures ∙ ap (map unseen) c.in_ok-row.ensures.passes ∙ map-map unseen (newcomer c.in_ok-row.row) (range_with_len 0 c.args.seats)
 
 pub returns : goal.returns
-returns g c =
-    let head : HeadId = record { row = c.in_ok-row.row; store = c.in_ok-calls.calls; tries = c.args.tries } in (
-      c.is_in_range.ensures.0 c.if-not-is_in_range.false,
-      record {
-        has_seats = c.in_ok-row.ensures.row.0;
-        has_calls = c.in_ok-row.ensures.row.1;
-        has_tries = refl;
-        all = numbered g c;
-        are_seats =
-            All-same (IsSeatOf head) c.in_ok-all.all.items (map (λ number. unseen (newcomer c.in_ok-row.row number)) (range_with_len 0 c.args.seats)) (numbered g c) (
-            All-map (IsSeatOf head) (λ number. unseen (newcomer c.in_ok-row.row number)) (range_with_len 0 c.args.seats) (λ k d below. record { row = refl; stored = λ i mark none. absurd (omega arith); front_stored = λ i mark none. absurd (omega arith) })
-            );
-      },
-    )
+returns g c = record {
+  opens =
+      let head : HeadId = record { row = c.in_ok-row.row; store = c.in_ok-calls.calls; tries = c.args.tries } in (
+        c.is_in_range.ensures.0 c.if-not-is_in_range.false,
+        record {
+          has_seats = c.in_ok-row.ensures.row.0;
+          has_calls = c.in_ok-row.ensures.row.1;
+          has_tries = refl;
+          all = numbered g c;
+          are_seats =
+              All-same (IsSeatOf head) c.in_ok-all.all.items (map (λ number. unseen (newcomer c.in_ok-row.row number)) (range_with_len 0 c.args.seats)) (numbered g c) (
+              All-map (IsSeatOf head) (λ number. unseen (newcomer c.in_ok-row.row number)) (range_with_len 0 c.args.seats) (λ k d below. record { row = refl; stored = λ i mark none. absurd (omega arith); front_stored = λ i mark none. absurd (omega arith) })
+              );
+        },
+      );
+}

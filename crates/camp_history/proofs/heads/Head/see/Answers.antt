@@ -45,14 +45,14 @@ accepts g c =
     ap (g.State.Object.object.after c.seat.inside.state) (sym value) ∙ next
 
 seen : (g : Over) (c : goal.After-drop-seat-inside g) → c.advance.new.pass ≡ record c.seat.inside.pass { seen = c.seat.inside.pass.seen ++ c.args.next.entry ∷ [] }
-seen g c = c.advance.ensures
+seen g c = c.advance.ensures.exact
 
 replays : (g : Over) (c : goal.After-drop-seat-inside g) → replay g.State.Object.object (map asked c.push_reserved.new.self.items) ≡ Some c.in_ok-next_state.next_state
 unfolding pushed
 replays g c =
     ap (replay g.State.Object.object) (history_more c.seat.inside.marks.items c.push_reserved.new.self.items (pushed g c) (stands g c))
     ∙ replay_accepted g.State.Object.object (map asked c.seat.inside.marks.items) (asked (pushed g c)) c.seat.inside.state c.in-Next.state c.seat.invariant.replays (accepts g c)
-    ∙ ap Some (sym c.in_ok-next_state.ensures)
+    ∙ ap Some (sym c.in_ok-next_state.ensures.exact)
 
 below : (g : Over) (c : goal.After-drop-seat-inside g) → c.args.next.entry.seat < c.seat.inside.pass.row.seats
 below g c =

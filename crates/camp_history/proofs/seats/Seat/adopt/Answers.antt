@@ -17,10 +17,10 @@ advance_by-requires-clause-count g c =
     let version_is : c.version.inside.marks ≡ version = c.version.view_is in
     let goes : GoesOn seat version = subst (λ seat. GoesOn seat version) (sym c.self.view_is) c.requires.goes_on in
     let from : c.len.result ≡ length seat.marks = c.len.ensures ∙ c.self.inside.marks.ok.0 in
-    let to : c.len-2.result ≡ length version = c.len-2.ensures ∙ ap length version_is in
-    let copied : c.in_ok-copied.field-0 ≡ slice_range c.version.inside.marks c.len.result c.len-2.result = c.in_ok-copied.ensures in
+    let to : c.len-2.result ≡ length version = c.len-2.ensures.exact ∙ ap length version_is in
+    let copied : c.in_ok-copied.field-0 ≡ slice_range c.version.inside.marks c.len.result c.len-2.result = c.in_ok-copied.ensures.exact in
     let list : c.in_ok-news.news.items ≡ news seat version =
-    news_are seat version c.in_ok-news.news.items c.in_ok-copied.field-0 c.len.result c.len-2.result from to (copied ∙ ap (λ marks. slice_range marks c.len.result c.len-2.result) version_is) c.in_ok-news.ensures
+    news_are seat version c.in_ok-news.news.items c.in_ok-copied.field-0 c.len.result c.len-2.result from to (copied ∙ ap (λ marks. slice_range marks c.len.result c.len-2.result) version_is) c.in_ok-news.ensures.exact
     in
     let count : c.len-4.result ≡ length (news seat version) = c.len-4.ensures ∙ c.in_ok-news.news.ok.0 ∙ ap length list in
     let leads : Leads seat.known seat.known.seen c.args.trail.now = subst (λ seat. Leads seat.known seat.known.seen c.args.trail.now) (sym c.self.view_is) c.requires.leads in
@@ -33,10 +33,10 @@ invariant_of-self-2 g c =
     let version_is : c.version.inside.marks ≡ version = c.version.view_is in
     let goes : GoesOn seat version = subst (λ seat. GoesOn seat version) (sym c.self.view_is) c.requires.goes_on in
     let from : c.len.result ≡ length seat.marks = c.len.ensures ∙ c.self.inside.marks.ok.0 in
-    let to : c.len-2.result ≡ length version = c.len-2.ensures ∙ ap length version_is in
-    let copied : c.in_ok-copied.field-0 ≡ slice_range c.version.inside.marks c.len.result c.len-2.result = c.in_ok-copied.ensures in
+    let to : c.len-2.result ≡ length version = c.len-2.ensures.exact ∙ ap length version_is in
+    let copied : c.in_ok-copied.field-0 ≡ slice_range c.version.inside.marks c.len.result c.len-2.result = c.in_ok-copied.ensures.exact in
     let list : c.in_ok-news.news.items ≡ news seat version =
-    news_are seat version c.in_ok-news.news.items c.in_ok-copied.field-0 c.len.result c.len-2.result from to (copied ∙ ap (λ marks. slice_range marks c.len.result c.len-2.result) version_is) c.in_ok-news.ensures
+    news_are seat version c.in_ok-news.news.items c.in_ok-copied.field-0 c.len.result c.len-2.result from to (copied ∙ ap (λ marks. slice_range marks c.len.result c.len-2.result) version_is) c.in_ok-news.ensures.exact
     in
     let count : c.len-4.result ≡ length (news seat version) = c.len-4.ensures ∙ c.in_ok-news.news.ok.0 ∙ ap length list in
     let ok : vec_len c.reserve.new.self + vec_len c.in_ok-news.news ≤ vec_capacity c.reserve.new.self → IsOk c.append-room.result = c.append-room.ensures.succeeds in
@@ -67,10 +67,10 @@ returns-clause-ok g c =
     let version_is : c.version.inside.marks ≡ version = c.version.view_is in
     let goes : GoesOn seat version = subst (λ seat. GoesOn seat version) (sym c.self.view_is) c.requires.goes_on in
     let from : c.len.result ≡ length seat.marks = c.len.ensures ∙ c.self.inside.marks.ok.0 in
-    let to : c.len-2.result ≡ length version = c.len-2.ensures ∙ ap length version_is in
-    let copied : c.in_ok-copied.field-0 ≡ slice_range c.version.inside.marks c.len.result c.len-2.result = c.in_ok-copied.ensures in
+    let to : c.len-2.result ≡ length version = c.len-2.ensures.exact ∙ ap length version_is in
+    let copied : c.in_ok-copied.field-0 ≡ slice_range c.version.inside.marks c.len.result c.len-2.result = c.in_ok-copied.ensures.exact in
     let list : c.in_ok-news.news.items ≡ news seat version =
-    news_are seat version c.in_ok-news.news.items c.in_ok-copied.field-0 c.len.result c.len-2.result from to (copied ∙ ap (λ marks. slice_range marks c.len.result c.len-2.result) version_is) c.in_ok-news.ensures
+    news_are seat version c.in_ok-news.news.items c.in_ok-copied.field-0 c.len.result c.len-2.result from to (copied ∙ ap (λ marks. slice_range marks c.len.result c.len-2.result) version_is) c.in_ok-news.ensures.exact
     in
     let count : c.len-4.result ≡ length (news seat version) = c.len-4.ensures ∙ c.in_ok-news.news.ok.0 ∙ ap length list in
     let ok : vec_len c.reserve.new.self + vec_len c.in_ok-news.news ≤ vec_capacity c.reserve.new.self → IsOk c.append-room.result = c.append-room.ensures.succeeds in

@@ -12,8 +12,8 @@ returns g c =
     let len = c.len-len.result in
     let list = c.in_ok-spliced.field-0 in
     let lent : List (Mark g.row.State-Call.Denot) = c.deref.result.now in
-    let spliced : list ≡ splice seat.front len len (take (length lent - len) (drop len lent)) = c.in_ok-spliced.ensures in
+    let spliced : list ≡ splice seat.front len len (take (length lent - len) (drop len lent)) = c.in_ok-spliced.ensures.exact in
     let all : list ≡ splice seat.front len len (take (length seat.marks - len) (drop len seat.marks)) =
     spliced ∙ ap (λ marks. splice seat.front len len (take (length marks - len) (drop len marks))) c.deref.ensures.value
     in
-    listed seat list len c.len-len.ensures all ∙ ap (λ seat. list_of seat) c.self.view_is
+    listed seat list len c.len-len.ensures.exact all ∙ ap (λ seat. list_of seat) c.self.view_is

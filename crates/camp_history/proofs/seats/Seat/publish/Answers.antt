@@ -26,7 +26,7 @@ publish-requires-clause-room g c =
     ∙ sym (length-own c.self.inside.pass.number c.self.inside.marks.items)
     ∙ ap (λ seat. length (own seat.known.number (history_of seat))) c.self.view_is
     in
-    rw (c.draft.ensures, here) c.requires.room
+    rw (c.draft.ensures.exact, here) c.requires.room
 
 -- the mark that is pushed
 pushed : (g : Over) (c : goal.After-drop-self-inside g) → Mark g.row.State-Call.Denot
@@ -51,8 +51,8 @@ won known = record known { seen = known.seen ++ drafted known ∷ []; ahead = kn
 -- the pass won
 passed : (g : Over) (c : goal.After-drop-self-inside g) → c.publish.new.pass ≡ won (with_draft c.self.inside.pass c.args.call.now.index)
 passed g c =
-    let published : Won c.draft.new.pass c.publish.new.pass = c.if-not-publish.ensures in
-    let draft : c.draft.new.pass ≡ with_draft c.self.inside.pass c.index.result = c.draft.ensures in
+    let published : Won c.draft.new.pass c.publish.new.pass = c.if-not-publish.ensures.exact in
+    let draft : c.draft.new.pass ≡ with_draft c.self.inside.pass c.index.result = c.draft.ensures.exact in
     let index : c.index.result ≡ c.args.call.now.index = c.index.ensures in
     published.is ∙ ap won draft ∙ ap (λ place. won (with_draft c.self.inside.pass place)) index
 

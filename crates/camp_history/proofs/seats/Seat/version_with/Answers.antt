@@ -12,7 +12,7 @@ invariant_of-result g c =
     let mark : Mark g.row.State-Call.Denot = record { seat = c.number.result; call = c.again.result } in
     let number : c.self.inside.pass.number ≡ seat.known.number = ap (λ seat. seat.known.number) c.self.view_is in
     let is : mark ≡ record { seat = seat.known.number; call = c.args.call.now } = λ k. record { seat = (c.number.ensures.number ∙ number) k; call = c.again.ensures k } in
-    let pushed : c.in_ok-marks.marks ≡ c.in_ok-list.list ++ mark ∷ [] = c.in_ok-marks.ensures in
+    let pushed : c.in_ok-marks.marks ≡ c.in_ok-list.list ++ mark ∷ [] = c.in_ok-marks.ensures.exact in
     let list : c.in_ok-list.list ≡ list_of seat = c.in_ok-list.ensures in
     let made : c.in_ok-marks.marks ≡ made_of seat c.args.call.now = pushed ∙ (λ k. list k ++ is k ∷ []) in
     let begins : IsFront (map asked seat.front) (history_of seat) = subst (λ seat. IsFront (map asked seat.front) (history_of seat)) c.self.view_is c.self.invariant.begins in
@@ -27,7 +27,7 @@ returns-clause-made g c =
     let mark : Mark g.row.State-Call.Denot = record { seat = c.number.result; call = c.again.result } in
     let number : c.self.inside.pass.number ≡ seat.known.number = ap (λ seat. seat.known.number) c.self.view_is in
     let is : mark ≡ record { seat = seat.known.number; call = c.args.call.now } = λ k. record { seat = (c.number.ensures.number ∙ number) k; call = c.again.ensures k } in
-    let pushed : c.in_ok-marks.marks ≡ c.in_ok-list.list ++ mark ∷ [] = c.in_ok-marks.ensures in
+    let pushed : c.in_ok-marks.marks ≡ c.in_ok-list.list ++ mark ∷ [] = c.in_ok-marks.ensures.exact in
     let list : c.in_ok-list.list ≡ list_of seat = c.in_ok-list.ensures in
     pushed ∙ (λ k. list k ++ is k ∷ [])
 
@@ -37,7 +37,7 @@ returns-clause-asks g c =
     let mark : Mark g.row.State-Call.Denot = record { seat = c.number.result; call = c.again.result } in
     let number : c.self.inside.pass.number ≡ seat.known.number = ap (λ seat. seat.known.number) c.self.view_is in
     let is : mark ≡ record { seat = seat.known.number; call = c.args.call.now } = λ k. record { seat = (c.number.ensures.number ∙ number) k; call = c.again.ensures k } in
-    let pushed : c.in_ok-marks.marks ≡ c.in_ok-list.list ++ mark ∷ [] = c.in_ok-marks.ensures in
+    let pushed : c.in_ok-marks.marks ≡ c.in_ok-list.list ++ mark ∷ [] = c.in_ok-marks.ensures.exact in
     let list : c.in_ok-list.list ≡ list_of seat = c.in_ok-list.ensures in
     let made : c.in_ok-marks.marks ≡ made_of seat c.args.call.now = pushed ∙ (λ k. list k ++ is k ∷ []) in
     let begins : IsFront (map asked seat.front) (history_of seat) = subst (λ seat. IsFront (map asked seat.front) (history_of seat)) c.self.view_is c.self.invariant.begins in

@@ -28,11 +28,13 @@ invariant_of-self-in-Next g c =
     ∙ replay_accepted g.State.Object.object c.self.inside.history.items (c.args.seat, c.args.call.now) c.self.inside.state c.in-Next.state c.self.invariant (accepts g c)
 
 pub returns-in_ok-copy-in-Next : goal.returns-in_ok-copy-in-Next
-returns-in_ok-copy-in-Next g c =
-    let accepted : IsAccepted g.State.Object.object c.self.inside.history.items c.args.call.now =
-    accepted_at g.State.Object.object c.self.inside.history.items c.args.call.now c.self.inside.state c.in-Next.state c.self.invariant (accepts g c)
-    in
-    rw (← c.self.view_is) (
-    ask_done g.State.Object.object g.met.State.Object.lawful (alone_at c.args.seat) c.self.inside.history.items c.self.inside.history.items c.push_reserved.new.self.items c.args.call.now c.len.result c.done.result
-    (front_self c.self.inside.history.items) refl accepted (λ not_alone. cc) (λ _. refl) (stands g c) (c.len.ensures ∙ c.push_reserved.new.self.ok.0) c.done.ensures
-    )
+returns-in_ok-copy-in-Next g c = record {
+  asks =
+      let accepted : IsAccepted g.State.Object.object c.self.inside.history.items c.args.call.now =
+      accepted_at g.State.Object.object c.self.inside.history.items c.args.call.now c.self.inside.state c.in-Next.state c.self.invariant (accepts g c)
+      in
+      rw (← c.self.view_is) (
+      ask_done g.State.Object.object g.met.State.Object.lawful (alone_at c.args.seat) c.self.inside.history.items c.self.inside.history.items c.push_reserved.new.self.items c.args.call.now c.len.result c.done.result
+      (front_self c.self.inside.history.items) refl accepted (λ not_alone. cc) (λ _. refl) (stands g c) (c.len.ensures ∙ c.push_reserved.new.self.ok.0) c.done.ensures
+      );
+}

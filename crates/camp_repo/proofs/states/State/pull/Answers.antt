@@ -18,14 +18,14 @@ pub returns-then-is_empty-clause-exact : goal.returns-then-is_empty-clause-exact
 returns-then-is_empty-clause-exact c =
     let two = sym c.eq.ensures ∙ c.if-eq.false in
     let all = sym c.first_lacked.ensures ∙ c.in_default-first_lacked.is in
-    let none = sym (none_alike (names_in c.in_ok-wanted.wanted) (wanted c.in-Some-find.ours.now (listed c.in-Some.theirs.now c.args.names.now)) c.in_ok-wanted.ensures) ∙ none_there (map_of (slice_cmp nat_cmp) c.in_ok-wanted.wanted) ∙ sym c.is_empty.ensures ∙ c.if-is_empty.true in
+    let none = sym (none_alike (names_in c.in_ok-wanted.wanted) (wanted c.in-Some-find.ours.now (listed c.in-Some.theirs.now c.args.names.now)) c.in_ok-wanted.ensures) ∙ none_there (map_of (slice_cmp nat_cmp) c.in_ok-wanted.wanted) ∙ sym c.is_empty.ensures.exact ∙ c.if-is_empty.true in
     c.refused-then-is_empty.ensures ∙ pull_nothing c.args.self.now c.args.from.now c.args.to.now c.args.names.now c.in-Some.theirs.now c.in-Some-find.ours.now c.in-Some.ensures.value c.in-Some-find.ensures.value two all none
 
 pub returns-then-is_full_with-clause-exact : goal.returns-then-is_full_with-clause-exact
 returns-then-is_full_with-clause-exact c =
     let two = sym c.eq.ensures ∙ c.if-eq.false in
     let all = sym c.first_lacked.ensures ∙ c.in_default-first_lacked.is in
-    let some = sym (none_alike (names_in c.in_ok-wanted.wanted) (wanted c.in-Some-find.ours.now (listed c.in-Some.theirs.now c.args.names.now)) c.in_ok-wanted.ensures) ∙ none_there (map_of (slice_cmp nat_cmp) c.in_ok-wanted.wanted) ∙ sym c.is_empty.ensures ∙ c.if-is_empty.false in
+    let some = sym (none_alike (names_in c.in_ok-wanted.wanted) (wanted c.in-Some-find.ours.now (listed c.in-Some.theirs.now c.args.names.now)) c.in_ok-wanted.ensures) ∙ none_there (map_of (slice_cmp nat_cmp) c.in_ok-wanted.wanted) ∙ sym c.is_empty.ensures.exact ∙ c.if-is_empty.false in
     let full = sym (full_alike (names_in c.in_ok-wanted.wanted) (wanted c.in-Some-find.ours.now (listed c.in-Some.theirs.now c.args.names.now)) c.in_ok-wanted.ensures c.in-Some-find.ours.now c.in-Some.theirs.now) ∙ sym c.is_full_with.ensures ∙ c.if-is_full_with.true in
     c.refused-then-is_full_with.ensures ∙ pull_too_large c.args.self.now c.args.from.now c.args.to.now c.args.names.now c.in-Some.theirs.now c.in-Some-find.ours.now c.in-Some.ensures.value c.in-Some-find.ensures.value two all some full
 
@@ -56,7 +56,7 @@ settled-requires-clause-known c catches is =
     let ours = c.in-Some-find.ours.now in
     let wanted = names_in c.in_ok-wanted.wanted in
     let own = pulls_begin_with_own theirs ours catches wanted (subst (PullGives theirs ours wanted) is c.in_ok-outcome.ensures.exact) in
-    let new : AgreesIn (catches_in branches) (record { from = c.in-Some.other; to = c.in-Some-find.place; long = c.in_ok-long.long }) = record { theirs = theirs; ours = ours; from_is = c.in-Some.ensures.at; to_is = c.in-Some-find.ensures.at; agree = c.in_ok-long.ensures } in
+    let new : AgreesIn (catches_in branches) (record { from = c.in-Some.other; to = c.in-Some-find.place; long = c.in_ok-long.long }) = record { theirs = theirs; ours = ours; from_is = c.in-Some.ensures.at; to_is = c.in-Some-find.ensures.at; agree = c.in_ok-long.ensures.agree } in
     let all = c.in_ok-known.ensures (catches_in branches) c.known-2.ensures new in
     subst (λ l. AllHold (placed branches c.in-Some-find.place l) c.in_ok-known.known) (sym own.1)
     (all_grown branches c.in-Some-find.place ours own.0 c.in-Some-find.ensures.at c.in_ok-known.known all)
@@ -65,7 +65,7 @@ pub settled-requires-clause-lawful : goal.settled-requires-clause-lawful
 settled-requires-clause-lawful c =
     let two = sym c.eq.ensures ∙ c.if-eq.false in
     let all = sym c.first_lacked.ensures ∙ c.in_default-first_lacked.is in
-    let some = sym (none_alike (names_in c.in_ok-wanted.wanted) (wanted c.in-Some-find.ours.now (listed c.in-Some.theirs.now c.args.names.now)) c.in_ok-wanted.ensures) ∙ none_there (map_of (slice_cmp nat_cmp) c.in_ok-wanted.wanted) ∙ sym c.is_empty.ensures ∙ c.if-is_empty.false in
+    let some = sym (none_alike (names_in c.in_ok-wanted.wanted) (wanted c.in-Some-find.ours.now (listed c.in-Some.theirs.now c.args.names.now)) c.in_ok-wanted.ensures) ∙ none_there (map_of (slice_cmp nat_cmp) c.in_ok-wanted.wanted) ∙ sym c.is_empty.ensures.exact ∙ c.if-is_empty.false in
     let few = sym (full_alike (names_in c.in_ok-wanted.wanted) (wanted c.in-Some-find.ours.now (listed c.in-Some.theirs.now c.args.names.now)) c.in_ok-wanted.ensures c.in-Some-find.ours.now c.in-Some.theirs.now) ∙ sym c.is_full_with.ensures ∙ c.if-is_full_with.false in
     pull_keeps c.args.self.now c.args.from.now c.args.to.now c.args.names.now c.in-Some.theirs.now c.in-Some-find.ours.now c.in-Some.ensures.value c.in-Some-find.ensures.value two all some few (names_in c.in_ok-wanted.wanted) c.in_ok-wanted.ensures c.in_ok-outcome.outcome c.in_ok-outcome.ensures.exact c.in-Some-find.place c.in-Some-find.ensures.placed c.in-Some-find.ensures.lawful
 
@@ -73,6 +73,6 @@ pub returns-clause-exact : goal.returns-clause-exact
 returns-clause-exact c =
     let two = sym c.eq.ensures ∙ c.if-eq.false in
     let all = sym c.first_lacked.ensures ∙ c.in_default-first_lacked.is in
-    let some = sym (none_alike (names_in c.in_ok-wanted.wanted) (wanted c.in-Some-find.ours.now (listed c.in-Some.theirs.now c.args.names.now)) c.in_ok-wanted.ensures) ∙ none_there (map_of (slice_cmp nat_cmp) c.in_ok-wanted.wanted) ∙ sym c.is_empty.ensures ∙ c.if-is_empty.false in
+    let some = sym (none_alike (names_in c.in_ok-wanted.wanted) (wanted c.in-Some-find.ours.now (listed c.in-Some.theirs.now c.args.names.now)) c.in_ok-wanted.ensures) ∙ none_there (map_of (slice_cmp nat_cmp) c.in_ok-wanted.wanted) ∙ sym c.is_empty.ensures.exact ∙ c.if-is_empty.false in
     let few = sym (full_alike (names_in c.in_ok-wanted.wanted) (wanted c.in-Some-find.ours.now (listed c.in-Some.theirs.now c.args.names.now)) c.in_ok-wanted.ensures c.in-Some-find.ours.now c.in-Some.theirs.now) ∙ sym c.is_full_with.ensures ∙ c.if-is_full_with.false in
     settled_is c.settled.result _ _ c.settled.ensures (pull_settles c.args.self.now c.args.from.now c.args.to.now c.args.names.now c.in-Some.theirs.now c.in-Some-find.ours.now c.in-Some.ensures.value c.in-Some-find.ensures.value two all some few (names_in c.in_ok-wanted.wanted) c.in_ok-wanted.ensures c.in_ok-outcome.outcome c.in_ok-outcome.ensures.exact c.in-Some-find.place c.in-Some-find.ensures.placed)

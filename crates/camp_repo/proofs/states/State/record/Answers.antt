@@ -2,7 +2,7 @@ use Rattle.std.proofs.Common.{◌++◌, ap, ◌∙◌, sym, subst}
 use Rattle.camp_branch.specs.Branches.{recorded}
 use Rattle.camp_object.specs.declared.objects.Decided.TheVariants.{Next}
 use Rattle.camp_repo.specs.Fronts.{AllHold}
-use Rattle.camp_repo.specs.Lawful.{IsLawful}
+use Rattle.camp_repo.specs.Lawful.{IsLawfulState}
 use Rattle.camp_repo.specs.Placing.{placed}
 use Rattle.camp_repo.specs.States.{after}
 use Rattle.camp_repo.specs.Steps.{changed, is_too_large}
@@ -17,7 +17,7 @@ returns-in-Err-clause-exact c =
     let free = sym c.stands.ensures ∙ c.if-stands.false in
     let small = ap (is_too_large c.in-Some.old.now) (sym c.prims.ensures.value) ∙ sym c.is_too_large.ensures ∙ c.if-is_too_large.false in
     let led = sym c.in-Err.is ∙ c.in_ok-tree.ensures ∙ ap (λ cs. changed cs c.tree.result.now) c.prims-2.ensures.value in
-    c.refused-in-Err.ensures ∙ record_refused c.args.self.now c.args.branch.now c.args.name.now c.args.changes.now c.in-Some.old.now c.tree.result.now has free small c.tree.ensures c.in-Err.refusal led
+    c.refused-in-Err.ensures ∙ record_refused c.args.self.now c.args.branch.now c.args.name.now c.args.changes.now c.in-Some.old.now c.tree.result.now has free small c.tree.ensures.exact c.in-Err.refusal led
 
 pub recorded-requires-clause-is_new : goal.recorded-requires-clause-is_new
 recorded-requires-clause-is_new c =
@@ -26,7 +26,7 @@ recorded-requires-clause-is_new c =
 pub recorded-requires-clause-leads : goal.recorded-requires-clause-leads
 recorded-requires-clause-leads c old leads =
     let led = sym c.in-Ok.is ∙ c.in_ok-tree.ensures ∙ ap (λ cs. changed cs c.tree.result.now) c.prims-2.ensures.value in
-    leads_from c.in-Some.old.now c.tree.result.now old c.in-Ok.tree c.args.changes.now c.prims-3.result.now c.tree.ensures leads c.prims-3.ensures.value led
+    leads_from c.in-Some.old.now c.tree.result.now old c.in-Ok.tree c.args.changes.now c.prims-3.result.now c.tree.ensures.exact leads c.prims-3.ensures.value led
 
 pub with_branch_at-requires-clause-lawful : goal.with_branch_at-requires-clause-lawful
 with_branch_at-requires-clause-lawful c =
@@ -34,9 +34,9 @@ with_branch_at-requires-clause-lawful c =
     let free = sym c.stands.ensures ∙ c.if-stands.false in
     let small = ap (is_too_large c.in-Some.old.now) (sym c.prims.ensures.value) ∙ sym c.is_too_large.ensures ∙ c.if-is_too_large.false in
     let led = sym c.in-Ok.is ∙ c.in_ok-tree.ensures ∙ ap (λ cs. changed cs c.tree.result.now) c.prims-2.ensures.value in
-    let new_is = c.in_ok-new.ensures ∙ ap (λ cs. c.in-Some.old.now ++ recorded c.args.name.now 1 cs) c.prims-3.ensures.value in
-    subst (λ b. IsLawful (after c.args.self.now (placed c.args.self.now.branches c.in-Some.place b))) (sym new_is)
-    (record_keeps c.args.self.now c.args.branch.now c.args.name.now c.args.changes.now c.in-Some.old.now c.tree.result.now c.in-Ok.tree c.in-Some.place has free small c.tree.ensures led c.in-Some.ensures.placed c.in-Some.ensures.lawful)
+    let new_is = c.in_ok-new.ensures.exact ∙ ap (λ cs. c.in-Some.old.now ++ recorded c.args.name.now 1 cs) c.prims-3.ensures.value in
+    subst (λ b. IsLawfulState (after c.args.self.now (placed c.args.self.now.branches c.in-Some.place b))) (sym new_is)
+    (record_keeps c.args.self.now c.args.branch.now c.args.name.now c.args.changes.now c.in-Some.old.now c.tree.result.now c.in-Ok.tree c.in-Some.place has free small c.tree.ensures.exact led c.in-Some.ensures.placed c.in-Some.ensures.lawful)
 
 pub returns-clause-exact : goal.returns-clause-exact
 returns-clause-exact c =
@@ -44,12 +44,12 @@ returns-clause-exact c =
     let free = sym c.stands.ensures ∙ c.if-stands.false in
     let small = ap (is_too_large c.in-Some.old.now) (sym c.prims.ensures.value) ∙ sym c.is_too_large.ensures ∙ c.if-is_too_large.false in
     let led = sym c.in-Ok.is ∙ c.in_ok-tree.ensures ∙ ap (λ cs. changed cs c.tree.result.now) c.prims-2.ensures.value in
-    let new_is = c.in_ok-new.ensures ∙ ap (λ cs. c.in-Some.old.now ++ recorded c.args.name.now 1 cs) c.prims-3.ensures.value in
-    ap Next (c.in_ok-next.ensures ∙ ap (λ b. after c.args.self.now (placed c.args.self.now.branches c.in-Some.place b)) new_is) ∙ record_accepted c.args.self.now c.args.branch.now c.args.name.now c.args.changes.now c.in-Some.old.now c.tree.result.now has free small c.tree.ensures c.in-Ok.tree c.in-Some.place led c.in-Some.ensures.placed
+    let new_is = c.in_ok-new.ensures.exact ∙ ap (λ cs. c.in-Some.old.now ++ recorded c.args.name.now 1 cs) c.prims-3.ensures.value in
+    ap Next (c.in_ok-next.ensures ∙ ap (λ b. after c.args.self.now (placed c.args.self.now.branches c.in-Some.place b)) new_is) ∙ record_accepted c.args.self.now c.args.branch.now c.args.name.now c.args.changes.now c.in-Some.old.now c.tree.result.now has free small c.tree.ensures.exact c.in-Ok.tree c.in-Some.place led c.in-Some.ensures.placed
 
 pub with_branch_at-requires-clause-known : goal.with_branch_at-requires-clause-known
 with_branch_at-requires-clause-known c =
     let branches = c.args.self.now.branches in
     let known = subst (AllHold branches) (sym c.in_ok-share.ensures) c.known.ensures in
-    subst (λ b. AllHold (placed branches c.in-Some.place b) c.in_ok-share.field-0) (sym c.in_ok-new.ensures)
+    subst (λ b. AllHold (placed branches c.in-Some.place b) c.in_ok-share.field-0) (sym c.in_ok-new.ensures.exact)
     (all_grown branches c.in-Some.place c.in-Some.old.now (recorded c.args.name.now 1 c.prims-3.result.now) c.in-Some.ensures.at c.in_ok-share.field-0 known)

@@ -1,6 +1,6 @@
 use Rattle.std.proofs.Common.{ap, ◌∙◌, ◌<◌, slice_set, sym, subst}
 use Rattle.camp_repo.specs.Fronts.{AllHold}
-use Rattle.camp_repo.specs.Lawful.{IsLawful}
+use Rattle.camp_repo.specs.Lawful.{IsLawfulState}
 use Rattle.camp_repo.proofs.StateSteps.{placed_long, placed_state, within_fields}
 use Rattle.camp_repo.proofs.states.State.with_branch_at.Goals as goal
 
@@ -11,15 +11,15 @@ replaced-requires c =
 pub invariant_of-result : goal.invariant_of-result
 invariant_of-result c =
     let same = ap (λ s. s.keys) c.in_ok-names.ensures in
-    let set = c.in_ok-branches.ensures ∙ ap (slice_set c.self.inside.branches c.args.place) c.in_ok-branch.ensures in
+    let set = c.in_ok-branches.ensures.exact ∙ ap (slice_set c.self.inside.branches c.args.place) c.in_ok-branch.ensures.exact in
     record {
       as_many = placed_long c.self.inside.names.keys c.self.inside.branches c.self.inside.count c.args.self.now c.self.view_is c.self.invariant.as_many c.args.place c.args.branch c.in_ok-names.names.keys c.in_ok-branches.branches same set;
-      lawful = subst IsLawful (sym (placed_state c.self.inside.names.keys c.self.inside.branches c.self.inside.count c.args.self.now c.self.view_is c.self.invariant.as_many c.args.place c.args.branch c.in_ok-names.names.keys c.in_ok-branches.branches same set)) c.requires.lawful;
+      lawful = subst IsLawfulState (sym (placed_state c.self.inside.names.keys c.self.inside.branches c.self.inside.count c.args.self.now c.self.view_is c.self.invariant.as_many c.args.place c.args.branch c.in_ok-names.names.keys c.in_ok-branches.branches same set)) c.requires.lawful;
       known = subst (λ s. AllHold s.branches c.args.known) (sym (placed_state c.self.inside.names.keys c.self.inside.branches c.self.inside.count c.args.self.now c.self.view_is c.self.invariant.as_many c.args.place c.args.branch c.in_ok-names.names.keys c.in_ok-branches.branches same set)) c.requires.known;
     }
 
 pub returns : goal.returns
 returns c =
     let same = ap (λ s. s.keys) c.in_ok-names.ensures in
-    let set = c.in_ok-branches.ensures ∙ ap (slice_set c.self.inside.branches c.args.place) c.in_ok-branch.ensures in
+    let set = c.in_ok-branches.ensures.exact ∙ ap (slice_set c.self.inside.branches c.args.place) c.in_ok-branch.ensures.exact in
     placed_state c.self.inside.names.keys c.self.inside.branches c.self.inside.count c.args.self.now c.self.view_is c.self.invariant.as_many c.args.place c.args.branch c.in_ok-names.names.keys c.in_ok-branches.branches same set

@@ -1,7 +1,7 @@
 use Rattle.std.proofs.Common.{◌≡◌, ap, ◌∙◌, ◌++◌, [], ◌∷◌, sym, subst}
 use Rattle.std.specs.List.{AllZip}
 use Rattle.camp_repo.specs.Fronts.{AllHold}
-use Rattle.camp_repo.specs.Lawful.{IsLawful}
+use Rattle.camp_repo.specs.Lawful.{IsLawfulState}
 use Rattle.camp_repo.proofs.FrontSteps.{all_further}
 use Rattle.camp_repo.proofs.StateSteps.{grown_as_long, grown_state}
 use Rattle.camp_repo.proofs.states.State.with_new_branch.Goals as goal
@@ -9,17 +9,17 @@ use Rattle.camp_repo.proofs.states.State.with_new_branch.Goals as goal
 pub invariant_of-result : goal.invariant_of-result
 invariant_of-result c =
     let clone = subst (λ s. AllZip (λ one other. other ≡ one) s.keys c.in_ok-names.names.keys) c.deref.ensures c.in_ok-names.ensures.cases in
-    let inserted = ap (λ s. s.keys) c.in_ok-names-2.ensures ∙ c.in_ok-insert.ensures.keys in
-    let pushed = c.in_ok-branches.ensures ∙ ap (λ b. c.self.inside.branches ++ b ∷ []) (c.in_ok-branch.ensures ∙ c.in_ok-try_clone.ensures) in
+    let inserted = ap (λ s. s.keys) c.in_ok-names-2.ensures.exact ∙ c.in_ok-insert.ensures.keys in
+    let pushed = c.in_ok-branches.ensures.exact ∙ ap (λ b. c.self.inside.branches ++ b ∷ []) (c.in_ok-branch.ensures.exact ∙ c.in_ok-try_clone.ensures.exact) in
     record {
       as_many = grown_as_long c.self.inside.names.keys c.self.inside.branches c.self.inside.count c.args.self.now c.self.view_is c.self.invariant.as_many c.args.name.now c.args.branch.now c.in_ok-names.names.keys c.in_ok-names-2.names.keys c.in_ok-branches.branches c.requires.fresh clone inserted pushed;
-      lawful = subst IsLawful (sym (grown_state c.self.inside.names.keys c.self.inside.branches c.self.inside.count c.args.self.now c.self.view_is c.self.invariant.as_many c.args.name.now c.args.branch.now c.in_ok-names.names.keys c.in_ok-names-2.names.keys c.in_ok-branches.branches c.requires.fresh clone inserted pushed)) c.requires.lawful;
+      lawful = subst IsLawfulState (sym (grown_state c.self.inside.names.keys c.self.inside.branches c.self.inside.count c.args.self.now c.self.view_is c.self.invariant.as_many c.args.name.now c.args.branch.now c.in_ok-names.names.keys c.in_ok-names-2.names.keys c.in_ok-branches.branches c.requires.fresh clone inserted pushed)) c.requires.lawful;
       known = subst (λ s. AllHold s.branches c.in_ok-known.known) (sym (grown_state c.self.inside.names.keys c.self.inside.branches c.self.inside.count c.args.self.now c.self.view_is c.self.invariant.as_many c.args.name.now c.args.branch.now c.in_ok-names.names.keys c.in_ok-names-2.names.keys c.in_ok-branches.branches c.requires.fresh clone inserted pushed)) (all_further c.args.self.now.branches (c.args.name.now, c.args.branch.now) c.in_ok-known.known (subst (λ l. AllHold c.args.self.now.branches l) (sym c.in_ok-known.ensures) (subst (λ s. AllHold s.branches c.self.inside.known) c.self.view_is c.self.invariant.known)));
     }
 
 pub returns : goal.returns
 returns c =
     let clone = subst (λ s. AllZip (λ one other. other ≡ one) s.keys c.in_ok-names.names.keys) c.deref.ensures c.in_ok-names.ensures.cases in
-    let inserted = ap (λ s. s.keys) c.in_ok-names-2.ensures ∙ c.in_ok-insert.ensures.keys in
-    let pushed = c.in_ok-branches.ensures ∙ ap (λ b. c.self.inside.branches ++ b ∷ []) (c.in_ok-branch.ensures ∙ c.in_ok-try_clone.ensures) in
+    let inserted = ap (λ s. s.keys) c.in_ok-names-2.ensures.exact ∙ c.in_ok-insert.ensures.keys in
+    let pushed = c.in_ok-branches.ensures.exact ∙ ap (λ b. c.self.inside.branches ++ b ∷ []) (c.in_ok-branch.ensures.exact ∙ c.in_ok-try_clone.ensures.exact) in
     grown_state c.self.inside.names.keys c.self.inside.branches c.self.inside.count c.args.self.now c.self.view_is c.self.invariant.as_many c.args.name.now c.args.branch.now c.in_ok-names.names.keys c.in_ok-names-2.names.keys c.in_ok-branches.branches c.requires.fresh clone inserted pushed

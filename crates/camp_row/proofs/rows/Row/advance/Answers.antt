@@ -63,13 +63,15 @@ invariant_of-pass c =
     })
 
 pub returns : goal.returns
-returns c =
-    let of = is_of c.pass.inside c.self.inside c.args.pass.now c.args.self.now c.pass.view_is c.self.view_is c.requires.row in
-    let n = next_of c.pass.inside c.self.inside c.args.pass.now c.args.next c.pass.invariant.sound of c.pass.view_is c.requires.next in
-    let p : Part = part c.pass.inside in
-    let step : Advanced c.load.result c.pass.inside.seat.me.0.parts c.load.new.seat.me.0.parts = c.load.ensures.2.1 in
-    let e_is : step.next.next ≡ c.args.next.entry = next_is p.seen step.next.next n.shorter.next step.next.rest n.shorter.rest p.ahead step.next.is n.shorter.is ∙ n.entry in
-    let was : known c.pass.inside ≡ c.args.pass.now = c.pass.view_is in
-    let table : c.load.new.seat.table_id ≡ c.pass.inside.seat.table_id = c.load.ensures.0 in
-    known_at c.load.new.seat.table_id c.load.new.seat.me.0.parts (record p { seen = p.seen ++ step.next.next ∷ [] }) step.is
-    ∙ ((λ k. known_of (table k) (record p { seen = p.seen ++ e_is k ∷ [] })) ∙ ap (λ (x : Known). record x { seen = x.seen ++ c.args.next.entry ∷ [] }) was)
+returns c = record {
+  exact =
+      let of = is_of c.pass.inside c.self.inside c.args.pass.now c.args.self.now c.pass.view_is c.self.view_is c.requires.row in
+      let n = next_of c.pass.inside c.self.inside c.args.pass.now c.args.next c.pass.invariant.sound of c.pass.view_is c.requires.next in
+      let p : Part = part c.pass.inside in
+      let step : Advanced c.load.result c.pass.inside.seat.me.0.parts c.load.new.seat.me.0.parts = c.load.ensures.2.1 in
+      let e_is : step.next.next ≡ c.args.next.entry = next_is p.seen step.next.next n.shorter.next step.next.rest n.shorter.rest p.ahead step.next.is n.shorter.is ∙ n.entry in
+      let was : known c.pass.inside ≡ c.args.pass.now = c.pass.view_is in
+      let table : c.load.new.seat.table_id ≡ c.pass.inside.seat.table_id = c.load.ensures.0 in
+      known_at c.load.new.seat.table_id c.load.new.seat.me.0.parts (record p { seen = p.seen ++ step.next.next ∷ [] }) step.is
+      ∙ ((λ k. known_of (table k) (record p { seen = p.seen ++ e_is k ∷ [] })) ∙ ap (λ (x : Known). record x { seen = x.seen ++ c.args.next.entry ∷ [] }) was);
+}

@@ -1,6 +1,6 @@
 use Rattle.std.proofs.Common.{subst, arith, ◌≡◌, ◌<◌, ◌∷◌, [], ◌++◌, sym, ap, ◌∙◌, take, drop}
 use Rattle.camp_row.specs.Chains.{IsFront}
-use Rattle.camp_row.specs.Known.{Known, Finds}
+use Rattle.camp_row.specs.Known.{Known, FindsChain}
 use Rattle.camp_row.specs.Inside.Parts.{part_of, known_of}
 use Rattle.camp_row.specs.Inside.PassFields.{part}
 use Rattle.camp_row.specs.Inside.Steps.{Looked}
@@ -77,7 +77,7 @@ returns-clause-b c =
     let m = met c.load-head.result (part c.b.inside) (part c.a.inside) c.join_seat.new.seat.me.0.parts c.load-head.new.seat.me.0.parts both c.load-head.ensures.2.1 in
     let split = c.split_seat-seat.ensures in
     let table : c.split_seat-seat.result.table_id ≡ c.b.inside.seat.table_id = split.3 ∙ (c.load-head.ensures.0 ∙ (c.join_seat.ensures.0 ∙ (of_a.table ∙ sym of_b.table))) in
-    subst (λ k. Finds k (known_of c.split_seat-seat.result.table_id (part_of c.split_seat-seat.result.me.0.parts))) c.b.view_is
+    subst (λ k. FindsChain k (known_of c.split_seat-seat.result.table_id (part_of c.split_seat-seat.result.me.0.parts))) c.b.view_is
     (finds_known c.b.inside c.split_seat-seat.result c.load-head.result m.chain table (ap (λ s. s.0.parts) split.4 ∙ ap (take 1) m.is) m.b_sees)
 
 pub returns-clause-one_begins : goal.returns-clause-one_begins

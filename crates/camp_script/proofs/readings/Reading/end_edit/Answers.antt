@@ -1,6 +1,6 @@
 use Rattle.std.proofs.Common.{subst, sym, rules}
 use Rattle.camp_script.specs.Changes.{ended}
-use Rattle.camp_script.specs.Gives.{GivesLine}
+use Rattle.camp_script.specs.Gives.{GivesFaultFirst}
 use Rattle.camp_script.specs.Inside.ReadingFields.{open_record_of, edit_so_far}
 use Rattle.camp_script.proofs.RecordLines.{end_goes_on, end_fails}
 use Rattle.camp_script.proofs.readings.Reading.end_edit.Goals as goal
@@ -13,4 +13,4 @@ returns-in_err-change c =
 
 pub returns : goal.returns
 returns c =
-    subst (GivesLine c.end_change.result) (sym (end_goes_on c.args.number c.args.self (open_record_of c.args.begun) (ended c.args.number (edit_so_far c.args.edit)) c.in_ok-change.change c.in_ok-change.ensures)) c.end_change.ensures
+    subst (GivesFaultFirst c.end_change.result) (sym (end_goes_on c.args.number c.args.self (open_record_of c.args.begun) (ended c.args.number (edit_so_far c.args.edit)) c.in_ok-change.change c.in_ok-change.ensures)) c.end_change.ensures

@@ -13,17 +13,21 @@ index-requires g c =
     let same = ap (λ (p : Vec _ _). length p.items) c.deref.ensures in omega arith
 
 pub returns-in-Ok : goal.returns-in-Ok
-returns-in-Ok g c =
-    let here = c.in-Ok.ensures.found.1 c.index-parts-index.result c.index-parts-index.is in
-    let sorted = subst (λ es. T (is_sorted g.K.Ord.cmp es)) (sym c.parts-parts.ensures.items) c.self.invariant in
-    sym
-    (get_is _ g.met.K.Ord.total _ _ c.self.view_is c.self.invariant c.args.key.now ∙ ap (λ es. find g.K.Ord.cmp c.args.key.now es) (sym (c.parts-parts.ensures.items ∙ c.self.view_is))
-    ∙ value_in_part _ g.met.K.Ord.total c.parts-parts.result.now sorted c.args.key.now c.in-Ok.index c.index-parts-index.result c.in-Ok.ensures.found.0 c.index-parts-index.is c.in-Ok.place
-    c.index.result.now here (c.index.ensures ∙ ap (λ (p : Vec _ _). get_or p.items c.in-Ok.place c.index.result.now) c.deref.ensures))
+returns-in-Ok g c = record {
+  exact =
+      let here = c.in-Ok.ensures.found.1 c.index-parts-index.result c.index-parts-index.is in
+      let sorted = subst (λ es. T (is_sorted g.K.Ord.cmp es)) (sym c.parts-parts.ensures.items) c.self.invariant in
+      sym
+      (get_is _ g.met.K.Ord.total _ _ c.self.view_is c.self.invariant c.args.key.now ∙ ap (λ es. find g.K.Ord.cmp c.args.key.now es) (sym (c.parts-parts.ensures.items ∙ c.self.view_is))
+      ∙ value_in_part _ g.met.K.Ord.total c.parts-parts.result.now sorted c.args.key.now c.in-Ok.index c.index-parts-index.result c.in-Ok.ensures.found.0 c.index-parts-index.is c.in-Ok.place
+      c.index.result.now here (c.index.ensures ∙ ap (λ (p : Vec _ _). get_or p.items c.in-Ok.place c.index.result.now) c.deref.ensures));
+}
 
 pub returns-in-Err : goal.returns-in-Err
-returns-in-Err g c =
-    let sorted = subst (λ es. T (is_sorted g.K.Ord.cmp es)) (sym c.parts-parts.ensures.items) c.self.invariant in
-    sym
-    (get_is _ g.met.K.Ord.total _ _ c.self.view_is c.self.invariant c.args.key.now ∙ ap (λ es. find g.K.Ord.cmp c.args.key.now es) (sym (c.parts-parts.ensures.items ∙ c.self.view_is))
-    ∙ absent _ g.met.K.Ord.total (joined c.parts-parts.result.now) c.args.key.now _ c.in-Err.ensures.absent.1 sorted)
+returns-in-Err g c = record {
+  exact =
+      let sorted = subst (λ es. T (is_sorted g.K.Ord.cmp es)) (sym c.parts-parts.ensures.items) c.self.invariant in
+      sym
+      (get_is _ g.met.K.Ord.total _ _ c.self.view_is c.self.invariant c.args.key.now ∙ ap (λ es. find g.K.Ord.cmp c.args.key.now es) (sym (c.parts-parts.ensures.items ∙ c.self.view_is))
+      ∙ absent _ g.met.K.Ord.total (joined c.parts-parts.result.now) c.args.key.now _ c.in-Err.ensures.absent.1 sorted);
+}

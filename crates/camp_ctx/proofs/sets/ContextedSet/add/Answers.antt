@@ -4,19 +4,19 @@ use Rattle.camp_share.specs.Maps.{map_of}
 use Rattle.camp_ctx.specs.Adding.{AddsAll}
 use Rattle.camp_ctx.specs.Contexts.{AreKeyed, EachMember}
 use Rattle.camp_ctx.proofs.SetSteps.{nothing_added, entry_at, one_more_added, none_missing, all_added, keyed_sum}
-use Rattle.camp_ctx.proofs.sets.CtxSet.add.Goals.{in-Some+in_ok-sum+in_ok-members, in_default}
-use Rattle.camp_ctx.proofs.sets.CtxSet.add.Goals as goal
+use Rattle.camp_ctx.proofs.sets.ContextedSet.add.Goals.{in-Some+in_ok-sum+in_ok-members, in_default}
+use Rattle.camp_ctx.proofs.sets.ContextedSet.add.Goals as goal
 
 pub loop-index-init : goal.loop-index-init
-loop-index-init c = nothing_added c.args.r.now _ c.new-members.ensures
+loop-index-init c = nothing_added c.args.r.now _ c.new-members.ensures.exact
 
 pub loop-index-preserved : goal.loop-index-preserved
 loop-index-preserved c = elim c.match-at.branch [
   | in-Some+in_ok-sum+in_ok-members w ↦
-      let entry = rw w.in-Some.is at c.at.ensures in
-      one_more_added c.args.r.now c.args.set.now (map_of key_cmp c.loop-index.members) (map_of key_cmp c.match-at.members) c.loop-index.index _ _ _ (entry_at _ _ _ _ c.set.view_is entry) w.in_ok-sum.ensures (ap (map_of key_cmp) w.members-is ∙ w.in_ok-members.ensures) c.loop-index.invariant
+      let entry = rw w.in-Some.is at c.at.ensures.exact in
+      one_more_added c.args.r.now c.args.set.now (map_of key_cmp c.loop-index.members) (map_of key_cmp c.match-at.members) c.loop-index.index _ _ _ (entry_at _ _ _ _ c.set.view_is entry) w.in_ok-sum.ensures.exact (ap (map_of key_cmp) w.members-is ∙ w.in_ok-members.ensures.exact) c.loop-index.invariant
   | in_default w ↦
-      let none = rw w.in_default.is at c.at.ensures in
+      let none = rw w.in_default.is at c.at.ensures.exact in
       absurd (none_missing _ _ _ c.len-index-end.ensures.value c.loop-index-test.true none)
 ]
 
@@ -27,5 +27,7 @@ invariant_of-result c =
     keyed_sum c.args.r.now c.args.set.now _ sum (subst AreKeyed c.set.view_is c.set.invariant)
 
 pub returns : goal.returns
-returns c =
-    all_added c.args.r.now _ c.args.set.now _ _ _ c.set.view_is c.len-index-end.ensures.value c.loop-index-test.false c.loop-index.invariant
+returns c = record {
+  exact =
+      all_added c.args.r.now _ c.args.set.now _ _ _ c.set.view_is c.len-index-end.ensures.value c.loop-index-test.false c.loop-index.invariant;
+}

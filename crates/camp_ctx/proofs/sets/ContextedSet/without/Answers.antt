@@ -1,7 +1,7 @@
 use Rattle.std.proofs.Common.{sym, subst}
 use Rattle.camp_ctx.specs.Contexts.{AreKeyed}
 use Rattle.camp_ctx.proofs.SetSteps.{keyed_without}
-use Rattle.camp_ctx.proofs.sets.CtxSet.without.Goals as goal
+use Rattle.camp_ctx.proofs.sets.ContextedSet.without.Goals as goal
 
 pub invariant_of-result : goal.invariant_of-result
-invariant_of-result c = subst AreKeyed (sym c.in_ok-members.ensures) (keyed_without _ _ c.self.invariant)
+invariant_of-result c = subst AreKeyed (sym c.in_ok-members.ensures.exact) (keyed_without _ _ c.self.invariant)

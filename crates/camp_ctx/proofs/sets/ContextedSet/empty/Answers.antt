@@ -1,7 +1,7 @@
 use Rattle.std.proofs.Common.{sym, subst}
 use Rattle.camp_ctx.specs.Contexts.{AreKeyed}
 use Rattle.camp_ctx.proofs.SetSteps.{keyed_empty}
-use Rattle.camp_ctx.proofs.sets.CtxSet.empty.Goals as goal
+use Rattle.camp_ctx.proofs.sets.ContextedSet.empty.Goals as goal
 
 pub invariant_of-result : goal.invariant_of-result
-invariant_of-result c = subst AreKeyed (sym c.new.ensures) keyed_empty
+invariant_of-result c = subst AreKeyed (sym c.new.ensures.exact) keyed_empty

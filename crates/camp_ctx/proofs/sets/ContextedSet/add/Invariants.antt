@@ -6,7 +6,7 @@ use Rattle.camp_prim.specs.declared.labels.Key.{Key}
 use Rattle.camp_share.specs.Maps.{map_of}
 use Rattle.camp_ctx.specs.Adding.{AddsAll}
 use Rattle.camp_ctx.specs.Contexts.{ChangesAt}
-use Rattle.camp_ctx.proofs.sets.CtxSet.add.Given as goal
+use Rattle.camp_ctx.proofs.sets.ContextedSet.add.Given as goal
 
 abbrev pub invariant-loop-index : goal.invariant-loop-index
 invariant-loop-index l =

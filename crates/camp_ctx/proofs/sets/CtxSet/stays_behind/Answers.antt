@@ -1,7 +1,0 @@
-use Rattle.camp_ctx.specs.Adding.{Adds}
-use Rattle.camp_ctx.proofs.Standing.{each_is_same}
-use Rattle.camp_ctx.proofs.sets.CtxSet.stays_behind.Goals as goal
-
-pub returns : goal.returns
-returns c = λ yes.
-    each_is_same (Adds c.args.a.now) c.args.self.now _ _ c.len-index-end.ensures.value c.loop-index-test.false c.loop-index.invariant

@@ -1,0 +1,18 @@
+-- The bytes that begin a line of a body, of a tree or a comment.
+use Rattle.std.specs.Prelude.{ℕ}
+
+-- `-`: a line that goes
+abbrev pub minus_sign : ℕ
+minus_sign = 45
+
+-- `+`: a line that comes
+abbrev pub plus_sign : ℕ
+plus_sign = 43
+
+-- `=`: a line that a file has
+abbrev pub equals_sign : ℕ
+equals_sign = 61
+
+-- `#`: a comment
+abbrev pub number_sign : ℕ
+number_sign = 35
