@@ -279,6 +279,3 @@ impl Row {
         }
     }
 }
-
-#[cfg(test)]
-mod tests;

@@ -10,6 +10,8 @@ mod objects;
 #[cfg(test)]
 mod options;
 #[cfg(test)]
+mod rows;
+#[cfg(test)]
 mod shares;
 #[cfg(test)]
 mod texts;
