@@ -1,5 +1,5 @@
 -- What the maps of entries in order are, and what edits of the entries do to them.
-use Rattle.std.proofs.Common.{◌≡◌, ℕ, T, List, length, set, sym, ap, subst, ◌∙◌}
+use Rattle.std.proofs.Common.{◌≡◌, ℕ, T, None, List, length, set, sym, ap, subst, ◌∙◌}
 use Rattle.std.specs.List.{insert, remove}
 use Rattle.std.specs.declared.cmp.Ordering.{Ordering}
 use Rattle.std.specs.Cmp.{IsTotalOrder}
@@ -20,23 +20,25 @@ module _ {K X : Type 0} (R : K → K → Ordering) (o : IsTotalOrder R) (inside 
   pub len_is : (n : ℕ) → n ≡ length inside → n ≡ map.len (map_of R now)
   len_is n told = told ∙ sym (len-entries _ ∙ ap length entries_are)
 
-  pub get_is : (key : K) → map.get (map_of R now) key ≡ find R key now
-  get_is key = get-from_sorted R now key in_order
+  pub get_is : (key : K) → map.get (map_of R now) key ≡ find R key inside
+  get_is key = get-from_sorted R now key in_order ∙ ap (find R key) (sym is)
 
-  pub insertion : (key : K) (value : X) (place : ℕ) (after : List (K × X)) → WouldBeAt R now key place → after ≡ insert inside place (key, value) → T (is_sorted R after) × (map_of R after ≡ map.insert (map_of R now) key value)
-  insertion key value place after gap becomes =
-      let edit = map_inserted R o now key value place gap in_order in
-      subst (λ es. T (is_sorted R es) × (map_of R es ≡ map.insert (map_of R now) key value)) (sym (becomes ∙ ap (λ es. insert es place (key, value)) is)) edit
+  -- what an edit of the entries makes of their map
+  edited : (edit : map.FinMap R X → map.FinMap R X) (done after : List (K × X)) → after ≡ done → T (is_sorted R done) × (map_of R done ≡ edit (map_of R inside)) → T (is_sorted R after) × (map_of R after ≡ edit (map_of R now))
+  edited edit done after becomes made = subst (λ es. T (is_sorted R es) × (map_of R es ≡ edit (map_of R now))) (sym becomes) (made.0, made.1 ∙ ap (λ es. edit (map_of R es)) is)
 
-  pub replacement : (key : K) (value : X) (place : ℕ) (after : List (K × X)) → IsAt now key place → after ≡ set inside place (key, value) → T (is_sorted R after) × (map_of R after ≡ map.insert (map_of R now) key value)
-  replacement key value place after here becomes =
-      let edit = map_replaced R o now key value place here in_order in
-      subst (λ es. T (is_sorted R es) × (map_of R es ≡ map.insert (map_of R now) key value)) (sym (becomes ∙ ap (λ es. set es place (key, value)) is)) edit
+  pub insertion : (entry : K × X) (place : ℕ) (after : List (K × X)) → WouldBeAt R inside entry.0 place → after ≡ insert inside place entry → T (is_sorted R after) × (map_of R after ≡ map.insert (map_of R now) entry.0 entry.1)
+  insertion entry place after gap becomes = edited (λ m. map.insert m entry.0 entry.1) _ after becomes (map_inserted R o inside entry.0 entry.1 place gap sorted)
 
-  pub removal : IsAntisymmetric R → (key : K) (place : ℕ) (after : List (K × X)) → IsAt now key place → after ≡ remove inside place → T (is_sorted R after) × (map_of R after ≡ map.remove (map_of R now) key)
-  removal same key place after here becomes =
-      let edit = map_removed R o same now key place here in_order in
-      subst (λ es. T (is_sorted R es) × (map_of R es ≡ map.remove (map_of R now) key)) (sym (becomes ∙ ap (λ es. remove es place) is)) edit
+  pub replacement : (entry : K × X) (place : ℕ) (after : List (K × X)) → IsAt inside entry.0 place → after ≡ set inside place entry → T (is_sorted R after) × (map_of R after ≡ map.insert (map_of R now) entry.0 entry.1)
+  replacement entry place after here becomes = edited (λ m. map.insert m entry.0 entry.1) _ after becomes (map_replaced R o inside entry.0 entry.1 place here sorted)
 
-  pub nothing_removed : IsAntisymmetric R → (key : K) (place : ℕ) (after : List (K × X)) → WouldBeAt R now key place → after ≡ now → map_of R after ≡ map.remove (map_of R now) key
-  nothing_removed same key place after gap becomes = ap (map_of R) becomes ∙ map_kept R o same (map_of R now) key (get_is key ∙ absent R o now key place gap in_order)
+  pub removal : IsAntisymmetric R → (key : K) (place : ℕ) (after : List (K × X)) → IsAt inside key place → after ≡ remove inside place → T (is_sorted R after) × (map_of R after ≡ map.remove (map_of R now) key)
+  removal same key place after here becomes = edited (λ m. map.remove m key) _ after becomes (map_removed R o same inside key place here sorted)
+
+  -- a key that is not there
+  pub missing : (key : K) (place : ℕ) → WouldBeAt R inside key place → map.get (map_of R now) key ≡ None
+  missing key place gap = get_is key ∙ absent R o inside key place gap sorted
+
+  pub nothing_removed : IsAntisymmetric R → (key : K) (place : ℕ) (after : List (K × X)) → WouldBeAt R inside key place → after ≡ now → map_of R after ≡ map.remove (map_of R now) key
+  nothing_removed same key place after gap becomes = ap (map_of R) becomes ∙ map_kept R o same (map_of R now) key (missing key place gap)

@@ -1,62 +1,17 @@
 -- Elements and ranges of lists in parts.
-use Rattle.std.proofs.Common.{◌≡◌, ℕ, zero, suc, ◌+◌, ◌-◌, ◌<◌, ◌≤◌, List, [], ◌∷◌, ◌++◌, length, get_or, set, take, drop, Some, sym, ap, subst, ◌∙◌, refl, arith}
-use Rattle.std.proofs.lemmas.List.{drop_all, get_or_default, append-nil, length-append, length-drop, take_more, drop_more, take_all, set_split, take-append-drop}
-use Rattle.std.proofs.Math.Seq.{take-nil}
-use Rattle.std.proofs.lemmas.Option.{slice_get_read}
-use Rattle.std.specs.List.{All, slice_get, slice_range}
-use Rattle.std.proofs.lemmas.Grind.{common_steps, flat_map-append}
+use Rattle.std.proofs.Common.{◌≡◌, ℕ, zero, suc, ◌+◌, ◌-◌, ◌<◌, ◌≤◌, List, [], ◌∷◌, ◌++◌, length, get_or, set, take, drop, Option, None, Some, Bor, sym, ap, subst, ◌∙◌, refl, arith}
+use Rattle.std.proofs.lemmas.List.{drop_all, get_or_default, length-drop, append-nil, append_assoc, length-append, take_more, drop_more, take_all, take-append-drop, take-append-le, drop-append-le, get_or-append-add, get_or_append_left, set_split}
+use Rattle.std.proofs.Math.Seq.{take-nil, take-append-add, drop-append-add}
+use Rattle.std.proofs.lemmas.Option.{slice_get_past, slice_get_read}
+use Rattle.std.specs.List.{All, AllByRecursion, slice_get, slice_range, remove}
+use Rattle.std.specs.Map.Iter.{TakesFirst, deref}
+use Rattle.std.specs.Option.{option_copied}
+use Rattle.std.proofs.lemmas.Grind.{flat_map-append}
 use Rattle.std.proofs.lemmas.List.Folds.{length-flat_map-take}
-use Rattle.camp_share.specs.Inside.Parts.{joined, IsPart}
+use Rattle.std.proofs.lemmas.List.Elements.{recursion_from_All}
+use Rattle.camp_share.specs.Inside.Parts.{joined, IsPart, offset, IsPlace}
 use Rattle.std.specs.declared.vec.Vec.{Vec}
 use Rattle.std.specs.Vec.{vec_len}
-
-module _ {X : Type 0} where
-  pub get_front : (xs ys : List X) (i : ℕ) → i < length xs → slice_get (xs ++ ys) i ≡ slice_get xs i
-  get_front [] ys i h = absurd (omega arith)
-  get_front (x ∷ xs) ys zero h = refl
-  get_front (x ∷ xs) ys (suc i) h = get_front xs ys i (omega arith)
-
-  pub get_behind : (xs ys : List X) (i : ℕ) → length xs ≤ i → slice_get (xs ++ ys) i ≡ slice_get ys (i - length xs)
-  get_behind [] ys i h = ap (slice_get ys) {x = i} {y = i - 0} (omega arith)
-  get_behind (x ∷ xs) ys zero h = absurd (omega arith)
-  get_behind (x ∷ xs) ys (suc i) h = get_behind xs ys i (omega arith) ∙ ap (slice_get ys) {x = i - length xs} {y = suc i - suc (length xs)} (omega arith)
-
-  drop_behind : (xs ys : List X) (a : ℕ) → drop a (xs ++ ys) ≡ drop a xs ++ drop (a - length xs) ys
-  drop_behind [] ys zero = refl
-  drop_behind [] ys (suc a) = ap (λ k. drop k ys) {x = suc a} {y = suc a - 0} (omega arith)
-  drop_behind (x ∷ xs) ys zero = ap (λ k. (x ∷ xs) ++ drop k ys) {x = 0} {y = 0 - suc (length xs)} (omega arith)
-  drop_behind (x ∷ xs) ys (suc a) = drop_behind xs ys a ∙ ap (λ k. drop a xs ++ drop k ys) {x = a - length xs} {y = suc a - suc (length xs)} (omega arith)
-
-  take_behind : (xs ys : List X) (n : ℕ) → take n (xs ++ ys) ≡ take n xs ++ take (n - length xs) ys
-  take_behind [] ys zero = refl
-  take_behind [] ys (suc n) = ap (λ k. take k ys) {x = suc n} {y = suc n - 0} (omega arith)
-  take_behind (x ∷ xs) ys zero = ap (λ k. take k ys) {x = 0} {y = 0 - suc (length xs)} (omega arith)
-  take_behind (x ∷ xs) ys (suc n) = ap (λ l. x ∷ l) (take_behind xs ys n ∙ ap (λ k. take n xs ++ take k ys) {x = n - length xs} {y = suc n - suc (length xs)} (omega arith))
-
-  -- a range of two lists, one behind the other
-  pub range_of_two : (xs ys : List X) (a b : ℕ) → slice_range (xs ++ ys) a b ≡ slice_range xs a b ++ slice_range ys (a - length xs) (b - length xs)
-  range_of_two xs ys a b =
-      ap (take (b - a)) (drop_behind xs ys a) ∙ take_behind (drop a xs) (drop (a - length xs) ys) (b - a)
-      ∙ ap (λ k. slice_range xs a b ++ take k (drop (a - length xs) ys)) {x = b - a - length (drop a xs)} {y = b - length xs - (a - length xs)} (let size = length-drop a xs in omega arith)
-
--- a range behind the end of a list has nothing of it
-none_behind : {X : Type 0} (xs : List X) (from to : ℕ) → length xs ≤ from → slice_range xs from to ≡ []
-none_behind xs from to past = ap (take (to - from)) (drop_all from xs past) ∙ take-nil (to - from)
-
--- a range that ends in the first parts
-pub range_ended : {X Z : Type 0} (parts : List (Vec X Z)) (k from to : ℕ) → to ≤ length (joined (take k parts)) → slice_range (joined (take k parts)) from to ≡ slice_range (joined parts) from to
-range_ended {X} {Z} parts k from to ended =
-    let front : List X = joined (take k parts) in
-    let back : List X = joined (drop k parts) in
-    let both = flat_map-append (λ (p : Vec X Z). p.items) (take k parts) (drop k parts) in
-    let none : slice_range back (from - length front) (to - length front) ≡ [] = ap (λ n. take n (drop (from - length front) back)) {x = to - length front - (from - length front)} {y = 0} (omega arith) in
-    sym
-    (ap (λ ps. slice_range (joined ps) from to) (sym (take-append-drop k parts)) ∙ ap (λ xs. slice_range xs from to) both
-    ∙ range_of_two front back from to ∙ ap (λ xs. slice_range front from to ++ xs) none ∙ append-nil (slice_range front from to))
-
--- what stands before a place, another element, and what stands behind it
-pub replaced_between : {X : Type 0} (fronts backs own : List X) (i n : ℕ) (x : X) (none before with after : List X) → fronts ≡ own → backs ≡ own → n ≡ length own → i < length own → none ≡ [] → before ≡ none ++ slice_range fronts 0 i → with ≡ before ++ x ∷ [] → after ≡ with ++ slice_range backs (i + 1) n → after ≡ set own i x
-replaced_between fronts backs own i n x none before with after front back long within e f g h = rw (set_split own i x within) (grind (arith, common_steps))
 
 -- the length that a lent part tells
 pub length_told : {X Z : Type 0} (lent part : Vec X Z) (n : ℕ) → lent ≡ part → n ≡ vec_len lent → n ≡ length part.items
@@ -74,44 +29,205 @@ module _ {X Z : Type 0} (parts : List (Vec X Z)) (i : ℕ) (part : Vec X Z) (wit
   pub from_here : joined (drop i parts) ≡ part.items ++ joined (drop (i + 1) parts)
   from_here = ap joined (drop_more parts i part within) ∙ ap (λ (p : Vec X Z). p.items ++ joined (drop (i + 1) parts)) (sym read)
 
+  pub shorter : length (joined (drop i parts)) ≡ length part.items + length (joined (drop (i + 1) parts))
+  shorter = ap length from_here ∙ length-append part.items (joined (drop (i + 1) parts))
+
   -- the parts up to one
   pub up_to_here : joined (take (i + 1) parts) ≡ joined (take i parts) ++ part.items
   up_to_here =
       ap joined (take_more parts i part within) ∙ flat_map-append (λ (p : Vec X Z). p.items) (take i parts) (get_or parts i part ∷ [])
       ∙ ap (λ (p : Vec X Z). joined (take i parts) ++ (p.items ++ [])) (sym read) ∙ ap (λ (xs : List X). joined (take i parts) ++ xs) (append-nil part.items)
 
-  pub found : (whole : List X) (left index : ℕ) (lent : Vec X Z) (x : X) → joined parts ≡ whole → slice_get (joined (drop i parts)) left ≡ slice_get (joined parts) index → lent ≡ part → left < length part.items → x ≡ get_or lent.items left x → Some x ≡ slice_get whole index
-  found whole left index lent x all is same here got =
-      sym (slice_get_read part.items (length part.items) left x refl here (got ∙ ap (λ (p : Vec X Z). get_or p.items left x) same))
-      ∙ sym (get_front part.items (joined (drop (i + 1) parts)) left here) ∙ ap (λ xs. slice_get xs left) (sym from_here) ∙ is ∙ ap (λ xs. slice_get xs index) all
-
-  pub passed : (left index : ℕ) → slice_get (joined (drop i parts)) left ≡ slice_get (joined parts) index → length part.items ≤ left → slice_get (joined (drop (i + 1) parts)) (left - length part.items) ≡ slice_get (joined parts) index
-  passed left index is behind = sym (get_behind part.items (joined (drop (i + 1) parts)) left behind) ∙ ap (λ xs. slice_get xs left) (sym from_here) ∙ is
-
-  pub left_behind : (start : ℕ) → length part.items ≤ start → drop (start - length part.items) (joined (drop (i + 1) parts)) ≡ drop start (joined (drop i parts))
-  left_behind start behind =
-      sym
-      (ap (drop start) from_here ∙ drop_behind part.items (joined (drop (i + 1) parts)) start
-      ∙ ap (λ xs. xs ++ drop (start - length part.items) (joined (drop (i + 1) parts))) (drop_all start part.items behind))
-
-  -- a range grows by what it has of a part
-  pub range_grown : (from to : ℕ) → slice_range (joined (take (i + 1) parts)) from to ≡ slice_range (joined (take i parts)) from to ++ slice_range part.items (from - length (joined (take i parts))) (to - length (joined (take i parts)))
-  range_grown from to = ap (λ xs. slice_range xs from to) up_to_here ∙ range_of_two (joined (take i parts)) part.items from to
-
   pub length_grown : length (joined (take (i + 1) parts)) ≡ length (joined (take i parts)) + length part.items
   length_grown = ap length up_to_here ∙ length-append (joined (take i parts)) part.items
 
-  -- and it has nothing of a part that stands before it
-  pub range_begun : (from to : ℕ) → length (joined (take (i + 1) parts)) ≤ from → slice_range (joined (take (i + 1) parts)) from to ≡ slice_range (joined (take i parts)) from to
-  range_begun from to before =
-      let longer = length_grown in
-      none_behind (joined (take (i + 1) parts)) from to before ∙ sym (none_behind (joined (take i parts)) from to (omega arith))
+  -- a place up to the end of a part is one
+  pub place_inside : (place : ℕ) → place ≤ length part.items → IsPlace parts i place
+  place_inside place inside = let longer = length_grown in (omega arith, omega arith)
 
   pub length_within : length (joined (take i parts)) + length part.items ≤ length (joined parts)
   length_within = subst (λ (p : Vec X Z). length (joined (take i parts)) + length p.items ≤ length (joined parts)) (sym read) (length-flat_map-take (λ (p : Vec X Z). p.items) parts i part within)
 
--- the last part, taken off and put back
-pub reopened : {X Z : Type 0} (parts : List (Vec X Z)) (count : ℕ) (part : Vec X Z) (items : List X) → count ≡ length parts → 0 < count → part ≡ get_or parts (count - 1) part → items ≡ part.items → joined (take (count - 1) parts) ++ items ≡ joined parts
-reopened parts count part items all some read same =
-    ap (λ xs. joined (take (count - 1) parts) ++ xs) same ∙ sym (up_to_here parts (count - 1) part (omega arith) read)
-    ∙ ap joined (take_all (count - 1 + 1) parts (omega arith))
+-- the first parts have no more elements than all of them
+pub front_within : {X Z : Type 0} (parts : List (Vec X Z)) (n : ℕ) → length (joined (take n parts)) ≤ length (joined parts)
+front_within {X} {Z} parts n =
+    let both = ap (λ (ps : List (Vec X Z)). length (joined ps)) (take-append-drop n parts) in
+    let parted = ap length (flat_map-append (λ (p : Vec X Z). p.items) (take n parts) (drop n parts)) ∙ length-append (joined (take n parts)) (joined (drop n parts)) in omega arith
+
+-- a list that grows, divided before one of its closed parts
+pub divided_before : {X Z : Type 0} (closed : List (Vec X Z)) (last : List X) (i : ℕ) → joined closed ++ last ≡ joined (take i closed) ++ (joined (drop i closed) ++ last)
+divided_before {X} {Z} closed last i =
+    ap (λ (ps : List (Vec X Z)). joined ps ++ last) (sym (take-append-drop i closed))
+    ∙ ap (λ xs. xs ++ last) (flat_map-append (λ (p : Vec X Z). p.items) (take i closed) (drop i closed)) ∙ append_assoc (joined (take i closed)) (joined (drop i closed)) last
+
+-- at the end of the closed parts stands the last one
+pub closed_passed : {X Z : Type 0} (closed : List (Vec X Z)) (last : List X) (i : ℕ) → length closed ≤ i → joined (drop i closed) ++ last ≡ last
+closed_passed closed last i past = ap (λ ps. joined ps ++ last) (drop_all i closed past)
+
+-- the front of a list that grows, where it ends in the last part
+pub front_whole : {X Z : Type 0} (closed : List (Vec X Z)) (last : List X) (i count left : ℕ) → left + length (joined (take i closed)) ≡ count → length closed ≤ i → joined (take i closed) ++ take left last ≡ take count (joined closed ++ last)
+front_whole closed last i count left is past =
+    sym
+    (ap (take count) (divided_before closed last i)
+    ∙ ap (λ n. take n (joined (take i closed) ++ (joined (drop i closed) ++ last))) {x = count} {y = length (joined (take i closed)) + left} (omega arith)
+    ∙ take-append-add (joined (take i closed)) (joined (drop i closed) ++ last) left
+    ∙ ap (λ xs. joined (take i closed) ++ take left xs) (closed_passed closed last i past))
+
+module _ {X Z : Type 0} (closed : List (Vec X Z)) (last : List X) (i : ℕ) (part : Vec X Z) (within : i < length closed) (read : part ≡ get_or closed i part) where
+  -- what stands in a list that grows from one of its closed parts on
+  pub rest_from_here : joined (drop i closed) ++ last ≡ part.items ++ (joined (drop (i + 1) closed) ++ last)
+  rest_from_here = ap (λ xs. xs ++ last) (from_here closed i part within read) ∙ append_assoc part.items (joined (drop (i + 1) closed)) last
+
+  pub rest_length : length (joined (drop i closed) ++ last) ≡ length part.items + length (joined (drop (i + 1) closed) ++ last)
+  rest_length = ap length rest_from_here ∙ length-append part.items (joined (drop (i + 1) closed) ++ last)
+
+  pub read_here : (whole : List X) (left index : ℕ) (lent : Vec X Z) (x : X) → ((d : X) → get_or (joined (drop i closed) ++ last) left d ≡ get_or whole index d) → lent ≡ part → left < length part.items → x ≡ get_or lent.items left x → x ≡ get_or whole index x
+  read_here whole left index lent x all same here got =
+      got ∙ ap (λ (p : Vec X Z). get_or p.items left x) same ∙ sym (get_or_append_left part.items (joined (drop (i + 1) closed) ++ last) x left here)
+      ∙ ap (λ xs. get_or xs left x) (sym rest_from_here) ∙ all x
+
+  pub read_past : (whole : List X) (left index : ℕ) → ((d : X) → get_or (joined (drop i closed) ++ last) left d ≡ get_or whole index d) → length part.items ≤ left → (d : X) → get_or (joined (drop (i + 1) closed) ++ last) (left - length part.items) d ≡ get_or whole index d
+  read_past whole left index all past d =
+      sym (get_or-append-add part.items (joined (drop (i + 1) closed) ++ last) (left - length part.items) d)
+      ∙ ap (λ n. get_or (part.items ++ (joined (drop (i + 1) closed) ++ last)) n d) {x = length part.items + (left - length part.items)} {y = left} (omega arith)
+      ∙ ap (λ xs. get_or xs left d) (sym rest_from_here) ∙ all d
+
+  -- the front of a list that grows, where it ends in one of its closed parts
+  pub front_cut : (count left : ℕ) → left + length (joined (take i closed)) ≡ count → left ≤ length part.items → joined (take i closed) ++ take left part.items ≡ take count (joined closed ++ last)
+  front_cut count left is inside =
+      sym
+      (ap (take count) (divided_before closed last i)
+      ∙ ap (λ n. take n (joined (take i closed) ++ (joined (drop i closed) ++ last))) {x = count} {y = length (joined (take i closed)) + left} (omega arith)
+      ∙ take-append-add (joined (take i closed)) (joined (drop i closed) ++ last) left
+      ∙ ap (λ xs. joined (take i closed) ++ xs) (ap (take left) rest_from_here ∙ take-append-le left part.items (joined (drop (i + 1) closed) ++ last) inside))
+
+  pub rest_past : (left : ℕ) → length part.items ≤ left → drop (left - length part.items) (joined (drop (i + 1) closed) ++ last) ≡ drop left (joined (drop i closed) ++ last)
+  rest_past left past =
+      sym
+      (ap (drop left) rest_from_here
+      ∙ ap (λ n. drop n (part.items ++ (joined (drop (i + 1) closed) ++ last))) {x = left} {y = length part.items + (left - length part.items)} (omega arith)
+      ∙ drop-append-add part.items (joined (drop (i + 1) closed) ++ last) (left - length part.items))
+
+  pub rest_cut : (left : ℕ) → left ≤ length part.items → drop left (joined (drop i closed) ++ last) ≡ drop left part.items ++ (joined (drop (i + 1) closed) ++ last)
+  rest_cut left inside = ap (drop left) rest_from_here ∙ drop-append-le left part.items (joined (drop (i + 1) closed) ++ last) inside
+
+module _ {X Z : Type 0} (parts : List (Vec X Z)) (index place : ℕ) where
+  -- the elements before a place of a part
+  pub before_place : (part : Vec X Z) → index < length parts → part ≡ get_or parts index part → place ≤ length part.items → joined (take index parts) ++ take place part.items ≡ take (offset parts index place) (joined parts)
+  before_place part within read inside =
+      front_cut parts [] index part within read (offset parts index place) place (omega arith) inside ∙ ap (take (offset parts index place)) (append-nil (joined parts))
+
+  -- the elements from a place of a part on
+  pub behind_place : (part : Vec X Z) → index < length parts → part ≡ get_or parts index part → place ≤ length part.items → drop place part.items ++ joined (drop (index + 1) parts) ≡ drop (offset parts index place) (joined parts)
+  behind_place part within read inside =
+      sym
+      (ap (drop (offset parts index place)) (sym (append-nil (joined parts)) ∙ divided_before parts [] index)
+      ∙ drop-append-add (joined (take index parts)) (joined (drop index parts) ++ []) place
+      ∙ rest_cut parts [] index part within read place inside ∙ ap (λ xs. drop place part.items ++ xs) (append-nil (joined (drop (index + 1) parts))))
+
+  -- a cut part, put behind others
+  pub pushed_behind : (part : Vec X Z) → index < length parts → part ≡ get_or parts index part → place ≤ length part.items → (front middle now items : List X) → now ≡ middle ++ take (length items - place) (drop place items) → items ≡ part.items → front ++ now ++ joined (drop (index + 1) parts) ≡ front ++ middle ++ drop (offset parts index place) (joined parts)
+  pushed_behind part within read inside front middle now items grown same =
+      let rest = joined (drop (index + 1) parts) in
+      let size = length-drop place items in
+      let all = take_all (length items - place) (drop place items) (omega arith) in
+      ap (λ xs. front ++ xs ++ rest) (grown ∙ ap (λ xs. middle ++ xs) (all ∙ ap (drop place) same))
+      ∙ ap (λ xs. xs ++ rest) (sym (append_assoc front middle (drop place part.items)))
+      ∙ append_assoc (front ++ middle) (drop place part.items) rest
+      ∙ ap (λ xs. front ++ middle ++ xs) (behind_place part within read inside)
+
+-- a place behind the first of a part is in a part
+pub place_within : {X Z : Type 0} (parts : List (Vec X Z)) (index place : ℕ) → offset parts index place ≤ length (joined (take (index + 1) parts)) → 0 < place → index < length parts
+place_within {X = X} {Z = Z} [] index place at some =
+    let short : length (joined {X = X} {Z = Z} (take index [])) ≡ 0 = ap (λ (ps : List (Vec X Z)). length (joined ps)) (take-nil index) in
+    let long : length (joined {X = X} {Z = Z} (take (index + 1) [])) ≡ 0 = ap (λ (ps : List (Vec X Z)). length (joined ps)) (take-nil (index + 1)) in absurd (omega arith)
+place_within (p ∷ ps) zero place at some = omega arith
+place_within (p ∷ ps) (suc i) place at some =
+    let further = ap (λ n. length (joined (take n (p ∷ ps)))) {x = suc i + 1} {y = suc (i + 1)} (omega arith) in
+    let short = length-append p.items (joined (take i ps)) in
+    let long = length-append p.items (joined (take (i + 1) ps)) in
+    let rest = place_within ps i place (omega arith) some in omega arith
+
+-- the place behind all parts
+pub place_at_end : {X Z : Type 0} (parts : List (Vec X Z)) (index : ℕ) → length parts ≡ index → IsPlace parts index 0
+place_at_end {X} {Z} parts index end =
+    let all = ap (λ (ps : List (Vec X Z)). length (joined ps)) (take_all index parts (omega arith) ∙ sym (take_all (index + 1) parts (omega arith))) in (omega arith, omega arith)
+
+fewer : {X Z : Type 0} (parts : List (Vec X Z)) → AllByRecursion IsPart parts → length parts ≤ length (joined parts)
+fewer [] all = omega arith
+fewer (p ∷ ps) all =
+    let size = length-append p.items (joined ps) in
+    let rest = fewer ps all.1 in
+    let some = all.0.0 in omega arith
+
+-- there are no more parts than elements
+pub parts_fewer : {X Z : Type 0} (parts : List (Vec X Z)) → All IsPart parts → length parts ≤ length (joined parts)
+parts_fewer parts all = fewer parts (recursion_from_All IsPart parts all)
+
+module _ {X Z : Type 0} (parts : List (Vec X Z)) (index place : ℕ) (begins : place ≡ 0) where
+  divided_at : joined parts ≡ joined (take index parts) ++ joined (drop index parts)
+  divided_at = ap joined (sym (take-append-drop index parts)) ∙ flat_map-append (λ (p : Vec X Z). p.items) (take index parts) (drop index parts)
+
+  -- the elements before a part
+  pub before_part : (none : List X) → none ≡ [] → joined (take index parts) ++ none ≡ take (offset parts index place) (joined parts)
+  before_part none empty =
+      ap (λ xs. joined (take index parts) ++ xs) (empty ∙ ap (λ n. take n (joined (drop index parts))) (sym begins))
+      ∙ sym (ap (take (offset parts index place)) divided_at ∙ take-append-add (joined (take index parts)) (joined (drop index parts)) place)
+
+  -- the elements from a part on
+  pub behind_part : joined (drop index parts) ≡ drop (offset parts index place) (joined parts)
+  behind_part =
+      ap (λ n. drop n (joined (drop index parts))) (sym begins)
+      ∙ sym (ap (drop (offset parts index place)) divided_at ∙ drop-append-add (joined (take index parts)) (joined (drop index parts)) place)
+
+-- what an iterator gives next of a list from one element on
+pub next_of : {A : Type 0} (xs rest : List A) (i : ℕ) (x : A) → drop i xs ≡ x ∷ rest → (i < length xs) × (x ≡ get_or xs i x) × (rest ≡ drop (i + 1) xs)
+next_of xs rest i x is =
+    let size = ap length is in
+    let left = length-drop i xs in
+    let within : i < length xs = omega arith in
+    let both = sym is ∙ drop_more xs i x within in (within, ap (λ ys. get_or ys 0 x) both, ap (drop 1) both)
+
+-- the first of the elements from a place on is the one at the place
+pub first_from : {X : Type 0} (xs left after : List X) (i : ℕ) (first : Option (Bor X)) → left ≡ drop i xs → TakesFirst deref left first after → option_copied first ≡ slice_get xs i
+first_from xs left after i None is steps =
+    let size = ap length (sym is ∙ steps.0) in
+    let over = length-drop i xs in sym (slice_get_past xs i (omega arith))
+first_from xs left after i (Some x) is steps = let next = next_of xs after i x.now (sym is ∙ steps) in sym (slice_get_read xs (length xs) i x.now refl next.0 next.1)
+
+-- what stands behind a part from a place on stands from that place on
+pub left_behind : {X Z : Type 0} (parts rest : List (Vec X Z)) (part : Vec X Z) (start n : ℕ) → parts ≡ part ∷ rest → n ≡ length part.items → n ≤ start → drop (start - n) (joined rest) ≡ drop start (joined parts)
+left_behind parts rest part start n is size past =
+    sym
+    (ap (λ ps. drop start (joined ps)) is ∙ ap (λ k. drop k (part.items ++ joined rest)) {x = start} {y = length part.items + (start - n)} (omega arith)
+    ∙ drop-append-add part.items (joined rest) (start - n))
+
+-- a place before the end is not behind all parts
+pub not_past : {X Z : Type 0} (parts : List (Vec X Z)) (count left index : ℕ) → drop count parts ≡ [] → left + length (joined (take count parts)) ≡ index → index < length (joined parts) → ⊥
+not_past parts count left index none is before =
+    let size = ap length none in
+    let over = length-drop count parts in
+    let all = ap (λ ps. length (joined ps)) (take_all count parts (omega arith)) in omega arith
+
+-- the back of a front is a range
+back_of_front : {X : Type 0} (xs : List X) (from to : ℕ) → from ≤ to → drop from (take to xs) ≡ slice_range xs from to
+back_of_front xs zero to range = ap (λ n. take n xs) {x = to} {y = to - 0} (omega arith)
+back_of_front [] (suc from) to range = ap (drop (suc from)) (take-nil to) ∙ sym (take-nil (to - suc from))
+back_of_front (x ∷ xs) (suc from) zero range = absurd (omega arith)
+back_of_front (x ∷ xs) (suc from) (suc to) range = back_of_front xs from to (omega arith) ∙ ap (λ n. take n (drop from xs)) {x = to - from} {y = suc to - suc from} (omega arith)
+
+-- a range, as what is left of a front
+pub copied_between : {X : Type 0} (xs before front none after : List X) (from to start end : ℕ) → before ≡ take end xs → end ≡ to → front ≡ before → none ≡ [] → after ≡ none ++ drop start front → start ≡ from → from ≤ to → after ≡ slice_range xs from to
+copied_between xs before front none after from to start end first ends same empty rest starts range =
+    rest ∙ ap (λ ys. ys ++ drop start front) empty ∙ ap (λ n. drop n front) starts
+    ∙ ap (drop from) (same ∙ first ∙ ap (λ n. take n xs) ends) ∙ back_of_front xs from to range
+
+-- the elements before a place and those behind it, without the one there
+pub removed_between : {X : Type 0} (xs before after : List X) (i n : ℕ) → before ≡ take i xs → n ≡ i + 1 → after ≡ before ++ drop n xs → after ≡ remove xs i
+removed_between xs before after i n first next is = is ∙ ap (λ ys. ys ++ drop n xs) first ∙ ap (λ k. take i xs ++ drop k xs) {x = n} {y = suc i} (omega arith)
+
+-- the same with another one there
+pub replaced_between : {X : Type 0} (xs before with after : List X) (x : X) (i n : ℕ) → i < length xs → before ≡ take i xs → with ≡ before ++ x ∷ [] → n ≡ i + 1 → after ≡ with ++ drop n xs → after ≡ set xs i x
+replaced_between xs before with after x i n within first more next is =
+    is ∙ ap (λ ys. ys ++ drop n xs) (more ∙ ap (λ ys. ys ++ x ∷ []) first) ∙ append_assoc (take i xs) (x ∷ []) (drop n xs)
+    ∙ ap (λ k. take i xs ++ x ∷ drop k xs) {x = n} {y = suc i} (omega arith) ∙ sym (set_split xs i x within)

@@ -24,11 +24,6 @@ ends : {X : Type 0} (xs : List X) (x : X) → 0 < length xs → x ≡ get_or xs 
 ends xs x some read =
     sym (take_all (length xs - 1 + 1) xs (omega arith)) ∙ take_more xs (length xs - 1) x (omega arith) ∙ ap (λ y. take (length xs - 1) xs ++ y ∷ []) (sym read)
 
-pub front_within : {X Z : Type 0} (parts : List (Vec X Z)) (n : ℕ) → length (joined (take n parts)) ≤ length (joined parts)
-front_within {X} {Z} parts n =
-    let both = ap (λ (ps : List (Vec X Z)). length (joined ps)) (take-append-drop n parts) in
-    let parted = ap length (flat_map-append (λ (p : Vec X Z). p.items) (take n parts) (drop n parts)) ∙ length-append (joined (take n parts)) (joined (drop n parts)) in omega arith
-
 module _ {K X : Type 0} (R : K → K → Ordering) (o : IsTotalOrder R) where
   -- the last key of entries in order tells whether a key is above them all
   pub by_last : (es : List (K × X)) (e : K × X) (key : K) (told : Bool) → T (is_sorted R es) → 0 < length es → e ≡ get_or es (length es - 1) e → told ≡ is_lt (R e.0 key) → IsTrue told ↔ IsAbove R es key

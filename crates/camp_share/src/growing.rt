@@ -1,7 +1,9 @@
-ghost use Rattle.std.specs.Prelude.{◌≡◌, ◌+◌, ◌<◌, ◌≤◌, ◌^◌, List, [], ◌∷◌, ◌++◌, length, slice_range, IfOk, OnOk};
+ghost use Rattle.std.specs.Prelude.{◌≡◌, ◌+◌, ◌<◌, ◌≤◌, ◌^◌, List, [], ◌∷◌, ◌++◌, length, take, drop, slice_index_or, IfOk, OnOk};
 ghost use Rattle.std.specs.List.{All};
+ghost use Rattle.std.specs.Map.Iter.{ShowsInOrder, deref};
 ghost use Rattle.camp_share.specs.Inside.Parts.{joined, IsPart};
 
+use crate::iters::Steps;
 use crate::{Share, Shared};
 use std::alloc::{AllocError, Global};
 use std::marker::Model;
@@ -10,11 +12,7 @@ use std::mem;
 pub(crate) type Part<T> = Shared<Vec<T>>;
 
 /// The most elements of a part.
-pub(crate) const MAX_PART_LENGTH: usize = 64;
-
-// How many parts a list may come to have beyond those that it is made from, before the vector of its
-// parts has to grow.
-const MORE_PARTS: usize = 2;
+pub(crate) const MAX_PART_LENGTH: usize = 32;
 
 // A list that grows at its end: parts that are closed, and a last one that still takes elements.
 #[derive(Drop)]
@@ -32,18 +30,90 @@ impl<T> Model for Growing<T> {
 
     ghost view = { λ growing. joined growing.closed.items ++ growing.last.items };
 
-    ghost invariant = { λ growing. All IsPart growing.closed.items × (length growing.last.items ≤ 64) };
+    ghost invariant = { λ growing. All IsPart growing.closed.items × (length growing.last.items ≤ 32) };
+}
+
+impl<T> Growing<T> {
+    // No element.
+    pub(crate) fn new(alloc: Global) -> Growing<T>
+        ensures { result ≡ [] }
+    {
+        Growing {
+            closed: Vec::new(alloc),
+            last: Vec::new(alloc),
+        }
+    }
+
+    pub(crate) fn allocator(&self) -> Global {
+        *self.last.allocator()
+    }
+
+    // How many elements the list has.
+    pub(crate) fn len(&self) -> usize
+        requires { length self.now < 2 ^ 64 }
+        ensures { result ≡ length self.now }
+    {
+        let mut sum = self.last.len();
+        for part in &self.closed {
+            sum += part.len();
+        }
+        sum
+    }
+
+    // The element at a place.
+    pub(crate) fn at(&self, index: usize) -> &T
+        requires { index < length self.now }
+        ensures { result.now ≡ slice_index_or self.now index result.now }
+    {
+        let mut left = index;
+        for part in &self.closed {
+            if left < part.len() {
+                return &part[left];
+            }
+            left -= part.len();
+        }
+        &self.last[left]
+    }
+
+    // The elements from the first to the last.
+    pub(crate) fn iter(&self) -> Steps<'_, T>
+        ensures rest { result ≡ self.now }
+        ensures runs { ShowsInOrder (deref {X = T}) }
+    {
+        Steps::new(&self.closed, &self.last)
+    }
 }
 
 impl<T: Share + Drop> Growing<T> {
-    // No element, and room for so many parts and some more.
-    pub(crate) fn with_room(alloc: Global, parts: usize) -> Result<Growing<T>, AllocError>
-        ensures { IfOk result (λ grown. grown ≡ []) }
+    // The first elements, with room for the others of the part that is cut and one more.
+    pub(crate) fn front(&self, count: usize) -> Result<Growing<T>, AllocError>
+        requires { count ≤ length self.now }
+        ensures { IfOk result (λ front. front ≡ take count self.now) }
     {
-        let closed = Vec::with_capacity(alloc, parts.saturating_add(MORE_PARTS))?;
+        let mut closed = Vec::with_capacity(self.allocator(), self.closed.len())?;
+        let mut left = count;
+        for part in &self.closed {
+            if left < part.len() {
+                let last = first_of(part, left)?;
+                return Ok(Growing { closed, last });
+            }
+            closed.push(part.share()?)?;
+            left -= part.len();
+        }
+        let last = first_of(&self.last, left)?;
+        Ok(Growing { closed, last })
+    }
+
+    // The first elements of a part, with room for the others and one more.
+    pub(crate) fn of_part(part: &Part<T>, count: usize) -> Result<Growing<T>, AllocError>
+        requires part { IsPart part.now }
+        requires within { count ≤ length part.now.items }
+        ensures { IfOk result (λ grown. grown ≡ take count part.now.items) }
+    {
+        let last = first_of(part, count)?;
         Ok(Growing {
-            closed,
-            last: Vec::new(alloc),
+            closed: Vec::new(*last.allocator()),
+            last,
         })
     }
 
@@ -55,24 +125,6 @@ impl<T: Share + Drop> Growing<T> {
             close(&mut self.closed, &mut self.last)?;
         }
         self.last.push(item)?;
-        Ok(())
-    }
-
-    // Takes copies of the elements of the last closed part, where that is not full and nothing stands
-    // behind it, so that what comes next stands in one part with them.
-    pub(crate) fn reopen(&mut self) -> Result<(), AllocError>
-        ensures { OnOk result (self.new ≡ self.old) }
-    {
-        let count = self.closed.len();
-        if count == 0 || !self.last.is_empty() {
-            return Ok(());
-        }
-        let part = &self.closed[count - 1];
-        if part.len() >= MAX_PART_LENGTH {
-            return Ok(());
-        }
-        self.last = copied(part)?;
-        self.closed.truncate(count - 1);
         Ok(())
     }
 
@@ -89,8 +141,37 @@ impl<T: Share + Drop> Growing<T> {
         Ok(())
     }
 
+    // Adds the elements of another list from one on.
+    pub(crate) fn push_rest(&mut self, list: &Growing<T>, from: usize) -> Result<(), AllocError>
+        requires { from ≤ length list.now }
+        ensures { OnOk result (self.new ≡ self.old ++ drop from list.now) }
+    {
+        let mut left = from;
+        for part in &list.closed {
+            if left >= part.len() {
+                left -= part.len();
+                continue;
+            }
+            self.push_behind(part, left)?;
+            left = 0;
+        }
+        self.push_items(&list.last[left..])
+    }
+
+    // Adds the elements of a part from one on.
+    fn push_behind(&mut self, part: &Part<T>, from: usize) -> Result<(), AllocError>
+        requires part { IsPart part.now }
+        requires within { from ≤ length part.now.items }
+        ensures { OnOk result (self.new ≡ self.old ++ drop from part.now.items) }
+    {
+        if from == 0 {
+            return self.push_part(part);
+        }
+        self.push_items(&part[from..])
+    }
+
     // Adds the elements of a part: shares it, or copies them where they fit behind the last ones.
-    pub(crate) fn push_part(&mut self, part: &Part<T>) -> Result<(), AllocError>
+    fn push_part(&mut self, part: &Part<T>) -> Result<(), AllocError>
         requires { IsPart part.now }
         ensures { OnOk result (self.new ≡ self.old ++ part.now.items) }
     {
@@ -106,81 +187,51 @@ impl<T: Share + Drop> Growing<T> {
         Ok(())
     }
 
-    // Adds the elements of parts from one place up to another.
-    pub(crate) fn push_range(
-        &mut self,
-        parts: &[Part<T>],
-        from: usize,
-        to: usize,
-    ) -> Result<(), AllocError>
-        requires parts { All IsPart parts.now }
-        requires range { from ≤ to }
-        requires within { to ≤ length (joined parts.now) }
-        requires fits { length (joined parts.now) < 2 ^ 64 }
-        ensures { OnOk result (self.new ≡ self.old ++ slice_range (joined parts.now) from to) }
-    {
-        let mut start = 0;
-        for part in parts {
-            if start >= to {
-                return Ok(());
-            }
-            let end = start + part.len();
-            if end <= from {
-                start = end;
-                continue;
-            }
-            self.push_cut(part, from.saturating_sub(start), to - start)?;
-            start = end;
-        }
-        Ok(())
+    // Whether elements are in the last part, and so many more fit there.
+    pub(crate) fn takes(&self, count: usize) -> bool {
+        !self.last.is_empty() && count <= MAX_PART_LENGTH - self.last.len()
     }
 
-    // Adds the elements of a part from one place up to another, as far as it has them.
-    fn push_cut(&mut self, part: &Part<T>, from: usize, to: usize) -> Result<(), AllocError>
-        requires part { IsPart part.now }
-        requires range { from ≤ to }
-        ensures { OnOk result (self.new ≡ self.old ++ slice_range part.now.items from to) }
+    // Adds the elements to a list of parts, as parts of their own.
+    pub(crate) fn close_into(self, parts: &mut Growing<Part<T>>) -> Result<(), AllocError>
+        requires { All IsPart parts.old }
+        ensures items { OnOk result (joined parts.new ≡ joined parts.old ++ self) }
+        ensures parts { OnOk result (All IsPart parts.new) }
     {
-        let (from, to) = (from.min(part.len()), to.min(part.len()));
-        if from == 0 && to == part.len() {
-            return self.push_part(part);
-        }
-        if from == to {
-            return Ok(());
-        }
-        self.make_room(part.len())?;
-        self.push_items(&part[from..to])
-    }
-
-    // Makes room for the elements of a cut part and one more, so that they are not moved as they come.
-    fn make_room(&mut self, count: usize) -> Result<(), AllocError>
-        ensures { self.new ≡ self.old }
-    {
-        if self.last.is_empty() {
-            self.last.reserve(count.saturating_add(1))?;
-        }
-        Ok(())
-    }
-
-    // The parts of the whole list.
-    pub(crate) fn into_parts(mut self) -> Result<Vec<Part<T>>, AllocError>
-        ensures items { IfOk result (λ parts. joined parts.items ≡ self) }
-        ensures parts { IfOk result (λ parts. All IsPart parts.items) }
-    {
+        parts.push_items(&self.closed)?;
         if !self.last.is_empty() {
-            close(&mut self.closed, &mut self.last)?;
+            let alloc = *self.last.allocator();
+            parts.push(Shared::new(alloc, self.last)?)?;
         }
-        Ok(self.closed)
+        Ok(())
     }
 }
 
-// Copies of the elements of a part, with room for one more.
-fn copied<T: Share + Drop>(part: &Part<T>) -> Result<Vec<T>, AllocError>
-    ensures { IfOk result (λ items. items.items ≡ part.now.items) }
+impl<T: Share + Drop> Share for Growing<T> {
+    fn share(&self) -> Result<Growing<T>, AllocError> {
+        let alloc = self.allocator();
+        let closed = copies(alloc, &self.closed, self.closed.len())?;
+        let last = copies(alloc, &self.last, self.last.len())?;
+        Ok(Growing { closed, last })
+    }
+}
+
+// Copies of the first elements, with room for the others and one more.
+fn first_of<T: Share + Drop>(items: &Vec<T>, count: usize) -> Result<Vec<T>, AllocError>
+    requires { count ≤ length items.now.items }
+    ensures { IfOk result (λ first. first.items ≡ take count items.now.items) }
 {
-    let mut items = Vec::with_capacity(*part.allocator(), part.len().saturating_add(1))?;
-    append_copies(&mut items, part)?;
-    Ok(items)
+    let room = items.len().saturating_add(1);
+    copies(*items.allocator(), &items[..count], room)
+}
+
+// Copies of elements, in a vector with so much room.
+fn copies<T: Share + Drop>(alloc: Global, items: &[T], room: usize) -> Result<Vec<T>, AllocError>
+    ensures { IfOk result (λ copies. copies.items ≡ items.now) }
+{
+    let mut copies = Vec::with_capacity(alloc, room)?;
+    append_copies(&mut copies, items)?;
+    Ok(copies)
 }
 
 // Puts copies of elements behind others.
@@ -191,6 +242,7 @@ pub(crate) fn append_copies<T: Share + Drop>(
     ensures joined { OnOk result (items.new.items ≡ items.old.items ++ more.now) }
     ensures bounded { length items.new.items ≤ length items.old.items + length more.now }
 {
+    items.reserve(more.len())?;
     for item in more {
         items.push(item.share()?)?;
     }

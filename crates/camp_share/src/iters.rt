@@ -8,11 +8,73 @@ use crate::growing::Part;
 use std::iter::FusedIterator;
 use std::marker::Model;
 
+// The elements of a list that grows at its end that are still to come: those of one part, of closed
+// parts and of the last one.
+#[derive(Drop)]
+pub(crate) struct Steps<'a, T> {
+    part: &'a [T],
+    closed: &'a [Part<T>],
+    last: &'a [T],
+}
+
+impl<'a, T> Model for Steps<'a, T> {
+    ghost use Rattle.std.specs.Prelude.{List, ◌++◌};
+    ghost use Rattle.std.specs.List.{All};
+    ghost use Rattle.camp_share.specs.Inside.Parts.{joined, IsPart};
+
+    ghost Value = { List T };
+
+    ghost view = { λ it. it.part.now ++ joined it.closed.now ++ it.last.now };
+
+    ghost invariant = { λ it. All IsPart it.closed.now };
+}
+
+impl<'a, T> Steps<'a, T> {
+    pub(crate) fn new(closed: &'a [Part<T>], last: &'a [T]) -> Steps<'a, T>
+        requires { All IsPart closed.now }
+        ensures rest { result ≡ joined closed.now ++ last.now }
+        ensures runs { ShowsInOrder (deref {X = T}) }
+    {
+        Steps {
+            part: &[],
+            closed,
+            last,
+        }
+    }
+}
+
+impl<'a, T> Iterator for Steps<'a, T> {
+    type Item = &'a T;
+
+    ghost next_gives = { TakesFirst deref };
+
+    ghost remaining = { λ s. at_most (length s) };
+
+    fn next(&mut self) -> Option<&'a T> {
+        if self.part.is_empty() {
+            let closed = self.closed;
+            if closed.is_empty() {
+                self.part = self.last;
+                self.last = &[];
+            } else {
+                self.part = &closed[0];
+                self.closed = &closed[1..];
+            }
+        }
+        let part = self.part;
+        if part.is_empty() {
+            return None;
+        }
+        self.part = &part[1..];
+        Some(&part[0])
+    }
+}
+
 /// The elements of a list that are still to come, from the first to the last.
 #[derive(Drop)]
 pub struct Iter<'a, T> {
     part: &'a [T],
-    parts: &'a [Part<T>],
+    parts: Steps<'a, Part<T>>,
 }
 
 impl<'a, T> Model for Iter<'a, T> {
@@ -22,23 +84,15 @@ impl<'a, T> Model for Iter<'a, T> {
 
     ghost Value = { List T };
 
-    ghost view = { λ it. it.part.now ++ joined it.parts.now };
+    ghost view = { λ it. it.part.now ++ joined it.parts };
 
-    ghost invariant = { λ it. All IsPart it.parts.now };
+    ghost invariant = { λ it. All IsPart it.parts };
 }
 
 impl<'a, T> Iter<'a, T> {
-    pub(crate) fn new(parts: &'a [Part<T>]) -> Iter<'a, T>
-        requires { All IsPart parts.now }
-        ensures rest { result ≡ joined parts.now }
-        ensures runs { ShowsInOrder (deref {X = T}) }
-    {
-        Iter::within(&[], parts)
-    }
-
-    pub(crate) fn within(part: &'a [T], parts: &'a [Part<T>]) -> Iter<'a, T>
-        requires { All IsPart parts.now }
-        ensures rest { result ≡ part.now ++ joined parts.now }
+    pub(crate) fn within(part: &'a [T], parts: Steps<'a, Part<T>>) -> Iter<'a, T>
+        requires { All IsPart parts }
+        ensures rest { result ≡ part.now ++ joined parts.entry }
         ensures runs { ShowsInOrder (deref {X = T}) }
     {
         Iter { part, parts }
@@ -53,17 +107,18 @@ impl<'a, T> Iterator for Iter<'a, T> {
     ghost remaining = { λ s. at_most (length s) };
 
     fn next(&mut self) -> Option<&'a T> {
-        if self.part.is_empty() {
-            let parts = self.parts;
-            if parts.is_empty() {
-                return None;
-            }
-            self.part = &parts[0];
-            self.parts = &parts[1..];
+        if !self.part.is_empty() {
+            let part = self.part;
+            self.part = &part[1..];
+            return Some(&part[0]);
         }
-        let part = self.part;
-        self.part = &part[1..];
-        Some(&part[0])
+        match self.parts.next() {
+            Some(part) => {
+                self.part = &part[1..];
+                Some(&part[0])
+            }
+            None => None,
+        }
     }
 }
 

@@ -1,6 +1,7 @@
 //! Values that are copied by a count: one value, lists in parts, and sorted maps over them.
 #![tactic(auto)]
 
+mod changes;
 mod growing;
 mod iters;
 mod lists;

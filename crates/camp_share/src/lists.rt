@@ -6,15 +6,16 @@ ghost use Rattle.std.specs.Option.{option_copied};
 ghost use Rattle.std.specs.Cmp.Lexicographic.{pointwise, lists_per, lists_equiv};
 ghost use Rattle.std.specs.Map.Iter.{ShowsInOrder, deref};
 
-use crate::growing::{Growing, MAX_PART_LENGTH, Part, append_copies};
+use crate::changes::{Change, inserted_at, place_of, removed_at, replaced_at};
+use crate::growing::{Growing, Part, append_copies};
 use crate::{Iter, Share};
 use std::alloc::{AllocError, Global};
 use std::marker::Model;
 
-/// A list in parts of up to 64 elements, which it shares with the lists that it was made from.
+/// A list in parts of up to 32 elements, which it shares with the lists that it was made from.
 #[derive(Drop)]
 pub struct SharedList<T> {
-    parts: Vec<Part<T>>,
+    parts: Growing<Part<T>>,
     len: usize,
 }
 
@@ -25,9 +26,9 @@ impl<T> Model for SharedList<T> {
 
     ghost Value = { List T };
 
-    ghost view = { λ list. joined list.parts.items };
+    ghost view = { λ list. joined list.parts };
 
-    ghost invariant = { λ list. All IsPart list.parts.items × (length (joined list.parts.items) ≡ list.len) };
+    ghost invariant = { λ list. All IsPart list.parts × (length (joined list.parts) ≡ list.len) };
 }
 
 impl<T> SharedList<T> {
@@ -36,7 +37,7 @@ impl<T> SharedList<T> {
         ensures exact { result ≡ [] }
     {
         SharedList {
-            parts: Vec::new(alloc),
+            parts: Growing::new(alloc),
             len: 0,
         }
     }
@@ -59,14 +60,7 @@ impl<T> SharedList<T> {
     pub fn get(&self, index: usize) -> Option<&T>
         ensures exact { option_copied result ≡ slice_get self.now index }
     {
-        let mut left = index;
-        for part in &self.parts {
-            if left < part.len() {
-                return Some(&part[left]);
-            }
-            left -= part.len();
-        }
-        None
+        self.iter_from(index).next()
     }
 
     /// The elements from the first to the last.
@@ -74,7 +68,7 @@ impl<T> SharedList<T> {
         ensures rest { result ≡ self.now }
         ensures runs { ShowsInOrder (deref {X = T}) }
     {
-        Iter::new(&self.parts)
+        Iter::within(&[], self.parts.iter())
     }
 
     /// The elements from a place to the last.
@@ -82,29 +76,39 @@ impl<T> SharedList<T> {
         ensures rest { result ≡ drop from self.now }
         ensures runs { ShowsInOrder (deref {X = T}) }
     {
+        let mut parts = self.parts.iter();
         let mut start = from;
-        for (index, part) in self.parts.iter().enumerate() {
+        while let Some(part) = parts.next() {
             if start < part.len() {
-                return Iter::within(&part[start..], &self.parts[index + 1..]);
+                return Iter::within(&part[start..], parts);
             }
             start -= part.len();
         }
-        Iter::new(&[])
+        Iter::within(&[], parts)
     }
 
     /// The allocator of the list.
     pub fn allocator(&self) -> Global {
-        *self.parts.allocator()
+        self.parts.allocator()
     }
 
     // The parts, one after the other.
-    pub(crate) fn parts(&self) -> &[Part<T>]
+    pub(crate) fn parts(&self) -> &Growing<Part<T>>
         ensures items { joined result.now ≡ self.now }
         ensures parts { All IsPart result.now }
         ensures fits { length self.now < 2 ^ 64 }
     {
         prove!(self.len == self.len);
         &self.parts
+    }
+
+    // The list of parts that have so many elements.
+    pub(crate) fn of_parts(parts: Growing<Part<T>>, len: usize) -> SharedList<T>
+        requires parts { All IsPart parts }
+        requires len { len ≡ length (joined parts) }
+        ensures { result ≡ joined parts }
+    {
+        SharedList { parts, len }
     }
 }
 
@@ -113,9 +117,9 @@ impl<T: Share + Drop> SharedList<T> {
     pub fn from_items(alloc: Global, items: &[T]) -> Result<SharedList<T>, AllocError>
         ensures exact { IfOk result (λ list. list ≡ items.now) }
     {
-        let mut grown = Growing::with_room(alloc, items.len() / MAX_PART_LENGTH)?;
-        grown.push_items(items)?;
-        let parts = grown.into_parts()?;
+        let mut change = Change::new(alloc);
+        change.push_items(items)?;
+        let parts = change.into_parts()?;
         Ok(SharedList {
             parts,
             len: items.len(),
@@ -126,8 +130,8 @@ impl<T: Share + Drop> SharedList<T> {
     pub fn to_vec(&self) -> Result<Vec<T>, AllocError>
         ensures exact { IfOk result (λ items. items.items ≡ self.now) }
     {
-        let mut items = Vec::with_capacity(*self.parts.allocator(), self.len)?;
-        for part in &self.parts {
+        let mut items = Vec::with_capacity(self.parts.allocator(), self.len)?;
+        for part in self.parts.iter() {
             append_copies(&mut items, part)?;
         }
         Ok(items)
@@ -137,15 +141,7 @@ impl<T: Share + Drop> SharedList<T> {
     pub fn pushed(&self, item: T) -> Result<SharedList<T>, AllocError>
         ensures exact { IfOk result (λ list. list ≡ self.now ++ item ∷ []) }
     {
-        let Some(len) = self.len.checked_add(1) else {
-            return Err(AllocError);
-        };
-        let mut grown = Growing::with_room(*self.parts.allocator(), self.parts.len())?;
-        grown.push_range(&self.parts, 0, self.len)?;
-        grown.reopen()?;
-        grown.push(item)?;
-        let parts = grown.into_parts()?;
-        Ok(SharedList { parts, len })
+        self.inserted(self.len, item)
     }
 
     /// The list with one element more before the one at a place.
@@ -156,12 +152,8 @@ impl<T: Share + Drop> SharedList<T> {
         let Some(len) = self.len.checked_add(1) else {
             return Err(AllocError);
         };
-        let mut grown = Growing::with_room(*self.parts.allocator(), self.parts.len())?;
-        grown.push_range(&self.parts, 0, index)?;
-        grown.reopen()?;
-        grown.push(item)?;
-        grown.push_range(&self.parts, index, self.len)?;
-        let parts = grown.into_parts()?;
+        let (part, place) = place_of(&self.parts, index, self.len);
+        let parts = inserted_at(&self.parts, part, place, item)?;
         Ok(SharedList { parts, len })
     }
 
@@ -174,12 +166,11 @@ impl<T: Share + Drop> SharedList<T> {
         let Some(len) = (self.len - (to - from)).checked_add(items.len()) else {
             return Err(AllocError);
         };
-        let mut grown = Growing::with_room(*self.parts.allocator(), self.parts.len())?;
-        grown.push_range(&self.parts, 0, from)?;
-        grown.reopen()?;
-        grown.push_items(items)?;
-        grown.push_range(&self.parts, to, self.len)?;
-        let parts = grown.into_parts()?;
+        let (part, place) = place_of(&self.parts, from, self.len);
+        let mut change = Change::before(&self.parts, part, place)?;
+        change.push_items(items)?;
+        let (part, place) = place_of(&self.parts, to, self.len);
+        let parts = change.with_rest(&self.parts, part, place)?;
         Ok(SharedList { parts, len })
     }
 
@@ -188,12 +179,8 @@ impl<T: Share + Drop> SharedList<T> {
         requires { index < length self.now }
         ensures exact { IfOk result (λ list. list ≡ slice_set self.now index item) }
     {
-        prove!(index < self.len);
-        let mut grown = Growing::with_room(*self.parts.allocator(), self.parts.len())?;
-        grown.push_range(&self.parts, 0, index)?;
-        grown.push(item)?;
-        grown.push_range(&self.parts, index + 1, self.len)?;
-        let parts = grown.into_parts()?;
+        let (part, place) = place_of(&self.parts, index, self.len);
+        let parts = replaced_at(&self.parts, part, place, item)?;
         Ok(SharedList {
             parts,
             len: self.len,
@@ -205,11 +192,8 @@ impl<T: Share + Drop> SharedList<T> {
         requires { index < length self.now }
         ensures exact { IfOk result (λ list. list ≡ remove self.now index) }
     {
-        prove!(index < self.len);
-        let mut grown = Growing::with_room(*self.parts.allocator(), self.parts.len())?;
-        grown.push_range(&self.parts, 0, index)?;
-        grown.push_range(&self.parts, index + 1, self.len)?;
-        let parts = grown.into_parts()?;
+        let (part, place) = place_of(&self.parts, index, self.len);
+        let parts = removed_at(&self.parts, part, place)?;
         Ok(SharedList {
             parts,
             len: self.len - 1,
@@ -222,10 +206,10 @@ impl<T: Share + Drop> SharedList<T> {
         requires within { to ≤ length self.now }
         ensures exact { IfOk result (λ list. list ≡ slice_range self.now from to) }
     {
-        prove!(to <= self.len);
-        let mut grown = Growing::with_room(*self.parts.allocator(), self.parts.len())?;
-        grown.push_range(&self.parts, from, to)?;
-        let parts = grown.into_parts()?;
+        let (part, place) = place_of(&self.parts, to, self.len);
+        let front = Change::before(&self.parts, part, place)?.into_parts()?;
+        let (part, place) = place_of(&front, from, to);
+        let parts = Change::new(self.allocator()).with_rest(&front, part, place)?;
         Ok(SharedList {
             parts,
             len: to - from,
@@ -235,10 +219,7 @@ impl<T: Share + Drop> SharedList<T> {
 
 impl<T: Drop> Share for SharedList<T> {
     fn share(&self) -> Result<SharedList<T>, AllocError> {
-        let mut parts = Vec::with_capacity(*self.parts.allocator(), self.parts.len())?;
-        for part in &self.parts {
-            parts.push(part.share()?)?;
-        }
+        let parts = self.parts.share()?;
         Ok(SharedList {
             parts,
             len: self.len,

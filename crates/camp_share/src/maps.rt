@@ -6,9 +6,9 @@ ghost use Rattle.std.specs.Map.Iter.{ShowsInOrder, deref};
 ghost use Rattle.std.specs.Cmp.Lexicographic.{pointwise, lists_per};
 ghost use Rattle.std.specs.Cmp.{on_per, and_per};
 ghost use Rattle.camp_share.specs.Maps.{map_of};
-ghost use Rattle.camp_share.specs.Inside.Places.{IsAt, WouldBeAt};
 
-use crate::search::{length_of, search};
+use crate::changes::{inserted_at, removed_at, replaced_at};
+use crate::search::search;
 use crate::{Iter, Share, SharedList};
 use std::alloc::{AllocError, Global};
 use std::marker::Model;
@@ -18,7 +18,7 @@ pub trait Key: Ord + Share + Drop {
     ghost same: { IsAntisymmetric Self.cmp };
 }
 
-/// A map in the order of its keys, which it shares in parts of up to 64 entries with the maps that
+/// A map in the order of its keys, which it shares in parts of up to 32 entries with the maps that
 /// it was made from.
 #[derive(Drop)]
 pub struct SharedMap<K: Key, V> {
@@ -83,7 +83,7 @@ impl<K: Key, V> SharedMap<K, V> {
         let parts = self.entries.parts();
         match search(parts, key) {
             Ok((index, place)) => {
-                let part = &parts[index];
+                let part = parts.at(index);
                 Some(&part[place].1)
             }
             Err(_) => None,
@@ -101,19 +101,6 @@ impl<K: Key, V> SharedMap<K, V> {
     pub fn allocator(&self) -> Global {
         self.entries.allocator()
     }
-
-    // Where the entry of a key is, or where it would be.
-    fn place(&self, key: &K) -> Result<usize, usize>
-        ensures found { IfOk result (IsAt self.now key.now) }
-        ensures absent { IfErr result (WouldBeAt K.cmp self.now key.now) }
-        ensures sorted { Holds (is_sorted K.cmp self.now) }
-    {
-        let parts = self.entries.parts();
-        match search(parts, key) {
-            Ok((index, place)) => Ok(length_of(&parts[..index]) + place),
-            Err((index, place)) => Err(length_of(&parts[..index]) + place),
-        }
-    }
 }
 
 impl<K: Key, V: Share + Drop> SharedMap<K, V> {
@@ -121,13 +108,20 @@ impl<K: Key, V: Share + Drop> SharedMap<K, V> {
     pub fn inserted(&self, key: K, value: V) -> Result<SharedMap<K, V>, AllocError>
         ensures exact { IfOk result (λ new. map_of K.cmp new ≡ map.insert (map_of K.cmp self.now) key value) }
     {
-        match self.place(&key) {
-            Ok(index) => {
-                let entries = self.entries.replaced(index, (key, value))?;
+        let parts = self.entries.parts();
+        let len = self.entries.len();
+        match search(parts, &key) {
+            Ok((index, place)) => {
+                let parts = replaced_at(parts, index, place, (key, value))?;
+                let entries = SharedList::of_parts(parts, len);
                 Ok(SharedMap { entries })
             }
-            Err(index) => {
-                let entries = self.entries.inserted(index, (key, value))?;
+            Err((index, place)) => {
+                let Some(len) = len.checked_add(1) else {
+                    return Err(AllocError);
+                };
+                let parts = inserted_at(parts, index, place, (key, value))?;
+                let entries = SharedList::of_parts(parts, len);
                 Ok(SharedMap { entries })
             }
         }
@@ -148,9 +142,11 @@ impl<K: Key, V: Share + Drop> SharedMap<K, V> {
     pub fn without(&self, key: &K) -> Result<SharedMap<K, V>, AllocError>
         ensures exact { IfOk result (λ new. map_of K.cmp new ≡ map.remove (map_of K.cmp self.now) key.now) }
     {
-        match self.place(key) {
-            Ok(index) => {
-                let entries = self.entries.without(index)?;
+        let parts = self.entries.parts();
+        match search(parts, key) {
+            Ok((index, place)) => {
+                let parts = removed_at(parts, index, place)?;
+                let entries = SharedList::of_parts(parts, self.entries.len() - 1);
                 Ok(SharedMap { entries })
             }
             Err(_) => {

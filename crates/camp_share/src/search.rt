@@ -6,24 +6,13 @@ ghost use Rattle.camp_share.specs.Inside.Parts.{joined, IsPart};
 ghost use Rattle.camp_share.specs.Inside.Places.{IsAt, WouldBeAt, IsAbove, IsInPart, WouldBeInPart};
 
 use crate::Key;
-use crate::growing::Part;
-
-// How many elements the parts have.
-pub(crate) fn length_of<T>(parts: &[Part<T>]) -> usize
-    requires { length (joined parts.now) < 2 ^ 64 }
-    ensures { result ≡ length (joined parts.now) }
-{
-    let mut sum = 0;
-    for part in parts {
-        sum += part.len();
-    }
-    sum
-}
+use crate::growing::{Growing, Part};
 
 // The first part that has a key which is not below the given one, or else the number of parts.
-pub(crate) fn part_for<K: Key, V>(parts: &[Part<(K, V)>], key: &K) -> usize
+pub(crate) fn part_for<K: Key, V>(parts: &Growing<Part<(K, V)>>, key: &K) -> usize
     requires parts { All IsPart parts.now }
     requires sorted { Holds (is_sorted K.cmp (joined parts.now)) }
+    requires fits { length (joined parts.now) < 2 ^ 64 }
     ensures within { result ≤ length parts.now }
     ensures before { IsAbove K.cmp (joined (take result parts.now)) key.now }
     ensures reached { (part : _) → result < length parts.now → part ≡ slice_index_or parts.now result part → ¬ (IsAbove K.cmp part.items key.now) }
@@ -31,7 +20,7 @@ pub(crate) fn part_for<K: Key, V>(parts: &[Part<(K, V)>], key: &K) -> usize
     let (mut low, mut high) = (0, parts.len());
     while low < high {
         let middle = low + (high - low) / 2;
-        if ends_below(&parts[middle], key) {
+        if ends_below(parts.at(middle), key) {
             low = middle + 1;
         } else {
             high = middle;
@@ -62,11 +51,12 @@ pub(crate) fn place_in<K: Key, V>(entries: &[(K, V)], key: &K) -> Result<usize, 
 
 // The part that has the entry of a key and the entry's place there, or those where it would be.
 pub(crate) fn search<K: Key, V>(
-    parts: &[Part<(K, V)>],
+    parts: &Growing<Part<(K, V)>>,
     key: &K,
 ) -> Result<(usize, usize), (usize, usize)>
     requires parts { All IsPart parts.now }
     requires sorted { Holds (is_sorted K.cmp (joined parts.now)) }
+    requires fits { length (joined parts.now) < 2 ^ 64 }
     ensures found { IfOk result (λ at. IsInPart parts.now key.now at.0 at.1) }
     ensures absent { IfErr result (λ at. WouldBeInPart K.cmp parts.now key.now at.0 at.1) }
 {
@@ -74,7 +64,7 @@ pub(crate) fn search<K: Key, V>(
     if index == parts.len() {
         return Err((index, 0));
     }
-    match place_in(&parts[index], key) {
+    match place_in(parts.at(index), key) {
         Ok(place) => Ok((index, place)),
         Err(place) => Err((index, place)),
     }

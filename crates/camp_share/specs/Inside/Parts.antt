@@ -1,5 +1,5 @@
 -- How a list lies in parts.
-use Rattle.std.specs.Prelude.{◌<◌, ◌≤◌, List, length}
+use Rattle.std.specs.Prelude.{ℕ, ◌+◌, ◌<◌, ◌≤◌, List, length, take}
 use Rattle.std.specs.List.{flat_map}
 use Rattle.std.specs.declared.vec.Vec.{Vec}
 
@@ -8,6 +8,14 @@ module _ {X Z : Type 0} where
   abbrev pub joined : List (Vec X Z) → List X
   joined parts = flat_map (λ part. part.items) parts
 
-  -- a part has 1 to 64 elements
+  -- a part has 1 to 32 elements
   abbrev pub IsPart : Vec X Z → Type 0
-  IsPart part = (0 < length part.items) × (length part.items ≤ 64)
+  IsPart part = (0 < length part.items) × (length part.items ≤ 32)
+
+  -- how many elements stand before a place of a part
+  abbrev pub offset : List (Vec X Z) → ℕ → ℕ → ℕ
+  offset parts index place = length (joined (take index parts)) + place
+
+  -- a place of a part is not behind its end; there is one place behind the last part
+  abbrev pub IsPlace : List (Vec X Z) → ℕ → ℕ → Type 0
+  IsPlace parts index place = (index ≤ length parts) × (offset parts index place ≤ length (joined (take (index + 1) parts)))

@@ -3,7 +3,7 @@ use Rattle.std.specs.Prelude.{◌≡◌, ℕ, zero, suc, ◌+◌, ◌<◌, ◌�
 use Rattle.std.specs.declared.cmp.Ordering.{Ordering}
 use Rattle.std.specs.declared.cmp.Ordering.TheVariants.{Less}
 use Rattle.std.specs.declared.vec.Vec.{Vec}
-use Rattle.camp_share.specs.Inside.Parts.{joined}
+use Rattle.camp_share.specs.Inside.Parts.{joined, offset, IsPlace}
 
 -- the entry at a place has the key
 abbrev pub IsAt : {K X : Type 0} → List (K × X) → K → ℕ → Type 0
@@ -28,9 +28,10 @@ abbrev pub IsInPart : {K X Z : Type 0} → List (Vec (K × X) Z) → K → ℕ �
 IsInPart {K} {X} {Z} parts key index place =
     (index < length parts)
     × ((part : Vec (K × X) Z) → part ≡ slice_index_or parts index part → IsAt part.items key place)
-    × IsAt (joined parts) key (length (joined (take index parts)) + place)
+    × IsAt (joined parts) key (offset parts index place)
+    × IsPlace parts index (place + 1)
 
 -- a key would stand at a place of a part
 abbrev pub WouldBeInPart : {K X Z : Type 0} → (K → K → Ordering) → List (Vec (K × X) Z) → K → ℕ → ℕ → Type 0
 WouldBeInPart order parts key index place =
-    (index ≤ length parts) × WouldBeAt order (joined parts) key (length (joined (take index parts)) + place)
+    IsPlace parts index place × WouldBeAt order (joined parts) key (offset parts index place)

@@ -1,11 +1,17 @@
-use Rattle.std.proofs.Common.{◌<◌, length, get_or, ap, subst, ◌∙◌, arith}
+use Rattle.std.proofs.Common.{subst, ◌∙◌, arith}
+use Rattle.std.specs.List.{All}
+use Rattle.std.proofs.lemmas.List.Elements.{All-tail}
+use Rattle.camp_share.specs.Inside.Parts.{IsPart}
 use Rattle.camp_share.proofs.PartLemmas.{left_behind, length_told}
 use Rattle.camp_share.proofs.lists.SharedList.iter_from.Goals as goal
 
-pub loop-index-preserved : goal.loop-index-preserved
-loop-index-preserved g c =
-    let size = length_told _ c.part-item.result _ c.deref.ensures c.len.ensures in
-    let less = length_told _ c.part-item.result _ c.deref-in-loop-index.ensures c.len-start.ensures in
-    let within = subst (λ xs. c.loop-index.index < length xs) c.deref-part-items.ensures.value c.loop-index-test.true in
-    let read = c.part-item.is ∙ ap (λ xs. get_or xs c.loop-index.index c.part-item.result) c.deref-part-items.ensures.value in
-    rw less (left_behind c.self.inside.parts.items c.loop-index.index c.part-item.result within read c.loop-index.start (omega arith) ∙ c.loop-index.invariant)
+pub loop-part-preserved : goal.loop-part-preserved
+loop-part-preserved g c =
+    let size = length_told _ c.in-Some.part.now _ c.deref.ensures c.len.ensures in
+    let less = length_told _ c.in-Some.part.now _ c.deref-in-Some.ensures c.len-start.ensures in
+    record {
+      can_next = tt;
+      is_finite = tt;
+      parts = All-tail IsPart _ _ (subst (All IsPart) c.in-Some.ensures.steps c.loop-part.invariant.parts);
+      rest = left_behind c.loop-part.parts c.next.new.self c.in-Some.part.now c.loop-part.start c.len-start.result c.in-Some.ensures.steps less (omega arith) ∙ c.loop-part.invariant.rest;
+    }

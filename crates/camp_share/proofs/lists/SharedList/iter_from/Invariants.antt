@@ -1,6 +1,12 @@
 use Rattle.std.proofs.Common.{◌≡◌, drop}
-use Rattle.camp_share.specs.Inside.Parts.{joined}
+use Rattle.std.specs.List.{All}
+use Rattle.camp_share.specs.Inside.Parts.{joined, IsPart}
 use Rattle.camp_share.proofs.lists.SharedList.iter_from.Given as goal
 
-abbrev pub invariant-loop-index : goal.invariant-loop-index
-invariant-loop-index g l = drop l.start (joined (drop l.index l.self-inside.parts.items)) ≡ drop l.from (joined l.self-inside.parts.items)
+abbrev pub invariant-loop-part : goal.invariant-loop-part
+invariant-loop-part g l = record {
+  can_next : (goal.iterator-loop-part g).can_next l.parts;
+  is_finite : (goal.iterator-loop-part g).is_finite l.parts;
+  parts : All IsPart l.parts;
+  rest : drop l.start (joined l.parts) ≡ drop l.from l.self;
+}

@@ -1,22 +1,16 @@
-use Rattle.std.proofs.Common.{ap, length, arith}
-use Rattle.camp_share.proofs.Entries.{at_within, would_be_within}
+use Rattle.std.proofs.Common.{T, sym, subst, ◌∙◌}
+use Rattle.std.specs.FinMap.{is_sorted}
 use Rattle.camp_share.proofs.MapLemmas.{insertion, replacement}
 use Rattle.camp_share.proofs.maps.SharedMap.inserted.Goals as goal
 
-pub replaced-requires : goal.replaced-requires
-replaced-requires g c = let within = at_within c.args.self.now c.args.key c.in-Ok.index c.in-Ok.ensures.found in let same = ap length c.self.view_is in omega arith
-
-pub inserted-requires : goal.inserted-requires
-inserted-requires g c = let within = would_be_within _ c.args.self.now c.args.key c.in-Err.index c.in-Err.ensures.absent in let same = ap length c.self.view_is in omega arith
-
 pub invariant_of-result : goal.invariant_of-result
-invariant_of-result g c = (replacement _ g.met.K.Ord.total _ _ c.self.view_is c.self.invariant _ _ _ _ c.in-Ok.ensures.found c.in_ok-entries-in-Ok.ensures.exact).0
+invariant_of-result g c = (replacement _ g.met.K.Ord.total _ _ (c.parts-parts.ensures.items ∙ c.self.view_is) (subst (λ es. T (is_sorted g.K.Ord.cmp es)) (sym c.parts-parts.ensures.items) c.self.invariant) (c.args.key, c.args.value) _ c.of_parts-entries.result c.in-Ok.ensures.found.2 (c.of_parts-entries.ensures ∙ c.in_ok-parts-in-Ok.ensures.items)).0
 
-pub returns-in_ok-entries-in-Ok : goal.returns-in_ok-entries-in-Ok
-returns-in_ok-entries-in-Ok g c = record { exact = (replacement _ g.met.K.Ord.total _ _ c.self.view_is c.self.invariant _ _ _ _ c.in-Ok.ensures.found c.in_ok-entries-in-Ok.ensures.exact).1 }
+pub returns-in_ok-parts-in-Ok : goal.returns-in_ok-parts-in-Ok
+returns-in_ok-parts-in-Ok g c = record { exact = (replacement _ g.met.K.Ord.total _ _ (c.parts-parts.ensures.items ∙ c.self.view_is) (subst (λ es. T (is_sorted g.K.Ord.cmp es)) (sym c.parts-parts.ensures.items) c.self.invariant) (c.args.key, c.args.value) _ c.of_parts-entries.result c.in-Ok.ensures.found.2 (c.of_parts-entries.ensures ∙ c.in_ok-parts-in-Ok.ensures.items)).1 }
 
 pub invariant_of-result-in-Err : goal.invariant_of-result-in-Err
-invariant_of-result-in-Err g c = (insertion _ g.met.K.Ord.total _ _ c.self.view_is c.self.invariant _ _ _ _ c.in-Err.ensures.absent c.in_ok-entries-in-Err.ensures.exact).0
+invariant_of-result-in-Err g c = (insertion _ g.met.K.Ord.total _ _ (c.parts-parts.ensures.items ∙ c.self.view_is) (subst (λ es. T (is_sorted g.K.Ord.cmp es)) (sym c.parts-parts.ensures.items) c.self.invariant) (c.args.key, c.args.value) _ c.of_parts-entries-in-Err.result c.in-Err.ensures.absent.1 (c.of_parts-entries-in-Err.ensures ∙ c.in_ok-parts-in-Err.ensures.items)).0
 
-pub returns-in_ok-entries-in-Err : goal.returns-in_ok-entries-in-Err
-returns-in_ok-entries-in-Err g c = record { exact = (insertion _ g.met.K.Ord.total _ _ c.self.view_is c.self.invariant _ _ _ _ c.in-Err.ensures.absent c.in_ok-entries-in-Err.ensures.exact).1 }
+pub returns-in_ok-parts-in-Err : goal.returns-in_ok-parts-in-Err
+returns-in_ok-parts-in-Err g c = record { exact = (insertion _ g.met.K.Ord.total _ _ (c.parts-parts.ensures.items ∙ c.self.view_is) (subst (λ es. T (is_sorted g.K.Ord.cmp es)) (sym c.parts-parts.ensures.items) c.self.invariant) (c.args.key, c.args.value) _ c.of_parts-entries-in-Err.result c.in-Err.ensures.absent.1 (c.of_parts-entries-in-Err.ensures ∙ c.in_ok-parts-in-Err.ensures.items)).1 }

@@ -1,16 +1,27 @@
-use Rattle.std.proofs.Common.{ap, length, arith, ◌∙◌}
+use Rattle.std.proofs.Common.{T, length, sym, ap, subst, ◌∙◌, arith}
+use Rattle.std.specs.FinMap.{is_sorted}
+use Rattle.std.proofs.lemmas.List.Edits.{length-remove}
+use Rattle.camp_share.specs.Inside.Parts.{joined, offset}
 use Rattle.camp_share.proofs.Entries.{at_within}
 use Rattle.camp_share.proofs.MapLemmas.{removal, nothing_removed}
 use Rattle.camp_share.proofs.maps.SharedMap.without.Goals as goal
 
-pub without-requires : goal.without-requires
-without-requires g c = let within = at_within c.args.self.now c.args.key.now c.in-Ok.index c.in-Ok.ensures.found in let same = ap length c.self.view_is in omega arith
+pub of_parts-entries-requires-clause-len : goal.of_parts-entries-requires-clause-len
+of_parts-entries-requires-clause-len g c =
+    let whole = joined c.parts-parts.result.now in
+    let place = offset c.parts-parts.result.now c.in-Ok.index c.in-Ok.place in
+    let within = at_within whole c.args.key.now place c.in-Ok.ensures.found.2 in
+    let shorter = length-remove whole place within in
+    let less = ap length c.in_ok-parts-in-Ok.ensures.items in
+    let same = ap length c.parts-parts.ensures.items in omega (arith, c.len.ensures.exact)
 
 pub invariant_of-result : goal.invariant_of-result
-invariant_of-result g c = (removal _ g.met.K.Ord.total _ _ c.self.view_is c.self.invariant g.met.K.Key.same _ _ _ c.in-Ok.ensures.found c.in_ok-entries-in-Ok.ensures.exact).0
+invariant_of-result g c = (removal _ g.met.K.Ord.total _ _ (c.parts-parts.ensures.items ∙ c.self.view_is) (subst (λ es. T (is_sorted g.K.Ord.cmp es)) (sym c.parts-parts.ensures.items) c.self.invariant) g.met.K.Key.same c.args.key.now _ c.of_parts-entries.result c.in-Ok.ensures.found.2 (c.of_parts-entries.ensures ∙ c.in_ok-parts-in-Ok.ensures.items)).0
 
-pub returns-in_ok-entries-in-Ok : goal.returns-in_ok-entries-in-Ok
-returns-in_ok-entries-in-Ok g c = record { exact = (removal _ g.met.K.Ord.total _ _ c.self.view_is c.self.invariant g.met.K.Key.same _ _ _ c.in-Ok.ensures.found c.in_ok-entries-in-Ok.ensures.exact).1 }
+pub returns-in_ok-parts-in-Ok : goal.returns-in_ok-parts-in-Ok
+returns-in_ok-parts-in-Ok g c = record { exact = (removal _ g.met.K.Ord.total _ _ (c.parts-parts.ensures.items ∙ c.self.view_is) (subst (λ es. T (is_sorted g.K.Ord.cmp es)) (sym c.parts-parts.ensures.items) c.self.invariant) g.met.K.Key.same c.args.key.now _ c.of_parts-entries.result c.in-Ok.ensures.found.2 (c.of_parts-entries.ensures ∙ c.in_ok-parts-in-Ok.ensures.items)).1 }
 
 pub returns-in_ok-entries-in-Err : goal.returns-in_ok-entries-in-Err
-returns-in_ok-entries-in-Err g c = record { exact = nothing_removed _ g.met.K.Ord.total _ _ c.self.view_is c.self.invariant g.met.K.Key.same _ c.in-Err.field-0 _ c.in-Err.ensures.absent (c.in_ok-entries-in-Err.ensures ∙ c.self.view_is) }
+returns-in_ok-entries-in-Err g c = record {
+  exact = nothing_removed _ g.met.K.Ord.total _ _ (c.parts-parts.ensures.items ∙ c.self.view_is) (subst (λ es. T (is_sorted g.K.Ord.cmp es)) (sym c.parts-parts.ensures.items) c.self.invariant) g.met.K.Key.same c.args.key.now _ _ c.in-Err.ensures.absent.1 (c.in_ok-entries-in-Err.ensures ∙ c.self.view_is);
+}

@@ -1,0 +1,9 @@
+use Rattle.std.proofs.Common.{◌≡◌, ◌+◌, length, take, drop}
+use Rattle.camp_share.specs.Inside.Parts.{joined}
+use Rattle.camp_share.proofs.changes.place_of.Given as goal
+
+abbrev pub invariant-loop-part : goal.invariant-loop-part
+invariant-loop-part g l = record {
+  rest : drop l.count l.parts ≡ l.part-iterator;
+  left : l.left + length (joined (take l.count l.parts)) ≡ l.index;
+}

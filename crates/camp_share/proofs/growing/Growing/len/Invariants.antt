@@ -1,0 +1,6 @@
+use Rattle.std.proofs.Common.{◌≡◌, ◌+◌, length, drop}
+use Rattle.camp_share.specs.Inside.Parts.{joined}
+use Rattle.camp_share.proofs.growing.Growing.len.Given as goal
+
+abbrev pub invariant-loop-part : goal.invariant-loop-part
+invariant-loop-part g l = l.sum + length (joined (drop l.part-index l.part-items)) ≡ length l.self

@@ -1,0 +1,13 @@
+use Rattle.std.proofs.Common.{◌++◌, drop, Vec, ap, ◌∙◌, arith, append_assoc}
+use Rattle.camp_share.proofs.PartLemmas.{rest_past, rest_cut, rest_length, length_told}
+use Rattle.camp_share.proofs.growing.Growing.push_rest.Goals as goal
+
+pub loop-part-preserved-then-left-len : goal.loop-part-preserved-then-left-len
+loop-part-preserved-then-left-len g c =
+    let size = length_told _ c.part-item.result _ c.deref.ensures c.len.ensures in
+    let less = length_told _ c.part-item.result _ c.deref-then-left-len.ensures c.len-left.ensures in
+    let shorter = rest_length _ c.list.inside.last.items _ c.part-item.result c.loop-part-test.true c.part-item.is in
+    record {
+      within = omega (arith, c.loop-part.invariant.within);
+      grown = rw less (ap (λ xs. c.loop-part.self ++ xs) (rest_past _ c.list.inside.last.items _ c.part-item.result c.loop-part-test.true c.part-item.is c.loop-part.left (omega arith)) ∙ c.loop-part.invariant.grown);
+    }

@@ -1,0 +1,8 @@
+use Rattle.std.proofs.Common.{subst}
+use Rattle.std.specs.List.{All}
+use Rattle.std.proofs.lemmas.List.Elements.{All-tail}
+use Rattle.camp_share.specs.Inside.Parts.{IsPart}
+use Rattle.camp_share.proofs.iters.IterIterator.next.Goals as goal
+
+pub invariant_of-self-in-Some : goal.invariant_of-self-in-Some
+invariant_of-self-in-Some g c = All-tail IsPart _ _ (subst (All IsPart) c.in-Some.ensures.steps c.self.invariant)

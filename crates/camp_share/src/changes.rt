@@ -1,0 +1,248 @@
+ghost use Rattle.std.specs.Prelude.{◌≡◌, ◌+◌, ◌<◌, ◌≤◌, ◌^◌, List, ◌∷◌, [], ◌++◌, length, take, drop, slice_set, IfOk, OnOk};
+ghost use Rattle.std.specs.List.{All, insert, remove};
+ghost use Rattle.camp_share.specs.Inside.Parts.{joined, IsPart, offset, IsPlace};
+
+use crate::Share;
+use crate::growing::{Growing, MAX_PART_LENGTH, Part};
+use std::alloc::{AllocError, Global};
+use std::marker::Model;
+
+// A list that is made from another one: parts that are done, and the elements behind them, which
+// are not yet in parts that may be shared.
+#[derive(Drop)]
+pub(crate) struct Change<T> {
+    parts: Growing<Part<T>>,
+    middle: Growing<T>,
+}
+
+impl<T> Model for Change<T> {
+    ghost use Rattle.std.specs.Prelude.{List, ◌++◌};
+    ghost use Rattle.std.specs.List.{All};
+    ghost use Rattle.camp_share.specs.Inside.Parts.{joined, IsPart};
+
+    ghost Value = { List T };
+
+    ghost view = { λ change. joined change.parts ++ change.middle };
+
+    ghost invariant = { λ change. All IsPart change.parts };
+}
+
+impl<T: Share + Drop> Change<T> {
+    // No element.
+    pub(crate) fn new(alloc: Global) -> Change<T>
+        ensures { result ≡ [] }
+    {
+        Change {
+            parts: Growing::new(alloc),
+            middle: Growing::new(alloc),
+        }
+    }
+
+    // The elements of parts before a place.
+    pub(crate) fn before(
+        parts: &Growing<Part<T>>,
+        index: usize,
+        place: usize,
+    ) -> Result<Change<T>, AllocError>
+        requires parts { All IsPart parts.now }
+        requires place { IsPlace parts.now index place }
+        ensures { IfOk result (λ change. change ≡ take (offset parts.now index place) (joined parts.now)) }
+    {
+        let (index, place) = behind_with_room(parts, index, place);
+        let middle = front_of(parts, index, place)?;
+        let parts = parts.front(index)?;
+        Ok(Change { parts, middle })
+    }
+
+    // Adds an element.
+    pub(crate) fn push(&mut self, item: T) -> Result<(), AllocError>
+        ensures { OnOk result (self.new ≡ self.old ++ item ∷ []) }
+    {
+        self.middle.push(item)
+    }
+
+    // Adds copies of elements.
+    pub(crate) fn push_items(&mut self, items: &[T]) -> Result<(), AllocError>
+        ensures { OnOk result (self.new ≡ self.old ++ items.now) }
+    {
+        self.middle.push_items(items)
+    }
+
+    // All elements, and behind them those of parts from a place on.
+    pub(crate) fn with_rest(
+        mut self,
+        parts: &Growing<Part<T>>,
+        index: usize,
+        place: usize,
+    ) -> Result<Growing<Part<T>>, AllocError>
+        requires parts { All IsPart parts.now }
+        requires place { IsPlace parts.now index place }
+        requires fits { length (joined parts.now) < 2 ^ 64 }
+        ensures items { IfOk result (λ new. joined new ≡ self ++ drop (offset parts.now index place) (joined parts.now)) }
+        ensures parts { IfOk result (λ new. All IsPart new) }
+    {
+        let cut = self.push_cut(parts, index, place)?;
+        let next = self.push_small(parts, cut)?;
+        let mut new = self.into_parts()?;
+        new.push_rest(parts, next)?;
+        Ok(new)
+    }
+
+    // Adds the elements of a part from a place on, and tells where the parts behind begin.
+    fn push_cut(
+        &mut self,
+        parts: &Growing<Part<T>>,
+        index: usize,
+        place: usize,
+    ) -> Result<usize, AllocError>
+        requires parts { All IsPart parts.now }
+        requires place { IsPlace parts.now index place }
+        requires fits { length (joined parts.now) < 2 ^ 64 }
+        ensures within { IfOk result (λ rest. rest ≤ length parts.now) }
+        ensures items { IfOk result (λ rest. self.new ++ joined (drop rest parts.now) ≡ self.old ++ drop (offset parts.now index place) (joined parts.now)) }
+    {
+        if place == 0 {
+            return Ok(index);
+        }
+        let part = parts.at(index);
+        self.middle.push_items(&part[place..])?;
+        Ok(index + 1)
+    }
+
+    // Adds the elements of a part if they fit behind the last ones, and tells where the parts behind begin.
+    fn push_small(&mut self, parts: &Growing<Part<T>>, index: usize) -> Result<usize, AllocError>
+        requires parts { All IsPart parts.now }
+        requires within { index ≤ length parts.now }
+        requires fits { length (joined parts.now) < 2 ^ 64 }
+        ensures within { IfOk result (λ rest. rest ≤ length parts.now) }
+        ensures items { IfOk result (λ rest. self.new ++ joined (drop rest parts.now) ≡ self.old ++ joined (drop index parts.now)) }
+    {
+        if index == parts.len() {
+            return Ok(index);
+        }
+        let part = parts.at(index);
+        if !self.middle.takes(part.len()) {
+            return Ok(index);
+        }
+        self.middle.push_items(part)?;
+        Ok(index + 1)
+    }
+
+    // The parts of all elements.
+    pub(crate) fn into_parts(self) -> Result<Growing<Part<T>>, AllocError>
+        ensures items { IfOk result (λ parts. joined parts ≡ self) }
+        ensures parts { IfOk result (λ parts. All IsPart parts) }
+    {
+        let mut parts = self.parts;
+        self.middle.close_into(&mut parts)?;
+        Ok(parts)
+    }
+}
+
+// The same place, behind the last element of the part before it where that part has room.
+fn behind_with_room<T>(parts: &Growing<Part<T>>, index: usize, place: usize) -> (usize, usize)
+    requires parts { All IsPart parts.now }
+    requires place { IsPlace parts.now index place }
+    ensures place { IsPlace parts.now result.0 result.1 }
+    ensures same { offset parts.now result.0 result.1 ≡ offset parts.now index place }
+{
+    if place > 0 || index == 0 {
+        return (index, place);
+    }
+    let part = parts.at(index - 1);
+    if part.len() >= MAX_PART_LENGTH {
+        return (index, place);
+    }
+    (index - 1, part.len())
+}
+
+// Copies of the elements of a part before a place.
+fn front_of<T: Share + Drop>(
+    parts: &Growing<Part<T>>,
+    index: usize,
+    place: usize,
+) -> Result<Growing<T>, AllocError>
+    requires parts { All IsPart parts.now }
+    requires place { IsPlace parts.now index place }
+    ensures { IfOk result (λ front. joined (take index parts.now) ++ front ≡ take (offset parts.now index place) (joined parts.now)) }
+{
+    if place == 0 {
+        return Ok(Growing::new(parts.allocator()));
+    }
+    Growing::of_part(parts.at(index), place)
+}
+
+// Where an element stands in parts, or the end of them.
+pub(crate) fn place_of<T>(parts: &Growing<Part<T>>, index: usize, len: usize) -> (usize, usize)
+    requires parts { All IsPart parts.now }
+    requires len { len ≡ length (joined parts.now) }
+    requires within { index ≤ len }
+    ensures place { IsPlace parts.now result.0 result.1 }
+    ensures inside { index < len → IsPlace parts.now result.0 (result.1 + 1) }
+    ensures exact { offset parts.now result.0 result.1 ≡ index }
+{
+    if index == len {
+        return (parts.len(), 0);
+    }
+    let (mut count, mut left) = (0, index);
+    for part in parts.iter() {
+        if left < part.len() {
+            break;
+        }
+        left -= part.len();
+        count += 1;
+    }
+    (count, left)
+}
+
+// The parts with an element more at a place.
+pub(crate) fn inserted_at<T: Share + Drop>(
+    parts: &Growing<Part<T>>,
+    index: usize,
+    place: usize,
+    item: T,
+) -> Result<Growing<Part<T>>, AllocError>
+    requires parts { All IsPart parts.now }
+    requires place { IsPlace parts.now index place }
+    requires fits { length (joined parts.now) < 2 ^ 64 }
+    ensures items { IfOk result (λ new. joined new ≡ insert (joined parts.now) (offset parts.now index place) item) }
+    ensures parts { IfOk result (λ new. All IsPart new) }
+{
+    let mut change = Change::before(parts, index, place)?;
+    change.push(item)?;
+    change.with_rest(parts, index, place)
+}
+
+// The parts with another element at a place.
+pub(crate) fn replaced_at<T: Share + Drop>(
+    parts: &Growing<Part<T>>,
+    index: usize,
+    place: usize,
+    item: T,
+) -> Result<Growing<Part<T>>, AllocError>
+    requires parts { All IsPart parts.now }
+    requires place { IsPlace parts.now index (place + 1) }
+    requires fits { length (joined parts.now) < 2 ^ 64 }
+    ensures items { IfOk result (λ new. joined new ≡ slice_set (joined parts.now) (offset parts.now index place) item) }
+    ensures parts { IfOk result (λ new. All IsPart new) }
+{
+    let mut change = Change::before(parts, index, place)?;
+    change.push(item)?;
+    change.with_rest(parts, index, place + 1)
+}
+
+// The parts without the element at a place.
+pub(crate) fn removed_at<T: Share + Drop>(
+    parts: &Growing<Part<T>>,
+    index: usize,
+    place: usize,
+) -> Result<Growing<Part<T>>, AllocError>
+    requires parts { All IsPart parts.now }
+    requires place { IsPlace parts.now index (place + 1) }
+    requires fits { length (joined parts.now) < 2 ^ 64 }
+    ensures items { IfOk result (λ new. joined new ≡ remove (joined parts.now) (offset parts.now index place)) }
+    ensures parts { IfOk result (λ new. All IsPart new) }
+{
+    let change = Change::before(parts, index, place)?;
+    change.with_rest(parts, index, place + 1)
+}
