@@ -8,7 +8,7 @@ use std::alloc::{AllocError, Global};
 pub fn join(alloc: Global, s: &[Named], t: &[Named]) -> Result<Seq, AllocError>
     ensures exact { IfOk result (λ joined. joined ≡ s.now ++ t.now) }
 {
-    let mut joined = Seq::empty(alloc);
+    let mut joined = Seq::with_room(alloc, s.len().saturating_add(t.len()))?;
     push_all(&mut joined, s)?;
     push_all(&mut joined, t)?;
     Ok(joined)

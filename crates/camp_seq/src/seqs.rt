@@ -29,6 +29,14 @@ impl Seq {
         }
     }
 
+    /// The list without a primitive, with room for as many.
+    pub fn with_room(alloc: Global, room: usize) -> Result<Seq, AllocError>
+        ensures exact { IfOk result (λ seq. seq ≡ []) }
+    {
+        let items = Vec::with_capacity(alloc, room)?;
+        Ok(Seq { items })
+    }
+
     /// Puts a primitive behind the others. An error gives it back, and the list is as it was.
     pub fn push(&mut self, p: Named) -> Result<(), AllocFailed<Named>>
         ensures pushed { self.new ≡ (if is_ok result then self.old ++ p ∷ [] else self.old) }
