@@ -1,6 +1,7 @@
 //! How versions are made and put, and how a seat that is behind takes one over.
-ghost use Rattle.std.specs.Prelude.{◌≡◌, ◌<◌, ◌≤◌, ◌+◌, ◌++◌, [], ◌∷◌, length, map, slice_get, All, Some, IfOk, IfSome, OnOk, OnErr, IsTrue};
+ghost use Rattle.std.specs.Prelude.{◌≡◌, ◌<◌, ◌≤◌, ◌+◌, ◌++◌, [], ◌∷◌, length, map, slice_get, All, Some, IfOk, IfErr, IfSome, OnOk, OnErr, IsTrue};
 ghost use Rattle.boxcar.specs.Table.{Shows};
+ghost use Rattle.camp_object.specs.declared.faults.Fault.TheVariants.{Memory};
 ghost use Rattle.camp_history.specs.Versions.{ids, news, list_of, made_of, GoesOn, Adopts, IsMade};
 
 use crate::heads::Head;
@@ -8,7 +9,7 @@ use crate::marks::Mark;
 use crate::seats::Seat;
 use crate::versions::{Made, Slot, Version};
 use boxcar::Pushed;
-use camp_object::Object;
+use camp_object::{Fault, Object};
 use camp_row::{Entry, Row, Trail};
 use camp_share::{Share, Shared, SharedList};
 use std::alloc::AllocError;
@@ -191,17 +192,54 @@ impl<State: Object> Head<State> {
         self.slot_at(position)?.get()
     }
 
-    /// The longest version that goes on from what a seat has seen.
-    fn longest<'a>(&'a self, seat: &mut Seat<State>, trail: &Trail) -> Option<&'a Version<State>>
+    /// The slot of what a seat hands on, if versions are kept.
+    fn slot_of(&self, number: usize) -> Option<&Slot<State>>
+        ensures { IfSome result (λ slot. slot.now.tag ≡ ids self.now.store) }
+    {
+        self.handed_on.get(number)
+    }
+
+    /// What a seat has handed on.
+    fn handed_on_by(&self, number: usize) -> Option<&Version<State>>
+        ensures { IfSome result (λ version. All (λ mark. Shows self.now.store mark.call) version.now) }
+    {
+        self.slot_of(number)?.get()
+    }
+
+    /// The longest version that a seat handed on, of those beyond one position and not beyond another.
+    fn longest_handed_on(&self, seen: u64, reach: u64) -> Option<&Version<State>>
+        ensures { IfSome result (λ version. All (λ mark. Shows self.now.store mark.call) version.now) }
+    {
+        let mut longest = None;
+        let mut most = seen;
+        for number in 0..self.handed_on.len() {
+            let Some(version) = self.handed_on_by(number) else {
+                continue;
+            };
+            let len = version.marks.len() as u64;
+            if most < len && len <= reach {
+                most = len;
+                longest = Some(version);
+            }
+        }
+        longest
+    }
+
+    /// The longest version of those kept beyond a position that goes on from what a seat has seen.
+    fn longest_kept<'a>(
+        &'a self,
+        seat: &mut Seat<State>,
+        trail: &Trail,
+        from: u64,
+    ) -> Option<&'a Version<State>>
         requires seat { IsSeatOf self.now seat.old }
         requires leads { Leads seat.old.known seat.old.known.seen trail.now }
         ensures same { seat.new ≡ seat.old }
         ensures goes_on { IfSome result (λ version. GoesOn seat.old version.now) }
         ensures stored { IfSome result (λ version. All (λ mark. Shows self.now.store mark.call) version.now) }
     {
-        let seen = seat.position();
-        let mut position = seen.saturating_add(trail.len() as u64);
-        while position > seen {
+        let mut position = seat.position().saturating_add(trail.len() as u64);
+        while position > from {
             if let Some(version) = self.version_at(position) {
                 if self.goes_on(seat, trail, version) {
                     return Some(version);
@@ -210,6 +248,29 @@ impl<State: Object> Head<State> {
             position -= 1;
         }
         None
+    }
+
+    /// The longest version that goes on from what a seat has seen: one that was kept, or handed on.
+    fn longest<'a>(&'a self, seat: &mut Seat<State>, trail: &Trail) -> Option<&'a Version<State>>
+        requires seat { IsSeatOf self.now seat.old }
+        requires leads { Leads seat.old.known seat.old.known.seen trail.now }
+        ensures same { seat.new ≡ seat.old }
+        ensures goes_on { IfSome result (λ version. GoesOn seat.old version.now) }
+        ensures stored { IfSome result (λ version. All (λ mark. Shows self.now.store mark.call) version.now) }
+    {
+        if trail.len() == 0 {
+            return None;
+        }
+        let seen = seat.position();
+        let reach = seen.saturating_add(trail.len() as u64);
+        let Some(version) = self.longest_handed_on(seen, reach) else {
+            return self.longest_kept(seat, trail, seen);
+        };
+        if !self.goes_on(seat, trail, version) {
+            return self.longest_kept(seat, trail, seen);
+        }
+        let kept = self.longest_kept(seat, trail, version.marks.len() as u64);
+        kept.or(Some(version))
     }
 
     /// A seat that is behind takes over the longest version that it can.
@@ -255,6 +316,21 @@ impl<State: Object> Head<State> {
             return Ok(());
         }
         seat.adopt(&self.row, &mut trail, &version)
+    }
+
+    /// Hands on what a seat has seen and decided, for seats that are behind: a seat that asks no more
+    /// saves them deciding it. It does so once; where no versions are kept, nothing comes of it. The
+    /// only fault is want of memory: then nothing is handed on, and all else is as it was.
+    pub fn hand_on(&self, seat: &Seat<State>) -> Result<(), Fault>
+        requires { IsSeatOf self.now seat.now }
+        ensures only_memory { IfErr result (λ fault. fault ≡ Memory) }
+    {
+        let Some(slot) = self.slot_of(seat.number() as usize) else {
+            return Ok(());
+        };
+        let version = seat.version()?;
+        let _handed = slot.set(version);
+        Ok(())
     }
 
     /// The version for the position of a call, if one is kept there.

@@ -22,6 +22,8 @@ pub struct Head<State: Object> {
     pub(crate) tries: u32,
     pub(crate) every: u32,
     pub(crate) versions: Vec<Slot<State>>,
+    /// A slot for each seat, by its number, for what it hands on; none where no versions are kept.
+    pub(crate) handed_on: Vec<Slot<State>>,
 }
 
 impl<State: Object> Model for Head<State> {
@@ -51,6 +53,11 @@ fn slot_count(seats: u32, per_seat: u32, every: u32) -> usize
 {
     let most = seats as usize * per_seat as usize;
     most.checked_div(every as usize).unwrap_or(0)
+}
+
+/// A slot for each seat; none where no versions are kept.
+fn handing_count(seats: u32, every: u32) -> usize {
+    if every == 0 { 0 } else { seats as usize }
 }
 
 /// A seat for each pass, which has seen nothing.
@@ -102,14 +109,15 @@ impl<State: Object> Head<State> {
         let (row, passes) = Row::new(alloc, seats, per_seat)?;
         let all = seats_of(alloc, passes)?;
         let calls = boxcar::Vec::new(alloc)?;
-        let count = slot_count(seats, per_seat, every);
-        let versions = slots_of(alloc, &calls, count)?;
+        let versions = slots_of(alloc, &calls, slot_count(seats, per_seat, every))?;
+        let handed_on = slots_of(alloc, &calls, handing_count(seats, every))?;
         let head = Head {
             row,
             calls,
             tries,
             every,
             versions,
+            handed_on,
         };
         Ok((head, all))
     }

@@ -11,3 +11,4 @@ head_id head = record { row = head.row; store = head.calls; tries = head.tries }
 pub record IsHead {State Call Reply : Type 0} (head : Inside State Call Reply) : Type 0 where
   pub tries : 0 < head.tries
   pub slots : All (λ slot. slot.tag ≡ ids head.calls) head.versions.items
+  pub handing : All (λ slot. slot.tag ≡ ids head.calls) head.handed_on.items

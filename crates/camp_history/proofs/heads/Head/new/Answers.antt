@@ -13,7 +13,7 @@ seats_of-requires g c =
     (All-map (λ known. known.seen ≡ []) (newcomer c.in_ok-row.row) (range_with_len 0 c.args.seats) (λ k d lt. refl))
 
 -- the seats are those of their numbers
-numbered : (g : Over) (c : goal.In_ok-versions g) → c.in_ok-all.all.items ≡ map (λ number. unseen (newcomer c.in_ok-row.row number)) (range_with_len 0 c.args.seats)
+numbered : (g : Over) (c : goal.In_ok-handed_on g) → c.in_ok-all.all.items ≡ map (λ number. unseen (newcomer c.in_ok-row.row number)) (range_with_len 0 c.args.seats)
 numbered g c =
     c.in_ok-all.ensures ∙ ap (map unseen) c.in_ok-row.ensures.passes ∙ map-map unseen (newcomer c.in_ok-row.row) (range_with_len 0 c.args.seats)
 
