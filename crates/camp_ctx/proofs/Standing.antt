@@ -1,6 +1,6 @@
 -- What stays as it is where a primitive passes it as it is.
-use Rattle.std.proofs.Common.{◌≡◌, ◌∙◌, ℕ, zero, suc, ◌+◌, ◌<◌, ◌≤◌, length, get_or, Some, Bool, true, false, cond, List, [], ◌∷◌, map, refl, sym, ap, subst, inl, inr, arith}
-use Rattle.std.specs.List.{filter, slice_get}
+use Rattle.std.proofs.Common.{◌≡◌, ◌∙◌, ℕ, suc, ◌<◌, ◌≤◌, length, get_or, Some, None, Bool, true, false, cond, List, [], ◌∷◌, ◌++◌, map, refl, sym, ap, subst, inl, inr, arith}
+use Rattle.std.specs.List.{slice_get}
 use Rattle.std.specs.FinMap.{entries, get-entries, len, len-entries}
 use Rattle.std.specs.FinMap.Entries.{find}
 use Rattle.std.specs.Ordering.{eq_by_cmp}
@@ -16,9 +16,11 @@ use Rattle.camp_seq.specs.Passing.{Fronts, Parts, Passes}
 use Rattle.camp_seq.proofs.MergeGrid.{passes_row}
 use Rattle.camp_seq.proofs.OwnOrders.{chain_is_ordered}
 use Rattle.camp_ctx.specs.Adding.{Adds, commute}
-use Rattle.camp_ctx.specs.Conflicts.{MergesBehindCommon, common_labels, has_label}
-use Rattle.camp_ctx.specs.Contexts.{ChangesAt, ContextedPatches, EachMember, ContextedPatch}
+use Rattle.camp_ctx.specs.Conflicts.{MergesBehindCommon, common_labels, has_label, Conflict}
+use Rattle.camp_ctx.specs.Contexts.{ChangesAt, ContextedPatches, EachMember, ContextedPatch, whole}
+use Rattle.camp_ctx.specs.Inside.Apart.{NoCleanMerge}
 use Rattle.camp_ctx.proofs.CommonLabels.{IsIn, in_from_has}
+use Rattle.camp_ctx.proofs.ConflictSteps.{conflicts_from, merges_as_the_rests}
 use Rattle.camp_ctx.proofs.SetSteps.{members_of}
 
 -- what a primitive passes has other absolute labels
@@ -97,3 +99,14 @@ merge_aside_told s t items others own p first back is one at copy turned theirs 
     let list : inverse_of back ∷ [] ≡ s = ap (λ q. q ∷ []) forth ∙ sym (alone items p one at) ∙ is in
     subst (λ l. MergesBehindCommon l t t l) list
     (merges_aside back t (subst (λ l. Passes back l l back) theirs passes) (subst (λ l. Norm l l) also ordered))
+
+-- patches without a context, with other labels, conflict where they do not merge
+pub clashes : (x y : ContextedPatch) (s t : List Named) (label : Label) → x.context ≡ [] → y.context ≡ [] → s ≡ x.patch ∷ [] → t ≡ y.patch ∷ [] → label ≡ label_of x.patch → has_label t label ≡ false → NoCleanMerge s t → Conflict x y
+clashes x y s t label none also is theirs own other never t' s' w =
+    let first : s ≡ whole x = is ∙ ap (λ c. c ++ x.patch ∷ []) (sym none) in
+    let second : t ≡ whole y = theirs ∙ ap (λ c. c ++ y.patch ∷ []) (sym also) in
+    let labels : common_labels s t ≡ cond (has_label t label) (label_of x.patch ∷ []) [] = ap (λ list. common_labels list t) is ∙ ap (λ l. cond (has_label t l) (label_of x.patch ∷ []) []) (sym own) in
+    let nothing : common_labels s t ≡ [] = labels ∙ ap (λ b. cond b (label_of x.patch ∷ []) []) other in
+    let front = no_split (common_labels s t) s nothing (subst (λ list. Norm list list) (sym is) (chain_is_ordered (x.patch ∷ []) (tt, tt))) in
+    let behind = no_split (common_labels s t) t nothing (subst (λ list. Norm list list) (sym theirs) (chain_is_ordered (y.patch ∷ []) (tt, tt))) in
+    conflicts_from s t x y first second (merges_as_the_rests s t (common_labels s t) refl [] [] s t front behind refl None (λ pair. never pair.0 pair.1)) t' s' w

@@ -17,6 +17,9 @@ use std::slice;
 pub fn conflict(x: &Contexted, y: &Contexted) -> Result<bool, AllocError>
     ensures exact { IfOk result (λ found. IsTrue found ↔ Conflict x.now y.now) }
 {
+    if clash(x, y)? {
+        return Ok(true);
+    }
     let first = whole(x)?;
     let second = whole(y)?;
     if stand_aside(&first, &second)? {
@@ -27,6 +30,32 @@ pub fn conflict(x: &Contexted, y: &Contexted) -> Result<bool, AllocError>
         None => Ok(true),
         Some(_) => Ok(false),
     }
+}
+
+/// Whether a look tells that two patches without a context conflict: they have other labels, and don't
+/// merge. Where it says no, they may still do.
+fn clash(x: &Contexted, y: &Contexted) -> Result<bool, AllocError>
+    ensures { IfOk result (λ yes. IsTrue yes → Conflict x.now y.now) }
+{
+    if !has_no_context(x) {
+        return Ok(false);
+    }
+    if !has_no_context(y) {
+        return Ok(false);
+    }
+    let second = slice::from_ref(y.patch());
+    if has_label(second, &x.patch().label()) {
+        return Ok(false);
+    }
+    let stop = stop_each_other(slice::from_ref(x.patch()), second)?;
+    Ok(stop)
+}
+
+/// Whether a contexted patch is seen from the state where it stands.
+fn has_no_context(x: &Contexted) -> bool
+    ensures { IsTrue result ↔ (x.now.context ≡ []) }
+{
+    x.context().items().is_empty()
 }
 
 /// Whether a look tells that a list of one primitive merges with another list, and both stay as they
