@@ -159,7 +159,7 @@ fn at_desk<'r, 'h, 's, 'g, R: Wait, State: Object, G: Gate>(
     ask_all(alloc, desk, calls)
 }
 
-/// A client asks its section.
+/// A client asks its section, and then hands on what it has seen, if there is memory for that.
 fn run_client<R: Wait, State: Object, G: Gate>(
     rt: &R,
     alloc: Global,
@@ -179,6 +179,7 @@ fn run_client<R: Wait, State: Object, G: Gate>(
     } = client;
     let calls = &sections[seat.number() as usize];
     let answers = at_seat::<R, State, G>(rt, alloc, head, &mut seat, gate, calls)?;
+    let _handed = head.hand_on(&seat);
     Ok(Client { seat, answers })
 }
 
