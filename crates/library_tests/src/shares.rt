@@ -5,8 +5,8 @@ use std::alloc::{AllocError, Global};
 use std::marker::Model;
 use std::test::Fail;
 
-/// Around none, one, two and three parts of 64.
-const LENGTHS: [u32; 6] = [0, 1, 63, 64, 65, 130];
+/// Around none, one and two parts of 32, and around one and two parts of 32 such parts.
+const LENGTHS: [u32; 11] = [0, 1, 31, 32, 33, 65, 1_023, 1_024, 1_025, 1_057, 2_049];
 
 /// An element, and a key in the order of its number.
 #[derive(Clone, Copy, PartialEq, Eq, PartialOrd, Ord)]
