@@ -14,6 +14,7 @@
 //! | `history`, `history SEAT` | the accepted calls of the book, or what a seat has seen |
 //! | `seen SEAT`, `meet SEAT SEAT` | how much a seat has seen; the first seat meets the second |
 //! | `adopted SEAT` | how many versions the seat has adopted |
+//! | `hand-on SEAT` | the seat hands on what it has seen |
 //! | `run book`, `run locked`, `run head` | the script below, up to an empty line |
 //! | `run locked ranked`, `run head ranked` | the same, whatever the order of its clients |
 //!

@@ -29,15 +29,17 @@ enum Word {
     Meet,
     Seen,
     Adopted,
+    HandOn,
 }
 
-const WORDS: [(&[u8], Word); 6] = [
+const WORDS: [(&[u8], Word); 7] = [
     (b"book", Word::Book),
     (b"head", Word::Head),
     (b"history", Word::History),
     (b"meet", Word::Meet),
     (b"seen", Word::Seen),
     (b"adopted", Word::Adopted),
+    (b"hand-on", Word::HandOn),
 ];
 
 /// Whether an entry is none of a table of values: it begins with one of these words or with `run`, or is a
@@ -144,6 +146,7 @@ impl Stage {
             Word::Meet => self.meet(rest, text, wants),
             Word::Seen => self.tell_seen(alloc, rest, text, wants),
             Word::Adopted => self.tell_adopted(alloc, rest, text, wants),
+            Word::HandOn => self.seating()?.hand_on(number(rest)?, wants),
         }
     }
 

@@ -44,6 +44,18 @@ impl Seating {
         }
     }
 
+    /// A seat hands on what it has seen. Where that wanted memory, it does so again.
+    pub(crate) fn hand_on(&self, number: u32, wants: &mut Wants) -> Result<(), PlayFault> {
+        let Some(at) = find(&self.seats, number) else {
+            return Err(NO_SEAT);
+        };
+        if self.head.hand_on(&self.seats[at]).is_err() {
+            wants.note();
+            self.head.hand_on(&self.seats[at])?;
+        }
+        Ok(())
+    }
+
     /// Keeps a call and asks it at a seat.
     pub(crate) fn ask<R: Wait>(
         &mut self,
