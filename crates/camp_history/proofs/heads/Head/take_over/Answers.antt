@@ -8,6 +8,12 @@ use Rattle.camp_history.specs.Inside.Steps.{SeesMore, entries_of}
 use Rattle.camp_history.proofs.Versioned.{adopting_more, adopting_of, list_stored}
 use Rattle.camp_history.proofs.heads.Head.take_over.Goals as goal
 
+pub goes_on-requires-clause-version : goal.goes_on-requires-clause-version
+goes_on-requires-clause-version g c =
+    let head = c.args.self.now in
+    let other = c.args.other.now in
+    All-same (λ mark. Shows head.store mark.call) c.in_ok-version.version (list_of other) c.in_ok-version.ensures (list_stored head other c.requires.other)
+
 pub returns-clause-of : goal.returns-clause-of
 returns-clause-of g c =
     let head = c.args.self.now in
