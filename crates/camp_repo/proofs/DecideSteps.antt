@@ -1,5 +1,5 @@
 -- What the functions that decide have found, and what the step is then.
-use Rattle.std.proofs.Common.{◌≡◌, ℕ, true, false, List, ◌++◌, Option, None, Some, MatchOption, IfOk, Result, Ok, Err, is_some, bytes_eq, refl, sym, ap, ◌∙◌}
+use Rattle.std.proofs.Common.{◌≡◌, ℕ, true, false, List, ◌++◌, Option, None, Some, MatchOption, IfOk, IfErr, Result, Ok, Err, is_some, bytes_eq, refl, sym, ap, ◌∙◌}
 use Rattle.camp_base.specs.Trees.{Files}
 use Rattle.camp_prim.specs.declared.primitives.Primitive.{Primitive}
 use Rattle.camp_catch.specs.declared.catches.Catch.{Catch}
@@ -24,6 +24,11 @@ use Rattle.camp_repo.proofs.ByMembers.{AreAlike, obliterate_alike, pull_alike}
 use Rattle.camp_repo.proofs.StateSteps.{settled_by_name}
 use Rattle.camp_repo.proofs.StepsLawful.{steps_lawful}
 use Rattle.camp_repo.proofs.TreeSteps.{tree_found}
+
+-- where a call may want memory, it may want it whatever it comes to
+pub may_want : {A E : Type 0} {W : Type 0} (result : Result A E) → W → IfErr result (λ error. W)
+may_want (Ok done) w = tt
+may_want (Err error) w = w
 
 -- what no match finds
 pub none_found : {X : Type 0} (P : Type 0) (Q : X → Type 0) (o : Option X) → MatchOption o P Q → is_some o ≡ false → P
