@@ -1,23 +1,27 @@
 ghost use Rattle.std.specs.Prelude.{◌≡◌, List, ℕ};
 ghost use Rattle.std.proofs.Common.{refl, ◌∙◌};
-ghost use Rattle.camp_object.specs.Asking.{Ask, Caller, alone_at};
+ghost use Rattle.camp_object.specs.Asking.{Ask, Caller, IsNotBusy, alone_at};
 
 use crate::{Book, Fault, Object};
 
 /// Where one caller asks an object. Its calls are answered at a history that others may lengthen.
-/// Proofs see who asks (`caller`), the history that it has seen (`seen`), and whether one desk is
-/// another at a later moment (`keeps`): what the desk lends stays the same.
+/// Proofs see who asks (`caller`), the history that it has seen (`seen`), whether nobody else can ask
+/// (`is_only`), and whether one desk is another at a later moment (`keeps`): what the desk lends stays
+/// the same.
 pub trait Desk<State: Object> {
     ghost caller: { Self → Caller };
 
     ghost seen: { Self → List (ℕ × State.Call) };
+
+    ghost is_only: { Self → Type 0 };
 
     ghost keeps: { Self → Self → Type 0 };
 
     fn ask(&mut self, call: &State::Call) -> Result<State::Reply, Fault>
         ensures keeps { keeps self.old self.new }
         ensures caller { caller self.new ≡ caller self.old }
-        ensures asks { Ask State.object (caller self.old) (seen self.old) call.now result (seen self.new) };
+        ensures asks { Ask State.object (caller self.old) (seen self.old) call.now result (seen self.new) }
+        ensures only { is_only self.old → IsNotBusy result };
 
     ghost reflexive: { (desk : Self) → keeps desk desk };
 
@@ -45,6 +49,8 @@ impl<'a, State: Object> Desk<State> for BookDesk<'a, State> {
     ghost caller = { λ desk. alone_at desk.seat };
 
     ghost seen = { λ desk. desk.book.now };
+
+    ghost is_only = { λ desk. Unit {0} };
 
     ghost keeps = { λ desk later. later.book.ghost_name ≡ desk.book.ghost_name };
 
