@@ -1,3 +1,4 @@
+mod Common
 pub mod Cells
 pub mod Dealing
 pub mod Drafting
