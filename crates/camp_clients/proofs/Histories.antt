@@ -1,9 +1,5 @@
 -- Lemmas on histories: their parts, and the calls of a seat in them.
-use Rattle.std.proofs.Common.{◌≡◌, ℕ, ◌==◌, true, List, [], ◌∷◌, ◌++◌, Some, IsSome, refl, sym, ◌∙◌, ap, subst, inl, inr}
-use Rattle.std.proofs.lemmas.List.{append-nil, append_cancel_left}
-use Rattle.std.proofs.lemmas.Bool.Decides.{eqb_tells}
-use Rattle.camp_object.specs.Histories.{IsFront, IsLegal, IsAccepted, own}
-use Rattle.camp_object.specs.Objects.{Sequential}
+use Rattle.camp_clients.proofs.Common.{◌≡◌, ℕ, ◌==◌, true, List, [], ◌∷◌, ◌++◌, Some, IsSome, refl, sym, ◌∙◌, ap, subst, inl, inr, append-nil, append_cancel_left, eqb_tells, IsFront, IsLegal, IsAccepted, own, Sequential}
 use Rattle.camp_object.proofs.Replays.{own-append, run-append}
 
 pub same_seat : (seat : ℕ) → (seat == seat) ≡ true

@@ -1,22 +1,10 @@
 -- Lemmas on a section whose calls stand in a history one after the other, with nothing between them.
-use Rattle.std.proofs.Common.{◌≡◌, ℕ, ◌+◌, ◌<◌, List, [], ◌∷◌, ◌++◌, length, Option, None, Some, Result, Ok, Err, MatchOption, refl, sym, ◌∙◌, ap, subst, append_assoc, inl, inr, arith}
+use Rattle.camp_clients.proofs.Common.{◌≡◌, ℕ, ◌+◌, ◌<◌, List, [], ◌∷◌, ◌++◌, length, Option, None, Some, Result, Ok, Err, MatchOption, refl, sym, ◌∙◌, ap, subst, append_assoc, inl, inr, arith, All-same, cases_lt, All, IsFront, IsAnswered, own, Sequential, Fault, Memory, Busy, Full, IsDone, IsOvertaken, SaysAmongThreads, SaysAlone, told, own_at, where_done, done_at, Section, front_front, own-append}
 use Rattle.std.proofs.lemmas.List.{length-append, get_or-append-add}
-use Rattle.std.proofs.lemmas.List.Elements.{All-same}
-use Rattle.std.proofs.lemmas.Bool.{cases_lt}
-use Rattle.std.specs.List.{All}
-use Rattle.camp_object.specs.Histories.{IsFront, IsAnswered, own}
-use Rattle.camp_object.specs.Objects.{Sequential}
-use Rattle.camp_object.specs.declared.faults.Fault.{Fault}
-use Rattle.camp_object.specs.declared.faults.Fault.TheVariants.{Memory, Busy, Full}
 use Rattle.camp_object.proofs.Fronts.{front_whole, length-front}
 use Rattle.camp_object.proofs.Replays.{length-own-all, length-own-within}
-use Rattle.camp_clients.specs.Answers.{IsDone, IsOvertaken, SaysAmongThreads, SaysAlone, told}
-use Rattle.camp_clients.specs.Positions.{own_at, where_done, done_at}
 use Rattle.camp_clients.specs.Runs.{HasOpening}
-use Rattle.camp_clients.specs.Sections.{Section}
 use Rattle.camp_clients.proofs.Fronts.{says_grows, section_front}
-use Rattle.camp_object.proofs.Fronts.{front_front}
-use Rattle.camp_object.proofs.Replays.{own-append}
 use Rattle.camp_clients.proofs.Positions.{own_at_first, own_at_mine, same_first}
 
 -- what holds of all elements holds of those behind a front

@@ -1,21 +1,10 @@
 -- The opening of a run over a head runs alone.
-use Rattle.std.proofs.Common.{◌≡◌, ℕ, suc, ◌+◌, ◌<◌, ◌≤◌, ◌==◌, eq-eqb, true, false, cond, List, [], ◌∷◌, ◌++◌, length, Option, None, Some, Result, Ok, Err, MatchOption, refl, sym, ◌∙◌, ap, subst, inl, inr, arith}
+use Rattle.camp_clients.proofs.Common.{◌≡◌, ℕ, suc, ◌+◌, ◌<◌, ◌≤◌, ◌==◌, eq-eqb, true, false, cond, List, [], ◌∷◌, ◌++◌, length, Option, None, Some, Result, Ok, Err, MatchOption, refl, sym, ◌∙◌, ap, subst, inl, inr, arith, cases_lt, append-nil, IsFront, IsAnswered, own, Sequential, Fault, length-front, IsDone, SaysAmongThreads, told, own_at, where_done, done_at, section_of, Section, front_self}
 use Rattle.std.proofs.Math.ListN.{get_or-append}
-use Rattle.std.proofs.lemmas.Bool.{cases_lt}
-use Rattle.std.proofs.lemmas.List.{append-nil}
 use Rattle.std.proofs.lemmas.List.Elements.{All-cons, All-nil, All-same}
 use Rattle.std.specs.List.{All, AllByRecursion}
-use Rattle.camp_object.specs.Histories.{IsFront, IsAnswered, own}
-use Rattle.camp_object.specs.Objects.{Sequential}
-use Rattle.camp_object.specs.declared.faults.Fault.{Fault}
-use Rattle.camp_object.proofs.Fronts.{length-front}
-use Rattle.camp_clients.specs.Answers.{IsDone, SaysAmongThreads, told}
 use Rattle.camp_clients.specs.Laws.{OpeningIsAlone}
-use Rattle.camp_clients.specs.Positions.{own_at, where_done, done_at}
-use Rattle.camp_clients.specs.Runs.{section_of}
-use Rattle.camp_clients.specs.Sections.{Section}
 use Rattle.camp_clients.proofs.Fronts.{says_grows, section_front}
-use Rattle.camp_object.proofs.Fronts.{front_self}
 use Rattle.camp_clients.proofs.OneSection.{section_behind, section_is_alone}
 use Rattle.camp_clients.proofs.Positions.{own_at-append, own_at_behind}
 

@@ -1,8 +1,6 @@
 -- Lemmas on vectors of vectors as lists of lists.
-use Rattle.std.proofs.Common.{◌≡◌, ℕ, ◌+◌, ◌<◌, List, [], ◌∷◌, ◌++◌, length, take, get_or, map, refl, sym, ◌∙◌, ap}
+use Rattle.camp_clients.proofs.Common.{◌≡◌, ℕ, ◌+◌, ◌<◌, List, [], ◌∷◌, ◌++◌, length, take, get_or, map, refl, sym, ◌∙◌, ap, Vec, vec_items, lists_of, section_of}
 use Rattle.std.proofs.lemmas.List.{take_more, map_push, get_or-map, length-map}
-use Rattle.std.specs.Prelude.{Vec, vec_items}
-use Rattle.camp_clients.specs.Runs.{lists_of, section_of}
 
 module _ {X Z : Type 0} where
   -- the section of a seat is what its vector has

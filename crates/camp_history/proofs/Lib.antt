@@ -1,3 +1,4 @@
+mod Common
 pub mod Marked
 pub mod Seeing
 pub mod Asked

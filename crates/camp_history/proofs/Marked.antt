@@ -1,11 +1,6 @@
 -- Lemmas on the marks of a seat.
 use Rattle.std.proofs.Common.{◌≡◌, ℕ, ◌+◌, ◌<◌, Bool, true, false, List, [], ◌∷◌, ◌++◌, length, map, filter, cond, suc, refl, sym, ◌∙◌, ap, arith, ◌==◌, if◌then◌else◌}
-use Rattle.std.proofs.lemmas.List.{map-append}
-use Rattle.camp_object.specs.Histories.{own}
-use Rattle.camp_row.specs.Chains.{turns}
-use Rattle.camp_history.specs.Seats.{asked}
-use Rattle.camp_history.specs.Inside.Steps.{entry_of}
-use Rattle.camp_history.specs.declared.marks.Mark.{Mark}
+use Rattle.camp_history.proofs.Common.{map-append, own, turns, asked, entry_of, Mark}
 
 -- a seat has as many calls as it has entries
 pub length-own : {Call : Type 0} (seat : ℕ) (marks : List (Mark Call)) → length (own seat (map asked marks)) ≡ turns seat (map entry_of marks)

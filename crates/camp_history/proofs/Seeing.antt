@@ -1,20 +1,10 @@
 -- Lemmas on what a seat sees.
-use Rattle.std.proofs.Common.{◌≡◌, ◌≢◌, ℕ, ◌+◌, ◌<◌, ◌≤◌, List, [], ◌∷◌, ◌++◌, length, map, All, Option, None, Some, refl, sym, ◌∙◌, ap, subst, arith}
-use Rattle.std.proofs.lemmas.List.Elements.{All-push, All-same}
-use Rattle.std.proofs.lemmas.List.{append_assoc, map-append, length-map}
-use Rattle.boxcar.specs.Table.{Shows}
-use Rattle.camp_object.specs.Objects.{Sequential, IsLawfulObject}
-use Rattle.camp_object.specs.Histories.{IsFront, replay, own}
-use Rattle.camp_object.specs.Deciding.{Decides}
+use Rattle.camp_history.proofs.Common.{◌≡◌, ◌≢◌, ℕ, ◌+◌, ◌<◌, ◌≤◌, List, [], ◌∷◌, ◌++◌, length, map, All, Option, None, Some, refl, sym, ◌∙◌, ap, subst, arith, All-push, All-same, append_assoc, map-append, length-map, Shows, Sequential, IsLawfulObject, IsFront, replay, own, Decides, Entry, HeadId, Seated, asked, history_of, IsSeatOf, Mark, entry_of, DecidesAt, SeesNext, SeesMore}
 use Rattle.camp_object.specs.declared.objects.Decided.{Decided}
 use Rattle.camp_object.proofs.Fronts.{front_self, front_front, front_append}
 use Rattle.camp_object.proofs.Replays.{own_other, count-replay}
 use Rattle.camp_row.specs.Known.{Known, Leads, ComesNext}
-use Rattle.camp_row.specs.declared.entries.Entry.{Entry}
 use Rattle.camp_row.specs.declared.trails.Next.{Next}
-use Rattle.camp_history.specs.Seats.{HeadId, Seated, asked, history_of, IsSeatOf}
-use Rattle.camp_history.specs.declared.marks.Mark.{Mark}
-use Rattle.camp_history.specs.Inside.Steps.{entry_of, DecidesAt, SeesNext, SeesMore}
 use Rattle.camp_history.proofs.Marked.{map_more}
 
 -- a list of marks with one more

@@ -1,16 +1,12 @@
 -- Lemmas on seats that meet.
 use Rattle.std.proofs.Common.{◌≡◌, ℕ, zero, suc, ◌+◌, ◌≤◌, ◌⊎◌, inl, inr, List, [], ◌∷◌, ◌++◌, length, map, Result, Ok, Err, OnOk, IfErr, refl, sym, ◌∙◌, ap, subst, arith}
 use Rattle.std.proofs.lemmas.List.{length-map, length-append, append-nil, nil_from_length}
-use Rattle.camp_object.specs.Histories.{IsFront, own}
-use Rattle.camp_object.specs.declared.faults.Fault.{Fault}
-use Rattle.camp_object.specs.declared.faults.Fault.TheVariants.{Memory}
+use Rattle.camp_history.proofs.Common.{IsFront, own, Fault, Memory, Seated, asked, history_of, entry_of, entries_of, SeesMore}
 use Rattle.camp_object.proofs.Fronts.{front_front, front_shorter, length-front}
 use Rattle.camp_object.proofs.Replays.{own-append}
 use Rattle.camp_row.specs.Chains as chain
 use Rattle.camp_row.specs.Known.{FindsChain}
 use Rattle.camp_history.specs.Meeting.{Meets}
-use Rattle.camp_history.specs.Seats.{Seated, asked, history_of}
-use Rattle.camp_history.specs.Inside.Steps.{entry_of, entries_of, SeesMore}
 use Rattle.camp_history.proofs.Marked.{length-own}
 use Rattle.camp_history.proofs.Seeing.{history_front}
 

@@ -1,8 +1,4 @@
-use Rattle.std.proofs.Common.{◌≡◌, ℕ, ◌<◌, ◌≤◌, length, take, get_or}
-use Rattle.camp_clients.specs.Answers.{told}
-use Rattle.camp_clients.specs.Comparing.{IsFound}
-use Rattle.camp_clients.specs.Positions.{own_at, done_at}
-use Rattle.camp_clients.specs.Runs.{lists_of, section_of}
+use Rattle.camp_clients.proofs.Common.{◌≡◌, ℕ, ◌<◌, ◌≤◌, length, take, get_or, told, IsFound, own_at, done_at, lists_of, section_of}
 use Rattle.camp_clients.proofs.comparisons.has_exactly.Given as goal
 
 abbrev pub invariant-loop-before : goal.invariant-loop-before

@@ -1,5 +1,4 @@
-use Rattle.std.proofs.Common.{◌∙◌, sym, arith}
-use Rattle.camp_clients.specs.Answers.{told}
+use Rattle.camp_clients.proofs.Common.{◌∙◌, sym, arith, told}
 use Rattle.camp_clients.proofs.Positions.{done_at_more, done_at_end}
 use Rattle.camp_clients.proofs.comparisons.next_done.Goals as goal
 

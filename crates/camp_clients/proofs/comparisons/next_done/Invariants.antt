@@ -1,6 +1,4 @@
-use Rattle.std.proofs.Common.{◌≡◌, drop}
-use Rattle.camp_clients.specs.Answers.{told}
-use Rattle.camp_clients.specs.Positions.{done_at}
+use Rattle.camp_clients.proofs.Common.{◌≡◌, drop, told, done_at}
 use Rattle.camp_clients.proofs.comparisons.next_done.Given as goal
 
 abbrev pub invariant-loop-place : goal.invariant-loop-place

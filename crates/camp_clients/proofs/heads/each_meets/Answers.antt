@@ -1,8 +1,4 @@
-use Rattle.std.proofs.Common.{sym, ◌∙◌, subst, refl}
-use Rattle.camp_object.specs.Histories.{IsFront}
-use Rattle.camp_history.specs.Seats.{IsSeatOf, history_of}
-use Rattle.camp_clients.specs.Clients.{sight_of}
-use Rattle.camp_clients.specs.Meeting.{HasMet}
+use Rattle.camp_clients.proofs.Common.{sym, ◌∙◌, subst, refl, IsFront, IsSeatOf, history_of, sight_of, HasMet}
 use Rattle.camp_clients.proofs.Gathering.{zip_push, all_first, all_rest, ok_holds}
 use Rattle.camp_clients.proofs.heads.each_meets.Goals as goal
 

@@ -1,8 +1,4 @@
-use Rattle.std.proofs.Common.{◌≡◌}
-use Rattle.std.specs.List.{All, AllZip}
-use Rattle.camp_history.specs.Seats.{IsSeatOf, history_of}
-use Rattle.camp_clients.specs.Clients.{sight_of}
-use Rattle.camp_clients.specs.Meeting.{HasMet}
+use Rattle.camp_clients.proofs.Common.{◌≡◌, All, AllZip, IsSeatOf, history_of, sight_of, HasMet}
 use Rattle.camp_clients.proofs.heads.each_meets.Given as goal
 
 abbrev pub invariant-loop-client : goal.invariant-loop-client

@@ -1,10 +1,5 @@
-use Rattle.std.proofs.Common.{◌≡◌, sym, ◌∙◌, subst, refl}
-use Rattle.camp_object.specs.Histories.{IsFront, own}
-use Rattle.camp_history.specs.Seats.{IsSeatOf, history_of}
-use Rattle.camp_clients.specs.Clients.{sight_of}
-use Rattle.camp_clients.specs.Meeting.{IsMet}
+use Rattle.camp_clients.proofs.Common.{◌≡◌, sym, ◌∙◌, subst, refl, IsFront, own, IsSeatOf, history_of, sight_of, IsMet, front_front, front_self}
 use Rattle.camp_clients.proofs.Gathering.{zip_push, all_first, all_rest, ok_holds}
-use Rattle.camp_object.proofs.Fronts.{front_front, front_self}
 use Rattle.camp_clients.proofs.Meeting.{met_still}
 use Rattle.camp_clients.proofs.heads.meets_each.Goals as goal
 

@@ -1,9 +1,4 @@
-use Rattle.std.proofs.Common.{◌≡◌}
-use Rattle.std.specs.List.{All, AllZip}
-use Rattle.camp_object.specs.Histories.{IsFront, own}
-use Rattle.camp_history.specs.Seats.{IsSeatOf, history_of}
-use Rattle.camp_clients.specs.Clients.{sight_of}
-use Rattle.camp_clients.specs.Meeting.{IsMet}
+use Rattle.camp_clients.proofs.Common.{◌≡◌, All, AllZip, IsFront, own, IsSeatOf, history_of, sight_of, IsMet}
 use Rattle.camp_clients.proofs.heads.meets_each.Given as goal
 
 abbrev pub invariant-loop-client : goal.invariant-loop-client

@@ -1,5 +1,4 @@
-use Rattle.std.proofs.Common.{◌≡◌}
-use Rattle.std.specs.List.{AllZip}
+use Rattle.camp_clients.proofs.Common.{◌≡◌, AllZip}
 use Rattle.camp_clients.proofs.heads.new_clients.Given as goal
 
 abbrev pub invariant-loop-seat : goal.invariant-loop-seat

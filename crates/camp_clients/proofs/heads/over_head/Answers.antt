@@ -1,11 +1,5 @@
-use Rattle.std.proofs.Common.{◌≡◌, ℕ, ◌<◌, [], length, refl, sym, ◌∙◌, ap, subst, arith}
-use Rattle.camp_object.specs.Histories.{IsFront, IsLegal, own}
-use Rattle.camp_clients.specs.Answers.{Asks}
-use Rattle.camp_history.specs.Seats.{IsSeatOf, history_of}
-use Rattle.camp_clients.specs.Clients.{sight_of}
+use Rattle.camp_clients.proofs.Common.{◌≡◌, ℕ, ◌<◌, [], length, refl, sym, ◌∙◌, ap, subst, arith, IsFront, IsLegal, own, Asks, IsSeatOf, history_of, sight_of, lists_of, section_of, Section}
 use Rattle.camp_clients.specs.Meeting.{Ran, IsMet, HasMet, caller_of}
-use Rattle.camp_clients.specs.Runs.{lists_of, section_of}
-use Rattle.camp_clients.specs.Sections.{Section}
 use Rattle.camp_clients.proofs.Gathering.{zip_all, zip_length}
 use Rattle.camp_clients.proofs.Meeting.{can_begin, clients_hold, none_other, shared_run}
 use Rattle.camp_clients.proofs.Vectors.{lists_map, section_at, length-lists_of}

@@ -1,6 +1,4 @@
-use Rattle.std.proofs.Common.{◌≡◌, ◌≤◌, [], sym, subst, arith, count_by}
-use Rattle.std.specs.List.{All}
-use Rattle.camp_history.specs.Seats.{IsSeatOf, history_of}
+use Rattle.camp_clients.proofs.Common.{◌≡◌, ◌≤◌, [], sym, subst, arith, count_by, All, IsSeatOf, history_of}
 use Rattle.camp_clients.proofs.Gathering.{behind_first, zip_length}
 use Rattle.camp_clients.proofs.Opening.{opened_length, opened_seat}
 use Rattle.camp_clients.proofs.heads.over_new_head.Goals as goal

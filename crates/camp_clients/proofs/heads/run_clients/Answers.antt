@@ -1,7 +1,4 @@
-use Rattle.std.proofs.Common.{sym, ◌∙◌}
-use Rattle.camp_clients.specs.Clients.{sight_of}
-use Rattle.camp_clients.specs.Meeting.{Ran}
-use Rattle.camp_clients.specs.Runs.{lists_of}
+use Rattle.camp_clients.proofs.Common.{sym, ◌∙◌, sight_of, Ran, lists_of}
 use Rattle.camp_clients.proofs.Gathering.{ok_map, gathered_alone}
 use Rattle.camp_clients.proofs.Meeting.{zip_granted}
 use Rattle.camp_clients.proofs.heads.run_clients.Goals as goal

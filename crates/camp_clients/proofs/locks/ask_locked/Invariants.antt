@@ -1,6 +1,4 @@
-use Rattle.std.proofs.Common.{take}
-use Rattle.std.specs.List.{AllZip}
-use Rattle.camp_clients.specs.Runs.{SaysSomewhere}
+use Rattle.camp_clients.proofs.Common.{take, AllZip, SaysSomewhere}
 use Rattle.camp_clients.proofs.locks.ask_locked.Given as goal
 
 abbrev pub invariant-loop-call : goal.invariant-loop-call

@@ -1,6 +1,4 @@
-use Rattle.std.proofs.Common.{[], take, zero-add, arith}
-use Rattle.std.proofs.lemmas.List.{length-take-le}
-use Rattle.camp_clients.specs.Runs.{lists_of}
+use Rattle.camp_clients.proofs.Common.{[], take, zero-add, arith, length-take-le, lists_of}
 use Rattle.camp_clients.proofs.Fronts.{one_by_one_push}
 use Rattle.camp_clients.proofs.Vectors.{lists_more, lists_push, length-lists_of}
 use Rattle.camp_clients.proofs.one_by_one.serial.Goals as goal

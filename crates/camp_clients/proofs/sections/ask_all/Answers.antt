@@ -1,6 +1,5 @@
-use Rattle.std.proofs.Common.{◌∙◌}
+use Rattle.camp_clients.proofs.Common.{◌∙◌, front_front}
 use Rattle.camp_clients.proofs.Fronts.{section_grows, section_more, room_more}
-use Rattle.camp_object.proofs.Fronts.{front_front}
 use Rattle.camp_clients.proofs.sections.ask_all.Goals as goal
 
 pub returns-in_err-unless_memory-clause-grows : goal.returns-in_err-unless_memory-clause-grows

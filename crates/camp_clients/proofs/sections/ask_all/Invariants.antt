@@ -1,7 +1,4 @@
-use Rattle.std.proofs.Common.{◌≡◌, ◌+◌, ◌≤◌, false, length, count_by, drop, take}
-use Rattle.camp_object.specs.Histories.{own}
-use Rattle.camp_clients.specs.Answers.{Asks}
-use Rattle.camp_clients.specs.Sections.{Section}
+use Rattle.camp_clients.proofs.Common.{◌≡◌, ◌+◌, ◌≤◌, false, length, count_by, drop, take, own, Asks, Section}
 use Rattle.camp_clients.proofs.sections.ask_all.Given as goal
 
 abbrev pub invariant-loop-call : goal.invariant-loop-call

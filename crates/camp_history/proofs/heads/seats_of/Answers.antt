@@ -1,7 +1,4 @@
-use Rattle.std.proofs.Common.{◌≡◌, [], ◌∷◌, ◌++◌, map, All, sym, ap, ◌∙◌}
-use Rattle.std.proofs.lemmas.List.{append_assoc}
-use Rattle.std.proofs.lemmas.List.Elements.{All-rest}
-use Rattle.camp_history.specs.Seats.{unseen}
+use Rattle.camp_history.proofs.Common.{◌≡◌, [], ◌∷◌, ◌++◌, map, All, sym, ap, ◌∙◌, append_assoc, All-rest, unseen}
 use Rattle.camp_history.proofs.Marked.{map_more}
 use Rattle.camp_history.proofs.heads.seats_of.Goals as goal
 

@@ -1,5 +1,4 @@
-use Rattle.std.proofs.Common.{◌≡◌, [], ◌++◌, map, All}
-use Rattle.camp_history.specs.Seats.{unseen}
+use Rattle.camp_history.proofs.Common.{◌≡◌, [], ◌++◌, map, All, unseen}
 use Rattle.camp_history.proofs.heads.seats_of.Given as goal
 
 abbrev pub invariant-loop-pass : goal.invariant-loop-pass

@@ -1,5 +1,4 @@
-use Rattle.std.proofs.Common.{◌≡◌, All}
-use Rattle.camp_history.specs.Versions.{ids}
+use Rattle.camp_history.proofs.Common.{◌≡◌, All, ids}
 use Rattle.camp_history.proofs.versions.slots_of.Given as goal
 
 abbrev pub invariant-loop : goal.invariant-loop

@@ -1,6 +1,4 @@
-use Rattle.std.proofs.Common.{◌≡◌, sym, ◌∙◌, subst}
-use Rattle.camp_history.specs.Versions.{GoesOn}
-use Rattle.camp_history.specs.Inside.Steps.{SeesMore}
+use Rattle.camp_history.proofs.Common.{◌≡◌, sym, ◌∙◌, subst, GoesOn, SeesMore}
 use Rattle.camp_history.proofs.Versioned.{adopting_more}
 use Rattle.camp_history.proofs.heads.Head.adopt.Goals as goal
 

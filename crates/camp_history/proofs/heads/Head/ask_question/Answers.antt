@@ -1,7 +1,5 @@
-use Rattle.camp_object.specs.declared.objects.Decided.TheVariants.{Answer}
+use Rattle.camp_history.proofs.Common.{Answer, history_of, caller_at, DecidesAt}
 use Rattle.camp_object.proofs.Asks.{ask_answered}
-use Rattle.camp_history.specs.Seats.{history_of, caller_at}
-use Rattle.camp_history.specs.Inside.Steps.{DecidesAt}
 use Rattle.camp_history.proofs.Seeing.{history_front}
 use Rattle.camp_history.proofs.Asked.{adds_nothing}
 use Rattle.camp_history.proofs.heads.Head.ask_question.Goals as goal

@@ -1,7 +1,4 @@
-use Rattle.std.proofs.Common.{◌≡◌, ℕ, ◌<◌, length, Option, None, Some, Result, Ok, Err, ap, ◌∙◌, subst}
-use Rattle.camp_object.specs.Histories.{own}
-use Rattle.camp_history.specs.Seats.{history_of}
-use Rattle.camp_history.specs.Inside.Steps.{SeesMore, LosesOne, Attempts}
+use Rattle.camp_history.proofs.Common.{◌≡◌, ℕ, ◌<◌, length, Option, None, Some, Result, Ok, Err, ap, ◌∙◌, subst, own, history_of, SeesMore, LosesOne, Attempts}
 use Rattle.camp_history.proofs.Seeing.{sees_more_more}
 use Rattle.camp_history.proofs.Asked.{ask_later, finds_sees, loses_again}
 use Rattle.camp_history.proofs.heads.Head.ask_writing.Given.{Over}

@@ -1,8 +1,4 @@
-use Rattle.std.proofs.Common.{ℕ, ◌<◌, length}
-use Rattle.camp_object.specs.Histories.{IsLegal, own}
-use Rattle.camp_object.specs.Asking.{Loses}
-use Rattle.camp_history.specs.Seats.{IsSeatOf, history_of}
-use Rattle.camp_history.specs.Inside.Steps.{SeesMore}
+use Rattle.camp_history.proofs.Common.{ℕ, ◌<◌, length, IsLegal, own, Loses, IsSeatOf, history_of, SeesMore}
 use Rattle.camp_history.proofs.heads.Head.ask_writing.Given as goal
 
 abbrev pub invariant-loop-lost : goal.invariant-loop-lost

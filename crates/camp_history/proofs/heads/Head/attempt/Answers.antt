@@ -1,11 +1,5 @@
-use Rattle.std.proofs.Common.{◌≡◌, ℕ, ◌<◌, List, Some, Ok, length, map, ap, sym, ◌∙◌, subst, arith}
-use Rattle.camp_object.specs.Histories.{own}
-use Rattle.camp_object.specs.declared.objects.Decided.TheVariants.{Next}
-use Rattle.camp_object.specs.Asking.{Ask}
-use Rattle.camp_history.specs.Seats.{asked, history_of, caller_at}
-use Rattle.camp_history.specs.declared.marks.Mark.{Mark}
+use Rattle.camp_history.proofs.Common.{◌≡◌, ℕ, ◌<◌, List, Some, Ok, length, map, ap, sym, ◌∙◌, subst, arith, own, Next, Ask, asked, history_of, caller_at, Mark, DecidesAt, Publishes}
 use Rattle.camp_history.proofs.Seeing.{history_more}
-use Rattle.camp_history.specs.Inside.Steps.{DecidesAt, Publishes}
 use Rattle.camp_history.proofs.Asked.{decided_next, decided_accepted, ask_published, seat_published, attempts_nothing}
 use Rattle.camp_history.proofs.heads.Head.attempt.Given.{Over}
 use Rattle.camp_history.proofs.heads.Head.attempt.Goals as goal

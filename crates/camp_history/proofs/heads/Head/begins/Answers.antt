@@ -1,7 +1,4 @@
-use Rattle.std.proofs.Common.{◌≡◌, refl, sym, ◌∙◌, ◌+◌, length, drop, arith, ap}
-use Rattle.std.proofs.lemmas.List.Elements.{All-rest}
-use Rattle.boxcar.specs.Table.{Shows}
-use Rattle.camp_history.specs.Seats.{asked}
+use Rattle.camp_history.proofs.Common.{◌≡◌, refl, sym, ◌∙◌, ◌+◌, length, drop, arith, ap, All-rest, Shows, asked}
 use Rattle.camp_history.proofs.Versioned.{begins_step, drop_step}
 use Rattle.camp_history.proofs.heads.Head.begins.Goals as goal
 

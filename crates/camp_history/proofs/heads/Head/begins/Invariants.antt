@@ -1,6 +1,4 @@
-use Rattle.std.proofs.Common.{◌≡◌, ◌+◌, ◌++◌, length, map, take, drop, All}
-use Rattle.boxcar.specs.Table.{Shows}
-use Rattle.camp_history.specs.Seats.{asked}
+use Rattle.camp_history.proofs.Common.{◌≡◌, ◌+◌, ◌++◌, length, map, take, drop, All, Shows, asked}
 use Rattle.camp_history.proofs.heads.Head.begins.Given as goal
 
 abbrev pub invariant-loop-mark : goal.invariant-loop-mark

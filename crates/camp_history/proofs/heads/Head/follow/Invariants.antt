@@ -1,8 +1,4 @@
-use Rattle.std.proofs.Common.{◌≡◌, length}
-use Rattle.camp_object.specs.Histories.{IsLegal}
-use Rattle.camp_row.specs.Known.{Leads}
-use Rattle.camp_history.specs.Seats.{IsSeatOf, history_of}
-use Rattle.camp_history.specs.Inside.Steps.{entries_of, SeesMore}
+use Rattle.camp_history.proofs.Common.{◌≡◌, length, IsLegal, Leads, IsSeatOf, history_of, entries_of, SeesMore}
 use Rattle.camp_history.proofs.heads.Head.follow.Given as goal
 
 abbrev pub invariant-loop-next : goal.invariant-loop-next

@@ -1,7 +1,4 @@
-use Rattle.std.proofs.Common.{All}
-use Rattle.std.proofs.lemmas.List.Elements.{All-same}
-use Rattle.boxcar.specs.Table.{Shows}
-use Rattle.camp_history.specs.Versions.{list_of}
+use Rattle.camp_history.proofs.Common.{All, All-same, Shows, list_of}
 use Rattle.camp_history.proofs.Versioned.{all_in, list_stored}
 use Rattle.camp_history.proofs.heads.Head.hand_on.Goals as goal
 

@@ -1,6 +1,4 @@
-use Rattle.std.proofs.Common.{◌≡◌, IfSome, All}
-use Rattle.boxcar.specs.Table.{Shows}
-use Rattle.camp_history.specs.Versions.{IsIn}
+use Rattle.camp_history.proofs.Common.{◌≡◌, IfSome, All, Shows, IsIn}
 use Rattle.camp_history.proofs.Versioned.{all_shown, some_weaker}
 use Rattle.camp_history.proofs.heads.Head.handed_on_by.Goals as goal
 

@@ -1,5 +1,4 @@
-use Rattle.std.proofs.Common.{◌≡◌, map, take}
-use Rattle.camp_history.specs.Seats.{asked}
+use Rattle.camp_history.proofs.Common.{◌≡◌, map, take, asked}
 use Rattle.camp_history.proofs.heads.Head.history.Given as goal
 
 abbrev pub invariant-loop-mark : goal.invariant-loop-mark

@@ -1,10 +1,5 @@
-use Rattle.std.proofs.Common.{◌≡◌, ◌≢◌, ◌<◌, ◌≤◌, ◌+◌, [], ◌∷◌, ◌++◌, sym, ◌∙◌, ap, subst, length, map, take, drop, All, List, arith}
-use Rattle.std.proofs.lemmas.List.Elements.{All-same, All-push}
+use Rattle.camp_history.proofs.Common.{◌≡◌, ◌≢◌, ◌<◌, ◌≤◌, ◌+◌, [], ◌∷◌, ◌++◌, sym, ◌∙◌, ap, subst, length, map, take, drop, All, List, arith, All-same, All-push, Entry, news, entry_of, Mark}
 use Rattle.camp_row.specs.Chains as chain
-use Rattle.camp_row.specs.declared.entries.Entry.{Entry}
-use Rattle.camp_history.specs.Versions.{news}
-use Rattle.camp_history.specs.Inside.Steps.{entry_of}
-use Rattle.camp_history.specs.declared.marks.Mark.{Mark}
 use Rattle.camp_history.proofs.Versioned.{drop_step, take_step, all_taken, one_more_comes}
 use Rattle.camp_history.proofs.heads.Head.leads_on.Goals as goal
 

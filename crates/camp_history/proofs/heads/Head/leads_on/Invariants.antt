@@ -1,7 +1,5 @@
-use Rattle.std.proofs.Common.{◌≡◌, ◌<◌, ◌≤◌, ◌++◌, length, map, take, drop, All}
+use Rattle.camp_history.proofs.Common.{◌≡◌, ◌<◌, ◌≤◌, ◌++◌, length, map, take, drop, All, news, entry_of}
 use Rattle.camp_row.specs.Chains as chain
-use Rattle.camp_history.specs.Versions.{news}
-use Rattle.camp_history.specs.Inside.Steps.{entry_of}
 use Rattle.camp_history.proofs.heads.Head.leads_on.Given as goal
 
 abbrev pub invariant-loop-mark : goal.invariant-loop-mark

@@ -1,5 +1,4 @@
-use Rattle.std.proofs.Common.{All, IfSome}
-use Rattle.boxcar.specs.Table.{Shows}
+use Rattle.camp_history.proofs.Common.{All, IfSome, Shows}
 use Rattle.camp_history.proofs.heads.Head.longest_handed_on.Given as goal
 
 -- the longest so far lies in the head's store

@@ -1,5 +1,4 @@
-use Rattle.std.proofs.Common.{Ok, Err, refl}
-use Rattle.camp_object.specs.declared.faults.Fault.TheVariants.{Memory}
+use Rattle.camp_history.proofs.Common.{Ok, Err, refl, Memory}
 use Rattle.camp_history.proofs.Together.{met_seats, all_of_b, just_those_of_b}
 use Rattle.camp_history.proofs.heads.Head.meet.Goals as goal
 

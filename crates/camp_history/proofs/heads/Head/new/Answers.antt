@@ -1,9 +1,7 @@
-use Rattle.std.proofs.Common.{◌≡◌, [], All, map, refl, ◌∙◌, ap, arith}
+use Rattle.camp_history.proofs.Common.{◌≡◌, [], All, map, refl, ◌∙◌, ap, arith, All-map, All-same, HeadId, unseen, IsSeatOf}
 use Rattle.std.specs.List.{range_with_len}
 use Rattle.std.proofs.lemmas.Simd.{map-map}
-use Rattle.std.proofs.lemmas.List.Elements.{All-map, All-same}
 use Rattle.camp_row.specs.Known.{newcomer}
-use Rattle.camp_history.specs.Seats.{HeadId, unseen, IsSeatOf}
 use Rattle.camp_history.proofs.heads.Head.new.Given.{Over}
 use Rattle.camp_history.proofs.heads.Head.new.Goals as goal
 

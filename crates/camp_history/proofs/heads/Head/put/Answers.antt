@@ -1,7 +1,4 @@
-use Rattle.std.proofs.Common.{◌≡◌, ◌++◌, [], sym, ◌∙◌, ap, map, refl, subst}
-use Rattle.camp_object.specs.Histories.{IsFront}
-use Rattle.camp_object.proofs.Fronts.{front_self}
-use Rattle.camp_history.specs.Seats.{asked, history_of}
+use Rattle.camp_history.proofs.Common.{◌≡◌, ◌++◌, [], sym, ◌∙◌, ap, map, refl, subst, IsFront, front_self, asked, history_of}
 use Rattle.camp_history.specs.Versions.{IsMade}
 use Rattle.camp_history.proofs.Versioned.{all_in}
 use Rattle.camp_history.proofs.heads.Head.put.Goals as goal

@@ -1,10 +1,4 @@
-use Rattle.std.proofs.Common.{◌≡◌, All, refl, sym, ◌∙◌, subst}
-use Rattle.std.proofs.lemmas.List.Elements.{All-same}
-use Rattle.boxcar.specs.Table.{Shows}
-use Rattle.camp_row.specs.Known.{IsSound}
-use Rattle.camp_history.specs.Seats.{IsSeatOf}
-use Rattle.camp_history.specs.Versions.{GoesOn, list_of}
-use Rattle.camp_history.specs.Inside.Steps.{SeesMore, entries_of}
+use Rattle.camp_history.proofs.Common.{◌≡◌, All, refl, sym, ◌∙◌, subst, All-same, Shows, IsSound, IsSeatOf, GoesOn, list_of, SeesMore, entries_of}
 use Rattle.camp_history.proofs.Versioned.{adopting_more, adopting_of, list_stored}
 use Rattle.camp_history.proofs.heads.Head.take_over.Goals as goal
 

@@ -1,7 +1,4 @@
-use Rattle.std.proofs.Common.{◌≡◌, ◌∙◌, All}
-use Rattle.std.proofs.lemmas.List.Elements.{All-same}
-use Rattle.boxcar.specs.Table.{Shows}
-use Rattle.camp_history.specs.Versions.{made_of}
+use Rattle.camp_history.proofs.Common.{◌≡◌, ◌∙◌, All, All-same, Shows, made_of}
 use Rattle.camp_history.proofs.Versioned.{made_stored}
 use Rattle.camp_history.proofs.heads.Head.version_for.Goals as goal
 

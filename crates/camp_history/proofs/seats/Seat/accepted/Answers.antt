@@ -1,5 +1,4 @@
-use Rattle.std.proofs.Common.{◌≡◌, length, sym, ap, ◌∙◌}
-use Rattle.camp_row.specs.Chains.{turns}
+use Rattle.camp_history.proofs.Common.{◌≡◌, length, sym, ap, ◌∙◌, turns}
 use Rattle.camp_history.proofs.Marked.{length-own}
 use Rattle.camp_history.proofs.seats.Seat.accepted.Goals as goal
 

@@ -1,8 +1,4 @@
-use Rattle.std.proofs.Common.{◌≡◌, List, ◌-◌, ap, ◌∙◌, take, drop, length}
-use Rattle.std.specs.List.{splice}
-use Rattle.camp_history.specs.Versions.{list_of}
-use Rattle.camp_history.specs.Inside.SeatFields.{seated}
-use Rattle.camp_history.specs.declared.marks.Mark.{Mark}
+use Rattle.camp_history.proofs.Common.{◌≡◌, List, ◌-◌, ap, ◌∙◌, take, drop, length, splice, list_of, seated, Mark}
 use Rattle.camp_history.proofs.Versioned.{listed}
 use Rattle.camp_history.proofs.seats.Seat.list.Goals as goal
 

@@ -1,6 +1,4 @@
-use Rattle.std.proofs.Common.{◌<◌, map}
-use Rattle.std.proofs.lemmas.List.Elements.{All-map}
-use Rattle.camp_history.specs.Seats.{asked}
+use Rattle.camp_history.proofs.Common.{◌<◌, map, All-map, asked}
 use Rattle.camp_history.proofs.seats.Seat.number.Goals as goal
 
 pub returns-clause-seats_below : goal.returns-clause-seats_below

@@ -1,7 +1,4 @@
-use Rattle.std.proofs.Common.{◌≡◌, ap, sym, ◌∙◌, map, subst, Some}
-use Rattle.camp_object.specs.Histories.{IsFront, replay}
-use Rattle.camp_history.specs.Seats.{asked, history_of}
-use Rattle.camp_history.specs.Versions.{list_of}
+use Rattle.camp_history.proofs.Common.{◌≡◌, ap, sym, ◌∙◌, map, subst, Some, IsFront, replay, asked, history_of, list_of}
 use Rattle.camp_history.proofs.Versioned.{list_asks}
 use Rattle.camp_history.proofs.seats.Seat.version.Goals as goal
 

@@ -1,8 +1,4 @@
-use Rattle.std.proofs.Common.{◌≡◌, ◌++◌, ◌∷◌, [], Some, map, ap, sym, ◌∙◌, subst}
-use Rattle.camp_object.specs.Histories.{IsFront, replay}
-use Rattle.camp_history.specs.Seats.{asked, history_of}
-use Rattle.camp_history.specs.Versions.{list_of, made_of}
-use Rattle.camp_history.specs.declared.marks.Mark.{Mark}
+use Rattle.camp_history.proofs.Common.{◌≡◌, ◌++◌, ◌∷◌, [], Some, map, ap, sym, ◌∙◌, subst, IsFront, replay, asked, history_of, list_of, made_of, Mark}
 use Rattle.camp_history.proofs.Versioned.{made_asks}
 use Rattle.camp_history.proofs.seats.Seat.version_with.Goals as goal
 
