@@ -1,10 +1,5 @@
 -- Exchanges of neighbours, inside longer lists and back.
-use Rattle.std.proofs.Common.{List, [], ◌∷◌, ◌++◌, refl, sym, ap, ◌∙◌}
-use Rattle.std.proofs.lemmas.List.{append_assoc}
-use Rattle.camp_prim.specs.Swaps.{Swap, SwapAnywhere}
-use Rattle.camp_prim.specs.declared.named.Named.{Named}
-use Rattle.camp_prim.proofs.SwapLaws.{own_inverse}
-use Rattle.camp_seq.specs.Equivalence.{Exchanges}
+use Rattle.camp_seq.proofs.Words.{List, [], ◌∷◌, ◌++◌, refl, sym, ap, ◌∙◌, append_assoc, Swap, SwapAnywhere, Named, own_inverse, Exchanges}
 
 -- of the first two
 pub at_front : {Turns : Named → Named → Named → Named → Type 0} (p q q' p' : Named) (s : List Named) → Turns p q q' p' → Exchanges Turns (p ∷ q ∷ s) (q' ∷ p' ∷ s)

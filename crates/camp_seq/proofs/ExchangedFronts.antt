@@ -1,14 +1,5 @@
 -- What comes to the front of a list with room comes to the front of each list that is one exchange from it.
-use Rattle.std.proofs.Common.{◌≡◌, ◌≢◌, ◌⊎◌, List, [], ◌∷◌, ◌++◌, refl, sym, ap, ◌∙◌, subst, inl, inr}
-use Rattle.camp_prim.specs.Labels.{label_of, key_of}
-use Rattle.camp_prim.specs.declared.labels.Label.{Label}
-use Rattle.camp_prim.specs.Swaps.{Swap}
-use Rattle.camp_prim.specs.declared.named.Named.{Named}
-use Rattle.camp_prim.proofs.SwapLaws.{own_inverse}
-use Rattle.camp_prim.proofs.SwapUnique.{swap_unique}
-use Rattle.camp_seq.specs.Equivalence.{Exchanges}
-use Rattle.camp_seq.specs.Passing.{Fronts}
-use Rattle.camp_seq.specs.Room.{Reaches, HasRoom}
+use Rattle.camp_seq.proofs.Words.{◌≡◌, ◌≢◌, ◌⊎◌, List, [], ◌∷◌, ◌++◌, refl, sym, ap, ◌∙◌, subst, inl, inr, label_of, key_of, Label, Swap, Named, own_inverse, swap_unique, Exchanges, Fronts, Reaches, HasRoom}
 use Rattle.camp_seq.proofs.ExchangeSteps.{at_front, exchanges_behind}
 use Rattle.camp_seq.proofs.LawOfThree.{law_of_three}
 use Rattle.camp_seq.proofs.RoomSteps.{reaches_behind, front_reached, room_after, room_before, room_behind}

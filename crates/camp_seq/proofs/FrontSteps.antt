@@ -1,12 +1,5 @@
 -- The first element with a label, and what comes of it at the front.
-use Rattle.std.proofs.Common.{◌≡◌, ◌≢◌, ℕ, List, [], ◌∷◌, ◌++◌, map, Contains, refl, sym, ap, ◌∙◌, inl, inr, suc, arith}
-use Rattle.std.proofs.lemmas.List.{map-append}
-use Rattle.std.proofs.lemmas.List.Elements.{Contains-append_right, Contains-get_or}
-use Rattle.camp_prim.specs.Labels.{label_of}
-use Rattle.camp_prim.specs.declared.labels.Label.{Label}
-use Rattle.camp_prim.specs.declared.named.Named.{Named}
-use Rattle.camp_seq.specs.Inside.InPlace.{FirstWith, Lacks, Precedes}
-use Rattle.camp_seq.specs.Passing.{Fronts}
+use Rattle.camp_seq.proofs.Words.{◌≡◌, ◌≢◌, ℕ, List, [], ◌∷◌, ◌++◌, map, Contains, refl, sym, ap, ◌∙◌, inl, inr, suc, arith, map-append, Contains-append_right, Contains-get_or, label_of, Label, Named, FirstWith, Lacks, Precedes, Fronts}
 
 lacks_first : (label : Label) (p : Named) (s : List Named) → Lacks label (p ∷ s) → label_of p ≢ label
 lacks_first label p s lacks = lacks 0 p (omega arith)

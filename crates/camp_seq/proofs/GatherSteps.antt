@@ -1,13 +1,5 @@
 -- Elements with given labels, gathered from the last to the first.
-use Rattle.std.proofs.Common.{◌≡◌, ℕ, ◌+◌, ◌<◌, List, [], ◌∷◌, ◌++◌, length, take, drop, get_or, refl, sym, ap, ◌∙◌, subst, inl, inr, arith}
-use Rattle.std.specs.Prelude.{Contains}
-use Rattle.std.proofs.lemmas.List.{append_assoc, length-take-le, drop_more, take-take, take_at, drop_at}
-use borrow.Rule.Slice.PartMut.{put_mid}
-use Rattle.camp_prim.specs.Labels.{label_of}
-use Rattle.camp_prim.specs.declared.labels.Label.{Label}
-use Rattle.camp_prim.specs.declared.named.Named.{Named}
-use Rattle.camp_seq.specs.Inside.InPlace.{FirstPasses, PartsFrom}
-use Rattle.camp_seq.specs.Passing.{Passes, Parts}
+use Rattle.camp_seq.proofs.Words.{◌≡◌, ℕ, ◌+◌, ◌<◌, List, [], ◌∷◌, ◌++◌, length, take, drop, get_or, refl, sym, ap, ◌∙◌, subst, inl, inr, arith, Contains, append_assoc, length-take-le, drop_more, take-take, take_at, drop_at, put_mid, label_of, Label, Named, FirstPasses, PartsFrom, Passes, Parts}
 use Rattle.camp_seq.proofs.ListResults.{one_parting}
 use Rattle.camp_seq.proofs.ListSteps.{at_last, whole}
 

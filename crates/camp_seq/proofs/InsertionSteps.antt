@@ -1,19 +1,5 @@
 -- One more element in its place keeps a list in normal order.
-use Rattle.std.proofs.Common.{◌≡◌, ◌≢◌, ◌⊎◌, List, [], ◌∷◌, ◌++◌, refl, sym, ap, ◌∙◌, subst, inl, inr}
-use Rattle.std.proofs.lemmas.List.{append_assoc}
-use Rattle.std.specs.declared.cmp.Ordering.TheVariants.{Less}
-use Rattle.camp_prim.specs.Labels.{label_of, label_cmp}
-use Rattle.camp_prim.specs.declared.labels.Label.{Label}
-use Rattle.camp_prim.specs.Swaps.{Swap}
-use Rattle.camp_prim.specs.declared.named.Named.{Named}
-use Rattle.camp_prim.proofs.LabelOrder.{not_below, not_above, not_below_both}
-use Rattle.camp_prim.proofs.SwapLaws.{own_inverse}
-use Rattle.camp_seq.specs.Equivalence.{◌~◌, backwards}
-use Rattle.camp_seq.specs.Inside.InPlace.{Precedes}
-use Rattle.camp_seq.specs.Inside.Insertions.{InOrder, Follows, StartsAfter}
-use Rattle.camp_seq.specs.NormalOrder.{IsLeast, Norm}
-use Rattle.camp_seq.specs.Passing.{Passes, Fronts}
-use Rattle.camp_seq.specs.Room.{Reaches, HasRoom}
+use Rattle.camp_seq.proofs.Words.{◌≡◌, ◌≢◌, ◌⊎◌, List, [], ◌∷◌, ◌++◌, refl, sym, ap, ◌∙◌, subst, inl, inr, append_assoc, Less, label_of, label_cmp, Label, Swap, Named, not_below, not_above, not_below_both, own_inverse, ◌~◌, backwards, Precedes, InOrder, Follows, StartsAfter, IsLeast, Norm, Passes, Fronts, Reaches, HasRoom, further, here}
 use Rattle.camp_seq.proofs.ExchangedFronts.{exchanged_front}
 use Rattle.camp_seq.proofs.ListEquivalence.{behind, passed}
 use Rattle.camp_seq.proofs.LawOfThree.{law_of_three}
@@ -21,7 +7,6 @@ use Rattle.camp_seq.proofs.NormalForms.{normal_form}
 use Rattle.camp_seq.proofs.PassingSteps.{precedes_back}
 use Rattle.camp_seq.proofs.ExchangeSteps.{at_front}
 use Rattle.camp_seq.proofs.RoomSteps.{kept_by_swaps, room_of_equivalent, reaches_behind, front_reached, room_after, room_before, room_behind}
-use Rattle.camp_seq.specs.Room.{further, here}
 
 -- what comes to the front of a list with room comes to the front of each equivalent list
 front_of_equivalent : (s t : List Named) → s ~ t → HasRoom s → (label : Label) (y : Named) (u : List Named) → Fronts label s y u → (v : List Named) × Fronts label t y v

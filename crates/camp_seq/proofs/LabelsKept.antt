@@ -1,14 +1,5 @@
 -- What holds of the labels of a list holds of the labels of what passes, comes to the front or is put in order there.
-use Rattle.std.proofs.Common.{◌≡◌, List, [], ◌∷◌, refl, sym, ◌∙◌, subst, inl, inr}
-use Rattle.std.specs.Prelude.{Contains}
-use Rattle.std.specs.List.{All}
-use Rattle.std.proofs.lemmas.List.Elements.{All-nil, All-cons, All-head, All-tail, All-same}
-use Rattle.camp_prim.specs.Labels.{label_of}
-use Rattle.camp_prim.specs.declared.labels.Label.{Label}
-use Rattle.camp_prim.specs.declared.named.Named.{Named}
-use Rattle.camp_seq.specs.Laws.{SplitByLabels}
-use Rattle.camp_seq.specs.NormalOrder.{Norm}
-use Rattle.camp_seq.specs.Passing.{Passes, Fronts, Parts}
+use Rattle.camp_seq.proofs.Words.{◌≡◌, List, [], ◌∷◌, refl, sym, ◌∙◌, subst, inl, inr, Contains, All, All-nil, All-cons, All-head, All-tail, All-same, label_of, Label, Named, SplitByLabels, Norm, Passes, Fronts, Parts}
 
 -- it holds of each label of the list
 abbrev pub Each : (Label → Type 0) → List Named → Type 0

@@ -1,13 +1,7 @@
 -- The law of three: with room, the six orders of three primitives are in range.
-use Rattle.std.proofs.Common.{List, [], ◌∷◌}
-use Rattle.std.specs.List.{All}
-use Rattle.std.proofs.lemmas.List.Elements.{All-head, All-tail}
-use Rattle.camp_prim.specs.Effect.{InRange}
+use Rattle.camp_seq.proofs.Words.{List, [], ◌∷◌, All, All-head, All-tail, InRange, Swap, SwapAnywhere, Named, Reaches, here, further, HasRoom, LawOfThree}
 use Rattle.camp_prim.specs.Laws.{SixOrders}
-use Rattle.camp_prim.specs.Swaps.{Swap, SwapAnywhere}
-use Rattle.camp_prim.specs.declared.named.Named.{Named}
 use Rattle.camp_prim.proofs.ThreeAnywhere.{six_from_behind, six_from_before}
-use Rattle.camp_seq.specs.Room.{Reaches, here, further, HasRoom, LawOfThree}
 use Rattle.camp_seq.proofs.ExchangeSteps.{at_front}
 use Rattle.camp_seq.proofs.RoomSteps.{reaches_through, reaches_behind}
 

@@ -22,3 +22,4 @@ pub mod PlacingSteps
 pub mod Reaching
 pub mod RoomSteps
 pub mod RunSteps
+pub mod Words

@@ -1,16 +1,6 @@
 -- What lists of primitives do to trees: joined lists, lists after a swap, inverses.
-use Rattle.std.proofs.Common.{◌≡◌, List, [], ◌∷◌, ◌++◌, map, reverse, refl, sym, ap, ◌∙◌, subst}
-use Rattle.std.proofs.lemmas.List.{reverse-append, map-append}
-use Rattle.camp_base.specs.Trees.{Files}
-use Rattle.camp_prim.specs.Effect.{inverse_of}
-use Rattle.camp_prim.specs.Swaps.{Swap}
-use Rattle.camp_prim.specs.declared.named.Named.{Named}
-use Rattle.camp_prim.proofs.Inverses.{leads_back, inverse_of-inverse_of}
-use Rattle.camp_prim.proofs.SwapLaws.{effect}
+use Rattle.camp_seq.proofs.Words.{◌≡◌, List, [], ◌∷◌, ◌++◌, map, reverse, refl, sym, ap, ◌∙◌, subst, reverse-append, map-append, Files, inverse_of, Swap, Named, leads_back, inverse_of-inverse_of, effect, Exchanges, same, exchanged, backwards, through, EquivalentRun, InverseOfListLeadsBack, AppliesAll, inverse_all}
 use Rattle.camp_seq.proofs.ExchangeSteps.{exchanges_back}
-use Rattle.camp_seq.specs.Equivalence.{Exchanges, same, exchanged, backwards, through}
-use Rattle.camp_seq.specs.Laws.{EquivalentRun, InverseOfListLeadsBack}
-use Rattle.camp_seq.specs.Running.{AppliesAll, inverse_all}
 
 pub joined_runs : (s t : List Named) (old between new : Files) → AppliesAll s old between → AppliesAll t between new → AppliesAll (s ++ t) old new
 joined_runs [] t old between new r q = subst (λ x. AppliesAll t x new) r q

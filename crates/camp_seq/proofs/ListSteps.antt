@@ -1,7 +1,5 @@
 -- A loop that goes over a list in place, from its first element to its last, or back.
-use Rattle.std.proofs.Common.{◌≡◌, ℕ, ◌+◌, ◌-◌, ◌<◌, List, [], ◌∷◌, ◌++◌, length, take, drop, get_or, set, refl, sym, ap, subst, ◌∙◌, arith}
-use Rattle.std.proofs.lemmas.List.{append_assoc, length_push, take_at, drop_at, drop_all, drop_more, take_more, take-append-drop, drop-set, drop-set-lt, take-set, take-take, get_or-take}
-use Rattle.camp_prim.specs.declared.named.Named.{Named}
+use Rattle.camp_seq.proofs.Words.{◌≡◌, ℕ, ◌+◌, ◌-◌, ◌<◌, List, [], ◌∷◌, ◌++◌, length, take, drop, get_or, set, refl, sym, ap, subst, ◌∙◌, arith, append_assoc, length_push, take_at, drop_at, drop_all, drop_more, take_more, take-append-drop, drop-set, drop-set-lt, take-set, take-take, get_or-take, Named}
 
 -- the element at i and what is behind it, in a list that is unchanged from i on
 pub at_next : {X : Type 0} (s0 s : List X) (i : ℕ) (d : X) → i < length s → length s ≡ length s0 → drop i s ≡ drop i s0 → drop i s0 ≡ get_or s i d ∷ drop (i + 1) s0

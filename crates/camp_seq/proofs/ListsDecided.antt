@@ -1,17 +1,5 @@
 -- Whether lists pass, split and merge is decided.
-use Rattle.std.proofs.Common.{◌≡◌, ◌≢◌, zero, suc, List, [], ◌∷◌, refl, subst, inl, inr, arith}
-use Rattle.std.specs.Prelude.{Contains}
-use Rattle.camp_prim.specs.Labels.{label_of, label_cmp}
-use Rattle.camp_prim.specs.Swaps.{Swap}
-use Rattle.camp_prim.specs.declared.labels.Label.{Label}
-use Rattle.camp_prim.specs.declared.named.Named.{Named}
-use Rattle.camp_prim.proofs.LabelOrder.{label_total, label_ties}
-use Rattle.camp_prim.proofs.SwapDecided.{Decided, decided_by, same_or_not, swap_or_not}
-use Rattle.camp_prim.proofs.SwapUnique.{swap_unique}
-use Rattle.camp_seq.specs.Merging.{CleanMerge}
-use Rattle.camp_seq.specs.NormalOrder.{Splits}
-use Rattle.camp_seq.specs.Passing.{Passes, PassesAll, Parts}
-use Rattle.camp_seq.specs.Running.{inverse_all}
+use Rattle.camp_seq.proofs.Words.{◌≡◌, ◌≢◌, zero, suc, List, [], ◌∷◌, refl, subst, inl, inr, arith, Contains, label_of, label_cmp, Swap, Label, Named, label_total, label_ties, Decided, decided_by, same_or_not, swap_or_not, swap_unique, CleanMerge, Splits, Passes, PassesAll, Parts, inverse_all}
 use Rattle.camp_seq.proofs.ListResults.{one_pass_of_all, one_parting}
 use Rattle.camp_seq.proofs.MergeGrid.{merge_is_passing}
 use Rattle.camp_seq.proofs.MergeSteps.{merges_from}

@@ -1,9 +1,5 @@
 -- A clean merge by passing: the inverse of a list passes the other.
-use Rattle.std.proofs.Common.{◌≡◌, List, sym, subst}
-use Rattle.camp_prim.specs.declared.named.Named.{Named}
-use Rattle.camp_seq.specs.Merging.{CleanMerge}
-use Rattle.camp_seq.specs.Passing.{PassesAll}
-use Rattle.camp_seq.specs.Running.{inverse_all}
+use Rattle.camp_seq.proofs.Words.{◌≡◌, List, sym, subst, Named, CleanMerge, PassesAll, inverse_all}
 use Rattle.camp_seq.proofs.ListRuns.{inverse_all-inverse_all}
 use Rattle.camp_seq.proofs.MergeGrid.{merge_is_passing}
 

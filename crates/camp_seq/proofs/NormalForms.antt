@@ -1,11 +1,5 @@
 -- The normal order is a normal form.
-use Rattle.std.proofs.Common.{◌≡◌, List, [], ◌∷◌, ◌++◌, sym, ◌∙◌, subst, inl, inr}
-use Rattle.camp_prim.specs.Labels.{label_of}
-use Rattle.camp_prim.specs.Swaps.{Swap}
-use Rattle.camp_prim.specs.declared.named.Named.{Named}
-use Rattle.camp_seq.specs.Equivalence.{Exchanges}
-use Rattle.camp_seq.specs.NormalOrder.{IsLeast, Norm}
-use Rattle.camp_seq.specs.Room.{HasRoom, NormalForm}
+use Rattle.camp_seq.proofs.Words.{◌≡◌, List, [], ◌∷◌, ◌++◌, sym, ◌∙◌, subst, inl, inr, label_of, Swap, Named, Exchanges, IsLeast, Norm, HasRoom, NormalForm}
 use Rattle.camp_seq.proofs.ExchangedFronts.{exchanged_front}
 use Rattle.camp_seq.proofs.ExchangeSteps.{exchanges_back}
 use Rattle.camp_seq.proofs.RoomSteps.{front_reached, room_after, room_behind, room_exchanged, kept_by_swaps}

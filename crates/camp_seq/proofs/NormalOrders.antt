@@ -1,18 +1,7 @@
 -- Every list has a normal order.
-use Rattle.std.proofs.Common.{◌≡◌, ◌≢◌, ℕ, zero, suc, ◌+◌, ◌≤◌, List, [], ◌∷◌, length, refl, sym, ap, subst, inl, inr, arith}
-use Rattle.std.specs.declared.cmp.Ordering.TheVariants.{Less}
-use Rattle.camp_prim.specs.Labels.{label_of, label_cmp}
-use Rattle.camp_prim.specs.declared.labels.Label.{Label}
-use Rattle.camp_prim.specs.Swaps.{Swap}
-use Rattle.camp_prim.specs.declared.named.Named.{Named}
-use Rattle.std.proofs.lemmas.List.Elements.{All-nil, All-cons}
-use Rattle.camp_prim.proofs.LabelOrder.{label_total, label_ties, less_or_not, not_below, not_above, not_below_both}
+use Rattle.camp_seq.proofs.Words.{◌≡◌, ◌≢◌, ℕ, zero, suc, ◌+◌, ◌≤◌, List, [], ◌∷◌, length, refl, sym, ap, subst, inl, inr, arith, Less, label_of, label_cmp, Label, Swap, Named, All-nil, All-cons, label_total, label_ties, less_or_not, not_below, not_above, not_below_both, Decided, same_or_not, swap_or_not, HasNormalOrder, IsLeast, Norm, Fronts}
 use Rattle.camp_seq.proofs.LabelsKept.{Each, each_front}
 use Rattle.camp_seq.proofs.ListResults.{one_front, label-front}
-use Rattle.camp_prim.proofs.SwapDecided.{Decided, same_or_not, swap_or_not}
-use Rattle.camp_seq.specs.Laws.{HasNormalOrder}
-use Rattle.camp_seq.specs.NormalOrder.{IsLeast, Norm}
-use Rattle.camp_seq.specs.Passing.{Fronts}
 
 abbrev Front : Label → List Named → Type 0
 Front label s = (y : Named) × (t : List Named) × Fronts label s y t

@@ -1,17 +1,5 @@
 -- Lists that are their own normal order: those in which no two neighbours swap, and those whose labels ascend.
-use Rattle.std.proofs.Common.{◌≡◌, ◌≢◌, ℕ, zero, suc, List, [], ◌∷◌, drop, refl, sym, subst, inl, inr}
-use Rattle.std.proofs.lemmas.List.Elements.{All-nil, All-cons}
-use Rattle.std.specs.declared.cmp.Ordering.TheVariants.{Less}
-use Rattle.camp_prim.specs.Labels.{label_of, label_cmp}
-use Rattle.camp_prim.specs.Swaps.{Swap}
-use Rattle.camp_prim.specs.declared.labels.Label.{Label}
-use Rattle.camp_prim.specs.declared.named.Named.{Named}
-use Rattle.camp_prim.proofs.LabelOrder.{not_below, not_below_both}
-use Rattle.camp_seq.specs.Chains.{Chain, StaysBefore}
-use Rattle.camp_seq.specs.Inside.Ascending.{Ascends}
-use Rattle.camp_seq.specs.Inside.Insertions.{StartsAfter}
-use Rattle.camp_seq.specs.NormalOrder.{IsLeast, Norm}
-use Rattle.camp_seq.specs.Passing.{Fronts}
+use Rattle.camp_seq.proofs.Words.{◌≡◌, ◌≢◌, ℕ, zero, suc, List, [], ◌∷◌, drop, refl, sym, subst, inl, inr, All-nil, All-cons, Less, label_of, label_cmp, Swap, Label, Named, not_below, not_below_both, Chain, StaysBefore, Ascends, StartsAfter, IsLeast, Norm, Fronts}
 use Rattle.camp_seq.proofs.LabelsKept.{Each, each_front}
 use Rattle.camp_seq.proofs.ListResults.{label-front}
 

@@ -1,16 +1,5 @@
 -- An element that is swapped to its place, from one neighbour to the next.
-use Rattle.std.proofs.Common.{◌≡◌, ◌≢◌, ℕ, ◌+◌, ◌-◌, ◌<◌, ◌≤◌, List, [], ◌∷◌, ◌++◌, length, take, drop, get_or, set, refl, sym, ap, ◌∙◌, subst, inl, inr, arith}
-use Rattle.std.proofs.lemmas.List.{append_assoc, length_push, length-set, length-take-le, take_at, drop_at, drop_all, drop_more, take_more, take_more_set, drop-set-lt, take-append-drop, take-take}
-use Rattle.std.specs.declared.cmp.Ordering.TheVariants.{Less}
-use Rattle.camp_prim.specs.Labels.{label_of, label_cmp}
-use Rattle.camp_prim.specs.Swaps.{Swap}
-use Rattle.camp_prim.specs.declared.named.Named.{Named}
-use Rattle.camp_prim.proofs.SwapLaws.{own_inverse}
-use Rattle.camp_prim.proofs.SwapUnique.{swap_unique}
-use Rattle.camp_seq.specs.Equivalence.{◌~◌, backwards, through}
-use Rattle.camp_seq.specs.Inside.InPlace.{Precedes, IsHeld, ComesUpTo}
-use Rattle.camp_seq.specs.Inside.Insertions.{InOrder, Follows, StartsAfter, StandsAt, StaysAt, Placed}
-use Rattle.camp_seq.specs.Room.{HasRoom}
+use Rattle.camp_seq.proofs.Words.{◌≡◌, ◌≢◌, ℕ, ◌+◌, ◌-◌, ◌<◌, ◌≤◌, List, [], ◌∷◌, ◌++◌, length, take, drop, get_or, set, refl, sym, ap, ◌∙◌, subst, inl, inr, arith, append_assoc, length_push, length-set, length-take-le, take_at, drop_at, drop_all, drop_more, take_more, take_more_set, drop-set-lt, take-append-drop, take-take, Less, label_of, label_cmp, Swap, Named, own_inverse, swap_unique, ◌~◌, backwards, through, Precedes, IsHeld, ComesUpTo, InOrder, Follows, StartsAfter, StandsAt, StaysAt, Placed, HasRoom}
 use Rattle.camp_seq.proofs.InsertionSteps.{came_behind, label_came, placed_in_order}
 use Rattle.camp_seq.proofs.ListSteps.{turned}
 use Rattle.camp_seq.proofs.ListEquivalence.{before}

@@ -1,14 +1,5 @@
 -- What a list with room reaches has room.
-use Rattle.std.proofs.Common.{◌≡◌, List, [], ◌∷◌, ◌++◌, sym, ap, ◌∙◌, subst, inl, inr}
-use Rattle.std.specs.List.{All}
-use Rattle.std.proofs.lemmas.List.Elements.{All-nil, All-cons, All-head, All-tail}
-use Rattle.camp_prim.specs.Effect.{InRange}
-use Rattle.camp_prim.specs.declared.labels.Label.{Label}
-use Rattle.camp_prim.specs.Swaps.{Swap}
-use Rattle.camp_prim.specs.declared.named.Named.{Named}
-use Rattle.camp_seq.specs.Equivalence.{Exchanges, ◌~◌, same, exchanged, backwards, through}
-use Rattle.camp_seq.specs.Passing.{Fronts}
-use Rattle.camp_seq.specs.Room.{Reaches, here, further, HasRoom}
+use Rattle.camp_seq.proofs.Words.{◌≡◌, List, [], ◌∷◌, ◌++◌, sym, ap, ◌∙◌, subst, inl, inr, All, All-nil, All-cons, All-head, All-tail, InRange, Label, Swap, Named, Exchanges, ◌~◌, same, exchanged, backwards, through, Fronts, Reaches, here, further, HasRoom}
 use Rattle.camp_seq.proofs.ExchangeSteps.{at_front, exchanges_behind, exchanges_before, exchanges_back, exchanged_anywhere}
 
 pub reaches_through : (s t u : List Named) → Reaches s t → Reaches t u → Reaches s u

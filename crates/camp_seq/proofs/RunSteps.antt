@@ -1,16 +1,9 @@
 -- A run of a list, one primitive after the other, and one that stops.
-use Rattle.std.proofs.Common.{◌≡◌, ℕ, ◌+◌, ◌<◌, List, [], ◌∷◌, ◌++◌, Err, length, take, drop, get_or, refl, sym, ap, ◌∙◌, subst}
-use Rattle.std.proofs.lemmas.List.{drop_more, take_more}
+use Rattle.camp_seq.proofs.Words.{◌≡◌, ℕ, ◌+◌, ◌<◌, List, [], ◌∷◌, ◌++◌, Err, length, take, drop, get_or, refl, sym, ap, ◌∙◌, subst, drop_more, take_more, Answers, AnswersByTrial, Files, Applies, Primitive, Named, AppliesAll}
 use Rattle.std.proofs.lemmas.Option.{same_Some}
-use Rattle.camp_base.specs.Answers.{Answers, AnswersByTrial}
-use Rattle.camp_base.specs.Trees.{Files}
 use Rattle.camp_base.specs.declared.faults.Apply.{Apply}
 use Rattle.camp_base.specs.declared.faults.Apply.TheVariants.{DoesNotApply, Memory}
-use Rattle.camp_prim.specs.Effect.{Applies}
-use Rattle.camp_prim.specs.declared.primitives.Primitive.{Primitive}
-use Rattle.camp_prim.specs.declared.named.Named.{Named}
 use Rattle.camp_prim.proofs.Applied.{applied_is}
-use Rattle.camp_seq.specs.Running.{AppliesAll}
 use Rattle.camp_seq.proofs.ListRuns.{joined_runs}
 use Rattle.camp_seq.proofs.ListSteps.{whole}
 

@@ -1,7 +1,4 @@
-use Rattle.std.proofs.Common.{◌≡◌, ◌++◌, ◌∷◌, length, set, get_or, take, drop, refl, sym, ap, ◌∙◌, subst}
-use Rattle.std.proofs.lemmas.List.{take_at, drop_at}
-use Rattle.camp_seq.specs.Inside.InPlace.{Precedes}
-use Rattle.camp_seq.specs.Passing.{Fronts}
+use Rattle.camp_seq.proofs.Words.{◌≡◌, ◌++◌, ◌∷◌, length, set, get_or, take, drop, refl, sym, ap, ◌∙◌, subst, take_at, drop_at, Precedes, Fronts}
 use Rattle.camp_seq.proofs.FrontSteps.{none_fronts, fronts_from, precedes_from}
 use Rattle.camp_seq.proofs.ListSteps.{turned_right}
 use Rattle.camp_seq.proofs.fronts.bring.Goals as goal

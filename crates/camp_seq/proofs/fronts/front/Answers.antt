@@ -1,6 +1,4 @@
-use Rattle.std.proofs.Common.{◌∷◌, refl, sym, ◌∙◌, subst}
-use Rattle.camp_seq.specs.Inside.InPlace.{Lacks}
-use Rattle.camp_seq.specs.Passing.{Fronts}
+use Rattle.camp_seq.proofs.Words.{◌∷◌, refl, sym, ◌∙◌, subst, Lacks, Fronts}
 use Rattle.camp_seq.proofs.FrontSteps.{none_fronts}
 use Rattle.camp_seq.proofs.fronts.front.Goals as goal
 

@@ -1,7 +1,4 @@
-use Rattle.std.proofs.Common.{◌+◌, List, ◌∷◌, take, drop, refl, sym, ap, ◌∙◌, subst, arith}
-use Rattle.std.proofs.lemmas.List.{drop_more, length-take-le, take_all}
-use Rattle.camp_prim.specs.declared.named.Named.{Named}
-use Rattle.camp_seq.specs.Inside.InPlace.{Lacks}
+use Rattle.camp_seq.proofs.Words.{◌+◌, List, ◌∷◌, take, drop, refl, sym, ap, ◌∙◌, subst, arith, drop_more, length-take-le, take_all, Named, Lacks}
 use Rattle.camp_seq.proofs.ListSteps.{whole}
 use Rattle.camp_seq.proofs.fronts.place_of.Goals as goal
 

@@ -1,5 +1,4 @@
-use Rattle.std.proofs.Common.{sym, subst}
-use Rattle.camp_seq.specs.Merging.{CleanMerge}
+use Rattle.camp_seq.proofs.Words.{sym, subst, CleanMerge}
 use Rattle.camp_seq.proofs.MergeSteps.{merges_from, no_merge_from}
 use Rattle.camp_seq.proofs.merges.clean_merge.Goals as goal
 

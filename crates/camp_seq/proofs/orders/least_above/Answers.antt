@@ -1,8 +1,4 @@
-use Rattle.std.proofs.Common.{◌≡◌, ◌+◌, true, false, IsTrue, List, take, get_or, refl, sym, ap, ◌∙◌, subst, arith}
-use Rattle.std.proofs.lemmas.List.{take_all}
-use Rattle.camp_prim.specs.Labels.{label_of}
-use Rattle.camp_prim.specs.declared.named.Named.{Named}
-use Rattle.camp_seq.specs.Inside.LeastLabels.{is_above, HasLabel, NoneLess}
+use Rattle.camp_seq.proofs.Words.{◌≡◌, ◌+◌, true, false, IsTrue, List, take, get_or, refl, sym, ap, ◌∙◌, subst, arith, take_all, label_of, Named, is_above, HasLabel, NoneLess}
 use Rattle.camp_seq.proofs.LabelSteps.{holds_at, none_less_of, none_less_still}
 use Rattle.camp_seq.proofs.orders.least_above.Goals as goal
 use Rattle.camp_seq.proofs.orders.least_above.Goals.{then-comes_before, else-comes_before}

@@ -1,5 +1,4 @@
-use Rattle.std.proofs.Common.{take, IsTrue}
-use Rattle.camp_seq.specs.Inside.LeastLabels.{is_above, HasLabel, NoneLess}
+use Rattle.camp_seq.proofs.Words.{take, IsTrue, is_above, HasLabel, NoneLess}
 use Rattle.camp_seq.proofs.orders.least_above.Given as goal
 
 abbrev pub invariant-loop-p : goal.invariant-loop-p

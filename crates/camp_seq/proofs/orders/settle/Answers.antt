@@ -1,6 +1,4 @@
-use Rattle.std.proofs.Common.{◌<◌, ◌∷◌, Some, refl, sym, ◌∙◌, subst, arith}
-use Rattle.camp_seq.specs.Inside.LeastLabels.{Settles, untried}
-use Rattle.camp_seq.specs.Passing.{Fronts}
+use Rattle.camp_seq.proofs.Words.{◌<◌, ◌∷◌, Some, refl, sym, ◌∙◌, subst, arith, Settles, untried, Fronts}
 use Rattle.camp_seq.proofs.LabelSteps.{starts_above, settles_from, above_least, untried_less}
 use Rattle.camp_seq.proofs.orders.settle.Goals as goal
 

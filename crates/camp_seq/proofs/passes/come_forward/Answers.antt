@@ -1,7 +1,4 @@
-use Rattle.std.proofs.Common.{◌≡◌, ◌+◌, ◌-◌, List, drop, set, refl, sym, ap, subst, ◌∙◌, arith}
-use Rattle.std.proofs.lemmas.List.{set-get_or}
-use Rattle.camp_prim.specs.declared.named.Named.{Named}
-use Rattle.camp_seq.specs.Inside.InPlace.{Precedes, ComesUpTo}
+use Rattle.camp_seq.proofs.Words.{◌≡◌, ◌+◌, ◌-◌, List, drop, set, refl, sym, ap, subst, ◌∙◌, arith, set-get_or, Named, Precedes, ComesUpTo}
 use Rattle.camp_seq.proofs.ListSteps.{DoneFrom, none_done, one_more_done}
 use Rattle.camp_seq.proofs.PassingSteps.{comes_up_to}
 use Rattle.camp_seq.proofs.passes.come_forward.Goals as goal

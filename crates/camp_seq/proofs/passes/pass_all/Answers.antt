@@ -1,5 +1,4 @@
-use Rattle.std.proofs.Common.{◌≡◌, ◌+◌, ◌-◌, drop, refl, subst, arith}
-use Rattle.camp_seq.specs.Passing.{PassesAll}
+use Rattle.camp_seq.proofs.Words.{◌≡◌, ◌+◌, ◌-◌, drop, refl, subst, arith, PassesAll}
 use Rattle.camp_seq.proofs.ListSteps.{DoneFrom, none_done, one_more_done}
 use Rattle.camp_seq.proofs.PassingSteps.{stops_all}
 use Rattle.camp_seq.proofs.passes.pass_all.Goals as goal

@@ -1,8 +1,5 @@
-use Rattle.std.proofs.Common.{◌≡◌, List, Err, ◌∙◌, subst, arith}
+use Rattle.camp_seq.proofs.Words.{◌≡◌, List, Err, ◌∙◌, subst, arith, AnswersByTrial, Named, AppliesAll}
 use Rattle.std.proofs.lemmas.Result.{err_from_is_err_and}
-use Rattle.camp_base.specs.Answers.{AnswersByTrial}
-use Rattle.camp_prim.specs.declared.named.Named.{Named}
-use Rattle.camp_seq.specs.Running.{AppliesAll}
 use Rattle.camp_seq.proofs.RunSteps.{run_more, run_stops}
 use Rattle.camp_seq.proofs.runs.apply_all.Goals as goal
 

@@ -1,5 +1,4 @@
-use Rattle.std.proofs.Common.{◌≡◌, ◌+◌, ◌-◌, false, true, refl, subst, arith}
-use Rattle.camp_seq.specs.Inside.InPlace.{PartsFrom}
+use Rattle.camp_seq.proofs.Words.{◌≡◌, ◌+◌, ◌-◌, false, true, refl, subst, arith, PartsFrom}
 use Rattle.camp_seq.proofs.GatherSteps.{parts_named, parts_other, parts_stop}
 use Rattle.camp_seq.proofs.splits.gather.Goals as goal
 
