@@ -1,4 +1,4 @@
-use Rattle.camp_seq.proofs.Words.{◌≡◌, true, false}
+use Rattle.std.proofs.Common.{◌≡◌, true, false}
 use Rattle.camp_seq.proofs.chains.can_swap.Goals as goal
 
 pub returns-in-Ok-None : goal.returns-in-Ok-None
