@@ -64,17 +64,7 @@ front_swapped_behind label [] p q q' p' s y u room w f = front_swapped label p q
 front_swapped_behind label (x ∷ before) p q q' p' s y u room w (inl f) = (
   before ++ q' ∷ p' ∷ s,
   inl (f.0, f.1, refl),
-  inr (record {
-    before = before;
-    p = p;
-    q = q;
-    q' = q';
-    p' = p';
-    after = s;
-    was = f.2;
-    turns = w;
-    becomes = refl;
-  }),
+  inr (subst (λ x. Exchanges Swap x (before ++ q' ∷ p' ∷ s)) (sym f.2) (exchanges_behind before (p ∷ q ∷ s) (q' ∷ p' ∷ s) (at_front p q q' p' s w))),
 )
 front_swapped_behind label (x ∷ before) p q q' p' s y u room w (inr f) =
     let a = f.1 in

@@ -1,19 +1,10 @@
 -- The first element with a label, and what comes of it at the front.
-use Rattle.camp_seq.proofs.Words.{◌≡◌, ◌≢◌, ℕ, List, [], ◌∷◌, ◌++◌, map, Contains, refl, sym, ap, ◌∙◌, inl, inr, suc, arith, map-append, Contains-append_right, Contains-get_or, label_of, Label, Named, FirstWith, Lacks, Precedes, Fronts}
-
-lacks_first : (label : Label) (p : Named) (s : List Named) → Lacks label (p ∷ s) → label_of p ≢ label
-lacks_first label p s lacks = lacks 0 p (omega arith)
-
-lacks_rest : (label : Label) (p : Named) (s : List Named) → Lacks label (p ∷ s) → Lacks label s
-lacks_rest label p s lacks = λ k d within. lacks (suc k) d (omega arith)
+use Rattle.camp_seq.proofs.Words.{◌≡◌, ◌≢◌, ℕ, List, [], ◌∷◌, ◌++◌, map, Contains, refl, sym, ap, ◌∙◌, inl, inr, arith, map-append, All-head, All-tail, Contains-append_right, Contains-get_or, label_of, Label, Named, FirstWith, Lacks, Precedes, Fronts}
+use Rattle.camp_seq.proofs.LabelsKept.{each_at_front}
 
 -- a label that no element has is at no front
 pub none_fronts : (label : Label) (s : List Named) (y : Named) (t : List Named) → Lacks label s → ¬ (Fronts label s y t)
-none_fronts label [] y t lacks w = w
-none_fronts label (p ∷ s) y t lacks (inl w) = lacks_first label p s lacks w.0
-none_fronts label (p ∷ s) y t lacks (inr w) =
-    let found = w.1 in
-    none_fronts label s found.0 found.2 (lacks_rest label p s lacks) found.3
+none_fronts label s y t lacks w = each_at_front (λ l. l ≢ label) label s y t w lacks refl
 
 -- an element with a label is among those of the list
 pub first_contained : (label : Label) (s : List Named) (at : ℕ) → FirstWith label s at → Contains (map label_of s) label
@@ -25,14 +16,14 @@ first_contained label s at w =
 pub fronts_from : (label : Label) (before : List Named) (first : Named) (after : List Named) (y : Named) (moved : List Named) → Lacks label before → label_of first ≡ label → Precedes before first y moved → Fronts label (before ++ first ∷ after) y (moved ++ after)
 fronts_from label [] first after y moved lacks is m = inl (is, m.0, ap (λ x. x ++ after) m.1)
 fronts_from label (p ∷ before) first after y moved lacks is m =
-    inr (lacks_first label p before lacks, (m.0, m.1, m.2 ++ after, fronts_from label before first after m.0 m.2 (lacks_rest label p before lacks) is m.3, m.4, ap (λ x. x ++ after) m.5))
+    inr (All-head (λ x. label_of x ≢ label) p before lacks, (m.0, m.1, m.2 ++ after, fronts_from label before first after m.0 m.2 (All-tail (λ x. label_of x ≢ label) p before lacks) is m.3, m.4, ap (λ x. x ++ after) m.5))
 
 -- and back: what is at the front was swapped there
 pub precedes_from : (label : Label) (before : List Named) (first : Named) (after : List Named) (y : Named) (t : List Named) → Lacks label before → label_of first ≡ label → Fronts label (before ++ first ∷ after) y t → (moved : List Named) × Precedes before first y moved
 precedes_from label [] first after y t lacks is (inl w) = ([], (w.1, refl))
 precedes_from label [] first after y t lacks is (inr w) = absurd (w.0 is)
-precedes_from label (p ∷ before) first after y t lacks is (inl w) = absurd (lacks_first label p before lacks w.0)
+precedes_from label (p ∷ before) first after y t lacks is (inl w) = absurd (All-head (λ x. label_of x ≢ label) p before lacks w.0)
 precedes_from label (p ∷ before) first after y t lacks is (inr w) =
     let found = w.1 in
-    let rest = precedes_from label before first after found.0 found.2 (lacks_rest label p before lacks) is found.3 in
+    let rest = precedes_from label before first after found.0 found.2 (All-tail (λ x. label_of x ≢ label) p before lacks) is found.3 in
     (found.1 ∷ rest.0, (found.0, found.1, rest.0, rest.1, found.4, refl))

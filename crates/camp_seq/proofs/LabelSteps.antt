@@ -1,7 +1,7 @@
 -- Labels tried in ascending order.
-use Rattle.camp_seq.proofs.Words.{◌≡◌, ◌≢◌, ℕ, zero, suc, ◌+◌, ◌<◌, ◌≤◌, Bool, true, false, if◌then◌else◌, List, [], ◌∷◌, Option, None, Some, Ordering, length, take, get_or, IsTrue, refl, sym, ap, subst, inl, inr, arith, All-more, All-weaker, Less, label_of, label_cmp, Label, Named, label_total, less_unless, not_below, less_from_lt, is_above, StartsAbove, HasLabel, NoneLess, LeastAbove, untried, Settles, IsLeast, Fronts}
+use Rattle.camp_seq.proofs.Words.{◌≡◌, ◌≢◌, ℕ, zero, suc, ◌+◌, ◌<◌, ◌≤◌, Bool, true, false, if◌then◌else◌, List, [], ◌∷◌, Option, None, Some, length, take, get_or, IsTrue, refl, sym, ap, subst, inl, inr, arith, All-more, All-weaker, Less, label_of, label_cmp, Label, Named, label_total, less_unless, not_below, less_from_lt, is_above, StartsAbove, HasLabel, NoneLess, LeastAbove, untried, Settles, IsLeast, Fronts}
 use Rattle.std.specs.Ordering.{is_lt}
-use Rattle.camp_seq.proofs.LabelsKept.{each_front}
+use Rattle.camp_seq.proofs.LabelsKept.{each_at_front}
 use Rattle.camp_seq.proofs.ListResults.{label-front}
 
 pub holds_at : (s : List Named) (i : ℕ) (d : Named) → i < length s → HasLabel (label_of (get_or s i d)) s
@@ -23,22 +23,17 @@ none_less_still tried s i d l least within is not none =
 -- what comes to the front is not less than the least label
 fronts_none_less : (tried : Option Label) (least other : Label) (s : List Named) (y : Named) (t : List Named) → NoneLess tried least s → Fronts other s y t → IsTrue (is_above tried other) → label_cmp other least ≢ Less
 fronts_none_less tried least other s y t none w above =
-    let P : Label → Type 0 = λ l. IsTrue (is_above tried l) → label_cmp l least ≢ Less in
-    subst P (label-front other s y t w) (each_front P other s y t w none).0 above
+    each_at_front (λ l. IsTrue (is_above tried l) → label_cmp l least ≢ Less) other s y t w none above
 
 -- a list has a first element, whose label comes to the front
 pub starts_above : (tried : Option Label) (s : List Named) → 0 < length s → ((other : Label) (y : Named) (t : List Named) → Fronts other s y t → IsTrue (is_above tried other)) → StartsAbove tried s
 starts_above tried [] some above = absurd (omega arith)
 starts_above tried (p ∷ s) some above = above (label_of p) p s (inl (refl, refl, refl))
 
-lt_from_less : (r : Ordering) → r ≡ Less → IsTrue (is_lt r)
-lt_from_less r e = ap is_lt e
-
 -- where the least label does not come to the front, what comes there is above it
 pub above_least : (tried : Option Label) (key : Label) (s : List Named) → LeastAbove tried s key → ((y : Named) (t : List Named) → ¬ (Fronts key s y t)) → (other : Label) (y : Named) (t : List Named) → Fronts other s y t → IsTrue (is_above tried other) → IsTrue (is_above (Some key) other)
 above_least tried key s least never other y t w above =
-    let not_less = fronts_none_less tried key other s y t least.least w above in
-    lt_from_less (label_cmp key other) (less_unless other key not_less (λ e. never y t (subst (λ x. Fronts x s y t) e w)))
+    ap is_lt (less_unless other key (fronts_none_less tried key other s y t least.least w above) (λ e. never y t (subst (λ x. Fronts x s y t) e w)))
 
 one_le : (a b : Bool) → (IsTrue a → IsTrue b) → (if a then 1 else 0) ≤ (if b then 1 else 0)
 one_le true true h = omega arith
@@ -55,7 +50,7 @@ none_one false false h k = cc
 further : (tried : Option Label) (key : Label) (other : Label) → IsTrue (is_above tried key) → IsTrue (is_above (Some key) other) → IsTrue (is_above tried other)
 further None key other above more = refl
 further (Some last) key other above more =
-    lt_from_less (label_cmp last other) (label_total.trans last key other (less_from_lt (label_cmp last key) above) (less_from_lt (label_cmp key other) more))
+    ap is_lt (label_total.trans last key other (less_from_lt (label_cmp last key) above) (less_from_lt (label_cmp key other) more))
 
 untried_le : (tried : Option Label) (key : Label) (s : List Named) → IsTrue (is_above tried key) → untried (Some key) s ≤ untried tried s
 untried_le tried key [] above = omega arith

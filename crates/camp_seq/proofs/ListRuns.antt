@@ -1,6 +1,6 @@
 -- What lists of primitives do to trees: joined lists, lists after a swap, inverses.
-use Rattle.camp_seq.proofs.Words.{◌≡◌, List, [], ◌∷◌, ◌++◌, map, reverse, refl, sym, ap, ◌∙◌, subst, reverse-append, map-append, Files, inverse_of, Swap, Named, leads_back, inverse_of-inverse_of, effect, Exchanges, same, exchanged, backwards, through, EquivalentRun, InverseOfListLeadsBack, AppliesAll, inverse_all}
-use Rattle.camp_seq.proofs.ExchangeSteps.{exchanges_back}
+use Rattle.camp_seq.proofs.Words.{◌≡◌, List, [], ◌∷◌, ◌++◌, map, reverse, refl, sym, ap, ◌∙◌, subst, reverse-append, map-append, Files, inverse_of, Swap, Named, leads_back, inverse_of-inverse_of, effect, Exchanges, EquivalentRun, InverseOfListLeadsBack, AppliesAll, inverse_all}
+use Rattle.camp_seq.proofs.ExchangeSteps.{shared}
 
 pub joined_runs : (s t : List Named) (old between new : Files) → AppliesAll s old between → AppliesAll t between new → AppliesAll (s ++ t) old new
 joined_runs [] t old between new r q = subst (λ x. AppliesAll t x new) r q
@@ -24,15 +24,7 @@ exchanged_runs s t old new e r =
     subst (λ x. AppliesAll x old new) (sym e.becomes) (joined_runs e.before (e.q' ∷ e.p' ∷ e.after) old cut.0 new cut.1 (swapped_runs e.p e.q e.q' e.p' e.after cut.0 new e.turns cut.2))
 
 pub equivalent_run : EquivalentRun
-equivalent_run s t same old new = (λ r. r, λ r. r)
-equivalent_run s t (exchanged e) old new = (exchanged_runs s t old new e, exchanged_runs t s old new (exchanges_back s t e))
-equivalent_run s t (backwards e) old new =
-    let alike = equivalent_run t s e old new in
-    (alike.1, alike.0)
-equivalent_run s t (through {t = u} e f) old new =
-    let first = equivalent_run s u e old new in
-    let second = equivalent_run u t f old new in
-    (λ r. second.0 (first.0 r), λ r. first.1 (second.1 r))
+equivalent_run s t e old new = shared (λ x. AppliesAll x old new) (λ x y w r. exchanged_runs x y old new w r) s t e
 
 pub inverse_all-cons : (p : Named) (s : List Named) → inverse_all (p ∷ s) ≡ inverse_all s ++ inverse_of p ∷ []
 inverse_all-cons p s = reverse-append (inverse_of p ∷ []) (map inverse_of s)

@@ -1,4 +1,4 @@
-use Rattle.camp_seq.proofs.Words.{◌≡◌, ◌≢◌, length, get_or, sym, ap, subst, ◌∙◌, arith, get_or_default, Less, label_of, label_cmp, less_from_lt, not_less_where, StandsAt}
+use Rattle.camp_seq.proofs.Words.{◌≡◌, ◌≢◌, length, get_or, sym, ap, subst, ◌∙◌, arith, get_or_default, Less, label_of, label_cmp, less_from_lt, not_less_where, StandsAt, false, true}
 use Rattle.camp_seq.proofs.PlacingSteps.{goes_on, stays_before, never_stuck, stays_last}
 use Rattle.camp_seq.proofs.insertions.go_back.Goals as goal
 
