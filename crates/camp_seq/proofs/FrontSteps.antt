@@ -1,5 +1,6 @@
 -- The first element with a label, and what comes of it at the front.
-use Rattle.camp_seq.proofs.Words.{◌≡◌, ◌≢◌, ℕ, List, [], ◌∷◌, ◌++◌, map, Contains, refl, sym, ap, ◌∙◌, inl, inr, arith, map-append, All-head, All-tail, Contains-append_right, Contains-get_or, label_of, Label, Named, FirstWith, Lacks, Precedes, Fronts}
+use Rattle.camp_seq.proofs.Words.{◌≡◌, ◌≢◌, ℕ, List, [], ◌∷◌, ◌++◌, map, Contains, refl, sym, ap, ◌∙◌, inl, inr, arith, map-append, All-head, All-tail, Contains-append_right, Contains-get_or, label_of, Label, Named, FirstWith, Lacks, Precedes, Fronts, take, drop, get_or, length, ◌<◌, ◌+◌, drop_more, length-take-le}
+use Rattle.camp_seq.proofs.ListSteps.{whole}
 use Rattle.camp_seq.proofs.LabelsKept.{each_at_front}
 
 -- a label that no element has is at no front
@@ -27,3 +28,15 @@ precedes_from label (p ∷ before) first after y t lacks is (inr w) =
     let found = w.1 in
     let rest = precedes_from label before first after found.0 found.2 (All-tail (λ x. label_of x ≢ label) p before lacks) is found.3 in
     (found.1 ∷ rest.0, (found.0, found.1, rest.0, rest.1, found.4, refl))
+
+-- an element with a label, and none before it has it
+pub first_with : (label : Label) (s : List Named) (at : ℕ) (p : Named) → at < length s → p ≡ get_or s at p → label_of p ≡ label → Lacks label (take at s) → FirstWith label s at
+first_with label s at p within is labelled lacks = record {
+  before = take at s;
+  first = p;
+  after = drop (at + 1) s;
+  is = whole s at _ (drop_more s at p within ∙ ap (λ x. x ∷ drop (at + 1) s) (sym is));
+  stands = length-take-le at s (omega arith);
+  labelled = labelled;
+  lacks = lacks;
+}

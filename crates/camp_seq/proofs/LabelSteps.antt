@@ -1,24 +1,41 @@
 -- Labels tried in ascending order.
-use Rattle.camp_seq.proofs.Words.{◌≡◌, ◌≢◌, ℕ, zero, suc, ◌+◌, ◌<◌, ◌≤◌, Bool, true, false, if◌then◌else◌, List, [], ◌∷◌, Option, None, Some, length, take, get_or, IsTrue, refl, sym, ap, subst, inl, inr, arith, All-more, All-weaker, Less, label_of, label_cmp, Label, Named, label_total, less_unless, not_below, less_from_lt, is_above, StartsAbove, HasLabel, NoneLess, LeastAbove, untried, Settles, IsLeast, Fronts}
+use Rattle.camp_seq.proofs.Words.{◌≡◌, ◌≢◌, ℕ, zero, suc, ◌+◌, ◌<◌, ◌≤◌, Bool, true, false, if◌then◌else◌, List, [], ◌∷◌, Option, None, Some, length, take, get_or, IsTrue, refl, sym, ap, subst, inl, inr, arith, All-more, All-weaker, Less, label_of, label_cmp, Label, Named, label_total, less_unless, not_below, less_from_lt, is_above, StartsAbove, HasLabel, NoneLess, LeastAbove, untried, Settles, IsLeast, Fronts, take_all}
 use Rattle.std.specs.Ordering.{is_lt}
 use Rattle.camp_seq.proofs.LabelsKept.{each_at_front}
 use Rattle.camp_seq.proofs.ListResults.{label-front}
 
-pub holds_at : (s : List Named) (i : ℕ) (d : Named) → i < length s → HasLabel (label_of (get_or s i d)) s
+holds_at : (s : List Named) (i : ℕ) (d : Named) → i < length s → HasLabel (label_of (get_or s i d)) s
 holds_at [] i d within = absurd (omega arith)
 holds_at (p ∷ s) zero d within = inl refl
 holds_at (p ∷ s) (suc i) d within = inr (holds_at s i d (omega arith))
 
-pub none_less_of : (tried : Option Label) (s : List Named) (i : ℕ) (d : Named) (l least : Label) → i < length s → l ≡ label_of (get_or s i d) → label_cmp l least ≡ Less → NoneLess tried least (take i s) → NoneLess tried l (take (i + 1) s)
-none_less_of tried s i d l least within is less none =
-    let P : Named → Type 0 = λ p. IsTrue (is_above tried (label_of p)) → label_cmp (label_of p) least ≢ Less in
-    let Q : Named → Type 0 = λ p. IsTrue (is_above tried (label_of p)) → label_cmp (label_of p) l ≢ Less in
-    All-more Q s i d within (All-weaker P Q (λ p none above below. none above (label_total.trans (label_of p) l least below less)) (take i s) none) (λ above below. not_below l l refl (subst (λ x. label_cmp x l ≡ Less) (sym is) below))
+-- the least of the labels that are yet to be tried, so far
+pub record LeastSoFar (tried : Option Label) (s : List Named) (n : ℕ) (label : Label) : Type 0 where
+  pub above : IsTrue (is_above tried label)
+  pub held : HasLabel label s
+  pub least : NoneLess tried label (take n s)
 
-pub none_less_still : (tried : Option Label) (s : List Named) (i : ℕ) (d : Named) (l least : Label) → i < length s → l ≡ label_of (get_or s i d) → ¬ (IsTrue (is_above tried l) × (label_cmp l least ≡ Less)) → NoneLess tried least (take i s) → NoneLess tried least (take (i + 1) s)
-none_less_still tried s i d l least within is not none =
-    let P : Named → Type 0 = λ p. IsTrue (is_above tried (label_of p)) → label_cmp (label_of p) least ≢ Less in
-    All-more P s i d within none (λ above below. not (subst (λ x. IsTrue (is_above tried x)) (sym is) above, subst (λ x. label_cmp x least ≡ Less) (sym is) below))
+pub next_is_less : (tried : Option Label) (s : List Named) (i : ℕ) (d : Named) (l least : Label) → i < length s → l ≡ label_of (get_or s i d) → IsTrue (is_above tried l) × (label_cmp l least ≡ Less) → LeastSoFar tried s i least → LeastSoFar tried s (i + 1) l
+next_is_less tried s i d l least within is less so_far =
+    let P = λ (m : Label) (p : Named). IsTrue (is_above tried (label_of p)) → label_cmp (label_of p) m ≢ Less in
+    record {
+      above = less.0;
+      held = subst (λ x. HasLabel x s) (sym is) (holds_at s i d within);
+      least = All-more (P l) s i d within (All-weaker (P least) (P l) (λ p none above below. none above (label_total.trans (label_of p) l least below less.1)) (take i s) so_far.least) (λ above. not_below _ l (sym is));
+    }
+
+pub next_is_not : (tried : Option Label) (s : List Named) (i : ℕ) (d : Named) (l least : Label) → i < length s → l ≡ label_of (get_or s i d) → ¬ (IsTrue (is_above tried l) × (label_cmp l least ≡ Less)) → LeastSoFar tried s i least → LeastSoFar tried s (i + 1) least
+next_is_not tried s i d l least within is not so_far =
+    let P = λ (p : Named). IsTrue (is_above tried (label_of p)) → label_cmp (label_of p) least ≢ Less in
+    record {
+      above = so_far.above;
+      held = so_far.held;
+      least = All-more P s i d within so_far.least (subst (λ x. IsTrue (is_above tried x) → label_cmp x least ≢ Less) is (λ above below. not (above, below)));
+    }
+
+pub least_of_all : (tried : Option Label) (s : List Named) (n : ℕ) (label : Label) → length s ≤ n → LeastSoFar tried s n label → LeastAbove tried s label
+least_of_all tried s n label all w =
+    record { above = w.above; held = w.held; least = subst (NoneLess tried label) (take_all n s all) w.least }
 
 -- what comes to the front is not less than the least label
 fronts_none_less : (tried : Option Label) (least other : Label) (s : List Named) (y : Named) (t : List Named) → NoneLess tried least s → Fronts other s y t → IsTrue (is_above tried other) → label_cmp other least ≢ Less
