@@ -1,6 +1,10 @@
 -- What lists of primitives do to trees: joined lists, lists after a swap, inverses.
-use Rattle.camp_seq.proofs.Words.{◌≡◌, List, [], ◌∷◌, ◌++◌, map, reverse, refl, sym, ap, ◌∙◌, subst, reverse-append, map-append, Files, inverse_of, Swap, Named, leads_back, inverse_of-inverse_of, effect, Exchanges, EquivalentRun, InverseOfListLeadsBack, AppliesAll, inverse_all}
+use Rattle.camp_seq.proofs.Words.{◌≡◌, List, [], ◌∷◌, ◌++◌, map, reverse, refl, sym, ap, ◌∙◌, subst, reverse-append, map-append, Files, inverse_of, Swap, Named, leads_back, inverse_of-inverse_of, effect, Exchanges, EquivalentRun, InverseOfListLeadsBack, AppliesAll, inverse_all, ℕ, ◌+◌, ◌<◌, Err, length, take, drop, get_or, drop_more, take_more, Answers, AnswersByTrial, Applies}
 use Rattle.camp_seq.proofs.ExchangeSteps.{shared}
+use Rattle.camp_base.specs.declared.faults.Apply.{Apply}
+use Rattle.camp_base.specs.declared.faults.Apply.TheVariants.{DoesNotApply, Memory}
+use Rattle.camp_prim.proofs.Applied.{applies_once}
+use Rattle.camp_seq.proofs.ListSteps.{whole}
 
 pub joined_runs : (s t : List Named) (old between new : Files) → AppliesAll s old between → AppliesAll t between new → AppliesAll (s ++ t) old new
 joined_runs [] t old between new r q = subst (λ x. AppliesAll t x new) r q
@@ -45,3 +49,20 @@ runs_back (p ∷ s) old new r =
 pub inverse_all_leads_back : InverseOfListLeadsBack
 inverse_all_leads_back s old new =
     (runs_back s old new, λ r. subst (λ x. AppliesAll x old new) (inverse_all-inverse_all s) (runs_back (inverse_all s) new old r))
+
+pub run_more : (s : List Named) (i : ℕ) (p : Named) (old between new : Files) → i < length s → p ≡ get_or s i p → AppliesAll (take i s) old between → Applies p.prim between new → AppliesAll (take (i + 1) s) old new
+run_more s i p old between new within is runs applies =
+    let more : take (i + 1) s ≡ take i s ++ p ∷ [] = take_more s i p within ∙ ap (λ x. take i s ++ x ∷ []) (sym is) in
+    subst (λ x. AppliesAll x old new) (sym more) (joined_runs (take i s) (p ∷ []) old between new runs (new, applies, refl))
+
+no_run : (s : List Named) (p : Named) (rest : List Named) (old between : Files) → AppliesAll s old between → ((any : Files) → ¬ (Applies p.prim between any)) → (new : Files) → ¬ (AppliesAll (s ++ p ∷ rest) old new)
+no_run [] p rest old between runs never new r = never r.0 (subst (λ x. Applies p.prim x r.0) (sym runs) r.1)
+no_run (q ∷ s) p rest old between runs never new r =
+    no_run s p rest runs.0 between runs.2 never new (subst (λ x. AppliesAll (s ++ p ∷ rest) x new) (applies_once q.prim old r.0 runs.0 r.1 runs.1) r.2)
+
+-- where a primitive does not apply to what those before it leave, the list leads nowhere
+pub run_stops : (s : List Named) (i : ℕ) (p : Named) (old between after : Files) (fault : Apply) → i < length s → p ≡ get_or s i p → AppliesAll (take i s) old between → Answers (Applies p.prim) between (Err fault) after → AnswersByTrial (AppliesAll s) old (Err fault) old
+run_stops s i p old between after DoesNotApply within is runs answer =
+    let next : drop i s ≡ p ∷ drop (i + 1) s = drop_more s i p within ∙ ap (λ x. x ∷ drop (i + 1) s) (sym is) in
+    (λ new r. no_run (take i s) p (drop (i + 1) s) old between runs answer.0 new (subst (λ x. AppliesAll x old new) (whole s i (p ∷ drop (i + 1) s) next) r), refl)
+run_stops s i p old between after Memory within is runs answer = refl

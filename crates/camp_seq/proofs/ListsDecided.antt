@@ -1,8 +1,7 @@
 -- Whether lists pass, split and merge is decided.
 use Rattle.camp_seq.proofs.Words.{◌≡◌, ◌≢◌, zero, suc, List, [], ◌∷◌, refl, subst, inl, inr, arith, Contains, label_of, label_cmp, Swap, Label, Named, label_total, label_ties, Decided, decided_by, same_or_not, swap_or_not, swap_unique, CleanMerge, Splits, Passes, PassesAll, Parts, inverse_all}
 use Rattle.camp_seq.proofs.ListResults.{one_pass_of_all, one_parting}
-use Rattle.camp_seq.proofs.MergeGrid.{merge_is_passing}
-use Rattle.camp_seq.proofs.MergeSteps.{merges_from}
+use Rattle.camp_seq.proofs.MergeGrid.{merge_is_passing, passing_merges}
 use Rattle.camp_seq.proofs.NormalOrders.{has_normal_order}
 
 -- a relation gives two results, or it has none
@@ -54,7 +53,7 @@ all_pass_or_not (p ∷ r) s = elim (all_pass_or_not r s) [
 
 pub clean_merge_or_not : (a b : List Named) → TwoOrNone (CleanMerge a b)
 clean_merge_or_not a b =
-    decided_by (λ w. (w.0, inverse_all w.1, merges_from a b (inverse_all a) w.0 w.1 (inverse_all w.1) refl w.2 refl)) (λ w. (w.0, inverse_all w.1, (merge_is_passing a b w.0 w.1).0 w.2)) (all_pass_or_not (inverse_all a) b)
+    decided_by (λ w. (w.0, inverse_all w.1, passing_merges a b w.0 w.1 w.2)) (λ w. (w.0, inverse_all w.1, (merge_is_passing a b w.0 w.1).0 w.2)) (all_pass_or_not (inverse_all a) b)
 
 label_or_not : (l m : Label) → Decided (l ≡ m)
 label_or_not = same_or_not label_cmp label_total label_ties

@@ -81,7 +81,7 @@ merge_passes (p ∷ a) b b' a' m =
     subst (λ r. PassesAll r b b' (inverse_all a')) (sym (inverse_all-cons p a)) (subst (λ r. PassesAll (inverse_all a ++ inverse_of p ∷ []) b b' r) (sym (inverse_all-cons m.1 m.2) ∙ ap inverse_all (sym m.5)) all)
 
 -- with the passed list any
-passing_merges : (a b b' r' : List Named) → PassesAll (inverse_all a) b b' r' → CleanMerge a b b' (inverse_all r')
+pub passing_merges : (a b b' r' : List Named) → PassesAll (inverse_all a) b b' r' → CleanMerge a b b' (inverse_all r')
 passing_merges [] b b' r' w = (w.0, ap inverse_all w.1)
 passing_merges (p ∷ a) b b' r' w =
     let last = last_passes (inverse_all a) (inverse_of p) b b' r' (subst (λ r. PassesAll r b b' r') (inverse_all-cons p a) w) in

@@ -15,19 +15,19 @@ pub use Rattle.camp_seq.specs.Inside.InPlace.{ComesUpTo, FirstPasses, FirstWith,
 pub use Rattle.camp_prim.proofs.SwapLaws.{effect, own_inverse, square}
 pub use Rattle.std.specs.Bool.{then_some}
 pub use Rattle.std.specs.List.{All}
+pub use Rattle.camp_prim.proofs.SwapUnique.{swap_unique}
+pub use Rattle.camp_seq.specs.Inside.Insertions.{Follows, InOrder, Placed, StandsAt, StartsAfter, StaysAt}
+pub use Rattle.camp_seq.specs.Inside.LeastLabels.{HasLabel, LeastAbove, NoneLess, Settles, StartsAbove, is_above, untried}
+pub use Rattle.camp_prim.specs.Effect.{Applies, InRange, inverse_of}
 pub use Rattle.std.specs.Prelude.{◌↔◌}
 pub use Rattle.std.specs.declared.cmp.Ordering.TheVariants.{Less}
-pub use Rattle.camp_prim.proofs.SwapUnique.{swap_unique}
-pub use Rattle.camp_prim.specs.Effect.{Applies, InRange, inverse_of}
 pub use Rattle.camp_prim.specs.Labels.{key_of, label_cmp, label_of}
+pub use Rattle.camp_seq.specs.Laws.{AreDetermined, AreEquivalent, EquivalentRun, HasNormalOrder, InverseOfListLeadsBack, MergeCloses, MergeIsEquivalent, MergeIsPassing, MergeIsSymmetric, SplitByLabels}
+pub use Rattle.camp_seq.specs.Merging.{CleanMerge, Merges, MergesOne}
 pub use Rattle.camp_prim.specs.Swaps.{ChangePlaces, Swap, SwapAnywhere, path_of}
 pub use Rattle.camp_prim.specs.declared.labels.Label.{Label}
 pub use Rattle.camp_prim.specs.declared.named.Named.{Named}
 pub use Rattle.camp_prim.specs.declared.primitives.Primitive.{Primitive}
-pub use Rattle.camp_seq.specs.Inside.Insertions.{Follows, InOrder, Placed, StandsAt, StartsAfter, StaysAt}
-pub use Rattle.camp_seq.specs.Inside.LeastLabels.{HasLabel, LeastAbove, NoneLess, Settles, StartsAbove, is_above, untried}
-pub use Rattle.camp_seq.specs.Laws.{AreDetermined, AreEquivalent, EquivalentRun, HasNormalOrder, InverseOfListLeadsBack, MergeCloses, MergeIsEquivalent, MergeIsPassing, MergeIsSymmetric, SplitByLabels}
-pub use Rattle.camp_seq.specs.Merging.{CleanMerge, Merges, MergesOne}
 pub use Rattle.camp_seq.specs.NormalOrder.{IsLeast, Norm, Splits}
 pub use Rattle.camp_seq.specs.Passing.{Fronts, Parts, Passes, PassesAll}
 pub use Rattle.camp_seq.specs.Room.{HasRoom, LawOfThree, NormalForm, Reaches, further, here}

@@ -1,13 +1,8 @@
-use Rattle.camp_seq.proofs.Words.{◌≡◌, ◌++◌, ◌∷◌, length, set, get_or, take, drop, refl, sym, ap, ◌∙◌, subst, take_at, drop_at, Precedes, Fronts}
-use Rattle.camp_seq.proofs.FrontSteps.{none_fronts, fronts_from, precedes_from}
+use Rattle.camp_seq.proofs.Words.{◌≡◌, ◌++◌, ◌∷◌, length, set, get_or, take, drop, sym, ap, ◌∙◌, subst, take_at, drop_at, Precedes, Fronts}
+use Rattle.camp_seq.proofs.FrontSteps.{fronts_from, precedes_from}
 use Rattle.camp_seq.proofs.ListSteps.{turned_right}
 use Rattle.camp_seq.proofs.fronts.bring.Goals as goal
 use Rattle.camp_seq.proofs.fronts.bring.Goals.{After-precede}
-
-pub returns-in_default : goal.returns-in_default
-returns-in_default c = record {
-  exact = (λ any w. none_fronts c.args.label.now c.args.items.now w.0 w.1 c.in_default.ensures w.2, refl);
-}
 
 -- the parts, and the first element with the label at the front of the second one
 cut : (c : After-precede) → (c.split_at_mut-before.result.0.now ≡ c.in-Some.ensures.before) × (c.split_at_mut-before.result.1.now ≡ c.in-Some.ensures.first ∷ c.in-Some.ensures.after)
