@@ -1,36 +1,26 @@
 -- Every list has a normal order.
-use Rattle.camp_seq.proofs.Words.{◌≡◌, ◌≢◌, ℕ, zero, suc, ◌+◌, ◌≤◌, List, [], ◌∷◌, length, refl, sym, ap, subst, inl, inr, arith, Less, label_of, label_cmp, Label, Swap, Named, All-nil, All-cons, All-head, All-weaker, ◌⊎◌, label_total, label_ties, less_or_not, not_below, Decided, same_or_not, swap_or_not, HasNormalOrder, IsLeast, Norm, Fronts}
+use Rattle.camp_seq.proofs.Words.{◌≡◌, ◌≢◌, ℕ, zero, suc, ◌+◌, ◌≤◌, List, [], ◌∷◌, length, refl, sym, ap, subst, inl, inr, arith, Less, label_of, label_cmp, Label, Swap, Named, All-nil, All-cons, All-head, All-weaker, ◌⊎◌, label_total, label_ties, less_or_not, not_below, Decided, same_or_not, swap_or_not, HasNormalOrder, IsLeast, Norm, Fronts, decided_by}
 use Rattle.camp_seq.proofs.LabelsKept.{Each, each_at_front}
 use Rattle.camp_seq.proofs.ListResults.{one_front, label-front}
 
 abbrev Front : Label → List Named → Type 0
 Front label s = (y : Named) × (t : List Named) × Fronts label s y t
 
-front_by_swap : (label : Label) (p : Named) (s : List Named) → label_of p ≢ label → (f : Front label s) → Decided ((q' : Named) × (p' : Named) × Swap p f.0 q' p') → Decided (Front label (p ∷ s))
-front_by_swap label p s other f (inl w) = inl (w.0, w.1 ∷ f.1, inr (other, (f.0, w.1, f.1, f.2, w.2, refl)))
-front_by_swap label p s other f (inr never) = inr (λ g. elim g.2 [
-  | inl w ↦ other w.0
-  | inr w ↦
-      let a = w.1 in
-      let rest = one_front label s a.2 f.1 a.0 f.0 a.3 f.2 in
-      never (g.0, a.1, subst (λ x. Swap p x g.0 a.1) rest.0 a.4)
-])
-
-front_behind : (label : Label) (p : Named) (s : List Named) → label_of p ≢ label → Decided (Front label s) → Decided (Front label (p ∷ s))
-front_behind label p s other (inl f) = front_by_swap label p s other f (swap_or_not p f.0)
-front_behind label p s other (inr never) = inr (λ g. elim g.2 [
-  | inl w ↦ other w.0
-  | inr w ↦ let a = w.1 in never (a.0, a.2, a.3)
-])
-
 pub front_or_not : (label : Label) (s : List Named) → Decided (Front label s)
 front_or_not label [] = inr (λ f. f.2)
-front_or_not label (p ∷ s) =
-    let rest = front_or_not label s in
-    elim (same_or_not _ label_total label_ties (label_of p) label) [
-      | inl e ↦ inl (p, s, inl (e, refl, refl))
-      | inr other ↦ front_behind label p s other rest
-    ]
+front_or_not label (p ∷ s) = elim (same_or_not _ label_total label_ties (label_of p) label) [
+  | inl e ↦ inl (p, s, inl (e, refl, refl))
+  | inr other ↦ elim (front_or_not label s) [
+    | inl f ↦ decided_by (λ w. (w.0, w.1 ∷ f.1, inr (other, (f.0, w.1, f.1, f.2, w.2, refl)))) (λ g. elim g.2 [
+      | inl w ↦ absurd (other w.0)
+      | inr w ↦
+          let a = w.1 in
+          let rest = one_front label s a.2 f.1 a.0 f.0 a.3 f.2 in
+          (g.0, a.1, subst (λ x. Swap p x g.0 a.1) rest.0 a.4)
+    ]) (swap_or_not p f.0)
+    | inr never ↦ inr (λ g. elim g.2 [ inl w ↦ other w.0 | inr w ↦ let a = w.1 in never (a.0, a.2, a.3) ])
+  ]
+]
 
 -- no label of these elements that comes to the front of a list is less than this one
 abbrev LeastOf : List Named → Label → List Named → Type 0
