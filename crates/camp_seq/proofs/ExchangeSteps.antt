@@ -1,64 +1,36 @@
 -- Exchanges of neighbours, inside longer lists and back.
-use Rattle.std.proofs.Common.{List, [], ◌∷◌, ◌++◌, refl, sym, ap, ◌∙◌}
-use Rattle.std.proofs.lemmas.List.{append_assoc}
-use Rattle.camp_prim.specs.Swaps.{Swap, SwapAnywhere}
-use Rattle.camp_prim.specs.declared.named.Named.{Named}
-use Rattle.camp_prim.proofs.SwapLaws.{own_inverse}
-use Rattle.camp_seq.specs.Equivalence.{Exchanges}
+use Rattle.camp_seq.proofs.Words.{List, [], ◌∷◌, ◌++◌, refl, sym, ap, ◌∙◌, append_assoc, Swap, SwapAnywhere, Named, own_inverse, Exchanges, ◌~◌, same, exchanged, backwards, through, ◌↔◌, ◌≡◌}
+
+-- of two elements between others
+exchanged_at : {Turns : Named → Named → Named → Named → Type 0} (before : List Named) (p q q' p' : Named) (after s t : List Named) → s ≡ before ++ p ∷ q ∷ after → Turns p q q' p' → t ≡ before ++ q' ∷ p' ∷ after → Exchanges Turns s t
+exchanged_at before p q q' p' after s t was w becomes =
+    record { before = before; p = p; q = q; q' = q'; p' = p'; after = after; was = was; turns = w; becomes = becomes }
 
 -- of the first two
 pub at_front : {Turns : Named → Named → Named → Named → Type 0} (p q q' p' : Named) (s : List Named) → Turns p q q' p' → Exchanges Turns (p ∷ q ∷ s) (q' ∷ p' ∷ s)
-at_front p q q' p' s w =
-    record { before = []; p = p; q = q; q' = q'; p' = p'; after = s; was = refl; turns = w; becomes = refl }
+at_front p q q' p' s w = exchanged_at [] p q q' p' s (p ∷ q ∷ s) (q' ∷ p' ∷ s) refl w refl
 
 pub exchanges_behind : {Turns : Named → Named → Named → Named → Type 0} (u s t : List Named) → Exchanges Turns s t → Exchanges Turns (u ++ s) (u ++ t)
-exchanges_behind u s t e = record {
-  before = u ++ e.before;
-  p = e.p;
-  q = e.q;
-  q' = e.q';
-  p' = e.p';
-  after = e.after;
-  was = ap (λ x. u ++ x) e.was ∙ sym (append_assoc u e.before (e.p ∷ e.q ∷ e.after));
-  turns = e.turns;
-  becomes = ap (λ x. u ++ x) e.becomes ∙ sym (append_assoc u e.before (e.q' ∷ e.p' ∷ e.after));
-}
+exchanges_behind u s t e =
+    exchanged_at (u ++ e.before) e.p e.q e.q' e.p' e.after (u ++ s) (u ++ t) (ap (λ x. u ++ x) e.was ∙ sym (append_assoc u e.before (e.p ∷ e.q ∷ e.after))) e.turns (ap (λ x. u ++ x) e.becomes ∙ sym (append_assoc u e.before (e.q' ∷ e.p' ∷ e.after)))
 
 pub exchanges_before : {Turns : Named → Named → Named → Named → Type 0} (s t u : List Named) → Exchanges Turns s t → Exchanges Turns (s ++ u) (t ++ u)
-exchanges_before s t u e = record {
-  before = e.before;
-  p = e.p;
-  q = e.q;
-  q' = e.q';
-  p' = e.p';
-  after = e.after ++ u;
-  was = ap (λ x. x ++ u) e.was ∙ append_assoc e.before (e.p ∷ e.q ∷ e.after) u;
-  turns = e.turns;
-  becomes = ap (λ x. x ++ u) e.becomes ∙ append_assoc e.before (e.q' ∷ e.p' ∷ e.after) u;
-}
+exchanges_before s t u e =
+    exchanged_at e.before e.p e.q e.q' e.p' (e.after ++ u) (s ++ u) (t ++ u) (ap (λ x. x ++ u) e.was ∙ append_assoc e.before (e.p ∷ e.q ∷ e.after) u) e.turns (ap (λ x. x ++ u) e.becomes ∙ append_assoc e.before (e.q' ∷ e.p' ∷ e.after) u)
 
 pub exchanges_back : (s t : List Named) → Exchanges Swap s t → Exchanges Swap t s
-exchanges_back s t e = record {
-  before = e.before;
-  p = e.q';
-  q = e.p';
-  q' = e.p;
-  p' = e.q;
-  after = e.after;
-  was = e.becomes;
-  turns = own_inverse e.p e.q e.q' e.p' e.turns;
-  becomes = e.was;
-}
+exchanges_back s t e =
+    exchanged_at e.before e.q' e.p' e.p e.q e.after t s e.becomes (own_inverse e.p e.q e.q' e.p' e.turns) e.was
 
 pub exchanged_anywhere : (s t : List Named) → Exchanges Swap s t → Exchanges SwapAnywhere s t
-exchanged_anywhere s t e = record {
-  before = e.before;
-  p = e.p;
-  q = e.q;
-  q' = e.q';
-  p' = e.p';
-  after = e.after;
-  was = e.was;
-  turns = e.turns.anywhere;
-  becomes = e.becomes;
-}
+exchanged_anywhere s t e = exchanged_at e.before e.p e.q e.q' e.p' e.after s t e.was e.turns.anywhere e.becomes
+
+-- what one exchange keeps, equivalent lists share
+pub shared : (Fact : List Named → Type 0) → ((s t : List Named) → Exchanges Swap s t → Fact s → Fact t) → (s t : List Named) → s ~ t → Fact s ↔ Fact t
+shared Fact kept s t same = (λ f. f, λ f. f)
+shared Fact kept s t (exchanged e) = (kept s t e, kept t s (exchanges_back s t e))
+shared Fact kept s t (backwards e) = let both = shared Fact kept t s e in (both.1, both.0)
+shared Fact kept s t (through {t = v} e f) =
+    let first = shared Fact kept s v e in
+    let second = shared Fact kept v t f in
+    (λ x. second.0 (first.0 x), λ x. first.1 (second.1 x))

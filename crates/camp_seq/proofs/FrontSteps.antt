@@ -1,26 +1,11 @@
 -- The first element with a label, and what comes of it at the front.
-use Rattle.std.proofs.Common.{◌≡◌, ◌≢◌, ℕ, List, [], ◌∷◌, ◌++◌, map, Contains, refl, sym, ap, ◌∙◌, inl, inr, suc, arith}
-use Rattle.std.proofs.lemmas.List.{map-append}
-use Rattle.std.proofs.lemmas.List.Elements.{Contains-append_right, Contains-get_or}
-use Rattle.camp_prim.specs.Labels.{label_of}
-use Rattle.camp_prim.specs.declared.labels.Label.{Label}
-use Rattle.camp_prim.specs.declared.named.Named.{Named}
-use Rattle.camp_seq.specs.Inside.InPlace.{FirstWith, Lacks, Precedes}
-use Rattle.camp_seq.specs.Passing.{Fronts}
-
-lacks_first : (label : Label) (p : Named) (s : List Named) → Lacks label (p ∷ s) → label_of p ≢ label
-lacks_first label p s lacks = lacks 0 p (omega arith)
-
-lacks_rest : (label : Label) (p : Named) (s : List Named) → Lacks label (p ∷ s) → Lacks label s
-lacks_rest label p s lacks = λ k d within. lacks (suc k) d (omega arith)
+use Rattle.camp_seq.proofs.Words.{◌≡◌, ◌≢◌, ℕ, List, [], ◌∷◌, ◌++◌, map, Contains, refl, sym, ap, ◌∙◌, inl, inr, arith, map-append, All-head, All-tail, Contains-append_right, Contains-get_or, label_of, Label, Named, FirstWith, Lacks, Precedes, Fronts, take, drop, get_or, length, ◌<◌, ◌+◌, drop_more, length-take-le}
+use Rattle.camp_seq.proofs.ListSteps.{whole}
+use Rattle.camp_seq.proofs.LabelsKept.{each_at_front}
 
 -- a label that no element has is at no front
 pub none_fronts : (label : Label) (s : List Named) (y : Named) (t : List Named) → Lacks label s → ¬ (Fronts label s y t)
-none_fronts label [] y t lacks w = w
-none_fronts label (p ∷ s) y t lacks (inl w) = lacks_first label p s lacks w.0
-none_fronts label (p ∷ s) y t lacks (inr w) =
-    let found = w.1 in
-    none_fronts label s found.0 found.2 (lacks_rest label p s lacks) found.3
+none_fronts label s y t lacks w = each_at_front (λ l. l ≢ label) label s y t w lacks refl
 
 -- an element with a label is among those of the list
 pub first_contained : (label : Label) (s : List Named) (at : ℕ) → FirstWith label s at → Contains (map label_of s) label
@@ -32,14 +17,26 @@ first_contained label s at w =
 pub fronts_from : (label : Label) (before : List Named) (first : Named) (after : List Named) (y : Named) (moved : List Named) → Lacks label before → label_of first ≡ label → Precedes before first y moved → Fronts label (before ++ first ∷ after) y (moved ++ after)
 fronts_from label [] first after y moved lacks is m = inl (is, m.0, ap (λ x. x ++ after) m.1)
 fronts_from label (p ∷ before) first after y moved lacks is m =
-    inr (lacks_first label p before lacks, (m.0, m.1, m.2 ++ after, fronts_from label before first after m.0 m.2 (lacks_rest label p before lacks) is m.3, m.4, ap (λ x. x ++ after) m.5))
+    inr (All-head (λ x. label_of x ≢ label) p before lacks, (m.0, m.1, m.2 ++ after, fronts_from label before first after m.0 m.2 (All-tail (λ x. label_of x ≢ label) p before lacks) is m.3, m.4, ap (λ x. x ++ after) m.5))
 
 -- and back: what is at the front was swapped there
 pub precedes_from : (label : Label) (before : List Named) (first : Named) (after : List Named) (y : Named) (t : List Named) → Lacks label before → label_of first ≡ label → Fronts label (before ++ first ∷ after) y t → (moved : List Named) × Precedes before first y moved
 precedes_from label [] first after y t lacks is (inl w) = ([], (w.1, refl))
 precedes_from label [] first after y t lacks is (inr w) = absurd (w.0 is)
-precedes_from label (p ∷ before) first after y t lacks is (inl w) = absurd (lacks_first label p before lacks w.0)
+precedes_from label (p ∷ before) first after y t lacks is (inl w) = absurd (All-head (λ x. label_of x ≢ label) p before lacks w.0)
 precedes_from label (p ∷ before) first after y t lacks is (inr w) =
     let found = w.1 in
-    let rest = precedes_from label before first after found.0 found.2 (lacks_rest label p before lacks) is found.3 in
+    let rest = precedes_from label before first after found.0 found.2 (All-tail (λ x. label_of x ≢ label) p before lacks) is found.3 in
     (found.1 ∷ rest.0, (found.0, found.1, rest.0, rest.1, found.4, refl))
+
+-- an element with a label, and none before it has it
+pub first_with : (label : Label) (s : List Named) (at : ℕ) (p : Named) → at < length s → p ≡ get_or s at p → label_of p ≡ label → Lacks label (take at s) → FirstWith label s at
+first_with label s at p within is labelled lacks = record {
+  before = take at s;
+  first = p;
+  after = drop (at + 1) s;
+  is = whole s at _ (drop_more s at p within ∙ ap (λ x. x ∷ drop (at + 1) s) (sym is));
+  stands = length-take-le at s (omega arith);
+  labelled = labelled;
+  lacks = lacks;
+}

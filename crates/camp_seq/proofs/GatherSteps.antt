@@ -1,13 +1,5 @@
 -- Elements with given labels, gathered from the last to the first.
-use Rattle.std.proofs.Common.{◌≡◌, ℕ, ◌+◌, ◌<◌, List, [], ◌∷◌, ◌++◌, length, take, drop, get_or, refl, sym, ap, ◌∙◌, subst, inl, inr, arith}
-use Rattle.std.specs.Prelude.{Contains}
-use Rattle.std.proofs.lemmas.List.{append_assoc, length-take-le, drop_more, take-take, take_at, drop_at}
-use borrow.Rule.Slice.PartMut.{put_mid}
-use Rattle.camp_prim.specs.Labels.{label_of}
-use Rattle.camp_prim.specs.declared.labels.Label.{Label}
-use Rattle.camp_prim.specs.declared.named.Named.{Named}
-use Rattle.camp_seq.specs.Inside.InPlace.{FirstPasses, PartsFrom}
-use Rattle.camp_seq.specs.Passing.{Passes, Parts}
+use Rattle.camp_seq.proofs.Words.{◌≡◌, ℕ, ◌+◌, ◌<◌, List, [], ◌∷◌, ◌++◌, length, take, drop, get_or, refl, sym, ap, ◌∙◌, subst, inl, inr, arith, Contains, append_assoc, length-take-le, drop_more, take-take, take_at, drop_at, put_mid, label_of, Label, Named, FirstPasses, PartsFrom, Passes, Parts}
 use Rattle.camp_seq.proofs.ListResults.{one_parting}
 use Rattle.camp_seq.proofs.ListSteps.{at_last, whole}
 
@@ -31,10 +23,8 @@ parts_named labels s0 s i count d within same w named =
     }
 
 pub length-passes : (p : Named) (s s' : List Named) (p' : Named) → Passes p s s' p' → length s' ≡ length s
-length-passes p [] s' p' m = ap (λ x. length x) m.0
-length-passes p (q ∷ s) s' p' m =
-    let rest : length m.2 ≡ length s = length-passes m.1 s m.2 p' m.4 in
-    ap (λ x. length x) m.5 ∙ (omega arith)
+length-passes p [] s' p' m = ap length m.0
+length-passes p (q ∷ s) s' p' m = omega (arith, ap length m.5, length-passes m.1 s m.2 p' m.4)
 
 -- the element at i, and behind it those with the labels
 window : (labels : List Label) (s0 s : List Named) (i count k : ℕ) (d : Named) → i < length s → PartsFrom labels s0 (i + 1) count s → k ≡ count + 1 → (w : PartsFrom labels s0 (i + 1) count s) → (take k (drop i s) ≡ get_or s i d ∷ w.named) × (drop k (drop i s) ≡ w.others)

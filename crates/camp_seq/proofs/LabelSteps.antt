@@ -1,53 +1,56 @@
 -- Labels tried in ascending order.
-use Rattle.std.proofs.Common.{◌≡◌, ◌≢◌, ℕ, zero, suc, ◌+◌, ◌<◌, ◌≤◌, Bool, true, false, if◌then◌else◌, List, [], ◌∷◌, Option, None, Some, Ordering, length, take, get_or, IsTrue, refl, sym, ap, subst, inl, inr, arith}
-use Rattle.std.proofs.lemmas.List.Elements.{All-more, All-weaker}
+use Rattle.camp_seq.proofs.Words.{◌≡◌, ◌≢◌, ℕ, zero, suc, ◌+◌, ◌<◌, ◌≤◌, Bool, true, false, if◌then◌else◌, List, [], ◌∷◌, Option, None, Some, length, take, get_or, IsTrue, refl, sym, ap, subst, inl, inr, arith, All-more, All-weaker, Less, label_of, label_cmp, Label, Named, label_total, less_unless, not_below, less_from_lt, is_above, StartsAbove, HasLabel, NoneLess, LeastAbove, untried, Settles, IsLeast, Fronts, take_all}
 use Rattle.std.specs.Ordering.{is_lt}
-use Rattle.std.specs.declared.cmp.Ordering.TheVariants.{Less}
-use Rattle.camp_prim.specs.Labels.{label_of, label_cmp}
-use Rattle.camp_prim.specs.declared.labels.Label.{Label}
-use Rattle.camp_prim.specs.declared.named.Named.{Named}
-use Rattle.camp_prim.proofs.LabelOrder.{label_total, less_unless, not_below, less_from_lt}
-use Rattle.camp_seq.proofs.LabelsKept.{each_front}
-use Rattle.camp_seq.specs.Inside.LeastLabels.{is_above, StartsAbove, HasLabel, NoneLess, LeastAbove, untried, Settles}
-use Rattle.camp_seq.specs.NormalOrder.{IsLeast}
-use Rattle.camp_seq.specs.Passing.{Fronts}
+use Rattle.camp_seq.proofs.LabelsKept.{each_at_front}
 use Rattle.camp_seq.proofs.ListResults.{label-front}
 
-pub holds_at : (s : List Named) (i : ℕ) (d : Named) → i < length s → HasLabel (label_of (get_or s i d)) s
+holds_at : (s : List Named) (i : ℕ) (d : Named) → i < length s → HasLabel (label_of (get_or s i d)) s
 holds_at [] i d within = absurd (omega arith)
 holds_at (p ∷ s) zero d within = inl refl
 holds_at (p ∷ s) (suc i) d within = inr (holds_at s i d (omega arith))
 
-pub none_less_of : (tried : Option Label) (s : List Named) (i : ℕ) (d : Named) (l least : Label) → i < length s → l ≡ label_of (get_or s i d) → label_cmp l least ≡ Less → NoneLess tried least (take i s) → NoneLess tried l (take (i + 1) s)
-none_less_of tried s i d l least within is less none =
-    let P : Named → Type 0 = λ p. IsTrue (is_above tried (label_of p)) → label_cmp (label_of p) least ≢ Less in
-    let Q : Named → Type 0 = λ p. IsTrue (is_above tried (label_of p)) → label_cmp (label_of p) l ≢ Less in
-    All-more Q s i d within (All-weaker P Q (λ p none above below. none above (label_total.trans (label_of p) l least below less)) (take i s) none) (λ above below. not_below l l refl (subst (λ x. label_cmp x l ≡ Less) (sym is) below))
+-- the least of the labels that are yet to be tried, so far
+pub record LeastSoFar (tried : Option Label) (s : List Named) (n : ℕ) (label : Label) : Type 0 where
+  pub above : IsTrue (is_above tried label)
+  pub held : HasLabel label s
+  pub least : NoneLess tried label (take n s)
 
-pub none_less_still : (tried : Option Label) (s : List Named) (i : ℕ) (d : Named) (l least : Label) → i < length s → l ≡ label_of (get_or s i d) → ¬ (IsTrue (is_above tried l) × (label_cmp l least ≡ Less)) → NoneLess tried least (take i s) → NoneLess tried least (take (i + 1) s)
-none_less_still tried s i d l least within is not none =
-    let P : Named → Type 0 = λ p. IsTrue (is_above tried (label_of p)) → label_cmp (label_of p) least ≢ Less in
-    All-more P s i d within none (λ above below. not (subst (λ x. IsTrue (is_above tried x)) (sym is) above, subst (λ x. label_cmp x least ≡ Less) (sym is) below))
+pub next_is_less : (tried : Option Label) (s : List Named) (i : ℕ) (d : Named) (l least : Label) → i < length s → l ≡ label_of (get_or s i d) → IsTrue (is_above tried l) × (label_cmp l least ≡ Less) → LeastSoFar tried s i least → LeastSoFar tried s (i + 1) l
+next_is_less tried s i d l least within is less so_far =
+    let P = λ (m : Label) (p : Named). IsTrue (is_above tried (label_of p)) → label_cmp (label_of p) m ≢ Less in
+    record {
+      above = less.0;
+      held = subst (λ x. HasLabel x s) (sym is) (holds_at s i d within);
+      least = All-more (P l) s i d within (All-weaker (P least) (P l) (λ p none above below. none above (label_total.trans (label_of p) l least below less.1)) (take i s) so_far.least) (λ above. not_below _ l (sym is));
+    }
+
+pub next_is_not : (tried : Option Label) (s : List Named) (i : ℕ) (d : Named) (l least : Label) → i < length s → l ≡ label_of (get_or s i d) → ¬ (IsTrue (is_above tried l) × (label_cmp l least ≡ Less)) → LeastSoFar tried s i least → LeastSoFar tried s (i + 1) least
+next_is_not tried s i d l least within is not so_far =
+    let P = λ (p : Named). IsTrue (is_above tried (label_of p)) → label_cmp (label_of p) least ≢ Less in
+    record {
+      above = so_far.above;
+      held = so_far.held;
+      least = All-more P s i d within so_far.least (subst (λ x. IsTrue (is_above tried x) → label_cmp x least ≢ Less) is (λ above below. not (above, below)));
+    }
+
+pub least_of_all : (tried : Option Label) (s : List Named) (n : ℕ) (label : Label) → length s ≤ n → LeastSoFar tried s n label → LeastAbove tried s label
+least_of_all tried s n label all w =
+    record { above = w.above; held = w.held; least = subst (NoneLess tried label) (take_all n s all) w.least }
 
 -- what comes to the front is not less than the least label
 fronts_none_less : (tried : Option Label) (least other : Label) (s : List Named) (y : Named) (t : List Named) → NoneLess tried least s → Fronts other s y t → IsTrue (is_above tried other) → label_cmp other least ≢ Less
 fronts_none_less tried least other s y t none w above =
-    let P : Label → Type 0 = λ l. IsTrue (is_above tried l) → label_cmp l least ≢ Less in
-    subst P (label-front other s y t w) (each_front P other s y t w none).0 above
+    each_at_front (λ l. IsTrue (is_above tried l) → label_cmp l least ≢ Less) other s y t w none above
 
 -- a list has a first element, whose label comes to the front
 pub starts_above : (tried : Option Label) (s : List Named) → 0 < length s → ((other : Label) (y : Named) (t : List Named) → Fronts other s y t → IsTrue (is_above tried other)) → StartsAbove tried s
 starts_above tried [] some above = absurd (omega arith)
 starts_above tried (p ∷ s) some above = above (label_of p) p s (inl (refl, refl, refl))
 
-lt_from_less : (r : Ordering) → r ≡ Less → IsTrue (is_lt r)
-lt_from_less r e = ap is_lt e
-
 -- where the least label does not come to the front, what comes there is above it
 pub above_least : (tried : Option Label) (key : Label) (s : List Named) → LeastAbove tried s key → ((y : Named) (t : List Named) → ¬ (Fronts key s y t)) → (other : Label) (y : Named) (t : List Named) → Fronts other s y t → IsTrue (is_above tried other) → IsTrue (is_above (Some key) other)
 above_least tried key s least never other y t w above =
-    let not_less = fronts_none_less tried key other s y t least.least w above in
-    lt_from_less (label_cmp key other) (less_unless other key not_less (λ e. never y t (subst (λ x. Fronts x s y t) e w)))
+    ap is_lt (less_unless other key (fronts_none_less tried key other s y t least.least w above) (λ e. never y t (subst (λ x. Fronts x s y t) e w)))
 
 one_le : (a b : Bool) → (IsTrue a → IsTrue b) → (if a then 1 else 0) ≤ (if b then 1 else 0)
 one_le true true h = omega arith
@@ -64,7 +67,7 @@ none_one false false h k = cc
 further : (tried : Option Label) (key : Label) (other : Label) → IsTrue (is_above tried key) → IsTrue (is_above (Some key) other) → IsTrue (is_above tried other)
 further None key other above more = refl
 further (Some last) key other above more =
-    lt_from_less (label_cmp last other) (label_total.trans last key other (less_from_lt (label_cmp last key) above) (less_from_lt (label_cmp key other) more))
+    ap is_lt (label_total.trans last key other (less_from_lt (label_cmp last key) above) (less_from_lt (label_cmp key other) more))
 
 untried_le : (tried : Option Label) (key : Label) (s : List Named) → IsTrue (is_above tried key) → untried (Some key) s ≤ untried tried s
 untried_le tried key [] above = omega arith

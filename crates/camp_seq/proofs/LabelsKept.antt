@@ -1,14 +1,6 @@
 -- What holds of the labels of a list holds of the labels of what passes, comes to the front or is put in order there.
-use Rattle.std.proofs.Common.{◌≡◌, List, [], ◌∷◌, refl, sym, ◌∙◌, subst, inl, inr}
-use Rattle.std.specs.Prelude.{Contains}
-use Rattle.std.specs.List.{All}
-use Rattle.std.proofs.lemmas.List.Elements.{All-nil, All-cons, All-head, All-tail, All-same}
-use Rattle.camp_prim.specs.Labels.{label_of}
-use Rattle.camp_prim.specs.declared.labels.Label.{Label}
-use Rattle.camp_prim.specs.declared.named.Named.{Named}
-use Rattle.camp_seq.specs.Laws.{SplitByLabels}
-use Rattle.camp_seq.specs.NormalOrder.{Norm}
-use Rattle.camp_seq.specs.Passing.{Passes, Fronts, Parts}
+use Rattle.camp_seq.proofs.Words.{◌≡◌, List, [], ◌∷◌, refl, sym, ◌∙◌, subst, inl, inr, Contains, All, All-nil, All-cons, All-head, All-tail, All-same, label_of, Label, Named, SplitByLabels, Norm, Passes, Fronts, Parts}
+use Rattle.camp_seq.proofs.ListResults.{label-front}
 
 -- it holds of each label of the list
 abbrev pub Each : (Label → Type 0) → List Named → Type 0
@@ -25,6 +17,10 @@ each_front P label (p ∷ s) y t (inr w) a =
     let rest = each_front P label s f.0 f.2 f.3 (All-tail Q p s a) in
     let own : P (label_of f.1) = subst P (sym f.4.anywhere.first) (All-head Q p s a) in
     (subst P (sym f.4.anywhere.second) rest.0, All-same Q t (f.1 ∷ f.2) f.5 (All-cons Q f.1 f.2 own rest.1))
+
+-- and of the label that comes to the front
+pub each_at_front : (P : Label → Type 0) (label : Label) (s : List Named) (y : Named) (t : List Named) → Fronts label s y t → Each P s → P label
+each_at_front P label s y t w a = subst P (label-front label s y t w) (each_front P label s y t w a).0
 
 each_norm : (P : Label → Type 0) (s t : List Named) → Norm s t → Each P s → Each P t
 each_norm P s [] n a = All-nil (λ x. P (label_of x))

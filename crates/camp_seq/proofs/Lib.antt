@@ -1,8 +1,7 @@
 pub mod ExchangeSteps
-pub mod ExchangedFronts
+pub mod NormalForms
 pub mod FrontSteps
 pub mod GatherSteps
-pub mod InsertionSteps
 pub mod LabelSteps
 pub mod LabelsKept
 pub mod LawOfThree
@@ -12,8 +11,6 @@ pub mod ListRuns
 pub mod ListSteps
 pub mod ListsDecided
 pub mod MergeGrid
-pub mod MergeSteps
-pub mod NormalForms
 pub mod NormalOrders
 pub mod OrderSteps
 pub mod OwnOrders
@@ -21,4 +18,4 @@ pub mod PassingSteps
 pub mod PlacingSteps
 pub mod Reaching
 pub mod RoomSteps
-pub mod RunSteps
+pub mod Words

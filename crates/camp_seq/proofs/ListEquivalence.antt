@@ -1,15 +1,6 @@
 -- What passes, comes to the front or is split is equivalent to what it came from.
-use Rattle.std.proofs.Common.{◌≡◌, inl, inr, List, [], ◌∷◌, ◌++◌, sym, ap, ◌∙◌, subst}
-use Rattle.std.proofs.lemmas.List.{append_assoc, append-nil}
-use Rattle.camp_prim.specs.Labels.{label_of}
-use Rattle.camp_prim.specs.declared.labels.Label.{Label}
-use Rattle.camp_prim.specs.Swaps.{Swap}
-use Rattle.camp_prim.specs.declared.named.Named.{Named}
-use Rattle.camp_seq.specs.Equivalence.{◌~◌, same, exchanged, backwards, through}
-use Rattle.camp_seq.specs.Laws.{AreEquivalent}
-use Rattle.camp_seq.specs.NormalOrder.{Norm, Splits}
+use Rattle.camp_seq.proofs.Words.{◌≡◌, inl, inr, List, [], ◌∷◌, ◌++◌, sym, ap, ◌∙◌, subst, append_assoc, append-nil, label_of, Label, Swap, Named, ◌~◌, same, exchanged, backwards, through, AreEquivalent, Norm, Splits, Passes, PassesAll, Fronts, Parts}
 use Rattle.camp_seq.proofs.ExchangeSteps.{at_front, exchanges_behind, exchanges_before}
-use Rattle.camp_seq.specs.Passing.{Passes, PassesAll, Fronts, Parts}
 
 -- equal lists are equivalent
 pub equal_are : (s t : List Named) → s ≡ t → s ~ t

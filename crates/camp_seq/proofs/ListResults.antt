@@ -1,18 +1,7 @@
 -- Each relation of lists has at most one result.
-use Rattle.std.proofs.Common.{◌≡◌, inl, inr, List, [], ◌∷◌, refl, sym, ap, ◌∙◌, subst}
-use Rattle.camp_prim.specs.Labels.{label_of}
-use Rattle.camp_prim.specs.declared.labels.Label.{Label}
-use Rattle.camp_prim.specs.Swaps.{Swap}
-use Rattle.camp_prim.specs.declared.named.Named.{Named}
-use Rattle.camp_prim.proofs.LabelOrder.{same_label}
-use Rattle.camp_prim.proofs.SwapUnique.{swap_unique}
+use Rattle.camp_seq.proofs.Words.{◌≡◌, inl, inr, List, [], ◌∷◌, refl, sym, ap, ◌∙◌, subst, label_of, Label, Swap, Named, same_label, swap_unique, inverse_all, AreDetermined, CleanMerge, Norm, Splits, Passes, PassesAll, Fronts, Parts}
 use Rattle.camp_seq.proofs.ListRuns.{inverse_all-inverse_all}
 use Rattle.camp_seq.proofs.MergeGrid.{merge_passes}
-use Rattle.camp_seq.specs.Running.{inverse_all}
-use Rattle.camp_seq.specs.Laws.{AreDetermined}
-use Rattle.camp_seq.specs.Merging.{CleanMerge}
-use Rattle.camp_seq.specs.NormalOrder.{Norm, Splits}
-use Rattle.camp_seq.specs.Passing.{Passes, PassesAll, Fronts, Parts}
 
 pub one_pass : (p : Named) (s s' t : List Named) (p' q : Named) → Passes p s s' p' → Passes p s t q → (s' ≡ t) × (p' ≡ q)
 one_pass p [] s' t p' q v w = (v.0 ∙ sym w.0, v.1 ∙ sym w.1)

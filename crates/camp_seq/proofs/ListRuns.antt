@@ -1,16 +1,10 @@
 -- What lists of primitives do to trees: joined lists, lists after a swap, inverses.
-use Rattle.std.proofs.Common.{◌≡◌, List, [], ◌∷◌, ◌++◌, map, reverse, refl, sym, ap, ◌∙◌, subst}
-use Rattle.std.proofs.lemmas.List.{reverse-append, map-append}
-use Rattle.camp_base.specs.Trees.{Files}
-use Rattle.camp_prim.specs.Effect.{inverse_of}
-use Rattle.camp_prim.specs.Swaps.{Swap}
-use Rattle.camp_prim.specs.declared.named.Named.{Named}
-use Rattle.camp_prim.proofs.Inverses.{leads_back, inverse_of-inverse_of}
-use Rattle.camp_prim.proofs.SwapLaws.{effect}
-use Rattle.camp_seq.proofs.ExchangeSteps.{exchanges_back}
-use Rattle.camp_seq.specs.Equivalence.{Exchanges, same, exchanged, backwards, through}
-use Rattle.camp_seq.specs.Laws.{EquivalentRun, InverseOfListLeadsBack}
-use Rattle.camp_seq.specs.Running.{AppliesAll, inverse_all}
+use Rattle.camp_seq.proofs.Words.{◌≡◌, List, [], ◌∷◌, ◌++◌, map, reverse, refl, sym, ap, ◌∙◌, subst, reverse-append, map-append, Files, inverse_of, Swap, Named, leads_back, inverse_of-inverse_of, effect, Exchanges, EquivalentRun, InverseOfListLeadsBack, AppliesAll, inverse_all, ℕ, ◌+◌, ◌<◌, Err, length, take, drop, get_or, drop_more, take_more, Answers, AnswersByTrial, Applies}
+use Rattle.camp_seq.proofs.ExchangeSteps.{shared}
+use Rattle.camp_base.specs.declared.faults.Apply.{Apply}
+use Rattle.camp_base.specs.declared.faults.Apply.TheVariants.{DoesNotApply, Memory}
+use Rattle.camp_prim.proofs.Applied.{applies_once}
+use Rattle.camp_seq.proofs.ListSteps.{whole}
 
 pub joined_runs : (s t : List Named) (old between new : Files) → AppliesAll s old between → AppliesAll t between new → AppliesAll (s ++ t) old new
 joined_runs [] t old between new r q = subst (λ x. AppliesAll t x new) r q
@@ -34,15 +28,7 @@ exchanged_runs s t old new e r =
     subst (λ x. AppliesAll x old new) (sym e.becomes) (joined_runs e.before (e.q' ∷ e.p' ∷ e.after) old cut.0 new cut.1 (swapped_runs e.p e.q e.q' e.p' e.after cut.0 new e.turns cut.2))
 
 pub equivalent_run : EquivalentRun
-equivalent_run s t same old new = (λ r. r, λ r. r)
-equivalent_run s t (exchanged e) old new = (exchanged_runs s t old new e, exchanged_runs t s old new (exchanges_back s t e))
-equivalent_run s t (backwards e) old new =
-    let alike = equivalent_run t s e old new in
-    (alike.1, alike.0)
-equivalent_run s t (through {t = u} e f) old new =
-    let first = equivalent_run s u e old new in
-    let second = equivalent_run u t f old new in
-    (λ r. second.0 (first.0 r), λ r. first.1 (second.1 r))
+equivalent_run s t e old new = shared (λ x. AppliesAll x old new) (λ x y w r. exchanged_runs x y old new w r) s t e
 
 pub inverse_all-cons : (p : Named) (s : List Named) → inverse_all (p ∷ s) ≡ inverse_all s ++ inverse_of p ∷ []
 inverse_all-cons p s = reverse-append (inverse_of p ∷ []) (map inverse_of s)
@@ -63,3 +49,20 @@ runs_back (p ∷ s) old new r =
 pub inverse_all_leads_back : InverseOfListLeadsBack
 inverse_all_leads_back s old new =
     (runs_back s old new, λ r. subst (λ x. AppliesAll x old new) (inverse_all-inverse_all s) (runs_back (inverse_all s) new old r))
+
+pub run_more : (s : List Named) (i : ℕ) (p : Named) (old between new : Files) → i < length s → p ≡ get_or s i p → AppliesAll (take i s) old between → Applies p.prim between new → AppliesAll (take (i + 1) s) old new
+run_more s i p old between new within is runs applies =
+    let more : take (i + 1) s ≡ take i s ++ p ∷ [] = take_more s i p within ∙ ap (λ x. take i s ++ x ∷ []) (sym is) in
+    subst (λ x. AppliesAll x old new) (sym more) (joined_runs (take i s) (p ∷ []) old between new runs (new, applies, refl))
+
+no_run : (s : List Named) (p : Named) (rest : List Named) (old between : Files) → AppliesAll s old between → ((any : Files) → ¬ (Applies p.prim between any)) → (new : Files) → ¬ (AppliesAll (s ++ p ∷ rest) old new)
+no_run [] p rest old between runs never new r = never r.0 (subst (λ x. Applies p.prim x r.0) (sym runs) r.1)
+no_run (q ∷ s) p rest old between runs never new r =
+    no_run s p rest runs.0 between runs.2 never new (subst (λ x. AppliesAll (s ++ p ∷ rest) x new) (applies_once q.prim old r.0 runs.0 r.1 runs.1) r.2)
+
+-- where a primitive does not apply to what those before it leave, the list leads nowhere
+pub run_stops : (s : List Named) (i : ℕ) (p : Named) (old between after : Files) (fault : Apply) → i < length s → p ≡ get_or s i p → AppliesAll (take i s) old between → Answers (Applies p.prim) between (Err fault) after → AnswersByTrial (AppliesAll s) old (Err fault) old
+run_stops s i p old between after DoesNotApply within is runs answer =
+    let next : drop i s ≡ p ∷ drop (i + 1) s = drop_more s i p within ∙ ap (λ x. x ∷ drop (i + 1) s) (sym is) in
+    (λ new r. no_run (take i s) p (drop (i + 1) s) old between runs answer.0 new (subst (λ x. AppliesAll x old new) (whole s i (p ∷ drop (i + 1) s) next) r), refl)
+run_stops s i p old between after Memory within is runs answer = refl

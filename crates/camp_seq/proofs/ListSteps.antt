@@ -1,25 +1,16 @@
 -- A loop that goes over a list in place, from its first element to its last, or back.
-use Rattle.std.proofs.Common.{◌≡◌, ℕ, ◌+◌, ◌-◌, ◌<◌, List, [], ◌∷◌, ◌++◌, length, take, drop, get_or, set, refl, sym, ap, subst, ◌∙◌, arith}
-use Rattle.std.proofs.lemmas.List.{append_assoc, length_push, take_at, drop_at, drop_all, drop_more, take_more, take-append-drop, drop-set, drop-set-lt, take-set, take-take, get_or-take}
-use Rattle.camp_prim.specs.declared.named.Named.{Named}
+use Rattle.camp_seq.proofs.Words.{◌≡◌, ℕ, ◌+◌, ◌-◌, ◌<◌, List, [], ◌∷◌, ◌++◌, length, take, drop, get_or, set, refl, sym, ap, subst, ◌∙◌, arith, append_assoc, length_push, take_at, drop_at, drop_all, drop_more, take_more, take-append-drop, drop-set, drop-set-lt, take-set, take-take, get_or-take, Named}
+use Rattle.std.proofs.lemmas.Grind.{drop_more_same}
 
 -- the element at i and what is behind it, in a list that is unchanged from i on
 pub at_next : {X : Type 0} (s0 s : List X) (i : ℕ) (d : X) → i < length s → length s ≡ length s0 → drop i s ≡ drop i s0 → drop i s0 ≡ get_or s i d ∷ drop (i + 1) s0
 at_next s0 s i d within same waiting =
-    let within' : i < length s0 = omega arith in
-    let a : drop i s ≡ get_or s i d ∷ drop (i + 1) s = drop_more s i d within in
-    let b : drop i s0 ≡ get_or s0 i d ∷ drop (i + 1) s0 = drop_more s0 i d within' in
-    let e : get_or s0 i d ≡ get_or s i d = cc in
-    b ∙ ap (λ y. y ∷ drop (i + 1) s0) e
+    sym waiting ∙ drop_more s i d within ∙ ap (λ y. get_or s i d ∷ y) (drop_more_same s s0 i waiting)
 
 -- and the list is still unchanged behind it
 pub drop_next : {X : Type 0} (s0 s : List X) (i : ℕ) (d y : X) → i < length s → length s ≡ length s0 → drop i s ≡ drop i s0 → drop (i + 1) (set s i y) ≡ drop (i + 1) s0
 drop_next s0 s i d y within same waiting =
-    let within' : i < length s0 = omega arith in
-    let a : drop i s ≡ get_or s i d ∷ drop (i + 1) s = drop_more s i d within in
-    let b : drop i s0 ≡ get_or s0 i d ∷ drop (i + 1) s0 = drop_more s0 i d within' in
-    let e : drop (i + 1) s ≡ drop (i + 1) s0 = cc in
-    drop-set-lt (i + 1) s i y (omega arith) ∙ e
+    drop-set-lt (i + 1) s i y (omega arith) ∙ drop_more_same s s0 i waiting
 
 -- what stands before the element at i, with it
 pub take_next : {X : Type 0} (s0 : List X) (i : ℕ) (x : X) → i < length s0 → drop i s0 ≡ x ∷ drop (i + 1) s0 → take (i + 1) s0 ≡ take i s0 ++ x ∷ []

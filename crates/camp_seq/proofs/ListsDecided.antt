@@ -1,20 +1,7 @@
 -- Whether lists pass, split and merge is decided.
-use Rattle.std.proofs.Common.{◌≡◌, ◌≢◌, zero, suc, List, [], ◌∷◌, refl, subst, inl, inr, arith}
-use Rattle.std.specs.Prelude.{Contains}
-use Rattle.camp_prim.specs.Labels.{label_of, label_cmp}
-use Rattle.camp_prim.specs.Swaps.{Swap}
-use Rattle.camp_prim.specs.declared.labels.Label.{Label}
-use Rattle.camp_prim.specs.declared.named.Named.{Named}
-use Rattle.camp_prim.proofs.LabelOrder.{label_total, label_ties}
-use Rattle.camp_prim.proofs.SwapDecided.{Decided, decided_by, same_or_not, swap_or_not}
-use Rattle.camp_prim.proofs.SwapUnique.{swap_unique}
-use Rattle.camp_seq.specs.Merging.{CleanMerge}
-use Rattle.camp_seq.specs.NormalOrder.{Splits}
-use Rattle.camp_seq.specs.Passing.{Passes, PassesAll, Parts}
-use Rattle.camp_seq.specs.Running.{inverse_all}
+use Rattle.camp_seq.proofs.Words.{◌≡◌, ◌≢◌, zero, suc, List, [], ◌∷◌, refl, subst, inl, inr, arith, Contains, label_of, label_cmp, Swap, Label, Named, label_total, label_ties, Decided, decided_by, same_or_not, swap_or_not, swap_unique, CleanMerge, Splits, Passes, PassesAll, Parts, inverse_all}
 use Rattle.camp_seq.proofs.ListResults.{one_pass_of_all, one_parting}
-use Rattle.camp_seq.proofs.MergeGrid.{merge_is_passing}
-use Rattle.camp_seq.proofs.MergeSteps.{merges_from}
+use Rattle.camp_seq.proofs.MergeGrid.{merge_is_passing, passing_merges}
 use Rattle.camp_seq.proofs.NormalOrders.{has_normal_order}
 
 -- a relation gives two results, or it has none
@@ -37,72 +24,50 @@ among_or_not same (y ∷ xs) x = elim (same y x) [
   | inr other ↦ in_either y x xs other (among_or_not same xs x)
 ]
 
-passes_with : (p q : Named) (s : List Named) → (w : (q' : Named) × (p' : Named) × Swap p q q' p') → TwoOrNone (Passes w.1 s) → TwoOrNone (Passes p (q ∷ s))
-passes_with p q s w rest =
-    decided_by (λ r. (w.0 ∷ r.0, r.1, (w.0, w.1, r.0, w.2, r.2, refl))) (λ r.
-    let pair = swap_unique p q r.2.0 r.2.1 w.0 w.1 r.2.3 w.2 in
-    (r.2.2, r.1, subst (λ x. Passes x s r.2.2 r.1) pair.1 r.2.4)) rest
-
 pub passes_or_not : (p : Named) (s : List Named) → TwoOrNone (Passes p s)
 passes_or_not p [] = inl ([], p, (refl, refl))
 passes_or_not p (q ∷ s) = elim (swap_or_not p q) [
-  | inl w ↦ passes_with p q s w (passes_or_not w.1 s)
+  | inl w ↦ decided_by (λ r. (w.0 ∷ r.0, r.1, (w.0, w.1, r.0, w.2, r.2, refl))) (λ r.
+      let pair = swap_unique p q r.2.0 r.2.1 w.0 w.1 r.2.3 w.2 in
+      (r.2.2, r.1, subst (λ x. Passes x s r.2.2 r.1) pair.1 r.2.4)) (passes_or_not w.1 s)
   | inr never ↦ inr (λ r. never (r.2.0, r.2.1, r.2.3))
 ]
-
-all_pass_with : (p : Named) (r s : List Named) → (w : (s' : List Named) × (r' : List Named) × PassesAll r s s' r') → TwoOrNone (Passes p w.0) → TwoOrNone (PassesAll (p ∷ r) s)
-all_pass_with p r s w last =
-    decided_by (λ v. (v.0, v.1 ∷ w.1, (w.0, v.1, w.1, w.2, v.2, refl))) (λ v.
-    let a = v.2 in
-    let rest = one_pass_of_all r s a.0 w.0 a.2 w.1 a.3 w.2 in
-    (v.0, a.1, subst (λ t. Passes p t v.0 a.1) rest.0 a.4)) last
 
 pub all_pass_or_not : (r s : List Named) → TwoOrNone (PassesAll r s)
 all_pass_or_not [] s = inl (s, [], (refl, refl))
 all_pass_or_not (p ∷ r) s = elim (all_pass_or_not r s) [
-  | inl w ↦ all_pass_with p r s w (passes_or_not p w.0)
+  | inl w ↦ decided_by (λ v. (v.0, v.1 ∷ w.1, (w.0, v.1, w.1, w.2, v.2, refl))) (λ v.
+      let a = v.2 in
+      let rest = one_pass_of_all r s a.0 w.0 a.2 w.1 a.3 w.2 in
+      (v.0, a.1, subst (λ t. Passes p t v.0 a.1) rest.0 a.4)) (passes_or_not p w.0)
   | inr never ↦ inr (λ v. let a = v.2 in never (a.0, a.2, a.3))
 ]
 
 pub clean_merge_or_not : (a b : List Named) → TwoOrNone (CleanMerge a b)
 clean_merge_or_not a b =
-    decided_by (λ w. (w.0, inverse_all w.1, merges_from a b (inverse_all a) w.0 w.1 (inverse_all w.1) refl w.2 refl)) (λ w. (w.0, inverse_all w.1, (merge_is_passing a b w.0 w.1).0 w.2)) (all_pass_or_not (inverse_all a) b)
+    decided_by (λ w. (w.0, inverse_all w.1, passing_merges a b w.0 w.1 w.2)) (λ w. (w.0, inverse_all w.1, (merge_is_passing a b w.0 w.1).0 w.2)) (all_pass_or_not (inverse_all a) b)
 
 label_or_not : (l m : Label) → Decided (l ≡ m)
 label_or_not = same_or_not label_cmp label_total label_ties
 
-part_named : (labels : List Label) (p : Named) (s : List Named) → Contains labels (label_of p) → TwoOrNone (Parts labels s) → TwoOrNone (Parts labels (p ∷ s))
-part_named labels p s among =
-    decided_by (λ w. (p ∷ w.0, w.1, inl (among, (w.0, w.2, refl)))) (λ w. elim w.2 [
-      | inl v ↦ (v.1.0, w.1, v.1.1)
-      | inr v ↦ absurd (v.0 among)
-    ])
-
-part_passed : (labels : List Label) (p : Named) (s : List Named) → ¬ (Contains labels (label_of p)) → (w : (f : List Named) × (t : List Named) × Parts labels s f t) → TwoOrNone (Passes p w.0) → TwoOrNone (Parts labels (p ∷ s))
-part_passed labels p s other w =
-    decided_by (λ v. (v.0, v.1 ∷ w.1, inr (other, (w.0, w.1, v.1, w.2, v.2, refl)))) (λ u. elim u.2 [
+parts_or_not : (labels : List Label) (s : List Named) → TwoOrNone (Parts labels s)
+parts_or_not labels [] = inl ([], [], (refl, refl))
+parts_or_not labels (p ∷ s) = elim (among_or_not label_or_not labels (label_of p)) [
+  | inl among ↦ decided_by (λ w. (p ∷ w.0, w.1, inl (among, (w.0, w.2, refl)))) (λ w. elim w.2 [
+    | inl v ↦ (v.1.0, w.1, v.1.1)
+    | inr v ↦ absurd (v.0 among)
+  ]) (parts_or_not labels s)
+  | inr other ↦ elim (parts_or_not labels s) [
+    | inl w ↦ decided_by (λ v. (v.0, v.1 ∷ w.1, inr (other, (w.0, w.1, v.1, w.2, v.2, refl)))) (λ u. elim u.2 [
       | inl v ↦ absurd (other v.0)
       | inr v ↦
           let a = v.1 in
           let rest = one_parting labels s a.0 a.1 w.0 w.1 a.3 w.2 in
           (u.0, a.2, subst (λ g. Passes p g u.0 a.2) rest.0 a.4)
-    ])
-
-part_other : (labels : List Label) (p : Named) (s : List Named) → ¬ (Contains labels (label_of p)) → TwoOrNone (Parts labels s) → TwoOrNone (Parts labels (p ∷ s))
-part_other labels p s other (inl w) = part_passed labels p s other w (passes_or_not p w.0)
-part_other labels p s other (inr never) = inr (λ u. elim u.2 [
-  | inl v ↦ other v.0
-  | inr v ↦ let a = v.1 in never (a.0, a.1, a.3)
-])
-
-parts_or_not : (labels : List Label) (s : List Named) → TwoOrNone (Parts labels s)
-parts_or_not labels [] = inl ([], [], (refl, refl))
-parts_or_not labels (p ∷ s) =
-    let rest = parts_or_not labels s in
-    elim (among_or_not label_or_not labels (label_of p)) [
-      | inl among ↦ part_named labels p s among rest
-      | inr other ↦ part_other labels p s other rest
-    ]
+    ]) (passes_or_not p w.0)
+    | inr never ↦ inr (λ u. elim u.2 [ inl v ↦ other v.0 | inr v ↦ let a = v.1 in never (a.0, a.1, a.3) ])
+  ]
+]
 
 pub splits_or_not : (labels : List Label) (s : List Named) → TwoOrNone (Splits labels s)
 splits_or_not labels s =

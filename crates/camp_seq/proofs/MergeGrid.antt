@@ -1,16 +1,7 @@
 -- The grid of a clean merge: it closes a square of trees, is symmetric, and is passing the inverse.
-use Rattle.std.proofs.Common.{◌≡◌, List, [], ◌∷◌, ◌++◌, refl, sym, ap, ◌∙◌, subst}
-use Rattle.camp_prim.specs.Effect.{inverse_of}
-use Rattle.camp_prim.specs.Swaps.{Swap}
-use Rattle.camp_prim.specs.declared.named.Named.{Named}
-use Rattle.camp_prim.proofs.Inverses.{inverse_of-inverse_of}
-use Rattle.camp_prim.proofs.SwapLaws.{own_inverse, square}
+use Rattle.camp_seq.proofs.Words.{◌≡◌, List, [], ◌∷◌, ◌++◌, refl, sym, ap, ◌∙◌, subst, inverse_of, Swap, Named, inverse_of-inverse_of, own_inverse, square, MergeCloses, MergeIsEquivalent, MergeIsSymmetric, MergeIsPassing, Merges, MergesOne, CleanMerge, Passes, PassesAll, inverse_all}
 use Rattle.camp_seq.proofs.ListEquivalence.{all_passed}
 use Rattle.camp_seq.proofs.ListRuns.{joined_runs, cut_run, equivalent_run, inverse_all-cons, inverse_all-append, inverse_all-inverse_all, inverse_all_leads_back}
-use Rattle.camp_seq.specs.Laws.{MergeCloses, MergeIsEquivalent, MergeIsSymmetric, MergeIsPassing}
-use Rattle.camp_seq.specs.Merging.{Merges, MergesOne, CleanMerge}
-use Rattle.camp_seq.specs.Passing.{Passes, PassesAll}
-use Rattle.camp_seq.specs.Running.{inverse_all}
 
 -- a cell, seen from its other side: [a] [b'] <-> [b] [a']
 cell_passes : (a b b' a' : Named) → Merges a b b' a' → Swap a b' b a'
@@ -90,7 +81,7 @@ merge_passes (p ∷ a) b b' a' m =
     subst (λ r. PassesAll r b b' (inverse_all a')) (sym (inverse_all-cons p a)) (subst (λ r. PassesAll (inverse_all a ++ inverse_of p ∷ []) b b' r) (sym (inverse_all-cons m.1 m.2) ∙ ap inverse_all (sym m.5)) all)
 
 -- with the passed list any
-passing_merges : (a b b' r' : List Named) → PassesAll (inverse_all a) b b' r' → CleanMerge a b b' (inverse_all r')
+pub passing_merges : (a b b' r' : List Named) → PassesAll (inverse_all a) b b' r' → CleanMerge a b b' (inverse_all r')
 passing_merges [] b b' r' w = (w.0, ap inverse_all w.1)
 passing_merges (p ∷ a) b b' r' w =
     let last = last_passes (inverse_all a) (inverse_of p) b b' r' (subst (λ r. PassesAll r b b' r') (inverse_all-cons p a) w) in

@@ -1,10 +1,5 @@
 -- Normal order, one element after the other.
-use Rattle.std.proofs.Common.{◌≡◌, ℕ, ◌+◌, ◌-◌, ◌<◌, List, [], ◌∷◌, ◌++◌, length, take, drop, sym, ap, ◌∙◌, subst, arith}
-use Rattle.std.proofs.lemmas.List.{append-nil, append_assoc, length-drop, length_push, length-take-le, take_at, drop_at, drop_all}
-use borrow.Rule.Slice.PartMut.{put_mid}
-use Rattle.camp_prim.specs.declared.named.Named.{Named}
-use Rattle.camp_seq.specs.Inside.LeastLabels.{Settles}
-use Rattle.camp_seq.specs.NormalOrder.{Norm}
+use Rattle.camp_seq.proofs.Words.{◌≡◌, ℕ, ◌+◌, ◌-◌, ◌<◌, List, [], ◌∷◌, ◌++◌, length, take, drop, sym, ap, ◌∙◌, subst, arith, append-nil, append_assoc, length-drop, length_push, length-take-le, take_at, drop_at, drop_all, put_mid, Named, Settles, Norm}
 
 -- what a list is after its part from n on is written
 pub rest_written : {X : Type 0} (xs ys : List X) (n : ℕ) → put_mid n (length xs - n) xs ys ≡ take n xs ++ ys

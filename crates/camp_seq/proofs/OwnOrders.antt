@@ -1,19 +1,6 @@
 -- Lists that are their own normal order: those in which no two neighbours swap, and those whose labels ascend.
-use Rattle.std.proofs.Common.{◌≡◌, ◌≢◌, ℕ, zero, suc, List, [], ◌∷◌, drop, refl, sym, subst, inl, inr}
-use Rattle.std.proofs.lemmas.List.Elements.{All-nil, All-cons}
-use Rattle.std.specs.declared.cmp.Ordering.TheVariants.{Less}
-use Rattle.camp_prim.specs.Labels.{label_of, label_cmp}
-use Rattle.camp_prim.specs.Swaps.{Swap}
-use Rattle.camp_prim.specs.declared.labels.Label.{Label}
-use Rattle.camp_prim.specs.declared.named.Named.{Named}
-use Rattle.camp_prim.proofs.LabelOrder.{not_below, not_below_both}
-use Rattle.camp_seq.specs.Chains.{Chain, StaysBefore}
-use Rattle.camp_seq.specs.Inside.Ascending.{Ascends}
-use Rattle.camp_seq.specs.Inside.Insertions.{StartsAfter}
-use Rattle.camp_seq.specs.NormalOrder.{IsLeast, Norm}
-use Rattle.camp_seq.specs.Passing.{Fronts}
-use Rattle.camp_seq.proofs.LabelsKept.{Each, each_front}
-use Rattle.camp_seq.proofs.ListResults.{label-front}
+use Rattle.camp_seq.proofs.Words.{◌≡◌, ◌≢◌, ℕ, zero, suc, List, [], ◌∷◌, drop, refl, sym, subst, inl, inr, All-nil, All-cons, Less, label_of, label_cmp, Swap, Label, Named, not_below, not_below_both, Chain, StaysBefore, Ascends, StartsAfter, IsLeast, Norm, Fronts}
+use Rattle.camp_seq.proofs.LabelsKept.{Each, each_at_front}
 
 -- what comes to the front where no two neighbours swap stands there
 pub front_of_chain : (label : Label) (p : Named) (s : List Named) (y : Named) (t : List Named) → Chain (p ∷ s) → Fronts label (p ∷ s) y t → (label_of p ≡ label) × (y ≡ p) × (t ≡ s)
@@ -57,5 +44,5 @@ pub ascending_is_ordered : (s : List Named) → Ascends s → Norm s s
 ascending_is_ordered [] a = refl
 ascending_is_ordered (p ∷ s) a =
     let all : Each (λ l. label_cmp l (label_of p) ≢ Less) (p ∷ s) = none_below (label_of p) (p ∷ s) (not_below (label_of p) (label_of p) refl) a in
-    let least : IsLeast (label_of p) (p ∷ s) = λ other y t w. subst (λ l. label_cmp l (label_of p) ≢ Less) (label-front other (p ∷ s) y t w) (each_front (λ l. label_cmp l (label_of p) ≢ Less) other (p ∷ s) y t w all).0 in
+    let least : IsLeast (label_of p) (p ∷ s) = λ other y t w. each_at_front (λ l. label_cmp l (label_of p) ≢ Less) other (p ∷ s) y t w all in
     (s, inl (refl, refl, refl), least, ascending_is_ordered s a.1)

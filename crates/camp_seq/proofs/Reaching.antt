@@ -1,17 +1,8 @@
 -- A list whose reach is in range has room: in every order its hunks stand in their files, whose ends are known.
-use Rattle.std.proofs.Common.{◌≡◌, ℕ, ◌+◌, ◌-◌, ◌≤◌, ◌^◌, max, List, [], ◌∷◌, ◌++◌, length, drop, get_or, refl, sym, ap, ◌∙◌, subst, inl, inr, arith}
-use Rattle.std.specs.List.{All}
+use Rattle.camp_seq.proofs.Words.{◌≡◌, ℕ, ◌+◌, ◌-◌, ◌≤◌, ◌^◌, max, List, [], ◌∷◌, ◌++◌, length, drop, get_or, refl, sym, ap, ◌∙◌, subst, inl, inr, arith, All, at_drop_all, All-nil, All-cons, All-head, All-tail, InRange, path_of, ChangePlaces, Primitive, Named, Reaches, here, further, HasRoom, line_of, sides_of, greatest_line, all_sides, reach_of}
 use Rattle.std.proofs.Math.Nat.{le-max_left, le-max_right}
-use Rattle.std.proofs.lemmas.List.{at_drop_all}
-use Rattle.std.proofs.lemmas.List.Elements.{All-nil, All-cons, All-head, All-tail}
-use Rattle.camp_prim.specs.Effect.{InRange}
-use Rattle.camp_prim.specs.Swaps.{path_of, ChangePlaces}
-use Rattle.camp_prim.specs.declared.primitives.Primitive.{Primitive}
 use Rattle.camp_prim.specs.declared.primitives.Primitive.TheVariants.{Add, Remove, Hunk}
-use Rattle.camp_prim.specs.declared.named.Named.{Named}
 use Rattle.camp_prim.proofs.FileEnds.{Steps, same_path_or_not, both_turned, olds_of, news_of, news_kept}
-use Rattle.camp_seq.specs.Room.{Reaches, here, further, HasRoom}
-use Rattle.camp_seq.specs.Shapes.{line_of, sides_of, greatest_line, all_sides, reach_of}
 
 abbrev Fits : List ℕ → ℕ → List Named → Type 0
 Fits path before [] = Unit {0}

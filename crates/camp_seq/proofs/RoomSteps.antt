@@ -1,15 +1,6 @@
 -- What a list with room reaches has room.
-use Rattle.std.proofs.Common.{◌≡◌, List, [], ◌∷◌, ◌++◌, sym, ap, ◌∙◌, subst, inl, inr}
-use Rattle.std.specs.List.{All}
-use Rattle.std.proofs.lemmas.List.Elements.{All-nil, All-cons, All-head, All-tail}
-use Rattle.camp_prim.specs.Effect.{InRange}
-use Rattle.camp_prim.specs.declared.labels.Label.{Label}
-use Rattle.camp_prim.specs.Swaps.{Swap}
-use Rattle.camp_prim.specs.declared.named.Named.{Named}
-use Rattle.camp_seq.specs.Equivalence.{Exchanges, ◌~◌, same, exchanged, backwards, through}
-use Rattle.camp_seq.specs.Passing.{Fronts}
-use Rattle.camp_seq.specs.Room.{Reaches, here, further, HasRoom}
-use Rattle.camp_seq.proofs.ExchangeSteps.{at_front, exchanges_behind, exchanges_before, exchanges_back, exchanged_anywhere}
+use Rattle.camp_seq.proofs.Words.{◌≡◌, List, [], ◌∷◌, ◌++◌, sym, ap, ◌∙◌, subst, inl, inr, All, All-tail, All-take, length, refl, take_at, InRange, Label, Swap, Named, Exchanges, ◌~◌, Fronts, Reaches, here, further, HasRoom}
+use Rattle.camp_seq.proofs.ExchangeSteps.{at_front, exchanges_behind, exchanges_before, exchanged_anywhere, shared}
 
 pub reaches_through : (s t u : List Named) → Reaches s t → Reaches t u → Reaches s u
 reaches_through s t u here r = r
@@ -32,14 +23,10 @@ room_after s t room r u w = room u (reaches_through s t u r w)
 pub room_behind : (x : Named) (s : List Named) → HasRoom (x ∷ s) → HasRoom s
 room_behind x s room t r = All-tail (λ p. InRange p.prim) x t (room (x ∷ t) (reaches_behind x s t r))
 
-in_range_before : (s u : List Named) → All (λ p. InRange p.prim) (s ++ u) → All (λ p. InRange p.prim) s
-in_range_before [] u a = All-nil (λ p. InRange p.prim)
-in_range_before (x ∷ s) u a =
-    All-cons (λ p. InRange p.prim) x s (All-head (λ p. InRange p.prim) x (s ++ u) a) (in_range_before s u (All-tail (λ p. InRange p.prim) x (s ++ u) a))
-
 -- a list has room where it begins one that has
 pub room_before : (s u : List Named) → HasRoom (s ++ u) → HasRoom s
-room_before s u room t r = in_range_before t u (room (t ++ u) (reaches_before s t u r))
+room_before s u room t r =
+    subst (All (λ p. InRange p.prim)) (take_at t u (length t) refl) (All-take (λ p. InRange p.prim) (length t) (t ++ u) (room (t ++ u) (reaches_before s t u r)))
 
 pub room_exchanged : (s t : List Named) → Exchanges Swap s t → HasRoom s → HasRoom t
 room_exchanged s t e room = room_after s t room (further (exchanged_anywhere s t e) here)
@@ -53,38 +40,11 @@ front_reached label (p ∷ s) y t (inr w) =
     let f = w.1 in
     reaches_through (p ∷ s) (p ∷ f.0 ∷ f.2) (y ∷ t) (reaches_behind p s (f.0 ∷ f.2) (front_reached label s f.0 f.2 f.3)) (further (at_front p f.0 y f.1 f.2 f.4.anywhere) (reaches_same (y ∷ f.1 ∷ f.2) (y ∷ t) (ap (λ x. y ∷ x) (sym f.5))))
 
--- a fact that one exchange keeps in lists with room passes between two lists
-record Shares (Fact : List Named → Type 0) (s t : List Named) : Type 0 where
-  room : HasRoom s → HasRoom t
-  room_back : HasRoom t → HasRoom s
-  to : HasRoom s → Fact s → Fact t
-  back : HasRoom t → Fact t → Fact s
-
-shared : (Fact : List Named → Type 0) → ((s t : List Named) → HasRoom s → Exchanges Swap s t → Fact s → Fact t) → (s t : List Named) → s ~ t → Shares Fact s t
-shared Fact kept s t same = record { room = λ r. r; room_back = λ r. r; to = λ r f. f; back = λ r f. f }
-shared Fact kept s t (exchanged e) = record {
-  room = room_exchanged s t e;
-  room_back = room_exchanged t s (exchanges_back s t e);
-  to = λ r f. kept s t r e f;
-  back = λ r f. kept t s r (exchanges_back s t e) f;
-}
-shared Fact kept s t (backwards e) =
-    let a = shared Fact kept t s e in
-    record { room = a.room_back; room_back = a.room; to = a.back; back = a.to }
-shared Fact kept s t (through {t = v} e f) =
-    let a = shared Fact kept s v e in
-    let b = shared Fact kept v t f in
-    record {
-      room = λ r. b.room (a.room r);
-      room_back = λ r. a.room_back (b.room_back r);
-      to = λ r x. b.to (a.room r) (a.to r x);
-      back = λ r x. a.back (b.room_back r) (b.back r x);
-    }
+-- equivalent lists have room together
+pub room_of_equivalent : (s t : List Named) → s ~ t → HasRoom s → HasRoom t
+room_of_equivalent s t e = (shared HasRoom room_exchanged s t e).0
 
 -- a fact that one exchange keeps in lists with room, equivalent lists share
 pub kept_by_swaps : (Fact : List Named → Type 0) → ((s t : List Named) → HasRoom s → Exchanges Swap s t → Fact s → Fact t) → (s t : List Named) → s ~ t → HasRoom s → Fact s → Fact t
-kept_by_swaps Fact kept s t e = (shared Fact kept s t e).to
-
--- equivalent lists have room together
-pub room_of_equivalent : (s t : List Named) → s ~ t → HasRoom s → HasRoom t
-room_of_equivalent s t e = (shared (λ x. Unit {0}) (λ x y r w f. f) s t e).room
+kept_by_swaps Fact kept s t e room fact =
+    ((shared (λ x. HasRoom x × Fact x) (λ x y w both. (room_exchanged x y w both.0, kept x y both.0 w both.1)) s t e).0 (room, fact)).1

@@ -12,7 +12,7 @@ use std::alloc::AllocError;
 /// `Some((y, t))` where `s` is the same as `y` and then `t`: the first primitive of `s` with this
 /// label is swapped to the front, where it is `y`. None where it can't come there, or there is none.
 /// That there is none is answered whatever memory does.
-#[tactic(auto, using(crate::proofs::FrontSteps::first_contained))]
+#[tactic(auto, using(crate::proofs::FrontSteps::first_contained, crate::proofs::FrontSteps::none_fronts))]
 pub fn front(s: &Seq, label: &Label) -> Result<Option<(Named, Seq)>, AllocError>
     ensures exact { IfOk result (FindsPair (Fronts label.now s.now)) }
     ensures memory { IfErr result (λ error. Contains (map label_of s.now) label.now) }
@@ -30,6 +30,7 @@ pub fn front(s: &Seq, label: &Label) -> Result<Option<(Named, Seq)>, AllocError>
 
 /// Swaps the first element with a label to the front. Where it can't come there, or there is none,
 /// the elements are as they were.
+#[tactic(auto, using(crate::proofs::FrontSteps::none_fronts))]
 pub(crate) fn bring(items: &mut [Named], label: &Label) -> bool
     ensures exact { Changes (FrontsInPlace label.now) items.old result items.new }
 {
@@ -45,6 +46,7 @@ pub(crate) fn bring(items: &mut [Named], label: &Label) -> bool
 }
 
 /// The place of the first element with a label.
+#[tactic(auto, using(crate::proofs::FrontSteps::first_with))]
 fn place_of(items: &[Named], label: &Label) -> Option<usize>
     ensures { MatchOption result (Lacks label.now items.now) (FirstWith label.now items.now) }
 {

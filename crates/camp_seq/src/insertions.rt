@@ -32,6 +32,7 @@ fn place_last(items: &mut [Named])
 
 /// Swaps `x`, which stands behind `s`, to its place among the elements of `s`. Each stays in its
 /// place in memory, and the answer is the number of elements of `s` before it.
+#[tactic(auto, using(crate::proofs::PlacingSteps::stands))]
 fn find_place(s: &mut [Named], x: &mut Named) -> usize
     ensures { StaysAt s.old x.old result s.new x.new }
 {

@@ -23,6 +23,7 @@ pub fn invert_all(s: &Seq) -> Result<Seq, AllocError>
 /// `Some((b', a'))` where `a` and `b`, which begin in one state, merge cleanly: `a` and then `b'`
 /// end where `b` and then `a'` do. Each primitive of `a` is taken back past all of `b`. None where
 /// one can't pass.
+#[tactic(auto, using(crate::proofs::MergeGrid::passing_merges))]
 pub fn clean_merge(a: &Seq, b: &Seq) -> Result<Option<(Seq, Seq)>, AllocError>
     ensures exact { IfOk result (FindsPair (CleanMerge a.now b.now)) }
 {

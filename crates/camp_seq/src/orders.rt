@@ -67,6 +67,7 @@ pub(crate) fn order(items: &mut [Named])
 
 /// Whether one look at each two neighbours tells that a list is its own normal order. Where it says no,
 /// the list may still be. It takes no memory.
+#[tactic(auto, using(crate::proofs::OwnOrders::ascending_is_ordered, crate::proofs::OwnOrders::chain_is_ordered))]
 pub fn is_own_order(items: &[Named]) -> bool
     ensures sound { IsTrue result → Norm items.now items.now }
 {
@@ -113,6 +114,7 @@ fn order_by_selection(items: &mut [Named])
 }
 
 /// Swaps the element with the least label that can come to the front of the list to its front.
+#[tactic(auto, using(crate::proofs::LabelSteps::starts_above))]
 fn settle(items: &mut [Named])
     requires { 0 < length items.old }
     ensures { Settles items.old items.new }

@@ -58,6 +58,7 @@ pub(crate) fn change_places(r: &mut Seq, s: &mut Seq) -> bool
     pass_all(&mut r.items, &mut s.items)
 }
 
+#[tactic(auto, using(crate::proofs::ListSteps::none_done))]
 fn pass_all(r: &mut [Named], s: &mut [Named]) -> bool
     ensures exact { FindsPair (PassesAll r.old s.old) (then_some result (s.new, r.new)) }
 {
@@ -97,6 +98,7 @@ pub(crate) fn precede(s: &mut [Named], p: &mut Named) -> bool
 
 /// Swaps `p`, which stands behind `s`, to the left as far as it can come, and answers with the
 /// number of elements of `s` that are still before it.
+#[tactic(auto, using(crate::proofs::ListSteps::none_done))]
 pub(crate) fn come_forward(s: &mut [Named], p: &mut Named) -> usize
     ensures { ComesUpTo s.old p.old result s.new p.new }
 {

@@ -6,6 +6,7 @@ use camp_base::{Apply, Tree};
 
 /// Makes the changes of a list to a tree, one after the other. After an error the tree is as it
 /// was, whichever of them did not apply.
+#[tactic(auto, using(crate::proofs::ListRuns::run_more))]
 pub fn apply_all(s: &Seq, tree: &mut Tree) -> Result<(), Apply>
     ensures exact { AnswersByTrial (AppliesAll s.now) tree.old result tree.new }
 {

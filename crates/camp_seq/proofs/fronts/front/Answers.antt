@@ -1,13 +1,5 @@
-use Rattle.std.proofs.Common.{◌∷◌, refl, sym, ◌∙◌, subst}
-use Rattle.camp_seq.specs.Inside.InPlace.{Lacks}
-use Rattle.camp_seq.specs.Passing.{Fronts}
-use Rattle.camp_seq.proofs.FrontSteps.{none_fronts}
+use Rattle.camp_seq.proofs.Words.{◌∷◌, refl, sym, ◌∙◌, subst, Fronts}
 use Rattle.camp_seq.proofs.fronts.front.Goals as goal
-
-pub returns-in_default : goal.returns-in_default
-returns-in_default c =
-    let lacks = subst (Lacks c.args.label.now) (c.deref.ensures.value ∙ c.s.view_is) c.in_default.ensures in
-    record { exact = λ any f. none_fronts c.args.label.now c.args.s.now any.0 any.1 lacks f; memory = tt }
 
 pub returns-then-not-bring : goal.returns-then-not-bring
 returns-then-not-bring c = record {

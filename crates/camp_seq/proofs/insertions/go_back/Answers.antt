@@ -1,9 +1,4 @@
-use Rattle.std.proofs.Common.{◌≡◌, ◌≢◌, length, get_or, sym, ap, subst, ◌∙◌, arith}
-use Rattle.std.proofs.lemmas.List.{get_or_default}
-use Rattle.std.specs.declared.cmp.Ordering.TheVariants.{Less}
-use Rattle.camp_prim.specs.Labels.{label_of, label_cmp}
-use Rattle.camp_prim.proofs.LabelOrder.{less_from_lt, not_less_where}
-use Rattle.camp_seq.specs.Inside.Insertions.{StandsAt}
+use Rattle.camp_seq.proofs.Words.{◌≡◌, ◌≢◌, length, get_or, sym, ap, subst, ◌∙◌, arith, get_or_default, Less, label_of, label_cmp, less_from_lt, not_less_where, StandsAt, false, true}
 use Rattle.camp_seq.proofs.PlacingSteps.{goes_on, stays_before, never_stuck, stays_last}
 use Rattle.camp_seq.proofs.insertions.go_back.Goals as goal
 

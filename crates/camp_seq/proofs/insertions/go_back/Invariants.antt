@@ -1,6 +1,4 @@
-use Rattle.std.proofs.Common.{List}
-use Rattle.camp_prim.specs.declared.named.Named.{Named}
-use Rattle.camp_seq.specs.Inside.Insertions.{StandsAt}
+use Rattle.camp_seq.proofs.Words.{List, Named, StandsAt}
 use Rattle.camp_seq.proofs.insertions.go_back.Given as goal
 
 abbrev pub invariant-loop-at : goal.invariant-loop-at

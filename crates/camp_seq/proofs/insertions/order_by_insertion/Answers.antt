@@ -1,10 +1,5 @@
-use Rattle.std.proofs.Common.{◌≡◌, ◌+◌, List, length, subst, ◌∙◌, arith}
-use Rattle.std.proofs.lemmas.List.{length-take-le, take_all}
-use Rattle.camp_prim.specs.declared.named.Named.{Named}
-use Rattle.camp_seq.specs.Equivalence.{same}
-use Rattle.camp_seq.specs.Inside.Insertions.{InOrder}
-use Rattle.camp_seq.proofs.InsertionSteps.{norm_of_equivalent}
-use Rattle.camp_seq.proofs.PlacingSteps.{placed_more}
+use Rattle.camp_seq.proofs.Words.{◌≡◌, ◌+◌, List, length, subst, ◌∙◌, arith, length-take-le, take_all, Named, same, InOrder}
+use Rattle.camp_seq.proofs.PlacingSteps.{norm_of_equivalent, placed_more}
 use Rattle.camp_seq.proofs.insertions.order_by_insertion.Goals as goal
 
 pub loop-last-init : goal.loop-last-init

@@ -1,6 +1,4 @@
-use Rattle.std.proofs.Common.{take}
-use Rattle.camp_seq.specs.Equivalence.{◌~◌}
-use Rattle.camp_seq.specs.Inside.Insertions.{InOrder}
+use Rattle.camp_seq.proofs.Words.{take, ◌~◌, InOrder}
 use Rattle.camp_seq.proofs.insertions.order_by_insertion.Given as goal
 
 abbrev pub invariant-loop-last : goal.invariant-loop-last

@@ -1,6 +1,4 @@
-use Rattle.std.proofs.Common.{◌≡◌, length, ◌++◌, set, get_or, sym, ap, ◌∙◌, subst, arith}
-use Rattle.std.proofs.lemmas.List.{take_rest}
-use Rattle.camp_seq.specs.Inside.Insertions.{Placed}
+use Rattle.camp_seq.proofs.Words.{◌≡◌, length, ◌++◌, set, get_or, sym, ap, ◌∙◌, subst, arith, take_rest, Placed}
 use Rattle.camp_seq.proofs.OrderSteps.{rest_written}
 use Rattle.camp_seq.proofs.PlacingSteps.{only, placed_there}
 use Rattle.camp_seq.proofs.insertions.place_last.Goals as goal

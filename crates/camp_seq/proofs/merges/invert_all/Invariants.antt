@@ -1,5 +1,4 @@
-use Rattle.std.proofs.Common.{◌≡◌, map, take}
-use Rattle.camp_prim.specs.Effect.{inverse_of}
+use Rattle.camp_seq.proofs.Words.{◌≡◌, map, take, inverse_of}
 use Rattle.camp_seq.proofs.merges.invert_all.Given as goal
 
 abbrev pub invariant-loop-p : goal.invariant-loop-p

@@ -1,5 +1,4 @@
-use Rattle.std.proofs.Common.{drop}
-use Rattle.camp_seq.specs.Inside.Ascending.{Ascends}
+use Rattle.camp_seq.proofs.Words.{drop, Ascends}
 use Rattle.camp_seq.proofs.orders.ascends.Given as goal
 
 abbrev pub invariant-loop-at : goal.invariant-loop-at

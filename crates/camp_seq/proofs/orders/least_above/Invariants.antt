@@ -1,10 +1,5 @@
-use Rattle.std.proofs.Common.{take, IsTrue}
-use Rattle.camp_seq.specs.Inside.LeastLabels.{is_above, HasLabel, NoneLess}
+use Rattle.camp_seq.proofs.LabelSteps.{LeastSoFar}
 use Rattle.camp_seq.proofs.orders.least_above.Given as goal
 
 abbrev pub invariant-loop-p : goal.invariant-loop-p
-invariant-loop-p l = record {
-  above : IsTrue (is_above l.tried l.least);
-  held : HasLabel l.least l.items;
-  least : NoneLess l.tried l.least (take l.p-index l.items);
-}
+invariant-loop-p l = LeastSoFar l.tried l.items l.p-index l.least

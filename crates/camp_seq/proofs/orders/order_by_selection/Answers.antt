@@ -1,7 +1,4 @@
-use Rattle.std.proofs.Common.{List, [], take, ◌∙◌, subst, arith}
-use Rattle.std.proofs.lemmas.List.{append-nil, drop_all, take_all, take_rest}
-use Rattle.camp_prim.specs.declared.named.Named.{Named}
-use Rattle.camp_seq.specs.NormalOrder.{Norm}
+use Rattle.camp_seq.proofs.Words.{List, [], take, ◌∙◌, subst, arith, append-nil, drop_all, take_all, take_rest, Named, Norm}
 use Rattle.camp_seq.proofs.OrderSteps.{order_more, rest_written}
 use Rattle.camp_seq.proofs.orders.order_by_selection.Goals as goal
 

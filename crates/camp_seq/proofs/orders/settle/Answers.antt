@@ -1,11 +1,6 @@
-use Rattle.std.proofs.Common.{◌<◌, ◌∷◌, Some, refl, sym, ◌∙◌, subst, arith}
-use Rattle.camp_seq.specs.Inside.LeastLabels.{Settles, untried}
-use Rattle.camp_seq.specs.Passing.{Fronts}
-use Rattle.camp_seq.proofs.LabelSteps.{starts_above, settles_from, above_least, untried_less}
+use Rattle.camp_seq.proofs.Words.{◌<◌, ◌∷◌, Some, refl, sym, ◌∙◌, subst, Settles, untried, Fronts}
+use Rattle.camp_seq.proofs.LabelSteps.{settles_from, above_least, untried_less}
 use Rattle.camp_seq.proofs.orders.settle.Goals as goal
-
-pub least_above-label-requires : goal.least_above-label-requires
-least_above-label-requires c = starts_above c.loop-label.tried c.loop-label.items (omega arith) c.loop-label.invariant.above
 
 pub returns-then-bring : goal.returns-then-bring
 returns-then-bring c =

@@ -1,8 +1,4 @@
-use Rattle.std.proofs.Common.{◌≡◌, List, IsTrue}
-use Rattle.camp_prim.specs.declared.labels.Label.{Label}
-use Rattle.camp_prim.specs.declared.named.Named.{Named}
-use Rattle.camp_seq.specs.Inside.LeastLabels.{is_above, untried}
-use Rattle.camp_seq.specs.Passing.{Fronts}
+use Rattle.camp_seq.proofs.Words.{◌≡◌, List, IsTrue, Label, Named, is_above, untried, Fronts}
 use Rattle.camp_seq.proofs.orders.settle.Given as goal
 
 abbrev pub invariant-loop-label : goal.invariant-loop-label

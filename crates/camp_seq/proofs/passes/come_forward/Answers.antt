@@ -1,13 +1,7 @@
-use Rattle.std.proofs.Common.{◌≡◌, ◌+◌, ◌-◌, List, drop, set, refl, sym, ap, subst, ◌∙◌, arith}
-use Rattle.std.proofs.lemmas.List.{set-get_or}
-use Rattle.camp_prim.specs.declared.named.Named.{Named}
-use Rattle.camp_seq.specs.Inside.InPlace.{Precedes, ComesUpTo}
-use Rattle.camp_seq.proofs.ListSteps.{DoneFrom, none_done, one_more_done}
+use Rattle.camp_seq.proofs.Words.{◌≡◌, ◌+◌, ◌-◌, List, drop, set, refl, sym, ap, subst, ◌∙◌, arith, set-get_or, Named, Precedes, ComesUpTo}
+use Rattle.camp_seq.proofs.ListSteps.{DoneFrom, one_more_done}
 use Rattle.camp_seq.proofs.PassingSteps.{comes_up_to}
 use Rattle.camp_seq.proofs.passes.come_forward.Goals as goal
-
-pub loop-at-init : goal.loop-at-init
-loop-at-init c = none_done (λ t u. Precedes t c.args.p.now c.args.p.now u) c.args.s.now (refl, refl)
 
 pub returns-then-not-pass_one : goal.returns-then-not-pass_one
 returns-then-not-pass_one c =

@@ -1,4 +1,4 @@
-use Rattle.camp_seq.specs.Inside.InPlace.{Precedes}
+use Rattle.camp_seq.proofs.Words.{Precedes}
 use Rattle.camp_seq.proofs.ListSteps.{DoneFrom}
 use Rattle.camp_seq.proofs.passes.come_forward.Given as goal
 

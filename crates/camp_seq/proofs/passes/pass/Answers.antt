@@ -1,7 +1,4 @@
-use Rattle.std.proofs.Common.{List, subst, arith}
-use Rattle.std.proofs.lemmas.List.{take_more_set}
-use Rattle.camp_prim.specs.declared.named.Named.{Named}
-use Rattle.camp_seq.specs.Passing.{Passes}
+use Rattle.camp_seq.proofs.Words.{List, subst, arith, take_more_set, Named, Passes}
 use Rattle.camp_seq.proofs.ListSteps.{at_next, drop_next, take_next, whole}
 use Rattle.camp_seq.proofs.PassingSteps.{passes_push, passes_stop}
 use Rattle.camp_seq.proofs.passes.pass.Goals as goal

@@ -1,5 +1,4 @@
-use Rattle.std.proofs.Common.{◌≡◌, take, drop}
-use Rattle.camp_seq.specs.Passing.{Passes}
+use Rattle.camp_seq.proofs.Words.{◌≡◌, take, drop, Passes}
 use Rattle.camp_seq.proofs.passes.pass.Given as goal
 
 abbrev pub invariant-loop-q : goal.invariant-loop-q

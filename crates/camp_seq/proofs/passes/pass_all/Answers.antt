@@ -1,11 +1,7 @@
-use Rattle.std.proofs.Common.{◌≡◌, ◌+◌, ◌-◌, drop, refl, subst, arith}
-use Rattle.camp_seq.specs.Passing.{PassesAll}
-use Rattle.camp_seq.proofs.ListSteps.{DoneFrom, none_done, one_more_done}
+use Rattle.camp_seq.proofs.Words.{◌≡◌, ◌+◌, ◌-◌, drop, refl, subst, arith, PassesAll}
+use Rattle.camp_seq.proofs.ListSteps.{DoneFrom, one_more_done}
 use Rattle.camp_seq.proofs.PassingSteps.{stops_all}
 use Rattle.camp_seq.proofs.passes.pass_all.Goals as goal
-
-pub loop-at-init : goal.loop-at-init
-loop-at-init c = none_done (λ t u. PassesAll t c.args.s.now c.args.s.now u) c.args.r.now (refl, refl)
 
 pub returns-then-not-pass : goal.returns-then-not-pass
 returns-then-not-pass c =

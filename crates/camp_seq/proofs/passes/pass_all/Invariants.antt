@@ -1,4 +1,4 @@
-use Rattle.camp_seq.specs.Passing.{PassesAll}
+use Rattle.camp_seq.proofs.Words.{PassesAll}
 use Rattle.camp_seq.proofs.ListSteps.{DoneFrom}
 use Rattle.camp_seq.proofs.passes.pass_all.Given as goal
 

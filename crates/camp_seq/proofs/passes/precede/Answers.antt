@@ -1,10 +1,4 @@
-use Rattle.std.proofs.Common.{◌≡◌, ◌++◌, List, take, drop, ap, ◌∙◌, subst, arith}
-use Rattle.std.specs.Bool.{then_some}
-use Rattle.std.proofs.lemmas.List.{take_rest, take-append-drop}
-use Rattle.camp_base.specs.Answers.{FindsPair}
-use Rattle.camp_prim.specs.declared.named.Named.{Named}
-use Rattle.camp_seq.specs.Inside.InPlace.{Precedes}
-use Rattle.camp_seq.specs.Passing.{Passes}
+use Rattle.camp_seq.proofs.Words.{◌≡◌, ◌++◌, List, take, drop, ap, ◌∙◌, subst, arith, then_some, take_rest, take-append-drop, FindsPair, Named, Precedes, Passes}
 use Rattle.camp_seq.proofs.OrderSteps.{rest_written}
 use Rattle.camp_seq.proofs.PassingSteps.{passed_back, never_first}
 use Rattle.camp_seq.proofs.passes.precede.Goals as goal

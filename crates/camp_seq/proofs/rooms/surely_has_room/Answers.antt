@@ -1,11 +1,5 @@
-use Rattle.std.proofs.Common.{◌≡◌, ◌+◌, ◌≤◌, ◌^◌, List, drop, sym, subst, arith}
-use Rattle.std.specs.List.{All}
-use Rattle.std.proofs.lemmas.List.{drop_all}
-use Rattle.std.proofs.lemmas.List.Elements.{All-nil}
+use Rattle.camp_seq.proofs.Words.{◌≡◌, ◌+◌, ◌≤◌, ◌^◌, List, drop, sym, subst, arith, All, drop_all, All-nil, InRange, Named, reach_of}
 use borrow.Author.Tests.{leb-true}
-use Rattle.camp_prim.specs.Effect.{InRange}
-use Rattle.camp_prim.specs.declared.named.Named.{Named}
-use Rattle.camp_seq.specs.Shapes.{reach_of}
 use Rattle.camp_seq.proofs.Reaching.{room_within, reach_at_end}
 use Rattle.camp_seq.proofs.rooms.surely_has_room.Goals as goal
 

@@ -1,7 +1,4 @@
-use Rattle.std.proofs.Common.{◌≡◌, ◌+◌, ◌≤◌, ◌^◌, max, drop}
-use Rattle.std.specs.List.{All}
-use Rattle.camp_prim.specs.Effect.{InRange}
-use Rattle.camp_seq.specs.Shapes.{greatest_line, all_sides}
+use Rattle.camp_seq.proofs.Words.{◌≡◌, ◌+◌, ◌≤◌, ◌^◌, max, drop, All, InRange, greatest_line, all_sides}
 use Rattle.camp_seq.proofs.rooms.surely_has_room.Given as goal
 
 abbrev pub invariant-loop-p : goal.invariant-loop-p

@@ -1,9 +1,6 @@
-use Rattle.std.proofs.Common.{◌≡◌, List, Err, ◌∙◌, subst, arith}
+use Rattle.camp_seq.proofs.Words.{◌≡◌, List, Err, ◌∙◌, subst, arith, AnswersByTrial, Named, AppliesAll, here}
 use Rattle.std.proofs.lemmas.Result.{err_from_is_err_and}
-use Rattle.camp_base.specs.Answers.{AnswersByTrial}
-use Rattle.camp_prim.specs.declared.named.Named.{Named}
-use Rattle.camp_seq.specs.Running.{AppliesAll}
-use Rattle.camp_seq.proofs.RunSteps.{run_more, run_stops}
+use Rattle.camp_seq.proofs.ListRuns.{run_stops}
 use Rattle.camp_seq.proofs.runs.apply_all.Goals as goal
 
 pub returns-in_err-apply : goal.returns-in_err-apply
@@ -16,7 +13,3 @@ returns-in_err-apply c = record {
       let p = err_from_is_err_and c.from_residual-in_err-apply.result c.from_residual-in_err-apply.ensures.1 in
       rw (p.1, p.2) (subst (λ x. AnswersByTrial (AppliesAll x) c.args.tree.now (Err fault) c.args.tree.now) here (subst (λ x. AnswersByTrial (AppliesAll s) x (Err fault) x) c.in_ok-changed.ensures.exact stopped));
 }
-
-pub loop-p-preserved : goal.loop-p-preserved
-loop-p-preserved c =
-    run_more c.deref-p-items.result.now c.loop-p.p-index c.p-item.result c.in_ok-changed.changed c.loop-p.changed c.apply.new.tree (omega arith) c.p-item.is c.loop-p.invariant c.in_ok-apply.ensures.exact

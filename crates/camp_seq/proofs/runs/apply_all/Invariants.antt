@@ -1,5 +1,4 @@
-use Rattle.std.proofs.Common.{take}
-use Rattle.camp_seq.specs.Running.{AppliesAll}
+use Rattle.camp_seq.proofs.Words.{take, AppliesAll}
 use Rattle.camp_seq.proofs.runs.apply_all.Given as goal
 
 abbrev pub invariant-loop-p : goal.invariant-loop-p

@@ -1,5 +1,4 @@
-use Rattle.std.proofs.Common.{◌+◌, ◌≤◌, length}
-use Rattle.camp_seq.specs.Inside.InPlace.{PartsFrom}
+use Rattle.camp_seq.proofs.Words.{◌+◌, ◌≤◌, length, PartsFrom}
 use Rattle.camp_seq.proofs.splits.gather.Given as goal
 
 abbrev pub invariant-loop-at : goal.invariant-loop-at

@@ -1,5 +1,4 @@
-use Rattle.std.proofs.Common.{length, ◌++◌, refl, sym, ◌∙◌, subst}
-use Rattle.camp_seq.specs.Passing.{Parts}
+use Rattle.camp_seq.proofs.Words.{length, ◌++◌, refl, sym, ◌∙◌, subst, Parts}
 use Rattle.camp_seq.proofs.splits.split.Goals as goal
 
 pub returns-in_default : goal.returns-in_default

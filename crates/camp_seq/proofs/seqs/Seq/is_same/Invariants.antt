@@ -1,4 +1,4 @@
-use Rattle.std.proofs.Common.{◌≡◌, take}
+use Rattle.camp_seq.proofs.Words.{◌≡◌, take}
 use Rattle.camp_seq.proofs.seqs.Seq.is_same.Given as goal
 
 abbrev pub invariant-loop-at : goal.invariant-loop-at

@@ -1,4 +1,4 @@
-use Rattle.std.proofs.Common.{◌≡◌, take}
+use Rattle.camp_seq.proofs.Words.{◌≡◌, take}
 use Rattle.camp_seq.proofs.seqs.Seq.try_clone.Given as goal
 
 abbrev pub invariant-loop-p : goal.invariant-loop-p
