@@ -1,25 +1,6 @@
 -- The cases of commuting exclude one another, and each is determined.
-use Rattle.std.proofs.Common.{◌≡◌, ◌≤◌, Option, None, Some, inl, inr, [], ◌∷◌, cond, true, is_some, ◌+◌, refl, sym, ap, ◌∙◌, subst, arith}
+use Rattle.camp_catch.proofs.Words.{◌≡◌, ◌≤◌, Option, None, Some, inl, inr, [], ◌∷◌, cond, true, is_some, ◌+◌, refl, sym, ap, ◌∙◌, subst, arith, get, remove, empty, len, get-empty, get-insert, len-empty, len-insert, eq_by_cmp, inverse_of, key_cmp, Key, Named, key_total, le_or_not, swap_or_not, swap_unique, inverse_all, ContextedPatch, ContextedPatches, bare, only, patch_key, context_key, keys_or_not, lists_or_not, CasesExclude, BothPlain, PlainPastConflictor, ConflictorPastPlain, TwoConflictorsApart, ConflictDissolves, PlainLeavesTheSet, OnlyConflictGoes, OneOfSeveralConflicts, CommutePlainConflictor, CommuteConflictors, CommuteCatch, against, in_conflict_with, joined_by, with_effect, without, CommuteIsUnique, Catch, Plain, Conflictor}
 use Rattle.std.specs.Cmp.{Equal-is, tied_itself}
-use Rattle.std.specs.FinMap.{get, remove, empty, len, get-empty, get-insert, len-empty, len-insert}
-use Rattle.std.specs.Ordering.{eq_by_cmp}
-use Rattle.camp_prim.specs.Effect.{inverse_of}
-use Rattle.camp_prim.specs.Labels.{key_cmp}
-use Rattle.camp_prim.specs.declared.labels.Key.{Key}
-use Rattle.camp_prim.specs.declared.named.Named.{Named}
-use Rattle.camp_prim.proofs.LabelOrder.{key_total}
-use Rattle.camp_prim.proofs.SwapDecided.{le_or_not, swap_or_not}
-use Rattle.camp_prim.proofs.SwapUnique.{swap_unique}
-use Rattle.camp_seq.specs.Running.{inverse_all}
-use Rattle.camp_ctx.specs.Contexts.{ContextedPatch, ContextedPatches, bare, only, patch_key, context_key}
-use Rattle.camp_ctx.proofs.ContextsDecided.{keys_or_not, lists_or_not}
-use Rattle.camp_catch.specs.Cases.{CasesExclude}
-use Rattle.camp_catch.specs.Commuting.{BothPlain, PlainPastConflictor, ConflictorPastPlain, TwoConflictorsApart, ConflictDissolves, PlainLeavesTheSet, OnlyConflictGoes, OneOfSeveralConflicts, CommutePlainConflictor, CommuteConflictors, CommuteCatch}
-use Rattle.camp_catch.specs.Conflictors.{against, in_conflict_with, joined_by, with_effect, without}
-use Rattle.camp_catch.specs.Laws.{CommuteIsUnique}
-use Rattle.camp_catch.specs.declared.catches.Catch.{Catch}
-use Rattle.camp_catch.specs.declared.catches.Catch.TheVariants.{Plain}
-use Rattle.camp_catch.specs.declared.catches.Conflictor.{Conflictor}
 use Rattle.camp_catch.proofs.Determined.{Determined, both, chain, either, found, made_of, none_or_not, pairs, where_holds}
 use Rattle.camp_catch.proofs.PartsDetermined.{adds_to_bare, against_one, all_added_to, all_pass_by, comes_before, effects_pass, fronts, lacks_or_not, one_member, one_passes, order, passes_by}
 

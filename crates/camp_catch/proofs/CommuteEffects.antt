@@ -1,27 +1,5 @@
 -- Commuting keeps effects: each case is a path of trees.
-use Rattle.std.proofs.Common.{◌≡◌, inl, inr, List, [], ◌∷◌, ◌++◌, refl, sym, subst}
-use Rattle.std.proofs.lemmas.List.{append_assoc}
-use Rattle.std.specs.FinMap.{remove}
-use Rattle.camp_base.specs.Trees.{Files}
-use Rattle.camp_prim.specs.Effect.{Applies, inverse_of}
-use Rattle.camp_prim.specs.Labels.{label_of}
-use Rattle.camp_prim.specs.declared.named.Named.{Named}
-use Rattle.camp_prim.proofs.Applied.{applies_once}
-use Rattle.camp_seq.specs.Equivalence.{◌~◌, through}
-use Rattle.camp_seq.specs.NormalOrder.{Norm}
-use Rattle.camp_seq.specs.Running.{AppliesAll, inverse_all}
-use Rattle.camp_seq.proofs.ListEquivalence.{equal_are, before, behind, after_one, swapped, passed, all_passed, fronted, ordered, split, joined}
-use Rattle.camp_seq.proofs.ListRuns.{runs_back}
-use Rattle.camp_ctx.specs.Adding.{Adds, AddsAll, PassesBy, PassesByAll}
-use Rattle.camp_ctx.specs.Contexts.{ContextedPatches, Valid, bare, patch_key, context_key}
-use Rattle.camp_ctx.proofs.AddValid.{valid_by_adding, valid_by_adding_all, valid_by_passing, valid_by_passing_all}
-use Rattle.camp_catch.specs.Catches.{Fits}
-use Rattle.camp_catch.specs.Commuting.{BothPlain, PlainPastConflictor, ConflictorPastPlain, EffectsPass, labels_undone, TwoConflictorsApart, ConflictDissolves, PlainLeavesTheSet, OnlyConflictGoes, OneOfSeveralConflicts}
-use Rattle.camp_catch.specs.Conflictors.{against, in_conflict_with, joined_by, with_effect, without}
-use Rattle.camp_catch.specs.Laws.{CommuteKeepsEffects}
-use Rattle.camp_catch.specs.declared.catches.Catch.{Catch}
-use Rattle.camp_catch.specs.declared.catches.Catch.TheVariants.{Plain}
-use Rattle.camp_catch.specs.declared.catches.Conflictor.{Conflictor}
+use Rattle.camp_catch.proofs.Words.{◌≡◌, inl, inr, List, [], ◌∷◌, ◌++◌, refl, sym, subst, append_assoc, remove, Files, Applies, inverse_of, label_of, Named, applies_once, ◌~◌, through, Norm, AppliesAll, inverse_all, equal_are, before, behind, after_one, swapped, passed, all_passed, fronted, ordered, split, joined, runs_back, Adds, AddsAll, PassesBy, PassesByAll, ContextedPatches, Valid, bare, patch_key, context_key, valid_by_adding, valid_by_adding_all, valid_by_passing, valid_by_passing_all, Fits, BothPlain, PlainPastConflictor, ConflictorPastPlain, EffectsPass, labels_undone, TwoConflictorsApart, ConflictDissolves, PlainLeavesTheSet, OnlyConflictGoes, OneOfSeveralConflicts, against, in_conflict_with, joined_by, with_effect, without, CommuteKeepsEffects, Catch, Plain, Conflictor}
 use Rattle.camp_catch.proofs.Fitting.{FitBoth, fit_both_as, plain_fits, conflictor_fits, becomes_fits, added_fits, joined_fits, along, places_change, one_runs, one_applies, one_back, only_valid, without_valid}
 
 -- a case keeps effects

@@ -1,26 +1,7 @@
 -- What the bodies of commuting know at their answers.
-use Rattle.std.proofs.Common.{◌≡◌, ◌≤◌, ◌==◌, Option, None, Some, ◌⊎◌, inl, inr, List, [], ◌∷◌, length, Bool, true, refl, sym, ap, ◌∙◌, subst, arith, eqb-true}
-use Rattle.std.specs.FinMap.{get, len, remove, empty_of_len, get-empty}
-use Rattle.camp_base.specs.Answers.{FindsPair}
-use Rattle.camp_prim.specs.Effect.{inverse_of}
-use Rattle.camp_prim.specs.Labels.{label_of, key_cmp}
-use Rattle.camp_prim.specs.declared.labels.Key.{Key}
-use Rattle.camp_prim.specs.declared.labels.Label.{Label}
-use Rattle.camp_prim.specs.declared.named.Named.{Named}
-use Rattle.camp_prim.proofs.Inverses.{inverse_of-inverse_of}
-use Rattle.camp_seq.specs.NormalOrder.{Norm, Splits}
-use Rattle.camp_seq.specs.Passing.{Passes, PassesAll, Fronts}
+use Rattle.camp_catch.proofs.Words.{◌≡◌, ◌≤◌, ◌==◌, Option, None, Some, ◌⊎◌, inl, inr, List, [], ◌∷◌, length, Bool, true, refl, sym, ap, ◌∙◌, subst, arith, eqb-true, get, len, remove, empty_of_len, get-empty, FindsPair, inverse_of, label_of, key_cmp, Key, Label, Named, inverse_of-inverse_of, Norm, Splits, Passes, PassesAll, Fronts, one_front, one_split, Adds, AddsAll, PassesBy, PassesByAll, ContextedPatch, ContextedPatches, bare, only, patch_key, context_key, one_add_of_all, PlainPastConflictor, ConflictorPastPlain, EffectsPass, labels_undone, TwoConflictorsApart, ConflictDissolves, PlainLeavesTheSet, OnlyConflictGoes, OneOfSeveralConflicts, CommutePlainConflictor, CommuteConflictors, Becomes, in_conflict_with, with_conflicts, with_effect, without, JoinsBehindEffects, PlainAndUndone, PlainAndFirstConflict, Catch, Conflictor}
 use Rattle.camp_seq.proofs.GatherSteps.{length-passes}
-use Rattle.camp_seq.proofs.ListResults.{one_front, one_split}
-use Rattle.camp_ctx.specs.Adding.{Adds, AddsAll, PassesBy, PassesByAll}
-use Rattle.camp_ctx.specs.Contexts.{ContextedPatch, ContextedPatches, bare, only, patch_key, context_key}
-use Rattle.camp_ctx.proofs.AddResults.{one_add_of_all}
-use Rattle.camp_catch.specs.Commuting.{PlainPastConflictor, ConflictorPastPlain, EffectsPass, labels_undone, TwoConflictorsApart, ConflictDissolves, PlainLeavesTheSet, OnlyConflictGoes, OneOfSeveralConflicts, CommutePlainConflictor, CommuteConflictors}
-use Rattle.camp_catch.specs.Conflictors.{Becomes, in_conflict_with, with_conflicts, with_effect, without}
-use Rattle.camp_catch.specs.Inside.Pairs.{JoinsBehindEffects, PlainAndUndone, PlainAndFirstConflict}
 use Rattle.camp_catch.specs.Inside.Seen.{LeavesSet}
-use Rattle.camp_catch.specs.declared.catches.Catch.{Catch}
-use Rattle.camp_catch.specs.declared.catches.Conflictor.{Conflictor}
 use Rattle.camp_catch.proofs.CommuteCases.{its_only, lacks_its_only, not_none, only_is_one}
 use Rattle.camp_catch.proofs.Determined.{leads_nowhere}
 use Rattle.camp_catch.proofs.PartsDetermined.{LacksKey, comes_before, effects_pass, one_passes, same_only}

@@ -1,31 +1,5 @@
 -- Catches that fit one after the other, and what keeps the members of sets valid.
-use Rattle.std.proofs.Common.{◌≡◌, Bool, true, false, cond, Option, None, Some, List, [], ◌∷◌, ◌++◌, refl, sym, subst}
-use Rattle.std.specs.FinMap.{get, contains_key, remove, insert, empty, get-empty, get-insert, get-remove}
-use Rattle.std.specs.Ordering.{eq_by_cmp}
-use Rattle.camp_base.specs.Trees.{Files}
-use Rattle.camp_prim.specs.Effect.{Applies, inverse_of}
-use Rattle.camp_prim.specs.Labels.{key_cmp}
-use Rattle.camp_prim.specs.declared.labels.Key.{Key}
-use Rattle.camp_prim.specs.declared.named.Named.{Named}
-use Rattle.camp_prim.proofs.Applied.{applies_once}
-use Rattle.camp_prim.proofs.Inverses.{leads_back, inverse_of-inverse_of}
-use Rattle.camp_seq.specs.Equivalence.{◌~◌}
-use Rattle.camp_seq.specs.Running.{AppliesAll}
-use Rattle.camp_seq.specs.Merging.{MergesOne}
-use Rattle.camp_seq.proofs.ListEquivalence.{passed}
-use Rattle.camp_seq.proofs.ListRuns.{joined_runs, cut_run, equivalent_run}
-use Rattle.camp_seq.proofs.MergeGrid.{row_passes}
-use Rattle.camp_ctx.specs.Contexts.{ContextedPatch, ContextedPatches, AreValid, Valid, only, with_member, context_key}
-use Rattle.camp_ctx.specs.Adding.{AddsAll}
-use Rattle.camp_ctx.specs.Laws.{KeepsValid}
-use Rattle.camp_ctx.proofs.AddValid.{valid_by_adding_all}
-use Rattle.camp_ctx.proofs.SetChanges.{members_valid}
-use Rattle.camp_prim.proofs.LabelOrder.{key_total}
-use Rattle.camp_catch.specs.Conflictors.{Becomes, joined_by}
-use Rattle.camp_catch.specs.Catches.{Fits, IsSeenFrom}
-use Rattle.camp_catch.specs.declared.catches.Catch.{Catch}
-use Rattle.camp_catch.specs.declared.catches.Catch.TheVariants.{Plain}
-use Rattle.camp_catch.specs.declared.catches.Conflictor.{Conflictor}
+use Rattle.camp_catch.proofs.Words.{◌≡◌, Bool, true, false, cond, Option, None, Some, List, [], ◌∷◌, ◌++◌, refl, sym, subst, get, contains_key, remove, insert, empty, get-empty, get-insert, get-remove, eq_by_cmp, Files, Applies, inverse_of, key_cmp, Key, Named, applies_once, leads_back, inverse_of-inverse_of, ◌~◌, AppliesAll, MergesOne, passed, joined_runs, cut_run, equivalent_run, row_passes, ContextedPatch, ContextedPatches, AreValid, Valid, only, with_member, context_key, AddsAll, KeepsValid, valid_by_adding_all, members_valid, key_total, Becomes, joined_by, Fits, IsSeenFrom, Catch, Plain, Conflictor}
 
 -- two catches that fit, one after the other
 abbrev pub FitBoth : Catch → Catch → Files → Files → Type 0

@@ -1,25 +1,5 @@
 -- Commuting and merging keep labels, and so do arranging, aligning and merging lists.
-use Rattle.std.proofs.Common.{◌≡◌, inl, inr, append-nil, List, [], ◌∷◌, ◌++◌, map, refl, sym, ap, ◌∙◌, subst, ℕ}
-use Rattle.std.proofs.lemmas.List.{map-append, append_assoc}
-use Rattle.camp_prim.specs.Effect.{inverse_of}
-use Rattle.camp_prim.specs.Labels.{label_of, key_of}
-use Rattle.camp_prim.specs.declared.labels.Key.{Key}
-use Rattle.camp_prim.specs.declared.labels.Label.{Label}
-use Rattle.camp_prim.specs.declared.named.Named.{Named}
-use Rattle.camp_seq.specs.Merging.{MergesOne}
-use Rattle.camp_seq.specs.Passing.{Passes, PassesAll}
-use Rattle.camp_ctx.specs.Adding.{Adds, PassesBy, PassesByAll}
-use Rattle.camp_ctx.specs.Contexts.{ContextedPatch, patch_key, context_key, bare}
-use Rattle.camp_ctx.proofs.AddResults.{same_key_of_sum}
-use Rattle.camp_catch.specs.Arranging.{ComesBefore, ArrangesBehind, ComesFirst, Align}
-use Rattle.camp_catch.specs.Catches.{catch_key}
-use Rattle.camp_catch.specs.Commuting.{CommuteCatch}
-use Rattle.camp_catch.specs.Laws.{KeepLabels, KeysPart, KeysAlign, keys_of}
-use Rattle.camp_catch.specs.Merging.{JoinsWhere, MergeCatch, MergePlainConflictor}
-use Rattle.camp_catch.specs.MergingLists.{MergesWithAll, MergeLists}
-use Rattle.camp_catch.specs.declared.catches.Catch.{Catch}
-use Rattle.camp_catch.specs.declared.catches.Catch.TheVariants.{Plain}
-use Rattle.camp_catch.specs.declared.catches.Conflictor.{Conflictor}
+use Rattle.camp_catch.proofs.Words.{◌≡◌, inl, inr, append-nil, List, [], ◌∷◌, ◌++◌, map, refl, sym, ap, ◌∙◌, subst, ℕ, map-append, append_assoc, inverse_of, label_of, key_of, Key, Label, Named, MergesOne, Passes, PassesAll, Adds, PassesBy, PassesByAll, ContextedPatch, patch_key, context_key, bare, same_key_of_sum, ComesBefore, ArrangesBehind, ComesFirst, Align, catch_key, CommuteCatch, KeepLabels, KeysPart, KeysAlign, keys_of, JoinsWhere, MergeCatch, MergePlainConflictor, MergesWithAll, MergeLists, Catch, Plain, Conflictor}
 
 passed_key : (p : Named) (s s' : List Named) (p' : Named) → Passes p s s' p' → patch_key p' ≡ patch_key p
 passed_key p [] s' p' w = ap patch_key w.1

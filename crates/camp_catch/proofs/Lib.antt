@@ -17,3 +17,4 @@ pub mod PlainFronts
 pub mod SameCatches
 pub mod Settled
 pub mod ValueSteps
+pub mod Words

@@ -1,12 +1,5 @@
 -- Lists of catches keep fitting: a commute of neighbours does, and a merge of lists is a grid of merges.
-use Rattle.std.proofs.Common.{◌≡◌, inl, inr, List, [], ◌∷◌, ◌++◌, refl, sym, subst, ℕ}
-use Rattle.camp_base.specs.Trees.{Files}
-use Rattle.camp_prim.specs.declared.labels.Key.{Key}
-use Rattle.camp_catch.specs.Arranging.{ComesBefore, ArrangesBehind, ComesFirst, Align}
-use Rattle.camp_catch.specs.Catches.{Fits, FitsAll}
-use Rattle.camp_catch.specs.Laws.{ListsKeepEffects}
-use Rattle.camp_catch.specs.MergingLists.{MergesWithAll, MergeLists}
-use Rattle.camp_catch.specs.declared.catches.Catch.{Catch}
+use Rattle.camp_catch.proofs.Words.{◌≡◌, inl, inr, List, [], ◌∷◌, ◌++◌, refl, sym, subst, ℕ, Files, Key, ComesBefore, ArrangesBehind, ComesFirst, Align, Fits, FitsAll, ListsKeepEffects, MergesWithAll, MergeLists, Catch}
 use Rattle.camp_catch.proofs.CommuteEffects.{commute_keeps_effects}
 use Rattle.camp_catch.proofs.MergeEffects.{merge_keeps_effects}
 

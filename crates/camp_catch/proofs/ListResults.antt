@@ -1,15 +1,5 @@
 -- What lists of catches become is determined: one result, or one place where they stick, and never both.
-use Rattle.std.proofs.Common.{◌≡◌, ◌↔◌, ◌⊎◌, inl, inr, List, [], ◌∷◌, ◌++◌, refl, ap, ℕ, Contains}
-use Rattle.camp_prim.specs.declared.labels.Key.{Key}
-use Rattle.camp_prim.proofs.SwapDecided.{Decided}
-use Rattle.camp_seq.proofs.ListsDecided.{among_or_not}
-use Rattle.camp_ctx.proofs.ContextsDecided.{keys_or_not}
-use Rattle.camp_ctx.proofs.NamedDecided.{bytes_or_not}
-use Rattle.camp_catch.specs.Arranging.{ComesBefore, StopsAt, ArrangesBehind, SticksBehind, IsOf, ComesFirst, Align, AlignSticks}
-use Rattle.camp_catch.specs.Catches.{catch_key}
-use Rattle.camp_catch.specs.ListLaws.{ArrangeByMembers, CatchesAreDecided, GivesOnePair, HasPair, ListsAreUnique, ListsSucceedOrStick, OneOf}
-use Rattle.camp_catch.specs.MergingLists.{MergesWithAll, SticksWithin, MergeLists, MergeSticks}
-use Rattle.camp_catch.specs.declared.catches.Catch.{Catch}
+use Rattle.camp_catch.proofs.Words.{◌≡◌, ◌↔◌, ◌⊎◌, inl, inr, List, [], ◌∷◌, ◌++◌, refl, ap, ℕ, Contains, Key, Decided, among_or_not, keys_or_not, bytes_or_not, ComesBefore, StopsAt, ArrangesBehind, SticksBehind, IsOf, ComesFirst, Align, AlignSticks, catch_key, ArrangeByMembers, CatchesAreDecided, GivesOnePair, HasPair, ListsAreUnique, ListsSucceedOrStick, OneOf, MergesWithAll, SticksWithin, MergeLists, MergeSticks, Catch}
 use Rattle.camp_catch.proofs.CommuteCases.{IsDetermined, commuting}
 use Rattle.camp_catch.proofs.Determined.{Determined, chain, either, just, made_of, not_or_not, where_holds}
 use Rattle.camp_catch.proofs.MergeCases.{merging}

@@ -1,26 +1,5 @@
 -- The cases of merging exclude one another, and each is determined.
-use Rattle.std.proofs.Common.{List, ◌∷◌, refl, sym, ap, subst}
-use Rattle.camp_prim.specs.Effect.{inverse_of}
-use Rattle.camp_prim.specs.Swaps.{Swap}
-use Rattle.camp_prim.specs.declared.named.Named.{Named}
-use Rattle.camp_prim.proofs.Inverses.{inverse_of-inverse_of}
-use Rattle.camp_prim.proofs.SwapDecided.{Decided, decided_by, swap_or_not}
-use Rattle.camp_prim.proofs.SwapUnique.{swap_unique}
-use Rattle.camp_seq.specs.Merging.{Merges, MergesOne}
-use Rattle.camp_seq.specs.Running.{inverse_all}
-use Rattle.camp_seq.proofs.MergeGrid.{row_passes, passes_row}
-use Rattle.camp_ctx.specs.Conflicts.{Conflict}
-use Rattle.camp_ctx.specs.Contexts.{ContextedPatch, bare}
-use Rattle.camp_ctx.proofs.AddResults.{one_add_of_all}
-use Rattle.camp_ctx.proofs.ConflictLaws.{one_merge_behind}
-use Rattle.camp_ctx.proofs.ContextsDecided.{conflict_or_not, merge_behind_or_not}
-use Rattle.camp_catch.specs.Cases.{MergeCasesExclude}
-use Rattle.camp_catch.specs.Conflictors.{against, in_conflict_with, joined_by, with_effect}
-use Rattle.camp_catch.specs.Laws.{MergeIsUnique}
-use Rattle.camp_catch.specs.Merging.{Clean, FirstConflict, PlainBesideConflictor, PlainJoinsConflictor, MergePlainConflictor, Mirror, JoinsWhere, TwoConflictors, MergeCatch}
-use Rattle.camp_catch.specs.declared.catches.Catch.{Catch}
-use Rattle.camp_catch.specs.declared.catches.Catch.TheVariants.{Plain}
-use Rattle.camp_catch.specs.declared.catches.Conflictor.{Conflictor}
+use Rattle.camp_catch.proofs.Words.{List, ◌∷◌, refl, sym, ap, subst, inverse_of, Swap, Named, inverse_of-inverse_of, Decided, decided_by, swap_or_not, swap_unique, Merges, MergesOne, inverse_all, row_passes, passes_row, Conflict, ContextedPatch, bare, one_add_of_all, one_merge_behind, conflict_or_not, merge_behind_or_not, MergeCasesExclude, against, in_conflict_with, joined_by, with_effect, MergeIsUnique, Clean, FirstConflict, PlainBesideConflictor, PlainJoinsConflictor, MergePlainConflictor, Mirror, JoinsWhere, TwoConflictors, MergeCatch, Catch, Plain, Conflictor}
 use Rattle.camp_catch.proofs.CommuteCases.{IsDetermined}
 use Rattle.camp_catch.proofs.Determined.{Determined, both, chain, either, just, made_of, not_or_not, pairs, where_holds}
 use Rattle.camp_catch.proofs.PartsDetermined.{adds_all, adds_to, all_added_to, one_passes, order}

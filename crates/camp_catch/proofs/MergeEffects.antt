@@ -1,25 +1,5 @@
 -- Merging keeps effects and is symmetric: each case closes a square of trees.
-use Rattle.std.proofs.Common.{◌≡◌, inl, inr, List, [], ◌∷◌, ◌++◌, refl, sym, subst}
-use Rattle.camp_base.specs.Trees.{Files}
-use Rattle.camp_prim.specs.Effect.{Applies, inverse_of}
-use Rattle.camp_prim.specs.declared.named.Named.{Named}
-use Rattle.camp_seq.specs.NormalOrder.{Norm}
-use Rattle.camp_seq.specs.Running.{AppliesAll, inverse_all}
-use Rattle.camp_seq.proofs.ListEquivalence.{ordered, split}
-use Rattle.camp_seq.proofs.ListRuns.{cut_run, runs_back}
-use Rattle.camp_seq.proofs.MergeGrid.{merge_closes, cell_is_symmetric}
-use Rattle.camp_ctx.specs.Adding.{Adds}
-use Rattle.camp_ctx.specs.Conflicts.{MergesBehindCommon, Conflict, common_labels}
-use Rattle.camp_ctx.specs.Contexts.{ContextedPatch, Valid, bare}
-use Rattle.camp_ctx.proofs.AddValid.{valid_by_adding, valid_by_adding_all}
-use Rattle.camp_ctx.proofs.ConflictLaws.{merge_behind_is_symmetric, conflict_is_symmetric}
-use Rattle.camp_catch.specs.Catches.{Fits}
-use Rattle.camp_catch.specs.Conflictors.{against, in_conflict_with, joined_by, with_effect}
-use Rattle.camp_catch.specs.Merging.{Clean, FirstConflict, PlainBesideConflictor, PlainJoinsConflictor, JoinsWhere, TwoConflictors}
-use Rattle.camp_catch.specs.Laws.{MergeKeepsEffects, MergeIsSymmetric}
-use Rattle.camp_catch.specs.declared.catches.Catch.{Catch}
-use Rattle.camp_catch.specs.declared.catches.Catch.TheVariants.{Plain}
-use Rattle.camp_catch.specs.declared.catches.Conflictor.{Conflictor}
+use Rattle.camp_catch.proofs.Words.{◌≡◌, inl, inr, List, [], ◌∷◌, ◌++◌, refl, sym, subst, Files, Applies, inverse_of, Named, Norm, AppliesAll, inverse_all, ordered, split, cut_run, runs_back, merge_closes, cell_is_symmetric, Adds, MergesBehindCommon, Conflict, common_labels, ContextedPatch, Valid, bare, valid_by_adding, valid_by_adding_all, merge_behind_is_symmetric, conflict_is_symmetric, Fits, against, in_conflict_with, joined_by, with_effect, Clean, FirstConflict, PlainBesideConflictor, PlainJoinsConflictor, JoinsWhere, TwoConflictors, MergeKeepsEffects, MergeIsSymmetric, Catch, Plain, Conflictor}
 use Rattle.camp_catch.proofs.Fitting.{plain_fits, conflictor_fits, becomes_fits, added_fits, joined_fits, along, one_runs, one_back, row_closes, run_once, only_valid}
 
 -- two catches that fit, each from a tree of its own, and end in one

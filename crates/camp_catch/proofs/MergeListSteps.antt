@@ -1,10 +1,5 @@
 -- How a merge of two lists goes on, catch after catch.
-use Rattle.std.proofs.Common.{◌≡◌, List, [], ◌∷◌, ◌++◌, length, refl, sym, subst, inr, arith}
-use Rattle.std.proofs.lemmas.List.{append_assoc}
-use Rattle.camp_prim.specs.declared.labels.Key.{Key}
-use Rattle.camp_catch.specs.Merging.{MergeCatch}
-use Rattle.camp_catch.specs.MergingLists.{MergesWithAll, SticksWithin, MergeLists, MergeSticks}
-use Rattle.camp_catch.specs.declared.catches.Catch.{Catch}
+use Rattle.camp_catch.proofs.Words.{◌≡◌, List, [], ◌∷◌, ◌++◌, length, refl, sym, subst, inr, arith, append_assoc, Key, MergeCatch, MergesWithAll, SticksWithin, MergeLists, MergeSticks, Catch}
 
 -- one catch has come to be `next` behind the front of a list, which has become `done`; `rest` is still to come
 pub record IsBehind (whole : List Catch) (k : Catch) (done : List Catch) (next : Catch) (rest : List Catch) : Type 0 where

@@ -1,28 +1,6 @@
 -- What the bodies of merging know at their answers.
-use Rattle.std.proofs.Common.{◌≡◌, inl, inr, List, Option, None, Some, Bool, true, false, not, IsTrue, refl, sym, ap, ◌∙◌, subst}
-use Rattle.camp_base.specs.Answers.{FindsPair}
-use Rattle.camp_prim.specs.Effect.{inverse_of}
-use Rattle.camp_prim.specs.Swaps.{Swap}
-use Rattle.camp_prim.specs.declared.named.Named.{Named}
-use Rattle.camp_prim.proofs.Inverses.{inverse_of-inverse_of}
-use Rattle.camp_seq.specs.Merging.{Merges, MergesOne}
-use Rattle.camp_seq.specs.NormalOrder.{Norm}
-use Rattle.camp_seq.specs.Passing.{Passes}
-use Rattle.camp_seq.specs.Running.{inverse_all}
-use Rattle.camp_seq.proofs.MergeGrid.{row_passes, passes_row}
-use Rattle.camp_ctx.specs.Adding.{Adds, AddsAll}
-use Rattle.camp_ctx.specs.Conflicts.{Conflict, MergesBehindCommon}
-use Rattle.camp_ctx.specs.Contexts.{ContextedPatches, EachMember, ContextedPatch, bare}
-use Rattle.camp_ctx.proofs.AddResults.{add_of_all_exists, one_add_of_all}
-use Rattle.camp_ctx.proofs.SetChanges.{members_change}
-use Rattle.camp_catch.specs.Conflictors.{Becomes, joined_by}
-use Rattle.camp_catch.specs.Inside.InPlace.{MergesBehind}
-use Rattle.camp_catch.specs.Inside.Pairs.{JoinsAs}
+use Rattle.camp_catch.proofs.Words.{◌≡◌, inl, inr, List, Option, None, Some, Bool, true, false, not, IsTrue, refl, sym, ap, ◌∙◌, subst, FindsPair, inverse_of, Swap, Named, inverse_of-inverse_of, Merges, MergesOne, Norm, Passes, inverse_all, row_passes, passes_row, Adds, AddsAll, Conflict, MergesBehindCommon, ContextedPatches, EachMember, ContextedPatch, bare, add_of_all_exists, one_add_of_all, members_change, Becomes, joined_by, MergesBehind, JoinsAs, Clean, PlainBesideConflictor, PlainJoinsConflictor, MergePlainConflictor, Mirror, TwoConflictors, Catch, Plain, Conflictor}
 use Rattle.camp_catch.specs.Inside.TwoConflictors.{EffectsMerge, JoinEachOther, TellsConflict}
-use Rattle.camp_catch.specs.Merging.{Clean, PlainBesideConflictor, PlainJoinsConflictor, MergePlainConflictor, Mirror, TwoConflictors}
-use Rattle.camp_catch.specs.declared.catches.Catch.{Catch}
-use Rattle.camp_catch.specs.declared.catches.Catch.TheVariants.{Plain}
-use Rattle.camp_catch.specs.declared.catches.Conflictor.{Conflictor}
 use Rattle.camp_catch.proofs.MergeEffects.{joins_alike}
 
 -- a relation has no result

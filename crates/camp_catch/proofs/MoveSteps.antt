@@ -1,17 +1,8 @@
 -- How catches that move inside a list, one step after the other, arrange and align it.
-use Rattle.std.proofs.Common.{◌≡◌, ◌≢◌, ℕ, ◌+◌, ◌<◌, ◌≤◌, List, length, take, drop, get_or, [], ◌∷◌, ◌++◌, Contains, refl, sym, ap, ◌∙◌, subst, inl, inr, suc, arith}
+use Rattle.camp_catch.proofs.Words.{◌≡◌, ◌≢◌, ℕ, ◌+◌, ◌<◌, ◌≤◌, List, length, take, drop, get_or, [], ◌∷◌, ◌++◌, Contains, refl, sym, ap, ◌∙◌, subst, inl, inr, suc, arith, append_assoc, drop_more, length_push, length-append, length-take-le, take_at, drop_at, slice_cmp, FinMap, keys, contains_key, contains_key-keys, slice_cmp-IsAntisymmetric, nat_cmp-IsAntisymmetric, nat_cmp, Key, ComesBefore, DoNotCommute, StopsAt, IsOf, ArrangesBehind, SticksBehind, Arrange, ArrangeSticks, ComesFirst, Align, AlignSticks, catch_key, Lacks, ComesFirstInPlace, Catch}
 use Rattle.std.proofs.lemmas.Cmp.{nat_list_cmp_total, eq_by_cmp_equiv}
-use Rattle.std.proofs.lemmas.List.{append_assoc, drop_more, length_push, length-append, length-take-le, take_at, drop_at}
 use Rattle.std.proofs.lemmas.Map.Views.{Contains-from_any, list_any-from_Contains, tells_apart}
 use Rattle.std.specs.Bool.{Decides}
-use Rattle.std.specs.Cmp.Lexicographic.{slice_cmp}
-use Rattle.std.specs.FinMap.{FinMap, keys, contains_key, contains_key-keys, slice_cmp-IsAntisymmetric, nat_cmp-IsAntisymmetric}
-use Rattle.std.specs.Ordering.{nat_cmp}
-use Rattle.camp_prim.specs.declared.labels.Key.{Key}
-use Rattle.camp_catch.specs.Arranging.{ComesBefore, DoNotCommute, StopsAt, IsOf, ArrangesBehind, SticksBehind, Arrange, ArrangeSticks, ComesFirst, Align, AlignSticks}
-use Rattle.camp_catch.specs.Catches.{catch_key}
-use Rattle.camp_catch.specs.Inside.InPlace.{Lacks, ComesFirstInPlace}
-use Rattle.camp_catch.specs.declared.catches.Catch.{Catch}
 
 -- what stands at a place of a list, and what is behind it
 pub stands_at : {X : Type 0} (list : List X) (i : ℕ) (d x : X) → i < length list → x ≡ get_or list i d → drop i list ≡ x ∷ drop (i + 1) list

@@ -1,28 +1,8 @@
 -- What cases are made of is determined.
-use Rattle.std.proofs.Common.{◌≡◌, ◌≢◌, List, [], ◌∷◌, ◌++◌, refl, sym, ap, ◌∙◌, subst, inl, inr}
+use Rattle.camp_catch.proofs.Words.{◌≡◌, ◌≢◌, List, [], ◌∷◌, ◌++◌, refl, sym, ap, ◌∙◌, subst, inl, inr, entries, All, label_of, Key, Named, Decided, decided_by, Norm, Splits, Passes, PassesAll, Fronts, one_pass, one_pass_of_all, one_front, one_order, one_split, passes_or_not, all_pass_or_not, splits_or_not, Adds, AddsAll, PassesBy, PassesByAll, ContextedPatch, ContextedPatches, EachMember, bare, only, patch_key, context_key, GivesOne, AlwaysGives, add_exists, add_of_all_exists, front_as_or_not, one_add, one_add_of_all, one_passing_by, one_passing_of_all, passing_by_or_not, same_in_context, contexts_or_not, in_context_or_not, keys_or_not, list_passes_by_or_not, lists_or_not, only_or_not, same_alone, both_or_not, members_change, one_change_of_members, EffectsPass, labels_undone, Becomes, against, Conflictor}
 use Rattle.std.proofs.lemmas.List.Elements.{All-nil, All-cons, All-head, All-tail}
-use Rattle.std.specs.FinMap.{entries}
-use Rattle.std.specs.List.{All}
-use Rattle.camp_prim.specs.Labels.{label_of}
-use Rattle.camp_prim.specs.declared.labels.Key.{Key}
-use Rattle.camp_prim.specs.declared.named.Named.{Named}
-use Rattle.camp_prim.proofs.SwapDecided.{Decided, decided_by}
-use Rattle.camp_seq.specs.NormalOrder.{Norm, Splits}
-use Rattle.camp_seq.specs.Passing.{Passes, PassesAll, Fronts}
-use Rattle.camp_seq.proofs.ListResults.{one_pass, one_pass_of_all, one_front, one_order, one_split}
-use Rattle.camp_seq.proofs.ListsDecided.{passes_or_not, all_pass_or_not, splits_or_not}
 use Rattle.camp_seq.proofs.NormalOrders.{has_normal_order}
-use Rattle.camp_ctx.specs.Adding.{Adds, AddsAll, PassesBy, PassesByAll}
-use Rattle.camp_ctx.specs.Contexts.{ContextedPatch, ContextedPatches, EachMember, bare, only, patch_key, context_key}
-use Rattle.camp_ctx.specs.Laws.{GivesOne, AlwaysGives}
-use Rattle.camp_ctx.proofs.AddResults.{add_exists, add_of_all_exists, front_as_or_not, one_add, one_add_of_all, one_passing_by, one_passing_of_all, passing_by_or_not, same_in_context}
-use Rattle.camp_ctx.proofs.ContextsDecided.{contexts_or_not, in_context_or_not, keys_or_not, list_passes_by_or_not, lists_or_not, only_or_not, same_alone}
-use Rattle.camp_ctx.proofs.NamedDecided.{both_or_not}
-use Rattle.camp_ctx.proofs.SetChanges.{members_change, one_change_of_members}
 use Rattle.camp_ctx.proofs.SetSteps.{entries-only}
-use Rattle.camp_catch.specs.Commuting.{EffectsPass, labels_undone}
-use Rattle.camp_catch.specs.Conflictors.{Becomes, against}
-use Rattle.camp_catch.specs.declared.catches.Conflictor.{Conflictor}
 use Rattle.camp_catch.proofs.Determined.{Determined, always, both, chain, just, made_of, not_or_not, pairs}
 
 pub one_passes : (a : Named) (s : List Named) → Determined (λ (p : List Named × Named). Passes a s p.0 p.1)

@@ -1,20 +1,5 @@
 -- Plain catches that come to the front take along what stops those of them that are to come alone.
-use Rattle.std.proofs.Common.{◌≡◌, inl, inr, ℕ, List, [], ◌∷◌, ◌++◌, map, append-nil, refl, sym, ap, ◌∙◌, subst}
-use Rattle.std.proofs.lemmas.List.{append_assoc, map-append}
-use Rattle.std.specs.Prelude.{◌↔◌, Contains}
-use Rattle.camp_prim.specs.declared.labels.Key.{Key}
-use Rattle.camp_prim.specs.declared.named.Named.{Named}
-use Rattle.camp_seq.specs.Inside.InPlace.{Precedes}
-use Rattle.camp_seq.specs.Room.{HasRoom}
-use Rattle.camp_seq.proofs.ListsDecided.{among_or_not}
-use Rattle.camp_seq.proofs.PassingSteps.{one_precedes}
-use Rattle.camp_seq.proofs.RoomSteps.{reaches_before, room_after, room_before, room_behind}
-use Rattle.camp_ctx.proofs.NamedDecided.{bytes_or_not}
-use Rattle.camp_catch.specs.Arranging.{ArrangesBehind, ComesBefore, SticksBehind, StopsAt}
-use Rattle.camp_catch.specs.Commuting.{BothPlain, CommuteCatch}
-use Rattle.camp_catch.specs.ListLaws.{FrontsComeBehindFronts, WhatStopsComesAlong}
-use Rattle.camp_catch.specs.declared.catches.Catch.{Catch}
-use Rattle.camp_catch.specs.declared.catches.Catch.TheVariants.{Plain}
+use Rattle.camp_catch.proofs.Words.{◌≡◌, inl, inr, ℕ, List, [], ◌∷◌, ◌++◌, map, append-nil, refl, sym, ap, ◌∙◌, subst, append_assoc, map-append, ◌↔◌, Contains, Key, Named, Precedes, HasRoom, among_or_not, one_precedes, reaches_before, room_after, room_before, room_behind, bytes_or_not, ArrangesBehind, ComesBefore, SticksBehind, StopsAt, BothPlain, CommuteCatch, FrontsComeBehindFronts, WhatStopsComesAlong, Catch, Plain}
 use Rattle.camp_catch.proofs.ListResults.{lists_are_unique, lists_succeed_or_stick}
 use Rattle.camp_catch.proofs.PlainFronts.{AreOthers, Parted, Stops, comes_or_stops, comes_past_parts, first_comes, one_more, one_other, others_and_one, others_stay, precedes_reached}
 

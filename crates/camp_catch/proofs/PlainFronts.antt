@@ -1,19 +1,7 @@
 -- What stops plain patches on their way to the front of a list with room.
-use Rattle.std.proofs.Common.{◌≡◌, ◌⊎◌, inl, inr, ℕ, List, [], ◌∷◌, ◌++◌, refl, sym, ap, ◌∙◌, subst}
-use Rattle.std.proofs.lemmas.List.{append_assoc}
-use Rattle.std.specs.Prelude.{Contains}
-use Rattle.camp_prim.specs.Labels.{key_of, label_of}
-use Rattle.camp_prim.specs.Swaps.{Swap}
-use Rattle.camp_prim.specs.declared.labels.Key.{Key}
-use Rattle.camp_prim.specs.declared.named.Named.{Named}
-use Rattle.camp_prim.proofs.SwapDecided.{swap_or_not}
-use Rattle.camp_seq.specs.Inside.InPlace.{Precedes}
-use Rattle.camp_seq.specs.Passing.{Passes}
-use Rattle.camp_seq.specs.Room.{HasRoom, Reaches, further, here}
+use Rattle.camp_catch.proofs.Words.{◌≡◌, ◌⊎◌, inl, inr, ℕ, List, [], ◌∷◌, ◌++◌, refl, sym, ap, ◌∙◌, subst, append_assoc, Contains, key_of, label_of, Swap, Key, Named, swap_or_not, Precedes, Passes, HasRoom, Reaches, further, here, passes_push, reaches_before, reaches_behind, reaches_same, reaches_through, room_after, room_before, room_behind}
 use Rattle.camp_seq.proofs.ExchangeSteps.{at_front}
 use Rattle.camp_seq.proofs.LawOfThree.{law_of_three}
-use Rattle.camp_seq.proofs.PassingSteps.{passes_push}
-use Rattle.camp_seq.proofs.RoomSteps.{reaches_before, reaches_behind, reaches_same, reaches_through, room_after, room_before, room_behind}
 
 -- what comes to before a list is reached
 pub precedes_reached : (s : List Named) (k k' : Named) (s' : List Named) → Precedes s k k' s' → Reaches (s ++ k ∷ []) (k' ∷ s')

@@ -1,11 +1,5 @@
 -- Whether two catches are the same is decided.
-use Rattle.std.proofs.Common.{◌≡◌, ap, inr}
-use Rattle.camp_prim.specs.declared.named.Named.{Named}
-use Rattle.camp_prim.proofs.SwapDecided.{Decided, decided_by}
-use Rattle.camp_ctx.proofs.NamedDecided.{named_or_not}
-use Rattle.camp_catch.specs.declared.catches.Catch.{Catch}
-use Rattle.camp_catch.specs.declared.catches.Catch.TheVariants.{Plain}
-use Rattle.camp_catch.specs.declared.catches.Conflictor.{Conflictor}
+use Rattle.camp_catch.proofs.Words.{◌≡◌, ap, inr, Named, Decided, decided_by, named_or_not, Catch, Plain, Conflictor}
 use Rattle.camp_catch.proofs.PartsDetermined.{conflictor_or_not}
 
 same_patch : (a b : Named) → Plain a ≡ Plain b → a ≡ b

@@ -1,12 +1,5 @@
 -- What bodies know of lists of one, and of sets of one.
-use Rattle.std.proofs.Common.{◌≡◌, cond, is_some, List, [], ◌∷◌, length, refl, sym, ap, ◌∙◌, arith}
-use Rattle.std.specs.FinMap.{empty, insert, get-empty}
-use Rattle.std.specs.List.{slice_index_or}
-use Rattle.camp_prim.specs.Labels.{key_cmp}
-use Rattle.camp_prim.specs.Effect.{inverse_of}
-use Rattle.camp_prim.specs.declared.named.Named.{Named}
-use Rattle.camp_prim.proofs.Inverses.{inverse_of-inverse_of}
-use Rattle.camp_ctx.specs.Contexts.{ContextedPatch, ContextedPatches, context_key, only, with_member}
+use Rattle.camp_catch.proofs.Words.{◌≡◌, cond, is_some, List, [], ◌∷◌, length, refl, sym, ap, ◌∙◌, arith, empty, insert, get-empty, slice_index_or, key_cmp, inverse_of, Named, inverse_of-inverse_of, ContextedPatch, ContextedPatches, context_key, only, with_member}
 
 -- the empty set with a member
 pub first_member : (none : ContextedPatches) (x : ContextedPatch) → none ≡ empty → with_member none x ≡ only x

@@ -15,11 +15,13 @@ pub fn merge_keeps_effects()
 {}
 
 /// What two catches become by merging does not depend on which comes first.
+#[tactic(auto, using(crate::proofs::MergeEffects::merging_is_symmetric))]
 pub fn merge_is_symmetric()
     ensures law { MergeIsSymmetric }
 {}
 
 /// The cases of commuting exclude one another.
+#[tactic(auto, using(crate::proofs::CommuteCases::cases_exclude))]
 pub fn cases_exclude_one_another()
     ensures law { CasesExclude }
 {}
@@ -30,6 +32,7 @@ pub fn commute_is_unique()
 {}
 
 /// The cases of merging exclude one another.
+#[tactic(auto, using(crate::proofs::MergeCases::cases_exclude))]
 pub fn merge_cases_exclude()
     ensures law { MergeCasesExclude }
 {}
@@ -40,33 +43,39 @@ pub fn merge_is_unique()
 {}
 
 /// What is arranged, aligned or merged keeps fitting, and ends in the same tree.
+#[tactic(auto, using(crate::proofs::ListEffects::lists_keep_effects))]
 pub fn lists_keep_effects()
     ensures law { ListsKeepEffects }
 {}
 
 /// Commuting and merging keep labels, and so do arranging, aligning and merging lists.
+#[tactic(auto, using(crate::proofs::KeptLabels::keep_labels))]
 pub fn labels_are_kept()
     ensures law { KeepLabels }
 {}
 
 /// What a list becomes by arranging, aligning and merging is determined, and so are the labels where
 /// there is nothing that it becomes.
+#[tactic(auto, using(crate::proofs::ListResults::lists_are_unique))]
 pub fn lists_are_unique()
     ensures law { ListsAreUnique }
 {}
 
 /// Any two catches commute, or they do not, and so with merging.
+#[tactic(auto, using(crate::proofs::ListResults::are_decided))]
 pub fn catches_are_decided()
     ensures law { CatchesAreDecided }
 {}
 
 /// Exactly one of two facts holds of a list: it is arranged, aligned or merged, or there are the
 /// labels where it sticks.
+#[tactic(auto, using(crate::proofs::ListResults::lists_succeed_or_stick))]
 pub fn lists_succeed_or_stick()
     ensures law { ListsSucceedOrStick }
 {}
 
 /// What is arranged by names depends on which names there are, and not on their order.
+#[tactic(auto, using(crate::proofs::ListResults::arrange_by_members))]
 pub fn arrange_goes_by_members()
     ensures law { ArrangeByMembers }
 {}

@@ -1,7 +1,4 @@
-use Rattle.std.proofs.Common.{◌++◌, ◌∷◌, length, set, get_or, take, drop, sym, ap, ◌∙◌, subst}
-use Rattle.std.proofs.lemmas.List.{take_at, drop_at}
-use Rattle.camp_seq.proofs.ListSteps.{turned_right}
-use Rattle.camp_catch.specs.Arranging.{ComesBefore, ComesFirst, StopsAt}
+use Rattle.camp_catch.proofs.Words.{◌++◌, ◌∷◌, length, set, get_or, take, drop, sym, ap, ◌∙◌, subst, take_at, drop_at, turned_right, ComesBefore, ComesFirst, StopsAt}
 use Rattle.camp_catch.proofs.ListResults.{coming}
 use Rattle.camp_catch.proofs.MoveSteps.{none_first, first_from, before_from}
 use Rattle.camp_catch.proofs.aligning.come_first.Goals as goal

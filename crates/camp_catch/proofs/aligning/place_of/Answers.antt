@@ -1,9 +1,4 @@
-use Rattle.std.proofs.Common.{◌+◌, List, ◌∷◌, take, drop, refl, sym, ap, ◌∙◌, subst, arith}
-use Rattle.std.proofs.lemmas.List.{length-take-le, take_all}
-use Rattle.camp_seq.proofs.ListSteps.{whole}
-use Rattle.camp_catch.specs.Catches.{catch_key}
-use Rattle.camp_catch.specs.Inside.InPlace.{Lacks}
-use Rattle.camp_catch.specs.declared.catches.Catch.{Catch}
+use Rattle.camp_catch.proofs.Words.{◌+◌, List, ◌∷◌, take, drop, refl, sym, ap, ◌∙◌, subst, arith, length-take-le, take_all, whole, catch_key, Lacks, Catch}
 use Rattle.camp_catch.proofs.MoveSteps.{stands_at}
 use Rattle.camp_catch.proofs.aligning.place_of.Goals as goal
 

@@ -1,5 +1,4 @@
-use Rattle.std.proofs.Common.{take}
-use Rattle.camp_catch.specs.Inside.InPlace.{Lacks}
+use Rattle.camp_catch.proofs.Words.{take, Lacks}
 use Rattle.camp_catch.proofs.aligning.place_of.Given as goal
 
 abbrev pub invariant-loop-at : goal.invariant-loop-at

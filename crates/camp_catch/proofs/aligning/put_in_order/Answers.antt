@@ -1,9 +1,5 @@
-use Rattle.std.proofs.Common.{◌≡◌, ◌+◌, ◌∷◌, List, [], take, drop, refl, subst, arith}
-use Rattle.std.proofs.lemmas.List.{drop_all, take_rest, take-append-drop}
-use Rattle.camp_prim.specs.declared.labels.Key.{Key}
+use Rattle.camp_catch.proofs.Words.{◌≡◌, ◌+◌, ◌∷◌, List, [], take, drop, refl, subst, arith, drop_all, take_rest, take-append-drop, Key, Align, Catch}
 use Rattle.camp_seq.proofs.OrderSteps.{rest_written}
-use Rattle.camp_catch.specs.Arranging.{Align}
-use Rattle.camp_catch.specs.declared.catches.Catch.{Catch}
 use Rattle.camp_catch.proofs.MoveSteps.{stands_at, IsAlignedUpTo, aligned_more, aligned_stuck}
 use Rattle.camp_catch.proofs.aligning.put_in_order.Goals as goal
 

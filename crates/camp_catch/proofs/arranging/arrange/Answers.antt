@@ -1,12 +1,4 @@
-use Rattle.std.proofs.Common.{◌≡◌, ◌+◌, ◌∷◌, List, [], length, drop, refl, sym, ap, subst, ◌∙◌, inl, true≢false, arith, append-nil}
-use Rattle.std.proofs.lemmas.List.{drop_all, with_items_is}
-use Rattle.std.specs.Cmp.Lexicographic.{slice_cmp}
-use Rattle.std.specs.FinMap.{keys}
-use Rattle.std.specs.Ordering.{nat_cmp}
-use Rattle.camp_share.specs.Maps.{map_of}
-use Rattle.camp_catch.specs.Arranging.{Arrange, ArrangesBehind, ComesBefore, IsOf, StopsAt}
-use Rattle.camp_catch.specs.Catches.{catch_key}
-use Rattle.camp_catch.specs.declared.catches.Catch.{Catch}
+use Rattle.camp_catch.proofs.Words.{◌≡◌, ◌+◌, ◌∷◌, List, [], length, drop, refl, sym, ap, subst, ◌∙◌, inl, true≢false, arith, append-nil, drop_all, with_items_is, slice_cmp, keys, nat_cmp, map_of, Arrange, ArrangesBehind, ComesBefore, IsOf, StopsAt, catch_key, Catch}
 use Rattle.camp_catch.proofs.MoveSteps.{stands_at, IsArrangedUpTo, arranged_with_other, arranged_with_named}
 use Rattle.camp_catch.proofs.arranging.arrange.Goals as goal
 

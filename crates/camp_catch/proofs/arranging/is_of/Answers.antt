@@ -1,8 +1,4 @@
-use Rattle.std.proofs.Common.{◌∙◌, sym, subst, Contains}
-use Rattle.std.specs.Cmp.Lexicographic.{slice_cmp}
-use Rattle.std.specs.FinMap.{keys}
-use Rattle.std.specs.Ordering.{nat_cmp}
-use Rattle.camp_share.specs.Maps.{map_of}
+use Rattle.camp_catch.proofs.Words.{◌∙◌, sym, subst, Contains, slice_cmp, keys, nat_cmp, map_of}
 use Rattle.camp_catch.proofs.MoveSteps.{names_decide}
 use Rattle.camp_catch.proofs.arranging.is_of.Goals as goal
 

@@ -1,5 +1,4 @@
-use Rattle.std.proofs.Common.{ap, sym, ◌∙◌}
-use Rattle.camp_prim.specs.Labels.{opposite}
+use Rattle.camp_catch.proofs.Words.{ap, sym, ◌∙◌, opposite}
 use Rattle.camp_catch.proofs.CommuteSteps.{nothing_fronts, another_fronts, fronts_from}
 use Rattle.camp_catch.proofs.commuting.behind_inverse.Goals as goal
 

@@ -1,5 +1,4 @@
-use Rattle.std.proofs.Common.{ap, subst, sym, ◌∙◌, length, [], ◌∷◌}
-use Rattle.camp_seq.specs.Passing.{PassesAll}
+use Rattle.camp_catch.proofs.Words.{ap, subst, sym, ◌∙◌, length, [], ◌∷◌, PassesAll}
 use Rattle.camp_catch.proofs.CommuteSteps.{length-passes_all}
 use Rattle.camp_catch.proofs.commuting.comes_before.Goals as goal
 

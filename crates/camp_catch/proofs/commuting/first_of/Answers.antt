@@ -1,6 +1,4 @@
-use Rattle.std.proofs.Common.{ap, sym, ◌∙◌, ◌∷◌, []}
-use Rattle.std.proofs.lemmas.Result.{IfOk-weaker}
-use Rattle.camp_prim.specs.declared.named.Named.{Named}
+use Rattle.camp_catch.proofs.Words.{ap, sym, ◌∙◌, ◌∷◌, [], IfOk-weaker, Named}
 use Rattle.camp_catch.proofs.ValueSteps.{is_alone}
 use Rattle.camp_catch.proofs.commuting.first_of.Goals as goal
 

@@ -1,6 +1,4 @@
-use Rattle.std.proofs.Common.{subst}
-use Rattle.camp_base.specs.Answers.{FindsPair}
-use Rattle.camp_seq.specs.Passing.{PassesAll}
+use Rattle.camp_catch.proofs.Words.{subst, FindsPair, PassesAll}
 use Rattle.camp_catch.proofs.commuting.passes_one.Goals as goal
 
 pub returns : goal.returns

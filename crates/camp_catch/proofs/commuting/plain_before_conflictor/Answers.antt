@@ -1,7 +1,4 @@
-use Rattle.std.proofs.Common.{sym, ap, ◌∙◌}
-use Rattle.std.specs.FinMap.{get}
-use Rattle.std.proofs.lemmas.Result.{IfOk-weaker}
-use Rattle.camp_prim.specs.Labels.{key_of}
+use Rattle.camp_catch.proofs.Words.{sym, ap, ◌∙◌, get, IfOk-weaker, key_of}
 use Rattle.camp_catch.proofs.CommuteSteps.{plain_passes}
 use Rattle.camp_catch.proofs.commuting.plain_before_conflictor.Goals as goal
 

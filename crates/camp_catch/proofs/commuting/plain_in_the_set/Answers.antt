@@ -1,5 +1,4 @@
-use Rattle.std.proofs.Common.{sym, ◌∙◌}
-use Rattle.std.proofs.lemmas.Result.{IfOk-weaker}
+use Rattle.camp_catch.proofs.Words.{sym, ◌∙◌, IfOk-weaker}
 use Rattle.camp_catch.proofs.CommuteSteps.{has_several, plain_dissolves, plain_leaves}
 use Rattle.camp_catch.proofs.commuting.plain_in_the_set.Goals as goal
 

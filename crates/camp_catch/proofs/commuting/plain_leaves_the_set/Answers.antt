@@ -1,5 +1,4 @@
-use Rattle.std.proofs.Common.{ap, ◌∙◌}
-use Rattle.camp_prim.specs.Labels.{key_of}
+use Rattle.camp_catch.proofs.Words.{ap, ◌∙◌, key_of}
 use Rattle.camp_catch.proofs.CommuteSteps.{leaves_from}
 use Rattle.camp_catch.proofs.commuting.plain_leaves_the_set.Goals as goal
 

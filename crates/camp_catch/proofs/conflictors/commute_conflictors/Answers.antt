@@ -1,6 +1,4 @@
-use Rattle.std.proofs.Common.{sym, ap, ◌∙◌}
-use Rattle.std.specs.FinMap.{get}
-use Rattle.std.proofs.lemmas.Result.{IfOk-weaker}
+use Rattle.camp_catch.proofs.Words.{sym, ap, ◌∙◌, get, IfOk-weaker}
 use Rattle.camp_catch.proofs.CommuteSteps.{are_apart}
 use Rattle.camp_catch.proofs.conflictors.commute_conflictors.Goals as goal
 

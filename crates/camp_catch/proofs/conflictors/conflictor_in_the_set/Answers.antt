@@ -1,5 +1,4 @@
-use Rattle.std.proofs.Common.{sym, ◌∙◌}
-use Rattle.std.proofs.lemmas.Result.{IfOk-weaker}
+use Rattle.camp_catch.proofs.Words.{sym, ◌∙◌, IfOk-weaker}
 use Rattle.camp_catch.proofs.CommuteSteps.{has_several, only_goes, one_of_several}
 use Rattle.camp_catch.proofs.conflictors.conflictor_in_the_set.Goals as goal
 

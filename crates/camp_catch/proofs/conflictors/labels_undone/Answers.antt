@@ -1,10 +1,6 @@
-use Rattle.std.proofs.Common.{◌&&◌, rules, tests}
-use Rattle.std.specs.FinMap.{contains_key}
+use Rattle.camp_catch.proofs.Words.{◌&&◌, rules, tests, contains_key, label_of, Named, patch_key}
 use Rattle.std.proofs.lemmas.Iterator.{YieldsList-from_slice, YieldsList-from_map, items_from_collect}
 use Rattle.std.proofs.lemmas.Iterator.Consumers.{YieldsList-at, YieldsList-from_filter}
-use Rattle.camp_prim.specs.Labels.{label_of}
-use Rattle.camp_prim.specs.declared.named.Named.{Named}
-use Rattle.camp_ctx.specs.Contexts.{patch_key}
 use Rattle.camp_catch.proofs.conflictors.labels_undone.Goals as goal
 
 pub returns : goal.returns

@@ -1,6 +1,4 @@
-use Rattle.std.proofs.Common.{ap, ◌∙◌}
-use Rattle.std.specs.FinMap.{remove}
-use Rattle.std.proofs.lemmas.Result.{IfOk-weaker}
+use Rattle.camp_catch.proofs.Words.{ap, ◌∙◌, remove, IfOk-weaker}
 use Rattle.camp_catch.proofs.CommuteSteps.{several_from}
 use Rattle.camp_catch.proofs.conflictors.one_of_several_conflicts.Goals as goal
 

@@ -1,5 +1,4 @@
-use Rattle.std.proofs.Common.{ap, sym, ◌∙◌}
-use Rattle.camp_ctx.specs.Contexts.{patch_key}
+use Rattle.camp_catch.proofs.Words.{ap, sym, ◌∙◌, patch_key}
 use Rattle.camp_catch.proofs.CommuteSteps.{another_goes, is_nothing, stays_in_conflict, only_goes_from}
 use Rattle.camp_catch.proofs.conflictors.only_conflict_goes.Goals as goal
 

@@ -1,7 +1,4 @@
-use Rattle.std.proofs.Common.{subst, ◌∙◌}
-use Rattle.camp_base.specs.Answers.{FindsPair}
-use Rattle.camp_seq.specs.NormalOrder.{Splits}
-use Rattle.camp_catch.specs.Commuting.{labels_undone}
+use Rattle.camp_catch.proofs.Words.{subst, ◌∙◌, FindsPair, Splits, labels_undone}
 use Rattle.camp_catch.proofs.conflictors.parted.Goals as goal
 
 pub returns : goal.returns

@@ -1,5 +1,4 @@
-use Rattle.std.proofs.Common.{ap, refl}
-use Rattle.camp_catch.specs.declared.catches.Catch.TheVariants.{Plain}
+use Rattle.camp_catch.proofs.Words.{ap, refl, Plain}
 use Rattle.camp_catch.proofs.conflictors.plain_and_undone.Goals as goal
 
 pub returns : goal.returns

@@ -1,5 +1,4 @@
-use Rattle.std.proofs.Common.{ap}
-use Rattle.camp_catch.specs.declared.catches.Catch.{Catch}
+use Rattle.camp_catch.proofs.Words.{ap, Catch}
 use Rattle.camp_catch.proofs.merging.first_conflict.Goals as goal
 
 pub returns : goal.returns

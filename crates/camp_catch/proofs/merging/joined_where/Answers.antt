@@ -1,6 +1,4 @@
-use Rattle.std.proofs.Common.{ap, inl, inr, refl, ◌∙◌}
-use Rattle.camp_catch.specs.Conflictors.{joined_by}
-use Rattle.camp_catch.specs.declared.catches.Conflictor.{Conflictor}
+use Rattle.camp_catch.proofs.Words.{ap, inl, inr, refl, ◌∙◌, joined_by, Conflictor}
 use Rattle.camp_catch.proofs.merging.joined_where.Goals as goal
 
 pub returns-then-not-in_conflict : goal.returns-then-not-in_conflict

@@ -1,5 +1,4 @@
-use Rattle.std.proofs.Common.{ap, refl}
-use Rattle.camp_catch.specs.declared.catches.Catch.{Catch}
+use Rattle.camp_catch.proofs.Words.{ap, refl, Catch}
 use Rattle.camp_catch.proofs.merging.joins_as.Goals as goal
 
 pub returns : goal.returns

@@ -1,6 +1,4 @@
-use Rattle.std.proofs.Common.{subst, sym}
-use Rattle.camp_ctx.specs.Conflicts.{Conflict}
-use Rattle.camp_ctx.specs.Contexts.{bare}
+use Rattle.camp_catch.proofs.Words.{subst, sym, Conflict, bare}
 use Rattle.camp_catch.proofs.MergeSteps.{only_beside}
 use Rattle.camp_catch.proofs.merging.plain_and_conflictor.Goals as goal
 

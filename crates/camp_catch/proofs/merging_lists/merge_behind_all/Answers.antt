@@ -1,9 +1,4 @@
-use Rattle.std.proofs.Common.{◌≡◌, ◌+◌, ◌∷◌, ◌++◌, List, [], drop, refl, sym, ap, subst, ◌∙◌, inl, arith}
-use Rattle.std.proofs.lemmas.List.{drop_all}
-use Rattle.camp_catch.specs.Catches.{catch_key}
-use Rattle.camp_catch.specs.MergingLists.{SticksWithin}
-use Rattle.camp_catch.specs.declared.catches.Catch.{Catch}
-use Rattle.camp_catch.specs.declared.merging_lists.NoMerge.{NoMerge}
+use Rattle.camp_catch.proofs.Words.{◌≡◌, ◌+◌, ◌∷◌, ◌++◌, List, [], drop, refl, sym, ap, subst, ◌∙◌, inl, arith, drop_all, catch_key, SticksWithin, Catch, NoMerge}
 use Rattle.camp_catch.proofs.MoveSteps.{stands_at}
 use Rattle.camp_catch.proofs.MergeListSteps.{IsBehind, behind_nothing, behind_one_more}
 use Rattle.camp_catch.proofs.merging_lists.merge_behind_all.Goals as goal

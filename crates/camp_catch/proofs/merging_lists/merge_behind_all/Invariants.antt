@@ -1,5 +1,4 @@
-use Rattle.std.proofs.Common.{List, drop}
-use Rattle.camp_catch.specs.declared.catches.Catch.{Catch}
+use Rattle.camp_catch.proofs.Words.{List, drop, Catch}
 use Rattle.camp_catch.proofs.MergeListSteps.{IsBehind}
 use Rattle.camp_catch.proofs.merging_lists.merge_behind_all.Given as goal
 

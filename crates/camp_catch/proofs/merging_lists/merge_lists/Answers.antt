@@ -1,7 +1,4 @@
-use Rattle.std.proofs.Common.{◌≡◌, ◌+◌, ◌∷◌, ◌++◌, List, [], length, drop, sym, ap, subst, ◌∙◌, inl, arith}
-use Rattle.std.proofs.lemmas.List.{drop_all, with_items_is}
-use Rattle.camp_catch.specs.MergingLists.{MergesWithAll, SticksWithin}
-use Rattle.camp_catch.specs.declared.catches.Catch.{Catch}
+use Rattle.camp_catch.proofs.Words.{◌≡◌, ◌+◌, ◌∷◌, ◌++◌, List, [], length, drop, sym, ap, subst, ◌∙◌, inl, arith, drop_all, with_items_is, MergesWithAll, SticksWithin, Catch}
 use Rattle.camp_catch.proofs.MoveSteps.{stands_at}
 use Rattle.camp_catch.proofs.MergeListSteps.{IsMergedUpTo, merged_from, merged_with, merged_with_last, none_to_merge}
 use Rattle.camp_catch.proofs.merging_lists.merge_lists.Goals as goal

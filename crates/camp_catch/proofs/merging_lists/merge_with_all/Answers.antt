@@ -1,10 +1,4 @@
-use Rattle.std.proofs.Common.{List, [], take, refl, sym, ap, subst, ◌∙◌, inl, arith, append-nil}
-use Rattle.std.proofs.lemmas.List.{drop_all, take_all, take_more_set}
-use Rattle.camp_seq.proofs.ListSteps.{at_next, drop_next}
-use Rattle.camp_catch.specs.Catches.{catch_key}
-use Rattle.camp_catch.specs.MergingLists.{SticksWithin, MergesWithAll}
-use Rattle.camp_catch.specs.declared.catches.Catch.{Catch}
-use Rattle.camp_catch.specs.declared.merging_lists.NoMerge.{NoMerge}
+use Rattle.camp_catch.proofs.Words.{List, [], take, refl, sym, ap, subst, ◌∙◌, inl, arith, append-nil, drop_all, take_all, take_more_set, at_next, drop_next, catch_key, SticksWithin, MergesWithAll, Catch, NoMerge}
 use Rattle.camp_catch.proofs.MergeListSteps.{IsBehind, behind_one_more}
 use Rattle.camp_catch.proofs.merging_lists.merge_with_all.Goals as goal
 

@@ -1,9 +1,4 @@
-use Rattle.std.proofs.Common.{◌≡◌, ◌+◌, ◌-◌, ◌∷◌, List, length, take, drop, get_or, refl, sym, ap, subst, ◌∙◌, arith}
-use Rattle.std.proofs.lemmas.List.{drop-set, drop_all, get_or-set_same}
-use Rattle.camp_seq.proofs.ListSteps.{at_last, take_last, whole}
-use Rattle.camp_catch.specs.Arranging.{ComesBefore, StopsAt}
-use Rattle.camp_catch.specs.Catches.{catch_key}
-use Rattle.camp_catch.specs.declared.catches.Catch.{Catch}
+use Rattle.camp_catch.proofs.Words.{◌≡◌, ◌+◌, ◌-◌, ◌∷◌, List, length, take, drop, get_or, refl, sym, ap, subst, ◌∙◌, arith, drop-set, drop_all, get_or-set_same, at_last, take_last, whole, ComesBefore, StopsAt, catch_key, Catch}
 use Rattle.camp_catch.proofs.MoveSteps.{stops_behind}
 use Rattle.camp_catch.proofs.moves.come_before.Goals as goal
 

@@ -1,5 +1,4 @@
-use Rattle.std.proofs.Common.{◌≡◌, take, drop}
-use Rattle.camp_catch.specs.Arranging.{ComesBefore}
+use Rattle.camp_catch.proofs.Words.{◌≡◌, take, drop, ComesBefore}
 use Rattle.camp_catch.proofs.moves.come_before.Given as goal
 
 abbrev pub invariant-loop-at : goal.invariant-loop-at

@@ -1,6 +1,4 @@
-use Rattle.std.proofs.Common.{◌≡◌, IfOk, subst}
-use Rattle.camp_ctx.specs.Adding.{AddsAll}
-use Rattle.camp_catch.specs.Conflictors.{Becomes}
+use Rattle.camp_catch.proofs.Words.{◌≡◌, IfOk, subst, AddsAll, Becomes}
 use Rattle.camp_catch.proofs.seen.both_behind.Goals as goal
 
 pub returns : goal.returns

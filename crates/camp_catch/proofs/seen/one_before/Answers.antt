@@ -1,6 +1,4 @@
-use Rattle.std.proofs.Common.{sym, subst}
-use Rattle.std.proofs.lemmas.Result.{IfOk-weaker}
-use Rattle.camp_ctx.specs.Adding.{Adds}
+use Rattle.camp_catch.proofs.Words.{sym, subst, IfOk-weaker, Adds}
 use Rattle.camp_catch.proofs.seen.one_before.Goals as goal
 
 pub returns : goal.returns

@@ -1,5 +1,4 @@
-use Rattle.std.proofs.Common.{sym, subst}
-use Rattle.camp_ctx.specs.Adding.{PassesBy}
+use Rattle.camp_catch.proofs.Words.{sym, subst, PassesBy}
 use Rattle.camp_catch.proofs.seen.passes_before.Goals as goal
 
 pub returns-in_default : goal.returns-in_default

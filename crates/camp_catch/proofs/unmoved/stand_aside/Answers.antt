@@ -1,6 +1,5 @@
-use Rattle.std.proofs.Common.{sym, subst}
+use Rattle.camp_catch.proofs.Words.{sym, subst, Conflict}
 use Rattle.camp_prim.proofs.Moving.{told_not}
-use Rattle.camp_ctx.specs.Conflicts.{Conflict}
 use Rattle.camp_catch.proofs.MergeSteps.{aside, false_of_not}
 use Rattle.camp_catch.proofs.unmoved.stand_aside.Goals as goal
 

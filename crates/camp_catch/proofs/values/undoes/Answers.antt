@@ -1,5 +1,4 @@
-use Rattle.std.proofs.Common.{◌≡◌, ap, sym, ◌∙◌, length, slice_index_or}
-use Rattle.camp_prim.specs.Effect.{inverse_of}
+use Rattle.camp_catch.proofs.Words.{◌≡◌, ap, sym, ◌∙◌, length, slice_index_or, inverse_of}
 use Rattle.camp_catch.proofs.ValueSteps.{undoes_from, back_from}
 use Rattle.camp_catch.proofs.values.undoes.Goals as goal
 
