@@ -1,31 +1,13 @@
 -- The canonical text of sections, read back call by call.
-use Rattle.std.proofs.Common.{◌≡◌, ℕ, ◌+◌, ◌^◌, ◌<◌, ◌≤◌, true, false, not, ◌&&◌, ◌==◌, nat_lt, nat_le, cond, List, [], ◌∷◌, ◌++◌, length, codes, count_by, slice_index, sym, ap, subst, ◌∙◌, refl, append_assoc, append-nil, None, Some, Option, Result, Ok, arith, length-append}
-use Rattle.std.proofs.lemmas.Bool.{cond-true, cond-false, false≢true, and_parts}
-use Rattle.std.proofs.lemmas.Bool.Decides.{nat_tests}
-use Rattle.std.proofs.lemmas.List.Concat.{flat_map-cons}
-use Rattle.std.proofs.lemmas.List.Sums.{sum_by-append, sum_by-cons}
-use Rattle.std.specs.List.{list_all, flat_map, AllByRecursion}
-use Rattle.std.specs.Fmt.{decimal}
+use Rattle.camp_script.proofs.Common.{◌≡◌, ℕ, ◌+◌, ◌^◌, ◌<◌, ◌≤◌, true, false, not, ◌&&◌, ◌==◌, nat_lt, nat_le, cond, List, [], ◌∷◌, ◌++◌, length, codes, count_by, slice_index, sym, ap, subst, ◌∙◌, refl, append_assoc, append-nil, None, Some, Option, Result, Ok, arith, length-append, cond-true, cond-false, false≢true, and_parts, nat_tests, flat_map-cons, sum_by-append, sum_by-cons, list_all, flat_map, AllByRecursion, decimal, Primitive, Add, Remove, Hunk, is_writing, Call, ◌>>=◌, name_at, names_at, path_at, number_at, is_line_number, GroupLine, WholeChange, EditChange, EndGroup, group_line_of, Command, Ask, BeginEdit, BeginGroup, BeginSection, command_of, lines_of, is_full, read_from, obey, heed, after_body, LineFault, line_text, signed_line}
 use Rattle.camp_base.specs.Trees.{Lines}
 use Rattle.camp_base.specs.Bytes.{is_name, is_path, is_line, is_name_byte, is_graphic}
 use Rattle.camp_base.specs.declared.TheConstants.{MAX_NAME_LENGTH, MAX_PATH_LENGTH}
-use Rattle.camp_prim.specs.declared.primitives.Primitive.{Primitive}
-use Rattle.camp_prim.specs.declared.primitives.Primitive.TheVariants.{Add, Remove, Hunk}
-use Rattle.camp_call.specs.Calls.{is_writing}
-use Rattle.camp_call.specs.declared.calls.Call.{Call}
 use Rattle.camp_call.specs.declared.calls.Call.TheVariants as call
 use Rattle.camp_script.specs.Canonical.{ReadsBack, IsScriptCall, IsChange, AreNames, IsListed, change_head, change_body, change_text, record_text, call_text, section_text, client_text, script_text}
-use Rattle.camp_script.specs.Words.{◌>>=◌, name_at, names_at, path_at, number_at, is_line_number}
 use Rattle.camp_script.specs.HistoryTexts.{listed_words}
 use Rattle.camp_prim.specs.Hunks.{Edit, IsInRange}
-use Rattle.camp_script.specs.Changes.{GroupLine, WholeChange, EditChange, EndGroup, group_line_of}
-use Rattle.camp_script.specs.Commands.{Command, Ask, BeginEdit, BeginGroup, BeginSection, command_of}
-use Rattle.camp_script.specs.Lines.{lines_of}
-use Rattle.camp_script.specs.Reading.{is_full}
 use Rattle.camp_script.specs.Inside.Progress.{Progress, OpenRecord, after_call, after_change, record_at, with_open_edit}
-use Rattle.camp_script.specs.Inside.Steps.{read_from, obey, heed, after_body}
-use Rattle.camp_script.specs.declared.faults.LineFault.{LineFault}
-use Rattle.camp_script.specs.Texts.{line_text, signed_line}
 use Rattle.camp_script.proofs.CanonicalLines.{both, all_weaker, is_word, is_word_byte, is_one_line, AreWords, first_line, first_words, words_of-joined, positive}
 use Rattle.camp_script.proofs.Agreement.{reads_as_defined}
 use Rattle.camp_script.proofs.CanonicalNumbers.{decimal_is_word, decimal_is_line_number, value_of-decimal}

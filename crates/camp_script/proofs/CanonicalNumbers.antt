@@ -1,13 +1,8 @@
 -- The decimal digits of the number of a line.
-use Rattle.std.proofs.Common.{◌≡◌, ℕ, ◌+◌, ◌-◌, ◌*◌, ◌^◌, ◌<◌, ◌≤◌, Bool, true, nat_lt, List, length, arith, rules}
+use Rattle.camp_script.proofs.Common.{◌≡◌, ℕ, ◌+◌, ◌-◌, ◌*◌, ◌^◌, ◌<◌, ◌≤◌, Bool, true, nat_lt, List, length, arith, rules, nat_tests, list_all, decimal, is_between, value_of, is_line_number}
 use Rattle.std.proofs.lemmas.Fmt.{digits_decimal, digits_value-decimal, length-decimal-le, decimal_nonempty}
 use Rattle.std.proofs.lemmas.Str.Parse.{IsNumeralModel, numerals_by_fold}
-use Rattle.std.proofs.lemmas.Bool.Decides.{nat_tests}
 use Rattle.std.specs.Prelude.{fold}
-use Rattle.std.specs.List.{list_all}
-use Rattle.std.specs.Fmt.{decimal}
-use Rattle.camp_base.specs.Bytes.{is_between}
-use Rattle.camp_script.specs.Words.{value_of, is_line_number}
 use Rattle.camp_script.proofs.CanonicalLines.{both, all_weaker, is_word, is_word_byte}
 
 abbrev are_digits : List ℕ → Bool

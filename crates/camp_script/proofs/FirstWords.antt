@@ -1,17 +1,11 @@
 -- The first words of a line say all that the line asks for, where it lists other names.
-use Rattle.std.proofs.Common.{◌≡◌, true, false, ◌==◌, ℕ, List, [], ◌∷◌, ◌++◌, length, slice_index, take, refl, sym, ap, subst, ◌∙◌}
-use Rattle.std.proofs.lemmas.Bool.{cond-true, cond-false}
+use Rattle.camp_script.proofs.Common.{◌≡◌, true, false, ◌==◌, ℕ, List, [], ◌∷◌, ◌++◌, length, slice_index, take, refl, sym, ap, subst, ◌∙◌, cond-true, cond-false, GivesFaultFirst, GroupLine, change_of, group_line_of, Progress, OpenRecord, LineFault, ScriptFault}
 use Rattle.std.specs.Prelude.{bytes_eq, codes, Result}
 use Rattle.std.proofs.Math.Seq.{take-append_seam}
 use Rattle.camp_script.specs.Commands.{Command, command, short_command, pull_line, obliterate_line, record_line, question}
-use Rattle.camp_script.specs.Gives.{GivesFaultFirst}
-use Rattle.camp_script.specs.Changes.{GroupLine, change_of, group_line_of}
-use Rattle.camp_script.specs.Inside.Progress.{Progress, OpenRecord}
 use Rattle.camp_script.specs.Inside.Asking.{Asks}
 use Rattle.camp_script.specs.Inside.Steps.{heeded}
 use Rattle.camp_script.specs.declared.commands.Asked.{Asked}
-use Rattle.camp_script.specs.declared.faults.LineFault.{LineFault}
-use Rattle.camp_script.specs.declared.faults.ScriptFault.{ScriptFault}
 
 pub six_are_enough : (line : ℕ) (word : List ℕ) (words : List (List ℕ)) → short_command line word (take 6 words) ≡ short_command line word words
 six_are_enough line word [] = refl

@@ -1,3 +1,4 @@
+mod Common
 pub mod Agreement
 pub mod Asked
 pub mod CanonicalCalls

@@ -1,20 +1,5 @@
 -- A line where a record is open, or none; and the line `end`.
-use Rattle.std.proofs.Common.{◌≡◌, ℕ, ◌+◌, ◌==◌, true, false, cond, List, [], ◌∷◌, ◌++◌, length, length-append, arith, refl, sym, ap, subst, ◌∙◌, Option, None, Some, Result, Ok, Err}
-use Rattle.std.proofs.lemmas.Bool.{cond-false}
-use Rattle.std.proofs.lemmas.Bool.Decides.{nat_tests}
-use Rattle.camp_prim.specs.Hunks.{Edit}
-use Rattle.camp_prim.specs.declared.primitives.Primitive.{Primitive}
-use Rattle.camp_prim.specs.declared.primitives.Primitive.TheVariants.{Hunk}
-use Rattle.camp_call.specs.declared.calls.Call.{Call}
-use Rattle.camp_script.specs.Commands.{command_of}
-use Rattle.camp_script.specs.Gives.{GivesFaultFirst, IsFaultFirst, HasNoFault}
-use Rattle.camp_script.specs.Lines.{words_of}
-use Rattle.camp_script.specs.Words.{◌>>=◌}
-use Rattle.camp_script.specs.Inside.Progress.{OpenEdit, OpenRecord, Progress, with_record, with_one_more, after_record, after_change}
-use Rattle.camp_script.specs.Inside.Steps.{obeyed, after_line, after_record_line}
-use Rattle.camp_script.specs.declared.faults.LineFault.{LineFault}
-use Rattle.camp_script.specs.declared.faults.ScriptFault.{ScriptFault}
-use Rattle.camp_script.specs.declared.faults.ScriptFault.TheVariants.{Line, Memory, Write}
+use Rattle.camp_script.proofs.Common.{◌≡◌, ℕ, ◌+◌, ◌==◌, true, false, cond, List, [], ◌∷◌, ◌++◌, length, length-append, arith, refl, sym, ap, subst, ◌∙◌, Option, None, Some, Result, Ok, Err, cond-false, nat_tests, Edit, Primitive, Hunk, Call, command_of, GivesFaultFirst, IsFaultFirst, HasNoFault, words_of, ◌>>=◌, OpenEdit, OpenRecord, Progress, with_record, with_one_more, after_record, after_change, obeyed, after_line, after_record_line, LineFault, ScriptFault, Line, Memory, Write}
 
 -- progress with these sections, these calls and no record open
 abbrev bare : List (List Call) → List Call → Progress

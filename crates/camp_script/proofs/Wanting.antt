@@ -1,15 +1,9 @@
 -- Where memory may be wanted as a script is read.
 use Rattle.std.proofs.Common.{◌≡◌, ℕ, ◌+◌, ◌⊎◌, Bool, true, false, cond, List, [], ◌∷◌, refl, sym, ap, subst, ◌∙◌, Result, Ok, Err, inl, inr}
-use Rattle.camp_script.specs.Commands.{Command, Nothing, command, command_of}
-use Rattle.camp_script.specs.Gives.{IsFaultFirst, HasNoFault}
+use Rattle.camp_script.proofs.Common.{Command, Nothing, command, command_of, IsFaultFirst, HasNoFault, numbered, Progress, start, LineFault, ScriptFault, Memory}
 use Rattle.camp_script.specs.Lines.{lines_of, words_of, is_skipped}
-use Rattle.camp_script.specs.Pieces.{numbered}
 use Rattle.camp_script.specs.Wanting.{ScriptMayWant, first_command}
-use Rattle.camp_script.specs.Inside.Progress.{Progress, start}
 use Rattle.camp_script.specs.Inside.Steps.{after_line, obeyed, SaysSomething}
-use Rattle.camp_script.specs.declared.faults.LineFault.{LineFault}
-use Rattle.camp_script.specs.declared.faults.ScriptFault.{ScriptFault}
-use Rattle.camp_script.specs.declared.faults.ScriptFault.TheVariants.{Memory}
 
 -- what lines ask for first, the first of them of a number
 abbrev first_from : ℕ → List (List ℕ) → Result Command LineFault

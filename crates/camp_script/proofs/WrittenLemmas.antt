@@ -1,19 +1,7 @@
 -- The canonical text of calls that grows part by part.
-use Rattle.std.proofs.Common.{◌≡◌, ℕ, ◌+◌, ◌<◌, List, [], ◌∷◌, ◌++◌, codes, get_or, length, take, refl, sym, ap, subst, ◌∙◌, append_assoc, append-nil, Result, Ok, Err}
-use Rattle.std.proofs.lemmas.Grind.{flat_map-append}
-use Rattle.std.proofs.lemmas.List.{take_more}
-use Rattle.std.proofs.lemmas.List.Concat.{flat_map-cons}
-use Rattle.std.specs.Fmt.{decimal}
-use Rattle.std.specs.List.{flat_map, AllByRecursion}
-use Rattle.camp_prim.specs.declared.primitives.Primitive.{Primitive}
-use Rattle.camp_prim.specs.declared.primitives.Primitive.TheVariants.{Add, Remove, Hunk}
-use Rattle.camp_call.specs.declared.calls.Call.{Call}
-use Rattle.camp_script.specs.Canonical.{call_text, change_text, change_body, record_text, section_text}
-use Rattle.camp_script.specs.Inside.Spaces.{spaced}
+use Rattle.camp_script.proofs.Common.{◌≡◌, ℕ, ◌+◌, ◌<◌, List, [], ◌∷◌, ◌++◌, codes, get_or, length, take, refl, sym, ap, subst, ◌∙◌, append_assoc, append-nil, Result, Ok, Err, flat_map-append, take_more, flat_map-cons, decimal, flat_map, AllByRecursion, Primitive, Add, Remove, Hunk, Call, call_text, change_text, change_body, record_text, section_text, spaced, line_text, Extends}
 use Rattle.camp_script.specs.Inside.Written.{changes_text, group_text}
 use Rattle.camp_script.specs.Keeping.{CanStand, calls_of, kept_text}
-use Rattle.camp_script.specs.Texts.{line_text}
-use Rattle.camp_script.specs.Writing.{Extends}
 use Rattle.camp_script.proofs.HistoryLemmas.{joined, line_done}
 
 spaced-append : (names words : List (List ℕ)) → spaced (names ++ words) ≡ spaced names ++ spaced words

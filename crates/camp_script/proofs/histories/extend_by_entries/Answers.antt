@@ -1,6 +1,4 @@
-use Rattle.std.proofs.Common.{◌<◌, ◌+◌, ap, ◌∙◌, ◌++◌, ◌∷◌, [], sym, take, length, arith}
-use Rattle.std.proofs.lemmas.List.{take_more}
-use Rattle.camp_script.specs.HistoryTexts.{entry_text}
+use Rattle.camp_script.proofs.Common.{◌<◌, ◌+◌, ap, ◌∙◌, ◌++◌, ◌∷◌, [], sym, take, length, arith, take_more, entry_text}
 use Rattle.camp_script.proofs.HistoryLemmas.{one_more_entry}
 use Rattle.camp_script.proofs.histories.extend_by_entries.Goals as goal
 

@@ -1,5 +1,4 @@
-use Rattle.std.proofs.Common.{◌≡◌, ◌++◌, take}
-use Rattle.camp_script.specs.HistoryTexts.{entries_text}
+use Rattle.camp_script.proofs.Common.{◌≡◌, ◌++◌, take, entries_text}
 use Rattle.camp_script.proofs.histories.extend_by_entries.Given as goal
 
 abbrev pub invariant-loop-seat : goal.invariant-loop-seat

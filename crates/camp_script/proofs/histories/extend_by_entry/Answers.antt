@@ -1,7 +1,5 @@
-use Rattle.std.proofs.Common.{ap, ◌∙◌, ◌++◌, ◌∷◌, []}
-use Rattle.std.specs.Fmt.{decimal}
+use Rattle.camp_script.proofs.Common.{ap, ◌∙◌, ◌++◌, ◌∷◌, [], decimal, spaced}
 use Rattle.camp_script.specs.HistoryTexts.{call_words}
-use Rattle.camp_script.specs.Inside.Spaces.{spaced}
 use Rattle.camp_script.proofs.HistoryLemmas.{entry_done}
 use Rattle.camp_script.proofs.histories.extend_by_entry.Goals as goal
 

@@ -1,6 +1,4 @@
-use Rattle.std.proofs.Common.{sym, ◌∙◌, map}
-use Rattle.std.proofs.lemmas.List.{length-map}
-use Rattle.std.proofs.lemmas.Bool.{eqb-true}
+use Rattle.camp_script.proofs.Common.{sym, ◌∙◌, map, length-map, eqb-true}
 use Rattle.camp_script.proofs.FirstWords.{front_of_six}
 use Rattle.camp_script.proofs.lines.first_words.Goals as goal
 

@@ -1,6 +1,4 @@
-use Rattle.std.proofs.Common.{refl, take, arith, ap, ◌∙◌, ◌++◌}
-use Rattle.std.proofs.lemmas.List.{take_all}
-use Rattle.camp_script.specs.Outputs.{answers_text}
+use Rattle.camp_script.proofs.Common.{refl, take, arith, ap, ◌∙◌, ◌++◌, take_all, answers_text}
 use Rattle.camp_script.proofs.TextLemmas.{kept_further}
 use Rattle.camp_script.proofs.outputs.extend_by_answers.Goals as goal
 

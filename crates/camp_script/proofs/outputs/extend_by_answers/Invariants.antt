@@ -1,5 +1,4 @@
-use Rattle.std.proofs.Common.{◌≡◌, ◌++◌, take}
-use Rattle.camp_script.specs.Outputs.{answers_text}
+use Rattle.camp_script.proofs.Common.{◌≡◌, ◌++◌, take, answers_text}
 use Rattle.camp_script.proofs.outputs.extend_by_answers.Given as goal
 
 abbrev pub invariant-loop-answer : goal.invariant-loop-answer

@@ -1,11 +1,4 @@
-use Rattle.std.proofs.Common.{◌≡◌, ◌∷◌, ◌+◌, List, ℕ, Result, length, map, ap, sym, subst, ◌∙◌, arith, rules}
-use Rattle.camp_script.specs.Lines.{lines_of, without_end}
-use Rattle.camp_script.specs.Words.{◌>>=◌}
-use Rattle.camp_script.specs.Inside.Progress.{Progress, start}
-use Rattle.camp_script.specs.Inside.Steps.{read_from}
-use Rattle.camp_script.specs.Wanting.{ScriptMayWant}
-use Rattle.camp_script.specs.declared.faults.LineFault.{LineFault}
-use Rattle.camp_script.specs.declared.faults.ScriptFault.TheVariants.{Memory}
+use Rattle.camp_script.proofs.Common.{◌≡◌, ◌∷◌, ◌+◌, List, ℕ, Result, length, map, ap, sym, subst, ◌∙◌, arith, rules, lines_of, without_end, ◌>>=◌, Progress, start, read_from, ScriptMayWant, LineFault, Memory}
 use Rattle.camp_script.proofs.Agreement.{reads_as_defined}
 use Rattle.camp_script.proofs.LineLemmas.{lines_without_end}
 use Rattle.camp_script.proofs.Wanting.{IsBegun, nothing_read, one_read, wants_now, wants_at_end}

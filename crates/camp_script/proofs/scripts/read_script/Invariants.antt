@@ -1,7 +1,5 @@
-use Rattle.std.proofs.Common.{◌≡◌, ◌+◌, ◌≤◌, length, map}
-use Rattle.camp_script.specs.Lines.{lines_of, without_end}
+use Rattle.camp_script.proofs.Common.{◌≡◌, ◌+◌, ◌≤◌, length, map, lines_of, without_end, read_from}
 use Rattle.camp_script.specs.Reading.{script_of}
-use Rattle.camp_script.specs.Inside.Steps.{read_from}
 use Rattle.camp_script.proofs.Wanting.{IsBegun}
 use Rattle.camp_script.proofs.scripts.read_script.Given as goal
 

@@ -1,6 +1,4 @@
-use Rattle.std.proofs.Common.{◌∷◌, [], ◌++◌, ap, ◌∙◌, arith}
-use Rattle.std.proofs.lemmas.List.{take_all}
-use Rattle.camp_script.specs.Inside.Spaces.{spaced}
+use Rattle.camp_script.proofs.Common.{◌∷◌, [], ◌++◌, ap, ◌∙◌, arith, take_all, spaced}
 use Rattle.camp_script.proofs.TextLemmas.{kept, kept_further}
 use Rattle.camp_script.proofs.spaces.extend_by_named.Goals as goal
 

@@ -1,6 +1,4 @@
-use Rattle.std.proofs.Common.{◌≡◌, ◌∷◌, ◌++◌, take}
-use Rattle.camp_script.specs.Canonical.{AreNames}
-use Rattle.camp_script.specs.Inside.Spaces.{spaced}
+use Rattle.camp_script.proofs.Common.{◌≡◌, ◌∷◌, ◌++◌, take, AreNames, spaced}
 use Rattle.camp_script.proofs.spaces.extend_by_named.Given as goal
 
 abbrev pub invariant-loop-name : goal.invariant-loop-name

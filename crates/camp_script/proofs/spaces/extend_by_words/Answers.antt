@@ -1,6 +1,4 @@
-use Rattle.std.proofs.Common.{◌∷◌, [], ◌++◌, ap, ◌∙◌, arith}
-use Rattle.std.proofs.lemmas.List.{take_all}
-use Rattle.std.specs.List.{flat_map}
+use Rattle.camp_script.proofs.Common.{◌∷◌, [], ◌++◌, ap, ◌∙◌, arith, take_all, flat_map}
 use Rattle.camp_script.proofs.TextLemmas.{kept, kept_further}
 use Rattle.camp_script.proofs.HistoryLemmas.{spaced-map}
 use Rattle.camp_script.proofs.spaces.extend_by_words.Goals as goal

@@ -1,5 +1,4 @@
-use Rattle.std.proofs.Common.{◌≡◌, ◌∷◌, ◌++◌, take}
-use Rattle.std.specs.List.{flat_map}
+use Rattle.camp_script.proofs.Common.{◌≡◌, ◌∷◌, ◌++◌, take, flat_map}
 use Rattle.camp_script.proofs.spaces.extend_by_words.Given as goal
 
 abbrev pub invariant-loop-word : goal.invariant-loop-word

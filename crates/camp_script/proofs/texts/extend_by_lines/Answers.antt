@@ -1,6 +1,4 @@
-use Rattle.std.proofs.Common.{refl, sym, ◌∙◌, subst}
-use Rattle.std.specs.List.{flat_map}
-use Rattle.camp_script.specs.Texts.{signed_line}
+use Rattle.camp_script.proofs.Common.{refl, sym, ◌∙◌, subst, flat_map, signed_line}
 use Rattle.camp_script.proofs.TextLemmas.{GrowsBy, nothing_done, one_done, all_done, kept_further}
 use Rattle.camp_script.proofs.texts.extend_by_lines.Goals as goal
 

@@ -1,7 +1,4 @@
-use Rattle.std.proofs.Common.{refl, take, arith, ap, ◌∙◌, ◌++◌}
-use Rattle.std.proofs.lemmas.List.{take_all}
-use Rattle.std.specs.List.{flat_map}
-use Rattle.camp_script.specs.Texts.{name_text}
+use Rattle.camp_script.proofs.Common.{refl, take, arith, ap, ◌∙◌, ◌++◌, take_all, flat_map, name_text}
 use Rattle.camp_script.proofs.TextLemmas.{kept_further}
 use Rattle.camp_script.proofs.texts.extend_by_name_lines.Goals as goal
 

@@ -1,6 +1,4 @@
-use Rattle.std.proofs.Common.{◌≡◌, ◌++◌, take}
-use Rattle.std.specs.List.{flat_map}
-use Rattle.camp_script.specs.Texts.{name_text}
+use Rattle.camp_script.proofs.Common.{◌≡◌, ◌++◌, take, flat_map, name_text}
 use Rattle.camp_script.proofs.texts.extend_by_name_lines.Given as goal
 
 abbrev pub invariant-loop-name : goal.invariant-loop-name

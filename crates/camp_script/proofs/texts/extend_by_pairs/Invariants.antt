@@ -1,6 +1,4 @@
-use Rattle.std.proofs.Common.{◌≡◌, ◌++◌, take}
-use Rattle.std.specs.List.{flat_map}
-use Rattle.camp_script.specs.Texts.{pair_text}
+use Rattle.camp_script.proofs.Common.{◌≡◌, ◌++◌, take, flat_map, pair_text}
 use Rattle.camp_script.proofs.texts.extend_by_pairs.Given as goal
 
 abbrev pub invariant-loop-first : goal.invariant-loop-first

@@ -1,7 +1,4 @@
-use Rattle.std.proofs.Common.{◌≡◌, ◌++◌, take}
-use Rattle.std.specs.List.{flat_map}
-use Rattle.std.specs.FinMap.{entries}
-use Rattle.camp_script.specs.Texts.{file_text}
+use Rattle.camp_script.proofs.Common.{◌≡◌, ◌++◌, take, flat_map, entries, file_text}
 use Rattle.camp_script.proofs.texts.extend_by_tree.Given as goal
 
 abbrev pub invariant-loop-index : goal.invariant-loop-index

@@ -1,6 +1,4 @@
-use Rattle.std.proofs.Common.{refl, take}
-use Rattle.std.specs.List.{flat_map}
-use Rattle.camp_script.specs.Canonical.{change_text}
+use Rattle.camp_script.proofs.Common.{refl, take, flat_map, change_text}
 use Rattle.camp_script.proofs.TextLemmas.{kept_further}
 use Rattle.camp_script.proofs.writing.extend_by_each.Goals as goal
 

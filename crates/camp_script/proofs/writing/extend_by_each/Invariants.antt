@@ -1,6 +1,4 @@
-use Rattle.std.proofs.Common.{◌≡◌, ◌++◌, take}
-use Rattle.std.specs.List.{flat_map, AllByRecursion}
-use Rattle.camp_script.specs.Canonical.{change_text, IsChange}
+use Rattle.camp_script.proofs.Common.{◌≡◌, ◌++◌, take, flat_map, AllByRecursion, change_text, IsChange}
 use Rattle.camp_script.proofs.writing.extend_by_each.Given as goal
 
 abbrev pub invariant-loop-change : goal.invariant-loop-change

@@ -1,8 +1,4 @@
-use Rattle.std.proofs.Common.{◌++◌, ap, ◌∙◌, arith, refl, take, subst}
-use Rattle.std.proofs.lemmas.List.{take_all}
-use Rattle.std.specs.List.{flat_map, AllByRecursion}
-use Rattle.camp_script.specs.Canonical.{call_text}
-use Rattle.camp_script.specs.Keeping.{CanStand}
+use Rattle.camp_script.proofs.Common.{◌++◌, ap, ◌∙◌, arith, refl, take, subst, take_all, flat_map, AllByRecursion, call_text, CanStand}
 use Rattle.camp_script.proofs.TextLemmas.{kept_further}
 use Rattle.camp_script.proofs.WrittenLemmas.{one_more_written, kept_grown, calls_stand}
 use Rattle.camp_script.proofs.writing.extend_by_kept.Goals as goal

@@ -1,6 +1,4 @@
-use Rattle.std.proofs.Common.{take}
-use Rattle.camp_script.specs.Canonical.{call_text}
-use Rattle.camp_script.specs.Keeping.{CanStand}
+use Rattle.camp_script.proofs.Common.{take, call_text, CanStand}
 use Rattle.camp_script.proofs.WrittenLemmas.{AreWritten}
 use Rattle.camp_script.proofs.writing.extend_by_section.Given as goal
 

@@ -1,7 +1,4 @@
-use Rattle.std.proofs.Common.{◌≡◌, ◌++◌, take}
-use Rattle.std.specs.List.{flat_map}
-use Rattle.camp_script.specs.Canonical.{AreLines}
-use Rattle.camp_script.specs.Texts.{signed_line}
+use Rattle.camp_script.proofs.Common.{◌≡◌, ◌++◌, take, flat_map, AreLines, signed_line}
 use Rattle.camp_script.proofs.writing.extend_by_side.Given as goal
 
 abbrev pub invariant-loop-line : goal.invariant-loop-line

@@ -1,6 +1,4 @@
-use Rattle.std.proofs.Common.{◌≡◌, ◌<◌, false, ℕ, ◌==◌, sym, ◌∙◌, arith}
-use Rattle.std.proofs.lemmas.Bool.{eqb-true}
-use Rattle.std.proofs.lemmas.Bool.Decides.{nat_tests}
+use Rattle.camp_script.proofs.Common.{◌≡◌, ◌<◌, false, ℕ, ◌==◌, sym, ◌∙◌, arith, eqb-true, nat_tests}
 use Rattle.bstr.proofs.lemmas.MatchListLemmas.{goes-ref}
 use Rattle.camp_script.proofs.WordLemmas.{IsCut, IsCut-at, first_word, no_word}
 use Rattle.camp_script.proofs.lines.WordsIterator.next.Goals as goal

@@ -1,5 +1,4 @@
-use Rattle.std.proofs.Common.{◌≡◌, true, false, ap, map, ◌∙◌, codes, rules}
-use Rattle.std.specs.Prelude.{bytes_eq}
+use Rattle.camp_script.proofs.Common.{◌≡◌, true, false, ap, map, ◌∙◌, codes, rules, bytes_eq}
 use Rattle.camp_script.proofs.FirstWords.{pulls, obliterates, short}
 use Rattle.camp_script.proofs.readings.Reading.asked_by.Goals as goal
 

@@ -1,6 +1,4 @@
-use Rattle.std.proofs.Common.{subst, sym, rules}
-use Rattle.camp_script.specs.Changes.{ended}
-use Rattle.camp_script.specs.Gives.{GivesFaultFirst}
+use Rattle.camp_script.proofs.Common.{subst, sym, rules, ended, GivesFaultFirst}
 use Rattle.camp_script.specs.Inside.ReadingFields.{open_record_of, edit_so_far}
 use Rattle.camp_script.proofs.RecordLines.{end_goes_on, end_fails}
 use Rattle.camp_script.proofs.readings.Reading.end_edit.Goals as goal

@@ -1,6 +1,4 @@
-use Rattle.std.proofs.Common.{◌≡◌, false, ◌==◌, length, map, slice_index, sym, ap, ◌∙◌, rules}
-use Rattle.camp_script.specs.Inside.ReadingFields.{open_record_of}
-use Rattle.camp_script.specs.Lines.{words_of}
+use Rattle.camp_script.proofs.Common.{◌≡◌, false, ◌==◌, length, map, slice_index, sym, ap, ◌∙◌, rules, open_record_of, words_of}
 use Rattle.camp_script.proofs.FirstWords.{group_words}
 use Rattle.camp_script.proofs.readings.Reading.read_group_words.Goals as goal
 
