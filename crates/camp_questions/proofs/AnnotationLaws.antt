@@ -1,6 +1,5 @@
 -- The laws of annotations.
-use Rattle.std.proofs.Common.{◌≡◌, ◌≤◌, ℕ, ◌+◌, ◌-◌, ◌==◌, Bool, true, false, ◌||◌, cond, List, [], ◌∷◌, ◌++◌, map, bytes_eq, subst, Option, None, Some, length, take, drop, replicate, refl, sym, ap, ◌∙◌, arith}
-use Rattle.std.specs.FinMap.{empty, get, get-empty, get-insert, insert}
+use Rattle.camp_questions.proofs.Common.{◌≡◌, ◌≤◌, ℕ, ◌+◌, ◌-◌, ◌==◌, Bool, true, false, ◌||◌, cond, List, [], ◌∷◌, ◌++◌, map, bytes_eq, subst, Option, None, Some, length, take, drop, replicate, refl, sym, ap, ◌∙◌, arith, empty, get, get-empty, get-insert, insert, Edit, key_cmp, key_of, label_of, Key, Named, Primitive, Add, Remove, Hunk, key_total, effect_of, Catch, has_patch, is_among, name_of, name_itself, or_true, Known, behind_all, behind_catches, behind_change, behind_hunk, names_coming, nothing_known, lines_or_none}
 use Rattle.std.specs.List.{All, slice_range, splice}
 use Rattle.std.specs.Ordering.{eq_by_cmp, is_eq}
 use Rattle.std.proofs.lemmas.Bool.{eq-eqb}
@@ -9,19 +8,6 @@ use Rattle.std.proofs.lemmas.List.Elements.{All-append, All-drop, All-nil, All-r
 use Rattle.std.proofs.lemmas.Option.{none-some, same_Some}
 use Rattle.std.proofs.lemmas.List.{append_assoc, drop_at, drop-drop, length-append, length-drop, length-take-le, take-append-drop, take_at}
 use Rattle.camp_prim.specs.Effect.{flipped}
-use Rattle.camp_prim.specs.Hunks.{Edit}
-use Rattle.camp_prim.specs.Labels.{key_cmp, key_of, label_of}
-use Rattle.camp_prim.specs.declared.labels.Key.{Key}
-use Rattle.camp_prim.specs.declared.named.Named.{Named}
-use Rattle.camp_prim.specs.declared.primitives.Primitive.{Primitive}
-use Rattle.camp_prim.specs.declared.primitives.Primitive.TheVariants.{Add, Remove, Hunk}
-use Rattle.camp_prim.proofs.LabelOrder.{key_total}
-use Rattle.camp_catch.specs.Catches.{effect_of}
-use Rattle.camp_catch.specs.declared.catches.Catch.{Catch}
-use Rattle.camp_branch.specs.Branches.{has_patch, is_among, name_of}
-use Rattle.camp_branch.proofs.Names.{name_itself, or_true}
-use Rattle.camp_questions.specs.Annotations.{Known, behind_all, behind_catches, behind_change, behind_hunk, names_coming, nothing_known}
-use Rattle.camp_questions.specs.Inside.Walking.{lines_or_none}
 use Rattle.camp_questions.specs.Laws.{LinesHaveNames}
 use Rattle.camp_questions.proofs.LineNames.{as_many, catches_count, none_known}
 

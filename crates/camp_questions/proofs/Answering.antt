@@ -1,12 +1,6 @@
 -- Questions that have an answer.
 use Rattle.std.proofs.Common.{◌≡◌, ℕ, List, [], ◌∷◌, Result, Ok, Err, Some, IsErrAnd, refl, sym, ap, ◌∙◌}
-use Rattle.std.specs.FinMap.{get}
-use Rattle.camp_base.specs.Trees.{Files}
-use Rattle.camp_catch.specs.declared.catches.Catch.{Catch}
-use Rattle.camp_branch.specs.Branches.{LeadsTo}
-use Rattle.camp_repo.specs.States.{Contents, catches_of}
-use Rattle.camp_repo.specs.Steps.{first_lacked}
-use Rattle.camp_questions.specs.Annotations.{AreAnnotated, annotated, names_of_lines}
+use Rattle.camp_questions.proofs.Common.{get, Files, Catch, LeadsTo, Contents, catches_of, first_lacked, AreAnnotated, annotated, names_of_lines}
 use Rattle.camp_questions.specs.declared.annotations.Annotated.{Annotated}
 use Rattle.camp_questions.specs.Answers.{AnswerOf, Tells}
 use Rattle.camp_questions.specs.Dependencies.{OfNames}

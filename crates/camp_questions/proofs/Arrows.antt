@@ -1,15 +1,7 @@
 -- The arrows of a graph are the direct needs.
-use Rattle.std.proofs.Common.{◌≡◌, ◌≢◌, ℕ, Bool, true, false, true≢false, not, ◌&&◌, ◌||◌, List, [], ◌∷◌, ◌++◌, map, bytes_eq, refl, sym, ap, ◌∙◌, subst}
-use Rattle.std.specs.Prelude.{◌↔◌}
-use Rattle.std.specs.List.{AllByRecursion, list_any}
-use Rattle.camp_catch.specs.declared.catches.Catch.{Catch}
-use Rattle.camp_branch.specs.Branches.{is_among, name_of, names_of}
-use Rattle.camp_branch.proofs.Names.{name_itself, or_true, same_name}
-use Rattle.camp_branch.proofs.NamesKept.{among_kept, among_once}
-use Rattle.camp_questions.specs.Dependencies.{Needs}
+use Rattle.camp_questions.proofs.Common.{◌≡◌, ◌≢◌, ℕ, Bool, true, false, true≢false, not, ◌&&◌, ◌||◌, List, [], ◌∷◌, ◌++◌, map, bytes_eq, refl, sym, ap, ◌∙◌, subst, ◌↔◌, AllByRecursion, list_any, Catch, is_among, name_of, names_of, name_itself, or_true, same_name, among_kept, among_once, Needs, Node}
 use Rattle.camp_questions.specs.Graphs.{Needing, NeedsThese, goes_between, needs_directly, needs_other, node_of}
 use Rattle.camp_questions.specs.Laws.{ArrowsAreDirectNeeds, NeedsDirectly, NeedsPatch}
-use Rattle.camp_questions.specs.declared.graphs.Node.{Node}
 use Rattle.camp_questions.proofs.BranchGrowths.{needs_are_determined}
 use Rattle.camp_questions.proofs.Growths.{in_order_there}
 

@@ -1,23 +1,14 @@
 -- Names that grow until they come to the front of a branch, or until they can be taken out of it.
-use Rattle.std.proofs.Common.{◌≡◌, ◌≢◌, ℕ, Bool, true, false, true≢false, not, cond, ◌&&◌, ◌||◌, List, [], ◌∷◌, ◌++◌, map, None, Some, Ok, Err, bytes_eq, refl, sym, ap, ◌∙◌, inl, inr}
-use Rattle.std.specs.Prelude.{◌↔◌, Contains}
-use Rattle.camp_prim.specs.declared.labels.Key.{Key}
-use Rattle.camp_catch.specs.declared.catches.Catch.{Catch}
+use Rattle.camp_questions.proofs.Common.{◌≡◌, ◌≢◌, ℕ, Bool, true, false, true≢false, not, cond, ◌&&◌, ◌||◌, List, [], ◌∷◌, ◌++◌, map, None, Some, Ok, Err, bytes_eq, refl, sym, ap, ◌∙◌, inl, inr, ◌↔◌, Contains, Key, Catch, has_patch, is_among, name_of, is_among_is, name_itself, or_true, same_name, Next, Has, first_lacked, is_empty, step, AreHeldIn, CanGo, ComeToFront, StickOn}
 use Rattle.camp_catch.proofs.ListResults.{arrange_by_members, lists_are_unique, lists_succeed_or_stick}
-use Rattle.camp_branch.specs.Branches.{has_patch, is_among, name_of}
 use Rattle.camp_branch.specs.Obliterating.{other_names}
 use Rattle.camp_branch.specs.Pulling.{Outcome}
 use Rattle.camp_branch.specs.declared.faults.Blocked.TheVariants.{Depends}
-use Rattle.camp_branch.proofs.Names.{is_among_is, name_itself, or_true, same_name}
 use Rattle.camp_branch.proofs.NamesKept.{among_others}
 use Rattle.camp_branch.proofs.OutcomesDetermined.{outcomes_are_determined}
 use Rattle.camp_call.specs.declared.calls.Call.TheVariants as call
-use Rattle.camp_object.specs.declared.objects.Decided.TheVariants.{Next}
-use Rattle.camp_repo.specs.Laws.{Has}
 use Rattle.camp_repo.specs.States.{Contents, after, with_catches}
-use Rattle.camp_repo.specs.Steps.{first_lacked, is_empty, step}
 use Rattle.camp_repo.proofs.ByMembers.{AreAlike, obliterate_alike}
-use Rattle.camp_questions.specs.Dependencies.{AreHeldIn, CanGo, ComeToFront, StickOn}
 use Rattle.camp_questions.specs.Laws.{AreAmong, HeldCanGo, HeldIsDetermined, NeedsAreDetermined, NeedsComeFirst}
 use Rattle.camp_questions.proofs.Growths.{Grow, grew, grows_to_one, in_order_there}
 use Rattle.camp_questions.proofs.Stuck.{sticks_between}

@@ -1,19 +1,11 @@
 -- The branch that an accepted call writes to.
-use Rattle.std.proofs.Common.{◌≡◌, ℕ, Bool, true, false, cond, List, [], ◌∷◌, ◌++◌, Option, None, Some, bytes_eq, refl, sym, ap, ◌∙◌, subst}
-use Rattle.std.proofs.lemmas.Option.{same_Some}
-use Rattle.camp_base.specs.Trees.{Files}
-use Rattle.camp_catch.specs.declared.catches.Catch.{Catch}
-use Rattle.camp_branch.specs.Branches.{LeadsTo}
-use Rattle.camp_branch.specs.Conflicting.{AreConflicts}
-use Rattle.camp_branch.proofs.Names.{name_itself}
+use Rattle.camp_questions.proofs.Common.{◌≡◌, ℕ, Bool, true, false, cond, List, [], ◌∷◌, ◌++◌, Option, None, Some, bytes_eq, refl, sym, ap, ◌∙◌, subst, same_Some, Files, Catch, LeadsTo, AreConflicts, name_itself, step, accepted_calls}
 use Rattle.camp_call.specs.declared.calls.Call.{Call}
 use Rattle.camp_call.specs.declared.calls.Call.TheVariants as call
 use Rattle.camp_call.specs.declared.replies.Reply.TheVariants as reply
 use Rattle.camp_object.specs.declared.objects.Decided.TheVariants.{Next, Answer}
 use Rattle.camp_repo.specs.Laws.{Effect, Has}
 use Rattle.camp_repo.specs.States.{Branches, Contents, catches_of}
-use Rattle.camp_repo.specs.Steps.{step}
-use Rattle.camp_repo.proofs.Effects.{accepted_calls}
 use Rattle.camp_repo.proofs.DecideSteps.{conflicts_shown, tree_shown}
 use Rattle.camp_questions.specs.Foresight.{Foresees, ForeseesOf, StandsIn, branch_written}
 use Rattle.camp_questions.specs.declared.foresight.Standing.{Standing}

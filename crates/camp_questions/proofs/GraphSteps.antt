@@ -1,18 +1,9 @@
 -- The graph of a branch, patch by patch.
-use Rattle.std.proofs.Common.{◌≡◌, ◌<◌, ℕ, ◌+◌, Bool, true, false, cond, not, ◌&&◌, ◌||◌, List, [], ◌∷◌, ◌++◌, map, filter, length, take, drop, get_or, Ok, Some, refl, sym, ap, ◌∙◌, subst, arith}
-use Rattle.std.specs.List.{AllByRecursion, list_any}
+use Rattle.camp_questions.proofs.Common.{◌≡◌, ◌<◌, ℕ, ◌+◌, Bool, true, false, cond, not, ◌&&◌, ◌||◌, List, [], ◌∷◌, ◌++◌, map, filter, length, take, drop, get_or, Ok, Some, refl, sym, ap, ◌∙◌, subst, arith, AllByRecursion, list_any, Catch, names_of, AreConflicts, all_append, Contents, catches_of, Drawn, IsGraph, IsGraphOf, Needing, NeedsThese, goes_between, needs_other, node_of, NeedEach, needing, Node}
 use Rattle.std.proofs.lemmas.List.{drop_all, drop_more, map-append, take_more}
-use Rattle.camp_catch.specs.declared.catches.Catch.{Catch}
-use Rattle.camp_branch.specs.Branches.{names_of}
-use Rattle.camp_branch.specs.Conflicting.{AreConflicts}
 use Rattle.camp_branch.proofs.ConflictsDetermined.{conflicts_are_determined}
 use Rattle.camp_branch.proofs.NameSets.{and_true}
-use Rattle.camp_branch.proofs.Names.{all_append}
-use Rattle.camp_repo.specs.States.{Contents, catches_of}
-use Rattle.camp_questions.specs.Graphs.{Drawn, IsGraph, IsGraphOf, Needing, NeedsThese, goes_between, needs_other, node_of}
-use Rattle.camp_questions.specs.Inside.Graphing.{NeedEach, needing}
 use Rattle.camp_questions.specs.declared.graphs.Needed.{Needed}
-use Rattle.camp_questions.specs.declared.graphs.Node.{Node}
 use Rattle.camp_questions.proofs.BranchGrowths.{needs_are_determined}
 
 pub none_needed : (branch : List Catch) (names : List (List ℕ)) (all : List Needed) → all ≡ [] → NeedEach branch (take 0 names) all

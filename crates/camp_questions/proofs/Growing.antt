@@ -1,13 +1,6 @@
 -- Names that grow in a set, one at a time.
-use Rattle.std.proofs.Common.{◌≡◌, ◌<◌, ℕ, Bool, true, false, ◌||◌, List, [], ◌∷◌, ◌++◌, filter, length, bytes_eq, append-nil, refl, sym, ap, ◌∙◌, subst}
-use Rattle.std.proofs.lemmas.List.{append_assoc}
-use Rattle.std.specs.FinMap.{contains_key, insert, keys}
-use Rattle.camp_catch.specs.declared.catches.Catch.{Catch}
-use Rattle.camp_branch.specs.Branches.{is_among, names_of}
+use Rattle.camp_questions.proofs.Common.{◌≡◌, ◌<◌, ℕ, Bool, true, false, ◌||◌, List, [], ◌∷◌, ◌++◌, filter, length, bytes_eq, append-nil, refl, sym, ap, ◌∙◌, subst, append_assoc, contains_key, insert, keys, Catch, is_among, names_of, has_listed, AreAlike, AreAdded, AreGrown, in_order}
 use Rattle.camp_branch.proofs.BranchFields.{Names, contains_more}
-use Rattle.camp_branch.proofs.NameSets.{has_listed}
-use Rattle.camp_repo.proofs.ByMembers.{AreAlike}
-use Rattle.camp_questions.specs.Dependencies.{AreAdded, AreGrown, in_order}
 use Rattle.camp_questions.specs.Inside.Growing.{Grows}
 use Rattle.camp_questions.proofs.Growths.{Grow, among_both, fewer_left, left_of}
 

@@ -1,14 +1,7 @@
 -- Names to which others are added, one by one, until they do what they are to do.
 use Rattle.std.proofs.Common.{◌≡◌, ◌⊎◌, ◌<◌, ◌≤◌, ℕ, zero, suc, Bool, true, false, true≢false, not, cond, ◌||◌, ◌&&◌, List, [], ◌∷◌, ◌++◌, filter, length, map, bytes_eq, append-nil, refl, sym, ap, ◌∙◌, subst, inl, inr, arith}
-use Rattle.std.proofs.lemmas.List.{append_assoc}
-use Rattle.std.proofs.lemmas.List.Folds.{list_any-append}
-use Rattle.camp_catch.specs.declared.catches.Catch.{Catch}
-use Rattle.camp_branch.specs.Branches.{has_patch, is_among, name_of, names_of}
+use Rattle.camp_questions.proofs.Common.{append_assoc, list_any-append, Catch, has_patch, is_among, name_of, names_of, name_itself, same_name, among_kept, among_once, AreAlike, AreAdded, AreGrown, in_order}
 use Rattle.camp_branch.specs.Laws.{ExactlyOne}
-use Rattle.camp_branch.proofs.Names.{name_itself, same_name}
-use Rattle.camp_branch.proofs.NamesKept.{among_kept, among_once}
-use Rattle.camp_repo.proofs.ByMembers.{AreAlike}
-use Rattle.camp_questions.specs.Dependencies.{AreAdded, AreGrown, in_order}
 use Rattle.camp_questions.specs.Laws.{AreAmong, GrewFrom, WasMet}
 
 -- names are done, or one of their own, which they lack, stops them; both go by which names there are

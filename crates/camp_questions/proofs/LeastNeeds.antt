@@ -1,13 +1,6 @@
 -- What names need is the least that comes to the front, where all catches are plain and have room.
-use Rattle.std.proofs.Common.{◌≡◌, ℕ, Bool, true, false, ◌&&◌, List, ◌++◌, sym, ap, ◌∙◌, subst}
-use Rattle.std.specs.Prelude.{Contains}
-use Rattle.camp_catch.specs.Arranging.{ArrangeSticks}
-use Rattle.camp_catch.specs.declared.catches.Catch.{Catch}
+use Rattle.camp_questions.proofs.Common.{◌≡◌, ℕ, Bool, true, false, ◌&&◌, List, ◌++◌, sym, ap, ◌∙◌, subst, Contains, ArrangeSticks, Catch, is_among, names_of, is_among_is, among_kept, ComeToFront, StickOn, in_order}
 use Rattle.camp_catch.proofs.PlainArranging.{what_stops_comes_along}
-use Rattle.camp_branch.specs.Branches.{is_among, names_of}
-use Rattle.camp_branch.proofs.Names.{is_among_is}
-use Rattle.camp_branch.proofs.NamesKept.{among_kept}
-use Rattle.camp_questions.specs.Dependencies.{ComeToFront, StickOn, in_order}
 use Rattle.camp_questions.specs.Laws.{AreAmong, IsPlain, NeedsAreLeast}
 use Rattle.camp_questions.proofs.Growths.{all_within}
 

@@ -1,3 +1,4 @@
+mod Common
 pub mod AnnotationLaws
 pub mod Answering
 pub mod Arrows

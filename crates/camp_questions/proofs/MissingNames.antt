@@ -1,19 +1,10 @@
 -- What is missing is what a pull without names brings.
-use Rattle.std.proofs.Common.{◌≡◌, ◌≢◌, ℕ, Bool, true, false, not, cond, ◌||◌, List, [], ◌∷◌, ◌++◌, filter, Option, None, Some, Ok, bytes_eq, refl, sym, ap, ◌∙◌}
-use Rattle.std.proofs.lemmas.Option.{same_Some}
-use Rattle.camp_catch.specs.declared.catches.Catch.{Catch}
-use Rattle.camp_branch.specs.Branches.{has_patch, is_among, names_of}
+use Rattle.camp_questions.proofs.Common.{◌≡◌, ◌≢◌, ℕ, Bool, true, false, not, cond, ◌||◌, List, [], ◌∷◌, ◌++◌, filter, Option, None, Some, Ok, bytes_eq, refl, sym, ap, ◌∙◌, same_Some, Catch, has_patch, is_among, names_of, Next, Has, Contents, is_empty, step, accepted_calls, IsMissing, missing_in}
 use Rattle.camp_branch.proofs.Names.{name_itself, or_true, passes_is_kept, same_name}
 use Rattle.camp_call.specs.declared.calls.Call.TheVariants as call
-use Rattle.camp_object.specs.declared.objects.Decided.TheVariants.{Next}
 use Rattle.camp_repo.specs.Lawful.{IsLawfulState}
-use Rattle.camp_repo.specs.Laws.{Has}
-use Rattle.camp_repo.specs.States.{Contents}
-use Rattle.camp_repo.specs.Steps.{is_empty, step}
 use Rattle.camp_repo.proofs.DecideSteps.{pull_nothing}
-use Rattle.camp_repo.proofs.Effects.{accepted_calls}
 use Rattle.camp_repo.proofs.NameSteps.{none_lacked}
-use Rattle.camp_questions.specs.Differences.{IsMissing, missing_in}
 use Rattle.camp_questions.specs.Laws.{MissingIsPulled}
 
 module _ (p q : List ℕ → Bool) where

@@ -1,12 +1,7 @@
 -- What a branch sticks on when patches are brought to its front.
-use Rattle.std.proofs.Common.{◌≡◌, ℕ, Bool, true, false, ◌||◌, List, [], ◌∷◌, ◌++◌, map, bytes_eq, refl, sym, ap, ◌∙◌, subst, inl, inr}
-use Rattle.std.proofs.lemmas.List.{map-append}
-use Rattle.std.proofs.lemmas.List.Folds.{list_any-append}
-use Rattle.camp_prim.specs.declared.labels.Key.{Key}
+use Rattle.camp_questions.proofs.Common.{◌≡◌, ℕ, Bool, true, false, ◌||◌, List, [], ◌∷◌, ◌++◌, map, bytes_eq, refl, sym, ap, ◌∙◌, subst, inl, inr, map-append, list_any-append, Key, Catch, is_among, name_of}
 use Rattle.camp_catch.specs.Arranging.{ArrangeSticks, ComesBefore, SticksBehind, StopsAt}
-use Rattle.camp_catch.specs.declared.catches.Catch.{Catch}
 use Rattle.camp_catch.proofs.KeptLabels.{keep_labels}
-use Rattle.camp_branch.specs.Branches.{is_among, name_of}
 use Rattle.camp_branch.proofs.Names.{is_among_is, name_itself, not_among, or_true, same_name}
 
 -- the names of the patches of some catches

@@ -1,13 +1,10 @@
 -- The names that are kept under the absolute labels of hunks, as a finite map.
-use Rattle.std.proofs.Common.{◌≡◌, ℕ, cond, List, [], ◌∷◌, Some, refl, sym, ap, ◌∙◌}
+use Rattle.camp_questions.proofs.Common.{◌≡◌, ℕ, cond, List, [], ◌∷◌, Some, refl, sym, ap, ◌∙◌, eq_by_cmp, key_cmp, Key}
 use Rattle.std.specs.BTreeMap as tree
 use Rattle.std.specs.BTreeMap.{BTreeMap, is_at}
 use Rattle.std.specs.Cmp.{eq_by_cmp_equiv}
 use Rattle.std.specs.FinMap.{find, get, get-from_entries, get-insert, insert, same_map}
 use Rattle.std.specs.Map.{lookup}
-use Rattle.std.specs.Ordering.{eq_by_cmp}
-use Rattle.camp_prim.specs.Labels.{key_cmp}
-use Rattle.camp_prim.specs.declared.labels.Key.{Key}
 use Rattle.camp_prim.proofs.LabelOrder.{key_ties, key_total}
 use Rattle.camp_questions.specs.Inside.Walking.{kept_in}
 

@@ -1,14 +1,6 @@
 -- What a call passes on its way to a next state.
-use Rattle.std.proofs.Common.{◌≡◌, ℕ, Bool, true, false, List, Option, None, Some, Result, Ok, Err, refl}
-use Rattle.std.specs.Option.{option_map_or}
-use Rattle.camp_base.specs.Trees.{Files}
-use Rattle.camp_catch.specs.declared.catches.Catch.{Catch}
-use Rattle.camp_branch.specs.Pulling.{Outcome}
-use Rattle.camp_call.specs.declared.replies.Refusal.{Refusal}
+use Rattle.camp_repo.proofs.Common.{◌≡◌, ℕ, Bool, true, false, List, Option, None, Some, Result, Ok, Err, refl, option_map_or, Files, Catch, Outcome, Refusal, Next, Has, Branches, Contents, after, catches_of, with_catches}
 use Rattle.camp_call.specs.declared.replies.Refusal.TheVariants.{NoBranch, NoPatch}
-use Rattle.camp_object.specs.declared.objects.Decided.TheVariants.{Next}
-use Rattle.camp_repo.specs.Laws.{Has}
-use Rattle.camp_repo.specs.States.{Branches, Contents, after, catches_of, with_catches}
 use Rattle.camp_repo.specs.Steps.{Decision, accepted, becomes, first_lacked, record_leads, refused, refused_if, with_branch, with_patches}
 
 module _ (state next : Contents) where

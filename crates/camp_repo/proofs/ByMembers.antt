@@ -3,14 +3,10 @@ use Rattle.std.proofs.Common.{◌≡◌, ◌==◌, ℕ, suc, Bool, not, cond, na
 use Rattle.std.specs.Prelude.{◌↔◌, Contains}
 use Rattle.std.proofs.Math.Dec.{eqb-suc-zero}
 use Rattle.std.specs.FinMap.{entries, keys, len, len-entries}
-use Rattle.camp_catch.specs.declared.catches.Catch.{Catch}
+use Rattle.camp_repo.proofs.Common.{Catch, is_among, name_of, names_of, ObliterateGives, Names, is_empty, is_full_with}
 use Rattle.camp_catch.proofs.ListResults.{arrange_by_members}
-use Rattle.camp_branch.specs.Branches.{is_among, name_of, names_of}
-use Rattle.camp_branch.specs.Obliterating.{ObliterateGives}
 use Rattle.camp_branch.specs.Pulling.{MergesBehind, Outcome, PullGives, WantedNext, common_names}
-use Rattle.camp_branch.proofs.BranchFields.{Names}
 use Rattle.camp_branch.proofs.Names.{is_among_is, name_itself}
-use Rattle.camp_repo.specs.Steps.{is_empty, is_full_with}
 
 -- two lists of names have the same members
 abbrev pub AreAlike : List (List ℕ) → List (List ℕ) → Type 0

@@ -1,15 +1,8 @@
 -- What changes lead to, one at a time.
-use Rattle.std.proofs.Common.{◌≡◌, ◌<◌, ◌+◌, ℕ, Bool, true, false, cond, List, drop, length, get_or, Option, None, Some, Result, Ok, Err, sym, ap, ◌∙◌}
-use Rattle.camp_base.specs.Trees.{Files}
-use Rattle.camp_prim.specs.Applied.{applied}
+use Rattle.camp_repo.proofs.Common.{◌≡◌, ◌<◌, ◌+◌, ℕ, Bool, true, false, cond, List, drop, length, get_or, Option, None, Some, Result, Ok, Err, sym, ap, ◌∙◌, Files, applied, path_of, Primitive, stands_at, Refusal, changed, has_long_file, led_to, then_from}
 use Rattle.camp_prim.specs.Effect.{Applies}
-use Rattle.camp_prim.specs.Swaps.{path_of}
-use Rattle.camp_prim.specs.declared.primitives.Primitive.{Primitive}
 use Rattle.camp_prim.proofs.Applied.{applied-from_Applies, applied-none}
-use Rattle.camp_catch.proofs.MoveSteps.{stands_at}
-use Rattle.camp_call.specs.declared.replies.Refusal.{Refusal}
 use Rattle.camp_call.specs.declared.replies.Refusal.TheVariants.{DoesNotApply, TooLarge}
-use Rattle.camp_repo.specs.Steps.{changed, has_long_file, led_to, then_from}
 
 module _ (changes : List Primitive) (i : ℕ) (change d : Primitive) (tree : Files) (aim : Result Files Refusal) (inv : changed (drop i changes) tree ≡ aim) (within : i < length changes) (is : change ≡ get_or changes i d) where
   here : (o : Option Files) → applied change tree ≡ o → aim ≡ then_from (led_to change o) (changed (drop (i + 1) changes))

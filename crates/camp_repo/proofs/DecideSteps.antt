@@ -1,24 +1,9 @@
 -- What the functions that decide have found, and what the step is then.
 use Rattle.std.proofs.Common.{◌≡◌, ℕ, true, false, List, ◌++◌, Option, None, Some, MatchOption, IfOk, IfErr, Result, Ok, Err, is_some, bytes_eq, refl, sym, ap, ◌∙◌}
-use Rattle.camp_base.specs.Trees.{Files}
-use Rattle.camp_prim.specs.declared.primitives.Primitive.{Primitive}
-use Rattle.camp_catch.specs.declared.catches.Catch.{Catch}
-use Rattle.camp_branch.specs.Branches.{LeadsTo, recorded}
+use Rattle.camp_repo.proofs.Common.{Files, Primitive, Catch, LeadsTo, recorded, ObliterateGives, Outcome, PullGives, conflicts_are_determined, outcomes_are_determined, Call, Refusal, Next, Answer, Has, IsLawfulState, obliterated, pulled, placed, settled, Contents, after, stands, with_catches}
 use Rattle.camp_branch.specs.Conflicting.{AreConflicts}
-use Rattle.camp_branch.specs.Obliterating.{ObliterateGives}
-use Rattle.camp_branch.specs.Pulling.{Outcome, PullGives}
-use Rattle.camp_branch.proofs.ConflictsDetermined.{conflicts_are_determined}
-use Rattle.camp_branch.proofs.OutcomesDetermined.{outcomes_are_determined}
-use Rattle.camp_call.specs.declared.calls.Call.{Call}
 use Rattle.camp_call.specs.declared.calls.Call.TheVariants as call
 use Rattle.camp_call.specs.declared.replies.Reply.TheVariants as reply
-use Rattle.camp_call.specs.declared.replies.Refusal.{Refusal}
-use Rattle.camp_object.specs.declared.objects.Decided.TheVariants.{Next, Answer}
-use Rattle.camp_repo.specs.Laws.{Has}
-use Rattle.camp_repo.specs.Lawful.{IsLawfulState}
-use Rattle.camp_repo.specs.Outcomes.{obliterated, pulled}
-use Rattle.camp_repo.specs.Placing.{placed, settled}
-use Rattle.camp_repo.specs.States.{Contents, after, stands, with_catches}
 use Rattle.camp_repo.specs.Steps.{Decision, becomes, changed, first_lacked, is_empty, is_full_with, is_too_large, listed, record_leads, refused, step, step_obliterate, step_pull, step_record, wanted}
 use Rattle.camp_repo.proofs.ByMembers.{AreAlike, obliterate_alike, pull_alike}
 use Rattle.camp_repo.proofs.StateSteps.{settled_by_name}

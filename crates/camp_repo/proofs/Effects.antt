@@ -1,26 +1,9 @@
 -- What each accepted call does.
-use Rattle.std.proofs.Common.{◌≡◌, ℕ, Bool, true, false, not, ◌&&◌, List, [], ◌∷◌, ◌++◌, Option, None, Some, Ok, is_some, length, nat_le, bytes_eq, refl, sym, ap, ◌∙◌, subst}
-use Rattle.std.proofs.lemmas.Option.{same_Some}
-use Rattle.camp_base.specs.Trees.{Files}
-use Rattle.camp_prim.specs.declared.primitives.Primitive.{Primitive}
-use Rattle.camp_catch.specs.declared.catches.Catch.{Catch}
-use Rattle.camp_branch.specs.Branches.{LeadsTo, has_patch, is_among, names_of, recorded}
-use Rattle.camp_branch.specs.Laws.{AreLacked}
-use Rattle.camp_branch.specs.Obliterating.{ObliterateGives}
-use Rattle.camp_branch.specs.Pulling.{PullGives}
-use Rattle.camp_branch.proofs.ConflictsDetermined.{conflicts_are_determined}
+use Rattle.camp_repo.proofs.Common.{◌≡◌, ℕ, Bool, true, false, not, ◌&&◌, List, [], ◌∷◌, ◌++◌, Option, None, Some, Ok, is_some, length, nat_le, bytes_eq, refl, sym, ap, ◌∙◌, subst, same_Some, Files, Primitive, Catch, LeadsTo, has_patch, is_among, names_of, recorded, AreLacked, ObliterateGives, PullGives, conflicts_are_determined, among_kept, outcomes_are_determined, BranchExists, NothingToDo, PatchExists, SameBranch, TooLarge, Next, IsLawfulState, IsLawfulBy, names_of_branches, obliterated, pulled, Contents, catches_of, stands, tree_of, with_catches, accepted, is_empty, is_full_with, is_too_large, listed, shown, step, wanted}
 use Rattle.camp_branch.proofs.KeepLawful.{obliterates_keep_lawful, pulls_keep_lawful}
-use Rattle.camp_branch.proofs.NamesKept.{among_kept}
-use Rattle.camp_branch.proofs.OutcomesDetermined.{outcomes_are_determined}
 use Rattle.camp_branch.proofs.Steps.{pulled_by}
 use Rattle.camp_call.specs.declared.calls.Call.TheVariants as call
-use Rattle.camp_call.specs.declared.replies.Refusal.TheVariants.{BranchExists, NothingToDo, PatchExists, SameBranch, TooLarge}
-use Rattle.camp_object.specs.declared.objects.Decided.TheVariants.{Next}
 use Rattle.camp_repo.specs.Laws.{AcceptedCallsHaveEffect, ChangesOne, Copies, Has, Obliterates, OutcomesAreDefined, Pulls, Records}
-use Rattle.camp_repo.specs.Lawful.{IsLawfulState, IsLawfulBy, names_of_branches}
-use Rattle.camp_repo.specs.Outcomes.{obliterated, pulled}
-use Rattle.camp_repo.specs.States.{Contents, catches_of, stands, tree_of, with_catches}
-use Rattle.camp_repo.specs.Steps.{accepted, is_empty, is_full_with, is_too_large, listed, shown, step, wanted}
 use Rattle.camp_repo.proofs.AcceptedSteps.{becomes_other, has_branch, has_tree, lacks_none, leads_on, next_is, passes}
 use Rattle.camp_repo.proofs.BranchSteps.{has_other, names_stay, of_one, others_stay}
 use Rattle.camp_repo.proofs.LawfulBranches.{lawful_alone}

@@ -1,13 +1,8 @@
 -- What is known of fronts stays so while branches grow.
 use Rattle.std.proofs.Common.{◌≡◌, ℕ, zero, suc, pred, List, [], ◌∷◌, ◌++◌, length, zip, slice_get, Some, Result, Ok, Err, IfOk, refl, sym, ap, ◌∙◌, subst, append-nil}
-use Rattle.std.proofs.lemmas.Option.{none-some, same_Some}
+use Rattle.camp_repo.proofs.Common.{none-some, same_Some, Catch, Agree, AgreesIn, AllHold, catches_in, placed, Branches}
 use Rattle.std.specs.List.{AllByRecursion, remove}
-use Rattle.camp_catch.specs.declared.catches.Catch.{Catch}
-use Rattle.camp_branch.specs.Agreeing.{Agree}
 use Rattle.camp_branch.proofs.AgreedFronts.{agree_grown, agree_none}
-use Rattle.camp_repo.specs.Fronts.{AgreesIn, AllHold, catches_in}
-use Rattle.camp_repo.specs.Placing.{placed}
-use Rattle.camp_repo.specs.States.{Branches}
 use Rattle.camp_repo.specs.declared.fronts.KnownFront.{KnownFront}
 
 pub all_with : {X : Type 0} (P : X → Type 0) (xs : List X) (x : X) → AllByRecursion P xs → P x → AllByRecursion P (xs ++ x ∷ [])

@@ -1,17 +1,9 @@
 -- The state behind a legal history of calls.
-use Rattle.std.proofs.Common.{◌≡◌, ℕ, List, [], ◌∷◌, Option, None, Some, subst, refl}
-use Rattle.std.proofs.lemmas.Option.{same_Some}
-use Rattle.std.specs.Option.{option_and_then}
-use Rattle.camp_call.specs.declared.calls.Call.{Call}
+use Rattle.camp_repo.proofs.Common.{◌≡◌, ℕ, List, [], ◌∷◌, Option, None, Some, subst, refl, same_Some, option_and_then, Call, Next, Answer, IsLawfulState, repository_is_lawful, Contents, initial, Decision, step}
 use Rattle.camp_object.specs.Histories.{run}
 use Rattle.camp_object.proofs.Replays.{count-replay}
-use Rattle.camp_object.specs.declared.objects.Decided.TheVariants.{Next, Answer}
-use Rattle.camp_repo.specs.Lawful.{IsLawfulState}
 use Rattle.camp_repo.specs.Laws.{HistoriesAreCounted, HistoriesAreLawful, HistoriesTellTrees}
 use Rattle.camp_repo.specs.Objects.{next_of, repository}
-use Rattle.camp_repo.specs.ObjectLaws.{repository_is_lawful}
-use Rattle.camp_repo.specs.States.{Contents, initial}
-use Rattle.camp_repo.specs.Steps.{Decision, step}
 use Rattle.camp_repo.proofs.StepsLawful.{initial_lawful, steps_lawful, trees_answered}
 
 -- a state that is there is lawful

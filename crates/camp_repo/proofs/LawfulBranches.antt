@@ -1,18 +1,11 @@
 -- Branches in which each name goes with its number of changes.
 use Rattle.std.proofs.Common.{◌≡◌, ◌≤◌, ℕ, false, not, if◌then◌else◌, cond, List, [], ◌∷◌, ◌++◌, Ok, length, bytes_eq, refl, sym, ap, ◌∙◌}
-use Rattle.std.specs.FinMap.{empty}
-use Rattle.std.specs.List.{AllByRecursion}
-use Rattle.camp_base.specs.Trees.{Files}
-use Rattle.camp_prim.specs.declared.primitives.Primitive.{Primitive}
-use Rattle.camp_catch.specs.declared.catches.Catch.{Catch}
+use Rattle.camp_repo.proofs.Common.{empty, AllByRecursion, Files, Primitive, Catch, ObliterateGives, PullGives, IsLawfulBy}
 use Rattle.camp_branch.specs.Branches.{IsLawfulBranch as IsLawfulBranch, LeadsTo, Patch, has_patch, is_among, patch_names, recorded}
 use Rattle.camp_branch.specs.Laws.{AppliesEach, AreLacked, others_of, those_of}
-use Rattle.camp_branch.specs.Obliterating.{ObliterateGives}
-use Rattle.camp_branch.specs.Pulling.{PullGives}
 use Rattle.camp_branch.proofs.BranchLabels.{left_patches, not_a_patch, pulled_patches, recorded_patches}
 use Rattle.camp_branch.proofs.BranchTrees.{left_tree, pulled_tree, recorded_tree}
 use Rattle.camp_branch.proofs.Names.{all_append, all_filter, name_itself, or_parts}
-use Rattle.camp_repo.specs.Lawful.{IsLawfulBy}
 
 -- a branch that is lawful by some numbers is lawful
 pub lawful_alone : (changes_of : List ℕ → ℕ) (catches : List Catch) → IsLawfulBy changes_of catches → IsLawfulBranch catches

@@ -1,3 +1,4 @@
+mod Common
 pub mod AcceptedSteps
 pub mod BranchSteps
 pub mod ByMembers

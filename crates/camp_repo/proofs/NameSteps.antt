@@ -3,19 +3,12 @@ use Rattle.std.proofs.Common.{◌≡◌, ◌<◌, ◌≤◌, ◌+◌, ℕ, arith
 use Rattle.std.proofs.lemmas.List.{length-append, take-append-drop}
 use Rattle.std.proofs.lemmas.List.Elements.{filter-append}
 use Rattle.std.specs.FinMap.{contains_key, empty, get-empty, insert, keys}
-use Rattle.std.specs.Ordering.{nat_cmp}
-use Rattle.std.specs.Cmp.Lexicographic.{slice_cmp}
-use Rattle.camp_catch.specs.declared.catches.Catch.{Catch}
-use Rattle.camp_catch.proofs.MoveSteps.{stands_at}
-use Rattle.camp_branch.specs.Branches.{has_patch, is_among, name_of, names_of}
-use Rattle.camp_branch.specs.Agreeing.{Agree}
-use Rattle.camp_branch.specs.Laws.{AreLacked}
+use Rattle.camp_repo.proofs.Common.{nat_cmp, slice_cmp, Catch, stands_at, has_patch, is_among, name_of, names_of, Agree, AreLacked, catches_named, first_lacked, wanted}
 use Rattle.camp_branch.proofs.AgreedFronts.{agreed_has, split_has}
 use Rattle.camp_branch.proofs.BranchFields.{Names, contains_more}
 use Rattle.camp_branch.proofs.NameSets.{and_false, has_listed}
 use Rattle.camp_branch.proofs.Names.{name_itself, or_true}
 use Rattle.camp_branch.proofs.NamesKept.{among_kept, among_once}
-use Rattle.camp_repo.specs.Steps.{catches_named, first_lacked, wanted}
 
 -- of a set, some names are still to come
 abbrev pub IsFilled : Names → List (List ℕ) → (List ℕ → Bool) → Type 0

@@ -1,12 +1,7 @@
 -- Names and branches side by side.
-use Rattle.std.proofs.Common.{◌≡◌, ◌<◌, ◌+◌, ℕ, zero, suc, pred, Bool, true, false, cond, List, [], ◌∷◌, ◌++◌, length, zip, position, slice_get, slice_set, None, Some, bytes_eq, arith, refl, sym, ap, ◌∙◌, ◌||◌, subst}
+use Rattle.camp_repo.proofs.Common.{◌≡◌, ◌<◌, ◌+◌, ℕ, zero, suc, pred, Bool, true, false, cond, List, [], ◌∷◌, ◌++◌, length, zip, position, slice_get, slice_set, None, Some, bytes_eq, arith, refl, sym, ap, ◌∙◌, ◌||◌, subst, none-some, same_Some, Catch, has_patch, placed, catches_of, stands, with_catches}
 use Rattle.std.proofs.lemmas.Iterator.Adapters.{position_from-zero}
-use Rattle.std.proofs.lemmas.Option.{none-some, same_Some}
 use Rattle.std.specs.List.{list_any, position_from}
-use Rattle.camp_catch.specs.declared.catches.Catch.{Catch}
-use Rattle.camp_branch.specs.Branches.{has_patch}
-use Rattle.camp_repo.specs.Placing.{placed}
-use Rattle.camp_repo.specs.States.{catches_of, stands, with_catches}
 
 pub as_long : (names : List (List ℕ)) (branches : List (List Catch)) → length names ≡ length branches → length (zip names branches) ≡ length branches
 as_long [] [] e = refl

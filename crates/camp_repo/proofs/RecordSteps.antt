@@ -1,17 +1,7 @@
 -- The state after an accepted record.
-use Rattle.std.proofs.Common.{◌≡◌, ℕ, false, List, ◌++◌, Ok, sym, subst}
-use Rattle.camp_base.specs.Trees.{Files}
-use Rattle.camp_prim.specs.declared.primitives.Primitive.{Primitive}
-use Rattle.camp_catch.specs.declared.catches.Catch.{Catch}
-use Rattle.camp_branch.specs.Branches.{LeadsTo, has_patch, recorded}
-use Rattle.camp_branch.specs.Laws.{AppliesEach}
+use Rattle.camp_repo.proofs.Common.{◌≡◌, ℕ, false, List, ◌++◌, Ok, sym, subst, Files, Primitive, Catch, LeadsTo, has_patch, recorded, AppliesEach, Has, IsLawfulState, placed, Contents, after, stands, with_catches, changed, is_too_large}
 use Rattle.camp_branch.proofs.KeepLawful.{trees_are_determined}
 use Rattle.camp_call.specs.declared.calls.Call.TheVariants as call
-use Rattle.camp_repo.specs.Laws.{Has}
-use Rattle.camp_repo.specs.Lawful.{IsLawfulState}
-use Rattle.camp_repo.specs.Placing.{placed}
-use Rattle.camp_repo.specs.States.{Contents, after, stands, with_catches}
-use Rattle.camp_repo.specs.Steps.{changed, is_too_large}
 use Rattle.camp_repo.proofs.BranchSteps.{free_of_each, of_one}
 use Rattle.camp_repo.proofs.DecideSteps.{next_lawful, record_accepted}
 use Rattle.camp_repo.proofs.TreeSteps.{changes_apply}

@@ -1,9 +1,6 @@
 -- The size of a patch, as a test and as a fact.
-use Rattle.std.proofs.Common.{◌≡◌, ◌+◌, true, false, Bool, not, ◌&&◌, ◌||◌, List, length, nat_le, nat_lt, refl}
+use Rattle.camp_repo.proofs.Common.{◌≡◌, ◌+◌, true, false, Bool, not, ◌&&◌, ◌||◌, List, length, nat_le, nat_lt, refl, list_any, Primitive, Catch}
 use Rattle.std.proofs.lemmas.Bool.{leb-true}
-use Rattle.std.specs.List.{list_any}
-use Rattle.camp_prim.specs.declared.primitives.Primitive.{Primitive}
-use Rattle.camp_catch.specs.declared.catches.Catch.{Catch}
 use Rattle.camp_call.specs.Patches.{IsPatchSized}
 use Rattle.camp_repo.specs.Steps.{has_long_side, is_patch_sized, is_too_large}
 

@@ -1,12 +1,6 @@
 -- How the fields of a state become those of the next.
 use Rattle.std.proofs.Common.{◌≡◌, ◌+◌, ℕ, zero, suc, pred, false, cond, List, [], ◌∷◌, ◌++◌, length, zip, slice_set, None, Ok, Err, bytes_eq, codes, refl, sym, ap, ◌∙◌}
-use Rattle.std.specs.List.{AllZip, list_any}
-use Rattle.camp_catch.specs.declared.catches.Catch.{Catch}
-use Rattle.camp_branch.specs.Pulling.{Outcome}
-use Rattle.camp_repo.specs.Lawful.{names_of_branches}
-use Rattle.camp_repo.specs.Placing.{placed, settled}
-use Rattle.camp_repo.specs.States.{Contents, after, catches_of, initial, with_catches}
-use Rattle.camp_repo.specs.Steps.{accepted, becomes}
+use Rattle.camp_repo.proofs.Common.{AllZip, list_any, Catch, Outcome, names_of_branches, placed, settled, Contents, after, catches_of, initial, with_catches, accepted, becomes}
 use Rattle.camp_repo.proofs.BranchSteps.{absent}
 use Rattle.camp_repo.proofs.PlaceSteps.{as_long, zip_grown, zip_placed}
 

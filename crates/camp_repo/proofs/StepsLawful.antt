@@ -1,20 +1,7 @@
 -- From lawful states accepted calls lead to lawful ones.
-use Rattle.std.proofs.Common.{◌≡◌, ℕ, ◌+◌, false, List, [], ◌∷◌, ◌++◌, Option, None, Some, is_some, length, nat_le, bytes_eq, refl, sym, ap, ◌∙◌, subst}
-use Rattle.std.proofs.lemmas.Option.{same_Some}
-use Rattle.std.specs.Option.{option_map_or}
-use Rattle.camp_prim.specs.declared.primitives.Primitive.{Primitive}
-use Rattle.camp_catch.specs.declared.catches.Catch.{Catch}
-use Rattle.camp_branch.specs.Branches.{AreDistinct, LeadsTo, has_patch, recorded}
-use Rattle.camp_branch.proofs.Names.{all_append}
+use Rattle.camp_repo.proofs.Common.{◌≡◌, ℕ, ◌+◌, false, List, [], ◌∷◌, ◌++◌, Option, None, Some, is_some, length, nat_le, bytes_eq, refl, sym, ap, ◌∙◌, subst, same_Some, option_map_or, Primitive, Catch, AreDistinct, LeadsTo, has_patch, recorded, all_append, BranchExists, NothingToDo, PatchExists, SameBranch, TooLarge, Next, NoBranch, IsLawfulState, IsLawfulBy, names_of_branches, obliterated, pulled, Branches, Contents, catches_of, stands, tree_of, with_catches, is_empty, is_full_with, is_too_large, listed, refused, shown, step, wanted}
 use Rattle.camp_call.specs.declared.calls.Call.TheVariants as call
-use Rattle.camp_call.specs.declared.replies.Refusal.TheVariants.{BranchExists, NothingToDo, PatchExists, SameBranch, TooLarge}
-use Rattle.camp_object.specs.declared.objects.Decided.TheVariants.{Next}
-use Rattle.camp_call.specs.declared.replies.Refusal.TheVariants.{NoBranch}
 use Rattle.camp_repo.specs.Laws.{Has, InitialIsLawful, StepsKeepLawful, TreesAreAnswered}
-use Rattle.camp_repo.specs.Lawful.{IsLawfulState, IsLawfulBy, names_of_branches}
-use Rattle.camp_repo.specs.Outcomes.{obliterated, pulled}
-use Rattle.camp_repo.specs.States.{Branches, Contents, catches_of, stands, tree_of, with_catches}
-use Rattle.camp_repo.specs.Steps.{is_empty, is_full_with, is_too_large, listed, refused, shown, step, wanted}
 use Rattle.camp_repo.proofs.AcceptedSteps.{becomes_other, has_branch, has_tree, lacks_none, leads_on, next_is, passes}
 use Rattle.camp_repo.proofs.BranchSteps.{OfEach, absent, distinct_grown, free_of_each, names_grown, names_stay, of_each_with, of_one}
 use Rattle.camp_repo.proofs.Effects.{accepted_calls, lawful_branch, obliterate_gives, pull_gives, wanted_is_lacked}

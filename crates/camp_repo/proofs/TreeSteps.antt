@@ -1,21 +1,10 @@
 -- The tree of a branch as a function, and what changes lead to.
-use Rattle.std.proofs.Common.{◌≡◌, Bool, true, false, cond, List, [], ◌∷◌, Option, None, Some, Result, Ok, Err, refl, sym, ap, ◌∙◌}
-use Rattle.std.specs.FinMap.{empty}
-use Rattle.std.specs.Option.{option_and_then}
-use Rattle.camp_base.specs.Trees.{Files}
-use Rattle.camp_prim.specs.Applied.{applied}
-use Rattle.camp_prim.specs.Swaps.{path_of}
+use Rattle.camp_repo.proofs.Common.{◌≡◌, Bool, true, false, cond, List, [], ◌∷◌, Option, None, Some, Result, Ok, Err, refl, sym, ap, ◌∙◌, empty, option_and_then, Files, applied, path_of, Primitive, Catch, LeadsTo, AppliesEach, Refusal, changed, has_long_file, led_to, then_from}
 use Rattle.camp_prim.specs.declared.named.Named.{Named}
-use Rattle.camp_prim.specs.declared.primitives.Primitive.{Primitive}
 use Rattle.camp_prim.proofs.Applied.{Applies-from_applied, applied-from_Applies}
 use Rattle.camp_seq.specs.Running.{AppliesAll}
-use Rattle.camp_catch.specs.declared.catches.Catch.{Catch}
-use Rattle.camp_branch.specs.Branches.{LeadsTo}
-use Rattle.camp_branch.specs.Laws.{AppliesEach}
 use Rattle.camp_branch.proofs.BranchTrees.{tree_of_effects}
-use Rattle.camp_call.specs.declared.replies.Refusal.{Refusal}
 use Rattle.camp_repo.specs.States.{tree_after, tree_of}
-use Rattle.camp_repo.specs.Steps.{changed, has_long_file, led_to, then_from}
 
 -- what primitives lead to is what the function gives
 pub leads_after : (ps : List Named) (old new : Files) → AppliesAll ps old new → tree_after old ps ≡ Some new

@@ -1,26 +1,19 @@
 -- The calls of a kept history, asked again of a new repository.
 use Rattle.std.proofs.Common.{◌≡◌, ℕ, ◌+◌, ◌≤◌, Bool, true, false, List, [], ◌∷◌, ◌++◌, length, map, Option, None, Some, Ok, bytes_eq}
-use Rattle.std.proofs.Common.{refl, sym, ◌∙◌, ap, arith}
-use Rattle.std.specs.List.{AllByRecursion}
+use Rattle.camp_run.proofs.Common.{refl, sym, ◌∙◌, ap, arith, AllByRecursion, Next, Answer, is_writing, Call, repository_is_lawful, next_of, replies_to, reply_of, repository, state_behind, accepted_from, booked}
 use Rattle.std.specs.Option.{option_and_then, option_map_or}
 use Rattle.std.proofs.lemmas.List.{append-nil, length-map}
 use Rattle.std.proofs.lemmas.List.Sums.{count_by-le-length}
 use Rattle.std.proofs.lemmas.Option.{none-some}
 use Rattle.camp_object.specs.Histories.{replay, run}
-use Rattle.camp_object.specs.declared.objects.Decided.TheVariants.{Next, Answer}
 use Rattle.camp_object.proofs.Replays.{run-none}
-use Rattle.camp_call.specs.Calls.{is_writing}
-use Rattle.camp_call.specs.declared.calls.Call.{Call}
 use Rattle.camp_call.specs.declared.calls.Call.TheVariants as call
 use Rattle.camp_call.specs.declared.replies.Reply.TheVariants as reply
 use Rattle.camp_call.specs.declared.replies.Refusal.{Refusal}
 use Rattle.camp_call.specs.declared.replies.Refusal.TheVariants.{NoBranch, SameBranch}
-use Rattle.camp_repo.specs.ObjectLaws.{repository_is_lawful}
-use Rattle.camp_repo.specs.Objects.{next_of, replies_to, reply_of, repository, state_behind}
 use Rattle.camp_repo.specs.States.{Contents, catches_of, initial}
 use Rattle.camp_repo.specs.Steps.{Decision, refused, refused_if, step}
 use Rattle.camp_run.specs.Keeping.{KeptLeadsBack, SeatZeroStays, at_seat_0, dones}
-use Rattle.camp_run.specs.Serial.{accepted_from, booked}
 use Rattle.camp_script.specs.Canonical.{IsScriptCall, CanBeWritten}
 use Rattle.camp_script.specs.Keeping.{CanStand, ListsNames, calls_of}
 use Rattle.camp_script.proofs.CanonicalCalls.{reads_back}

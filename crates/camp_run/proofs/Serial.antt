@@ -1,25 +1,13 @@
 -- Sections that are asked one after the other of a new book come to what the definitions of a serial run say.
-use Rattle.std.proofs.Common.{◌≡◌, ℕ, ◌+◌, List, [], ◌∷◌, ◌++◌, length, map, Option, None, Some, Result, Ok, Err}
+use Rattle.camp_run.proofs.Common.{◌≡◌, ℕ, ◌+◌, List, [], ◌∷◌, ◌++◌, length, map, Option, None, Some, Result, Ok, Err, option_and_then, append-nil, Fault, Next, Answer, SaysAlone, OneByOne, Section, Call, Reply, repository_is_lawful, Contents, initial, Decision, step}
 use Rattle.std.proofs.Common.{MatchOption, refl, sym, ◌∙◌, ap, subst, append_assoc}
-use Rattle.std.specs.Option.{option_and_then}
-use Rattle.std.proofs.lemmas.List.{append-nil}
 use Rattle.std.proofs.lemmas.Option.{same_Some}
 use Rattle.camp_object.specs.Histories.{IsFront, IsAnswered, IsLegal, replay}
-use Rattle.camp_object.specs.declared.faults.Fault.{Fault}
-use Rattle.camp_object.specs.declared.objects.Decided.TheVariants.{Next, Answer}
 use Rattle.camp_object.proofs.Fronts.{front_front, front_self}
 use Rattle.camp_object.proofs.Replays.{count-replay, legal_front, replay_more}
-use Rattle.camp_clients.specs.Answers.{SaysAlone}
-use Rattle.camp_clients.specs.Runs.{OneByOne}
-use Rattle.camp_clients.specs.Sections.{Section}
 use Rattle.camp_clients.proofs.Single.{locked_is_serial, shared_is_serial}
-use Rattle.camp_call.specs.declared.calls.Call.{Call}
-use Rattle.camp_call.specs.declared.replies.Reply.{Reply}
 use Rattle.camp_call.specs.declared.replies.Reply.TheVariants as reply
-use Rattle.camp_repo.specs.ObjectLaws.{repository_is_lawful}
 use Rattle.camp_repo.specs.Objects.{next_of, number_told, replies_to, reply_of, repository, state_after, state_behind}
-use Rattle.camp_repo.specs.States.{Contents, initial}
-use Rattle.camp_repo.specs.Steps.{Decision, step}
 use Rattle.camp_run.specs.Laws.{LockedSectionIsSerial, SharedSectionIsSerial}
 use Rattle.camp_run.specs.Serial.{IsSerial, accepted_from, booked, history_from, replies_from}
 

@@ -2,16 +2,10 @@
 use Rattle.std.proofs.Common.{ℕ, ◌+◌, ◌<◌, zero, suc, List, [], ◌∷◌, length, get_or, Result, Ok, Err, subst, arith}
 use Rattle.std.specs.List.{All, AllZip}
 use Rattle.std.proofs.lemmas.List.{get_or_default}
-use Rattle.std.proofs.lemmas.List.Elements.{All-cons, All-nil}
-use Rattle.camp_object.specs.declared.faults.Fault.{Fault}
+use Rattle.camp_run.proofs.Common.{All-cons, All-nil, Fault, Call, Reply, Section, repository, HaveTexts}
 use Rattle.camp_object.specs.declared.faults.Fault.TheVariants.{Memory, Busy, Full}
-use Rattle.camp_call.specs.declared.calls.Call.{Call}
-use Rattle.camp_call.specs.declared.replies.Reply.{Reply}
 use Rattle.camp_clients.specs.Answers.{SaysAmongThreads, SaysAlone}
 use Rattle.camp_clients.specs.Runs.{IsLocked, IsShared, OneByOne, SaysSomewhere}
-use Rattle.camp_clients.specs.Sections.{Section}
-use Rattle.camp_repo.specs.Objects.{repository}
-use Rattle.camp_script.specs.Outputs.{HaveTexts}
 use Rattle.camp_script.specs.Texts.{HasText}
 
 abbrev Entries : Type 0

@@ -1,14 +1,7 @@
 -- What is prepared and then written is what a run answers.
 use Rattle.std.proofs.Common.{◌≡◌, ℕ, ◌≤◌, Bool, List, [], ◌∷◌, Option, Result, Ok, Err, MatchResult, Vec}
-use Rattle.std.proofs.Common.{ap, count_by, subst, sym, ◌∙◌}
+use Rattle.camp_run.proofs.Common.{ap, count_by, subst, sym, ◌∙◌, All, AllByRecursion, All-cons, All-nil, Fault, is_writing, Call, Reply, lists_of}
 use Rattle.std.specs.Io.KnownBytes.{Appends}
-use Rattle.std.specs.List.{All, AllByRecursion}
-use Rattle.std.proofs.lemmas.List.Elements.{All-cons, All-nil}
-use Rattle.camp_object.specs.declared.faults.Fault.{Fault}
-use Rattle.camp_call.specs.Calls.{is_writing}
-use Rattle.camp_call.specs.declared.calls.Call.{Call}
-use Rattle.camp_call.specs.declared.replies.Reply.{Reply}
-use Rattle.camp_clients.specs.Runs.{lists_of}
 use Rattle.camp_script.specs.Outputs.{output_text}
 use Rattle.camp_script.specs.Writing.{AppendsFront}
 use Rattle.camp_run.specs.Inputs.{ReadsAs}

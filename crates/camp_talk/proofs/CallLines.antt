@@ -1,17 +1,11 @@
 -- The call of a command, in its bytes.
-use Rattle.std.proofs.Common.{◌≡◌, ℕ, zero, suc, ◌+◌, ◌-◌, ◌≤◌, Bool, true, false, cond, ◌==◌, List, [], ◌∷◌, length, drop, codes}
+use Rattle.camp_talk.proofs.Common.{◌≡◌, ℕ, zero, suc, ◌+◌, ◌-◌, ◌≤◌, Bool, true, false, cond, ◌==◌, List, [], ◌∷◌, length, drop, codes, onto_first, position_or_len, is_blank, lines_of, words_of, begins_with, script_of, script_of_lines, lines-feed, lines-other, first_of}
 use Rattle.std.proofs.Common.{refl, sym, ap, ◌∙◌, arith, ⊎_elim, length-drop}
-use Rattle.std.specs.List.{onto_first, position_or_len}
 use Rattle.std.proofs.lemmas.Bool.{cases_Bool}
 use Rattle.std.proofs.lemmas.List.{drop-drop}
 use Rattle.std.proofs.lemmas.List.Sums.{prefix_len-le-length}
 use Rattle.std.proofs.Math.Seq.{drop-nil}
 use Rattle.camp_script.specs.Behind.{behind_blanks, behind_word}
-use Rattle.camp_script.specs.Lines.{is_blank, lines_of, words_of}
-use Rattle.camp_script.specs.Pieces.{begins_with}
-use Rattle.camp_script.specs.Reading.{script_of, script_of_lines}
-use Rattle.camp_script.proofs.LineLemmas.{lines-feed, lines-other}
-use Rattle.camp_talk.specs.Asking.{first_of}
 use Rattle.camp_talk.specs.Cutting.{call_line, call_lines, script_in}
 
 -- ---- the call of a line is its back

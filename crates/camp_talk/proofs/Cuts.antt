@@ -1,14 +1,7 @@
 -- Lines, and what a body and a group take of them.
-use Rattle.std.proofs.Common.{◌≡◌, ◌≢◌, ℕ, Bool, true, false, cond, List, [], ◌∷◌, ◌++◌, length, drop, not}
-use Rattle.std.proofs.Common.{refl, sym, ap, ◌∙◌, append_assoc, append-nil, ne_eqb}
-use Rattle.std.specs.List.{All, flat_map, onto_first}
-use Rattle.std.proofs.Math.Seq.{drop-append_seam}
-use Rattle.std.proofs.lemmas.List.Elements.{All-head, All-tail}
-use Rattle.camp_script.specs.Lines.{lines_of, words_of}
+use Rattle.camp_talk.proofs.Common.{◌≡◌, ◌≢◌, ℕ, Bool, true, false, cond, List, [], ◌∷◌, ◌++◌, length, drop, not, refl, sym, ap, ◌∙◌, append_assoc, append-nil, ne_eqb, All, flat_map, onto_first, drop-append_seam, All-head, All-tail, lines_of, words_of, lines-feed, lines-other, IsLine, ended, with_last}
 use Rattle.camp_script.specs.Pieces.{Piece, begins_edit, pieces, up_to}
-use Rattle.camp_script.proofs.LineLemmas.{lines-feed, lines-other}
 use Rattle.camp_talk.specs.Cutting.{body_of, ends_body, ends_group, entries_of, entry_lines, group_of}
-use Rattle.camp_talk.specs.Inside.Parts.{IsLine, ended, with_last}
 
 -- ---- the lines of bytes
 

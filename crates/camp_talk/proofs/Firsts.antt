@@ -1,16 +1,11 @@
 -- A command that was read is one: by its first line, and what that takes with it.
-use Rattle.std.proofs.Common.{◌≡◌, ℕ, Bool, true, false, List, [], ◌∷◌, ◌++◌, length, map, Option, Result, Ok, Err, refl, sym, ap, subst, ◌∙◌, arith}
-use Rattle.camp_call.specs.declared.calls.Call.{Call}
-use Rattle.camp_script.specs.Lines.{lines_of}
-use Rattle.camp_script.specs.Reading.{script_of_lines}
+use Rattle.camp_talk.proofs.Common.{◌≡◌, ℕ, Bool, true, false, List, [], ◌∷◌, ◌++◌, length, map, Option, Result, Ok, Err, refl, sym, ap, subst, ◌∙◌, arith, Call, lines_of, script_of_lines, LineFault, Ends, ReadsHeld, ReadsLine, ReadsLines, ReadsPart, ended, last_part, with_last}
 use Rattle.camp_script.specs.declared.faults.FaultKind.{FaultKind}
 use Rattle.camp_script.specs.declared.faults.FaultKind.TheVariants.{UnknownCommand, WrongNumberOfWords, BadName}
 use Rattle.camp_script.specs.declared.faults.FaultKind.TheVariants.{BadPath, BadNumber, BadLine, BadEdit}
 use Rattle.camp_script.specs.declared.faults.FaultKind.TheVariants.{EditNotEnded, TooManyClients, TooManyCommands}
 use Rattle.camp_script.specs.declared.faults.FaultKind.TheVariants.{BadGroup, GroupNotEnded}
-use Rattle.camp_script.specs.declared.faults.LineFault.{LineFault}
 use Rattle.camp_talk.specs.Cutting.{TakesAll, as_read, call_line, script_in, taken, taken_at, taken_by}
-use Rattle.camp_talk.specs.Inside.Parts.{Ends, ReadsHeld, ReadsLine, ReadsLines, ReadsPart, ended, last_part, with_last}
 use Rattle.camp_talk.proofs.Cuts.{EndsWithLine, ends_with_line}
 use Rattle.camp_talk.proofs.Parts.{behind, ends_behind, lines_are_read, lines_held, none_left}
 

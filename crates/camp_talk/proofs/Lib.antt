@@ -1,3 +1,4 @@
+mod Common
 pub mod CallLines
 pub mod CountLemmas
 pub mod Cuts

@@ -1,19 +1,12 @@
 -- A line is read, part by part, and as much of it is held as is read.
-use Rattle.std.proofs.Common.{◌≡◌, ◌≢◌, ℕ, zero, suc, ◌+◌, ◌-◌, ◌<◌, ◌≤◌, min, Bool, true, false, cond, ◌==◌, nat_lt, List, [], ◌∷◌, ◌++◌, length, take, drop}
+use Rattle.camp_talk.proofs.Common.{◌≡◌, ◌≢◌, ℕ, zero, suc, ◌+◌, ◌-◌, ◌<◌, ◌≤◌, min, Bool, true, false, cond, ◌==◌, nat_lt, List, [], ◌∷◌, ◌++◌, length, take, drop, position_or_len, Consumes, Consumes-trans, drop-append_seam, take-append_seam, All-append, All-cons, All-nil, as_read, Seen}
 use Rattle.std.proofs.Common.{Option, refl, sym, ap, subst, ◌∙◌, append_assoc, append-nil, arith, take_all, take-take, length-append, length-take-le, eqb-true, eq-eqb, true≢false, zero-le}
-use Rattle.std.specs.List.{position_or_len}
-use Rattle.std.specs.Io.KnownBytes.{Consumes}
-use Rattle.std.proofs.KnownBytes.{Consumes-trans}
-use Rattle.std.proofs.Math.Seq.{drop-append_seam, take-append_seam}
 use Rattle.std.proofs.lemmas.Bool.Decides.{nat_tests}
 use Rattle.std.proofs.lemmas.List.{take_more}
-use Rattle.std.proofs.lemmas.List.Elements.{All-append, All-cons, All-nil}
 use Rattle.std.proofs.lemmas.List.Sums.{passes_at_first}
 use Rattle.std.specs.Prelude.{slice_set, not}
-use Rattle.camp_talk.specs.Cutting.{as_read}
 use Rattle.camp_talk.proofs.Parts.{ends_behind}
 use Rattle.camp_talk.specs.Inside.Parts.{Ends, EndsAt, IsLine, ReadsLine, Takes, feed_of, ended, seen_of}
-use Rattle.camp_talk.specs.declared.lines.Seen.{Seen}
 use Rattle.camp_talk.specs.declared.lines.Seen.TheVariants as seen
 
 is_less : (a b : ℕ) → nat_lt a b ≡ true → a < b

@@ -1,26 +1,11 @@
 -- Commands that are loaded, one behind another.
-use Rattle.std.proofs.Common.{◌≡◌, ◌⊎◌, inl, inr, ℕ, ◌+◌, Bool, true, false, List, [], ◌∷◌, ◌++◌, Option, Result, Ok, Err}
-use Rattle.std.proofs.Common.{refl, sym, ap, subst, ◌∙◌, append-nil, true≢false}
-use Rattle.std.specs.List.{flat_map}
-use Rattle.std.specs.Io.KnownBytes.{Consumes}
-use Rattle.std.proofs.KnownBytes.{Consumes-nil, Consumes-trans}
-use Rattle.std.proofs.lemmas.Grind.{flat_map-append}
-use Rattle.std.proofs.lemmas.List.Elements.{All-append, All-cons, All-nil}
-use Rattle.camp_call.specs.declared.calls.Call.{Call}
+use Rattle.camp_talk.proofs.Common.{◌≡◌, ◌⊎◌, inl, inr, ℕ, ◌+◌, Bool, true, false, List, [], ◌∷◌, ◌++◌, Option, Result, Ok, Err, refl, sym, ap, subst, ◌∙◌, append-nil, true≢false, flat_map, Consumes, Consumes-nil, Consumes-trans, flat_map-append, All-append, All-cons, All-nil, Call, reply_text, LineFault, Answers, Standing, Tells, TellsWant, asked_by, IsCommand, IsLeft, Entries, Exchange, Asked}
 use Rattle.camp_call.specs.declared.replies.Reply.{Reply}
 use Rattle.camp_call.specs.declared.replies.Reply.TheVariants as reply
 use Rattle.camp_object.specs.Asking.{Ask, alone_at}
 use Rattle.camp_repo.specs.Objects.{repository}
-use Rattle.camp_script.specs.Texts.{reply_text}
-use Rattle.camp_script.specs.declared.faults.LineFault.{LineFault}
-use Rattle.camp_talk.specs.Answers.{Answers, Standing, Tells, TellsWant}
-use Rattle.camp_talk.specs.Asking.{asked_by}
-use Rattle.camp_talk.specs.Cutting.{IsCommand, IsLeft}
-use Rattle.camp_talk.specs.Entries.{Entries}
 use Rattle.camp_talk.specs.Inside.Hearing.{DoesOne, Hears, LoadsOne}
 use Rattle.camp_talk.specs.Loads.{Done, Fails, TellsSuccess, tells_failure}
-use Rattle.camp_talk.specs.Talks.{Exchange}
-use Rattle.camp_talk.specs.declared.questions.Asked.{Asked}
 use Rattle.camp_talk.specs.declared.questions.Asked.TheVariants as asked
 use Rattle.camp_talk.proofs.Turns.{one_more}
 

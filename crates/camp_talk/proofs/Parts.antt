@@ -1,19 +1,10 @@
 -- What is read of a command, part behind part.
-use Rattle.std.proofs.Common.{◌≡◌, ◌≢◌, ℕ, ◌-◌, Bool, true, false, cond, nat_lt, List, [], ◌∷◌, ◌++◌, length, map, take, drop, codes}
+use Rattle.camp_talk.proofs.Common.{◌≡◌, ◌≢◌, ℕ, ◌-◌, Bool, true, false, cond, nat_lt, List, [], ◌∷◌, ◌++◌, length, map, take, drop, codes, All, Consumes, Consumes-nil, Consumes-trans, drop-append_seam, take-append_seam, flat_map-append, lines_of, words_of, begins_edit, begins_with, Part, More, Whole, Cut}
 use Rattle.std.proofs.Common.{Option, None, Some, refl, sym, ap, subst, ◌∙◌, append_assoc, append-nil, arith, length-append}
-use Rattle.std.specs.List.{All}
-use Rattle.std.specs.Io.KnownBytes.{Consumes}
-use Rattle.std.proofs.KnownBytes.{Consumes-nil, Consumes-trans}
-use Rattle.std.proofs.Math.Seq.{drop-append_seam, take-append_seam}
-use Rattle.std.proofs.lemmas.Grind.{flat_map-append}
 use Rattle.std.proofs.lemmas.List.{map-append}
 use Rattle.std.proofs.lemmas.List.Elements.{All-append, All-cons, All-drop, All-head, All-nil, All-tail, All-take}
-use Rattle.camp_script.specs.Lines.{lines_of, words_of}
-use Rattle.camp_script.specs.Pieces.{begins_edit, begins_with}
 use Rattle.camp_talk.specs.Cutting.{as_read, body_of, ends_body, entries_of, group_of, lines_in}
 use Rattle.camp_talk.specs.Inside.Parts.{Ends, IsLine, ReadsLine, ReadsLines, ReadsPart, Uses, ended, entry_part, with_last}
-use Rattle.camp_talk.specs.declared.commands.Part.{Part}
-use Rattle.camp_talk.specs.declared.commands.Part.TheVariants.{More, Whole, Cut}
 use Rattle.camp_talk.proofs.Cuts.{body_ends, body_goes, body_left, entry_alone, entry_with, group_ends, group_goes, group_left, lines_read, with_last-append}
 
 -- ---- lines as they are read

@@ -1,9 +1,7 @@
 -- The first words of a question say all that it asks, where it lists no names.
-use Rattle.std.proofs.Common.{◌≡◌, false, ℕ, List, [], ◌∷◌, take, refl, sym, ap, subst, ◌∙◌}
+use Rattle.camp_talk.proofs.Common.{◌≡◌, false, ℕ, List, [], ◌∷◌, take, refl, sym, ap, subst, ◌∙◌, Gives, ScriptFault}
 use Rattle.std.proofs.lemmas.Bool.{cond-false}
 use Rattle.std.specs.Prelude.{Option, Result, bytes_eq, codes}
-use Rattle.camp_script.specs.Gives.{Gives}
-use Rattle.camp_script.specs.declared.faults.ScriptFault.{ScriptFault}
 use Rattle.camp_talk.specs.Asking.{question_of, short_question}
 use Rattle.camp_talk.specs.declared.questions.Question.{Question}
 

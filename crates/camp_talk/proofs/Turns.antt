@@ -1,22 +1,10 @@
 -- Turns of a conversation, one behind another.
 use Rattle.std.proofs.Common.{◌≡◌, ◌⊎◌, inl, inr, ℕ, ◌+◌, Bool, true, false, List, [], ◌∷◌, ◌++◌, length, Option, Result, Ok, Err, Vec, IfOk, OnErr}
-use Rattle.std.proofs.Common.{refl, sym, ap, subst, ◌∙◌, append-nil}
-use Rattle.std.specs.List.{flat_map}
+use Rattle.camp_talk.proofs.Common.{refl, sym, ap, subst, ◌∙◌, append-nil, flat_map, flat_map-append, Gives, lines_of, LineFault, ScriptFault, Answers, Standing, Tells, TellsWant, asked_by, IsCommand, IsLeft, Entries, said_text, Asked}
 use Rattle.std.specs.Io.KnownBytes.{Appends, Consumes}
 use Rattle.std.proofs.KnownBytes.{Appends-nil, Appends-trans, Consumes-nil, Consumes-trans, Keeps-refl}
-use Rattle.std.proofs.lemmas.Grind.{flat_map-append}
-use Rattle.camp_script.specs.Gives.{Gives}
-use Rattle.camp_script.specs.Lines.{lines_of}
-use Rattle.camp_script.specs.declared.faults.LineFault.{LineFault}
-use Rattle.camp_script.specs.declared.faults.ScriptFault.{ScriptFault}
-use Rattle.camp_talk.specs.Answers.{Answers, Standing, Tells, TellsWant}
-use Rattle.camp_talk.specs.Asking.{asked_by}
-use Rattle.camp_talk.specs.Cutting.{IsCommand, IsLeft}
-use Rattle.camp_talk.specs.Entries.{Entries}
 use Rattle.camp_talk.specs.Inside.Parts.{ReadsCommand}
-use Rattle.camp_talk.specs.Inside.Said.{said_text}
 use Rattle.camp_talk.specs.Talks.{AppendsSome, EndsSo, Exchange, Follow, Holds, Stops, Turns}
-use Rattle.camp_talk.specs.declared.questions.Asked.{Asked}
 use Rattle.camp_talk.specs.declared.faults.TalkFault.{TalkFault}
 use Rattle.camp_talk.specs.declared.faults.TalkFault.TheVariants.{Memory, Read, Write}
 

@@ -1,8 +1,4 @@
-use Rattle.std.proofs.Common.{List, ◌∙◌, refl, sym, ap, subst}
-use Rattle.std.specs.FinMap.{get}
-use Rattle.camp_catch.specs.declared.catches.Catch.{Catch}
-use Rattle.camp_branch.specs.Branches.{LeadsTo}
-use Rattle.camp_questions.specs.Annotations.{AreAnnotated, annotated, names_of_lines}
+use Rattle.camp_questions.proofs.Common.{List, ◌∙◌, refl, sym, ap, subst, get, Catch, LeadsTo, AreAnnotated, annotated, names_of_lines}
 use Rattle.camp_questions.specs.declared.annotations.Annotated.TheVariants.{File}
 use Rattle.camp_questions.proofs.Answering.{are_annotated, memory_told}
 use Rattle.camp_questions.proofs.annotations.annotate.Goals as goal

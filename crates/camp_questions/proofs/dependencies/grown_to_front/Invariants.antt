@@ -1,7 +1,4 @@
-use Rattle.std.proofs.Common.{length, map}
-use Rattle.camp_branch.specs.Branches.{name_of}
-use Rattle.camp_branch.specs.Fields.{names_in}
-use Rattle.camp_questions.specs.Dependencies.{ComeToFront, StickOn}
+use Rattle.camp_questions.proofs.Common.{length, map, name_of, names_in, ComeToFront, StickOn}
 use Rattle.camp_questions.proofs.Growing.{IsGrownSoFar}
 use Rattle.camp_questions.proofs.Growths.{left_of}
 use Rattle.camp_questions.proofs.dependencies.grown_to_front.Given as goal

@@ -1,12 +1,5 @@
-use Rattle.std.proofs.Common.{List, map, subst, Err}
-use Rattle.std.specs.Cmp.Lexicographic.{slice_cmp}
-use Rattle.std.specs.Ordering.{nat_cmp}
-use Rattle.camp_share.specs.Maps.{map_of}
-use Rattle.camp_catch.specs.declared.catches.Catch.{Catch}
-use Rattle.camp_branch.specs.Branches.{name_of}
-use Rattle.camp_branch.specs.Fields.{names_in}
+use Rattle.camp_questions.proofs.Common.{List, map, subst, Err, slice_cmp, nat_cmp, map_of, Catch, name_of, names_in, AreHeldIn, CanGo}
 use Rattle.camp_branch.specs.Obliterating.{ObliterateGives}
-use Rattle.camp_questions.specs.Dependencies.{AreHeldIn, CanGo}
 use Rattle.camp_questions.proofs.BranchGrowths.{to_go}
 use Rattle.camp_questions.proofs.Growing.{all_grown, fewer_to_come, one_grown}
 use Rattle.camp_questions.proofs.dependencies.grown_to_go.Goals as goal

@@ -1,11 +1,4 @@
-use Rattle.std.proofs.Common.{rules, ◌∙◌, ap, filter}
-use Rattle.std.proofs.lemmas.Fn.{filter_same}
-use Rattle.std.specs.Cmp.Lexicographic.{slice_cmp}
-use Rattle.std.specs.FinMap.{contains_key}
-use Rattle.std.specs.Ordering.{nat_cmp}
-use Rattle.camp_share.specs.Maps.{map_of}
-use Rattle.camp_branch.proofs.NameSets.{has_listed}
-use Rattle.camp_branch.specs.Branches.{names_of}
+use Rattle.camp_questions.proofs.Common.{rules, ◌∙◌, ap, filter, filter_same, slice_cmp, contains_key, nat_cmp, map_of, has_listed, names_of}
 use Rattle.camp_questions.proofs.dependencies.in_order.Goals as goal
 
 pub returns : goal.returns

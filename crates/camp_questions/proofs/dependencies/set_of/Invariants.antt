@@ -1,9 +1,5 @@
-use Rattle.std.proofs.Common.{drop}
-use Rattle.std.specs.Cmp.Lexicographic.{slice_cmp}
-use Rattle.std.specs.Ordering.{nat_cmp}
-use Rattle.camp_share.specs.Maps.{map_of}
+use Rattle.camp_questions.proofs.Common.{drop, slice_cmp, nat_cmp, map_of, is_among}
 use Rattle.camp_repo.proofs.NameSteps.{IsFilled}
-use Rattle.camp_branch.specs.Branches.{is_among}
 use Rattle.camp_questions.proofs.dependencies.set_of.Given as goal
 
 abbrev pub invariant-loop-name : goal.invariant-loop-name

@@ -1,7 +1,4 @@
-use Rattle.std.proofs.Common.{rules, ◌∙◌, ap, filter, not, refl, ℕ, Bool, List}
-use Rattle.std.proofs.lemmas.Fn.{filter_same}
-use Rattle.camp_branch.specs.Branches.{has_patch}
-use Rattle.camp_questions.specs.Differences.{IsMissing, missing_in}
+use Rattle.camp_questions.proofs.Common.{rules, ◌∙◌, ap, filter, not, refl, ℕ, Bool, List, filter_same, has_patch, IsMissing, missing_in}
 use Rattle.camp_questions.proofs.Answering.{memory_told}
 use Rattle.camp_questions.proofs.MissingNames.{are_missing}
 use Rattle.camp_questions.proofs.differences.missing.Goals as goal

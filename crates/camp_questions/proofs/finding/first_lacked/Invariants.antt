@@ -1,5 +1,4 @@
-use Rattle.std.proofs.Common.{◌≡◌, drop}
-use Rattle.camp_repo.specs.Steps.{first_lacked}
+use Rattle.camp_questions.proofs.Common.{◌≡◌, drop, first_lacked}
 use Rattle.camp_questions.proofs.finding.first_lacked.Given as goal
 
 abbrev pub invariant-loop-name : goal.invariant-loop-name

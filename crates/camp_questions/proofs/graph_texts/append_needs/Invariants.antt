@@ -1,6 +1,5 @@
-use Rattle.std.proofs.Common.{◌≡◌, ◌++◌, take, string_bytes}
+use Rattle.camp_questions.proofs.Common.{◌≡◌, ◌++◌, take, string_bytes, flat_map}
 use Rattle.std.specs.Prelude.{codes}
-use Rattle.std.specs.List.{flat_map}
 use Rattle.camp_questions.specs.GraphTexts.{arrow_text}
 use Rattle.camp_questions.proofs.graph_texts.append_needs.Given as goal
 

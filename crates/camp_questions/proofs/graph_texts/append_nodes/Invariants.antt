@@ -1,5 +1,4 @@
-use Rattle.std.proofs.Common.{◌≡◌, ◌++◌, take, string_bytes}
-use Rattle.std.specs.List.{flat_map}
+use Rattle.camp_questions.proofs.Common.{◌≡◌, ◌++◌, take, string_bytes, flat_map}
 use Rattle.camp_questions.specs.GraphTexts.{node_text}
 use Rattle.camp_questions.proofs.graph_texts.append_nodes.Given as goal
 

@@ -1,5 +1,4 @@
-use Rattle.std.proofs.Common.{take}
-use Rattle.camp_questions.specs.Inside.Graphing.{NeedEach}
+use Rattle.camp_questions.proofs.Common.{take, NeedEach}
 use Rattle.camp_questions.proofs.graphs.all_needed.Given as goal
 
 abbrev pub invariant-loop-name : goal.invariant-loop-name

@@ -1,7 +1,4 @@
-use Rattle.std.proofs.Common.{rules, ◌∙◌, not, sym}
-use Rattle.std.proofs.lemmas.Fn.{filter_same}
-use Rattle.camp_questions.specs.Graphs.{needs_other}
-use Rattle.camp_questions.specs.Inside.Graphing.{needing}
+use Rattle.camp_questions.proofs.Common.{rules, ◌∙◌, not, sym, filter_same, needs_other, needing}
 use Rattle.camp_questions.proofs.GraphSteps.{left_out, none_left_out}
 use Rattle.camp_questions.proofs.graphs.leave_out.Goals as goal
 

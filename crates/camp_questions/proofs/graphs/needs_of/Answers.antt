@@ -1,8 +1,4 @@
-use Rattle.std.proofs.Common.{List, ◌∙◌, ap, map, subst}
-use Rattle.camp_catch.specs.declared.catches.Catch.{Catch}
-use Rattle.camp_branch.specs.Branches.{is_among, name_of}
-use Rattle.camp_branch.specs.Fields.{names_in}
-use Rattle.camp_questions.specs.Dependencies.{ComeToFront, Needs, StickOn}
+use Rattle.camp_questions.proofs.Common.{List, ◌∙◌, ap, map, subst, Catch, is_among, name_of, names_in, ComeToFront, Needs, StickOn}
 use Rattle.camp_questions.proofs.BranchGrowths.{to_front}
 use Rattle.camp_questions.proofs.Growing.{grown_in_order}
 use Rattle.camp_questions.proofs.graphs.needs_of.Goals as goal

@@ -1,10 +1,4 @@
-use Rattle.std.proofs.Common.{◌∙◌, ◌&&◌, ap, sym}
-use Rattle.std.specs.Cmp.Lexicographic.{slice_cmp}
-use Rattle.std.specs.FinMap.{keys}
-use Rattle.std.specs.Ordering.{nat_cmp}
-use Rattle.camp_share.specs.Maps.{map_of}
-use Rattle.camp_branch.specs.Branches.{is_among}
-use Rattle.camp_branch.proofs.NameSets.{has_listed}
+use Rattle.camp_questions.proofs.Common.{◌∙◌, ◌&&◌, ap, sym, slice_cmp, keys, nat_cmp, map_of, is_among, has_listed}
 use Rattle.camp_questions.proofs.graphs.needs_other.Goals as goal
 
 pub returns-then-ne : goal.returns-then-ne

@@ -1,8 +1,4 @@
-use Rattle.std.proofs.Common.{rules, ◌≡◌, ◌-◌, ◌∙◌, ap, arith, drop, filter, length, map, refl}
-use Rattle.std.proofs.lemmas.Fn.{filter_same}
-use Rattle.camp_branch.specs.Branches.{names_of}
-use Rattle.camp_questions.specs.Graphs.{needs_other}
-use Rattle.camp_questions.specs.Inside.Graphing.{needing}
+use Rattle.camp_questions.proofs.Common.{rules, ◌≡◌, ◌-◌, ◌∙◌, ap, arith, drop, filter, length, map, refl, filter_same, names_of, needs_other, needing}
 use Rattle.camp_questions.proofs.GraphSteps.{left_at_first, needs_past, one_left_out}
 use Rattle.camp_questions.proofs.graphs.node_of.Goals as goal
 

@@ -1,6 +1,4 @@
-use Rattle.std.proofs.Common.{◌≡◌, ◌≤◌, drop, filter, length, map}
-use Rattle.camp_branch.specs.Branches.{names_of}
-use Rattle.camp_questions.specs.Inside.Graphing.{needing}
+use Rattle.camp_questions.proofs.Common.{◌≡◌, ◌≤◌, drop, filter, length, map, names_of, needing}
 use Rattle.camp_questions.proofs.GraphSteps.{needs_past}
 use Rattle.camp_questions.proofs.graphs.node_of.Given as goal
 

@@ -1,6 +1,4 @@
-use Rattle.std.proofs.Common.{◌≡◌, map, take}
-use Rattle.camp_questions.specs.Graphs.{node_of}
-use Rattle.camp_questions.specs.Inside.Graphing.{needing}
+use Rattle.camp_questions.proofs.Common.{◌≡◌, map, take, node_of, needing}
 use Rattle.camp_questions.proofs.graphs.nodes.Given as goal
 
 abbrev pub invariant-loop-patch : goal.invariant-loop-patch

@@ -1,5 +1,4 @@
-use Rattle.std.proofs.Common.{◌≡◌, [], ◌∷◌, ◌++◌}
-use Rattle.camp_repo.specs.Steps.{catches_named}
+use Rattle.camp_questions.proofs.Common.{◌≡◌, [], ◌∷◌, ◌++◌, catches_named}
 use Rattle.camp_questions.proofs.showing.catches_named.Given as goal
 
 abbrev pub invariant-loop-catch : goal.invariant-loop-catch

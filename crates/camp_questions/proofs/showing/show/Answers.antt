@@ -1,7 +1,4 @@
-use Rattle.std.proofs.Common.{List, [], ◌∷◌, ◌∙◌, ap, refl}
-use Rattle.camp_catch.specs.declared.catches.Catch.{Catch}
-use Rattle.camp_repo.specs.Steps.{catches_named}
-use Rattle.camp_questions.specs.Showing.{IsShown, changes_of, patch_in}
+use Rattle.camp_questions.proofs.Common.{List, [], ◌∷◌, ◌∙◌, ap, refl, Catch, catches_named, IsShown, changes_of, patch_in}
 use Rattle.camp_questions.proofs.Answering.{is_shown, memory_told}
 use Rattle.camp_questions.proofs.showing.show.Goals as goal
 

@@ -1,7 +1,4 @@
-use Rattle.std.proofs.Common.{◌∙◌, ap, subst}
-use Rattle.camp_catch.specs.Catches.{effect_of}
-use Rattle.camp_branch.specs.Branches.{name_of}
-use Rattle.camp_questions.specs.Inside.Walking.{known_in}
+use Rattle.camp_questions.proofs.Common.{◌∙◌, ap, subst, effect_of, name_of, known_in}
 use Rattle.camp_questions.proofs.LineNames.{IsAlong, ends_along, follows_next, one_along, starts_along}
 use Rattle.camp_questions.proofs.walks.names_of_lines.Goals as goal
 

@@ -1,11 +1,4 @@
-use Rattle.std.proofs.Common.{ap, arith, ◌∙◌, drop, length, sym}
-use Rattle.std.specs.Cmp.Lexicographic.{slice_cmp}
-use Rattle.std.specs.FinMap.{contains_key}
-use Rattle.std.specs.Ordering.{nat_cmp}
-use Rattle.camp_share.specs.Maps.{map_of}
-use Rattle.camp_branch.specs.Branches.{name_of}
-use Rattle.camp_branch.specs.Fields.{names_in}
-use Rattle.camp_branch.proofs.NameSets.{has_listed}
+use Rattle.camp_repo.proofs.Common.{ap, arith, ◌∙◌, drop, length, sym, slice_cmp, contains_key, nat_cmp, map_of, name_of, names_in, has_listed}
 use Rattle.camp_repo.proofs.NameSteps.{count_fits, counted, few_dropped, passed_over}
 use Rattle.camp_repo.proofs.name_lists.count_behind.Goals as goal
 

@@ -1,6 +1,4 @@
-use Rattle.std.proofs.Common.{◌≡◌, ◌+◌, drop, length}
-use Rattle.camp_branch.specs.Fields.{names_in}
-use Rattle.camp_repo.specs.Steps.{catches_named}
+use Rattle.camp_repo.proofs.Common.{◌≡◌, ◌+◌, drop, length, names_in, catches_named}
 use Rattle.camp_repo.proofs.name_lists.count_behind.Given as goal
 
 abbrev pub invariant-loop-catch : goal.invariant-loop-catch

@@ -1,5 +1,4 @@
-use Rattle.std.proofs.Common.{◌∙◌, ap, sym}
-use Rattle.camp_repo.specs.Steps.{first_lacked, listed}
+use Rattle.camp_repo.proofs.Common.{◌∙◌, ap, sym, first_lacked, listed}
 use Rattle.camp_repo.proofs.NameSteps.{none_lacked}
 use Rattle.camp_repo.proofs.name_lists.first_lacked.Goals as goal
 

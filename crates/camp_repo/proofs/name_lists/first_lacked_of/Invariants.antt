@@ -1,5 +1,4 @@
-use Rattle.std.proofs.Common.{◌≡◌, drop}
-use Rattle.camp_repo.specs.Steps.{first_lacked}
+use Rattle.camp_repo.proofs.Common.{◌≡◌, drop, first_lacked}
 use Rattle.camp_repo.proofs.name_lists.first_lacked_of.Given as goal
 
 abbrev pub invariant-loop-name : goal.invariant-loop-name

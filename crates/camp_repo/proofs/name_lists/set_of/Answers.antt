@@ -1,9 +1,4 @@
-use Rattle.std.proofs.Common.{arith, drop, length, ◌≤◌}
-use Rattle.std.proofs.Math.ListN.{drop_of_length-le}
-use Rattle.std.specs.Cmp.Lexicographic.{slice_cmp}
-use Rattle.std.specs.Ordering.{nat_cmp}
-use Rattle.camp_share.specs.Maps.{map_of}
-use Rattle.camp_branch.specs.Branches.{is_among}
+use Rattle.camp_repo.proofs.Common.{arith, drop, length, ◌≤◌, drop_of_length-le, slice_cmp, nat_cmp, map_of, is_among}
 use Rattle.camp_repo.proofs.NameSteps.{all_filled, none_filled, one_listed}
 use Rattle.camp_repo.proofs.name_lists.set_of.Goals as goal
 

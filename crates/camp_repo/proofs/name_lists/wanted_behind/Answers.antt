@@ -1,9 +1,4 @@
-use Rattle.std.proofs.Common.{ap, ◌∙◌, drop, map, sym, subst}
-use Rattle.std.specs.Cmp.Lexicographic.{slice_cmp}
-use Rattle.std.specs.Ordering.{nat_cmp}
-use Rattle.camp_share.specs.Maps.{map_of}
-use Rattle.camp_branch.specs.Branches.{is_among, name_of}
-use Rattle.camp_repo.specs.Steps.{wanted}
+use Rattle.camp_repo.proofs.Common.{ap, ◌∙◌, drop, map, sym, subst, slice_cmp, nat_cmp, map_of, is_among, name_of, wanted}
 use Rattle.camp_repo.proofs.NameSteps.{IsFilled, all_filled, catch_passed, catch_wanted, none_filled, wanted_behind_fronts}
 use Rattle.camp_repo.proofs.name_lists.wanted_behind.Goals as goal
 

@@ -1,5 +1,4 @@
-use Rattle.std.proofs.Common.{◌≡◌, drop}
-use Rattle.camp_repo.specs.Steps.{changed}
+use Rattle.camp_repo.proofs.Common.{◌≡◌, drop, changed}
 use Rattle.camp_repo.proofs.sizes.changed.Given as goal
 
 abbrev pub invariant-loop-change : goal.invariant-loop-change

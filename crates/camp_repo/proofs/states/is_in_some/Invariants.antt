@@ -1,6 +1,4 @@
-use Rattle.std.proofs.Common.{◌≡◌}
-use Rattle.std.specs.List.{list_any}
-use Rattle.camp_branch.specs.Branches.{has_patch}
+use Rattle.camp_repo.proofs.Common.{◌≡◌, list_any, has_patch}
 use Rattle.camp_repo.proofs.states.is_in_some.Given as goal
 
 abbrev pub invariant-loop-branch : goal.invariant-loop-branch

@@ -1,7 +1,4 @@
-use Rattle.std.proofs.Common.{ap, subst, sym, []}
-use Rattle.camp_clients.specs.Runs.{lists_of}
-use Rattle.camp_script.specs.Outputs.{HaveTexts}
-use Rattle.camp_run.specs.Serial.{IsSerial}
+use Rattle.camp_run.proofs.Common.{ap, subst, sym, [], lists_of, HaveTexts, IsSerial}
 use Rattle.camp_run.proofs.Serial.{serial_run}
 use Rattle.camp_run.proofs.Texts.{serial_texts}
 use Rattle.camp_run.proofs.Written.{prepared}

@@ -1,6 +1,4 @@
-use Rattle.std.proofs.Common.{subst, sym}
-use Rattle.camp_run.specs.Runs.{HasOutput}
-use Rattle.camp_run.specs.Serial.{IsSerial}
+use Rattle.camp_run.proofs.Common.{subst, sym, HasOutput, IsSerial}
 use Rattle.camp_run.proofs.Written.{written}
 use Rattle.camp_run.proofs.books.run_book.Goals as goal
 

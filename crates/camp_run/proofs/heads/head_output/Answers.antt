@@ -1,8 +1,4 @@
-use Rattle.std.proofs.Common.{count_by, subst, sym, ◌≤◌}
-use Rattle.std.specs.List.{AllByRecursion}
-use Rattle.camp_call.specs.Calls.{is_writing}
-use Rattle.camp_clients.specs.Runs.{lists_of}
-use Rattle.camp_script.specs.Outputs.{HaveTexts}
+use Rattle.camp_run.proofs.Common.{count_by, subst, sym, ◌≤◌, AllByRecursion, is_writing, lists_of, HaveTexts}
 use Rattle.camp_run.proofs.Texts.{shared_texts}
 use Rattle.camp_run.proofs.Written.{lent_within}
 use Rattle.camp_run.proofs.heads.head_output.Goals as goal

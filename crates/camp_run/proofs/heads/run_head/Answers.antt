@@ -1,7 +1,4 @@
-use Rattle.std.proofs.Common.{subst, sym}
-use Rattle.camp_clients.specs.Runs.{IsShared}
-use Rattle.camp_repo.specs.Objects.{repository}
-use Rattle.camp_run.specs.Runs.{HasOutput}
+use Rattle.camp_run.proofs.Common.{subst, sym, IsShared, repository, HasOutput}
 use Rattle.camp_run.proofs.Written.{written}
 use Rattle.camp_run.proofs.heads.run_head.Goals as goal
 

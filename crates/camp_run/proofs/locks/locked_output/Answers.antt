@@ -1,6 +1,4 @@
-use Rattle.std.proofs.Common.{subst, sym}
-use Rattle.camp_clients.specs.Runs.{lists_of}
-use Rattle.camp_script.specs.Outputs.{HaveTexts}
+use Rattle.camp_run.proofs.Common.{subst, sym, lists_of, HaveTexts}
 use Rattle.camp_run.proofs.Texts.{locked_texts}
 use Rattle.camp_run.proofs.locks.locked_output.Goals as goal
 

@@ -1,7 +1,4 @@
-use Rattle.std.proofs.Common.{◌≡◌, ℕ, List, length, map, sym, ap, ◌∙◌, arith}
-use Rattle.camp_script.specs.Lines.{lines_of, without_end}
-use Rattle.camp_script.proofs.LineLemmas.{lines_without_end}
-use Rattle.camp_talk.specs.Asking.{first_of}
+use Rattle.camp_talk.proofs.Common.{◌≡◌, ℕ, List, length, map, sym, ap, ◌∙◌, arith, lines_of, without_end, lines_without_end, first_of}
 use Rattle.camp_talk.proofs.CallLines.{first_within}
 use Rattle.camp_talk.proofs.asking.first_line.Goals as goal
 use Rattle.camp_talk.proofs.asking.first_line.Goals.{After-without_end}

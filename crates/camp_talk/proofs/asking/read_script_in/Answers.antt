@@ -1,9 +1,5 @@
-use Rattle.std.proofs.Common.{◌≡◌, ◌-◌, ℕ, List, length, take, drop, ap, subst, ◌∙◌}
+use Rattle.camp_talk.proofs.Common.{◌≡◌, ◌-◌, ℕ, List, length, take, drop, ap, subst, ◌∙◌, Gives, lines_of, script_of, script_in}
 use Rattle.std.proofs.lemmas.List.{take_rest}
-use Rattle.camp_script.specs.Gives.{Gives}
-use Rattle.camp_script.specs.Lines.{lines_of}
-use Rattle.camp_script.specs.Reading.{script_of}
-use Rattle.camp_talk.specs.Cutting.{script_in}
 use Rattle.camp_talk.proofs.CallLines.{script_behind}
 use Rattle.camp_talk.proofs.asking.read_script_in.Goals as goal
 

@@ -1,6 +1,4 @@
-use Rattle.camp_talk.specs.Cutting.{body_of}
-use Rattle.camp_talk.specs.Inside.Parts.{ReadsPart}
-use Rattle.camp_talk.specs.declared.commands.Part.TheVariants.{More}
+use Rattle.camp_talk.proofs.Common.{body_of, ReadsPart, More}
 use Rattle.camp_talk.proofs.commands.read_body.Given as goal
 
 abbrev pub invariant-loop : goal.invariant-loop

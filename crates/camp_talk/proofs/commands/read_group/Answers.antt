@@ -1,8 +1,4 @@
-use Rattle.std.proofs.Common.{rules, subst}
-use Rattle.camp_talk.specs.Cutting.{group_of}
-use Rattle.camp_talk.specs.Inside.Parts.{ReadsPart, Uses}
-use Rattle.camp_talk.specs.declared.commands.Part.{Part}
-use Rattle.camp_talk.specs.declared.commands.Part.TheVariants.{More, Whole, Cut}
+use Rattle.camp_talk.proofs.Common.{rules, subst, group_of, ReadsPart, Uses, Part, More, Whole, Cut}
 use Rattle.camp_talk.proofs.Parts.{none_read, part_behind, part_uses}
 use Rattle.camp_talk.proofs.commands.read_group.Goals as goal
 

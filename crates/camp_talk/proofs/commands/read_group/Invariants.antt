@@ -1,6 +1,4 @@
-use Rattle.camp_talk.specs.Cutting.{group_of}
-use Rattle.camp_talk.specs.Inside.Parts.{ReadsPart}
-use Rattle.camp_talk.specs.declared.commands.Part.TheVariants.{More}
+use Rattle.camp_talk.proofs.Common.{group_of, ReadsPart, More}
 use Rattle.camp_talk.proofs.commands.read_group.Given as goal
 
 abbrev pub invariant-loop : goal.invariant-loop

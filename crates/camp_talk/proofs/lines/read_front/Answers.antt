@@ -1,10 +1,8 @@
 use Rattle.std.proofs.Common.{◌≡◌, ◌-◌, length, take, ap, subst, arith, rules, length-append, length-take}
-use Rattle.camp_talk.specs.Inside.Parts.{Takes, Uses}
-use Rattle.camp_talk.specs.declared.lines.Seen.{Seen}
+use Rattle.camp_talk.proofs.Common.{Takes, Uses, Seen, Consumes-nil}
 use Rattle.camp_talk.specs.declared.lines.Seen.TheVariants.{Part, Line, End}
 use Rattle.camp_talk.proofs.LineReads.{none_taken, taken_behind}
 use Rattle.camp_talk.proofs.Parts.{uses_behind}
-use Rattle.std.proofs.KnownBytes.{Consumes-nil}
 use Rattle.camp_talk.proofs.lines.read_front.Goals as goal
 
 pub loop-init : goal.loop-init

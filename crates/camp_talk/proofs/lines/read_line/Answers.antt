@@ -1,5 +1,4 @@
-use Rattle.std.proofs.Common.{◌≡◌, ◌++◌, Bool, length, take, drop, subst, rules}
-use Rattle.camp_talk.specs.Cutting.{as_read}
+use Rattle.camp_talk.proofs.Common.{◌≡◌, ◌++◌, Bool, length, take, drop, subst, rules, as_read}
 use Rattle.camp_talk.specs.Inside.Parts.{Takes, last_seen}
 use Rattle.camp_talk.proofs.LineReads.{last_line, whole_line}
 use Rattle.camp_talk.proofs.lines.read_line.Goals as goal

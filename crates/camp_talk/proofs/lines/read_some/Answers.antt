@@ -1,11 +1,7 @@
-use Rattle.std.proofs.Common.{◌≡◌, ◌∙◌, ◌==◌, ◌+◌, ◌++◌, ◌≤◌, [], min, length, take, sym, ap, subst, arith}
-use Rattle.std.specs.List.{position_or_len}
-use Rattle.std.specs.Io.KnownBytes.{Consumes}
+use Rattle.camp_talk.proofs.Common.{◌≡◌, ◌∙◌, ◌==◌, ◌+◌, ◌++◌, ◌≤◌, [], min, length, take, sym, ap, subst, arith, position_or_len, Consumes, Takes, feed_of, seen_of, Seen}
 use Rattle.std.specs.Io.BufRead.{FillKeeps}
 use Rattle.std.proofs.KnownBytes.{Consumes-nil, Consumes-kept}
 use Rattle.std.proofs.BufReadLemmas.{Consumes_shown}
-use Rattle.camp_talk.specs.Inside.Parts.{Takes, feed_of, seen_of}
-use Rattle.camp_talk.specs.declared.lines.Seen.{Seen}
 use Rattle.camp_talk.proofs.LineReads.{none_taken, shown_taken, taken_within}
 use Rattle.camp_talk.proofs.lines.read_some.Goals as goal
 

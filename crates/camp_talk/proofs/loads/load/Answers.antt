@@ -1,6 +1,4 @@
-use Rattle.std.proofs.Common.{Bool, Ok, subst}
-use Rattle.camp_talk.specs.Answers.{Standing}
-use Rattle.camp_talk.specs.Inside.Hearing.{LoadsOne}
+use Rattle.camp_talk.proofs.Common.{Bool, Ok, subst, Standing, LoadsOne}
 use Rattle.camp_talk.proofs.Loading.{none_done, one_more_done}
 use Rattle.camp_talk.proofs.loads.load.Goals as goal
 

@@ -1,8 +1,5 @@
-use Rattle.std.proofs.Common.{◌≡◌, true, false, List, ℕ, refl, sym, ap, subst, ◌∙◌}
+use Rattle.camp_talk.proofs.Common.{◌≡◌, true, false, List, ℕ, refl, sym, ap, subst, ◌∙◌, Hears, said_text, tells_failure}
 use Rattle.camp_talk.specs.Answers.{Standing, memory_text}
-use Rattle.camp_talk.specs.Inside.Hearing.{Hears}
-use Rattle.camp_talk.specs.Inside.Said.{said_text}
-use Rattle.camp_talk.specs.Loads.{tells_failure}
 use Rattle.camp_talk.proofs.Loading.{one_done, one_fails}
 use Rattle.camp_talk.proofs.loads.load_one.Goals as goal
 

@@ -1,5 +1,4 @@
-use Rattle.std.proofs.Common.{◌≡◌, false, ap, map, ◌∙◌, codes, rules}
-use Rattle.std.specs.Prelude.{bytes_eq}
+use Rattle.camp_talk.proofs.Common.{◌≡◌, false, ap, map, ◌∙◌, codes, rules, bytes_eq}
 use Rattle.camp_talk.proofs.QuestionWords.{short}
 use Rattle.camp_talk.proofs.question_words.read_question.Goals as goal
 

@@ -1,9 +1,5 @@
-use Rattle.std.proofs.Common.{rules, ◌≡◌, Bool, List, [], ℕ, Ok, Err, sym, subst}
-use Rattle.camp_call.specs.declared.calls.Call.{Call}
+use Rattle.camp_talk.proofs.Common.{rules, ◌≡◌, Bool, List, [], ℕ, Ok, Err, sym, subst, Call, lines_of, script_in, ReadsHeld, ReadsLine, Uses}
 use Rattle.camp_script.specs.Gives.{IsFaultOf}
-use Rattle.camp_script.specs.Lines.{lines_of}
-use Rattle.camp_talk.specs.Cutting.{script_in}
-use Rattle.camp_talk.specs.Inside.Parts.{ReadsHeld, ReadsLine, Uses}
 use Rattle.camp_talk.proofs.Firsts.{first_alone, first_left, first_with}
 use Rattle.camp_talk.proofs.Parts.{uses_behind}
 use Rattle.camp_talk.proofs.readings.read_lines.Goals as goal

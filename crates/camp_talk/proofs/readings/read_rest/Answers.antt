@@ -1,5 +1,4 @@
-use Rattle.std.proofs.Common.{rules, []}
-use Rattle.camp_talk.specs.Inside.Parts.{ReadsLines}
+use Rattle.camp_talk.proofs.Common.{rules, [], ReadsLines}
 use Rattle.camp_talk.proofs.Parts.{no_lines}
 use Rattle.camp_talk.proofs.readings.read_rest.Goals as goal
 

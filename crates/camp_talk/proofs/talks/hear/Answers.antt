@@ -1,10 +1,6 @@
-use Rattle.std.proofs.Common.{◌≡◌, ◌+◌, ℕ, List, length, ap, subst, ◌∙◌, arith}
+use Rattle.camp_talk.proofs.Common.{◌≡◌, ◌+◌, ℕ, List, length, ap, subst, ◌∙◌, arith, Gives, lines_of, Standing, as_read}
 use Rattle.std.proofs.lemmas.List.{length-map}
-use Rattle.camp_script.specs.Gives.{Gives}
-use Rattle.camp_script.specs.Lines.{lines_of}
-use Rattle.camp_talk.specs.Answers.{Standing}
 use Rattle.camp_talk.specs.Asking.{asked_of}
-use Rattle.camp_talk.specs.Cutting.{as_read}
 use Rattle.camp_talk.proofs.Turns.{answered}
 use Rattle.camp_talk.proofs.talks.hear.Goals as goal
 

@@ -1,6 +1,4 @@
-use Rattle.std.proofs.Common.{Bool, Ok, subst}
-use Rattle.camp_talk.specs.Answers.{Standing}
-use Rattle.camp_talk.specs.Talks.{Turns}
+use Rattle.camp_talk.proofs.Common.{Bool, Ok, subst, Standing, Turns}
 use Rattle.camp_talk.proofs.Turns.{gives_up, holds_on}
 use Rattle.camp_talk.proofs.talks.talk.Goals as goal
 

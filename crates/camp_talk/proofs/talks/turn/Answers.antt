@@ -1,6 +1,4 @@
-use Rattle.std.proofs.Common.{refl}
-use Rattle.camp_talk.specs.Answers.{Standing}
-use Rattle.camp_talk.specs.Inside.Said.{said_text}
+use Rattle.camp_talk.proofs.Common.{refl, Standing, said_text}
 use Rattle.camp_talk.proofs.Turns.{stopped, turned}
 use Rattle.camp_talk.proofs.talks.turn.Goals as goal
 

@@ -1,6 +1,4 @@
-use Rattle.std.specs.Iterator.Adapters.{zip_first, zip_second}
-use Rattle.std.specs.List.{flat_map, zip}
-use Rattle.camp_talk.specs.Told.{annotated_line}
+use Rattle.camp_talk.proofs.Common.{zip_first, zip_second, flat_map, zip, annotated_line}
 use Rattle.camp_talk.proofs.PairLemmas.{all_pairs}
 use Rattle.camp_talk.proofs.told_lines.annotated_lines.Goals as goal
 

@@ -1,5 +1,4 @@
-use Rattle.std.proofs.Common.{◌≡◌, take}
-use Rattle.std.specs.List.{flat_map}
+use Rattle.camp_talk.proofs.Common.{◌≡◌, take, flat_map}
 use Rattle.camp_script.specs.Texts.{name_text}
 use Rattle.camp_talk.proofs.told_names.name_lines.Given as goal
 

@@ -1,6 +1,5 @@
-use Rattle.std.proofs.Common.{codes}
+use Rattle.camp_talk.proofs.Common.{codes, names_told}
 use Rattle.camp_questions.specs.Dependencies.{AreNeeded}
-use Rattle.camp_talk.specs.Told.{names_told}
 use Rattle.camp_talk.proofs.ToldLemmas.{answer_told, refusal_told}
 use Rattle.camp_talk.proofs.told_names.tell_needs.Goals as goal
 

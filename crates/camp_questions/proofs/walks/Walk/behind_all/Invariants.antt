@@ -1,5 +1,4 @@
-use Rattle.std.proofs.Common.{drop}
-use Rattle.camp_questions.specs.Inside.Walking.{known_in}
+use Rattle.camp_questions.proofs.Common.{drop, known_in}
 use Rattle.camp_questions.proofs.LineNames.{IsOnTheWay}
 use Rattle.camp_questions.proofs.walks.Walk.behind_all.Given as goal
 

@@ -1,5 +1,4 @@
-use Rattle.std.proofs.Common.{◌∙◌, ap, bytes_eq}
-use Rattle.camp_questions.specs.Inside.Walking.{known_in}
+use Rattle.camp_questions.proofs.Common.{◌∙◌, ap, bytes_eq, known_in}
 use Rattle.camp_questions.proofs.LineNames.{hunk_stands}
 use Rattle.camp_questions.proofs.walks.Walk.behind_change.Goals as goal
 

@@ -1,5 +1,4 @@
-use Rattle.std.proofs.Common.{subst}
-use Rattle.camp_repo.specs.Fronts.{AllHold}
+use Rattle.camp_repo.proofs.Common.{subst, AllHold}
 use Rattle.camp_repo.proofs.states.State.known.Goals as goal
 
 pub returns : goal.returns

@@ -1,5 +1,4 @@
-use Rattle.std.proofs.Common.{ap, ◌∙◌, sym, subst}
-use Rattle.camp_repo.specs.Lawful.{IsLawfulState}
+use Rattle.camp_repo.proofs.Common.{ap, ◌∙◌, sym, subst, IsLawfulState}
 use Rattle.camp_repo.proofs.FrontSteps.{none_hold}
 use Rattle.camp_repo.proofs.StateSteps.{first_state}
 use Rattle.camp_repo.proofs.StepsLawful.{initial_lawful}

@@ -1,13 +1,5 @@
-use Rattle.std.proofs.Common.{◌∙◌, sym, subst}
-use Rattle.std.specs.Cmp.Lexicographic.{slice_cmp}
-use Rattle.std.specs.Ordering.{nat_cmp}
-use Rattle.camp_share.specs.Maps.{map_of}
-use Rattle.camp_branch.specs.Fields.{names_in}
-use Rattle.camp_branch.specs.Pulling.{PullGives}
+use Rattle.camp_repo.proofs.Common.{◌∙◌, sym, subst, slice_cmp, nat_cmp, map_of, names_in, PullGives, AgreesIn, AllHold, catches_in, placed, listed, wanted}
 use Rattle.camp_branch.proofs.Steps.{pulls_begin_with_own}
-use Rattle.camp_repo.specs.Fronts.{AgreesIn, AllHold, catches_in}
-use Rattle.camp_repo.specs.Placing.{placed}
-use Rattle.camp_repo.specs.Steps.{listed, wanted}
 use Rattle.camp_repo.proofs.ByMembers.{full_alike, none_alike, none_there}
 use Rattle.camp_repo.proofs.DecideSteps.{pull_keeps, pull_nothing, pull_settles, pull_too_large, settled_is}
 use Rattle.camp_repo.proofs.FrontSteps.{all_grown}

@@ -1,11 +1,4 @@
-use Rattle.std.proofs.Common.{◌++◌, ap, ◌∙◌, sym, subst}
-use Rattle.camp_branch.specs.Branches.{recorded}
-use Rattle.camp_object.specs.declared.objects.Decided.TheVariants.{Next}
-use Rattle.camp_repo.specs.Fronts.{AllHold}
-use Rattle.camp_repo.specs.Lawful.{IsLawfulState}
-use Rattle.camp_repo.specs.Placing.{placed}
-use Rattle.camp_repo.specs.States.{after}
-use Rattle.camp_repo.specs.Steps.{changed, is_too_large}
+use Rattle.camp_repo.proofs.Common.{◌++◌, ap, ◌∙◌, sym, subst, recorded, Next, AllHold, IsLawfulState, placed, after, changed, is_too_large}
 use Rattle.camp_repo.proofs.DecideSteps.{record_accepted, record_refused}
 use Rattle.camp_repo.proofs.FrontSteps.{all_grown}
 use Rattle.camp_repo.proofs.RecordSteps.{is_new, leads_from, record_keeps}

@@ -1,6 +1,5 @@
-use Rattle.std.proofs.Common.{ap, ◌∙◌}
+use Rattle.camp_repo.proofs.Common.{ap, ◌∙◌, Answer}
 use Rattle.camp_call.specs.declared.replies.Reply.TheVariants as reply
-use Rattle.camp_object.specs.declared.objects.Decided.TheVariants.{Answer}
 use Rattle.camp_repo.proofs.DecideSteps.{conflicts_shown}
 use Rattle.camp_repo.proofs.states.State.show_conflicts.Goals as goal
 

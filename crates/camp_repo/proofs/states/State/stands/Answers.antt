@@ -1,5 +1,4 @@
-use Rattle.std.proofs.Common.{◌∙◌, ap, sym}
-use Rattle.camp_repo.specs.States.{stands}
+use Rattle.camp_repo.proofs.Common.{◌∙◌, ap, sym, stands}
 use Rattle.camp_repo.proofs.PlaceSteps.{zip_stands}
 use Rattle.camp_repo.proofs.states.State.stands.Goals as goal
 

@@ -1,6 +1,4 @@
-use Rattle.std.proofs.Common.{ap, ◌∙◌, ◌<◌, slice_set, sym, subst}
-use Rattle.camp_repo.specs.Fronts.{AllHold}
-use Rattle.camp_repo.specs.Lawful.{IsLawfulState}
+use Rattle.camp_repo.proofs.Common.{ap, ◌∙◌, ◌<◌, slice_set, sym, subst, AllHold, IsLawfulState}
 use Rattle.camp_repo.proofs.StateSteps.{placed_long, placed_state, within_fields}
 use Rattle.camp_repo.proofs.states.State.with_branch_at.Goals as goal
 

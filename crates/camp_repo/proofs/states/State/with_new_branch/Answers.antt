@@ -1,7 +1,4 @@
-use Rattle.std.proofs.Common.{◌≡◌, ap, ◌∙◌, ◌++◌, [], ◌∷◌, sym, subst}
-use Rattle.std.specs.List.{AllZip}
-use Rattle.camp_repo.specs.Fronts.{AllHold}
-use Rattle.camp_repo.specs.Lawful.{IsLawfulState}
+use Rattle.camp_repo.proofs.Common.{◌≡◌, ap, ◌∙◌, ◌++◌, [], ◌∷◌, sym, subst, AllZip, AllHold, IsLawfulState}
 use Rattle.camp_repo.proofs.FrontSteps.{all_further}
 use Rattle.camp_repo.proofs.StateSteps.{grown_as_long, grown_state}
 use Rattle.camp_repo.proofs.states.State.with_new_branch.Goals as goal

@@ -1,0 +1,21 @@
+-- Words that the proofs of this crate have in common: of the standard library, of definitions, and of crates below.
+pub use Rattle.std.proofs.Common.{◌++◌, ◌+◌, ◌∙◌, ◌∷◌, ◌≡◌, ◌≤◌, Err, List, None, Ok, Option, Result, Some, [], ap, arith, count_by, length, map, refl, subst, sym, ℕ}
+pub use Rattle.std.proofs.lemmas.List.{append-nil}
+pub use Rattle.std.proofs.lemmas.List.Elements.{All-cons, All-nil}
+pub use Rattle.std.specs.List.{All, AllByRecursion}
+pub use Rattle.std.specs.Option.{option_and_then}
+pub use Rattle.camp_call.specs.Calls.{is_writing}
+pub use Rattle.camp_call.specs.declared.calls.Call.{Call}
+pub use Rattle.camp_call.specs.declared.replies.Reply.{Reply}
+pub use Rattle.camp_clients.specs.Answers.{SaysAlone}
+pub use Rattle.camp_clients.specs.Runs.{IsLocked, IsShared, OneByOne, lists_of}
+pub use Rattle.camp_clients.specs.Sections.{Section}
+pub use Rattle.camp_object.specs.declared.faults.Fault.{Fault}
+pub use Rattle.camp_object.specs.declared.objects.Decided.TheVariants.{Answer, Next}
+pub use Rattle.camp_repo.specs.ObjectLaws.{repository_is_lawful}
+pub use Rattle.camp_repo.specs.Objects.{next_of, replies_to, reply_of, repository, state_behind}
+pub use Rattle.camp_repo.specs.States.{Contents, initial}
+pub use Rattle.camp_repo.specs.Steps.{Decision, step}
+pub use Rattle.camp_run.specs.Runs.{HasOutput}
+pub use Rattle.camp_run.specs.Serial.{IsSerial, accepted_from, booked}
+pub use Rattle.camp_script.specs.Outputs.{HaveTexts}
