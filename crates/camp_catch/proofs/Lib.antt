@@ -3,6 +3,7 @@ pub mod CommuteEffects
 pub mod CommuteSteps
 pub mod Determined
 pub mod Fitting
+pub mod Gains
 pub mod KeptLabels
 pub mod ListEffects
 pub mod ListResults

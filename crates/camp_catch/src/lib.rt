@@ -8,6 +8,7 @@ mod arranging;
 mod catches;
 mod commuting;
 mod conflictors;
+mod gaining;
 mod laws;
 mod merging;
 mod merging_lists;

@@ -6,6 +6,7 @@ ghost use Rattle.camp_catch.specs.MergingLists.{MergeLists, MergeSticks, MergesW
 ghost use Rattle.camp_catch.specs.Catches.{catch_key};
 ghost use Rattle.camp_catch.specs.declared.catches.Catch.{Catch as AnyCatch};
 
+use crate::gaining::Gaining;
 use crate::merging::behind;
 use crate::moves::{copies, renewed};
 use crate::unmoved::merge_as_they_are;
@@ -81,19 +82,20 @@ fn merge_behind_all(
         (λ after. (q' : List AnyCatch) × MergesWithAll q.now k.now after q')
         (λ stuck. SticksWithin q.now k.now stuck.left stuck.right)) }
 {
-    let mut after = k.share()?;
+    let mut after = Gaining::new(alloc, k)?;
     for j in q {
-        let merged = merge_behind(alloc, j, &after)?;
-        let Some(next) = merged else {
-            return Ok(Err(no_merge(j, &after)));
-        };
-        after = next;
+        let done = after.go_behind(j)?;
+        if !done {
+            let stuck = after.settled()?;
+            return Ok(Err(no_merge(j, &stuck)));
+        }
     }
-    Ok(Ok(after))
+    let settled = after.settled()?;
+    Ok(Ok(settled))
 }
 
 /// `k` as it is after the `j` of the same state.
-fn merge_behind(
+pub(crate) fn merge_behind(
     alloc: Global,
     j: &Catch,
     k: &Shared<Catch>,

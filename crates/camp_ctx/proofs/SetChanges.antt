@@ -82,9 +82,12 @@ unchanged_at : (was : Option ContextedPatch) → ChangesAt (AddsAll []) was was
 unchanged_at None = tt
 unchanged_at (Some x) = refl
 
+pub unchanged : (xs : ContextedPatches) → EachMember (AddsAll []) xs xs
+unchanged xs key = unchanged_at (get xs key)
+
 -- adding the empty list leaves a set as it is
 pub empty_changes_none : (xs ys : ContextedPatches) → EachMember (AddsAll []) xs ys → ys ≡ xs
-empty_changes_none xs ys w = one_change_of_members (AddsAll []) (one_add_of_all []) xs ys xs w (λ key. unchanged_at (get xs key))
+empty_changes_none xs ys w = one_change_of_members (AddsAll []) (one_add_of_all []) xs ys xs w (unchanged xs)
 
 alone_at : (a : Named) (was now : Option ContextedPatch) → ChangesAt (AddsAll (a ∷ [])) was now → ChangesAt (Adds a) was now
 alone_at a None None w = w

@@ -2,7 +2,7 @@
 use Rattle.std.proofs.Common.{◌≡◌, ℕ, zero, suc, ◌+◌, ◌<◌, ◌≤◌, Bool, true, false, cond, Option, Some, None, List, [], ◌∷◌, length, take, map, refl, sym, ap, ◌∙◌, subst, arith}
 use Rattle.std.proofs.lemmas.List.{length-map, take_all}
 use Rattle.std.proofs.lemmas.Option.{same_Some, none-some, slice_get-map}
-use Rattle.std.specs.List.{slice_get}
+use Rattle.std.specs.List.{fold, slice_get}
 use Rattle.std.specs.Option.{option_map}
 use Rattle.std.specs.Ordering.{eq_by_cmp}
 use Rattle.std.specs.Cmp.{Equal-is}
@@ -13,7 +13,7 @@ use Rattle.camp_prim.specs.declared.labels.Key.{Key}
 use Rattle.camp_prim.specs.declared.named.Named.{Named}
 use Rattle.camp_prim.proofs.LabelOrder.{key_total, key_ties}
 use Rattle.camp_ctx.specs.Adding.{AddsAll}
-use Rattle.camp_ctx.specs.Contexts.{ContextedPatch, ContextedPatches, context_key, only, AreKeyed, ChangesAt, EachMember}
+use Rattle.camp_ctx.specs.Contexts.{ContextedPatch, ContextedPatches, context_key, only, with_member, AreKeyed, ChangesAt, EachMember}
 use Rattle.camp_ctx.proofs.AddResults.{same_key_of_sum}
 use Rattle.camp_ctx.proofs.EntrySteps.{take_push, found_at, not_before}
 use Rattle.camp_ctx.proofs.SetChanges.{member_before}
@@ -34,6 +34,10 @@ keyed_with xs k l own keyed = subst (λ j. AreKeyed (cond (contains_key xs j) xs
   | true ↦ keyed
   | false ↦ keyed_insert xs l keyed
 ])
+
+pub keyed_with_all : (xs : ContextedPatches) (more : List ContextedPatch) → AreKeyed xs → AreKeyed (fold with_member xs more)
+keyed_with_all xs [] keyed = keyed
+keyed_with_all xs (l ∷ more) keyed = keyed_with_all (with_member xs l) more (keyed_with xs (context_key l) l refl keyed)
 
 keyed_left : (xs : ContextedPatches) (key : Key) (y : ContextedPatch) (b : Bool) → AreKeyed xs → cond b None (get xs key) ≡ Some y → key ≡ context_key y
 keyed_left xs key y true keyed is = absurd (none-some y is)

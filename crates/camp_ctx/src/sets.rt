@@ -1,4 +1,4 @@
-ghost use Rattle.std.specs.Prelude.{◌≡◌, ◌↔◌, IfOk, IsTrue, MatchOption, None, Some, slice_get};
+ghost use Rattle.std.specs.Prelude.{◌≡◌, ◌↔◌, IfOk, IsTrue, MatchOption, None, Some, fold, slice_get};
 ghost use Rattle.std.specs.FinMap as map;
 ghost use Rattle.camp_ctx.specs.Contexts.{context_key, only, with_member, ContextedPatch, AreKeyed, EachMember};
 ghost use Rattle.camp_ctx.specs.Adding.{Adds, AddsAll};
@@ -7,7 +7,7 @@ use crate::keys::MemberKey;
 use crate::{Contexted, join};
 use camp_prim::{Key, Named};
 use camp_seq::Seq;
-use camp_share::{Share, SharedMap};
+use camp_share::{MapBuilder, Share, SharedMap};
 use std::alloc::{AllocError, Global};
 use std::marker::Model;
 use std::slice;
@@ -72,6 +72,21 @@ impl ContextedSet {
         Ok(ContextedSet {
             alloc: self.alloc,
             members,
+        })
+    }
+
+    /// The set with these members too, one after the other. It is made once for all of them.
+    pub fn insert_all(&self, more: &[Contexted]) -> Result<ContextedSet, AllocError>
+        ensures exact { IfOk result (λ set. set ≡ fold with_member self.now more.now) }
+    {
+        let mut members = MapBuilder::from_map(&self.members)?;
+        for member in more {
+            let key = MemberKey::new(member.key());
+            members.insert_if_absent(key, member.try_clone()?)?;
+        }
+        Ok(ContextedSet {
+            alloc: self.alloc,
+            members: members.into_map()?,
         })
     }
 

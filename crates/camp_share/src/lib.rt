@@ -11,5 +11,5 @@ mod shared;
 
 pub use iters::Iter;
 pub use lists::SharedList;
-pub use maps::{Key, SharedMap};
+pub use maps::{Key, MapBuilder, SharedMap};
 pub use shared::{Share, Shared};

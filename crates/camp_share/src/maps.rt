@@ -1,4 +1,4 @@
-ghost use Rattle.std.specs.Prelude.{◌≡◌, ◌==◌, ◌<◌, if◌then◌else◌, List, None, Some, T as Holds, IfOk, IfErr, MatchOption, length, slice_get};
+ghost use Rattle.std.specs.Prelude.{◌≡◌, ◌==◌, ◌<◌, if◌then◌else◌, List, None, Some, T as Holds, IfOk, IfErr, OnOk, MatchOption, length, slice_get};
 ghost use Rattle.std.specs.Option.{option_copied};
 ghost use Rattle.std.specs.FinMap as map;
 ghost use Rattle.std.specs.FinMap.{IsAntisymmetric, is_sorted};
@@ -8,7 +8,7 @@ ghost use Rattle.std.specs.Cmp.{on_per, and_per};
 ghost use Rattle.camp_share.specs.Maps.{map_of};
 
 use crate::changes::{inserted_at, removed_at, replaced_at};
-use crate::search::search;
+use crate::search::{place_in, search};
 use crate::{Iter, Share, SharedList};
 use std::alloc::{AllocError, Global};
 use std::marker::Model;
@@ -185,5 +185,55 @@ impl<K: Key, V: PartialEq> PartialEq for SharedMap<K, V> {
 
     fn eq(&self, other: &SharedMap<K, V>) -> bool {
         self.entries == other.entries
+    }
+}
+
+/// Entries that are put into a map one after the other, each where it stands. They are in one vector,
+/// and become parts once all are there.
+#[derive(Drop)]
+pub struct MapBuilder<K: Key, V> {
+    entries: Vec<(K, V)>,
+}
+
+impl<K: Key, V> Model for MapBuilder<K, V> {
+    ghost use Rattle.std.specs.Prelude.{List, T as Holds};
+    ghost use Rattle.std.specs.FinMap.{is_sorted};
+
+    ghost Value = { List (K × V) };
+
+    ghost view = { λ builder. builder.entries.items };
+
+    ghost invariant = { λ builder. Holds (is_sorted K.cmp builder.entries.items) };
+}
+
+impl<K: Key, V: Share + Drop> MapBuilder<K, V> {
+    /// Gives the key this value, where it has none.
+    pub fn insert_if_absent(&mut self, key: K, value: V) -> Result<(), AllocError>
+        ensures exact { OnOk result (map_of K.cmp self.new ≡ (if map.contains_key (map_of K.cmp self.old) key then map_of K.cmp self.old else map.insert (map_of K.cmp self.old) key value)) }
+    {
+        match place_in(&self.entries, &key) {
+            Ok(_) => Ok(()),
+            Err(place) => {
+                self.entries.insert(place, (key, value))?;
+                Ok(())
+            }
+        }
+    }
+
+    /// The entries of a map, to which others may come.
+    pub fn from_map(map: &SharedMap<K, V>) -> Result<MapBuilder<K, V>, AllocError>
+        ensures exact { IfOk result (λ builder. map_of K.cmp builder ≡ map_of K.cmp map.now) }
+    {
+        let entries = map.entries.to_vec()?;
+        Ok(MapBuilder { entries })
+    }
+
+    /// The map of the entries.
+    pub fn into_map(self) -> Result<SharedMap<K, V>, AllocError>
+        ensures exact { IfOk result (λ map. map_of K.cmp map ≡ map_of K.cmp self) }
+    {
+        let alloc = *self.entries.allocator();
+        let entries = SharedList::from_items(alloc, &self.entries)?;
+        Ok(SharedMap { entries })
     }
 }

@@ -1,11 +1,14 @@
 -- What moving catches inside a list answers and leaves.
-use Rattle.std.specs.Prelude.{◌≡◌, ◌≢◌, ℕ, List, ◌∷◌, ◌++◌, length, All}
+use Rattle.std.specs.Prelude.{◌≡◌, ◌≢◌, ℕ, List, [], ◌∷◌, ◌++◌, length, All, fold}
 use Rattle.camp_prim.specs.declared.labels.Key.{Key}
+use Rattle.camp_ctx.specs.Contexts.{ContextedPatch, with_member}
 use Rattle.camp_catch.specs.Arranging.{ComesFirst}
 use Rattle.camp_catch.specs.Catches.{catch_key}
 use Rattle.camp_catch.specs.Commuting.{CommuteCatch}
+use Rattle.camp_catch.specs.Conflictors.{with_conflicts}
 use Rattle.camp_catch.specs.Merging.{MergeCatch}
 use Rattle.camp_catch.specs.declared.catches.Catch.{Catch}
+use Rattle.camp_catch.specs.declared.catches.Catch.TheVariants.{Plain}
 
 -- j and the k behind it commute, each in its own place: j becomes j', and k becomes k'
 abbrev pub CommutesInPlace : Catch × Catch → Catch × Catch → Type 0
@@ -18,6 +21,15 @@ MergesInPlace old new = MergeCatch old.0 old.1 new.1 new.0
 -- j and the k of the same state merge, and k becomes k'
 abbrev pub MergesBehind : Catch → Catch → Catch → Type 0
 MergesBehind j k k' = (j' : Catch) × MergeCatch j k k' j'
+
+-- the catch in conflict with these too, where it is a conflictor
+abbrev pub with_gained : List ContextedPatch → Catch → Catch
+with_gained gained (Plain a) = Plain a
+with_gained gained (Catch.Conflictor k) = Catch.Conflictor (with_conflicts (fold with_member k.conflicts gained) k)
+
+-- behind the j of the same state, k gains l, and nothing else of it changes, whatever it has gained before
+abbrev pub Gains : Catch → Catch → ContextedPatch → Type 0
+Gains j k l = (gained : List ContextedPatch) → MergesBehind j (with_gained gained k) (with_gained (gained ++ l ∷ []) k)
 
 -- no catch has this absolute label
 abbrev pub Lacks : Key → List Catch → Type 0
