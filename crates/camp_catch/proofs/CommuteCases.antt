@@ -1,6 +1,6 @@
 -- The cases of commuting exclude one another, and each is determined.
-use Rattle.camp_catch.proofs.Words.{◌≡◌, ◌≤◌, Option, None, Some, inl, inr, [], ◌∷◌, cond, true, is_some, ◌+◌, refl, sym, ap, ◌∙◌, subst, arith, get, remove, empty, len, get-empty, get-insert, len-empty, len-insert, eq_by_cmp, inverse_of, key_cmp, Key, Named, key_total, le_or_not, swap_or_not, swap_unique, inverse_all, ContextedPatch, ContextedPatches, bare, only, patch_key, context_key, keys_or_not, lists_or_not, CasesExclude, BothPlain, PlainPastConflictor, ConflictorPastPlain, TwoConflictorsApart, ConflictDissolves, PlainLeavesTheSet, OnlyConflictGoes, OneOfSeveralConflicts, CommutePlainConflictor, CommuteConflictors, CommuteCatch, against, in_conflict_with, joined_by, with_effect, without, CommuteIsUnique, Catch, Plain, Conflictor}
 use Rattle.std.specs.Cmp.{Equal-is, tied_itself}
+use Rattle.camp_catch.proofs.Words.{None, Option, Some, [], ap, arith, cond, inl, inr, is_some, refl, subst, sym, true, ◌+◌, ◌∙◌, ◌∷◌, ◌≡◌, ◌≤◌, empty, get, get-empty, get-insert, len, len-empty, len-insert, remove, eq_by_cmp, key_total, le_or_not, swap_or_not, swap_unique, inverse_of, key_cmp, Key, Named, inverse_all, keys_or_not, lists_or_not, ContextedPatch, ContextedPatches, bare, context_key, only, patch_key, CasesExclude, BothPlain, CommuteCatch, CommuteConflictors, CommutePlainConflictor, ConflictDissolves, ConflictorPastPlain, OneOfSeveralConflicts, OnlyConflictGoes, PlainLeavesTheSet, PlainPastConflictor, TwoConflictorsApart, against, in_conflict_with, joined_by, with_effect, without, CommuteIsUnique, Catch, Plain, Conflictor}
 use Rattle.camp_catch.proofs.Determined.{Determined, both, chain, either, found, made_of, none_or_not, pairs, where_holds}
 use Rattle.camp_catch.proofs.PartsDetermined.{adds_to_bare, against_one, all_added_to, all_pass_by, comes_before, effects_pass, fronts, lacks_or_not, one_member, one_passes, order, passes_by}
 

@@ -1,5 +1,5 @@
 -- Commuting keeps effects: each case is a path of trees.
-use Rattle.camp_catch.proofs.Words.{◌≡◌, inl, inr, List, [], ◌∷◌, ◌++◌, refl, sym, subst, append_assoc, remove, Files, Applies, inverse_of, label_of, Named, applies_once, ◌~◌, through, Norm, AppliesAll, inverse_all, equal_are, before, behind, after_one, swapped, passed, all_passed, fronted, ordered, split, joined, runs_back, Adds, AddsAll, PassesBy, PassesByAll, ContextedPatches, Valid, bare, patch_key, context_key, valid_by_adding, valid_by_adding_all, valid_by_passing, valid_by_passing_all, Fits, BothPlain, PlainPastConflictor, ConflictorPastPlain, EffectsPass, labels_undone, TwoConflictorsApart, ConflictDissolves, PlainLeavesTheSet, OnlyConflictGoes, OneOfSeveralConflicts, against, in_conflict_with, joined_by, with_effect, without, CommuteKeepsEffects, Catch, Plain, Conflictor}
+use Rattle.camp_catch.proofs.Words.{List, [], inl, inr, refl, subst, sym, ◌++◌, ◌∷◌, ◌≡◌, append_assoc, remove, Files, applies_once, Applies, inverse_of, label_of, Named, after_one, all_passed, before, behind, equal_are, fronted, joined, ordered, passed, split, swapped, runs_back, through, ◌~◌, Norm, AppliesAll, inverse_all, valid_by_adding, valid_by_adding_all, valid_by_passing, valid_by_passing_all, Adds, AddsAll, PassesBy, PassesByAll, ContextedPatches, Valid, bare, context_key, patch_key, Fits, BothPlain, ConflictDissolves, ConflictorPastPlain, EffectsPass, OneOfSeveralConflicts, OnlyConflictGoes, PlainLeavesTheSet, PlainPastConflictor, TwoConflictorsApart, labels_undone, against, in_conflict_with, joined_by, with_effect, without, CommuteKeepsEffects, Catch, Plain, Conflictor}
 use Rattle.camp_catch.proofs.Fitting.{FitBoth, fit_both_as, plain_fits, conflictor_fits, becomes_fits, added_fits, joined_fits, along, places_change, one_runs, one_applies, one_back, only_valid, without_valid}
 
 -- a case keeps effects

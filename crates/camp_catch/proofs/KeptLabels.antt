@@ -1,5 +1,6 @@
 -- Commuting and merging keep labels, and so do arranging, aligning and merging lists.
-use Rattle.camp_catch.proofs.Words.{◌≡◌, inl, inr, append-nil, List, [], ◌∷◌, ◌++◌, map, refl, sym, ap, ◌∙◌, subst, ℕ, map-append, append_assoc, inverse_of, label_of, key_of, Key, Label, Named, MergesOne, Passes, PassesAll, Adds, PassesBy, PassesByAll, ContextedPatch, patch_key, context_key, bare, same_key_of_sum, ComesBefore, ArrangesBehind, ComesFirst, Align, catch_key, CommuteCatch, KeepLabels, KeysPart, KeysAlign, keys_of, JoinsWhere, MergeCatch, MergePlainConflictor, MergesWithAll, MergeLists, Catch, Plain, Conflictor}
+use Rattle.camp_prim.specs.declared.labels.Label.{Label}
+use Rattle.camp_catch.proofs.Words.{List, [], ap, append-nil, inl, inr, map, refl, subst, sym, ℕ, ◌++◌, ◌∙◌, ◌∷◌, ◌≡◌, append_assoc, map-append, inverse_of, key_of, label_of, Key, Named, MergesOne, Passes, PassesAll, same_key_of_sum, Adds, PassesBy, PassesByAll, ContextedPatch, bare, context_key, patch_key, Align, ArrangesBehind, ComesBefore, ComesFirst, catch_key, CommuteCatch, KeepLabels, KeysAlign, KeysPart, keys_of, JoinsWhere, MergeCatch, MergePlainConflictor, MergeLists, MergesWithAll, Catch, Plain, Conflictor}
 
 passed_key : (p : Named) (s s' : List Named) (p' : Named) → Passes p s s' p' → patch_key p' ≡ patch_key p
 passed_key p [] s' p' w = ap patch_key w.1

@@ -1,5 +1,5 @@
 -- Lists of catches keep fitting: a commute of neighbours does, and a merge of lists is a grid of merges.
-use Rattle.camp_catch.proofs.Words.{◌≡◌, inl, inr, List, [], ◌∷◌, ◌++◌, refl, sym, subst, ℕ, Files, Key, ComesBefore, ArrangesBehind, ComesFirst, Align, Fits, FitsAll, ListsKeepEffects, MergesWithAll, MergeLists, Catch}
+use Rattle.camp_catch.proofs.Words.{List, [], inl, inr, refl, subst, sym, ℕ, ◌++◌, ◌∷◌, ◌≡◌, Files, Key, Align, ArrangesBehind, ComesBefore, ComesFirst, Fits, FitsAll, ListsKeepEffects, MergeLists, MergesWithAll, Catch}
 use Rattle.camp_catch.proofs.CommuteEffects.{commute_keeps_effects}
 use Rattle.camp_catch.proofs.MergeEffects.{merge_keeps_effects}
 

@@ -1,5 +1,5 @@
 -- What lists of catches become is determined: one result, or one place where they stick, and never both.
-use Rattle.camp_catch.proofs.Words.{◌≡◌, ◌↔◌, ◌⊎◌, inl, inr, List, [], ◌∷◌, ◌++◌, refl, ap, ℕ, Contains, Key, Decided, among_or_not, keys_or_not, bytes_or_not, ComesBefore, StopsAt, ArrangesBehind, SticksBehind, IsOf, ComesFirst, Align, AlignSticks, catch_key, ArrangeByMembers, CatchesAreDecided, GivesOnePair, HasPair, ListsAreUnique, ListsSucceedOrStick, OneOf, MergesWithAll, SticksWithin, MergeLists, MergeSticks, Catch}
+use Rattle.camp_catch.proofs.Words.{Contains, List, [], ap, inl, inr, refl, ℕ, ◌++◌, ◌↔◌, ◌∷◌, ◌≡◌, ◌⊎◌, Decided, Key, among_or_not, keys_or_not, bytes_or_not, Align, AlignSticks, ArrangesBehind, ComesBefore, ComesFirst, IsOf, SticksBehind, StopsAt, catch_key, ArrangeByMembers, CatchesAreDecided, GivesOnePair, HasPair, ListsAreUnique, ListsSucceedOrStick, OneOf, MergeLists, MergeSticks, MergesWithAll, SticksWithin, Catch}
 use Rattle.camp_catch.proofs.CommuteCases.{IsDetermined, commuting}
 use Rattle.camp_catch.proofs.Determined.{Determined, chain, either, just, made_of, not_or_not, where_holds}
 use Rattle.camp_catch.proofs.MergeCases.{merging}

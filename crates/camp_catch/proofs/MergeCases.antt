@@ -1,5 +1,5 @@
 -- The cases of merging exclude one another, and each is determined.
-use Rattle.camp_catch.proofs.Words.{List, ◌∷◌, refl, sym, ap, subst, inverse_of, Swap, Named, inverse_of-inverse_of, Decided, decided_by, swap_or_not, swap_unique, Merges, MergesOne, inverse_all, row_passes, passes_row, Conflict, ContextedPatch, bare, one_add_of_all, one_merge_behind, conflict_or_not, merge_behind_or_not, MergeCasesExclude, against, in_conflict_with, joined_by, with_effect, MergeIsUnique, Clean, FirstConflict, PlainBesideConflictor, PlainJoinsConflictor, MergePlainConflictor, Mirror, JoinsWhere, TwoConflictors, MergeCatch, Catch, Plain, Conflictor}
+use Rattle.camp_catch.proofs.Words.{List, ap, refl, subst, sym, ◌∷◌, inverse_of-inverse_of, Decided, decided_by, swap_or_not, swap_unique, inverse_of, Swap, Named, passes_row, row_passes, Merges, MergesOne, inverse_all, one_add_of_all, one_merge_behind, conflict_or_not, merge_behind_or_not, Conflict, ContextedPatch, bare, MergeCasesExclude, against, in_conflict_with, joined_by, with_effect, MergeIsUnique, Clean, FirstConflict, JoinsWhere, MergeCatch, MergePlainConflictor, Mirror, PlainBesideConflictor, PlainJoinsConflictor, TwoConflictors, Catch, Plain, Conflictor}
 use Rattle.camp_catch.proofs.CommuteCases.{IsDetermined}
 use Rattle.camp_catch.proofs.Determined.{Determined, both, chain, either, just, made_of, not_or_not, pairs, where_holds}
 use Rattle.camp_catch.proofs.PartsDetermined.{adds_all, adds_to, all_added_to, one_passes, order}

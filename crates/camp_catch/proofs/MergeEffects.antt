@@ -1,5 +1,5 @@
 -- Merging keeps effects and is symmetric: each case closes a square of trees.
-use Rattle.camp_catch.proofs.Words.{◌≡◌, inl, inr, List, [], ◌∷◌, ◌++◌, refl, sym, subst, Files, Applies, inverse_of, Named, Norm, AppliesAll, inverse_all, ordered, split, cut_run, runs_back, merge_closes, cell_is_symmetric, Adds, MergesBehindCommon, Conflict, common_labels, ContextedPatch, Valid, bare, valid_by_adding, valid_by_adding_all, merge_behind_is_symmetric, conflict_is_symmetric, Fits, against, in_conflict_with, joined_by, with_effect, Clean, FirstConflict, PlainBesideConflictor, PlainJoinsConflictor, JoinsWhere, TwoConflictors, MergeKeepsEffects, MergeIsSymmetric, Catch, Plain, Conflictor}
+use Rattle.camp_catch.proofs.Words.{List, [], inl, inr, refl, subst, sym, ◌++◌, ◌∷◌, ◌≡◌, Files, Applies, inverse_of, Named, ordered, split, cut_run, runs_back, cell_is_symmetric, merge_closes, Norm, AppliesAll, inverse_all, valid_by_adding, valid_by_adding_all, conflict_is_symmetric, merge_behind_is_symmetric, Adds, Conflict, MergesBehindCommon, common_labels, ContextedPatch, Valid, bare, Fits, against, in_conflict_with, joined_by, with_effect, MergeIsSymmetric, MergeKeepsEffects, Clean, FirstConflict, JoinsWhere, PlainBesideConflictor, PlainJoinsConflictor, TwoConflictors, Catch, Plain, Conflictor}
 use Rattle.camp_catch.proofs.Fitting.{plain_fits, conflictor_fits, becomes_fits, added_fits, joined_fits, along, one_runs, one_back, row_closes, run_once, only_valid}
 
 -- two catches that fit, each from a tree of its own, and end in one

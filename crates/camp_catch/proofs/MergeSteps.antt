@@ -1,6 +1,6 @@
 -- What the bodies of merging know at their answers.
-use Rattle.camp_catch.proofs.Words.{◌≡◌, inl, inr, List, Option, None, Some, Bool, true, false, not, IsTrue, refl, sym, ap, ◌∙◌, subst, FindsPair, inverse_of, Swap, Named, inverse_of-inverse_of, Merges, MergesOne, Norm, Passes, inverse_all, row_passes, passes_row, Adds, AddsAll, Conflict, MergesBehindCommon, ContextedPatches, EachMember, ContextedPatch, bare, add_of_all_exists, one_add_of_all, members_change, Becomes, joined_by, MergesBehind, JoinsAs, Clean, PlainBesideConflictor, PlainJoinsConflictor, MergePlainConflictor, Mirror, TwoConflictors, Catch, Plain, Conflictor}
 use Rattle.camp_catch.specs.Inside.TwoConflictors.{EffectsMerge, JoinEachOther, TellsConflict}
+use Rattle.camp_catch.proofs.Words.{Bool, IsTrue, List, None, Option, Some, ap, false, inl, inr, not, refl, subst, sym, true, ◌∙◌, ◌≡◌, FindsPair, inverse_of-inverse_of, inverse_of, Swap, Named, passes_row, row_passes, Merges, MergesOne, Norm, Passes, inverse_all, add_of_all_exists, one_add_of_all, members_change, Adds, AddsAll, Conflict, MergesBehindCommon, ContextedPatch, ContextedPatches, EachMember, bare, Becomes, joined_by, MergesBehind, JoinsAs, Clean, MergePlainConflictor, Mirror, PlainBesideConflictor, PlainJoinsConflictor, TwoConflictors, Catch, Plain, Conflictor}
 use Rattle.camp_catch.proofs.MergeEffects.{joins_alike}
 
 -- a relation has no result

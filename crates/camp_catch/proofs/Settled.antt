@@ -1,5 +1,5 @@
 -- Relations of which exactly one has a result, and one: something is done, or it sticks.
-use Rattle.camp_catch.proofs.Words.{◌≡◌, ◌⊎◌, inl, inr, refl, sym, ap, ◌∙◌, subst, Decided}
+use Rattle.camp_catch.proofs.Words.{ap, inl, inr, refl, subst, sym, ◌∙◌, ◌≡◌, ◌⊎◌, Decided}
 use Rattle.camp_catch.proofs.Determined.{Determined}
 
 pub record Settled {A B : Type 0} (Done : A → Type 0) (Sticks : B → Type 0) : Type 0 where

@@ -1,4 +1,4 @@
-use Rattle.camp_catch.proofs.Words.{ap, subst, sym, ◌∙◌, length, [], ◌∷◌, PassesAll}
+use Rattle.camp_catch.proofs.Words.{[], ap, length, subst, sym, ◌∙◌, ◌∷◌, PassesAll}
 use Rattle.camp_catch.proofs.CommuteSteps.{length-passes_all}
 use Rattle.camp_catch.proofs.commuting.comes_before.Goals as goal
 

@@ -1,5 +1,6 @@
-use Rattle.std.proofs.Common.{refl}
-use Rattle.camp_catch.proofs.CommuteSteps.{no_identity}
+use Rattle.camp_catch.proofs.Words.{List, refl, Named, Norm, Adds, PassesBy, Becomes}
+use Rattle.camp_catch.proofs.Determined.{leads_nowhere}
+use Rattle.camp_catch.proofs.PartsDetermined.{one_passes}
 use Rattle.camp_catch.proofs.commuting.plain_past_conflictor.Goals as goal
 
 pub returns-in_default : goal.returns-in_default
@@ -11,7 +12,7 @@ pub returns-in-None : goal.returns-in-None
 returns-in-None c =
     let past = rw c.in-Some.is at c.in_ok-behind.ensures.exact in
     let never = rw c.in-None.is at c.in_ok-made.ensures in
-    no_identity c.args.a.now c.args.k.now _ _ past never
+    λ pair w. leads_nowhere (λ (p : List Named × Named). Becomes (Norm p.0) (Adds p.1) (PassesBy p.1) c.args.k.now) (one_passes c.args.a.now c.args.k.now.effect) _ past never (w.passed, w.a') w.passes w.moved w.becomes
 
 pub returns : goal.returns
 returns c =

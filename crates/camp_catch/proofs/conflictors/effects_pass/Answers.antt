@@ -1,4 +1,4 @@
-use Rattle.camp_catch.proofs.CommuteSteps.{no_passing}
+use Rattle.camp_catch.proofs.Words.{subst, one_split, PassesAll}
 use Rattle.camp_catch.proofs.conflictors.effects_pass.Goals as goal
 
 pub returns-in_default : goal.returns-in_default
@@ -10,21 +10,11 @@ pub returns-in_default-passed : goal.returns-in_default-passed
 returns-in_default-passed c =
     let parted = rw c.in-Some.is at c.in_ok-parts.ensures in
     let never = rw c.in_default-passed.is at c.in_ok-passed.ensures.exact in
-    no_passing c.args.r.now c.args.s.now c.args.ys.now _ _ parted never
+    λ pair w. never (w.passed, w.left) (subst (λ x. PassesAll x c.args.s.now w.passed w.left) (one_split _ c.args.r.now w.common w.rr _ _ w.split parted).1 w.passes)
 
 pub returns : goal.returns
 returns c =
     let parted = rw c.in-Some.is at c.in_ok-parts.ensures in
     let passes = rw c.in-Some-passed.is at c.in_ok-passed.ensures.exact in
-    let joins = c.in_ok-effect.ensures in record {
-      common = _;
-      rr = _;
-      split = parted;
-      passed = _;
-      left = _;
-      passes = passes;
-      s' = joins.0;
-      second = joins.1;
-      first = c.ordered.ensures.exact;
-      whole = joins.2;
-    }
+    let (s', second, whole) = c.in_ok-effect.ensures in
+    record { common = _; rr = _; split = parted; passed = _; left = _; passes = passes; s' = s'; second = second; first = c.ordered.ensures.exact; whole = whole }

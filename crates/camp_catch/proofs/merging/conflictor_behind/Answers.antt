@@ -1,4 +1,3 @@
-use Rattle.std.proofs.Common.{◌≡◌, true, false}
 use Rattle.camp_catch.proofs.MergeSteps.{apart_behind, joined_behind, none_together}
 use Rattle.camp_catch.proofs.merging.conflictor_behind.Goals as goal
 

@@ -1,4 +1,4 @@
-use Rattle.camp_catch.proofs.Words.{sym, subst, PassesBy}
+use Rattle.camp_catch.proofs.Words.{subst, sym, PassesBy}
 use Rattle.camp_catch.proofs.seen.passes_before.Goals as goal
 
 pub returns-in_default : goal.returns-in_default

@@ -1,5 +1,4 @@
-use Rattle.camp_catch.proofs.Words.{sym, subst, Conflict}
-use Rattle.camp_prim.proofs.Moving.{told_not}
+use Rattle.camp_catch.proofs.Words.{subst, told_not, Conflict}
 use Rattle.camp_catch.proofs.MergeSteps.{aside, false_of_not}
 use Rattle.camp_catch.proofs.unmoved.stand_aside.Goals as goal
 
