@@ -1,12 +1,16 @@
 -- What the bodies of commuting know at their answers.
 use Rattle.camp_seq.proofs.GatherSteps.{length-passes}
-use Rattle.camp_catch.proofs.Words.{IfOk, List, None, Option, Result, Some, [], ap, arith, inl, inr, length, refl, sym, ◌∙◌, ◌∷◌, ◌≡◌, ◌≤◌, IfOk-weaker, empty_of_len, get, get-empty, len, remove, FindsPair, key_cmp, Key, Named, PassesAll, ContextedPatch, ContextedPatches, bare, context_key, patch_key, CommuteConflictors, CommutePlainConflictor, ConflictDissolves, OneOfSeveralConflicts, OnlyConflictGoes, PlainLeavesTheSet, PlainPastConflictor, TwoConflictorsApart, JoinsBehindEffects, Catch, Conflictor}
+use Rattle.camp_catch.specs.Inside.Pairs.{JoinsBehindEffects}
+use Rattle.camp_catch.proofs.Words.{IfOk, List, None, Option, Result, Some, [], ap, arith, inl, inr, length, refl, sym, ◌∙◌, ◌∷◌, ◌≡◌, ◌≤◌, IfOk-weaker, empty_of_len, get, get-empty, len, remove, FindsPair, key_cmp, Key, Named, PassesAll, ContextedPatch, ContextedPatches, bare, context_key, patch_key, CommuteConflictors, CommutePlainConflictor, ConflictDissolves, OneOfSeveralConflicts, OnlyConflictGoes, PlainLeavesTheSet, PlainPastConflictor, TwoConflictorsApart, Catch, Conflictor}
 use Rattle.camp_catch.proofs.CommuteCases.{its_only, lacks_its_only, not_none, only_is_one}
 
 -- what one relation finds, another finds that has the same results
+pub finds_as : {One Other : Catch → Catch → Type 0} → ((k' j' : Catch) → One k' j' → Other k' j') → ((k' j' : Catch) → Other k' j' → One k' j') → (found : Option (Catch × Catch)) → FindsPair One found → FindsPair Other found
+finds_as to back None never = λ pair w. never pair (back pair.0 pair.1 w)
+finds_as to back (Some pair) w = to pair.0 pair.1 w
+
 pub found_as : {E : Type 0} {One Other : Catch → Catch → Type 0} (r : Result (Option (Catch × Catch)) E) → ((k' j' : Catch) → One k' j' → Other k' j') → ((k' j' : Catch) → Other k' j' → One k' j') → IfOk r (FindsPair One) → IfOk r (FindsPair Other)
-found_as {E} {One} {Other} r to back =
-    IfOk-weaker r (FindsPair One) (FindsPair Other) (elim [ None ↦ λ never pair w. never pair (back pair.0 pair.1 w) | Some pair ↦ to pair.0 pair.1 ])
+found_as {E} {One} {Other} r to back = IfOk-weaker r (FindsPair One) (FindsPair Other) (finds_as to back)
 
 -- a set with a member, and not with one alone, has several
 pub has_several : (ys : ContextedPatches) (key : Key) (z : ContextedPatch) → get ys key ≡ Some z → ¬ (len ys ≡ 1) → 2 ≤ len ys
@@ -73,17 +77,7 @@ module _ (j k : Conflictor) where
   }
 
   pub several_back : (k' j' : Catch) → OneOfSeveralConflicts j k k' j' → JoinsBehindEffects j k (remove k.conflicts (context_key j.identity)) k' j'
-  several_back k' j' w = record {
-    effect = w.effect;
-    rr' = w.rr';
-    effects = w.effects;
-    moved = w.moved;
-    becomes = w.becomes;
-    own = _;
-    joined = record { moved = w.own; becomes = w.own_becomes; is = refl };
-    second = w.second;
-    first = w.first;
-  }
+  several_back k' j' w = record { effect = w.effect; rr' = w.rr'; effects = w.effects; moved = w.moved; becomes = w.becomes; own = _; joined = record { moved = w.own; becomes = w.own_becomes; is = refl }; second = w.second; first = w.first }
 
 -- what a primitive comes before is as long as it was
 pub length-passes_all : (r s s' r' : List Named) → PassesAll r s s' r' → length s' ≡ length s

@@ -5,10 +5,6 @@ use Rattle.camp_catch.proofs.Words.{Bool, List, None, Option, Some, [], cond, fa
 abbrev pub FitBoth : Catch → Catch → Files → Files → Type 0
 FitBoth j k old new = (between : Files) × Fits j old between × Fits k between new
 
-pub fit_both_as : (j k j' k' : Catch) (old new : Files) → j' ≡ j → k' ≡ k → FitBoth j k old new → FitBoth j' k' old new
-fit_both_as j k j' k' old new e f both =
-    subst (λ x. FitBoth j' x old new) (sym f) (subst (λ x. FitBoth x k old new) (sym e) both)
-
 pub plain_fits : (a : Named) (old new : Files) → AppliesAll (a ∷ []) old new → Fits (Plain a) old new
 plain_fits a old new run = record { effect = run; seen = tt }
 

@@ -69,8 +69,4 @@ merged_fits (k ∷ p) q p' q' w old left right f g =
     (rest.0, fits_as p' (w.0 ∷ w.2) left rest.0 w.5 (row.0, row.1, rest.1), rest.2)
 
 pub lists_keep_effects : ListsKeepEffects
-lists_keep_effects = record {
-  arranged = λ names list first rest w old new f. arranged_behind names [] list first rest w old old new refl f;
-  aligned = aligned_fits;
-  merged = merged_fits;
-}
+lists_keep_effects = record { arranged = λ names list first rest w old new f. arranged_behind names [] list first rest w old old new refl f; aligned = aligned_fits; merged = merged_fits }

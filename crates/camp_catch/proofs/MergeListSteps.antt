@@ -11,10 +11,7 @@ pub behind_nothing : (whole : List Catch) (k : Catch) → IsBehind whole k [] k 
 behind_nothing whole k = record { goes = λ k' t w. w; sticks = λ left right w. w }
 
 pub behind_one_more : {whole rest done : List Catch} {k next j after : Catch} (j' : Catch) → IsBehind whole k done next (j ∷ rest) → MergeCatch j next after j' → IsBehind whole k (done ++ j' ∷ []) after rest
-behind_one_more {done = done} j' up m = record {
-  goes = λ k' t w. rw (append_assoc done (j' ∷ []) t) (up.goes k' (j' ∷ t) (_, j', t, m, w, refl));
-  sticks = λ left right w. up.sticks left right (inr (_, j', m, w));
-}
+behind_one_more {done = done} j' up m = record { goes = λ k' t w. rw (append_assoc done (j' ∷ []) t) (up.goes k' (j' ∷ t) (_, j', t, m, w, refl)); sticks = λ left right w. up.sticks left right (inr (_, j', m, w)) }
 
 -- it sticks there, and both are told by names that they had
 pub sticks_here : {whole rest done : List Catch} {k next j : Catch} (a b : Catch) (told : NoMerge) → IsBehind whole k done next (j ∷ rest) → DoNotMerge j next → told ≡ record { left = catch_key a; right = catch_key b } → a ≡ j → b ≡ next → SticksWithin whole k told.left told.right
@@ -31,10 +28,7 @@ pub merged_at_first : (p q : List Catch) → IsMergedUpTo p q [] p q
 merged_at_first p q = record { goes = λ t q' w. w; sticks = λ left right w. w }
 
 pub merged_with : {p q merged rest beside beside' : List Catch} {k : Catch} (k' : Catch) → IsMergedUpTo p q merged (k ∷ rest) beside → MergesWithAll beside k k' beside' → IsMergedUpTo p q (merged ++ k' ∷ []) rest beside'
-merged_with {merged = merged} k' up m = record {
-  goes = λ t q' w. rw (append_assoc merged (k' ∷ []) t) (up.goes (k' ∷ t) q' (k', _, t, m, w, refl));
-  sticks = λ left right w. up.sticks left right (inr (k', _, m, w));
-}
+merged_with {merged = merged} k' up m = record { goes = λ t q' w. rw (append_assoc merged (k' ∷ []) t) (up.goes (k' ∷ t) q' (k', _, t, m, w, refl)); sticks = λ left right w. up.sticks left right (inr (k', _, m, w)) }
 
 -- of no catch nothing is to be merged
 pub none_to_merge : (p q merged : List Catch) → length p ≡ 0 → merged ≡ [] → (q' : List Catch) × MergeLists p q merged q'

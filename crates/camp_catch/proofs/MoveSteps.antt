@@ -73,16 +73,10 @@ pub record IsArrangedUpTo (names : List (List ℕ)) (whole first rest list : Lis
   pub sticks : (patch on : Key) → SticksBehind names rest list patch on → ArrangeSticks names whole patch on
 
 pub arranged_with_other : {names : List (List ℕ)} {whole first rest list : List Catch} {k : Catch} → IsArrangedUpTo names whole first rest (k ∷ list) → ¬ (IsOf names k) → IsArrangedUpTo names whole first (rest ++ k ∷ []) list
-arranged_with_other up not = record {
-  goes = λ t others w. up.goes t others (inr (not, w));
-  sticks = λ patch on w. up.sticks patch on (inr (inr (not, w)));
-}
+arranged_with_other up not = record { goes = λ t others w. up.goes t others (inr (not, w)); sticks = λ patch on w. up.sticks patch on (inr (inr (not, w))) }
 
 pub arranged_with_named : {names : List (List ℕ)} {whole first rest rest' list : List Catch} {k : Catch} (k' : Catch) → IsArrangedUpTo names whole first rest (k ∷ list) → IsOf names k → ComesBefore rest k k' rest' → IsArrangedUpTo names whole (first ++ k' ∷ []) rest' list
-arranged_with_named {first = first} k' up is come = record {
-  goes = λ t others w. rw (joined first k' t) (up.goes (k' ∷ t) others (inl (is, (k', _, t, come, w, refl))));
-  sticks = λ patch on w. up.sticks patch on (inr (inl (is, (k', _, come, w))));
-}
+arranged_with_named {first = first} k' up is come = record { goes = λ t others w. rw (joined first k' t) (up.goes (k' ∷ t) others (inl (is, (k', _, t, come, w, refl)))); sticks = λ patch on w. up.sticks patch on (inr (inl (is, (k', _, come, w)))) }
 
 -- of a whole list, `front` is in order, and how it is aligned depends on the catches behind and the rest of the order
 pub record IsAlignedUpTo (all : List Key) (whole front : List Catch) (order : List Key) (back : List Catch) : Type 0 where
@@ -90,10 +84,7 @@ pub record IsAlignedUpTo (all : List Key) (whole front : List Catch) (order : Li
   pub sticks : (stuck : Key) → AlignSticks order back stuck → AlignSticks all whole stuck
 
 pub aligned_with : {all order : List Key} {whole front back others : List Catch} {key : Key} (k' : Catch) → IsAlignedUpTo all whole front (key ∷ order) back → ComesFirst key back k' others → IsAlignedUpTo all whole (front ++ k' ∷ []) order others
-aligned_with {front = front} k' up come = record {
-  goes = λ t w. rw (joined front k' t) (up.goes (k' ∷ t) (k', _, t, come, w, refl));
-  sticks = λ stuck w. up.sticks stuck (inr (k', _, come, w));
-}
+aligned_with {front = front} k' up come = record { goes = λ t w. rw (joined front k' t) (up.goes (k' ∷ t) (k', _, t, come, w, refl)); sticks = λ stuck w. up.sticks stuck (inr (k', _, come, w)) }
 
 -- the next catch of the order has come to its place
 pub aligned_more : {all order : List Key} {whole : List Catch} {key : Key} (s now xs : List Catch) (at : ℕ) → at ≤ length s → ComesFirstInPlace key (drop at s) now → xs ≡ take at s ++ now → IsAlignedUpTo all whole (take at s) (key ∷ order) (drop at s) → (at + 1 ≤ length xs) × IsAlignedUpTo all whole (take (at + 1) xs) order (drop (at + 1) xs)

@@ -114,15 +114,4 @@ pub effects_pass : (r s : List Named) (ys : ContextedPatches) → Determined (λ
 effects_pass r s ys =
     let labels = labels_undone r ys in
     let parts : Determined (λ (p : List Named × List Named). Splits labels r p.0 p.1) = pairs (λ x z y w. one_split labels r x y z w) (splits_or_not labels r) in
-    made_of (chain parts (λ p split. chain (all_pass p.1 s) (λ w passes. chain (order w.0) (λ s' second. both (order (p.0 ++ s')) (order w.1))))) (λ x. x.1.1.1) (λ x w. record {
-      common = x.0.0;
-      rr = x.0.1;
-      split = w.0;
-      passed = x.1.0.0;
-      left = x.1.0.1;
-      passes = w.1.0;
-      s' = x.1.1.0;
-      second = w.1.1.0;
-      first = w.1.1.1.1;
-      whole = w.1.1.1.0;
-    }) (λ p c. (((c.common, c.rr), ((c.passed, c.left), (c.s', (p.0, p.1)))), (c.split, (c.passes, (c.second, (c.whole, c.first)))), refl))
+    made_of (chain parts (λ p split. chain (all_pass p.1 s) (λ w passes. chain (order w.0) (λ s' second. both (order (p.0 ++ s')) (order w.1))))) (λ x. x.1.1.1) (λ x w. record { common = x.0.0; rr = x.0.1; split = w.0; passed = x.1.0.0; left = x.1.0.1; passes = w.1.0; s' = x.1.1.0; second = w.1.1.0; first = w.1.1.1.1; whole = w.1.1.1.0 }) (λ p c. (((c.common, c.rr), ((c.passed, c.left), (c.s', (p.0, p.1)))), (c.split, (c.passes, (c.second, (c.whole, c.first)))), refl))

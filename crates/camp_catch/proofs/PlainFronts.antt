@@ -207,12 +207,4 @@ module _ (names : List (List ℕ)) where
       let come = first_comes r list g.0 g.1 k of are.1 g.3 in
       let m = subst (λ l. Passes j l f g.2) come.is g.4 in
       let still = subst (λ n. ¬ (Contains names n)) (sym (of_swapped j come.first m.0 m.1 m.3)) are.0 in
-      record {
-        first = m.0;
-        rest = m.2;
-        others = m.1 ∷ come.others;
-        comes = (come.first, m.1, come.others, come.comes, m.3, refl);
-        is = m.5;
-        are = (still, come.are);
-        parted = inr (still, (come.rest, g.1, g.2, come.parted, m.4, g.5));
-      }
+      record { first = m.0; rest = m.2; others = m.1 ∷ come.others; comes = (come.first, m.1, come.others, come.comes, m.3, refl); is = m.5; are = (still, come.are); parted = inr (still, (come.rest, g.1, g.2, come.parted, m.4, g.5)) }

@@ -50,7 +50,6 @@ pub use Rattle.camp_catch.specs.Catches.{Fits, FitsAll, IsSeenFrom, catch_key}
 pub use Rattle.camp_catch.specs.Commuting.{BothPlain, CommuteCatch, CommuteConflictors, CommutePlainConflictor, ConflictDissolves, ConflictorPastPlain, EffectsPass, OneOfSeveralConflicts, OnlyConflictGoes, PlainLeavesTheSet, PlainPastConflictor, TwoConflictorsApart, labels_undone}
 pub use Rattle.camp_catch.specs.Conflictors.{Becomes, against, in_conflict_with, joined_by, with_effect, without}
 pub use Rattle.camp_catch.specs.Inside.InPlace.{ComesFirstInPlace, FirstWith, Lacks, MergesBehind}
-pub use Rattle.camp_catch.specs.Inside.Pairs.{JoinsAs, JoinsBehindEffects}
 pub use Rattle.camp_catch.specs.Laws.{CommuteIsUnique, CommuteKeepsEffects, KeepLabels, KeysAlign, KeysPart, ListsKeepEffects, MergeIsSymmetric, MergeIsUnique, MergeKeepsEffects, keys_of}
 pub use Rattle.camp_catch.specs.ListLaws.{ArrangeByMembers, CatchesAreDecided, FrontsComeBehindFronts, GivesOnePair, HasPair, ListsAreUnique, ListsSucceedOrStick, OneOf, WhatStopsComesAlong}
 pub use Rattle.camp_catch.specs.Merging.{Clean, FirstConflict, JoinsWhere, MergeCatch, MergePlainConflictor, Mirror, PlainBesideConflictor, PlainJoinsConflictor, TwoConflictors}

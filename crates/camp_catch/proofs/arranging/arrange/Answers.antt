@@ -12,19 +12,16 @@ pub returns-in-Err : goal.returns-in-Err
 returns-in-Err g c =
     let next = stands_at c.args.list.now c.loop-catch.catch-index c.catch-item.result c.in_ok-catch.catch (omega arith) (c.in_ok-catch.ensures ∙ c.catch-item.is) in
     let is = (rw c.deref.ensures at c.is_of.ensures).0 c.if-not-is_of.false in
-    let stops = rw (c.in-Err.is, c.deref_mut.ensures.value) at c.in_ok-moved.ensures.exact in
     let patch = c.key-patch.ensures.exact ∙ ap catch_key c.deref-in-loop-catch.ensures in
-    record { exact = (rw next at c.loop-catch.invariant).sticks c.key-patch.result c.in-Err.on (inl (is, stops, patch)) }
+    record { exact = (rw next at c.loop-catch.invariant).sticks c.key-patch.result c.in-Err.on (inl (is, (rw (c.in-Err.is, c.deref_mut.ensures.value) at c.in_ok-moved.ensures.exact), patch)) }
 
 pub loop-catch-preserved : goal.loop-catch-preserved
 loop-catch-preserved g c =
     let next = stands_at c.args.list.now c.loop-catch.catch-index c.catch-item.result c.in_ok-catch.catch (omega arith) (c.in_ok-catch.ensures ∙ c.catch-item.is) in
     let is = (rw c.deref.ensures at c.is_of.ensures).0 c.if-not-is_of.false in
-    let comes = rw (c.in-Ok.is, c.deref_mut.ensures.value) at c.in_ok-moved.ensures.exact in
     let written = with_items_is c.loop-catch.rest c.come_before.new.list (c.come_before.auto.list ∙ ap length c.deref_mut.ensures.value ∙ sym c.loop-catch.rest.ok.0) in
-    rw (written, c.in_ok-push-in-Ok.ensures.items) (arranged_with_named c.come_before.new.coming (rw next at c.loop-catch.invariant) is comes)
+    rw (written, c.in_ok-push-in-Ok.ensures.items) (arranged_with_named c.come_before.new.coming (rw next at c.loop-catch.invariant) is (rw (c.in-Ok.is, c.deref_mut.ensures.value) at c.in_ok-moved.ensures.exact))
 
 pub returns : goal.returns
 returns g c =
-    let up = rw (drop_all c.loop-catch.catch-index c.args.list.now (omega arith)) at c.loop-catch.invariant in
-    record { exact = rw append-nil at (up.goes [] c.loop-catch.rest.items (refl, refl)) }
+    record { exact = rw append-nil at ((rw (drop_all c.loop-catch.catch-index c.args.list.now (omega arith)) at c.loop-catch.invariant).goes [] c.loop-catch.rest.items (refl, refl)) }

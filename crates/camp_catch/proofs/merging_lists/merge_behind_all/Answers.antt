@@ -9,8 +9,7 @@ loop-j-init c = ([], rw c.in_ok-after.ensures (behind_nothing c.args.q.now c.arg
 pub returns-in_default : goal.returns-in_default
 returns-in_default c =
     let next = stands_at c.args.q.now c.loop-j.j-index c.j-item.result c.j-item.result (omega arith) c.j-item.is in
-    let never = rw (c.in_default.is, c.deref.ensures) at c.in_ok-merged.ensures.exact in
-    record { exact = sticks_here _ _ c.no_merge.result (rw next at c.loop-j.invariant.1) (λ k' j' m. never k' (j', m)) c.no_merge.ensures c.deref-in_default.ensures c.deref-in_default-2.ensures }
+    record { exact = sticks_here _ _ c.no_merge.result (rw next at c.loop-j.invariant.1) (λ k' j' m. (rw (c.in_default.is, c.deref.ensures) at c.in_ok-merged.ensures.exact) k' (j', m)) c.no_merge.ensures c.deref-in_default.ensures c.deref-in_default-2.ensures }
 
 pub loop-j-preserved : goal.loop-j-preserved
 loop-j-preserved c =
@@ -20,5 +19,4 @@ loop-j-preserved c =
 
 pub returns : goal.returns
 returns c =
-    let up = rw (drop_all c.loop-j.j-index c.args.q.now (omega arith)) at c.loop-j.invariant.1 in
-    record { exact = (_, up.goes c.loop-j.after [] (refl, refl)) }
+    record { exact = (_, (rw (drop_all c.loop-j.j-index c.args.q.now (omega arith)) at c.loop-j.invariant.1).goes c.loop-j.after [] (refl, refl)) }

@@ -4,9 +4,7 @@ use Rattle.camp_catch.proofs.MergeListSteps.{merged_at_first, merged_with, none_
 use Rattle.camp_catch.proofs.merging_lists.merge_lists.Goals as goal
 
 pub returns-in_default : goal.returns-in_default
-returns-in_default c = record {
-  exact = none_to_merge c.args.p.now c.args.q.now _ c.in_default.ensures.cases c.in_ok-merged.ensures.items;
-}
+returns-in_default c = record { exact = none_to_merge c.args.p.now c.args.q.now _ c.in_default.ensures.cases c.in_ok-merged.ensures.items }
 
 pub loop-catch-init : goal.loop-catch-init
 loop-catch-init c =
@@ -15,25 +13,20 @@ loop-catch-init c =
 pub returns-in-Err : goal.returns-in-Err
 returns-in-Err c =
     let next = stands_at c.in-Some.front.now c.loop-catch.catch-index c.catch-item.result c.catch-item.result (omega arith) c.catch-item.is in
-    let stuck = rw (c.in-Err.is, c.deref_mut.ensures.value) at c.in_ok-after.ensures.exact in
-    record { exact = (rw next at c.loop-catch.invariant).sticks _ _ (inl stuck) }
+    record { exact = (rw next at c.loop-catch.invariant).sticks _ _ (inl (rw (c.in-Err.is, c.deref_mut.ensures.value) at c.in_ok-after.ensures.exact)) }
 
 pub loop-catch-preserved : goal.loop-catch-preserved
 loop-catch-preserved c =
     let next = stands_at c.in-Some.front.now c.loop-catch.catch-index c.catch-item.result c.catch-item.result (omega arith) c.catch-item.is in
-    let merges = rw (c.in-Ok.is, c.deref_mut.ensures.value) at c.in_ok-after.ensures.exact in
     let written = with_items_is c.loop-catch.beside c.merge_with_all.new.q (c.merge_with_all.auto.q ∙ ap length c.deref_mut.ensures.value ∙ sym c.loop-catch.beside.ok.0) in
-    rw (written, c.in_ok-push-in-Ok.ensures.items) (merged_with c.in-Ok.catch (rw next at c.loop-catch.invariant) merges)
+    rw (written, c.in_ok-push-in-Ok.ensures.items) (merged_with c.in-Ok.catch (rw next at c.loop-catch.invariant) (rw (c.in-Ok.is, c.deref_mut.ensures.value) at c.in_ok-after.ensures.exact))
 
 pub returns-in-Err-after : goal.returns-in-Err-after
 returns-in-Err-after c =
-    let up = rw (drop_all c.loop-catch.catch-index c.in-Some.front.now (omega arith)) at c.loop-catch.invariant in
-    let stuck = rw (c.in-Err-after.is, c.deref.ensures.value) at c.in_ok-after-2.ensures.exact in
-    record { exact = up.sticks _ _ (inl stuck) }
+    record { exact = (rw (drop_all c.loop-catch.catch-index c.in-Some.front.now (omega arith)) at c.loop-catch.invariant).sticks _ _ (inl (rw (c.in-Err-after.is, c.deref.ensures.value) at c.in_ok-after-2.ensures.exact)) }
 
 pub returns : goal.returns
 returns c =
-    let up = rw (drop_all c.loop-catch.catch-index c.in-Some.front.now (omega arith)) at c.loop-catch.invariant in
     let row = rw (c.in-Ok-after.is, c.deref.ensures.value) at c.in_ok-after-2.ensures.exact in
     let k' = c.in-Ok-after.catch in
-    record { exact = rw c.in_ok-push-in-Ok-after.ensures.items (row.0, up.goes (k' ∷ []) row.0 (k', row.0, [], row.1, (refl, refl), refl)) }
+    record { exact = rw c.in_ok-push-in-Ok-after.ensures.items (row.0, (rw (drop_all c.loop-catch.catch-index c.in-Some.front.now (omega arith)) at c.loop-catch.invariant).goes (k' ∷ []) row.0 (k', row.0, [], row.1, (refl, refl), refl)) }

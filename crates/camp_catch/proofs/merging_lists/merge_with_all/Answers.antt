@@ -11,13 +11,11 @@ returns-then-not-branch c =
 pub loop-j-preserved : goal.loop-j-preserved
 loop-j-preserved c =
     let next = at_next c.args.q.now c.loop-j.q c.loop-j.j-index c.j-item.result (omega arith) (omega arith) c.loop-j.invariant.waiting in
-    let merged = rw c.if-not-branch.false at c.in_ok-merge_one.ensures.exact in
     record {
-      behind = rw (take_more_set c.loop-j.q c.loop-j.j-index c.merge_one.new.j (omega arith)) (behind_one_more c.merge_one.new.j (rw next at c.loop-j.invariant.behind) merged);
+      behind = rw (take_more_set c.loop-j.q c.loop-j.j-index c.merge_one.new.j (omega arith)) (behind_one_more c.merge_one.new.j (rw next at c.loop-j.invariant.behind) (rw c.if-not-branch.false at c.in_ok-merge_one.ensures.exact));
       waiting = drop_next c.args.q.now c.loop-j.q c.loop-j.j-index c.j-item.result c.merge_one.new.j (omega arith) (omega arith) c.loop-j.invariant.waiting;
     }
 
 pub returns : goal.returns
 returns c =
-    let up = rw (drop_all c.loop-j.j-index c.args.q.now (omega arith)) at c.loop-j.invariant.behind in
-    record { exact = rw (append-nil, take_all c.loop-j.j-index c.loop-j.q (omega arith)) at (up.goes c.loop-j.after [] (refl, refl)) }
+    record { exact = rw (append-nil, take_all c.loop-j.j-index c.loop-j.q (omega arith)) at ((rw (drop_all c.loop-j.j-index c.args.q.now (omega arith)) at c.loop-j.invariant.behind).goes c.loop-j.after [] (refl, refl)) }
