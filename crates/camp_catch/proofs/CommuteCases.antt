@@ -1,6 +1,6 @@
 -- The cases of commuting exclude one another, and each is determined.
-use Rattle.camp_catch.proofs.Words.{◌≡◌, ◌≤◌, Option, None, Some, inl, inr, [], ◌∷◌, cond, true, is_some, ◌+◌, refl, sym, ap, ◌∙◌, subst, arith, get, remove, empty, len, get-empty, get-insert, len-empty, len-insert, eq_by_cmp, inverse_of, key_cmp, Key, Named, key_total, le_or_not, swap_or_not, swap_unique, inverse_all, ContextedPatch, ContextedPatches, bare, only, patch_key, context_key, keys_or_not, lists_or_not, CasesExclude, BothPlain, PlainPastConflictor, ConflictorPastPlain, TwoConflictorsApart, ConflictDissolves, PlainLeavesTheSet, OnlyConflictGoes, OneOfSeveralConflicts, CommutePlainConflictor, CommuteConflictors, CommuteCatch, against, in_conflict_with, joined_by, with_effect, without, CommuteIsUnique, Catch, Plain, Conflictor}
 use Rattle.std.specs.Cmp.{Equal-is, tied_itself}
+use Rattle.camp_catch.proofs.Words.{None, Option, Some, [], ap, arith, cond, inl, inr, is_some, refl, subst, sym, true, ◌+◌, ◌∙◌, ◌∷◌, ◌≡◌, ◌≤◌, empty, get, get-empty, get-insert, len, len-empty, len-insert, remove, eq_by_cmp, key_total, le_or_not, swap_or_not, swap_unique, inverse_of, key_cmp, Key, Named, inverse_all, keys_or_not, lists_or_not, ContextedPatch, ContextedPatches, bare, context_key, only, patch_key, CasesExclude, BothPlain, CommuteCatch, CommuteConflictors, CommutePlainConflictor, ConflictDissolves, ConflictorPastPlain, OneOfSeveralConflicts, OnlyConflictGoes, PlainLeavesTheSet, PlainPastConflictor, TwoConflictorsApart, against, in_conflict_with, joined_by, with_effect, without, CommuteIsUnique, Catch, Plain, Conflictor}
 use Rattle.camp_catch.proofs.Determined.{Determined, both, chain, either, found, made_of, none_or_not, pairs, where_holds}
 use Rattle.camp_catch.proofs.PartsDetermined.{adds_to_bare, against_one, all_added_to, all_pass_by, comes_before, effects_pass, fronts, lacks_or_not, one_member, one_passes, order, passes_by}
 
@@ -16,48 +16,19 @@ plain_past_conflictor : (a : Named) (k : Conflictor) → IsDetermined (PlainPast
 plain_past_conflictor a k =
     made_of (where_holds (none_or_not (get k.conflicts (patch_key a))) (λ apart.
     chain (one_passes a k.effect) (λ p passes.
-    passes_by p.1 k (order p.0)))) (λ x. (Catch.Conflictor x.1, Plain x.0.1)) (λ x w. record {
-      apart = w.0;
-      passed = x.0.0;
-      a' = x.0.1;
-      passes = w.1.0;
-      moved = x.1;
-      becomes = w.1.1;
-      second = refl;
-      first = refl;
-    }) (λ pair c. (((c.passed, c.a'), c.moved), (c.apart, (c.passes, c.becomes)), λ t. (c.second t, c.first t)))
+    passes_by p.1 k (order p.0)))) (λ x. (Catch.Conflictor x.1, Plain x.0.1)) (λ x w. record { apart = w.0; passed = x.0.0; a' = x.0.1; passes = w.1.0; moved = x.1; becomes = w.1.1; second = refl; first = refl }) (λ pair c. (((c.passed, c.a'), c.moved), (c.apart, (c.passes, c.becomes)), λ t. (c.second t, c.first t)))
 
 conflictor_past_plain : (j : Conflictor) (b : Named) → IsDetermined (ConflictorPastPlain j b)
 conflictor_past_plain j b =
     made_of (chain (comes_before j.effect b) (λ p passes.
-    passes_by (inverse_of b) j (order p.1))) (λ x. (Plain x.0.0, Catch.Conflictor x.1)) (λ x w. record {
-      b' = x.0.0;
-      left = x.0.1;
-      passes = w.0;
-      moved = x.1;
-      becomes = w.1;
-      second = refl;
-      first = refl;
-    }) (λ pair c. (((c.b', c.left), c.moved), (c.passes, c.becomes), λ t. (c.second t, c.first t)))
+    passes_by (inverse_of b) j (order p.1))) (λ x. (Plain x.0.0, Catch.Conflictor x.1)) (λ x w. record { b' = x.0.0; left = x.0.1; passes = w.0; moved = x.1; becomes = w.1; second = refl; first = refl }) (λ pair c. (((c.b', c.left), c.moved), (c.passes, c.becomes), λ t. (c.second t, c.first t)))
 
 two_conflictors_apart : (j k : Conflictor) → IsDetermined (TwoConflictorsApart j k)
 two_conflictors_apart j k =
     made_of (where_holds (none_or_not (get k.conflicts (context_key j.identity))) (λ apart.
     where_holds (lacks_or_not (context_key j.identity) k.identity.context) (λ unseen.
     chain (effects_pass j.effect k.effect k.conflicts) (λ e passes.
-    both (all_pass_by e.1 e.0 k) (all_added_to (inverse_all k.effect) e.1 j))))) (λ x. (Catch.Conflictor x.1.0, Catch.Conflictor x.1.1)) (λ x w. record {
-      apart = w.0;
-      unseen = w.1.0;
-      effect = x.0.0;
-      rr' = x.0.1;
-      effects = w.1.1.0;
-      moved = x.1.0;
-      becomes = w.1.1.1.0;
-      own = x.1.1;
-      own_becomes = w.1.1.1.1;
-      second = refl;
-      first = refl;
-    }) (λ pair c. (((c.effect, c.rr'), (c.moved, c.own)), (c.apart, (c.unseen, (c.effects, (c.becomes, c.own_becomes)))), λ t. (c.second t, c.first t)))
+    both (all_pass_by e.1 e.0 k) (all_added_to (inverse_all k.effect) e.1 j))))) (λ x. (Catch.Conflictor x.1.0, Catch.Conflictor x.1.1)) (λ x w. record { apart = w.0; unseen = w.1.0; effect = x.0.0; rr' = x.0.1; effects = w.1.1.0; moved = x.1.0; becomes = w.1.1.1.0; own = x.1.1; own_becomes = w.1.1.1.1; second = refl; first = refl }) (λ pair c. (((c.effect, c.rr'), (c.moved, c.own)), (c.apart, (c.unseen, (c.effects, (c.becomes, c.own_becomes)))), λ t. (c.second t, c.first t)))
 
 conflict_dissolves : (a : Named) (k : Conflictor) → IsDetermined (ConflictDissolves a k)
 conflict_dissolves a k =
@@ -68,36 +39,14 @@ plain_leaves_the_set a k =
     made_of (chain (found (get k.conflicts (patch_key a))) (λ z member.
     where_holds (keys_or_not (context_key z) (patch_key a)) (λ named.
     where_holds (le_or_not 2 (len k.conflicts)) (λ several.
-    chain (fronts (inverse_of a) k.effect) (λ rest front. order rest))))) (λ x. (Catch.Conflictor (with_effect x.1.1 (without (patch_key a) k)), Catch.Conflictor (in_conflict_with k.identity x.0))) (λ x w. record {
-      z = x.0;
-      member = w.0;
-      named = w.1.0;
-      several = w.1.1.0;
-      rest = x.1.0;
-      front = w.1.1.1.0;
-      s' = x.1.1;
-      effect = w.1.1.1.1;
-      second = refl;
-      first = refl;
-    }) (λ pair c. ((c.z, (c.rest, c.s')), (c.member, (c.named, (c.several, (c.front, c.effect)))), λ t. (c.second t, c.first t)))
+    chain (fronts (inverse_of a) k.effect) (λ rest front. order rest))))) (λ x. (Catch.Conflictor (with_effect x.1.1 (without (patch_key a) k)), Catch.Conflictor (in_conflict_with k.identity x.0))) (λ x w. record { z = x.0; member = w.0; named = w.1.0; several = w.1.1.0; rest = x.1.0; front = w.1.1.1.0; s' = x.1.1; effect = w.1.1.1.1; second = refl; first = refl }) (λ pair c. ((c.z, (c.rest, c.s')), (c.member, (c.named, (c.several, (c.front, c.effect)))), λ t. (c.second t, c.first t)))
 
 only_conflict_goes : (j k : Conflictor) → IsDetermined (OnlyConflictGoes j k)
 only_conflict_goes j k =
     made_of (where_holds (lists_or_not k.effect []) (λ no_effect.
     chain (one_member k.conflicts) (λ x alone.
     where_holds (keys_or_not (context_key x) (context_key j.identity)) (λ named.
-    chain (adds_to_bare j.effect k.identity) (λ a adds. order (inverse_of a ∷ j.effect)))))) (λ x. (Plain x.1.0, Catch.Conflictor (with_effect x.1.1 (joined_by k.identity j)))) (λ x w. record {
-      x = x.0;
-      named = w.1.1.0;
-      no_effect = w.0;
-      alone = w.1.0;
-      a = x.1.0;
-      becomes = w.1.1.1.0;
-      effect = x.1.1;
-      joined = w.1.1.1.1;
-      second = refl;
-      first = refl;
-    }) (λ pair c. ((c.x, (c.a, c.effect)), (c.no_effect, (c.alone, (c.named, (c.becomes, c.joined)))), λ t. (c.second t, c.first t)))
+    chain (adds_to_bare j.effect k.identity) (λ a adds. order (inverse_of a ∷ j.effect)))))) (λ x. (Plain x.1.0, Catch.Conflictor (with_effect x.1.1 (joined_by k.identity j)))) (λ x w. record { x = x.0; named = w.1.1.0; no_effect = w.0; alone = w.1.0; a = x.1.0; becomes = w.1.1.1.0; effect = x.1.1; joined = w.1.1.1.1; second = refl; first = refl }) (λ pair c. ((c.x, (c.a, c.effect)), (c.no_effect, (c.alone, (c.named, (c.becomes, c.joined)))), λ t. (c.second t, c.first t)))
 
 one_of_several_conflicts : (j k : Conflictor) → IsDetermined (OneOfSeveralConflicts j k)
 one_of_several_conflicts j k =
@@ -105,20 +54,7 @@ one_of_several_conflicts j k =
     made_of (chain (found (get k.conflicts key)) (λ z member.
     where_holds (le_or_not 2 (len k.conflicts)) (λ several.
     chain (effects_pass j.effect k.effect (remove k.conflicts key)) (λ e passes.
-    both (all_added_to e.1 e.0 (without key k)) (all_added_to (inverse_all k.effect) e.1 j))))) (λ x. (Catch.Conflictor x.1.1.0, Catch.Conflictor (joined_by k.identity x.1.1.1))) (λ x w. record {
-      z = x.0;
-      member = w.0;
-      several = w.1.0;
-      effect = x.1.0.0;
-      rr' = x.1.0.1;
-      effects = w.1.1.0;
-      moved = x.1.1.0;
-      becomes = w.1.1.1.0;
-      own = x.1.1.1;
-      own_becomes = w.1.1.1.1;
-      second = refl;
-      first = refl;
-    }) (λ pair c. ((c.z, ((c.effect, c.rr'), (c.moved, c.own))), (c.member, (c.several, (c.effects, (c.becomes, c.own_becomes)))), λ t. (c.second t, c.first t)))
+    both (all_added_to e.1 e.0 (without key k)) (all_added_to (inverse_all k.effect) e.1 j))))) (λ x. (Catch.Conflictor x.1.1.0, Catch.Conflictor (joined_by k.identity x.1.1.1))) (λ x w. record { z = x.0; member = w.0; several = w.1.0; effect = x.1.0.0; rr' = x.1.0.1; effects = w.1.1.0; moved = x.1.1.0; becomes = w.1.1.1.0; own = x.1.1.1; own_becomes = w.1.1.1.1; second = refl; first = refl }) (λ pair c. ((c.z, ((c.effect, c.rr'), (c.moved, c.own))), (c.member, (c.several, (c.effects, (c.becomes, c.own_becomes)))), λ t. (c.second t, c.first t)))
 
 -- a key is its own equal
 key_itself : (key : Key) → eq_by_cmp key_cmp key key ≡ true

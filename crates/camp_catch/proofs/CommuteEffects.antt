@@ -1,6 +1,6 @@
 -- Commuting keeps effects: each case is a path of trees.
-use Rattle.camp_catch.proofs.Words.{◌≡◌, inl, inr, List, [], ◌∷◌, ◌++◌, refl, sym, subst, append_assoc, remove, Files, Applies, inverse_of, label_of, Named, applies_once, ◌~◌, through, Norm, AppliesAll, inverse_all, equal_are, before, behind, after_one, swapped, passed, all_passed, fronted, ordered, split, joined, runs_back, Adds, AddsAll, PassesBy, PassesByAll, ContextedPatches, Valid, bare, patch_key, context_key, valid_by_adding, valid_by_adding_all, valid_by_passing, valid_by_passing_all, Fits, BothPlain, PlainPastConflictor, ConflictorPastPlain, EffectsPass, labels_undone, TwoConflictorsApart, ConflictDissolves, PlainLeavesTheSet, OnlyConflictGoes, OneOfSeveralConflicts, against, in_conflict_with, joined_by, with_effect, without, CommuteKeepsEffects, Catch, Plain, Conflictor}
-use Rattle.camp_catch.proofs.Fitting.{FitBoth, fit_both_as, plain_fits, conflictor_fits, becomes_fits, added_fits, joined_fits, along, places_change, one_runs, one_applies, one_back, only_valid, without_valid}
+use Rattle.camp_catch.proofs.Words.{List, [], inl, inr, refl, subst, sym, ◌++◌, ◌∷◌, ◌≡◌, append_assoc, remove, Files, applies_once, Applies, inverse_of, label_of, Named, after_one, all_passed, before, behind, equal_are, fronted, joined, ordered, passed, split, swapped, runs_back, through, ◌~◌, Norm, AppliesAll, inverse_all, valid_by_adding, valid_by_adding_all, valid_by_passing, valid_by_passing_all, Adds, AddsAll, PassesBy, PassesByAll, ContextedPatches, Valid, bare, context_key, patch_key, Fits, BothPlain, ConflictDissolves, ConflictorPastPlain, EffectsPass, OneOfSeveralConflicts, OnlyConflictGoes, PlainLeavesTheSet, PlainPastConflictor, TwoConflictorsApart, labels_undone, against, in_conflict_with, with_effect, without, CommuteKeepsEffects, Catch, Plain, Conflictor}
+use Rattle.camp_catch.proofs.Fitting.{FitBoth, plain_fits, conflictor_fits, becomes_fits, added_fits, joined_fits, along, places_change, one_runs, one_applies, one_back, only_valid, without_valid}
 
 -- a case keeps effects
 abbrev KeepsEffects : Catch → Catch → (Catch → Catch → Type 0) → Type 0
@@ -10,7 +10,7 @@ KeepsEffects j k Case =
 both_plain : (a b : Named) → KeepsEffects (Plain a) (Plain b) (BothPlain a b)
 both_plain a b k' j' w old between new f g =
     let runs = places_change (a ∷ []) (b ∷ []) (w.b' ∷ []) (w.a' ∷ []) (swapped a b w.b' w.a' [] w.swap) old between new f.effect g.effect in
-    fit_both_as (Plain w.b') (Plain w.a') k' j' old new w.second w.first (runs.0, plain_fits w.b' old runs.0 runs.1, plain_fits w.a' runs.0 new runs.2)
+    rw (w.second, w.first) (runs.0, plain_fits w.b' old runs.0 runs.1, plain_fits w.a' runs.0 new runs.2)
 
 plain_past_conflictor : (a : Named) (k : Conflictor) → KeepsEffects (Plain a) (Catch.Conflictor k) (PlainPastConflictor a k)
 plain_past_conflictor a k k' j' w old between new f g =
@@ -19,7 +19,7 @@ plain_past_conflictor a k k' j' w old between new f g =
     through (passed a k.effect w.passed w.a' w.passes) (before w.passed s' (w.a' ∷ []) (ordered w.passed s' w.becomes.effect)) in
     let runs = places_change (a ∷ []) k.effect s' (w.a' ∷ []) order old between new f.effect g.effect in
     let moved = becomes_fits (Norm w.passed) (Adds w.a') (PassesBy w.a') (Applies w.a'.prim) (valid_by_adding w.a') (valid_by_passing w.a') k w.moved w.becomes old runs.0 new runs.1 (one_applies w.a' runs.0 new runs.2) g.seen in
-    fit_both_as (Catch.Conflictor w.moved) (Plain w.a') k' j' old new w.second w.first (runs.0, moved, plain_fits w.a' runs.0 new runs.2)
+    rw (w.second, w.first) (runs.0, moved, plain_fits w.a' runs.0 new runs.2)
 
 conflictor_past_plain : (j : Conflictor) (b : Named) → KeepsEffects (Catch.Conflictor j) (Plain b) (ConflictorPastPlain j b)
 conflictor_past_plain j b k' j' w old between new f g =
@@ -29,7 +29,7 @@ conflictor_past_plain j b k' j' w old between new f g =
     through (all_passed j.effect (b ∷ []) (w.b' ∷ []) w.left w.passes) (after_one w.b' w.left r' (ordered w.left r' w.becomes.effect)) in
     let runs = places_change j.effect (b ∷ []) (w.b' ∷ []) r' order old between new f.effect g.effect in
     let moved = becomes_fits (Norm w.left) (Adds back) (PassesBy back) (Applies back.prim) (valid_by_adding back) (valid_by_passing back) j w.moved w.becomes runs.0 new between runs.2 (one_back b between new g.effect) f.seen in
-    fit_both_as (Plain w.b') (Catch.Conflictor w.moved) k' j' old new w.second w.first (runs.0, plain_fits w.b' old runs.0 runs.1, moved)
+    rw (w.second, w.first) (runs.0, plain_fits w.b' old runs.0 runs.1, moved)
 
 effects_pass : (r s : List Named) (ys : ContextedPatches) (effect rr' : List Named) → EffectsPass r s ys effect rr' → (r ++ s) ~ (effect ++ rr')
 effects_pass r s ys effect rr' w =
@@ -46,7 +46,7 @@ two_conflictors_apart j k k' j' w old between new f g =
     let runs = places_change j.effect k.effect w.effect w.rr' (effects_pass j.effect k.effect k.conflicts w.effect w.rr' w.effects) old between new f.effect g.effect in
     let moved = becomes_fits (λ t. t ≡ w.effect) (AddsAll w.rr') (PassesByAll w.rr') (AppliesAll w.rr') (valid_by_adding_all w.rr') (valid_by_passing_all w.rr') k w.moved w.becomes old runs.0 new (subst (λ t. AppliesAll t old runs.0) (sym w.becomes.effect) runs.1) runs.2 g.seen in
     let own = added_fits (inverse_all k.effect) w.rr' j w.own w.own_becomes runs.0 new between runs.2 (runs_back k.effect between new g.effect) f.seen in
-    fit_both_as (Catch.Conflictor w.moved) (Catch.Conflictor w.own) k' j' old new w.second w.first (runs.0, moved, own)
+    rw (w.second, w.first) (runs.0, moved, own)
 
 one_of_several_conflicts : (j k : Conflictor) → KeepsEffects (Catch.Conflictor j) (Catch.Conflictor k) (OneOfSeveralConflicts j k)
 one_of_several_conflicts j k k' j' w old between new f g =
@@ -54,7 +54,7 @@ one_of_several_conflicts j k k' j' w old between new f g =
     let runs = places_change j.effect k.effect w.effect w.rr' (effects_pass j.effect k.effect (remove k.conflicts key) w.effect w.rr' w.effects) old between new f.effect g.effect in
     let moved = added_fits w.rr' w.effect (without key k) w.moved w.becomes old runs.0 new runs.1 runs.2 (without_valid new k.conflicts key g.seen.0, g.seen.1) in
     let own = added_fits (inverse_all k.effect) w.rr' j w.own w.own_becomes runs.0 new between runs.2 (runs_back k.effect between new g.effect) f.seen in
-    fit_both_as (Catch.Conflictor w.moved) (Catch.Conflictor (joined_by k.identity w.own)) k' j' old new w.second w.first (runs.0, moved, joined_fits w.own k.identity runs.0 new own g.seen.1)
+    rw (w.second, w.first) (runs.0, moved, joined_fits w.own k.identity runs.0 new own g.seen.1)
 
 -- the inverse of a leads back to where a began
 back_to_old : (a : Named) (old between new : Files) → AppliesAll (a ∷ []) old between → Applies (inverse_of a).prim between new → new ≡ old
@@ -69,7 +69,7 @@ conflict_dissolves a k k' j' w old between new f g =
     let second : AppliesAll (w.q ∷ []) old valid.0 = subst (λ t. AppliesAll (w.q ∷ []) t valid.0) same valid.1 in
     let back : AppliesAll (inverse_of w.q ∷ []) valid.0 new = one_runs (inverse_of w.q) valid.0 new (one_back w.q new valid.0 valid.1) in
     let own : Valid new (bare a) = (between, subst (λ t. AppliesAll (a ∷ []) t between) (sym same) f.effect) in
-    fit_both_as (Plain w.q) (Catch.Conflictor (against w.q a)) k' j' old new w.second w.first (valid.0, plain_fits w.q old valid.0 second, conflictor_fits (against w.q a) valid.0 new back (only_valid new (bare w.q) valid) own)
+    rw (w.second, w.first) (valid.0, plain_fits w.q old valid.0 second, conflictor_fits (against w.q a) valid.0 new back (only_valid new (bare w.q) valid) own)
 
 plain_leaves_the_set : (a : Named) (k : Conflictor) → KeepsEffects (Plain a) (Catch.Conflictor k) (PlainLeavesTheSet a k)
 plain_leaves_the_set a k k' j' w old between new f g =
@@ -79,7 +79,7 @@ plain_leaves_the_set a k k' j' w old between new f g =
     through (fronted (label_of (inverse_of a)) k.effect (inverse_of a) w.rest w.front) (after_one (inverse_of a) w.rest w.s' (ordered w.rest w.s' w.effect)) in
     let run = along k.effect (inverse_of a ∷ w.s') order between new g.effect in
     let rest : AppliesAll w.s' old new = subst (λ t. AppliesAll w.s' t new) (back_to_old a old between run.0 f.effect run.1) run.2 in
-    fit_both_as (Catch.Conflictor left) (Catch.Conflictor (in_conflict_with k.identity w.z)) k' j' old new w.second w.first (new, conflictor_fits left old new rest (without_valid new k.conflicts key g.seen.0) g.seen.1, conflictor_fits (in_conflict_with k.identity w.z) new new refl (only_valid new k.identity g.seen.1) (g.seen.0 key w.z w.member))
+    rw (w.second, w.first) (new, conflictor_fits left old new rest (without_valid new k.conflicts key g.seen.0) g.seen.1, conflictor_fits (in_conflict_with k.identity w.z) new new refl (only_valid new k.identity g.seen.1) (g.seen.0 key w.z w.member))
 
 only_conflict_goes : (j k : Conflictor) → KeepsEffects (Catch.Conflictor j) (Catch.Conflictor k) (OnlyConflictGoes j k)
 only_conflict_goes j k k' j' w old between new f g =
@@ -88,7 +88,7 @@ only_conflict_goes j k k' j' w old between new f g =
     let valid : Valid old (bare w.a) = valid_by_adding_all j.effect k.identity (bare w.a) w.becomes old new h.effect g.seen.1 in
     let run : AppliesAll (inverse_of w.a ∷ j.effect) valid.0 new = (old, one_back w.a old valid.0 valid.1, h.effect) in
     let back = along (inverse_of w.a ∷ j.effect) w.effect (ordered (inverse_of w.a ∷ j.effect) w.effect w.joined) valid.0 new run in
-    fit_both_as (Plain w.a) (Catch.Conflictor (with_effect w.effect (joined_by k.identity j))) k' j' old new w.second w.first (valid.0, plain_fits w.a old valid.0 valid.1, joined_fits (with_effect w.effect j) k.identity valid.0 new (conflictor_fits (with_effect w.effect j) valid.0 new back h.seen.0 h.seen.1) g.seen.1)
+    rw (w.second, w.first) (valid.0, plain_fits w.a old valid.0 valid.1, joined_fits (with_effect w.effect j) k.identity valid.0 new (conflictor_fits (with_effect w.effect j) valid.0 new back h.seen.0 h.seen.1) g.seen.1)
 
 pub commute_keeps_effects : CommuteKeepsEffects
 commute_keeps_effects (Plain a) (Plain b) k' j' w = both_plain a b k' j' w

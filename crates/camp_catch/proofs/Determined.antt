@@ -1,6 +1,6 @@
 -- Relations that have at most one result, where it is decided whether they have one.
-use Rattle.camp_catch.proofs.Words.{◌≡◌, ◌⊎◌, Option, None, Some, refl, sym, ap, ◌∙◌, subst, inl, inr, Decided, decided_by}
 use Rattle.std.proofs.lemmas.Option.{same_Some}
+use Rattle.camp_catch.proofs.Words.{None, Option, Some, ap, inl, inr, refl, subst, sym, ◌∙◌, ◌≡◌, ◌⊎◌, Decided, decided_by}
 
 -- a relation has at most one result, and it is decided whether it has one
 pub record Determined {X : Type 0} (Gives : X → Type 0) : Type 0 where
@@ -9,10 +9,7 @@ pub record Determined {X : Type 0} (Gives : X → Type 0) : Type 0 where
 
 -- a fact, and then a relation
 pub where_holds : {Fact X : Type 0} {Gives : X → Type 0} → Decided Fact → (Fact → Determined Gives) → Determined (λ x. Fact × Gives x)
-where_holds (inl fact) next = record {
-  one = λ x y v w. (next fact).one x y v.1 w.1;
-  decided = decided_by (λ w. (w.0, (fact, w.1))) (λ w. (w.0, w.1.1)) (next fact).decided;
-}
+where_holds (inl fact) next = record { one = λ x y v w. (next fact).one x y v.1 w.1; decided = decided_by (λ w. (w.0, (fact, w.1))) (λ w. (w.0, w.1.1)) (next fact).decided }
 where_holds (inr never) next = record { one = λ x y v w. absurd (never v.0); decided = inr (λ w. never w.1.0) }
 
 -- a result, and what it leads to
@@ -53,10 +50,7 @@ either apart one other = record {
 
 -- a relation of two results, as one of a pair
 pub pairs : {X Y : Type 0} {Gives : X → Y → Type 0} → ((x z : X) (y w : Y) → Gives x y → Gives z w → (x ≡ z) × (y ≡ w)) → Decided ((x : X) × (y : Y) × Gives x y) → Determined (λ (p : X × Y). Gives p.0 p.1)
-pairs one decided = record {
-  one = λ p q v w. let e = one p.0 q.0 p.1 q.1 v w in λ t. (e.0 t, e.1 t);
-  decided = decided_by (λ w. ((w.0, w.1), w.2)) (λ w. (w.0.0, w.0.1, w.1)) decided;
-}
+pairs one decided = record { one = λ p q v w. let e = one p.0 q.0 p.1 q.1 v w in λ t. (e.0 t, e.1 t); decided = decided_by (λ w. ((w.0, w.1), w.2)) (λ w. (w.0.0, w.0.1, w.1)) decided }
 
 -- a relation that always has a result
 pub always : {X : Type 0} {Gives : X → Type 0} → ((x y : X) → Gives x → Gives y → x ≡ y) → (x : X) × Gives x → Determined Gives

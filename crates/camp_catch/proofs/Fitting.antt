@@ -1,13 +1,9 @@
 -- Catches that fit one after the other, and what keeps the members of sets valid.
-use Rattle.camp_catch.proofs.Words.{◌≡◌, Bool, true, false, cond, Option, None, Some, List, [], ◌∷◌, ◌++◌, refl, sym, subst, get, contains_key, remove, insert, empty, get-empty, get-insert, get-remove, eq_by_cmp, Files, Applies, inverse_of, key_cmp, Key, Named, applies_once, leads_back, inverse_of-inverse_of, ◌~◌, AppliesAll, MergesOne, passed, joined_runs, cut_run, equivalent_run, row_passes, ContextedPatch, ContextedPatches, AreValid, Valid, only, with_member, context_key, AddsAll, KeepsValid, valid_by_adding_all, members_valid, key_total, Becomes, joined_by, Fits, IsSeenFrom, Catch, Plain, Conflictor}
+use Rattle.camp_catch.proofs.Words.{Bool, List, None, Option, Some, [], cond, false, refl, subst, sym, true, ◌++◌, ◌∷◌, ◌≡◌, contains_key, empty, get, get-empty, get-insert, get-remove, insert, remove, eq_by_cmp, Files, applies_once, inverse_of-inverse_of, leads_back, key_total, Applies, inverse_of, key_cmp, Key, Named, passed, cut_run, equivalent_run, joined_runs, row_passes, ◌~◌, MergesOne, AppliesAll, valid_by_adding_all, members_valid, AddsAll, AreValid, ContextedPatch, ContextedPatches, Valid, context_key, only, with_member, KeepsValid, Fits, IsSeenFrom, Becomes, joined_by, Catch, Plain, Conflictor}
 
 -- two catches that fit, one after the other
 abbrev pub FitBoth : Catch → Catch → Files → Files → Type 0
 FitBoth j k old new = (between : Files) × Fits j old between × Fits k between new
-
-pub fit_both_as : (j k j' k' : Catch) (old new : Files) → j' ≡ j → k' ≡ k → FitBoth j k old new → FitBoth j' k' old new
-fit_both_as j k j' k' old new e f both =
-    subst (λ x. FitBoth j' x old new) (sym f) (subst (λ x. FitBoth x k old new) (sym e) both)
 
 pub plain_fits : (a : Named) (old new : Files) → AppliesAll (a ∷ []) old new → Fits (Plain a) old new
 plain_fits a old new run = record { effect = run; seen = tt }

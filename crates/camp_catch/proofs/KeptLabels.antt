@@ -1,5 +1,6 @@
 -- Commuting and merging keep labels, and so do arranging, aligning and merging lists.
-use Rattle.camp_catch.proofs.Words.{◌≡◌, inl, inr, append-nil, List, [], ◌∷◌, ◌++◌, map, refl, sym, ap, ◌∙◌, subst, ℕ, map-append, append_assoc, inverse_of, label_of, key_of, Key, Label, Named, MergesOne, Passes, PassesAll, Adds, PassesBy, PassesByAll, ContextedPatch, patch_key, context_key, bare, same_key_of_sum, ComesBefore, ArrangesBehind, ComesFirst, Align, catch_key, CommuteCatch, KeepLabels, KeysPart, KeysAlign, keys_of, JoinsWhere, MergeCatch, MergePlainConflictor, MergesWithAll, MergeLists, Catch, Plain, Conflictor}
+use Rattle.camp_prim.specs.declared.labels.Label.{Label}
+use Rattle.camp_catch.proofs.Words.{List, [], ap, append-nil, inl, inr, map, refl, subst, sym, ℕ, ◌++◌, ◌∙◌, ◌∷◌, ◌≡◌, append_assoc, map-append, inverse_of, key_of, label_of, Key, Named, row_passes, MergesOne, Passes, PassesAll, same_key_of_sum, Adds, PassesBy, PassesByAll, ContextedPatch, bare, context_key, patch_key, Align, ArrangesBehind, ComesBefore, ComesFirst, catch_key, CommuteCatch, KeepLabels, KeysAlign, KeysPart, keys_of, JoinsWhere, MergeCatch, MergePlainConflictor, MergeLists, MergesWithAll, Catch, Plain, Conflictor}
 
 passed_key : (p : Named) (s s' : List Named) (p' : Named) → Passes p s s' p' → patch_key p' ≡ patch_key p
 passed_key p [] s' p' w = ap patch_key w.1
@@ -23,8 +24,7 @@ passed_by_all_key r b b' left w =
     ap key_of (same_label _ _ (all_passed_labels r (b ∷ []) (b' ∷ []) left w))
 
 merged_key : (a : Named) (s s' : List Named) (a' : Named) → MergesOne a s s' a' → patch_key a' ≡ patch_key a
-merged_key a [] s' a' w = ap patch_key w.1
-merged_key a (b ∷ s) s' a' w = merged_key w.1 s w.2 a' w.4 ∙ ap key_of w.3.anywhere.first
+merged_key a s s' a' w = passed_key (inverse_of a) s s' (inverse_of a') (row_passes a s s' a' w)
 
 added_key : (a : Named) (x y : ContextedPatch) → Adds a x y → context_key y ≡ context_key x
 added_key a x y w = same_key_of_sum (a ∷ []) x y (x, refl, w)

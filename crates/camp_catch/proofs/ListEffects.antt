@@ -1,5 +1,5 @@
 -- Lists of catches keep fitting: a commute of neighbours does, and a merge of lists is a grid of merges.
-use Rattle.camp_catch.proofs.Words.{◌≡◌, inl, inr, List, [], ◌∷◌, ◌++◌, refl, sym, subst, ℕ, Files, Key, ComesBefore, ArrangesBehind, ComesFirst, Align, Fits, FitsAll, ListsKeepEffects, MergesWithAll, MergeLists, Catch}
+use Rattle.camp_catch.proofs.Words.{List, [], inl, inr, refl, subst, sym, ℕ, ◌++◌, ◌∷◌, ◌≡◌, Files, Key, Align, ArrangesBehind, ComesBefore, ComesFirst, Fits, FitsAll, ListsKeepEffects, MergeLists, MergesWithAll, Catch}
 use Rattle.camp_catch.proofs.CommuteEffects.{commute_keeps_effects}
 use Rattle.camp_catch.proofs.MergeEffects.{merge_keeps_effects}
 
@@ -69,8 +69,4 @@ merged_fits (k ∷ p) q p' q' w old left right f g =
     (rest.0, fits_as p' (w.0 ∷ w.2) left rest.0 w.5 (row.0, row.1, rest.1), rest.2)
 
 pub lists_keep_effects : ListsKeepEffects
-lists_keep_effects = record {
-  arranged = λ names list first rest w old new f. arranged_behind names [] list first rest w old old new refl f;
-  aligned = aligned_fits;
-  merged = merged_fits;
-}
+lists_keep_effects = record { arranged = λ names list first rest w old new f. arranged_behind names [] list first rest w old old new refl f; aligned = aligned_fits; merged = merged_fits }

@@ -1,14 +1,13 @@
 -- What lists of catches become is determined: one result, or one place where they stick, and never both.
-use Rattle.camp_catch.proofs.Words.{◌≡◌, ◌↔◌, ◌⊎◌, inl, inr, List, [], ◌∷◌, ◌++◌, refl, ap, ℕ, Contains, Key, Decided, among_or_not, keys_or_not, bytes_or_not, ComesBefore, StopsAt, ArrangesBehind, SticksBehind, IsOf, ComesFirst, Align, AlignSticks, catch_key, ArrangeByMembers, CatchesAreDecided, GivesOnePair, HasPair, ListsAreUnique, ListsSucceedOrStick, OneOf, MergesWithAll, SticksWithin, MergeLists, MergeSticks, Catch}
+use Rattle.camp_catch.proofs.Words.{Contains, List, [], ap, inl, inr, refl, ℕ, ◌++◌, ◌↔◌, ◌∷◌, ◌≡◌, ◌⊎◌, Decided, Key, among_or_not, keys_or_not, bytes_or_not, Align, AlignSticks, ArrangesBehind, ComesBefore, ComesFirst, IsOf, SticksBehind, StopsAt, catch_key, ArrangeByMembers, CatchesAreDecided, GivesOnePair, HasPair, ListsAreUnique, ListsSucceedOrStick, OneOf, MergeLists, MergeSticks, MergesWithAll, SticksWithin, Catch}
 use Rattle.camp_catch.proofs.CommuteCases.{IsDetermined, commuting}
 use Rattle.camp_catch.proofs.Determined.{Determined, chain, either, just, made_of, not_or_not, where_holds}
 use Rattle.camp_catch.proofs.MergeCases.{merging}
-use Rattle.camp_catch.proofs.Settled.{Settled, at_once, beside, by_cases, next, settled_as, settles}
+use Rattle.camp_catch.proofs.Settled.{Settled, at_once, both_at_once, beside, by_cases, next, settled_as, settles}
 
 -- the two catches that come of a pair, or the labels where none do
 pub coming : (list : List Catch) (k : Catch) → Settled (λ (p : Catch × List Catch). ComesBefore list k p.0 p.1) (StopsAt list k)
-coming [] k =
-    settled_as (at_once (k, [])) (λ x. x) (λ x e. (ap (λ (p : Catch × List Catch). p.0) e, ap (λ (p : Catch × List Catch). p.1) e)) (λ y w. (y, (λ t. (w.0 t, w.1 t)), refl)) (λ on w. w) (λ on w. w)
+coming [] k = both_at_once k []
 coming (j ∷ list) k =
     settled_as (next (coming list k) (λ p w. settles (commuting j p.0) (catch_key j))) (λ x. (x.1.0, x.1.1 ∷ x.0.1)) (λ x w. (x.0.0, x.1.1, x.0.1, w.0, w.1, refl)) (λ y c. (((c.0, c.2), (y.0, c.1)), (c.3, c.4), λ t. (y.0, c.5 t))) (λ on v. elim v [
       | inl s ↦ inl s
@@ -22,8 +21,7 @@ is_of_or_not : (names : List (List ℕ)) (k : Catch) → Decided (IsOf names k)
 is_of_or_not names k = among_or_not bytes_or_not names (catch_key k).name
 
 arranging : (names : List (List ℕ)) (rest list : List Catch) → Settled (λ (p : List Catch × List Catch). ArrangesBehind names rest list p.0 p.1) (λ (s : Key × Key). SticksBehind names rest list s.0 s.1)
-arranging names rest [] =
-    settled_as (at_once ([], rest)) (λ x. x) (λ x e. (ap (λ (p : List Catch × List Catch). p.0) e, ap (λ (p : List Catch × List Catch). p.1) e)) (λ y w. (y, (λ t. (w.0 t, w.1 t)), refl)) (λ on w. w) (λ on w. w)
+arranging names rest [] = both_at_once [] rest
 arranging names rest (k ∷ list) =
     let come = settled_as (next (beside (catch_key k) (coming rest k)) (λ p w. arranging names p.1 list)) (λ x. (x.0.0 ∷ x.1.0, x.1.1)) (λ x w. (x.0.0, x.0.1, x.1.0, w.0, w.1, refl)) (λ y c. (((c.0, c.1), (c.2, y.1)), (c.3, c.4), λ t. (c.5 t, y.1))) (λ on v. v) (λ on v. v) in
     settled_as (by_cases (is_of_or_not names k) come (arranging names (rest ++ k ∷ []) list)) (λ x. x) (λ x w. w) (λ y w. (y, w, refl)) (λ s v. elim v [
@@ -54,8 +52,7 @@ aligning (key ∷ order) list =
     ])
 
 merging_with_all : (q : List Catch) (k : Catch) → Settled (λ (p : Catch × List Catch). MergesWithAll q k p.0 p.1) (λ (s : Key × Key). SticksWithin q k s.0 s.1)
-merging_with_all [] k =
-    settled_as (at_once (k, [])) (λ x. x) (λ x e. (ap (λ (p : Catch × List Catch). p.0) e, ap (λ (p : Catch × List Catch). p.1) e)) (λ y w. (y, (λ t. (w.0 t, w.1 t)), refl)) (λ on w. w) (λ on w. w)
+merging_with_all [] k = both_at_once k []
 merging_with_all (j ∷ q) k =
     settled_as (next (settles (merging j k) (catch_key j, catch_key k)) (λ p w. merging_with_all q p.0)) (λ x. (x.1.0, x.0.1 ∷ x.1.1)) (λ x w. (x.0.0, x.0.1, x.1.1, w.0, w.1, refl)) (λ y c. (((c.0, c.1), (y.0, c.2)), (c.3, c.4), λ t. (y.0, c.5 t))) (λ s v. elim v [
       | inl w ↦ inl ((λ k' j' m. w.0 (k', j') m), ap (λ (p : Key × Key). p.0) w.1, ap (λ (p : Key × Key). p.1) w.1)
@@ -66,8 +63,7 @@ merging_with_all (j ∷ q) k =
     ])
 
 merging_lists : (p q : List Catch) → Settled (λ (r : List Catch × List Catch). MergeLists p q r.0 r.1) (λ (s : Key × Key). MergeSticks p q s.0 s.1)
-merging_lists [] q =
-    settled_as (at_once ([], q)) (λ x. x) (λ x e. (ap (λ (p : List Catch × List Catch). p.0) e, ap (λ (p : List Catch × List Catch). p.1) e)) (λ y w. (y, (λ t. (w.0 t, w.1 t)), refl)) (λ on w. w) (λ on w. w)
+merging_lists [] q = both_at_once [] q
 merging_lists (k ∷ p) q =
     settled_as (next (merging_with_all q k) (λ r w. merging_lists p r.1)) (λ x. (x.0.0 ∷ x.1.0, x.1.1)) (λ x w. (x.0.0, x.0.1, x.1.0, w.0, w.1, refl)) (λ y c. (((c.0, c.1), (c.2, y.1)), (c.3, c.4), λ t. (c.5 t, y.1))) (λ s v. elim v [ inl w ↦ inl w | inr w ↦ inr (w.0.0, w.0.1, w.1, w.2) ]) (λ s v. elim v [ inl w ↦ inl w | inr w ↦ inr ((w.0, w.1), w.2, w.3) ])
 
@@ -98,10 +94,7 @@ pair_or_none determined = elim determined.decided [
 ]
 
 pub are_decided : CatchesAreDecided
-are_decided = record {
-  commute = λ j k. pair_or_none (commuting j k);
-  merge = λ j k. pair_or_none (merging j k);
-}
+are_decided = record { commute = λ j k. pair_or_none (commuting j k); merge = λ j k. pair_or_none (merging j k) }
 
 one_of : {X Y Z W : Type 0} {Done : X → Y → Type 0} {Sticks : Z → W → Type 0} → Settled (λ (p : X × Y). Done p.0 p.1) (λ (s : Z × W). Sticks s.0 s.1) → OneOf (HasPair Done) (HasPair Sticks)
 one_of d = (elim d.either [ inl w ↦ inl (w.0.0, w.0.1, w.1) | inr w ↦ inr (w.0.0, w.0.1, w.1) ], λ v w. d.apart (v.0, v.1) (w.0, w.1) v.2 w.2)
@@ -139,7 +132,4 @@ stuck_alike names others same rest (k ∷ list) patch on (inr (inr w)) =
     inr (inr (λ is. w.0 ((same _).1 is), stuck_alike names others same (rest ++ k ∷ []) list patch on w.1))
 
 pub arrange_by_members : ArrangeByMembers
-arrange_by_members = record {
-  arranged = λ names others same list first rest w. arranged_alike names others same [] list first rest w;
-  sticks = λ names others same list patch on w. stuck_alike names others same [] list patch on w;
-}
+arrange_by_members = record { arranged = λ names others same list first rest w. arranged_alike names others same [] list first rest w; sticks = λ names others same list patch on w. stuck_alike names others same [] list patch on w }

@@ -1,5 +1,5 @@
 -- The cases of merging exclude one another, and each is determined.
-use Rattle.camp_catch.proofs.Words.{List, ◌∷◌, refl, sym, ap, subst, inverse_of, Swap, Named, inverse_of-inverse_of, Decided, decided_by, swap_or_not, swap_unique, Merges, MergesOne, inverse_all, row_passes, passes_row, Conflict, ContextedPatch, bare, one_add_of_all, one_merge_behind, conflict_or_not, merge_behind_or_not, MergeCasesExclude, against, in_conflict_with, joined_by, with_effect, MergeIsUnique, Clean, FirstConflict, PlainBesideConflictor, PlainJoinsConflictor, MergePlainConflictor, Mirror, JoinsWhere, TwoConflictors, MergeCatch, Catch, Plain, Conflictor}
+use Rattle.camp_catch.proofs.Words.{List, ap, refl, subst, sym, ◌∷◌, inverse_of-inverse_of, Decided, decided_by, swap_or_not, swap_unique, inverse_of, Swap, Named, passes_row, row_passes, Merges, MergesOne, inverse_all, one_add_of_all, one_merge_behind, conflict_or_not, merge_behind_or_not, Conflict, ContextedPatch, bare, MergeCasesExclude, against, in_conflict_with, joined_by, with_effect, MergeIsUnique, Clean, FirstConflict, JoinsWhere, MergeCatch, MergePlainConflictor, Mirror, PlainBesideConflictor, PlainJoinsConflictor, TwoConflictors, Catch, Plain, Conflictor}
 use Rattle.camp_catch.proofs.CommuteCases.{IsDetermined}
 use Rattle.camp_catch.proofs.Determined.{Determined, both, chain, either, just, made_of, not_or_not, pairs, where_holds}
 use Rattle.camp_catch.proofs.PartsDetermined.{adds_all, adds_to, all_added_to, one_passes, order}
@@ -30,34 +30,13 @@ plain_beside_conflictor : (a : Named) (k : Conflictor) → IsDetermined (PlainBe
 plain_beside_conflictor a k =
     made_of (chain (adds_all k.effect k.identity) (λ seen sees.
     where_holds (not_or_not (conflict_or_not (bare a) seen)) (λ apart.
-    chain (row a k.effect) (λ p merges. adds_to (inverse_of p.1) k (order p.0))))) (λ x. (Catch.Conflictor x.1.1, Plain x.1.0.1)) (λ x w. record {
-      seen = x.0;
-      sees = w.0;
-      apart = w.1.0;
-      merged = x.1.0.0;
-      a' = x.1.0.1;
-      merge = w.1.1.0;
-      moved = x.1.1;
-      becomes = w.1.1.1;
-      after = refl;
-      beside = refl;
-    }) (λ pair c. ((c.seen, ((c.merged, c.a'), c.moved)), (c.sees, (c.apart, (c.merge, c.becomes))), λ t. (c.after t, c.beside t)))
+    chain (row a k.effect) (λ p merges. adds_to (inverse_of p.1) k (order p.0))))) (λ x. (Catch.Conflictor x.1.1, Plain x.1.0.1)) (λ x w. record { seen = x.0; sees = w.0; apart = w.1.0; merged = x.1.0.0; a' = x.1.0.1; merge = w.1.1.0; moved = x.1.1; becomes = w.1.1.1; after = refl; beside = refl }) (λ pair c. ((c.seen, ((c.merged, c.a'), c.moved)), (c.sees, (c.apart, (c.merge, c.becomes))), λ t. (c.after t, c.beside t)))
 
 plain_joins_conflictor : (a : Named) (k : Conflictor) → IsDetermined (PlainJoinsConflictor a k)
 plain_joins_conflictor a k =
     made_of (chain (adds_all k.effect k.identity) (λ seen sees.
     where_holds (conflict_or_not (bare a) seen) (λ conflict.
-    both (adds_all (inverse_all k.effect) (bare a)) (order (inverse_of a ∷ k.effect))))) (λ x. (Catch.Conflictor (with_effect x.1.1 (joined_by x.1.0 k)), Catch.Conflictor (in_conflict_with k.identity x.1.0))) (λ x w. record {
-      seen = x.0;
-      sees = w.0;
-      conflict = w.1.0;
-      z = x.1.0;
-      becomes = w.1.1.0;
-      effect = x.1.1;
-      joined = w.1.1.1;
-      after = refl;
-      beside = refl;
-    }) (λ pair c. ((c.seen, (c.z, c.effect)), (c.sees, (c.conflict, (c.becomes, c.joined))), λ t. (c.after t, c.beside t)))
+    both (adds_all (inverse_all k.effect) (bare a)) (order (inverse_of a ∷ k.effect))))) (λ x. (Catch.Conflictor (with_effect x.1.1 (joined_by x.1.0 k)), Catch.Conflictor (in_conflict_with k.identity x.1.0))) (λ x w. record { seen = x.0; sees = w.0; conflict = w.1.0; z = x.1.0; becomes = w.1.1.0; effect = x.1.1; joined = w.1.1.1; after = refl; beside = refl }) (λ pair c. ((c.seen, (c.z, c.effect)), (c.sees, (c.conflict, (c.becomes, c.joined))), λ t. (c.after t, c.beside t)))
 
 joins : {Holds : Type 0} → Decided Holds → (l : ContextedPatch) (old : Conflictor) → Determined (JoinsWhere Holds l old)
 joins holds l old =

@@ -1,14 +1,10 @@
 -- Merging keeps effects and is symmetric: each case closes a square of trees.
-use Rattle.camp_catch.proofs.Words.{◌≡◌, inl, inr, List, [], ◌∷◌, ◌++◌, refl, sym, subst, Files, Applies, inverse_of, Named, Norm, AppliesAll, inverse_all, ordered, split, cut_run, runs_back, merge_closes, cell_is_symmetric, Adds, MergesBehindCommon, Conflict, common_labels, ContextedPatch, Valid, bare, valid_by_adding, valid_by_adding_all, merge_behind_is_symmetric, conflict_is_symmetric, Fits, against, in_conflict_with, joined_by, with_effect, Clean, FirstConflict, PlainBesideConflictor, PlainJoinsConflictor, JoinsWhere, TwoConflictors, MergeKeepsEffects, MergeIsSymmetric, Catch, Plain, Conflictor}
+use Rattle.camp_catch.proofs.Words.{List, [], inl, inr, refl, subst, sym, ◌++◌, ◌∷◌, ◌≡◌, Files, Applies, inverse_of, Named, ordered, split, cut_run, runs_back, cell_is_symmetric, merge_closes, Norm, AppliesAll, inverse_all, valid_by_adding, valid_by_adding_all, conflict_is_symmetric, merge_behind_is_symmetric, Adds, Conflict, MergesBehindCommon, common_labels, ContextedPatch, Valid, bare, Fits, against, in_conflict_with, with_effect, MergeIsSymmetric, MergeKeepsEffects, Clean, FirstConflict, JoinsWhere, PlainBesideConflictor, PlainJoinsConflictor, TwoConflictors, Catch, Plain, Conflictor}
 use Rattle.camp_catch.proofs.Fitting.{plain_fits, conflictor_fits, becomes_fits, added_fits, joined_fits, along, one_runs, one_back, row_closes, run_once, only_valid}
 
 -- two catches that fit, each from a tree of its own, and end in one
 abbrev pub FitMeeting : Catch → Catch → Files → Files → Type 0
 FitMeeting k j left right = (new : Files) × Fits k left new × Fits j right new
-
-meeting_as : (k j k' j' : Catch) (left right : Files) → k' ≡ k → j' ≡ j → FitMeeting k j left right → FitMeeting k' j' left right
-meeting_as k j k' j' left right e f both =
-    subst (λ x. FitMeeting k' x left right) (sym f) (subst (λ x. FitMeeting x j left right) (sym e) both)
 
 -- a case keeps effects
 abbrev ClosesSquares : Catch → Catch → (Catch → Catch → Type 0) → Type 0
@@ -18,7 +14,7 @@ ClosesSquares j k Case =
 clean : (a b : Named) → ClosesSquares (Plain a) (Plain b) (Clean a b)
 clean a b k' j' w old left right f g =
     let cell = row_closes a (b ∷ []) (w.b' ∷ []) w.a' (w.b', w.a', [], w.merge, (refl, refl), refl) old left right f.effect g.effect in
-    meeting_as (Plain w.b') (Plain w.a') k' j' left right w.after w.beside (cell.0, plain_fits w.b' left cell.0 cell.1, plain_fits w.a' right cell.0 cell.2)
+    rw (w.after, w.beside) (cell.0, plain_fits w.b' left cell.0 cell.1, plain_fits w.a' right cell.0 cell.2)
 
 -- what undoes one of two patches that conflict leads back to where both began
 undoing_fits : (a b : Named) (old left right : Files) → AppliesAll (a ∷ []) old left → AppliesAll (b ∷ []) old right → Fits (Catch.Conflictor (against a b)) left old
@@ -27,7 +23,7 @@ undoing_fits a b old left right first second =
 
 first_conflict : (a b : Named) → ClosesSquares (Plain a) (Plain b) (FirstConflict a b)
 first_conflict a b k' j' w old left right f g =
-    meeting_as (Catch.Conflictor (against a b)) (Catch.Conflictor (against b a)) k' j' left right w.after w.beside (old, undoing_fits a b old left right f.effect g.effect, undoing_fits b a old right left g.effect f.effect)
+    rw (w.after, w.beside) (old, undoing_fits a b old left right f.effect g.effect, undoing_fits b a old right left g.effect f.effect)
 
 plain_beside_conflictor : (a : Named) (k : Conflictor) → ClosesSquares (Plain a) (Catch.Conflictor k) (PlainBesideConflictor a k)
 plain_beside_conflictor a k k' j' w old left right f g =
@@ -35,7 +31,7 @@ plain_beside_conflictor a k k' j' w old left right f g =
     let undo = inverse_of w.a' in
     let effect = along w.merged w.moved.effect (ordered w.merged w.moved.effect w.becomes.effect) left row.0 row.1 in
     let moved = becomes_fits (Norm w.merged) (Adds undo) (Adds undo) (Applies undo.prim) (valid_by_adding undo) (valid_by_adding undo) k w.moved w.becomes left row.0 right effect (one_back w.a' right row.0 row.2) g.seen in
-    meeting_as (Catch.Conflictor w.moved) (Plain w.a') k' j' left right w.after w.beside (row.0, moved, plain_fits w.a' right row.0 row.2)
+    rw (w.after, w.beside) (row.0, moved, plain_fits w.a' right row.0 row.2)
 
 plain_joins_conflictor : (a : Named) (k : Conflictor) → ClosesSquares (Plain a) (Catch.Conflictor k) (PlainJoinsConflictor a k)
 plain_joins_conflictor a k k' j' w old left right f g =
@@ -44,7 +40,7 @@ plain_joins_conflictor a k k' j' w old left right f g =
     let valid : Valid right w.z = valid_by_adding_all (inverse_all k.effect) (bare a) w.z w.becomes right old back (left, f.effect) in
     let run : AppliesAll (inverse_of a ∷ k.effect) left right = (old, one_back a old left f.effect, g.effect) in
     let effect = along (inverse_of a ∷ k.effect) w.effect (ordered (inverse_of a ∷ k.effect) w.effect w.joined) left right run in
-    meeting_as (Catch.Conflictor (joined_by w.z taken)) (Catch.Conflictor (in_conflict_with k.identity w.z)) k' j' left right w.after w.beside (right, joined_fits taken w.z left right (conflictor_fits taken left right effect g.seen.0 g.seen.1) valid, conflictor_fits (in_conflict_with k.identity w.z) right right refl (only_valid right k.identity g.seen.1) valid)
+    rw (w.after, w.beside) (right, joined_fits taken w.z left right (conflictor_fits taken left right effect g.seen.0 g.seen.1) valid, conflictor_fits (in_conflict_with k.identity w.z) right right refl (only_valid right k.identity g.seen.1) valid)
 
 -- lists that merge cleanly behind what they have in common close a square of trees
 behind_common_closes : (s t t' s' : List Named) → MergesBehindCommon s t t' s' → (old left right : Files) → AppliesAll s old left → AppliesAll t old right → (new : Files) × AppliesAll t' left new × AppliesAll s' right new
@@ -68,7 +64,7 @@ two_conflictors j k k' j' w old left right f g =
     let own_effect = along w.left w.r2 (ordered w.left w.r2 w.own_effect) right new square.2 in
     let moved = added_fits (inverse_all w.r2) w.s2 k w.moved w.becomes left new right effect (runs_back w.r2 right new own_effect) g.seen in
     let own = added_fits (inverse_all w.s2) w.r2 j w.own w.own_becomes right new left own_effect (runs_back w.s2 left new effect) f.seen in
-    meeting_as (Catch.Conflictor w.joined) (Catch.Conflictor w.own_joined) k' j' left right w.after w.beside (new, joins_fit _ w.own.identity w.moved w.joined w.joins left new moved own.seen.1, joins_fit _ w.moved.identity w.own w.own_joined w.own_joins right new own moved.seen.1)
+    rw (w.after, w.beside) (new, joins_fit _ w.own.identity w.moved w.joined w.joins left new moved own.seen.1, joins_fit _ w.moved.identity w.own w.own_joined w.own_joins right new own moved.seen.1)
 
 -- the mirror image of a square
 mirrored : (k j : Catch) (left right : Files) → FitMeeting k j left right → FitMeeting j k right left

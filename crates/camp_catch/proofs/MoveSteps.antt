@@ -1,8 +1,9 @@
 -- How catches that move inside a list, one step after the other, arrange and align it.
-use Rattle.camp_catch.proofs.Words.{◌≡◌, ◌≢◌, ℕ, ◌+◌, ◌<◌, ◌≤◌, List, length, take, drop, get_or, [], ◌∷◌, ◌++◌, Contains, refl, sym, ap, ◌∙◌, subst, inl, inr, suc, arith, append_assoc, drop_more, length_push, length-append, length-take-le, take_at, drop_at, slice_cmp, FinMap, keys, contains_key, contains_key-keys, slice_cmp-IsAntisymmetric, nat_cmp-IsAntisymmetric, nat_cmp, Key, ComesBefore, DoNotCommute, StopsAt, IsOf, ArrangesBehind, SticksBehind, Arrange, ArrangeSticks, ComesFirst, Align, AlignSticks, catch_key, Lacks, ComesFirstInPlace, Catch}
 use Rattle.std.proofs.lemmas.Cmp.{nat_list_cmp_total, eq_by_cmp_equiv}
 use Rattle.std.proofs.lemmas.Map.Views.{Contains-from_any, list_any-from_Contains, tells_apart}
 use Rattle.std.specs.Bool.{Decides}
+use Rattle.camp_catch.proofs.Words.{Contains, List, [], ap, arith, drop, get_or, inl, inr, length, refl, subst, suc, sym, take, ℕ, ◌++◌, ◌+◌, ◌<◌, ◌∙◌, ◌∷◌, ◌≡◌, ◌≢◌, ◌≤◌, append_assoc, drop_at, drop_more, length-append, length-take-le, length_push, take_at, slice_cmp, FinMap, contains_key, contains_key-keys, keys, nat_cmp-IsAntisymmetric, slice_cmp-IsAntisymmetric, nat_cmp, Key, Align, AlignSticks, Arrange, ArrangeSticks, ArrangesBehind, ComesBefore, ComesFirst, DoNotCommute, IsOf, SticksBehind, StopsAt, catch_key, ComesFirstInPlace, FirstWith, Lacks, Catch}
+use Rattle.camp_catch.proofs.ListResults.{coming}
 
 -- what stands at a place of a list, and what is behind it
 pub stands_at : {X : Type 0} (list : List X) (i : ℕ) (d x : X) → i < length list → x ≡ get_or list i d → drop i list ≡ x ∷ drop (i + 1) list
@@ -28,13 +29,13 @@ none_first key (j ∷ list) k' others lacks (inr w) =
     none_first key list come.0 come.2 (lacks_rest key j list lacks) come.3
 
 -- the first catch with a label, commuted to before those before it
-pub first_from : (key : Key) (before : List Catch) (first : Catch) (after : List Catch) (k' : Catch) (moved : List Catch) → Lacks key before → catch_key first ≡ key → ComesBefore before first k' moved → ComesFirst key (before ++ first ∷ after) k' (moved ++ after)
+first_from : (key : Key) (before : List Catch) (first : Catch) (after : List Catch) (k' : Catch) (moved : List Catch) → Lacks key before → catch_key first ≡ key → ComesBefore before first k' moved → ComesFirst key (before ++ first ∷ after) k' (moved ++ after)
 first_from key [] first after k' moved lacks is m = inl (is, m.0, ap (λ x. x ++ after) m.1)
 first_from key (j ∷ before) first after k' moved lacks is m =
     inr (lacks_first key j before lacks, (m.0, m.1, m.2 ++ after, first_from key before first after m.0 m.2 (lacks_rest key j before lacks) is m.3, m.4, ap (λ x. x ++ after) m.5))
 
 -- and back: what comes first was commuted there
-pub before_from : (key : Key) (before : List Catch) (first : Catch) (after : List Catch) (k' : Catch) (t : List Catch) → Lacks key before → catch_key first ≡ key → ComesFirst key (before ++ first ∷ after) k' t → (moved : List Catch) × ComesBefore before first k' moved
+before_from : (key : Key) (before : List Catch) (first : Catch) (after : List Catch) (k' : Catch) (t : List Catch) → Lacks key before → catch_key first ≡ key → ComesFirst key (before ++ first ∷ after) k' t → (moved : List Catch) × ComesBefore before first k' moved
 before_from key [] first after k' t lacks is (inl w) = ([], (w.1, refl))
 before_from key [] first after k' t lacks is (inr w) = absurd (w.0 is)
 before_from key (j ∷ before) first after k' t lacks is (inl w) = absurd (lacks_first key j before lacks w.0)
@@ -42,6 +43,20 @@ before_from key (j ∷ before) first after k' t lacks is (inr w) =
     let come = w.1 in
     let rest = before_from key before first after come.0 come.2 (lacks_rest key j before lacks) is come.3 in
     (come.1 ∷ rest.0, (come.0, come.1, rest.0, rest.1, come.4, refl))
+
+-- the first catch with a label, by what stands before it and what behind it
+module _ {key : Key} {list : List Catch} {at : ℕ} (w : FirstWith key list at) where
+  pub stands_first : (take at list ≡ w.before) × (drop at list ≡ w.first ∷ w.after)
+  stands_first =
+      (ap (take at) w.is ∙ take_at w.before (w.first ∷ w.after) at w.stands, ap (drop at) w.is ∙ drop_at w.before (w.first ∷ w.after) at w.stands)
+
+  pub comes_first : (k' : Catch) (moved : List Catch) → ComesBefore w.before w.first k' moved → ComesFirst key list k' (moved ++ w.after)
+  comes_first k' moved m = rw w.is (first_from key w.before w.first w.after k' moved w.lacks w.labelled m)
+
+  pub stays_behind : (on : Key) → StopsAt w.before w.first on → (any : List Catch) → ¬ (ComesFirstInPlace key list any)
+  stays_behind on stops any m =
+      let came = before_from key w.before w.first w.after m.0 m.1 w.lacks w.labelled (subst (λ x. ComesFirst key x m.0 m.1) w.is m.2) in
+      (coming w.before w.first).apart (m.0, came.0) on came.1 stops
 
 -- a map of names has a name exactly where that is among its keys
 pub names_decide : {X : Type 0} (m : FinMap (slice_cmp nat_cmp) X) (name : List ℕ) → Decides (contains_key m name) (Contains (keys m) name)
@@ -57,50 +72,25 @@ pub record IsArrangedUpTo (names : List (List ℕ)) (whole first rest list : Lis
   pub goes : (t others : List Catch) → ArrangesBehind names rest list t others → Arrange names whole (first ++ t) others
   pub sticks : (patch on : Key) → SticksBehind names rest list patch on → ArrangeSticks names whole patch on
 
-pub arranged_at_first : (names : List (List ℕ)) (list : List Catch) → IsArrangedUpTo names list [] [] list
-arranged_at_first names list = record { goes = λ t others w. w; sticks = λ patch on w. w }
+pub arranged_with_other : {names : List (List ℕ)} {whole first rest list : List Catch} {k : Catch} → IsArrangedUpTo names whole first rest (k ∷ list) → ¬ (IsOf names k) → IsArrangedUpTo names whole first (rest ++ k ∷ []) list
+arranged_with_other up not = record { goes = λ t others w. up.goes t others (inr (not, w)); sticks = λ patch on w. up.sticks patch on (inr (inr (not, w))) }
 
-pub arranged_with_other : (names : List (List ℕ)) (whole first rest : List Catch) (k : Catch) (list : List Catch) → IsArrangedUpTo names whole first rest (k ∷ list) → ¬ (IsOf names k) → IsArrangedUpTo names whole first (rest ++ k ∷ []) list
-arranged_with_other names whole first rest k list up not = record {
-  goes = λ t others w. up.goes t others (inr (not, w));
-  sticks = λ patch on w. up.sticks patch on (inr (inr (not, w)));
-}
-
-pub arranged_with_named : (names : List (List ℕ)) (whole first rest : List Catch) (k : Catch) (list : List Catch) (k' : Catch) (rest' : List Catch) → IsArrangedUpTo names whole first rest (k ∷ list) → IsOf names k → ComesBefore rest k k' rest' → IsArrangedUpTo names whole (first ++ k' ∷ []) rest' list
-arranged_with_named names whole first rest k list k' rest' up is come = record {
-  goes = λ t others w.
-      subst (λ x. Arrange names whole x others) (sym (joined first k' t)) (up.goes (k' ∷ t) others (inl (is, (k', rest', t, come, w, refl))));
-  sticks = λ patch on w. up.sticks patch on (inr (inl (is, (k', rest', come, w))));
-}
+pub arranged_with_named : {names : List (List ℕ)} {whole first rest rest' list : List Catch} {k : Catch} (k' : Catch) → IsArrangedUpTo names whole first rest (k ∷ list) → IsOf names k → ComesBefore rest k k' rest' → IsArrangedUpTo names whole (first ++ k' ∷ []) rest' list
+arranged_with_named {first = first} k' up is come = record { goes = λ t others w. rw (joined first k' t) (up.goes (k' ∷ t) others (inl (is, (k', _, t, come, w, refl)))); sticks = λ patch on w. up.sticks patch on (inr (inl (is, (k', _, come, w)))) }
 
 -- of a whole list, `front` is in order, and how it is aligned depends on the catches behind and the rest of the order
 pub record IsAlignedUpTo (all : List Key) (whole front : List Catch) (order : List Key) (back : List Catch) : Type 0 where
   pub goes : (t : List Catch) → Align order back t → Align all whole (front ++ t)
   pub sticks : (stuck : Key) → AlignSticks order back stuck → AlignSticks all whole stuck
 
-pub aligned_at_first : (order : List Key) (list : List Catch) → IsAlignedUpTo order list [] order list
-aligned_at_first order list = record { goes = λ t w. w; sticks = λ stuck w. w }
-
-pub aligned_with : (all : List Key) (whole front : List Catch) (key : Key) (order : List Key) (back : List Catch) (k' : Catch) (others : List Catch) → IsAlignedUpTo all whole front (key ∷ order) back → ComesFirst key back k' others → IsAlignedUpTo all whole (front ++ k' ∷ []) order others
-aligned_with all whole front key order back k' others up come = record {
-  goes = λ t w.
-      subst (λ x. Align all whole x) (sym (joined front k' t)) (up.goes (k' ∷ t) (k', others, t, come, w, refl));
-  sticks = λ stuck w. up.sticks stuck (inr (k', others, come, w));
-}
+pub aligned_with : {all order : List Key} {whole front back others : List Catch} {key : Key} (k' : Catch) → IsAlignedUpTo all whole front (key ∷ order) back → ComesFirst key back k' others → IsAlignedUpTo all whole (front ++ k' ∷ []) order others
+aligned_with {front = front} k' up come = record { goes = λ t w. rw (joined front k' t) (up.goes (k' ∷ t) (k', _, t, come, w, refl)); sticks = λ stuck w. up.sticks stuck (inr (k', _, come, w)) }
 
 -- the next catch of the order has come to its place
-pub aligned_more : (all : List Key) (whole s part now xs : List Catch) (key : Key) (order : List Key) (at : ℕ) → at ≤ length s → part ≡ drop at s → ComesFirstInPlace key part now → xs ≡ take at s ++ now → IsAlignedUpTo all whole (take at s) (key ∷ order) (drop at s) → (at + 1 ≤ length xs) × IsAlignedUpTo all whole (take (at + 1) xs) order (drop (at + 1) xs)
-aligned_more all whole s part now xs key order at within part_is (k', others, come, now_is) xs_is up =
-    let front : List Catch = take at s in
-    let joined_is : xs ≡ (front ++ k' ∷ []) ++ others = xs_is ∙ ap (λ x. front ++ x) now_is ∙ sym (joined front k' others) in
-    let long : length (front ++ k' ∷ []) ≡ at + 1 = length_push front k' ∙ ap (λ n. n + 1) (length-take-le at s within) in
-    let behind : drop (at + 1) xs ≡ others = ap (drop (at + 1)) joined_is ∙ drop_at (front ++ k' ∷ []) others (at + 1) long in
-    let done : take (at + 1) xs ≡ front ++ k' ∷ [] = ap (take (at + 1)) joined_is ∙ take_at (front ++ k' ∷ []) others (at + 1) long in
-    let count : length xs ≡ length (front ++ k' ∷ []) + length others = ap length joined_is ∙ length-append (front ++ k' ∷ []) others in
-    let more = aligned_with all whole front key order (drop at s) k' others up (subst (λ x. ComesFirst key x k' others) part_is come) in
-    (omega arith, subst (λ x. IsAlignedUpTo all whole x order (drop (at + 1) xs)) (sym done) (subst (λ x. IsAlignedUpTo all whole (front ++ k' ∷ []) order x) (sym behind) more))
-
--- no catch of the next label comes first
-pub aligned_stuck : (all : List Key) (whole front part : List Catch) (key : Key) (order : List Key) (back : List Catch) → part ≡ back → ((any : List Catch) → ¬ (ComesFirstInPlace key part any)) → IsAlignedUpTo all whole front (key ∷ order) back → AlignSticks all whole key
-aligned_stuck all whole front part key order back is never up =
-    up.sticks key (inl ((λ k others w. never (k ∷ others) (k, others, subst (λ x. ComesFirst key x k others) (sym is) w, refl)), refl))
+pub aligned_more : {all order : List Key} {whole : List Catch} {key : Key} (s now xs : List Catch) (at : ℕ) → at ≤ length s → ComesFirstInPlace key (drop at s) now → xs ≡ take at s ++ now → IsAlignedUpTo all whole (take at s) (key ∷ order) (drop at s) → (at + 1 ≤ length xs) × IsAlignedUpTo all whole (take (at + 1) xs) order (drop (at + 1) xs)
+aligned_more s now xs at within (k', others, come, now_is) xs_is up =
+    let front : List Catch = take at s ++ k' ∷ [] in
+    let is : xs ≡ front ++ others = xs_is ∙ ap (λ x. take at s ++ x) now_is ∙ sym (joined (take at s) k' others) in
+    let long : length front ≡ at + 1 = length_push (take at s) k' ∙ ap (λ n. n + 1) (length-take-le at s within) in
+    let count : length xs ≡ length front + length others = ap length is ∙ length-append front others in
+    (omega arith, rw (is, take_at front others (at + 1) long, drop_at front others (at + 1) long) (aligned_with k' up come))

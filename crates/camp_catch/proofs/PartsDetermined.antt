@@ -1,8 +1,9 @@
 -- What cases are made of is determined.
-use Rattle.camp_catch.proofs.Words.{◌≡◌, ◌≢◌, List, [], ◌∷◌, ◌++◌, refl, sym, ap, ◌∙◌, subst, inl, inr, entries, All, label_of, Key, Named, Decided, decided_by, Norm, Splits, Passes, PassesAll, Fronts, one_pass, one_pass_of_all, one_front, one_order, one_split, passes_or_not, all_pass_or_not, splits_or_not, Adds, AddsAll, PassesBy, PassesByAll, ContextedPatch, ContextedPatches, EachMember, bare, only, patch_key, context_key, GivesOne, AlwaysGives, add_exists, add_of_all_exists, front_as_or_not, one_add, one_add_of_all, one_passing_by, one_passing_of_all, passing_by_or_not, same_in_context, contexts_or_not, in_context_or_not, keys_or_not, list_passes_by_or_not, lists_or_not, only_or_not, same_alone, both_or_not, members_change, one_change_of_members, EffectsPass, labels_undone, Becomes, against, Conflictor}
 use Rattle.std.proofs.lemmas.List.Elements.{All-nil, All-cons, All-head, All-tail}
+use Rattle.std.specs.List.{All}
 use Rattle.camp_seq.proofs.NormalOrders.{has_normal_order}
 use Rattle.camp_ctx.proofs.SetSteps.{entries-only}
+use Rattle.camp_catch.proofs.Words.{List, [], ap, inl, inr, refl, subst, sym, ◌++◌, ◌∙◌, ◌∷◌, ◌≡◌, ◌≢◌, entries, Decided, decided_by, label_of, Key, Named, one_front, one_order, one_pass, one_pass_of_all, one_split, all_pass_or_not, passes_or_not, splits_or_not, Norm, Splits, Fronts, Passes, PassesAll, add_exists, add_of_all_exists, front_as_or_not, one_add, one_add_of_all, one_passing_by, one_passing_of_all, passing_by_or_not, same_in_context, contexts_or_not, in_context_or_not, keys_or_not, list_passes_by_or_not, lists_or_not, only_or_not, same_alone, both_or_not, members_change, one_change_of_members, Adds, AddsAll, PassesBy, PassesByAll, ContextedPatch, ContextedPatches, EachMember, bare, context_key, only, patch_key, AlwaysGives, GivesOne, EffectsPass, labels_undone, Becomes, against, Conflictor}
 use Rattle.camp_catch.proofs.Determined.{Determined, always, both, chain, just, made_of, not_or_not, pairs}
 
 pub one_passes : (a : Named) (s : List Named) → Determined (λ (p : List Named × Named). Passes a s p.0 p.1)
@@ -113,15 +114,4 @@ pub effects_pass : (r s : List Named) (ys : ContextedPatches) → Determined (λ
 effects_pass r s ys =
     let labels = labels_undone r ys in
     let parts : Determined (λ (p : List Named × List Named). Splits labels r p.0 p.1) = pairs (λ x z y w. one_split labels r x y z w) (splits_or_not labels r) in
-    made_of (chain parts (λ p split. chain (all_pass p.1 s) (λ w passes. chain (order w.0) (λ s' second. both (order (p.0 ++ s')) (order w.1))))) (λ x. x.1.1.1) (λ x w. record {
-      common = x.0.0;
-      rr = x.0.1;
-      split = w.0;
-      passed = x.1.0.0;
-      left = x.1.0.1;
-      passes = w.1.0;
-      s' = x.1.1.0;
-      second = w.1.1.0;
-      first = w.1.1.1.1;
-      whole = w.1.1.1.0;
-    }) (λ p c. (((c.common, c.rr), ((c.passed, c.left), (c.s', (p.0, p.1)))), (c.split, (c.passes, (c.second, (c.whole, c.first)))), refl))
+    made_of (chain parts (λ p split. chain (all_pass p.1 s) (λ w passes. chain (order w.0) (λ s' second. both (order (p.0 ++ s')) (order w.1))))) (λ x. x.1.1.1) (λ x w. record { common = x.0.0; rr = x.0.1; split = w.0; passed = x.1.0.0; left = x.1.0.1; passes = w.1.0; s' = x.1.1.0; second = w.1.1.0; first = w.1.1.1.1; whole = w.1.1.1.0 }) (λ p c. (((c.common, c.rr), ((c.passed, c.left), (c.s', (p.0, p.1)))), (c.split, (c.passes, (c.second, (c.whole, c.first)))), refl))

@@ -1,7 +1,7 @@
 -- Plain catches that come to the front take along what stops those of them that are to come alone.
-use Rattle.camp_catch.proofs.Words.{◌≡◌, inl, inr, ℕ, List, [], ◌∷◌, ◌++◌, map, append-nil, refl, sym, ap, ◌∙◌, subst, append_assoc, map-append, ◌↔◌, Contains, Key, Named, Precedes, HasRoom, among_or_not, one_precedes, reaches_before, room_after, room_before, room_behind, bytes_or_not, ArrangesBehind, ComesBefore, SticksBehind, StopsAt, BothPlain, CommuteCatch, FrontsComeBehindFronts, WhatStopsComesAlong, Catch, Plain}
+use Rattle.camp_catch.proofs.Words.{Contains, List, [], ap, append-nil, inl, inr, map, refl, subst, sym, ℕ, ◌++◌, ◌↔◌, ◌∙◌, ◌∷◌, ◌≡◌, append_assoc, map-append, Key, Named, before, among_or_not, one_precedes, room_before, room_behind, room_of_equivalent, Precedes, HasRoom, bytes_or_not, ArrangesBehind, ComesBefore, SticksBehind, StopsAt, BothPlain, CommuteCatch, FrontsComeBehindFronts, WhatStopsComesAlong, Catch, Plain}
 use Rattle.camp_catch.proofs.ListResults.{lists_are_unique, lists_succeed_or_stick}
-use Rattle.camp_catch.proofs.PlainFronts.{AreOthers, Parted, Stops, comes_or_stops, comes_past_parts, first_comes, one_more, one_other, others_and_one, others_stay, precedes_reached}
+use Rattle.camp_catch.proofs.PlainFronts.{AreOthers, Parted, Stops, comes_or_stops, comes_past_parts, first_comes, one_more, one_other, others_and_one, others_stay, came}
 
 -- what comes before plain catches as a plain one is plain, and they stay so
 pub came_plainly : (t : List Named) (k : Named) (k' : Catch) (list' : List Catch) → ComesBefore (map Plain t) (Plain k) k' list' → (p : Named) × (t' : List Named) × Precedes t k p t' × (k' ≡ Plain p) × (list' ≡ map Plain t')
@@ -33,6 +33,10 @@ one_at_end s k = sym (map-append Plain s (k ∷ []))
 at_end : (s : List Named) (k : Named) (list : List Named) → s ++ k ∷ list ≡ (s ++ k ∷ []) ++ list
 at_end s k list = sym (append_assoc s (k ∷ []) list)
 
+room_left : (s list : List Named) (k first : Named) (rest : List Named) → HasRoom ((s ++ k ∷ []) ++ list) → Precedes s k first rest → HasRoom (rest ++ list)
+room_left s list k first rest room w =
+    room_behind first (rest ++ list) (room_of_equivalent _ _ (before (s ++ k ∷ []) (first ∷ rest) list (came s k first rest w)) room)
+
 module _ (names others : List (List ℕ)) (within : (name : List ℕ) → Contains names name → Contains others name) where
   -- two walks to the front: that of the others comes to its end, and the one of the names sticks
   walk : (s t list f : List Named) → HasRoom (s ++ list) → Parted others s f t → (first rest : List Catch) → ArrangesBehind others (map Plain t) (map Plain list) first rest → (patch on : Key) → SticksBehind names (map Plain s) (map Plain list) patch on → Contains others on.name
@@ -45,7 +49,7 @@ module _ (names others : List (List ℕ)) (within : (name : List ℕ) → Contai
       let next = comes_or_stops others s f t k plain.0 plain.1 (room_before (s ++ k ∷ []) list room_all) p plain.2 in
       elim stuck [
         | inl w ↦ elim next [
-          | inl comes ↦ not_both s k (Plain comes.first) (map Plain comes.rest) on (comes_plainly s k comes.first comes.rest comes.comes) w.1
+          | inl comes ↦ not_both s k (Plain comes.0) (map Plain comes.1) on (comes_plainly s k comes.0 comes.1 comes.2) w.1
           | inr stops ↦ subst (λ key. Contains others key.name) (lists_are_unique.stops_at (map Plain s) (Plain k) stops.0 on (stops_plainly s k stops.0 stops.1) w.1) stops.2
         ]
         | inr v ↦ elim v [
@@ -53,9 +57,10 @@ module _ (names others : List (List ℕ)) (within : (name : List ℕ) → Contai
               let moved = w.1 in
               elim next [
                 | inl comes ↦
-                    let same = (lists_are_unique.comes_before (map Plain s) (Plain k) moved.0 (Plain comes.first) moved.1 (map Plain comes.rest) moved.2 (comes_plainly s k comes.first comes.rest comes.comes)).1 in
-                    let reached = reaches_before (s ++ k ∷ []) (comes.first ∷ comes.rest) list (precedes_reached s k comes.first comes.rest comes.comes) in
-                    walk comes.rest plain.1 list comes.front (room_behind comes.first (comes.rest ++ list) (room_after ((s ++ k ∷ []) ++ list) (comes.first ∷ (comes.rest ++ list)) room_all reached)) comes.parted come.2 rest arranges patch on (subst (λ l. SticksBehind names l (map Plain list) patch on) same moved.3)
+                    let same = (lists_are_unique.comes_before (map Plain s) (Plain k) moved.0 (Plain comes.0) moved.1 (map Plain comes.1) moved.2 (comes_plainly s k comes.0 comes.1 comes.2)).1 in
+                    let parts = comes_past_parts others s f t k comes.0 comes.1 (room_before (s ++ k ∷ []) list room_all) p comes.2 in
+                    let still = (one_precedes t k parts.coming plain.0 parts.rest plain.1 parts.comes plain.2).1 in
+                    walk comes.1 plain.1 list parts.front (room_left s list k comes.0 comes.1 room_all comes.2) (subst (Parted others comes.1 parts.front) still parts.parted) come.2 rest arranges patch on (subst (λ l. SticksBehind names l (map Plain list) patch on) same moved.3)
                 | inr stops ↦ not_both s k moved.0 moved.1 stops.0 moved.2 (stops_plainly s k stops.0 stops.1)
               ]
           | inr w ↦
@@ -87,10 +92,6 @@ arranged_of_parts names r (k ∷ list) f t are p = elim (among_or_not bytes_or_n
   | inr never ↦
       inr (never, subst (λ l. ArrangesBehind names l (map Plain list) (map Plain f) (map Plain t)) (sym (one_at_end r k)) (arranged_of_parts names (r ++ k ∷ []) list f t (others_and_one names r k are never) (subst (λ l. Parted names l f t) (at_end r k list) p)))
 ]
-
-room_left : (s list : List Named) (k first : Named) (rest : List Named) → HasRoom ((s ++ k ∷ []) ++ list) → Precedes s k first rest → HasRoom (rest ++ list)
-room_left s list k first rest room w =
-    room_behind first (rest ++ list) (room_after ((s ++ k ∷ []) ++ list) (first ∷ (rest ++ list)) room (reaches_before (s ++ k ∷ []) (first ∷ rest) list (precedes_reached s k first rest w)))
 
 module _ (names others wanted : List (List ℕ)) (are : (name : List ℕ) → Contains wanted name ↔ (Contains names name × (¬ (Contains others name)))) where
   -- what is behind those of the names, and what is behind those of the others, in parts: one list is behind all of them

@@ -1,5 +1,5 @@
 -- Whether two catches are the same is decided.
-use Rattle.camp_catch.proofs.Words.{◌≡◌, ap, inr, Named, Decided, decided_by, named_or_not, Catch, Plain, Conflictor}
+use Rattle.camp_catch.proofs.Words.{ap, inr, ◌≡◌, Decided, decided_by, Named, named_or_not, Catch, Plain, Conflictor}
 use Rattle.camp_catch.proofs.PartsDetermined.{conflictor_or_not}
 
 same_patch : (a b : Named) → Plain a ≡ Plain b → a ≡ b

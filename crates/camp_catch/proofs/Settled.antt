@@ -1,5 +1,5 @@
 -- Relations of which exactly one has a result, and one: something is done, or it sticks.
-use Rattle.camp_catch.proofs.Words.{◌≡◌, ◌⊎◌, inl, inr, refl, sym, ap, ◌∙◌, subst, Decided}
+use Rattle.camp_catch.proofs.Words.{ap, inl, inr, refl, subst, sym, ◌∙◌, ◌≡◌, ◌⊎◌, Decided}
 use Rattle.camp_catch.proofs.Determined.{Determined}
 
 pub record Settled {A B : Type 0} (Done : A → Type 0) (Sticks : B → Type 0) : Type 0 where
@@ -12,14 +12,13 @@ pub record Settled {A B : Type 0} (Done : A → Type 0) (Sticks : B → Type 0) 
 pub at_once : {A B : Type 0} (x : A) → Settled (λ y. y ≡ x) (λ (y : B). ⊥)
 at_once x = record { one = λ y z v w. v ∙ sym w; one_stick = λ y z v w. absurd v; apart = λ y z v w. w; either = inl (x, refl) }
 
+-- two values
+pub both_at_once : {A B C : Type 0} (x : A) (y : B) → Settled (λ (p : A × B). (p.0 ≡ x) × (p.1 ≡ y)) (λ (z : C). ⊥)
+both_at_once x y = record { one = λ p q v w. λ t. ((v.0 ∙ sym w.0) t, (v.1 ∙ sym w.1) t); one_stick = λ y z v w. absurd v; apart = λ y z v w. w; either = inl ((x, y), (refl, refl)) }
+
 -- what has no result sticks
 pub settles : {A B : Type 0} {Gives : A → Type 0} → Determined Gives → (on : B) → Settled Gives (λ y. ((x : A) → ¬ (Gives x)) × (y ≡ on))
-settles d on = record {
-  one = d.one;
-  one_stick = λ y z v w. v.1 ∙ sym w.1;
-  apart = λ x y v w. w.0 x v;
-  either = elim d.decided [ inl w ↦ inl w | inr never ↦ inr (on, ((λ x w. never (x, w)), refl)) ];
-}
+settles d on = record { one = d.one; one_stick = λ y z v w. v.1 ∙ sym w.1; apart = λ x y v w. w.0 x v; either = elim d.decided [ inl w ↦ inl w | inr never ↦ inr (on, ((λ x w. never (x, w)), refl)) ] }
 
 -- one thing after another
 pub next : {A B C : Type 0} {Done : A → Type 0} {Sticks : B → Type 0} {Next : A → C → Type 0} {NextSticks : A → B → Type 0} → Settled Done Sticks → ((x : A) → Done x → Settled (Next x) (NextSticks x)) → Settled (λ (p : A × C). Done p.0 × Next p.0 p.1) (λ y. Sticks y ⊎ ((x : A) × Done x × NextSticks x y))

@@ -1,5 +1,5 @@
 -- What bodies know of lists of one, and of sets of one.
-use Rattle.camp_catch.proofs.Words.{◌≡◌, cond, is_some, List, [], ◌∷◌, length, refl, sym, ap, ◌∙◌, arith, empty, insert, get-empty, slice_index_or, key_cmp, inverse_of, Named, inverse_of-inverse_of, ContextedPatch, ContextedPatches, context_key, only, with_member}
+use Rattle.camp_catch.proofs.Words.{List, [], ap, arith, cond, is_some, length, refl, slice_index_or, sym, ◌∙◌, ◌∷◌, ◌≡◌, empty, get-empty, insert, inverse_of-inverse_of, inverse_of, key_cmp, Named, ContextedPatch, ContextedPatches, context_key, only, with_member}
 
 -- the empty set with a member
 pub first_member : (none : ContextedPatches) (x : ContextedPatch) → none ≡ empty → with_member none x ≡ only x

@@ -1,6 +1,6 @@
 -- Lemmas on sections of calls.
 use Rattle.std.proofs.Common.{◌≡◌, ℕ, ◌+◌, ◌≤◌, true, false, List, [], ◌∷◌, ◌++◌, length, Option, None, Some, Result, Ok, Err, MatchOption, zero, suc, cond, count_by, get_or, drop, take, ◌<◌, refl, sym, ◌∙◌, ap, subst, append_assoc, add-zero, arith}
-use Rattle.camp_clients.proofs.Common.{append-nil, length-append, take_more, IsFront, IsLegal, IsAnswered, own, Sequential, IsLawfulObject, Fault, Memory, Busy, Full, Asks, HasMemory, IsDone, IsOvertaken, SaysAmongThreads, SaysAlone, told, own_at, where_done, done_at, OneByOne, Section}
+use Rattle.camp_clients.proofs.Words.{append-nil, length-append, take_more, IsFront, IsLegal, IsAnswered, own, Sequential, IsLawfulObject, Fault, Memory, Busy, Full, Asks, HasMemory, IsDone, IsOvertaken, SaysAmongThreads, SaysAlone, told, own_at, where_done, done_at, OneByOne, Section}
 use Rattle.std.proofs.lemmas.List.Sums.{sum_by-drop_more}
 use Rattle.camp_object.specs.Asking.{Ask, Caller, Accepts, AddsNothing, IsBusy, Loses, alone_at}
 use Rattle.camp_clients.proofs.Asking.{own_at_asks, own_counts, goes_on}

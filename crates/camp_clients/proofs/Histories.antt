@@ -1,5 +1,5 @@
 -- Lemmas on histories: their parts, and the calls of a seat in them.
-use Rattle.camp_clients.proofs.Common.{◌≡◌, ℕ, ◌==◌, true, List, [], ◌∷◌, ◌++◌, Some, IsSome, refl, sym, ◌∙◌, ap, subst, inl, inr, append-nil, append_cancel_left, eqb_tells, IsFront, IsLegal, IsAccepted, own, Sequential}
+use Rattle.camp_clients.proofs.Words.{◌≡◌, ℕ, ◌==◌, true, List, [], ◌∷◌, ◌++◌, Some, IsSome, refl, sym, ◌∙◌, ap, subst, inl, inr, append-nil, append_cancel_left, eqb_tells, IsFront, IsLegal, IsAccepted, own, Sequential}
 use Rattle.camp_object.proofs.Replays.{own-append, run-append}
 
 pub same_seat : (seat : ℕ) → (seat == seat) ≡ true

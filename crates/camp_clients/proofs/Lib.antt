@@ -1,4 +1,4 @@
-mod Common
+mod Words
 pub mod Asking
 pub mod Comparing
 pub mod Fronts

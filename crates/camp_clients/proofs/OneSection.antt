@@ -1,5 +1,5 @@
 -- Lemmas on a section whose calls stand in a history one after the other, with nothing between them.
-use Rattle.camp_clients.proofs.Common.{◌≡◌, ℕ, ◌+◌, ◌<◌, List, [], ◌∷◌, ◌++◌, length, Option, None, Some, Result, Ok, Err, MatchOption, refl, sym, ◌∙◌, ap, subst, append_assoc, inl, inr, arith, All-same, cases_lt, All, IsFront, IsAnswered, own, Sequential, Fault, Memory, Busy, Full, IsDone, IsOvertaken, SaysAmongThreads, SaysAlone, told, own_at, where_done, done_at, Section, front_front, own-append}
+use Rattle.camp_clients.proofs.Words.{◌≡◌, ℕ, ◌+◌, ◌<◌, List, [], ◌∷◌, ◌++◌, length, Option, None, Some, Result, Ok, Err, MatchOption, refl, sym, ◌∙◌, ap, subst, append_assoc, inl, inr, arith, All-same, cases_lt, All, IsFront, IsAnswered, own, Sequential, Fault, Memory, Busy, Full, IsDone, IsOvertaken, SaysAmongThreads, SaysAlone, told, own_at, where_done, done_at, Section, front_front, own-append}
 use Rattle.std.proofs.lemmas.List.{length-append, get_or-append-add}
 use Rattle.camp_object.proofs.Fronts.{front_whole, length-front}
 use Rattle.camp_object.proofs.Replays.{length-own-all, length-own-within}

@@ -1,5 +1,5 @@
 -- Lemmas on a new head and its seats.
-use Rattle.camp_clients.proofs.Common.{◌≡◌, ℕ, ◌<◌, List, [], length, get_or, sym, ◌∙◌, ap, subst, zero-add, refl, arith, length-map}
+use Rattle.camp_clients.proofs.Words.{◌≡◌, ℕ, ◌<◌, List, [], length, get_or, sym, ◌∙◌, ap, subst, zero-add, refl, arith, length-map}
 use Rattle.std.proofs.lemmas.List.FromFn.{get_or-map-range_with_len, length-range_with_len}
 use Rattle.std.specs.List.{range_with_len}
 use Rattle.camp_history.specs.Opening.{IsOpened, seat_at}

@@ -1,5 +1,5 @@
 -- The opening of a run over a head runs alone.
-use Rattle.camp_clients.proofs.Common.{◌≡◌, ℕ, suc, ◌+◌, ◌<◌, ◌≤◌, ◌==◌, eq-eqb, true, false, cond, List, [], ◌∷◌, ◌++◌, length, Option, None, Some, Result, Ok, Err, MatchOption, refl, sym, ◌∙◌, ap, subst, inl, inr, arith, cases_lt, append-nil, IsFront, IsAnswered, own, Sequential, Fault, length-front, IsDone, SaysAmongThreads, told, own_at, where_done, done_at, section_of, Section, front_self}
+use Rattle.camp_clients.proofs.Words.{◌≡◌, ℕ, suc, ◌+◌, ◌<◌, ◌≤◌, ◌==◌, eq-eqb, true, false, cond, List, [], ◌∷◌, ◌++◌, length, Option, None, Some, Result, Ok, Err, MatchOption, refl, sym, ◌∙◌, ap, subst, inl, inr, arith, cases_lt, append-nil, IsFront, IsAnswered, own, Sequential, Fault, length-front, IsDone, SaysAmongThreads, told, own_at, where_done, done_at, section_of, Section, front_self}
 use Rattle.std.proofs.Math.ListN.{get_or-append}
 use Rattle.std.proofs.lemmas.List.Elements.{All-cons, All-nil, All-same}
 use Rattle.std.specs.List.{All, AllByRecursion}

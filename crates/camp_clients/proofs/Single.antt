@@ -1,5 +1,5 @@
 -- Lemmas on runs of a single section, and on the calls that are done in runs one after the other.
-use Rattle.camp_clients.proofs.Common.{◌≡◌, ℕ, ◌+◌, ◌<◌, List, [], ◌∷◌, ◌++◌, length, MatchOption, Result, Ok, Err, refl, subst, arith, All, IsFront, IsAnswered, IsLegal, Sequential, Fault, Section, front_self, front_front}
+use Rattle.camp_clients.proofs.Words.{◌≡◌, ℕ, ◌+◌, ◌<◌, List, [], ◌∷◌, ◌++◌, length, MatchOption, Result, Ok, Err, refl, subst, arith, All, IsFront, IsAnswered, IsLegal, Sequential, Fault, Section, front_self, front_front}
 use Rattle.std.proofs.lemmas.List.Elements.{All-weaker}
 use Rattle.camp_object.proofs.Replays.{legal_front}
 use Rattle.camp_clients.specs.Answers.{SaysAmongThreads, SaysAlone, StepsAlone, told}

@@ -1,5 +1,5 @@
 -- Lemmas on vectors of vectors as lists of lists.
-use Rattle.camp_clients.proofs.Common.{◌≡◌, ℕ, ◌+◌, ◌<◌, List, [], ◌∷◌, ◌++◌, length, take, get_or, map, refl, sym, ◌∙◌, ap, Vec, vec_items, lists_of, section_of}
+use Rattle.camp_clients.proofs.Words.{◌≡◌, ℕ, ◌+◌, ◌<◌, List, [], ◌∷◌, ◌++◌, length, take, get_or, map, refl, sym, ◌∙◌, ap, Vec, vec_items, lists_of, section_of}
 use Rattle.std.proofs.lemmas.List.{take_more, map_push, get_or-map, length-map}
 
 module _ {X Z : Type 0} where

@@ -1,6 +1,6 @@
 -- Lemmas on the answers to a call at a seat.
 use Rattle.std.proofs.Common.{◌≡◌, ◌≢◌, ℕ, suc, ◌+◌, ◌<◌, ◌≤◌, true, false, List, [], ◌∷◌, ◌++◌, length, map, All, Option, None, Some, Result, Ok, Err, IsErrAnd, refl, sym, ◌∙◌, ap, subst, arith, add-one}
-use Rattle.camp_history.proofs.Common.{length-append, append-nil, append_assoc, map-append, All-same, Where, Shows, Sequential, IsLawfulObject, Decides, Next, Answer, Fault, Memory, front_self, HeadId, Seated, asked, history_of, IsSeatOf, caller_at, Mark}
+use Rattle.camp_history.proofs.Words.{length-append, append-nil, append_assoc, map-append, All-same, Where, Shows, Sequential, IsLawfulObject, Decides, Next, Answer, Fault, Memory, front_self, HeadId, Seated, asked, history_of, IsSeatOf, caller_at, Mark}
 use Rattle.camp_object.specs.Histories.{IsFront, replay, IsLegal, IsAccepted, own}
 use Rattle.camp_object.specs.Asking.{Caller, Ask, AddsNothing, Loses, IsNotBusy}
 use Rattle.camp_object.proofs.Replays.{replay_accepted, accepted_at, some_is_some}

@@ -1,4 +1,4 @@
-mod Common
+mod Words
 pub mod Marked
 pub mod Seeing
 pub mod Asked

@@ -1,6 +1,6 @@
 -- Questions that have an answer.
 use Rattle.std.proofs.Common.{◌≡◌, ℕ, List, [], ◌∷◌, Result, Ok, Err, Some, IsErrAnd, refl, sym, ap, ◌∙◌}
-use Rattle.camp_questions.proofs.Common.{get, Files, Catch, LeadsTo, Contents, catches_of, first_lacked, AreAnnotated, annotated, names_of_lines}
+use Rattle.camp_questions.proofs.Words.{get, Files, Catch, LeadsTo, Contents, catches_of, first_lacked, AreAnnotated, annotated, names_of_lines}
 use Rattle.camp_questions.specs.declared.annotations.Annotated.{Annotated}
 use Rattle.camp_questions.specs.Answers.{AnswerOf, Tells}
 use Rattle.camp_questions.specs.Dependencies.{OfNames}

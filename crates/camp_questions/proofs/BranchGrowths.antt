@@ -1,5 +1,5 @@
 -- Names that grow until they come to the front of a branch, or until they can be taken out of it.
-use Rattle.camp_questions.proofs.Common.{◌≡◌, ◌≢◌, ℕ, Bool, true, false, true≢false, not, cond, ◌&&◌, ◌||◌, List, [], ◌∷◌, ◌++◌, map, None, Some, Ok, Err, bytes_eq, refl, sym, ap, ◌∙◌, inl, inr, ◌↔◌, Contains, Key, Catch, has_patch, is_among, name_of, is_among_is, name_itself, or_true, same_name, Next, Has, first_lacked, is_empty, step, AreHeldIn, CanGo, ComeToFront, StickOn}
+use Rattle.camp_questions.proofs.Words.{◌≡◌, ◌≢◌, ℕ, Bool, true, false, true≢false, not, cond, ◌&&◌, ◌||◌, List, [], ◌∷◌, ◌++◌, map, None, Some, Ok, Err, bytes_eq, refl, sym, ap, ◌∙◌, inl, inr, ◌↔◌, Contains, Key, Catch, has_patch, is_among, name_of, is_among_is, name_itself, or_true, same_name, Next, Has, first_lacked, is_empty, step, AreHeldIn, CanGo, ComeToFront, StickOn}
 use Rattle.camp_catch.proofs.ListResults.{arrange_by_members, lists_are_unique, lists_succeed_or_stick}
 use Rattle.camp_branch.specs.Obliterating.{other_names}
 use Rattle.camp_branch.specs.Pulling.{Outcome}

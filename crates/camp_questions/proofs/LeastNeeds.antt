@@ -1,5 +1,5 @@
 -- What names need is the least that comes to the front, where all catches are plain and have room.
-use Rattle.camp_questions.proofs.Common.{◌≡◌, ℕ, Bool, true, false, ◌&&◌, List, ◌++◌, sym, ap, ◌∙◌, subst, Contains, ArrangeSticks, Catch, is_among, names_of, is_among_is, among_kept, ComeToFront, StickOn, in_order}
+use Rattle.camp_questions.proofs.Words.{◌≡◌, ℕ, Bool, true, false, ◌&&◌, List, ◌++◌, sym, ap, ◌∙◌, subst, Contains, ArrangeSticks, Catch, is_among, names_of, is_among_is, among_kept, ComeToFront, StickOn, in_order}
 use Rattle.camp_catch.proofs.PlainArranging.{what_stops_comes_along}
 use Rattle.camp_questions.specs.Laws.{AreAmong, IsPlain, NeedsAreLeast}
 use Rattle.camp_questions.proofs.Growths.{all_within}

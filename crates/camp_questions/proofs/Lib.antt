@@ -1,4 +1,4 @@
-mod Common
+mod Words
 pub mod AnnotationLaws
 pub mod Answering
 pub mod Arrows

@@ -1,5 +1,5 @@
 -- What is missing is what a pull without names brings.
-use Rattle.camp_questions.proofs.Common.{◌≡◌, ◌≢◌, ℕ, Bool, true, false, not, cond, ◌||◌, List, [], ◌∷◌, ◌++◌, filter, Option, None, Some, Ok, bytes_eq, refl, sym, ap, ◌∙◌, same_Some, Catch, has_patch, is_among, names_of, Next, Has, Contents, is_empty, step, accepted_calls, IsMissing, missing_in}
+use Rattle.camp_questions.proofs.Words.{◌≡◌, ◌≢◌, ℕ, Bool, true, false, not, cond, ◌||◌, List, [], ◌∷◌, ◌++◌, filter, Option, None, Some, Ok, bytes_eq, refl, sym, ap, ◌∙◌, same_Some, Catch, has_patch, is_among, names_of, Next, Has, Contents, is_empty, step, accepted_calls, IsMissing, missing_in}
 use Rattle.camp_branch.proofs.Names.{name_itself, or_true, passes_is_kept, same_name}
 use Rattle.camp_call.specs.declared.calls.Call.TheVariants as call
 use Rattle.camp_repo.specs.Lawful.{IsLawfulState}

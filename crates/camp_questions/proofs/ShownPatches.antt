@@ -1,5 +1,5 @@
 -- A patch as it stands where it was recorded.
-use Rattle.camp_questions.proofs.Common.{◌≡◌, ℕ, ◌+◌, Bool, true, false, true≢false, ◌||◌, cond, List, [], ◌∷◌, ◌++◌, bytes_eq, refl, sym, ap, ◌∙◌, bytes_eq-Decides, Primitive, Catch, catches_named, accepted_calls, changes_of}
+use Rattle.camp_questions.proofs.Words.{◌≡◌, ℕ, ◌+◌, Bool, true, false, true≢false, ◌||◌, cond, List, [], ◌∷◌, ◌++◌, bytes_eq, refl, sym, ap, ◌∙◌, bytes_eq-Decides, Primitive, Catch, catches_named, accepted_calls, changes_of}
 use Rattle.std.proofs.lemmas.List.Elements.{filter-append}
 use Rattle.camp_branch.specs.Branches.{has_patch, is_among, name_of, recorded}
 use Rattle.camp_branch.proofs.Names.{name_itself, or_parts, same_name}

@@ -1,5 +1,5 @@
 -- The names that are kept under the absolute labels of hunks, as a finite map.
-use Rattle.camp_questions.proofs.Common.{◌≡◌, ℕ, cond, List, [], ◌∷◌, Some, refl, sym, ap, ◌∙◌, eq_by_cmp, key_cmp, Key}
+use Rattle.camp_questions.proofs.Words.{◌≡◌, ℕ, cond, List, [], ◌∷◌, Some, refl, sym, ap, ◌∙◌, eq_by_cmp, key_cmp, Key}
 use Rattle.std.specs.BTreeMap as tree
 use Rattle.std.specs.BTreeMap.{BTreeMap, is_at}
 use Rattle.std.specs.Cmp.{eq_by_cmp_equiv}

@@ -1,5 +1,5 @@
 -- What a call passes on its way to a next state.
-use Rattle.camp_repo.proofs.Common.{◌≡◌, ℕ, Bool, true, false, List, Option, None, Some, Result, Ok, Err, refl, option_map_or, Files, Catch, Outcome, Refusal, Next, Has, Branches, Contents, after, catches_of, with_catches}
+use Rattle.camp_repo.proofs.Words.{◌≡◌, ℕ, Bool, true, false, List, Option, None, Some, Result, Ok, Err, refl, option_map_or, Files, Catch, Outcome, Refusal, Next, Has, Branches, Contents, after, catches_of, with_catches}
 use Rattle.camp_call.specs.declared.replies.Refusal.TheVariants.{NoBranch, NoPatch}
 use Rattle.camp_repo.specs.Steps.{Decision, accepted, becomes, first_lacked, record_leads, refused, refused_if, with_branch, with_patches}
 

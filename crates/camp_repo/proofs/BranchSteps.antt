@@ -1,6 +1,6 @@
 -- Branches by name, and other catches in one of them.
 use Rattle.std.proofs.Common.{◌≡◌, ◌≢◌, ◌||◌, ℕ, Bool, true, false, cond, List, [], ◌∷◌, ◌++◌, None, Some, bytes_eq, refl, sym, ap, ◌∙◌, subst}
-use Rattle.camp_repo.proofs.Common.{none-some, same_Some, AllByRecursion, Catch, AreDistinct, has_patch, is_among, names_of_branches, Branches, catches_of, stands, with_catches}
+use Rattle.camp_repo.proofs.Words.{none-some, same_Some, AllByRecursion, Catch, AreDistinct, has_patch, is_among, names_of_branches, Branches, catches_of, stands, with_catches}
 use Rattle.camp_branch.proofs.Names.{distinct_append, or_parts, other_way, same_name}
 
 names_at : (branch : List ℕ × List Catch) (rest : Branches) (name : List ℕ) (catches : List Catch) (b : Bool) → names_of_branches (with_catches rest name catches) ≡ names_of_branches rest → names_of_branches (cond b ((branch.0, catches) ∷ rest) (branch ∷ with_catches rest name catches)) ≡ branch.0 ∷ names_of_branches rest

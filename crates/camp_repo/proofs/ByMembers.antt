@@ -3,7 +3,7 @@ use Rattle.std.proofs.Common.{◌≡◌, ◌==◌, ℕ, suc, Bool, not, cond, na
 use Rattle.std.specs.Prelude.{◌↔◌, Contains}
 use Rattle.std.proofs.Math.Dec.{eqb-suc-zero}
 use Rattle.std.specs.FinMap.{entries, keys, len, len-entries}
-use Rattle.camp_repo.proofs.Common.{Catch, is_among, name_of, names_of, ObliterateGives, Names, is_empty, is_full_with}
+use Rattle.camp_repo.proofs.Words.{Catch, is_among, name_of, names_of, ObliterateGives, Names, is_empty, is_full_with}
 use Rattle.camp_catch.proofs.ListResults.{arrange_by_members}
 use Rattle.camp_branch.specs.Pulling.{MergesBehind, Outcome, PullGives, WantedNext, common_names}
 use Rattle.camp_branch.proofs.Names.{is_among_is, name_itself}

@@ -1,6 +1,6 @@
 -- What the functions that decide have found, and what the step is then.
 use Rattle.std.proofs.Common.{◌≡◌, ℕ, true, false, List, ◌++◌, Option, None, Some, MatchOption, IfOk, IfErr, Result, Ok, Err, is_some, bytes_eq, refl, sym, ap, ◌∙◌}
-use Rattle.camp_repo.proofs.Common.{Files, Primitive, Catch, LeadsTo, recorded, ObliterateGives, Outcome, PullGives, conflicts_are_determined, outcomes_are_determined, Call, Refusal, Next, Answer, Has, IsLawfulState, obliterated, pulled, placed, settled, Contents, after, stands, with_catches}
+use Rattle.camp_repo.proofs.Words.{Files, Primitive, Catch, LeadsTo, recorded, ObliterateGives, Outcome, PullGives, conflicts_are_determined, outcomes_are_determined, Call, Refusal, Next, Answer, Has, IsLawfulState, obliterated, pulled, placed, settled, Contents, after, stands, with_catches}
 use Rattle.camp_branch.specs.Conflicting.{AreConflicts}
 use Rattle.camp_call.specs.declared.calls.Call.TheVariants as call
 use Rattle.camp_call.specs.declared.replies.Reply.TheVariants as reply

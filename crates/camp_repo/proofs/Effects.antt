@@ -1,5 +1,5 @@
 -- What each accepted call does.
-use Rattle.camp_repo.proofs.Common.{◌≡◌, ℕ, Bool, true, false, not, ◌&&◌, List, [], ◌∷◌, ◌++◌, Option, None, Some, Ok, is_some, length, nat_le, bytes_eq, refl, sym, ap, ◌∙◌, subst, same_Some, Files, Primitive, Catch, LeadsTo, has_patch, is_among, names_of, recorded, AreLacked, ObliterateGives, PullGives, conflicts_are_determined, among_kept, outcomes_are_determined, BranchExists, NothingToDo, PatchExists, SameBranch, TooLarge, Next, IsLawfulState, IsLawfulBy, names_of_branches, obliterated, pulled, Contents, catches_of, stands, tree_of, with_catches, accepted, is_empty, is_full_with, is_too_large, listed, shown, step, wanted}
+use Rattle.camp_repo.proofs.Words.{◌≡◌, ℕ, Bool, true, false, not, ◌&&◌, List, [], ◌∷◌, ◌++◌, Option, None, Some, Ok, is_some, length, nat_le, bytes_eq, refl, sym, ap, ◌∙◌, subst, same_Some, Files, Primitive, Catch, LeadsTo, has_patch, is_among, names_of, recorded, AreLacked, ObliterateGives, PullGives, conflicts_are_determined, among_kept, outcomes_are_determined, BranchExists, NothingToDo, PatchExists, SameBranch, TooLarge, Next, IsLawfulState, IsLawfulBy, names_of_branches, obliterated, pulled, Contents, catches_of, stands, tree_of, with_catches, accepted, is_empty, is_full_with, is_too_large, listed, shown, step, wanted}
 use Rattle.camp_branch.proofs.KeepLawful.{obliterates_keep_lawful, pulls_keep_lawful}
 use Rattle.camp_branch.proofs.Steps.{pulled_by}
 use Rattle.camp_call.specs.declared.calls.Call.TheVariants as call

@@ -1,6 +1,6 @@
 -- What is known of fronts stays so while branches grow.
 use Rattle.std.proofs.Common.{◌≡◌, ℕ, zero, suc, pred, List, [], ◌∷◌, ◌++◌, length, zip, slice_get, Some, Result, Ok, Err, IfOk, refl, sym, ap, ◌∙◌, subst, append-nil}
-use Rattle.camp_repo.proofs.Common.{none-some, same_Some, Catch, Agree, AgreesIn, AllHold, catches_in, placed, Branches}
+use Rattle.camp_repo.proofs.Words.{none-some, same_Some, Catch, Agree, AgreesIn, AllHold, catches_in, placed, Branches}
 use Rattle.std.specs.List.{AllByRecursion, remove}
 use Rattle.camp_branch.proofs.AgreedFronts.{agree_grown, agree_none}
 use Rattle.camp_repo.specs.declared.fronts.KnownFront.{KnownFront}

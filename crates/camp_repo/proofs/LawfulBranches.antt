@@ -1,6 +1,6 @@
 -- Branches in which each name goes with its number of changes.
 use Rattle.std.proofs.Common.{◌≡◌, ◌≤◌, ℕ, false, not, if◌then◌else◌, cond, List, [], ◌∷◌, ◌++◌, Ok, length, bytes_eq, refl, sym, ap, ◌∙◌}
-use Rattle.camp_repo.proofs.Common.{empty, AllByRecursion, Files, Primitive, Catch, ObliterateGives, PullGives, IsLawfulBy}
+use Rattle.camp_repo.proofs.Words.{empty, AllByRecursion, Files, Primitive, Catch, ObliterateGives, PullGives, IsLawfulBy}
 use Rattle.camp_branch.specs.Branches.{IsLawfulBranch as IsLawfulBranch, LeadsTo, Patch, has_patch, is_among, patch_names, recorded}
 use Rattle.camp_branch.specs.Laws.{AppliesEach, AreLacked, others_of, those_of}
 use Rattle.camp_branch.proofs.BranchLabels.{left_patches, not_a_patch, pulled_patches, recorded_patches}

@@ -1,4 +1,4 @@
-mod Common
+mod Words
 pub mod AcceptedSteps
 pub mod BranchSteps
 pub mod ByMembers

@@ -3,7 +3,7 @@ use Rattle.std.proofs.Common.{◌≡◌, ◌<◌, ◌≤◌, ◌+◌, ℕ, arith
 use Rattle.std.proofs.lemmas.List.{length-append, take-append-drop}
 use Rattle.std.proofs.lemmas.List.Elements.{filter-append}
 use Rattle.std.specs.FinMap.{contains_key, empty, get-empty, insert, keys}
-use Rattle.camp_repo.proofs.Common.{nat_cmp, slice_cmp, Catch, stands_at, has_patch, is_among, name_of, names_of, Agree, AreLacked, catches_named, first_lacked, wanted}
+use Rattle.camp_repo.proofs.Words.{nat_cmp, slice_cmp, Catch, stands_at, has_patch, is_among, name_of, names_of, Agree, AreLacked, catches_named, first_lacked, wanted}
 use Rattle.camp_branch.proofs.AgreedFronts.{agreed_has, split_has}
 use Rattle.camp_branch.proofs.BranchFields.{Names, contains_more}
 use Rattle.camp_branch.proofs.NameSets.{and_false, has_listed}

@@ -1,5 +1,5 @@
 -- Names and branches side by side.
-use Rattle.camp_repo.proofs.Common.{◌≡◌, ◌<◌, ◌+◌, ℕ, zero, suc, pred, Bool, true, false, cond, List, [], ◌∷◌, ◌++◌, length, zip, position, slice_get, slice_set, None, Some, bytes_eq, arith, refl, sym, ap, ◌∙◌, ◌||◌, subst, none-some, same_Some, Catch, has_patch, placed, catches_of, stands, with_catches}
+use Rattle.camp_repo.proofs.Words.{◌≡◌, ◌<◌, ◌+◌, ℕ, zero, suc, pred, Bool, true, false, cond, List, [], ◌∷◌, ◌++◌, length, zip, position, slice_get, slice_set, None, Some, bytes_eq, arith, refl, sym, ap, ◌∙◌, ◌||◌, subst, none-some, same_Some, Catch, has_patch, placed, catches_of, stands, with_catches}
 use Rattle.std.proofs.lemmas.Iterator.Adapters.{position_from-zero}
 use Rattle.std.specs.List.{list_any, position_from}
 

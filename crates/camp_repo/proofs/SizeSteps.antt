@@ -1,5 +1,5 @@
 -- The size of a patch, as a test and as a fact.
-use Rattle.camp_repo.proofs.Common.{◌≡◌, ◌+◌, true, false, Bool, not, ◌&&◌, ◌||◌, List, length, nat_le, nat_lt, refl, list_any, Primitive, Catch}
+use Rattle.camp_repo.proofs.Words.{◌≡◌, ◌+◌, true, false, Bool, not, ◌&&◌, ◌||◌, List, length, nat_le, nat_lt, refl, list_any, Primitive, Catch}
 use Rattle.std.proofs.lemmas.Bool.{leb-true}
 use Rattle.camp_call.specs.Patches.{IsPatchSized}
 use Rattle.camp_repo.specs.Steps.{has_long_side, is_patch_sized, is_too_large}

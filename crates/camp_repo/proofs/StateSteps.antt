@@ -1,6 +1,6 @@
 -- How the fields of a state become those of the next.
 use Rattle.std.proofs.Common.{◌≡◌, ◌+◌, ℕ, zero, suc, pred, false, cond, List, [], ◌∷◌, ◌++◌, length, zip, slice_set, None, Ok, Err, bytes_eq, codes, refl, sym, ap, ◌∙◌}
-use Rattle.camp_repo.proofs.Common.{AllZip, list_any, Catch, Outcome, names_of_branches, placed, settled, Contents, after, catches_of, initial, with_catches, accepted, becomes}
+use Rattle.camp_repo.proofs.Words.{AllZip, list_any, Catch, Outcome, names_of_branches, placed, settled, Contents, after, catches_of, initial, with_catches, accepted, becomes}
 use Rattle.camp_repo.proofs.BranchSteps.{absent}
 use Rattle.camp_repo.proofs.PlaceSteps.{as_long, zip_grown, zip_placed}
 

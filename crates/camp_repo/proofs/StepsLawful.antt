@@ -1,5 +1,5 @@
 -- From lawful states accepted calls lead to lawful ones.
-use Rattle.camp_repo.proofs.Common.{◌≡◌, ℕ, ◌+◌, false, List, [], ◌∷◌, ◌++◌, Option, None, Some, is_some, length, nat_le, bytes_eq, refl, sym, ap, ◌∙◌, subst, same_Some, option_map_or, Primitive, Catch, AreDistinct, LeadsTo, has_patch, recorded, all_append, BranchExists, NothingToDo, PatchExists, SameBranch, TooLarge, Next, NoBranch, IsLawfulState, IsLawfulBy, names_of_branches, obliterated, pulled, Branches, Contents, catches_of, stands, tree_of, with_catches, is_empty, is_full_with, is_too_large, listed, refused, shown, step, wanted}
+use Rattle.camp_repo.proofs.Words.{◌≡◌, ℕ, ◌+◌, false, List, [], ◌∷◌, ◌++◌, Option, None, Some, is_some, length, nat_le, bytes_eq, refl, sym, ap, ◌∙◌, subst, same_Some, option_map_or, Primitive, Catch, AreDistinct, LeadsTo, has_patch, recorded, all_append, BranchExists, NothingToDo, PatchExists, SameBranch, TooLarge, Next, NoBranch, IsLawfulState, IsLawfulBy, names_of_branches, obliterated, pulled, Branches, Contents, catches_of, stands, tree_of, with_catches, is_empty, is_full_with, is_too_large, listed, refused, shown, step, wanted}
 use Rattle.camp_call.specs.declared.calls.Call.TheVariants as call
 use Rattle.camp_repo.specs.Laws.{Has, InitialIsLawful, StepsKeepLawful, TreesAreAnswered}
 use Rattle.camp_repo.proofs.AcceptedSteps.{becomes_other, has_branch, has_tree, lacks_none, leads_on, next_is, passes}

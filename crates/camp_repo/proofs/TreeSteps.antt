@@ -1,5 +1,5 @@
 -- The tree of a branch as a function, and what changes lead to.
-use Rattle.camp_repo.proofs.Common.{◌≡◌, Bool, true, false, cond, List, [], ◌∷◌, Option, None, Some, Result, Ok, Err, refl, sym, ap, ◌∙◌, empty, option_and_then, Files, applied, path_of, Primitive, Catch, LeadsTo, AppliesEach, Refusal, changed, has_long_file, led_to, then_from}
+use Rattle.camp_repo.proofs.Words.{◌≡◌, Bool, true, false, cond, List, [], ◌∷◌, Option, None, Some, Result, Ok, Err, refl, sym, ap, ◌∙◌, empty, option_and_then, Files, applied, path_of, Primitive, Catch, LeadsTo, AppliesEach, Refusal, changed, has_long_file, led_to, then_from}
 use Rattle.camp_prim.specs.declared.named.Named.{Named}
 use Rattle.camp_prim.proofs.Applied.{Applies-from_applied, applied-from_Applies}
 use Rattle.camp_seq.specs.Running.{AppliesAll}

@@ -1,5 +1,5 @@
 -- The rule at the opening, after a split and after a join; the parts that are dealt out.
-use Rattle.camp_row.proofs.Common.{◌≡◌, ℕ, zero, suc, ◌+◌, ◌-◌, ◌*◌, ◌<◌, ◌≤◌, inl, inr, List, [], ◌∷◌, ◌++◌, replicate, cond, ◌==◌, sym, refl, ap, ◌∙◌, subst, arith, set, slice_index, sum_by, All, map, take, drop, cases_eq, range_with_len, some, some-injective, some-ne-none, get_elem?, Knowledge, Part, parts_of, fresh, all_fresh, parent_word, place_word, Holds, Knows, IsRuled}
+use Rattle.camp_row.proofs.Words.{◌≡◌, ℕ, zero, suc, ◌+◌, ◌-◌, ◌*◌, ◌<◌, ◌≤◌, inl, inr, List, [], ◌∷◌, ◌++◌, replicate, cond, ◌==◌, sym, refl, ap, ◌∙◌, subst, arith, set, slice_index, sum_by, All, map, take, drop, cases_eq, range_with_len, some, some-injective, some-ne-none, get_elem?, Knowledge, Part, parts_of, fresh, all_fresh, parent_word, place_word, Holds, Knows, IsRuled}
 use Rattle.std.proofs.lemmas.List.{length-replicate}
 use Rattle.std.proofs.lemmas.List.Sums.{sum_by-cons, sum_by_push, sum_by-append}
 use Rattle.std.proofs.lemmas.List.Elements.{All-cons, All-nil, All-map, All-take, All-drop, All-append, All-weaker}

@@ -1,5 +1,5 @@
 -- Stores to a seat's next cell keep the rule: that cell is not in the chain, and no other seat's.
-use Rattle.camp_row.proofs.Common.{◌≡◌, ◌≢◌, ℕ, ◌+◌, ◌*◌, ◌<◌, List, [], ◌∷◌, ◌++◌, length, sym, refl, ap, ◌∙◌, subst, arith, set, get_or, get_or-set_same, get_or-set_other, length-set, same_from_place, row_fits, some, get_elem?, Entry, Knowledge, turns, cell_of, head_word, Part, parent_word, place_word, Holds, IsRuled, StoredParent, StoredPlace}
+use Rattle.camp_row.proofs.Words.{◌≡◌, ◌≢◌, ℕ, ◌+◌, ◌*◌, ◌<◌, List, [], ◌∷◌, ◌++◌, length, sym, refl, ap, ◌∙◌, subst, arith, set, get_or, get_or-set_same, get_or-set_other, length-set, same_from_place, row_fits, some, get_elem?, Entry, Knowledge, turns, cell_of, head_word, Part, parent_word, place_word, Holds, IsRuled, StoredParent, StoredPlace}
 use Rattle.camp_row.proofs.Cells.{turns_cut}
 use Rattle.camp_row.proofs.Ruling.{Owes, only, knows, keep_one, holds_other}
 

@@ -1,4 +1,4 @@
-mod Common
+mod Words
 pub mod Cells
 pub mod Dealing
 pub mod Drafting

@@ -1,5 +1,5 @@
 -- Loads keep the rule, and tell what `specs/Inside/Steps` says.
-use Rattle.camp_row.proofs.Common.{◌≡◌, ℕ, ◌+◌, ◌*◌, ◌<◌, List, [], ◌∷◌, ◌++◌, length, cond, ◌==◌, sym, refl, ap, ◌∙◌, subst, arith, set, slice_index, All, map, All-weaker, All-map, Entry, Knowledge, IsShorter, own, turns, cell_of, head_word, Fits, Part, parts_of, finds, IsSoundPart, place_word, Holds, Knows, IsRuled, Sees, Looked, Walked, Advanced}
+use Rattle.camp_row.proofs.Words.{◌≡◌, ℕ, ◌+◌, ◌*◌, ◌<◌, List, [], ◌∷◌, ◌++◌, length, cond, ◌==◌, sym, refl, ap, ◌∙◌, subst, arith, set, slice_index, All, map, All-weaker, All-map, Entry, Knowledge, IsShorter, own, turns, cell_of, head_word, Fits, Part, parts_of, finds, IsSoundPart, place_word, Holds, Knows, IsRuled, Sees, Looked, Walked, Advanced}
 use Rattle.camp_row.proofs.Fronts.{front_refl, cut_longer, cut_pushed}
 use Rattle.camp_row.proofs.Cells.{own_of_next}
 use Rattle.camp_row.proofs.Ruling.{Owes, only, one_at, parts_of-cons, keep, word_same, knows, keep_words}

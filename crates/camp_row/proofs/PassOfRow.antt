@@ -1,5 +1,5 @@
 -- A pass over its fields, and the row that it is of.
-use Rattle.camp_row.proofs.Common.{◌≡◌, ◌≢◌, ℕ, ◌+◌, ◌*◌, ◌<◌, ◌≤◌, List, [], ◌∷◌, sym, refl, ap, ◌∙◌, subst, arith, row_fits, TableId, Seat, Knowledge, Next, IsShorter, turns, cell_of, RowId, Known, ComesNext, Part, part_of, known_of, IsSoundPart, part, known, IsPass}
+use Rattle.camp_row.proofs.Words.{◌≡◌, ◌≢◌, ℕ, ◌+◌, ◌*◌, ◌<◌, ◌≤◌, List, [], ◌∷◌, sym, refl, ap, ◌∙◌, subst, arith, row_fits, TableId, Seat, Knowledge, Next, IsShorter, turns, cell_of, RowId, Known, ComesNext, Part, part_of, known_of, IsSoundPart, part, known, IsPass}
 use Rattle.std.proofs.Math.Nat.{mul-le-mul_left}
 use Rattle.camp_row.proofs.Drafting.{next_cell, HasRoom}
 use Rattle.camp_row.specs.Inside.RowFields.{id_of, IsRow}

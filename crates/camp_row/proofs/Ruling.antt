@@ -1,5 +1,5 @@
 -- The rule of the row, when a step changes one view and perhaps one word.
-use Rattle.camp_row.proofs.Common.{◌≡◌, ◌≢◌, ℕ, zero, suc, ◌+◌, ◌≤◌, inl, inr, List, [], ◌∷◌, length, cond, ◌==◌, sym, refl, ap, ◌∙◌, subst, arith, zero-add, set, get_or, slice_index, sum_by, All, sum_by-cons, All-head, All-cons, All-nil, eq-eqb, ne_eqb, cond-true, cond-false, some, some-injective, some-ne-none, get_elem?, at_set, Entry, Knowledge, head_word, Fits, Part, parts_of}
+use Rattle.camp_row.proofs.Words.{◌≡◌, ◌≢◌, ℕ, zero, suc, ◌+◌, ◌≤◌, inl, inr, List, [], ◌∷◌, length, cond, ◌==◌, sym, refl, ap, ◌∙◌, subst, arith, zero-add, set, get_or, slice_index, sum_by, All, sum_by-cons, All-head, All-cons, All-nil, eq-eqb, ne_eqb, cond-true, cond-false, some, some-injective, some-ne-none, get_elem?, at_set, Entry, Knowledge, head_word, Fits, Part, parts_of}
 use Rattle.std.proofs.lemmas.List.{get_or-set_other, set-get_or}
 use Rattle.atomic_table.specs.Table.{State, Me, keeps, Allows}
 use Rattle.camp_row.specs.Inside.Rule.{parent_word, place_word, Holds, IsLinked, Knows, IsRuled}

@@ -1,5 +1,5 @@
 -- A place of a trail, before the entries that lie before it are seen.
-use Rattle.camp_row.proofs.Common.{◌≡◌, ℕ, zero, suc, ◌+◌, ◌-◌, ◌*◌, ◌%◌, ◌<◌, List, [], ◌∷◌, ◌++◌, length, slice_get, Some, sym, refl, ap, ◌∙◌, subst, arith, length-append, append-nil, append_assoc, mod-mul-add, Entry, turns, cell_of, RowId, Known, Leads, cells_back, Part, IsSoundPart, part, known, id_of}
+use Rattle.camp_row.proofs.Words.{◌≡◌, ℕ, zero, suc, ◌+◌, ◌-◌, ◌*◌, ◌%◌, ◌<◌, List, [], ◌∷◌, ◌++◌, length, slice_get, Some, sym, refl, ap, ◌∙◌, subst, arith, length-append, append-nil, append_assoc, mod-mul-add, Entry, turns, cell_of, RowId, Known, Leads, cells_back, Part, IsSoundPart, part, known, id_of}
 use Rattle.std.proofs.lemmas.Option.{same_Some}
 use Rattle.camp_row.specs.declared.passes.Pass.TheInside.{Inside as PassInside}
 use Rattle.camp_row.specs.declared.rows.Row.TheInside.{Inside as RowInside}

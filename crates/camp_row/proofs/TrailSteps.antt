@@ -1,5 +1,5 @@
 -- A trail, popped and pushed.
-use Rattle.camp_row.proofs.Common.{◌≡◌, ◌≢◌, ℕ, ◌+◌, ◌-◌, ◌*◌, ◌%◌, ◌<◌, List, [], ◌∷◌, ◌++◌, length, sym, refl, ap, ◌∙◌, subst, inl, inr, arith, length-append, mod-mul-add, TableId, Entry, IsFront, turns, cell_of, head_word, Known, ComesNext, Leads, cells_back, Part, known_of, IsSoundPart, part, known}
+use Rattle.camp_row.proofs.Words.{◌≡◌, ◌≢◌, ℕ, ◌+◌, ◌-◌, ◌*◌, ◌%◌, ◌<◌, List, [], ◌∷◌, ◌++◌, length, sym, refl, ap, ◌∙◌, subst, inl, inr, arith, length-append, mod-mul-add, TableId, Entry, IsFront, turns, cell_of, head_word, Known, ComesNext, Leads, cells_back, Part, known_of, IsSoundPart, part, known}
 use Rattle.std.proofs.lemmas.List.{same_from_push, append-nil, append_assoc, length_push}
 use Rattle.camp_row.specs.declared.passes.Pass.TheInside.{Inside as PassInside}
 use Rattle.camp_row.specs.declared.rows.Row.TheInside.{Inside as RowInside}

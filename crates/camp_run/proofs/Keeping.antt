@@ -1,6 +1,6 @@
 -- The calls of a kept history, asked again of a new repository.
 use Rattle.std.proofs.Common.{◌≡◌, ℕ, ◌+◌, ◌≤◌, Bool, true, false, List, [], ◌∷◌, ◌++◌, length, map, Option, None, Some, Ok, bytes_eq}
-use Rattle.camp_run.proofs.Common.{refl, sym, ◌∙◌, ap, arith, AllByRecursion, Next, Answer, is_writing, Call, repository_is_lawful, next_of, replies_to, reply_of, repository, state_behind, accepted_from, booked}
+use Rattle.camp_run.proofs.Words.{refl, sym, ◌∙◌, ap, arith, AllByRecursion, Next, Answer, is_writing, Call, repository_is_lawful, next_of, replies_to, reply_of, repository, state_behind, accepted_from, booked}
 use Rattle.std.specs.Option.{option_and_then, option_map_or}
 use Rattle.std.proofs.lemmas.List.{append-nil, length-map}
 use Rattle.std.proofs.lemmas.List.Sums.{count_by-le-length}

@@ -1,4 +1,4 @@
-mod Common
+mod Words
 pub mod Keeping
 pub mod Serial
 pub mod Texts

@@ -1,5 +1,5 @@
 -- Sections that are asked one after the other of a new book come to what the definitions of a serial run say.
-use Rattle.camp_run.proofs.Common.{◌≡◌, ℕ, ◌+◌, List, [], ◌∷◌, ◌++◌, length, map, Option, None, Some, Result, Ok, Err, option_and_then, append-nil, Fault, Next, Answer, SaysAlone, OneByOne, Section, Call, Reply, repository_is_lawful, Contents, initial, Decision, step}
+use Rattle.camp_run.proofs.Words.{◌≡◌, ℕ, ◌+◌, List, [], ◌∷◌, ◌++◌, length, map, Option, None, Some, Result, Ok, Err, option_and_then, append-nil, Fault, Next, Answer, SaysAlone, OneByOne, Section, Call, Reply, repository_is_lawful, Contents, initial, Decision, step}
 use Rattle.std.proofs.Common.{MatchOption, refl, sym, ◌∙◌, ap, subst, append_assoc}
 use Rattle.std.proofs.lemmas.Option.{same_Some}
 use Rattle.camp_object.specs.Histories.{IsFront, IsAnswered, IsLegal, replay}

@@ -1,6 +1,6 @@
 -- What is prepared and then written is what a run answers.
 use Rattle.std.proofs.Common.{◌≡◌, ℕ, ◌≤◌, Bool, List, [], ◌∷◌, Option, Result, Ok, Err, MatchResult, Vec}
-use Rattle.camp_run.proofs.Common.{ap, count_by, subst, sym, ◌∙◌, All, AllByRecursion, All-cons, All-nil, Fault, is_writing, Call, Reply, lists_of}
+use Rattle.camp_run.proofs.Words.{ap, count_by, subst, sym, ◌∙◌, All, AllByRecursion, All-cons, All-nil, Fault, is_writing, Call, Reply, lists_of}
 use Rattle.std.specs.Io.KnownBytes.{Appends}
 use Rattle.camp_script.specs.Outputs.{output_text}
 use Rattle.camp_script.specs.Writing.{AppendsFront}

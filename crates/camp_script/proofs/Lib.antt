@@ -1,4 +1,4 @@
-mod Common
+mod Words
 pub mod Agreement
 pub mod Asked
 pub mod CanonicalCalls

@@ -1,5 +1,5 @@
 -- The call of a command, in its bytes.
-use Rattle.camp_talk.proofs.Common.{◌≡◌, ℕ, zero, suc, ◌+◌, ◌-◌, ◌≤◌, Bool, true, false, cond, ◌==◌, List, [], ◌∷◌, length, drop, codes, onto_first, position_or_len, is_blank, lines_of, words_of, begins_with, script_of, script_of_lines, lines-feed, lines-other, first_of}
+use Rattle.camp_talk.proofs.Words.{◌≡◌, ℕ, zero, suc, ◌+◌, ◌-◌, ◌≤◌, Bool, true, false, cond, ◌==◌, List, [], ◌∷◌, length, drop, codes, onto_first, position_or_len, is_blank, lines_of, words_of, begins_with, script_of, script_of_lines, lines-feed, lines-other, first_of}
 use Rattle.std.proofs.Common.{refl, sym, ap, ◌∙◌, arith, ⊎_elim, length-drop}
 use Rattle.std.proofs.lemmas.Bool.{cases_Bool}
 use Rattle.std.proofs.lemmas.List.{drop-drop}

@@ -1,6 +1,6 @@
 -- The first line of a text that is counted.
 use Rattle.std.proofs.Common.{◌≡◌, ◌≢◌, ◌<◌, ◌^◌, ℕ, true, not, ◌==◌, nat_lt, List, [], ◌∷◌, ◌++◌, length, ap, ◌∙◌, refl, ne_eqb}
-use Rattle.camp_talk.proofs.Common.{All-head, All-tail, is_blank, lines_of}
+use Rattle.camp_talk.proofs.Words.{All-head, All-tail, is_blank, lines_of}
 use Rattle.std.proofs.lemmas.List.Folds.{list_all-append}
 use Rattle.std.specs.Fmt.{decimal}
 use Rattle.std.proofs.lemmas.Bool.{and_parts}

@@ -1,5 +1,5 @@
 -- A command that was read is one: by its first line, and what that takes with it.
-use Rattle.camp_talk.proofs.Common.{◌≡◌, ℕ, Bool, true, false, List, [], ◌∷◌, ◌++◌, length, map, Option, Result, Ok, Err, refl, sym, ap, subst, ◌∙◌, arith, Call, lines_of, script_of_lines, LineFault, Ends, ReadsHeld, ReadsLine, ReadsLines, ReadsPart, ended, last_part, with_last}
+use Rattle.camp_talk.proofs.Words.{◌≡◌, ℕ, Bool, true, false, List, [], ◌∷◌, ◌++◌, length, map, Option, Result, Ok, Err, refl, sym, ap, subst, ◌∙◌, arith, Call, lines_of, script_of_lines, LineFault, Ends, ReadsHeld, ReadsLine, ReadsLines, ReadsPart, ended, last_part, with_last}
 use Rattle.camp_script.specs.declared.faults.FaultKind.{FaultKind}
 use Rattle.camp_script.specs.declared.faults.FaultKind.TheVariants.{UnknownCommand, WrongNumberOfWords, BadName}
 use Rattle.camp_script.specs.declared.faults.FaultKind.TheVariants.{BadPath, BadNumber, BadLine, BadEdit}

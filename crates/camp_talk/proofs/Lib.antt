@@ -1,4 +1,4 @@
-mod Common
+mod Words
 pub mod CallLines
 pub mod CountLemmas
 pub mod Cuts

@@ -1,5 +1,5 @@
 -- A line is read, part by part, and as much of it is held as is read.
-use Rattle.camp_talk.proofs.Common.{◌≡◌, ◌≢◌, ℕ, zero, suc, ◌+◌, ◌-◌, ◌<◌, ◌≤◌, min, Bool, true, false, cond, ◌==◌, nat_lt, List, [], ◌∷◌, ◌++◌, length, take, drop, position_or_len, Consumes, Consumes-trans, drop-append_seam, take-append_seam, All-append, All-cons, All-nil, as_read, Seen}
+use Rattle.camp_talk.proofs.Words.{◌≡◌, ◌≢◌, ℕ, zero, suc, ◌+◌, ◌-◌, ◌<◌, ◌≤◌, min, Bool, true, false, cond, ◌==◌, nat_lt, List, [], ◌∷◌, ◌++◌, length, take, drop, position_or_len, Consumes, Consumes-trans, drop-append_seam, take-append_seam, All-append, All-cons, All-nil, as_read, Seen}
 use Rattle.std.proofs.Common.{Option, refl, sym, ap, subst, ◌∙◌, append_assoc, append-nil, arith, take_all, take-take, length-append, length-take-le, eqb-true, eq-eqb, true≢false, zero-le}
 use Rattle.std.proofs.lemmas.Bool.Decides.{nat_tests}
 use Rattle.std.proofs.lemmas.List.{take_more}

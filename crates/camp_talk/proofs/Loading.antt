@@ -1,5 +1,5 @@
 -- Commands that are loaded, one behind another.
-use Rattle.camp_talk.proofs.Common.{◌≡◌, ◌⊎◌, inl, inr, ℕ, ◌+◌, Bool, true, false, List, [], ◌∷◌, ◌++◌, Option, Result, Ok, Err, refl, sym, ap, subst, ◌∙◌, append-nil, true≢false, flat_map, Consumes, Consumes-nil, Consumes-trans, flat_map-append, All-append, All-cons, All-nil, Call, reply_text, LineFault, Answers, Standing, Tells, TellsWant, asked_by, IsCommand, IsLeft, Entries, Exchange, Asked}
+use Rattle.camp_talk.proofs.Words.{◌≡◌, ◌⊎◌, inl, inr, ℕ, ◌+◌, Bool, true, false, List, [], ◌∷◌, ◌++◌, Option, Result, Ok, Err, refl, sym, ap, subst, ◌∙◌, append-nil, true≢false, flat_map, Consumes, Consumes-nil, Consumes-trans, flat_map-append, All-append, All-cons, All-nil, Call, reply_text, LineFault, Answers, Standing, Tells, TellsWant, asked_by, IsCommand, IsLeft, Entries, Exchange, Asked}
 use Rattle.camp_call.specs.declared.replies.Reply.{Reply}
 use Rattle.camp_call.specs.declared.replies.Reply.TheVariants as reply
 use Rattle.camp_object.specs.Asking.{Ask, alone_at}

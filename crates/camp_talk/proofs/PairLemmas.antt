@@ -1,5 +1,5 @@
 -- Texts of two lists side by side.
-use Rattle.camp_talk.proofs.Common.{◌≡◌, ◌⊎◌, inl, inr, ℕ, List, [], ◌∷◌, ◌++◌, refl, sym, ap, ◌∙◌, append-nil, flat_map, zip}
+use Rattle.camp_talk.proofs.Words.{◌≡◌, ◌⊎◌, inl, inr, ℕ, List, [], ◌∷◌, ◌++◌, refl, sym, ap, ◌∙◌, append-nil, flat_map, zip}
 
 -- one of two lists has ended
 abbrev pub HasEnded : {X Y : Type 0} → List X → List Y → Type 0

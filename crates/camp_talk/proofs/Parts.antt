@@ -1,5 +1,5 @@
 -- What is read of a command, part behind part.
-use Rattle.camp_talk.proofs.Common.{◌≡◌, ◌≢◌, ℕ, ◌-◌, Bool, true, false, cond, nat_lt, List, [], ◌∷◌, ◌++◌, length, map, take, drop, codes, All, Consumes, Consumes-nil, Consumes-trans, drop-append_seam, take-append_seam, flat_map-append, lines_of, words_of, begins_edit, begins_with, Part, More, Whole, Cut}
+use Rattle.camp_talk.proofs.Words.{◌≡◌, ◌≢◌, ℕ, ◌-◌, Bool, true, false, cond, nat_lt, List, [], ◌∷◌, ◌++◌, length, map, take, drop, codes, All, Consumes, Consumes-nil, Consumes-trans, drop-append_seam, take-append_seam, flat_map-append, lines_of, words_of, begins_edit, begins_with, Part, More, Whole, Cut}
 use Rattle.std.proofs.Common.{Option, None, Some, refl, sym, ap, subst, ◌∙◌, append_assoc, append-nil, arith, length-append}
 use Rattle.std.proofs.lemmas.List.{map-append}
 use Rattle.std.proofs.lemmas.List.Elements.{All-append, All-cons, All-drop, All-head, All-nil, All-tail, All-take}

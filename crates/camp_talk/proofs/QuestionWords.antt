@@ -1,5 +1,5 @@
 -- The first words of a question say all that it asks, where it lists no names.
-use Rattle.camp_talk.proofs.Common.{◌≡◌, false, ℕ, List, [], ◌∷◌, take, refl, sym, ap, subst, ◌∙◌, Gives, ScriptFault}
+use Rattle.camp_talk.proofs.Words.{◌≡◌, false, ℕ, List, [], ◌∷◌, take, refl, sym, ap, subst, ◌∙◌, Gives, ScriptFault}
 use Rattle.std.proofs.lemmas.Bool.{cond-false}
 use Rattle.std.specs.Prelude.{Option, Result, bytes_eq, codes}
 use Rattle.camp_talk.specs.Asking.{question_of, short_question}

@@ -1,5 +1,5 @@
 -- What questions are told.
-use Rattle.camp_talk.proofs.Common.{◌≡◌, ℕ, List, Result, Ok, Err, Vec, IfOk, subst, reply_text}
+use Rattle.camp_talk.proofs.Words.{◌≡◌, ℕ, List, Result, Ok, Err, Vec, IfOk, subst, reply_text}
 use Rattle.camp_call.specs.declared.replies.Refusal.{Refusal}
 use Rattle.camp_call.specs.declared.replies.Reply.TheVariants as reply
 use Rattle.camp_questions.specs.Answers.{AnswerOf, Tells}

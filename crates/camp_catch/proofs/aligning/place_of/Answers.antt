@@ -1,4 +1,4 @@
-use Rattle.camp_catch.proofs.Words.{◌+◌, List, ◌∷◌, take, drop, refl, sym, ap, ◌∙◌, subst, arith, length-take-le, take_all, whole, catch_key, Lacks, Catch}
+use Rattle.camp_catch.proofs.Words.{List, ap, arith, drop, refl, subst, sym, take, ◌+◌, ◌∙◌, ◌∷◌, length-take-le, take_all, whole, catch_key, Lacks, Catch}
 use Rattle.camp_catch.proofs.MoveSteps.{stands_at}
 use Rattle.camp_catch.proofs.aligning.place_of.Goals as goal
 

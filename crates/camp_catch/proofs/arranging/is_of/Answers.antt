@@ -1,4 +1,4 @@
-use Rattle.camp_catch.proofs.Words.{◌∙◌, sym, subst, Contains, slice_cmp, keys, nat_cmp, map_of}
+use Rattle.camp_catch.proofs.Words.{Contains, subst, sym, ◌∙◌, slice_cmp, keys, nat_cmp, map_of}
 use Rattle.camp_catch.proofs.MoveSteps.{names_decide}
 use Rattle.camp_catch.proofs.arranging.is_of.Goals as goal
 

@@ -1,19 +1,15 @@
-use Rattle.camp_catch.proofs.Words.{ap, sym, ◌∙◌, opposite}
-use Rattle.camp_catch.proofs.CommuteSteps.{nothing_fronts, another_fronts, fronts_from}
+use Rattle.camp_catch.proofs.Words.{ap, sym, ◌∙◌, inverse_of-inverse_of, told_not, inverse_of, one_front}
 use Rattle.camp_catch.proofs.commuting.behind_inverse.Goals as goal
 
 pub returns-in_default : goal.returns-in_default
 returns-in_default c =
-    let never = rw c.in_default.is at c.in_ok-found.ensures.exact in
-    nothing_fronts c.args.a.now c.args.s.now _ (c.opposite.ensures.exact ∙ ap opposite c.label.ensures.exact) never
+    λ rest w. (rw (c.in_default.is, c.opposite.ensures.exact, c.label.ensures.exact) at c.in_ok-found.ensures.exact) (inverse_of c.args.a.now, rest) w
 
 pub returns-then-not-is_same : goal.returns-then-not-is_same
 returns-then-not-is_same c =
-    let front = rw c.in-Some.is at c.in_ok-found.ensures.exact in
-    let no = c.if-not-is_same.true in
-    another_fronts c.args.a.now c.args.s.now _ (c.opposite.ensures.exact ∙ ap opposite c.label.ensures.exact) _ _ front (λ same. let yes = c.is_same.ensures.exact.1 (c.invert.ensures.exact ∙ same) in cc)
+    λ rest w. told_not _ c.if-not-is_same.true c.is_same.ensures.exact (c.invert.ensures.exact ∙ ap inverse_of (one_front _ c.args.s.now _ rest _ (inverse_of c.args.a.now) (rw (c.in-Some.is, c.opposite.ensures.exact, c.label.ensures.exact) at c.in_ok-found.ensures.exact) w).0 ∙ inverse_of-inverse_of c.args.a.now)
 
 pub returns : goal.returns
 returns c =
-    let front = rw c.in-Some.is at c.in_ok-found.ensures.exact in
-    fronts_from c.args.a.now c.args.s.now _ (c.opposite.ensures.exact ∙ ap opposite c.label.ensures.exact) _ _ front (sym c.invert.ensures.exact ∙ c.is_same.ensures.exact.0 c.if-not-is_same.false)
+    let it = sym (inverse_of-inverse_of c.in-Some.back) ∙ ap inverse_of (sym c.invert.ensures.exact ∙ c.is_same.ensures.exact.0 c.if-not-is_same.false) in
+    rw it at (rw (c.in-Some.is, c.opposite.ensures.exact, c.label.ensures.exact) at c.in_ok-found.ensures.exact)

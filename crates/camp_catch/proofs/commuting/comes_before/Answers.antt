@@ -1,18 +1,15 @@
-use Rattle.camp_catch.proofs.Words.{ap, subst, sym, ◌∙◌, length, [], ◌∷◌, PassesAll}
+use Rattle.camp_catch.proofs.Words.{[], ap, length, subst, sym, ◌∙◌, ◌∷◌, PassesAll}
 use Rattle.camp_catch.proofs.CommuteSteps.{length-passes_all}
 use Rattle.camp_catch.proofs.commuting.comes_before.Goals as goal
 
 pub returns-in_default : goal.returns-in_default
 returns-in_default c =
-    let never = rw c.in_default.is at c.in_ok-behind.ensures in
-    λ pair. never (pair.0 ∷ [], pair.1)
+    λ pair. (rw c.in_default.is at c.in_ok-behind.ensures) (pair.0 ∷ [], pair.1)
 
 pub first_of-requires : goal.first_of-requires
 first_of-requires c =
-    let passes = rw c.in-Some.is at c.in_ok-behind.ensures in
-    ap length c.items.ensures.exact ∙ length-passes_all c.args.r.now (c.args.b.now ∷ []) _ _ passes
+    ap length c.items.ensures.exact ∙ length-passes_all c.args.r.now (c.args.b.now ∷ []) _ _ (rw c.in-Some.is at c.in_ok-behind.ensures)
 
 pub returns : goal.returns
 returns c =
-    let passes = rw c.in-Some.is at c.in_ok-behind.ensures in
-    subst (λ t. PassesAll c.args.r.now (c.args.b.now ∷ []) t c.in-Some.left) (sym c.items.ensures.exact ∙ c.in_ok-first.ensures) passes
+    subst (λ t. PassesAll c.args.r.now (c.args.b.now ∷ []) t c.in-Some.left) (sym c.items.ensures.exact ∙ c.in_ok-first.ensures) (rw c.in-Some.is at c.in_ok-behind.ensures)

@@ -1,20 +1,17 @@
-use Rattle.std.proofs.Common.{refl}
-use Rattle.camp_catch.proofs.CommuteSteps.{identity_not_past}
+use Rattle.camp_catch.proofs.Words.{List, refl, inverse_of, Named, Norm, Adds, PassesBy, Becomes}
+use Rattle.camp_catch.proofs.Determined.{leads_nowhere}
+use Rattle.camp_catch.proofs.PartsDetermined.{comes_before}
 use Rattle.camp_catch.proofs.commuting.conflictor_past_plain.Goals as goal
 
 pub returns-in_default : goal.returns-in_default
 returns-in_default c =
-    let never = rw c.in_default.is at c.in_ok-behind.ensures in
-    λ pair w. never (w.b', w.left) w.passes
+    λ pair w. (rw c.in_default.is at c.in_ok-behind.ensures) (w.b', w.left) w.passes
 
 pub returns-in-None : goal.returns-in-None
 returns-in-None c =
-    let passes = rw c.in-Some.is at c.in_ok-behind.ensures in
-    let never = rw c.in-None.is at c.in_ok-made.ensures in
-    identity_not_past c.args.j.now c.args.b.now _ _ passes never
+    let back = inverse_of c.args.b.now in
+    λ pair w. leads_nowhere (λ (p : Named × List Named). Becomes (Norm p.1) (Adds back) (PassesBy back) c.args.j.now) (comes_before c.args.j.now.effect c.args.b.now) _ (rw c.in-Some.is at c.in_ok-behind.ensures) (rw c.in-None.is at c.in_ok-made.ensures) (w.b', w.left) w.passes w.moved w.becomes
 
 pub returns-in-Some-made : goal.returns-in-Some-made
 returns-in-Some-made c =
-    let passes = rw c.in-Some.is at c.in_ok-behind.ensures in
-    let made = rw c.in-Some-made.is at c.in_ok-made.ensures in
-    record { b' = _; left = _; passes = passes; moved = _; becomes = made; second = refl; first = refl }
+    record { b' = _; left = _; passes = (rw c.in-Some.is at c.in_ok-behind.ensures); moved = _; becomes = (rw c.in-Some-made.is at c.in_ok-made.ensures); second = refl; first = refl }

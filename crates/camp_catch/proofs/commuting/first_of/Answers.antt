@@ -1,4 +1,4 @@
-use Rattle.camp_catch.proofs.Words.{ap, sym, ◌∙◌, ◌∷◌, [], IfOk-weaker, Named}
+use Rattle.camp_catch.proofs.Words.{[], ap, sym, ◌∙◌, ◌∷◌, IfOk-weaker, Named}
 use Rattle.camp_catch.proofs.ValueSteps.{is_alone}
 use Rattle.camp_catch.proofs.commuting.first_of.Goals as goal
 

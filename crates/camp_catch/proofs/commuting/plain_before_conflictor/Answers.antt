@@ -1,8 +1,7 @@
-use Rattle.camp_catch.proofs.Words.{sym, ap, ◌∙◌, get, IfOk-weaker, key_of}
-use Rattle.camp_catch.proofs.CommuteSteps.{plain_passes}
+use Rattle.std.proofs.Common.{inl}
+use Rattle.camp_catch.proofs.CommuteSteps.{found_as, plain_passes}
 use Rattle.camp_catch.proofs.commuting.plain_before_conflictor.Goals as goal
 
 pub returns-in-None : goal.returns-in-None
 returns-in-None c =
-    let lacks = ap (get c.args.k.now.conflicts) (sym (c.key.ensures.exact ∙ ap key_of c.label.ensures.exact)) ∙ c.in-None.ensures.exact in
-    IfOk-weaker c.plain_past_conflictor.result _ _ (plain_passes c.args.a.now c.args.k.now lacks) c.plain_past_conflictor.ensures
+    found_as c.plain_past_conflictor.result (λ k' j' w. inl w) (plain_passes c.args.a.now c.args.k.now (rw (c.key.ensures.exact, c.label.ensures.exact) at c.in-None.ensures.exact)) c.plain_past_conflictor.ensures

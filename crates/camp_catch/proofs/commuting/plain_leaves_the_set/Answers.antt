@@ -1,13 +1,12 @@
-use Rattle.camp_catch.proofs.Words.{ap, ◌∙◌, key_of}
-use Rattle.camp_catch.proofs.CommuteSteps.{leaves_from}
+use Rattle.camp_catch.proofs.Words.{ap, Catch}
 use Rattle.camp_catch.proofs.commuting.plain_leaves_the_set.Goals as goal
 
 pub returns-in_default : goal.returns-in_default
 returns-in_default c =
-    let never = rw c.in_default.is at c.in_ok-found.ensures in
-    λ pair w. never w.rest w.front
+    λ pair w. (rw c.in_default.is at c.in_ok-found.ensures) w.rest w.front
 
 pub returns : goal.returns
 returns c =
-    let front = rw c.in-Some.is at c.in_ok-found.ensures in
-    leaves_from c.args.a.now c.args.k.now _ c.requires.member c.requires.named c.requires.several _ _ _ _ front (c.key.ensures.exact ∙ ap key_of c.label.ensures.exact) c.in_ok-second.ensures c.in_ok-first.ensures
+    let made = rw (c.key.ensures.exact, c.label.ensures.exact) at c.in_ok-second.ensures in
+    let q = c.requires in
+    record { z = _; member = q.member; named = q.named; several = q.several; rest = _; front = (rw c.in-Some.is at c.in_ok-found.ensures); s' = made.s'; effect = made.effect; second = ap Catch.Conflictor made.is; first = ap Catch.Conflictor c.in_ok-first.ensures }

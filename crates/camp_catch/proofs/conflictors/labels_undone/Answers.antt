@@ -1,6 +1,6 @@
-use Rattle.camp_catch.proofs.Words.{◌&&◌, rules, tests, contains_key, label_of, Named, patch_key}
 use Rattle.std.proofs.lemmas.Iterator.{YieldsList-from_slice, YieldsList-from_map, items_from_collect}
 use Rattle.std.proofs.lemmas.Iterator.Consumers.{YieldsList-at, YieldsList-from_filter}
+use Rattle.camp_catch.proofs.Words.{rules, tests, ◌&&◌, contains_key, label_of, Named, patch_key}
 use Rattle.camp_catch.proofs.conflictors.labels_undone.Goals as goal
 
 pub returns : goal.returns

@@ -1,26 +1,22 @@
-use Rattle.std.proofs.Common.{refl, ◌∙◌}
-use Rattle.camp_catch.proofs.CommuteSteps.{is_seen, is_unseen, identity_stays}
+use Rattle.camp_catch.proofs.Words.{List, refl, ◌≡◌, told_not, Named, AddsAll, PassesByAll, Becomes}
+use Rattle.camp_catch.proofs.Determined.{leads_nowhere}
+use Rattle.camp_catch.proofs.PartsDetermined.{effects_pass}
 use Rattle.camp_catch.proofs.conflictors.two_conflictors_apart.Goals as goal
 
 pub returns-then-not-lacks_key : goal.returns-then-not-lacks_key
-returns-then-not-lacks_key c =
-    let no = c.if-not-lacks_key.true in
-    is_seen c.args.j.now c.args.k.now _ _ c.key.ensures.exact (c.items.ensures.exact ∙ c.context.ensures.exact) (λ lacks. let yes = c.lacks_key.ensures.1 lacks in cc)
+returns-then-not-lacks_key c = λ pair w.
+    told_not _ c.if-not-lacks_key.true (rw (c.items.ensures.exact, c.context.ensures.exact, c.key.ensures.exact) at c.lacks_key.ensures) w.unseen
 
 pub returns-in_default : goal.returns-in_default
 returns-in_default c =
-    let never = rw c.in_default.is at c.in_ok-passed.ensures in
-    λ pair w. never (w.effect, w.rr') w.effects
+    λ pair w. (rw c.in_default.is at c.in_ok-passed.ensures) (w.effect, w.rr') w.effects
 
 pub returns-in_default-found : goal.returns-in_default-found
 returns-in_default-found c =
-    let pass = rw c.in-Some.is at c.in_ok-passed.ensures in
-    let never = rw c.in_default-found.is at c.in_ok-found.ensures in
-    identity_stays c.args.j.now c.args.k.now _ _ pass never
+    let k = c.args.k.now in
+    λ pair w. leads_nowhere (λ (e : List Named × List Named). Becomes (λ s. s ≡ e.0) (AddsAll e.1) (PassesByAll e.1) k) (effects_pass c.args.j.now.effect k.effect k.conflicts) _ (rw c.in-Some.is at c.in_ok-passed.ensures) (rw c.in_default-found.is at c.in_ok-found.ensures) (w.effect, w.rr') w.effects w.moved w.becomes
 
 pub returns : goal.returns
 returns c =
-    let pass = rw c.in-Some.is at c.in_ok-passed.ensures in
-    let made = rw c.in-Some-found.is at c.in_ok-found.ensures in
-    let unseen = is_unseen c.args.j.now c.args.k.now _ _ c.key.ensures.exact (c.items.ensures.exact ∙ c.context.ensures.exact) (c.lacks_key.ensures.0 c.if-not-lacks_key.false) in
-    record { apart = c.requires; unseen = unseen; effect = _; rr' = _; effects = pass; moved = _; becomes = made; own = _; own_becomes = c.in_ok-own.ensures; second = refl; first = refl }
+    let unseen = (rw (c.items.ensures.exact, c.context.ensures.exact, c.key.ensures.exact) at c.lacks_key.ensures).0 c.if-not-lacks_key.false in
+    record { apart = c.requires; unseen = unseen; effect = _; rr' = _; effects = (rw c.in-Some.is at c.in_ok-passed.ensures); moved = _; becomes = (rw c.in-Some-found.is at c.in_ok-found.ensures); own = _; own_becomes = c.in_ok-own.ensures; second = refl; first = refl }

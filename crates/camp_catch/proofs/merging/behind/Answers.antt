@@ -2,5 +2,4 @@ use Rattle.camp_catch.proofs.merging.behind.Goals as goal
 
 pub returns-in-None : goal.returns-in-None
 returns-in-None c =
-    let never = rw c.in-None.is at c.in_ok-found.ensures.exact in
-    record { exact = λ k' (j', m). never (k', j') m }
+    record { exact = λ k' (j', m). (rw c.in-None.is at c.in_ok-found.ensures.exact) (k', j') m }

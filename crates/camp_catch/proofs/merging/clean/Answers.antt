@@ -1,12 +1,10 @@
-use Rattle.camp_catch.proofs.MergeSteps.{clean_from, no_clean}
+use Rattle.camp_catch.proofs.Words.{ap, refl, subst, sym, ◌∙◌, inverse_of-inverse_of, inverse_of, Swap}
 use Rattle.camp_catch.proofs.merging.clean.Goals as goal
 
 pub returns-in-Some : goal.returns-in-Some
 returns-in-Some c =
-    let swap = rw c.in-Some.is at c.in_ok-swapped.ensures.exact in
-    record { exact = clean_from c.args.a.now c.args.b.now _ _ _ c.invert.ensures.exact swap }
+    record { exact = record { b' = c.in-Some.b; a' = c.invert.result; merge = subst (Swap (inverse_of c.args.a.now) c.args.b.now c.in-Some.b) (sym (ap inverse_of c.invert.ensures.exact ∙ inverse_of-inverse_of c.in-Some.back)) (rw c.in-Some.is at c.in_ok-swapped.ensures.exact); after = refl; beside = refl } }
 
 pub returns-in-None : goal.returns-in-None
 returns-in-None c =
-    let never = rw c.in-None.is at c.in_ok-swapped.ensures.exact in
-    record { exact = no_clean c.args.a.now c.args.b.now never }
+    record { exact = λ pair w. (rw c.in-None.is at c.in_ok-swapped.ensures.exact) (w.b', inverse_of w.a') w.merge }

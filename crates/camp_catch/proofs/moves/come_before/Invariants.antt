@@ -1,4 +1,4 @@
-use Rattle.camp_catch.proofs.Words.{◌≡◌, take, drop, ComesBefore}
+use Rattle.camp_catch.proofs.Words.{drop, take, ◌≡◌, ComesBefore}
 use Rattle.camp_catch.proofs.moves.come_before.Given as goal
 
 abbrev pub invariant-loop-at : goal.invariant-loop-at

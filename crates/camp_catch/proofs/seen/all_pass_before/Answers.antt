@@ -3,10 +3,8 @@ use Rattle.camp_catch.proofs.seen.all_pass_before.Goals as goal
 
 pub returns-in_default : goal.returns-in_default
 returns-in_default c =
-    let never = rw c.in_default.is at c.in_ok-moved.ensures.exact in
-    λ k made. never k.identity made.identity
+    λ k made. (rw c.in_default.is at c.in_ok-moved.ensures.exact) k.identity made.identity
 
 pub returns : goal.returns
 returns c =
-    let identity = rw c.in-Some.is at c.in_ok-moved.ensures.exact in
-    record { effect = refl; conflicts = c.in_ok-conflicts.ensures.exact; identity = identity }
+    record { effect = refl; conflicts = c.in_ok-conflicts.ensures.exact; identity = (rw c.in-Some.is at c.in_ok-moved.ensures.exact) }

@@ -1,4 +1,4 @@
-use Rattle.camp_catch.proofs.Words.{◌≡◌, IfOk, subst, AddsAll, Becomes}
+use Rattle.camp_catch.proofs.Words.{IfOk, subst, ◌≡◌, AddsAll, Becomes}
 use Rattle.camp_catch.proofs.seen.both_behind.Goals as goal
 
 pub returns : goal.returns

@@ -1,4 +1,4 @@
-use Rattle.camp_catch.proofs.Words.{sym, subst, IfOk-weaker, Adds}
+use Rattle.camp_catch.proofs.Words.{subst, sym, IfOk-weaker, Adds}
 use Rattle.camp_catch.proofs.seen.one_before.Goals as goal
 
 pub returns : goal.returns

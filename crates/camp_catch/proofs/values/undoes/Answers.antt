@@ -1,4 +1,4 @@
-use Rattle.camp_catch.proofs.Words.{◌≡◌, ap, sym, ◌∙◌, length, slice_index_or, inverse_of}
+use Rattle.camp_catch.proofs.Words.{ap, length, slice_index_or, sym, ◌∙◌, ◌≡◌, inverse_of}
 use Rattle.camp_catch.proofs.ValueSteps.{undoes_from, back_from}
 use Rattle.camp_catch.proofs.values.undoes.Goals as goal
 

@@ -1,4 +1,4 @@
-use Rattle.camp_clients.proofs.Common.{◌≡◌, ℕ, ◌<◌, ◌≤◌, length, take, get_or, told, IsFound, own_at, done_at, lists_of, section_of}
+use Rattle.camp_clients.proofs.Words.{◌≡◌, ℕ, ◌<◌, ◌≤◌, length, take, get_or, told, IsFound, own_at, done_at, lists_of, section_of}
 use Rattle.camp_clients.proofs.comparisons.has_exactly.Given as goal
 
 abbrev pub invariant-loop-before : goal.invariant-loop-before

@@ -1,4 +1,4 @@
-use Rattle.camp_clients.proofs.Common.{◌∙◌, sym, arith, told}
+use Rattle.camp_clients.proofs.Words.{◌∙◌, sym, arith, told}
 use Rattle.camp_clients.proofs.Positions.{done_at_more, done_at_end}
 use Rattle.camp_clients.proofs.comparisons.next_done.Goals as goal
 

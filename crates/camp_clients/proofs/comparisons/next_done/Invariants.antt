@@ -1,4 +1,4 @@
-use Rattle.camp_clients.proofs.Common.{◌≡◌, drop, told, done_at}
+use Rattle.camp_clients.proofs.Words.{◌≡◌, drop, told, done_at}
 use Rattle.camp_clients.proofs.comparisons.next_done.Given as goal
 
 abbrev pub invariant-loop-place : goal.invariant-loop-place

@@ -1,4 +1,4 @@
-use Rattle.camp_clients.proofs.Common.{◌≡◌, ◌∷◌, map}
+use Rattle.camp_clients.proofs.Words.{◌≡◌, ◌∷◌, map}
 use Rattle.camp_clients.proofs.heads.answers_of.Given as goal
 
 abbrev pub invariant-loop-client : goal.invariant-loop-client

@@ -1,4 +1,4 @@
-use Rattle.camp_clients.proofs.Common.{sym, ◌∙◌, subst, refl, IsFront, IsSeatOf, history_of, sight_of, HasMet}
+use Rattle.camp_clients.proofs.Words.{sym, ◌∙◌, subst, refl, IsFront, IsSeatOf, history_of, sight_of, HasMet}
 use Rattle.camp_clients.proofs.Gathering.{zip_push, all_first, all_rest, ok_holds}
 use Rattle.camp_clients.proofs.heads.each_meets.Goals as goal
 

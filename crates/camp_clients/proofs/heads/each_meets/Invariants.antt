@@ -1,4 +1,4 @@
-use Rattle.camp_clients.proofs.Common.{◌≡◌, All, AllZip, IsSeatOf, history_of, sight_of, HasMet}
+use Rattle.camp_clients.proofs.Words.{◌≡◌, All, AllZip, IsSeatOf, history_of, sight_of, HasMet}
 use Rattle.camp_clients.proofs.heads.each_meets.Given as goal
 
 abbrev pub invariant-loop-client : goal.invariant-loop-client

@@ -1,4 +1,4 @@
-use Rattle.camp_clients.proofs.Common.{◌≡◌, sym, ◌∙◌, subst, refl, IsFront, own, IsSeatOf, history_of, sight_of, IsMet, front_front, front_self}
+use Rattle.camp_clients.proofs.Words.{◌≡◌, sym, ◌∙◌, subst, refl, IsFront, own, IsSeatOf, history_of, sight_of, IsMet, front_front, front_self}
 use Rattle.camp_clients.proofs.Gathering.{zip_push, all_first, all_rest, ok_holds}
 use Rattle.camp_clients.proofs.Meeting.{met_still}
 use Rattle.camp_clients.proofs.heads.meets_each.Goals as goal

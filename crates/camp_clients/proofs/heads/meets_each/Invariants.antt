@@ -1,4 +1,4 @@
-use Rattle.camp_clients.proofs.Common.{◌≡◌, All, AllZip, IsFront, own, IsSeatOf, history_of, sight_of, IsMet}
+use Rattle.camp_clients.proofs.Words.{◌≡◌, All, AllZip, IsFront, own, IsSeatOf, history_of, sight_of, IsMet}
 use Rattle.camp_clients.proofs.heads.meets_each.Given as goal
 
 abbrev pub invariant-loop-client : goal.invariant-loop-client

@@ -1,4 +1,4 @@
-use Rattle.camp_clients.proofs.Common.{ℕ, ◌<◌, ◌≤◌, count_by, get_or}
+use Rattle.camp_clients.proofs.Words.{ℕ, ◌<◌, ◌≤◌, count_by, get_or}
 use Rattle.camp_clients.proofs.heads.most_writing.Given as goal
 
 abbrev pub invariant-loop-calls : goal.invariant-loop-calls

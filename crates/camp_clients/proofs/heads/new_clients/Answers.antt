@@ -1,4 +1,4 @@
-use Rattle.camp_clients.proofs.Common.{◌≡◌, refl}
+use Rattle.camp_clients.proofs.Words.{◌≡◌, refl}
 use Rattle.camp_clients.proofs.Gathering.{zip_push}
 use Rattle.camp_clients.proofs.heads.new_clients.Goals as goal
 

@@ -1,4 +1,4 @@
-use Rattle.camp_clients.proofs.Common.{◌≡◌, AllZip}
+use Rattle.camp_clients.proofs.Words.{◌≡◌, AllZip}
 use Rattle.camp_clients.proofs.heads.new_clients.Given as goal
 
 abbrev pub invariant-loop-seat : goal.invariant-loop-seat

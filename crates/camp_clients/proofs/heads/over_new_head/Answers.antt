@@ -1,4 +1,4 @@
-use Rattle.camp_clients.proofs.Common.{◌≡◌, ◌≤◌, [], sym, subst, arith, count_by, All, IsSeatOf, history_of}
+use Rattle.camp_clients.proofs.Words.{◌≡◌, ◌≤◌, [], sym, subst, arith, count_by, All, IsSeatOf, history_of}
 use Rattle.camp_clients.proofs.Gathering.{behind_first, zip_length}
 use Rattle.camp_clients.proofs.Opening.{opened_length, opened_seat}
 use Rattle.camp_clients.proofs.heads.over_new_head.Goals as goal

@@ -1,4 +1,4 @@
-use Rattle.camp_clients.proofs.Common.{◌≡◌, ◌+◌, count_by, drop}
+use Rattle.camp_clients.proofs.Words.{◌≡◌, ◌+◌, count_by, drop}
 use Rattle.camp_clients.proofs.heads.writing.Given as goal
 
 abbrev pub invariant-loop-call : goal.invariant-loop-call

@@ -1,4 +1,4 @@
-use Rattle.camp_clients.proofs.Common.{SaysSomewhere}
+use Rattle.camp_clients.proofs.Words.{SaysSomewhere}
 use Rattle.camp_clients.proofs.Gathering.{zip_more}
 use Rattle.camp_clients.proofs.locks.ask_locked.Goals as goal
 

@@ -1,4 +1,4 @@
-use Rattle.camp_clients.proofs.Common.{take, AllZip, SaysSomewhere}
+use Rattle.camp_clients.proofs.Words.{take, AllZip, SaysSomewhere}
 use Rattle.camp_clients.proofs.locks.ask_locked.Given as goal
 
 abbrev pub invariant-loop-call : goal.invariant-loop-call

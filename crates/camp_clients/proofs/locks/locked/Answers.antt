@@ -1,4 +1,4 @@
-use Rattle.camp_clients.proofs.Common.{length, sym, ◌∙◌, ap, arith, AllZip, SaysSomewhere, lists_of, section_of}
+use Rattle.camp_clients.proofs.Words.{length, sym, ◌∙◌, ap, arith, AllZip, SaysSomewhere, lists_of, section_of}
 use Rattle.camp_clients.proofs.Gathering.{gathered, gathered_first, gathered_length, gathers_here}
 use Rattle.camp_clients.proofs.OneSection.{has_opening}
 use Rattle.camp_clients.proofs.Vectors.{length-lists_of, section_at}

@@ -1,4 +1,4 @@
-use Rattle.camp_clients.proofs.Common.{[], take, OneByOne, lists_of}
+use Rattle.camp_clients.proofs.Words.{[], take, OneByOne, lists_of}
 use Rattle.camp_clients.proofs.one_by_one.serial.Given as goal
 
 abbrev pub invariant-loop-seat : goal.invariant-loop-seat

@@ -1,4 +1,4 @@
-use Rattle.camp_clients.proofs.Common.{◌∙◌, front_front}
+use Rattle.camp_clients.proofs.Words.{◌∙◌, front_front}
 use Rattle.camp_clients.proofs.Fronts.{section_grows, section_more, room_more}
 use Rattle.camp_clients.proofs.sections.ask_all.Goals as goal
 

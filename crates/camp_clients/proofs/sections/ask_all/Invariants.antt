@@ -1,4 +1,4 @@
-use Rattle.camp_clients.proofs.Common.{◌≡◌, ◌+◌, ◌≤◌, false, length, count_by, drop, take, own, Asks, Section}
+use Rattle.camp_clients.proofs.Words.{◌≡◌, ◌+◌, ◌≤◌, false, length, count_by, drop, take, own, Asks, Section}
 use Rattle.camp_clients.proofs.sections.ask_all.Given as goal
 
 abbrev pub invariant-loop-call : goal.invariant-loop-call

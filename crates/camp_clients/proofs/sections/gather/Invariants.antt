@@ -1,4 +1,4 @@
-use Rattle.camp_clients.proofs.Common.{Gathers}
+use Rattle.camp_clients.proofs.Words.{Gathers}
 use Rattle.camp_clients.proofs.sections.gather.Given as goal
 
 abbrev pub invariant-loop-own : goal.invariant-loop-own

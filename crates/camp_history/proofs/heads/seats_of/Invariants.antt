@@ -1,4 +1,4 @@
-use Rattle.camp_history.proofs.Common.{◌≡◌, [], ◌++◌, map, All, unseen}
+use Rattle.camp_history.proofs.Words.{◌≡◌, [], ◌++◌, map, All, unseen}
 use Rattle.camp_history.proofs.heads.seats_of.Given as goal
 
 abbrev pub invariant-loop-pass : goal.invariant-loop-pass

@@ -1,4 +1,4 @@
-use Rattle.camp_history.proofs.Common.{◌≡◌, All, ids}
+use Rattle.camp_history.proofs.Words.{◌≡◌, All, ids}
 use Rattle.camp_history.proofs.versions.slots_of.Given as goal
 
 abbrev pub invariant-loop : goal.invariant-loop

@@ -1,4 +1,4 @@
-use Rattle.camp_questions.proofs.Common.{List, ◌∙◌, refl, sym, ap, subst, get, Catch, LeadsTo, AreAnnotated, annotated, names_of_lines}
+use Rattle.camp_questions.proofs.Words.{List, ◌∙◌, refl, sym, ap, subst, get, Catch, LeadsTo, AreAnnotated, annotated, names_of_lines}
 use Rattle.camp_questions.specs.declared.annotations.Annotated.TheVariants.{File}
 use Rattle.camp_questions.proofs.Answering.{are_annotated, memory_told}
 use Rattle.camp_questions.proofs.annotations.annotate.Goals as goal

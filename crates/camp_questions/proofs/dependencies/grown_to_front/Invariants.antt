@@ -1,4 +1,4 @@
-use Rattle.camp_questions.proofs.Common.{length, map, name_of, names_in, ComeToFront, StickOn}
+use Rattle.camp_questions.proofs.Words.{length, map, name_of, names_in, ComeToFront, StickOn}
 use Rattle.camp_questions.proofs.Growing.{IsGrownSoFar}
 use Rattle.camp_questions.proofs.Growths.{left_of}
 use Rattle.camp_questions.proofs.dependencies.grown_to_front.Given as goal

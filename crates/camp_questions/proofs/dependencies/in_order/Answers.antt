@@ -1,4 +1,4 @@
-use Rattle.camp_questions.proofs.Common.{rules, ◌∙◌, ap, filter, filter_same, slice_cmp, contains_key, nat_cmp, map_of, has_listed, names_of}
+use Rattle.camp_questions.proofs.Words.{rules, ◌∙◌, ap, filter, filter_same, slice_cmp, contains_key, nat_cmp, map_of, has_listed, names_of}
 use Rattle.camp_questions.proofs.dependencies.in_order.Goals as goal
 
 pub returns : goal.returns

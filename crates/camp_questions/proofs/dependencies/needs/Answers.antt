@@ -1,4 +1,4 @@
-use Rattle.camp_questions.proofs.Common.{List, map, Catch, name_of, names_in}
+use Rattle.camp_questions.proofs.Words.{List, map, Catch, name_of, names_in}
 use Rattle.camp_questions.specs.Dependencies.{AreNeeded, ComeToFront, Needs, StickOn}
 use Rattle.camp_questions.proofs.Answering.{are_related, memory_told}
 use Rattle.camp_questions.proofs.BranchGrowths.{needs_are_determined, to_front}

@@ -1,4 +1,4 @@
-use Rattle.camp_questions.proofs.Common.{rules, ◌∙◌, ap, filter, not, refl, ℕ, Bool, List, filter_same, has_patch, IsMissing, missing_in}
+use Rattle.camp_questions.proofs.Words.{rules, ◌∙◌, ap, filter, not, refl, ℕ, Bool, List, filter_same, has_patch, IsMissing, missing_in}
 use Rattle.camp_questions.proofs.Answering.{memory_told}
 use Rattle.camp_questions.proofs.MissingNames.{are_missing}
 use Rattle.camp_questions.proofs.differences.missing.Goals as goal

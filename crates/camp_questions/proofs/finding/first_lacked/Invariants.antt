@@ -1,4 +1,4 @@
-use Rattle.camp_questions.proofs.Common.{◌≡◌, drop, first_lacked}
+use Rattle.camp_questions.proofs.Words.{◌≡◌, drop, first_lacked}
 use Rattle.camp_questions.proofs.finding.first_lacked.Given as goal
 
 abbrev pub invariant-loop-name : goal.invariant-loop-name

@@ -1,4 +1,4 @@
-use Rattle.camp_questions.proofs.Common.{◌∙◌, sym}
+use Rattle.camp_questions.proofs.Words.{◌∙◌, sym}
 use Rattle.camp_questions.proofs.Foreseeing.{accepted_so}
 use Rattle.camp_questions.proofs.foresight.what_if.Goals as goal
 

@@ -1,4 +1,4 @@
-use Rattle.camp_questions.proofs.Common.{◌∙◌, sym}
+use Rattle.camp_questions.proofs.Words.{◌∙◌, sym}
 use Rattle.camp_questions.proofs.Foreseeing.{is_there, stands_so}
 use Rattle.camp_questions.proofs.foresight.written.Goals as goal
 

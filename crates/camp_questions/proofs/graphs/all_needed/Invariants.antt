@@ -1,4 +1,4 @@
-use Rattle.camp_questions.proofs.Common.{take, NeedEach}
+use Rattle.camp_questions.proofs.Words.{take, NeedEach}
 use Rattle.camp_questions.proofs.graphs.all_needed.Given as goal
 
 abbrev pub invariant-loop-name : goal.invariant-loop-name

@@ -1,4 +1,4 @@
-use Rattle.camp_questions.proofs.Common.{List, ◌∙◌, ap, map, subst, Catch, IsGraphOf, node_of, NeedEach, needing}
+use Rattle.camp_questions.proofs.Words.{List, ◌∙◌, ap, map, subst, Catch, IsGraphOf, node_of, NeedEach, needing}
 use Rattle.camp_questions.proofs.Answering.{memory_told}
 use Rattle.camp_questions.proofs.GraphSteps.{drawn_in, graph_of_nodes, is_drawn, is_graph_of}
 use Rattle.camp_questions.proofs.graphs.graph.Goals as goal

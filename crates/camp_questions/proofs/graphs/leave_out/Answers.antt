@@ -1,4 +1,4 @@
-use Rattle.camp_questions.proofs.Common.{rules, ◌∙◌, not, sym, filter_same, needs_other, needing}
+use Rattle.camp_questions.proofs.Words.{rules, ◌∙◌, not, sym, filter_same, needs_other, needing}
 use Rattle.camp_questions.proofs.GraphSteps.{left_out, none_left_out}
 use Rattle.camp_questions.proofs.graphs.leave_out.Goals as goal
 

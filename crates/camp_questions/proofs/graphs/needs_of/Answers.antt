@@ -1,4 +1,4 @@
-use Rattle.camp_questions.proofs.Common.{List, ◌∙◌, ap, map, subst, Catch, is_among, name_of, names_in, ComeToFront, Needs, StickOn}
+use Rattle.camp_questions.proofs.Words.{List, ◌∙◌, ap, map, subst, Catch, is_among, name_of, names_in, ComeToFront, Needs, StickOn}
 use Rattle.camp_questions.proofs.BranchGrowths.{to_front}
 use Rattle.camp_questions.proofs.Growing.{grown_in_order}
 use Rattle.camp_questions.proofs.graphs.needs_of.Goals as goal

@@ -1,4 +1,4 @@
-use Rattle.camp_questions.proofs.Common.{◌∙◌, ◌&&◌, ap, sym, slice_cmp, keys, nat_cmp, map_of, is_among, has_listed}
+use Rattle.camp_questions.proofs.Words.{◌∙◌, ◌&&◌, ap, sym, slice_cmp, keys, nat_cmp, map_of, is_among, has_listed}
 use Rattle.camp_questions.proofs.graphs.needs_other.Goals as goal
 
 pub returns-then-ne : goal.returns-then-ne

@@ -1,4 +1,4 @@
-use Rattle.camp_questions.proofs.Common.{rules, ◌≡◌, ◌-◌, ◌∙◌, ap, arith, drop, filter, length, map, refl, filter_same, names_of, needs_other, needing}
+use Rattle.camp_questions.proofs.Words.{rules, ◌≡◌, ◌-◌, ◌∙◌, ap, arith, drop, filter, length, map, refl, filter_same, names_of, needs_other, needing}
 use Rattle.camp_questions.proofs.GraphSteps.{left_at_first, needs_past, one_left_out}
 use Rattle.camp_questions.proofs.graphs.node_of.Goals as goal
 

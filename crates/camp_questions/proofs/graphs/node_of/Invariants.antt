@@ -1,4 +1,4 @@
-use Rattle.camp_questions.proofs.Common.{◌≡◌, ◌≤◌, drop, filter, length, map, names_of, needing}
+use Rattle.camp_questions.proofs.Words.{◌≡◌, ◌≤◌, drop, filter, length, map, names_of, needing}
 use Rattle.camp_questions.proofs.GraphSteps.{needs_past}
 use Rattle.camp_questions.proofs.graphs.node_of.Given as goal
 

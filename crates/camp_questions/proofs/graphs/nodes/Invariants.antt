@@ -1,4 +1,4 @@
-use Rattle.camp_questions.proofs.Common.{◌≡◌, map, take, node_of, needing}
+use Rattle.camp_questions.proofs.Words.{◌≡◌, map, take, node_of, needing}
 use Rattle.camp_questions.proofs.graphs.nodes.Given as goal
 
 abbrev pub invariant-loop-patch : goal.invariant-loop-patch

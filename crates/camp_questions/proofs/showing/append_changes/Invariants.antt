@@ -1,4 +1,4 @@
-use Rattle.camp_questions.proofs.Common.{◌≡◌, ◌++◌, take}
+use Rattle.camp_questions.proofs.Words.{◌≡◌, ◌++◌, take}
 use Rattle.camp_questions.specs.Showing.{changes_in}
 use Rattle.camp_questions.proofs.showing.append_changes.Given as goal
 

@@ -1,4 +1,4 @@
-use Rattle.camp_questions.proofs.Common.{◌≡◌, [], ◌∷◌, ◌++◌, catches_named}
+use Rattle.camp_questions.proofs.Words.{◌≡◌, [], ◌∷◌, ◌++◌, catches_named}
 use Rattle.camp_questions.proofs.showing.catches_named.Given as goal
 
 abbrev pub invariant-loop-catch : goal.invariant-loop-catch

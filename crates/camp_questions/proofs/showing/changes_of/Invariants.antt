@@ -1,4 +1,4 @@
-use Rattle.camp_questions.proofs.Common.{◌≡◌, take, changes_of}
+use Rattle.camp_questions.proofs.Words.{◌≡◌, take, changes_of}
 use Rattle.camp_questions.proofs.showing.changes_of.Given as goal
 
 abbrev pub invariant-loop-catch : goal.invariant-loop-catch

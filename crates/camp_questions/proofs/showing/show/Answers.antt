@@ -1,4 +1,4 @@
-use Rattle.camp_questions.proofs.Common.{List, [], ◌∷◌, ◌∙◌, ap, refl, Catch, catches_named, IsShown, changes_of, patch_in}
+use Rattle.camp_questions.proofs.Words.{List, [], ◌∷◌, ◌∙◌, ap, refl, Catch, catches_named, IsShown, changes_of, patch_in}
 use Rattle.camp_questions.proofs.Answering.{is_shown, memory_told}
 use Rattle.camp_questions.proofs.showing.show.Goals as goal
 

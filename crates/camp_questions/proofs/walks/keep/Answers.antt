@@ -1,4 +1,4 @@
-use Rattle.camp_questions.proofs.Common.{◌∙◌, sym}
+use Rattle.camp_questions.proofs.Words.{◌∙◌, sym}
 use Rattle.camp_questions.proofs.TakenNames.{found_under, kept_then}
 use Rattle.camp_questions.proofs.walks.keep.Goals as goal
 

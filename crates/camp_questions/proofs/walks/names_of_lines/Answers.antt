@@ -1,4 +1,4 @@
-use Rattle.camp_questions.proofs.Common.{◌∙◌, ap, subst, effect_of, name_of, known_in}
+use Rattle.camp_questions.proofs.Words.{◌∙◌, ap, subst, effect_of, name_of, known_in}
 use Rattle.camp_questions.proofs.LineNames.{IsAlong, ends_along, follows_next, one_along, starts_along}
 use Rattle.camp_questions.proofs.walks.names_of_lines.Goals as goal
 

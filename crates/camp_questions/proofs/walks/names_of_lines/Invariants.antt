@@ -1,4 +1,4 @@
-use Rattle.camp_questions.proofs.Common.{known_in}
+use Rattle.camp_questions.proofs.Words.{known_in}
 use Rattle.camp_questions.proofs.LineNames.{IsAlong}
 use Rattle.camp_questions.proofs.walks.names_of_lines.Given as goal
 

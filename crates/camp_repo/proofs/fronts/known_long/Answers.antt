@@ -1,4 +1,4 @@
-use Rattle.camp_repo.proofs.Common.{◌∙◌, sym, subst}
+use Rattle.camp_repo.proofs.Words.{◌∙◌, sym, subst}
 use Rattle.camp_repo.proofs.FrontSteps.{RestHold, known_agrees, none_known, rest_more}
 use Rattle.camp_repo.proofs.fronts.known_long.Goals as goal
 

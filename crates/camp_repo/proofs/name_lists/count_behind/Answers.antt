@@ -1,4 +1,4 @@
-use Rattle.camp_repo.proofs.Common.{ap, arith, ◌∙◌, drop, length, sym, slice_cmp, contains_key, nat_cmp, map_of, name_of, names_in, has_listed}
+use Rattle.camp_repo.proofs.Words.{ap, arith, ◌∙◌, drop, length, sym, slice_cmp, contains_key, nat_cmp, map_of, name_of, names_in, has_listed}
 use Rattle.camp_repo.proofs.NameSteps.{count_fits, counted, few_dropped, passed_over}
 use Rattle.camp_repo.proofs.name_lists.count_behind.Goals as goal
 

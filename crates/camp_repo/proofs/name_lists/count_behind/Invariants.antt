@@ -1,4 +1,4 @@
-use Rattle.camp_repo.proofs.Common.{◌≡◌, ◌+◌, drop, length, names_in, catches_named}
+use Rattle.camp_repo.proofs.Words.{◌≡◌, ◌+◌, drop, length, names_in, catches_named}
 use Rattle.camp_repo.proofs.name_lists.count_behind.Given as goal
 
 abbrev pub invariant-loop-catch : goal.invariant-loop-catch

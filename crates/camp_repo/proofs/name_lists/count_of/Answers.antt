@@ -1,4 +1,4 @@
-use Rattle.camp_repo.proofs.Common.{◌∙◌, ap, length, sym, names_in}
+use Rattle.camp_repo.proofs.Words.{◌∙◌, ap, length, sym, names_in}
 use Rattle.camp_repo.proofs.NameSteps.{named_behind}
 use Rattle.camp_repo.proofs.name_lists.count_of.Goals as goal
 

@@ -1,4 +1,4 @@
-use Rattle.camp_repo.proofs.Common.{◌∙◌, ap, sym, first_lacked, listed}
+use Rattle.camp_repo.proofs.Words.{◌∙◌, ap, sym, first_lacked, listed}
 use Rattle.camp_repo.proofs.NameSteps.{none_lacked}
 use Rattle.camp_repo.proofs.name_lists.first_lacked.Goals as goal
 

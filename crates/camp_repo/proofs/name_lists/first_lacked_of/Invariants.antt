@@ -1,4 +1,4 @@
-use Rattle.camp_repo.proofs.Common.{◌≡◌, drop, first_lacked}
+use Rattle.camp_repo.proofs.Words.{◌≡◌, drop, first_lacked}
 use Rattle.camp_repo.proofs.name_lists.first_lacked_of.Given as goal
 
 abbrev pub invariant-loop-name : goal.invariant-loop-name

@@ -1,4 +1,4 @@
-use Rattle.camp_repo.proofs.Common.{arith, drop, length, ◌≤◌, drop_of_length-le, slice_cmp, nat_cmp, map_of, is_among}
+use Rattle.camp_repo.proofs.Words.{arith, drop, length, ◌≤◌, drop_of_length-le, slice_cmp, nat_cmp, map_of, is_among}
 use Rattle.camp_repo.proofs.NameSteps.{all_filled, none_filled, one_listed}
 use Rattle.camp_repo.proofs.name_lists.set_of.Goals as goal
 

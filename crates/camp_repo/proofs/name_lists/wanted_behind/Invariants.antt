@@ -1,4 +1,4 @@
-use Rattle.camp_repo.proofs.Common.{drop, map, slice_cmp, nat_cmp, map_of, is_among, name_of, wanted}
+use Rattle.camp_repo.proofs.Words.{drop, map, slice_cmp, nat_cmp, map_of, is_among, name_of, wanted}
 use Rattle.camp_repo.proofs.NameSteps.{IsFilled}
 use Rattle.camp_repo.proofs.name_lists.wanted_behind.Given as goal
 

@@ -1,4 +1,4 @@
-use Rattle.camp_repo.proofs.Common.{drop, slice_cmp, nat_cmp, map_of, is_among, wanted}
+use Rattle.camp_repo.proofs.Words.{drop, slice_cmp, nat_cmp, map_of, is_among, wanted}
 use Rattle.camp_repo.proofs.NameSteps.{IsFilled}
 use Rattle.camp_repo.proofs.name_lists.wanted_of.Given as goal
 

@@ -1,4 +1,4 @@
-use Rattle.camp_repo.proofs.Common.{◌≡◌, drop, changed}
+use Rattle.camp_repo.proofs.Words.{◌≡◌, drop, changed}
 use Rattle.camp_repo.proofs.sizes.changed.Given as goal
 
 abbrev pub invariant-loop-change : goal.invariant-loop-change

@@ -1,4 +1,4 @@
-use Rattle.camp_repo.proofs.Common.{◌≡◌, list_any, has_patch}
+use Rattle.camp_repo.proofs.Words.{◌≡◌, list_any, has_patch}
 use Rattle.camp_repo.proofs.states.is_in_some.Given as goal
 
 abbrev pub invariant-loop-branch : goal.invariant-loop-branch

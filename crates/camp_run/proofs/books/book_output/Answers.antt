@@ -1,4 +1,4 @@
-use Rattle.camp_run.proofs.Common.{ap, subst, sym, [], lists_of, HaveTexts, IsSerial}
+use Rattle.camp_run.proofs.Words.{ap, subst, sym, [], lists_of, HaveTexts, IsSerial}
 use Rattle.camp_run.proofs.Serial.{serial_run}
 use Rattle.camp_run.proofs.Texts.{serial_texts}
 use Rattle.camp_run.proofs.Written.{prepared}

@@ -1,4 +1,4 @@
-use Rattle.camp_run.proofs.Common.{subst, sym, HasOutput, IsSerial}
+use Rattle.camp_run.proofs.Words.{subst, sym, HasOutput, IsSerial}
 use Rattle.camp_run.proofs.Written.{written}
 use Rattle.camp_run.proofs.books.run_book.Goals as goal
 

@@ -1,4 +1,4 @@
-use Rattle.camp_run.proofs.Common.{count_by, subst, sym, ◌≤◌, AllByRecursion, is_writing, lists_of, HaveTexts}
+use Rattle.camp_run.proofs.Words.{count_by, subst, sym, ◌≤◌, AllByRecursion, is_writing, lists_of, HaveTexts}
 use Rattle.camp_run.proofs.Texts.{shared_texts}
 use Rattle.camp_run.proofs.Written.{lent_within}
 use Rattle.camp_run.proofs.heads.head_output.Goals as goal

@@ -1,4 +1,4 @@
-use Rattle.camp_run.proofs.Common.{subst, sym, IsShared, repository, HasOutput}
+use Rattle.camp_run.proofs.Words.{subst, sym, IsShared, repository, HasOutput}
 use Rattle.camp_run.proofs.Written.{written}
 use Rattle.camp_run.proofs.heads.run_head.Goals as goal
 

@@ -1,4 +1,4 @@
-use Rattle.camp_run.proofs.Common.{subst, sym, lists_of, HaveTexts}
+use Rattle.camp_run.proofs.Words.{subst, sym, lists_of, HaveTexts}
 use Rattle.camp_run.proofs.Texts.{locked_texts}
 use Rattle.camp_run.proofs.locks.locked_output.Goals as goal
 

@@ -1,4 +1,4 @@
-use Rattle.camp_run.proofs.Common.{subst, sym, IsLocked, repository, HasOutput}
+use Rattle.camp_run.proofs.Words.{subst, sym, IsLocked, repository, HasOutput}
 use Rattle.camp_run.proofs.Written.{written}
 use Rattle.camp_run.proofs.locks.run_locked.Goals as goal
 

@@ -1,4 +1,4 @@
-use Rattle.camp_talk.proofs.Common.{◌≡◌, ℕ, List, length, map, sym, ap, ◌∙◌, arith, lines_of, without_end, lines_without_end, first_of}
+use Rattle.camp_talk.proofs.Words.{◌≡◌, ℕ, List, length, map, sym, ap, ◌∙◌, arith, lines_of, without_end, lines_without_end, first_of}
 use Rattle.camp_talk.proofs.CallLines.{first_within}
 use Rattle.camp_talk.proofs.asking.first_line.Goals as goal
 use Rattle.camp_talk.proofs.asking.first_line.Goals.{After-without_end}

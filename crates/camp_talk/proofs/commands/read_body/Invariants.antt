@@ -1,4 +1,4 @@
-use Rattle.camp_talk.proofs.Common.{body_of, ReadsPart, More}
+use Rattle.camp_talk.proofs.Words.{body_of, ReadsPart, More}
 use Rattle.camp_talk.proofs.commands.read_body.Given as goal
 
 abbrev pub invariant-loop : goal.invariant-loop

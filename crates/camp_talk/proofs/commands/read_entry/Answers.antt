@@ -1,4 +1,4 @@
-use Rattle.camp_talk.proofs.Common.{rules, ◌≡◌, ◌-◌, Bool, true, false, List, ℕ, length, take, drop, ap, sym, subst, ◌∙◌, body_of, group_of, ReadsLine, ReadsPart, Uses, last_part}
+use Rattle.camp_talk.proofs.Words.{rules, ◌≡◌, ◌-◌, Bool, true, false, List, ℕ, length, take, drop, ap, sym, subst, ◌∙◌, body_of, group_of, ReadsLine, ReadsPart, Uses, last_part}
 use Rattle.camp_talk.proofs.Parts.{begins, entry_cut, entry_read_cut, entry_read_whole, is_done, line_at, uses_behind}
 use Rattle.camp_talk.proofs.commands.read_entry.Goals as goal
 

@@ -1,4 +1,4 @@
-use Rattle.camp_talk.proofs.Common.{rules, subst, group_of, ReadsPart, Uses, Part, More, Whole, Cut}
+use Rattle.camp_talk.proofs.Words.{rules, subst, group_of, ReadsPart, Uses, Part, More, Whole, Cut}
 use Rattle.camp_talk.proofs.Parts.{none_read, part_behind, part_uses}
 use Rattle.camp_talk.proofs.commands.read_group.Goals as goal
 

@@ -1,4 +1,4 @@
-use Rattle.camp_talk.proofs.Common.{group_of, ReadsPart, More}
+use Rattle.camp_talk.proofs.Words.{group_of, ReadsPart, More}
 use Rattle.camp_talk.proofs.commands.read_group.Given as goal
 
 abbrev pub invariant-loop : goal.invariant-loop

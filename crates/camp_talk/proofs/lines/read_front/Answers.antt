@@ -1,5 +1,5 @@
 use Rattle.std.proofs.Common.{◌≡◌, ◌-◌, length, take, ap, subst, arith, rules, length-append, length-take}
-use Rattle.camp_talk.proofs.Common.{Takes, Uses, Seen, Consumes-nil}
+use Rattle.camp_talk.proofs.Words.{Takes, Uses, Seen, Consumes-nil}
 use Rattle.camp_talk.specs.declared.lines.Seen.TheVariants.{Part, Line, End}
 use Rattle.camp_talk.proofs.LineReads.{none_taken, taken_behind}
 use Rattle.camp_talk.proofs.Parts.{uses_behind}

@@ -1,4 +1,4 @@
-use Rattle.camp_talk.proofs.Common.{Takes}
+use Rattle.camp_talk.proofs.Words.{Takes}
 use Rattle.camp_talk.specs.declared.lines.Seen.TheVariants.{Part}
 use Rattle.camp_talk.proofs.lines.read_front.Given as goal
 

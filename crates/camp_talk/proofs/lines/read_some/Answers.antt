@@ -1,4 +1,4 @@
-use Rattle.camp_talk.proofs.Common.{◌≡◌, ◌∙◌, ◌==◌, ◌+◌, ◌++◌, ◌≤◌, [], min, length, take, sym, ap, subst, arith, position_or_len, Consumes, Takes, feed_of, seen_of, Seen}
+use Rattle.camp_talk.proofs.Words.{◌≡◌, ◌∙◌, ◌==◌, ◌+◌, ◌++◌, ◌≤◌, [], min, length, take, sym, ap, subst, arith, position_or_len, Consumes, Takes, feed_of, seen_of, Seen}
 use Rattle.std.specs.Io.BufRead.{FillKeeps}
 use Rattle.std.proofs.KnownBytes.{Consumes-nil, Consumes-kept}
 use Rattle.std.proofs.BufReadLemmas.{Consumes_shown}

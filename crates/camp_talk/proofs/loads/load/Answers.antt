@@ -1,4 +1,4 @@
-use Rattle.camp_talk.proofs.Common.{Bool, Ok, subst, Standing, LoadsOne}
+use Rattle.camp_talk.proofs.Words.{Bool, Ok, subst, Standing, LoadsOne}
 use Rattle.camp_talk.proofs.Loading.{none_done, one_more_done}
 use Rattle.camp_talk.proofs.loads.load.Goals as goal
 

@@ -1,4 +1,4 @@
-use Rattle.camp_talk.proofs.Common.{Done}
+use Rattle.camp_talk.proofs.Words.{Done}
 use Rattle.camp_talk.proofs.loads.load.Given as goal
 
 abbrev pub invariant-loop : goal.invariant-loop

@@ -1,4 +1,4 @@
-use Rattle.camp_talk.proofs.Common.{◌≡◌, true, false, List, ℕ, refl, sym, ap, subst, ◌∙◌, Hears, said_text, tells_failure}
+use Rattle.camp_talk.proofs.Words.{◌≡◌, true, false, List, ℕ, refl, sym, ap, subst, ◌∙◌, Hears, said_text, tells_failure}
 use Rattle.camp_talk.specs.Answers.{Standing, memory_text}
 use Rattle.camp_talk.proofs.Loading.{one_done, one_fails}
 use Rattle.camp_talk.proofs.loads.load_one.Goals as goal

@@ -1,4 +1,4 @@
-use Rattle.camp_talk.proofs.Common.{◌≡◌, false, ap, map, ◌∙◌, codes, rules, bytes_eq}
+use Rattle.camp_talk.proofs.Words.{◌≡◌, false, ap, map, ◌∙◌, codes, rules, bytes_eq}
 use Rattle.camp_talk.proofs.QuestionWords.{short}
 use Rattle.camp_talk.proofs.question_words.read_question.Goals as goal
 

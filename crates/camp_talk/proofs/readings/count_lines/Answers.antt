@@ -1,4 +1,4 @@
-use Rattle.camp_talk.proofs.Common.{ℕ, List, length, map, ap, ◌∙◌, arith, without_end, lines_without_end}
+use Rattle.camp_talk.proofs.Words.{ℕ, List, length, map, ap, ◌∙◌, arith, without_end, lines_without_end}
 use Rattle.camp_talk.proofs.readings.count_lines.Goals as goal
 
 pub loop-line-init : goal.loop-line-init

@@ -1,4 +1,4 @@
-use Rattle.camp_talk.proofs.Common.{◌≡◌, ◌+◌, ◌≤◌, length, map, lines_of, without_end}
+use Rattle.camp_talk.proofs.Words.{◌≡◌, ◌+◌, ◌≤◌, length, map, lines_of, without_end}
 use Rattle.camp_talk.proofs.readings.count_lines.Given as goal
 
 abbrev pub invariant-loop-line : goal.invariant-loop-line

@@ -1,4 +1,4 @@
-use Rattle.camp_talk.proofs.Common.{rules, [], ReadsLines}
+use Rattle.camp_talk.proofs.Words.{rules, [], ReadsLines}
 use Rattle.camp_talk.proofs.Parts.{no_lines}
 use Rattle.camp_talk.proofs.readings.read_rest.Goals as goal
 

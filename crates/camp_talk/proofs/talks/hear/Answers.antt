@@ -1,4 +1,4 @@
-use Rattle.camp_talk.proofs.Common.{◌≡◌, ◌+◌, ℕ, List, length, ap, subst, ◌∙◌, arith, Gives, lines_of, Standing, as_read}
+use Rattle.camp_talk.proofs.Words.{◌≡◌, ◌+◌, ℕ, List, length, ap, subst, ◌∙◌, arith, Gives, lines_of, Standing, as_read}
 use Rattle.std.proofs.lemmas.List.{length-map}
 use Rattle.camp_talk.specs.Asking.{asked_of}
 use Rattle.camp_talk.proofs.Turns.{answered}

@@ -1,4 +1,4 @@
-use Rattle.camp_talk.proofs.Common.{Bool, Ok, subst, Standing, Turns}
+use Rattle.camp_talk.proofs.Words.{Bool, Ok, subst, Standing, Turns}
 use Rattle.camp_talk.proofs.Turns.{gives_up, holds_on}
 use Rattle.camp_talk.proofs.talks.talk.Goals as goal
 

@@ -1,4 +1,4 @@
-use Rattle.camp_talk.proofs.Common.{Holds}
+use Rattle.camp_talk.proofs.Words.{Holds}
 use Rattle.camp_talk.proofs.talks.talk.Given as goal
 
 abbrev pub invariant-loop : goal.invariant-loop

@@ -1,4 +1,4 @@
-use Rattle.camp_talk.proofs.Common.{refl, Standing, said_text}
+use Rattle.camp_talk.proofs.Words.{refl, Standing, said_text}
 use Rattle.camp_talk.proofs.Turns.{stopped, turned}
 use Rattle.camp_talk.proofs.talks.turn.Goals as goal
 

@@ -1,4 +1,4 @@
-use Rattle.camp_talk.proofs.Common.{◌≡◌, take, flat_map}
+use Rattle.camp_talk.proofs.Words.{◌≡◌, take, flat_map}
 use Rattle.camp_talk.specs.Help.{summary}
 use Rattle.camp_talk.proofs.told_help.all_summaries.Given as goal
 

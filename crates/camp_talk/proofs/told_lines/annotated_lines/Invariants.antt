@@ -1,4 +1,4 @@
-use Rattle.camp_talk.proofs.Common.{◌≡◌, ◌++◌, zip_first, zip_second, flat_map, zip, annotated_line}
+use Rattle.camp_talk.proofs.Words.{◌≡◌, ◌++◌, zip_first, zip_second, flat_map, zip, annotated_line}
 use Rattle.camp_talk.proofs.told_lines.annotated_lines.Given as goal
 
 abbrev pub invariant-loop-line : goal.invariant-loop-line

@@ -1,4 +1,4 @@
-use Rattle.camp_talk.proofs.Common.{◌≡◌, take, flat_map}
+use Rattle.camp_talk.proofs.Words.{◌≡◌, take, flat_map}
 use Rattle.camp_talk.specs.Told.{catch_line}
 use Rattle.camp_talk.proofs.told_patches.catch_lines.Given as goal
 

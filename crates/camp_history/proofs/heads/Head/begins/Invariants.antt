@@ -1,4 +1,4 @@
-use Rattle.camp_history.proofs.Common.{◌≡◌, ◌+◌, ◌++◌, length, map, take, drop, All, Shows, asked}
+use Rattle.camp_history.proofs.Words.{◌≡◌, ◌+◌, ◌++◌, length, map, take, drop, All, Shows, asked}
 use Rattle.camp_history.proofs.heads.Head.begins.Given as goal
 
 abbrev pub invariant-loop-mark : goal.invariant-loop-mark

@@ -1,4 +1,4 @@
-use Rattle.camp_history.proofs.Common.{◌≡◌, ℕ, ◌<◌, slice_get, history_of}
+use Rattle.camp_history.proofs.Words.{◌≡◌, ℕ, ◌<◌, slice_get, history_of}
 use Rattle.camp_history.proofs.heads.Head.compare.Given as goal
 
 abbrev pub invariant-loop-i : goal.invariant-loop-i

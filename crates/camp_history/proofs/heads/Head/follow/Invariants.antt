@@ -1,4 +1,4 @@
-use Rattle.camp_history.proofs.Common.{◌≡◌, length, IsLegal, Leads, IsSeatOf, history_of, entries_of, SeesMore}
+use Rattle.camp_history.proofs.Words.{◌≡◌, length, IsLegal, Leads, IsSeatOf, history_of, entries_of, SeesMore}
 use Rattle.camp_history.proofs.heads.Head.follow.Given as goal
 
 abbrev pub invariant-loop-next : goal.invariant-loop-next

@@ -1,4 +1,4 @@
-use Rattle.camp_history.proofs.Common.{All, All-same, Shows, list_of}
+use Rattle.camp_history.proofs.Words.{All, All-same, Shows, list_of}
 use Rattle.camp_history.proofs.Versioned.{all_in, list_stored}
 use Rattle.camp_history.proofs.heads.Head.hand_on.Goals as goal
 

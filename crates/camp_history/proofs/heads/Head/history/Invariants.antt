@@ -1,4 +1,4 @@
-use Rattle.camp_history.proofs.Common.{◌≡◌, map, take, asked}
+use Rattle.camp_history.proofs.Words.{◌≡◌, map, take, asked}
 use Rattle.camp_history.proofs.heads.Head.history.Given as goal
 
 abbrev pub invariant-loop-mark : goal.invariant-loop-mark

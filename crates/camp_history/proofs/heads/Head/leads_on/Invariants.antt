@@ -1,4 +1,4 @@
-use Rattle.camp_history.proofs.Common.{◌≡◌, ◌<◌, ◌≤◌, ◌++◌, length, map, take, drop, All, news, entry_of}
+use Rattle.camp_history.proofs.Words.{◌≡◌, ◌<◌, ◌≤◌, ◌++◌, length, map, take, drop, All, news, entry_of}
 use Rattle.camp_row.specs.Chains as chain
 use Rattle.camp_history.proofs.heads.Head.leads_on.Given as goal
 

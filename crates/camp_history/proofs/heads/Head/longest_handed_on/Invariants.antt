@@ -1,4 +1,4 @@
-use Rattle.camp_history.proofs.Common.{All, IfSome, Shows}
+use Rattle.camp_history.proofs.Words.{All, IfSome, Shows}
 use Rattle.camp_history.proofs.heads.Head.longest_handed_on.Given as goal
 
 -- the longest so far lies in the head's store

@@ -1,4 +1,4 @@
-use Rattle.camp_history.proofs.Common.{◌≡◌, ◌-◌}
+use Rattle.camp_history.proofs.Words.{◌≡◌, ◌-◌}
 use Rattle.camp_history.proofs.heads.Head.longest_kept.Given as goal
 
 abbrev pub invariant-loop-position : goal.invariant-loop-position

@@ -1,4 +1,4 @@
-use Rattle.camp_history.proofs.Common.{Ok, Err, refl, Memory}
+use Rattle.camp_history.proofs.Words.{Ok, Err, refl, Memory}
 use Rattle.camp_history.proofs.Together.{met_seats, all_of_b, just_those_of_b}
 use Rattle.camp_history.proofs.heads.Head.meet.Goals as goal
 

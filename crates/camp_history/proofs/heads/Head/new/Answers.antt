@@ -1,4 +1,4 @@
-use Rattle.camp_history.proofs.Common.{◌≡◌, [], All, map, refl, ◌∙◌, ap, arith, All-map, All-same, HeadId, unseen, IsSeatOf}
+use Rattle.camp_history.proofs.Words.{◌≡◌, [], All, map, refl, ◌∙◌, ap, arith, All-map, All-same, HeadId, unseen, IsSeatOf}
 use Rattle.std.specs.List.{range_with_len}
 use Rattle.std.proofs.lemmas.Simd.{map-map}
 use Rattle.camp_row.specs.Known.{newcomer}

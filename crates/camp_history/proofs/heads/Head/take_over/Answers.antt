@@ -1,4 +1,4 @@
-use Rattle.camp_history.proofs.Common.{◌≡◌, All, refl, sym, ◌∙◌, subst, All-same, Shows, IsSound, IsSeatOf, GoesOn, list_of, SeesMore, entries_of}
+use Rattle.camp_history.proofs.Words.{◌≡◌, All, refl, sym, ◌∙◌, subst, All-same, Shows, IsSound, IsSeatOf, GoesOn, list_of, SeesMore, entries_of}
 use Rattle.camp_history.proofs.Versioned.{adopting_more, adopting_of, list_stored}
 use Rattle.camp_history.proofs.heads.Head.take_over.Goals as goal
 

@@ -1,4 +1,4 @@
-use Rattle.camp_history.proofs.Common.{◌<◌, sym, subst}
+use Rattle.camp_history.proofs.Words.{◌<◌, sym, subst}
 use Rattle.camp_history.proofs.Seeing.{few_marks}
 use Rattle.camp_history.proofs.seats.Seat.decide.Goals as goal
 

@@ -1,4 +1,4 @@
-use Rattle.camp_history.proofs.Common.{◌≡◌, List, ◌-◌, ap, ◌∙◌, take, drop, length, splice, list_of, seated, Mark}
+use Rattle.camp_history.proofs.Words.{◌≡◌, List, ◌-◌, ap, ◌∙◌, take, drop, length, splice, list_of, seated, Mark}
 use Rattle.camp_history.proofs.Versioned.{listed}
 use Rattle.camp_history.proofs.seats.Seat.list.Goals as goal
 

@@ -1,4 +1,4 @@
-use Rattle.camp_history.proofs.Common.{◌≡◌, ap, sym, ◌∙◌, map, subst, Some, IsFront, replay, asked, history_of, list_of}
+use Rattle.camp_history.proofs.Words.{◌≡◌, ap, sym, ◌∙◌, map, subst, Some, IsFront, replay, asked, history_of, list_of}
 use Rattle.camp_history.proofs.Versioned.{list_asks}
 use Rattle.camp_history.proofs.seats.Seat.version.Goals as goal
 

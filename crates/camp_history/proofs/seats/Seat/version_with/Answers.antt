@@ -1,4 +1,4 @@
-use Rattle.camp_history.proofs.Common.{◌≡◌, ◌++◌, ◌∷◌, [], Some, map, ap, sym, ◌∙◌, subst, IsFront, replay, asked, history_of, list_of, made_of, Mark}
+use Rattle.camp_history.proofs.Words.{◌≡◌, ◌++◌, ◌∷◌, [], Some, map, ap, sym, ◌∙◌, subst, IsFront, replay, asked, history_of, list_of, made_of, Mark}
 use Rattle.camp_history.proofs.Versioned.{made_asks}
 use Rattle.camp_history.proofs.seats.Seat.version_with.Goals as goal
 

@@ -1,4 +1,4 @@
-use Rattle.camp_questions.proofs.Common.{arith, known_in}
+use Rattle.camp_questions.proofs.Words.{arith, known_in}
 use Rattle.camp_questions.proofs.LineNames.{applies_next, one_further}
 use Rattle.camp_questions.proofs.walks.Walk.behind_all.Goals as goal
 

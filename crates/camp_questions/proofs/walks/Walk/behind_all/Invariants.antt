@@ -1,4 +1,4 @@
-use Rattle.camp_questions.proofs.Common.{drop, known_in}
+use Rattle.camp_questions.proofs.Words.{drop, known_in}
 use Rattle.camp_questions.proofs.LineNames.{IsOnTheWay}
 use Rattle.camp_questions.proofs.walks.Walk.behind_all.Given as goal
 

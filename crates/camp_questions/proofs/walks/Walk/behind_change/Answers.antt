@@ -1,4 +1,4 @@
-use Rattle.camp_questions.proofs.Common.{◌∙◌, ap, bytes_eq, known_in}
+use Rattle.camp_questions.proofs.Words.{◌∙◌, ap, bytes_eq, known_in}
 use Rattle.camp_questions.proofs.LineNames.{hunk_stands}
 use Rattle.camp_questions.proofs.walks.Walk.behind_change.Goals as goal
 

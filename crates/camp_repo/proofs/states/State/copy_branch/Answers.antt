@@ -1,4 +1,4 @@
-use Rattle.camp_repo.proofs.Common.{◌∙◌, sym}
+use Rattle.camp_repo.proofs.Words.{◌∙◌, sym}
 use Rattle.camp_repo.proofs.DecideSteps.{none_found}
 use Rattle.camp_repo.proofs.StepsLawful.{copy_lawful}
 use Rattle.camp_repo.proofs.states.State.copy_branch.Goals as goal

@@ -1,4 +1,4 @@
-use Rattle.camp_repo.proofs.Common.{subst, AllHold}
+use Rattle.camp_repo.proofs.Words.{subst, AllHold}
 use Rattle.camp_repo.proofs.states.State.known.Goals as goal
 
 pub returns : goal.returns

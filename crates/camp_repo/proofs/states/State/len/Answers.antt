@@ -1,4 +1,4 @@
-use Rattle.camp_repo.proofs.Common.{◌∙◌, ap, length, sym}
+use Rattle.camp_repo.proofs.Words.{◌∙◌, ap, length, sym}
 use Rattle.camp_repo.proofs.PlaceSteps.{as_long}
 use Rattle.camp_repo.proofs.states.State.len.Goals as goal
 

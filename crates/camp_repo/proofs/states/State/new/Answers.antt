@@ -1,4 +1,4 @@
-use Rattle.camp_repo.proofs.Common.{ap, ◌∙◌, sym, subst, IsLawfulState}
+use Rattle.camp_repo.proofs.Words.{ap, ◌∙◌, sym, subst, IsLawfulState}
 use Rattle.camp_repo.proofs.FrontSteps.{none_hold}
 use Rattle.camp_repo.proofs.StateSteps.{first_state}
 use Rattle.camp_repo.proofs.StepsLawful.{initial_lawful}

@@ -1,5 +1,5 @@
 use Rattle.std.proofs.Common.{ap, ◌∙◌, sym, subst, IsSomeAnd}
-use Rattle.camp_repo.proofs.Common.{is_among, names_in, first_lacked, is_empty}
+use Rattle.camp_repo.proofs.Words.{is_among, names_in, first_lacked, is_empty}
 use Rattle.camp_repo.proofs.ByMembers.{none_among}
 use Rattle.camp_repo.specs.Wanting.{HasAll}
 use Rattle.camp_repo.proofs.DecideSteps.{may_want, obliterate_keeps, obliterate_settles, settled_is}

@@ -1,4 +1,4 @@
-use Rattle.camp_repo.proofs.Common.{◌∙◌, sym, subst, slice_cmp, nat_cmp, map_of, names_in, PullGives, AgreesIn, AllHold, catches_in, placed, listed, wanted}
+use Rattle.camp_repo.proofs.Words.{◌∙◌, sym, subst, slice_cmp, nat_cmp, map_of, names_in, PullGives, AgreesIn, AllHold, catches_in, placed, listed, wanted}
 use Rattle.camp_branch.proofs.Steps.{pulls_begin_with_own}
 use Rattle.camp_repo.proofs.ByMembers.{full_alike, none_alike, none_there}
 use Rattle.camp_repo.proofs.DecideSteps.{pull_keeps, pull_nothing, pull_settles, pull_too_large, settled_is}

@@ -1,4 +1,4 @@
-use Rattle.camp_repo.proofs.Common.{◌++◌, ap, ◌∙◌, sym, subst, recorded, Next, AllHold, IsLawfulState, placed, after, changed, is_too_large}
+use Rattle.camp_repo.proofs.Words.{◌++◌, ap, ◌∙◌, sym, subst, recorded, Next, AllHold, IsLawfulState, placed, after, changed, is_too_large}
 use Rattle.camp_repo.proofs.DecideSteps.{record_accepted, record_refused}
 use Rattle.camp_repo.proofs.FrontSteps.{all_grown}
 use Rattle.camp_repo.proofs.RecordSteps.{is_new, leads_from, record_keeps}

@@ -1,4 +1,4 @@
-use Rattle.camp_repo.proofs.Common.{ap, ◌∙◌, Answer}
+use Rattle.camp_repo.proofs.Words.{ap, ◌∙◌, Answer}
 use Rattle.camp_call.specs.declared.replies.Reply.TheVariants as reply
 use Rattle.camp_repo.proofs.DecideSteps.{conflicts_shown}
 use Rattle.camp_repo.proofs.states.State.show_conflicts.Goals as goal

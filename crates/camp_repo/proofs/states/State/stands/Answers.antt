@@ -1,4 +1,4 @@
-use Rattle.camp_repo.proofs.Common.{◌∙◌, ap, sym, stands}
+use Rattle.camp_repo.proofs.Words.{◌∙◌, ap, sym, stands}
 use Rattle.camp_repo.proofs.PlaceSteps.{zip_stands}
 use Rattle.camp_repo.proofs.states.State.stands.Goals as goal
 

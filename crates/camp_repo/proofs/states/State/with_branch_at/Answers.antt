@@ -1,4 +1,4 @@
-use Rattle.camp_repo.proofs.Common.{ap, ◌∙◌, ◌<◌, slice_set, sym, subst, AllHold, IsLawfulState}
+use Rattle.camp_repo.proofs.Words.{ap, ◌∙◌, ◌<◌, slice_set, sym, subst, AllHold, IsLawfulState}
 use Rattle.camp_repo.proofs.StateSteps.{placed_long, placed_state, within_fields}
 use Rattle.camp_repo.proofs.states.State.with_branch_at.Goals as goal
 

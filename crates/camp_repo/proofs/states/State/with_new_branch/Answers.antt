@@ -1,4 +1,4 @@
-use Rattle.camp_repo.proofs.Common.{◌≡◌, ap, ◌∙◌, ◌++◌, [], ◌∷◌, sym, subst, AllZip, AllHold, IsLawfulState}
+use Rattle.camp_repo.proofs.Words.{◌≡◌, ap, ◌∙◌, ◌++◌, [], ◌∷◌, sym, subst, AllZip, AllHold, IsLawfulState}
 use Rattle.camp_repo.proofs.FrontSteps.{all_further}
 use Rattle.camp_repo.proofs.StateSteps.{grown_as_long, grown_state}
 use Rattle.camp_repo.proofs.states.State.with_new_branch.Goals as goal

@@ -1,4 +1,4 @@
-use Rattle.camp_row.proofs.Common.{arith, ◌≡◌, ◌+◌, ◌∷◌, [], ◌++◌, sym, ap, ◌∙◌, length, Entry, own, cell_of, Known, Part, known_of, part, known, place_word, Advanced}
+use Rattle.camp_row.proofs.Words.{arith, ◌≡◌, ◌+◌, ◌∷◌, [], ◌++◌, sym, ap, ◌∙◌, length, Entry, own, cell_of, Known, Part, known_of, part, known, place_word, Advanced}
 use Rattle.camp_row.proofs.Fronts.{next_is, cut_pushed}
 use Rattle.camp_row.proofs.Cells.{own_of_next, head_word-push}
 use Rattle.camp_row.proofs.Ruling.{allows_one}

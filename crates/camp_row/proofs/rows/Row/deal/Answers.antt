@@ -1,4 +1,4 @@
-use Rattle.camp_row.proofs.Common.{arith, ◌≡◌, ◌<◌, ◌+◌, ◌*◌, ◌∷◌, [], ◌++◌, refl, sym, ap, subst, ◌∙◌, zero-add, RowId, newcomer, part_of, known_of, fresh}
+use Rattle.camp_row.proofs.Words.{arith, ◌≡◌, ◌<◌, ◌+◌, ◌*◌, ◌∷◌, [], ◌++◌, refl, sym, ap, subst, ◌∙◌, zero-add, RowId, newcomer, part_of, known_of, fresh}
 use Rattle.std.proofs.lemmas.List.FromFn.{map-range_with_len_more}
 use Rattle.camp_row.proofs.Fronts.{front_nil, no_cut}
 use Rattle.camp_row.proofs.Dealing.{splits, first_left}

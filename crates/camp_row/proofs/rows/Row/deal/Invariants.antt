@@ -1,4 +1,4 @@
-use Rattle.camp_row.proofs.Common.{◌≡◌, ◌-◌, map, range_with_len, newcomer, fresh}
+use Rattle.camp_row.proofs.Words.{◌≡◌, ◌-◌, map, range_with_len, newcomer, fresh}
 use Rattle.camp_row.proofs.rows.Row.deal.Given as goal
 
 abbrev pub invariant-loop-number : goal.invariant-loop-number

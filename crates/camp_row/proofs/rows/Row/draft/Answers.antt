@@ -1,4 +1,4 @@
-use Rattle.camp_row.proofs.Common.{arith, ◌≡◌, ◌∷◌, [], ap, ◌∙◌, Part, part, parent_word, place_word, StoredParent, StoredPlace}
+use Rattle.camp_row.proofs.Words.{arith, ◌≡◌, ◌∷◌, [], ap, ◌∙◌, Part, part, parent_word, place_word, StoredParent, StoredPlace}
 use Rattle.camp_row.proofs.Ruling.{allows_one}
 use Rattle.camp_row.proofs.Drafting.{drafts_parent, drafts_place}
 use Rattle.camp_row.proofs.PassOfRow.{is_of, row_words, own_at, room_at}

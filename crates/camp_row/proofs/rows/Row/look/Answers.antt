@@ -1,4 +1,4 @@
-use Rattle.camp_row.proofs.Common.{arith, ◌<◌, Looked}
+use Rattle.camp_row.proofs.Words.{arith, ◌<◌, Looked}
 use Rattle.camp_row.proofs.Ruling.{allows}
 use Rattle.camp_row.proofs.Loading.{looks}
 use Rattle.camp_row.proofs.PassOfRow.{is_of}

@@ -1,4 +1,4 @@
-use Rattle.camp_row.proofs.Common.{subst, arith, ◌≡◌, ◌<◌, ◌∷◌, [], ◌++◌, sym, ap, ◌∙◌, take, drop, IsFront, Known, FindsChain, part_of, known_of, part, Looked}
+use Rattle.camp_row.proofs.Words.{subst, arith, ◌≡◌, ◌<◌, ◌∷◌, [], ◌++◌, sym, ap, ◌∙◌, take, drop, IsFront, Known, FindsChain, part_of, known_of, part, Looked}
 use Rattle.camp_row.proofs.Ruling.{allows}
 use Rattle.camp_row.proofs.Loading.{looks}
 use Rattle.camp_row.proofs.Dealing.{splits, joins}

@@ -1,4 +1,4 @@
-use Rattle.camp_row.proofs.Common.{◌≡◌, ◌+◌, ◌*◌, ◌∷◌, [], sym, subst, ◌∙◌, replicate, Knowledge, all_fresh, IsRuled}
+use Rattle.camp_row.proofs.Words.{◌≡◌, ◌+◌, ◌*◌, ◌∷◌, [], sym, subst, ◌∙◌, replicate, Knowledge, all_fresh, IsRuled}
 use Rattle.camp_row.proofs.Dealing.{opens}
 use Rattle.camp_row.proofs.rows.Row.new.Goals as goal
 

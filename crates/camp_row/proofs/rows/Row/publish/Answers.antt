@@ -1,4 +1,4 @@
-use Rattle.camp_row.proofs.Common.{arith, ◌≡◌, ◌==◌, ◌<◌, ◌+◌, ◌++◌, ◌∷◌, [], subst, refl, sym, ap, ◌∙◌, either, Entry, head_word, Part, part}
+use Rattle.camp_row.proofs.Words.{arith, ◌≡◌, ◌==◌, ◌<◌, ◌+◌, ◌++◌, ◌∷◌, [], subst, refl, sym, ap, ◌∙◌, either, Entry, head_word, Part, part}
 use Rattle.std.proofs.lemmas.Bool.{eq-eqb, MatchBool-at_true}
 use Rattle.camp_row.specs.Known.{IsDrafted}
 use Rattle.camp_row.specs.Inside.Steps.{drafted_part, won_part, WonPart, LostPart, Tried}

@@ -1,4 +1,4 @@
-use Rattle.camp_row.proofs.Common.{arith, ◌≡◌, ◌<◌, ◌+◌, ◌-◌, ◌*◌, ◌∷◌, [], ◌++◌, sym, ap, subst, ◌∙◌, length, length_push, head_word, cell_of, Leads, Part, part_of, known_of, part, parent_word, Walked}
+use Rattle.camp_row.proofs.Words.{arith, ◌≡◌, ◌<◌, ◌+◌, ◌-◌, ◌*◌, ◌∷◌, [], ◌++◌, sym, ap, subst, ◌∙◌, length, length_push, head_word, cell_of, Leads, Part, part_of, known_of, part, parent_word, Walked}
 use Rattle.camp_row.proofs.Ruling.{allows_one}
 use Rattle.camp_row.proofs.Loading.{walks}
 use Rattle.camp_row.proofs.PassOfRow.{is_of, few_cells, same_part}

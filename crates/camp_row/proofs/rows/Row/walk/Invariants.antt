@@ -1,4 +1,4 @@
-use Rattle.camp_row.proofs.Common.{◌≡◌, ◌-◌, length, part, known, IsPass}
+use Rattle.camp_row.proofs.Words.{◌≡◌, ◌-◌, length, part, known, IsPass}
 use Rattle.camp_row.proofs.TrailSteps.{Climbs}
 use Rattle.camp_row.proofs.rows.Row.walk.Given as goal
 
