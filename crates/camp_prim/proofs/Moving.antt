@@ -93,11 +93,14 @@ swap_from p q q' p' targets apart c e f =
       ranges = c.ranges;
     }))
 
--- where primitives change places, there is a swap whatever the answer is
+-- where primitives change places, there is a swap
+pub swap_made : (p q : Named) (targets : Targets) → ¬ (SameKey p q) → ChangeInRange p.prim q.prim (moved targets.second q.prim) (moved targets.first p.prim) → (q' : Named) × ((p' : Named) × Swap p q q' p')
+swap_made p q targets apart c =
+    (record q { prim = moved targets.second q.prim }, (record p { prim = moved targets.first p.prim }, swap_from p q _ _ targets apart c refl refl))
+
 pub swap_wanted : {T E : Type 0} (result : Result T E) (p q : Named) (targets : Targets) → ¬ (SameKey p q) → ChangeInRange p.prim q.prim (moved targets.second q.prim) (moved targets.first p.prim) → IfErr result (λ error. (q' : Named) × ((p' : Named) × Swap p q q' p'))
 swap_wanted (Ok done) p q targets apart c = tt
-swap_wanted (Err error) p q targets apart c =
-    (record q { prim = moved targets.second q.prim }, (record p { prim = moved targets.first p.prim }, swap_from p q _ _ targets apart c refl refl))
+swap_wanted (Err error) p q targets apart c = swap_made p q targets apart c
 
 -- where primitives do not change places, there is no swap
 pub no_swap : (p q : Named) → ((any : Primitive × Primitive) → ¬ (ChangeInRange p.prim q.prim any.0 any.1)) → (any : Named × Named) → ¬ (Swap p q any.0 any.1)

@@ -19,5 +19,5 @@ pub use labels::{Key, Label, keys_are_ordered, labels_are_ordered};
 pub use named::Named;
 pub use primitives::Primitive;
 pub use sides::Lines;
-pub use stays::stay;
+pub use stays::{commutes, stay};
 pub use swaps::{commute, commute_is_exchange, swap_has_laws, swap_is_unique};

@@ -1,6 +1,7 @@
 ghost use Rattle.std.specs.Prelude.{◌≡◌, ◌↔◌, IsTrue};
 ghost use Rattle.camp_prim.specs.Inside.Targets.{moved};
 ghost use Rattle.camp_prim.specs.Swaps.{Swap};
+ghost use Rattle.camp_prim.specs.declared.named.Named.{Named as AnyNamed};
 
 use crate::labels::have_same_key;
 use crate::swaps::targets_of;
@@ -21,6 +22,20 @@ pub fn stay(p: &Named, q: &Named) -> bool
             }
             stays_at(&p.prim, targets.first)
         }
+    }
+}
+
+/// Whether `p` and then `q` change places, as they are or moved: whether `commute` has an answer. It
+/// takes no memory.
+pub fn commutes(p: &Named, q: &Named) -> bool
+    ensures exact { IsTrue result ↔ ((q' : AnyNamed) × ((p' : AnyNamed) × Swap p.now q.now q' p')) }
+{
+    if have_same_key(p, q) {
+        return false;
+    }
+    match targets_of(&p.prim, &q.prim) {
+        None => false,
+        Some(_) => true,
     }
 }
 

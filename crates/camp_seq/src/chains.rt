@@ -1,7 +1,7 @@
 ghost use Rattle.std.specs.Prelude.{◌↔◌, IsTrue};
 ghost use Rattle.camp_seq.specs.Chains.{CanSwap, Chain, StaysBefore};
 
-use camp_prim::{Named, commute};
+use camp_prim::{Named, commutes};
 
 /// Whether no two neighbours of a list swap. It takes no memory.
 pub fn is_chain(items: &[Named]) -> bool
@@ -19,11 +19,7 @@ pub fn is_chain(items: &[Named]) -> bool
 pub fn can_swap(p: &Named, q: &Named) -> bool
     ensures exact { IsTrue result ↔ CanSwap p.now q.now }
 {
-    match commute(p, q) {
-        Ok(None) => false,
-        Ok(Some(_)) => true,
-        Err(_) => true,
-    }
+    commutes(p, q)
 }
 
 /// Whether the first element of a list does not swap with the one before it, or there is none.
