@@ -1,7 +1,7 @@
 use crate::calls::{CallLine, ask_four, ask_one, ask_two, find};
 use crate::catches;
 use crate::results::{
-    Outcome, both, changed, joined, made, none, order, pair_text, shown, word, yes_or_no,
+    Outcome, both, changed, joined, made, none, order, pair_text, show, word, yes_or_no,
 };
 use crate::tables::Table;
 use crate::wants::Wants;
@@ -130,7 +130,7 @@ fn sides(table: &Table, hunk: &Hunk) -> Outcome {
 }
 
 fn read(table: &Table, p: &Named) -> Outcome {
-    shown(table, p)
+    show(table, p)
 }
 
 fn copy(table: &Table, p: &Named) -> Outcome {
