@@ -114,13 +114,13 @@ fn told(text: String, is_read_back: bool) -> Outcome {
 /// The result of a call.
 pub(crate) fn made<T: Shown + Drop>(table: &Table, value: Result<T, AllocError>) -> Outcome {
     match value {
-        Ok(value) => shown(table, &value),
+        Ok(value) => show(table, &value),
         Err(_) => Err(NotationError::Memory),
     }
 }
 
 /// The text of a value, or `made` where values are not shown.
-pub(crate) fn shown<T: Shown>(table: &Table, value: &T) -> Outcome {
+pub(crate) fn show<T: Shown>(table: &Table, value: &T) -> Outcome {
     if table.is_quiet() {
         word(table, "made")
     } else {
