@@ -1,6 +1,5 @@
 -- Relations that have at most one result, where it is decided whether they have one.
-use Rattle.std.proofs.lemmas.Option.{same_Some}
-use Rattle.camp_catch.proofs.Words.{None, Option, Some, ap, inl, inr, refl, subst, sym, ◌∙◌, ◌≡◌, ◌⊎◌, Decided, decided_by}
+use Rattle.camp_catch.proofs.Words.{None, Option, Some, ap, inl, inr, refl, subst, sym, ◌∙◌, ◌≡◌, ◌⊎◌, same_Some, Decided, decided_by}
 
 -- a relation has at most one result, and it is decided whether it has one
 pub record Determined {X : Type 0} (Gives : X → Type 0) : Type 0 where

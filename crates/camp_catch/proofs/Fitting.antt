@@ -1,5 +1,5 @@
 -- Catches that fit one after the other, and what keeps the members of sets valid.
-use Rattle.camp_catch.proofs.Words.{Bool, List, None, Option, Some, [], cond, false, refl, subst, sym, true, ◌++◌, ◌∷◌, ◌≡◌, contains_key, empty, get, get-empty, get-insert, get-remove, insert, remove, eq_by_cmp, Files, applies_once, inverse_of-inverse_of, leads_back, key_total, Applies, inverse_of, key_cmp, Key, Named, passed, cut_run, equivalent_run, joined_runs, row_passes, ◌~◌, MergesOne, AppliesAll, valid_by_adding_all, members_valid, AddsAll, AreValid, ContextedPatch, ContextedPatches, Valid, context_key, only, with_member, KeepsValid, Fits, IsSeenFrom, Becomes, joined_by, Catch, Plain, Conflictor}
+use Rattle.camp_catch.proofs.Words.{Bool, List, None, Option, Some, [], cond, false, refl, subst, sym, true, ◌++◌, ◌∷◌, ◌≡◌, same_Some, contains_key, empty, get, get-empty, get-insert, get-remove, insert, remove, eq_by_cmp, Files, applies_once, inverse_of-inverse_of, leads_back, key_total, Applies, inverse_of, key_cmp, Key, Named, passed, cut_run, equivalent_run, joined_runs, row_passes, ◌~◌, MergesOne, AppliesAll, valid_by_adding_all, members_valid, AddsAll, AreValid, ContextedPatch, ContextedPatches, Valid, context_key, only, with_member, KeepsValid, Fits, IsSeenFrom, Becomes, joined_by, Catch, Plain, Conflictor}
 
 -- two catches that fit, one after the other
 abbrev pub FitBoth : Catch → Catch → Files → Files → Type 0
@@ -55,24 +55,19 @@ run_once [] old new other v w = subst (λ t. new ≡ t) (sym w) v
 run_once (p ∷ s) old new other v w =
     run_once s w.0 new other (subst (λ t. AppliesAll s t new) (applies_once p.prim old v.0 w.0 v.1 w.1) v.2) w.2
 
-never : (x : ContextedPatch) → None ≡ Some x → ⊥
-never x e = cc
-
-pub same_some : (x y : ContextedPatch) → Some x ≡ Some y → x ≡ y
-same_some x y e = cc
-
-inserted_at : (tree : Files) (l : ContextedPatch) (x : Option ContextedPatch) (same : Bool) → Valid tree l → ((v : ContextedPatch) → x ≡ Some v → Valid tree v) → (w : ContextedPatch) → cond same (Some l) x ≡ Some w → Valid tree w
-inserted_at tree l x true valid others w e = subst (Valid tree) (same_some l w e) valid
-inserted_at tree l x false valid others w e = others w e
+-- what stands at a key of a set that was changed at another
+at_key : (tree : Files) (other x : Option ContextedPatch) (same : Bool) → ((v : ContextedPatch) → other ≡ Some v → Valid tree v) → ((v : ContextedPatch) → x ≡ Some v → Valid tree v) → (w : ContextedPatch) → cond same other x ≡ Some w → Valid tree w
+at_key tree other x true here there = here
+at_key tree other x false here there = there
 
 -- a set with one member more
 pub inserted_valid : (tree : Files) (xs : ContextedPatches) (key : Key) (l : ContextedPatch) → AreValid tree xs → Valid tree l → AreValid tree (insert xs key l)
 inserted_valid tree xs key l members valid q w is =
-    inserted_at tree l (get xs q) (eq_by_cmp key_cmp q key) valid (members q) w (subst (λ o. o ≡ Some w) (get-insert key_total xs key l q) is)
+    at_key tree (Some l) (get xs q) (eq_by_cmp key_cmp q key) (λ v e. subst (Valid tree) (same_Some l v e) valid) (members q) w (subst (λ o. o ≡ Some w) (get-insert key_total xs key l q) is)
 
 -- the set of one
 pub only_valid : (tree : Files) (l : ContextedPatch) → Valid tree l → AreValid tree (only l)
-only_valid tree l valid = inserted_valid tree empty (context_key l) l (λ q w e. absurd (never w (subst (λ o. o ≡ Some w) (get-empty key_cmp q) e))) valid
+only_valid tree l valid = inserted_valid tree empty (context_key l) l (λ q w e. let is = subst (λ o. o ≡ Some w) (get-empty key_cmp q) e in cc) valid
 
 joined_valid : (tree : Files) (xs : ContextedPatches) (l : ContextedPatch) (there : Bool) → AreValid tree xs → Valid tree l → AreValid tree (cond there xs (insert xs (context_key l) l))
 joined_valid tree xs l true members valid = members
@@ -87,11 +82,7 @@ pub joined_fits : (k : Conflictor) (l : ContextedPatch) (old new : Files) → Fi
 joined_fits k l old new f valid =
     conflictor_fits (joined_by l k) old new f.effect (with_member_valid new k.conflicts l f.seen.0 valid) f.seen.1
 
-removed_at : (tree : Files) (x : Option ContextedPatch) (same : Bool) → ((v : ContextedPatch) → x ≡ Some v → Valid tree v) → (w : ContextedPatch) → cond same None x ≡ Some w → Valid tree w
-removed_at tree x true others w e = absurd (never w e)
-removed_at tree x false others w e = others w e
-
 -- a set without a member
 pub without_valid : (tree : Files) (xs : ContextedPatches) (key : Key) → AreValid tree xs → AreValid tree (remove xs key)
 without_valid tree xs key members q w is =
-    removed_at tree (get xs q) (eq_by_cmp key_cmp q key) (members q) w (subst (λ o. o ≡ Some w) (get-remove key_total xs key q) is)
+    at_key tree None (get xs q) (eq_by_cmp key_cmp q key) (λ v e. cc) (members q) w (subst (λ o. o ≡ Some w) (get-remove key_total xs key q) is)

@@ -1,6 +1,5 @@
 -- Commuting and merging keep labels, and so do arranging, aligning and merging lists.
-use Rattle.camp_prim.specs.declared.labels.Label.{Label}
-use Rattle.camp_catch.proofs.Words.{List, [], ap, append-nil, inl, inr, map, refl, subst, sym, ℕ, ◌++◌, ◌∙◌, ◌∷◌, ◌≡◌, append_assoc, map-append, inverse_of, key_of, label_of, Key, Named, row_passes, MergesOne, Passes, PassesAll, same_key_of_sum, Adds, PassesBy, PassesByAll, ContextedPatch, bare, context_key, patch_key, Align, ArrangesBehind, ComesBefore, ComesFirst, catch_key, CommuteCatch, KeepLabels, KeysAlign, KeysPart, keys_of, JoinsWhere, MergeCatch, MergePlainConflictor, MergeLists, MergesWithAll, Catch, Plain, Conflictor}
+use Rattle.camp_catch.proofs.Words.{List, [], ap, append-nil, inl, inr, map, refl, subst, sym, ℕ, ◌++◌, ◌∙◌, ◌∷◌, ◌≡◌, append_assoc, map-append, inverse_of, key_of, label_of, Key, Named, row_passes, MergesOne, Passes, PassesAll, same_key_of_sum, same_alone, Adds, PassesBy, PassesByAll, ContextedPatch, bare, context_key, patch_key, Align, ArrangesBehind, ComesBefore, ComesFirst, catch_key, CommuteCatch, KeepLabels, KeysAlign, KeysPart, keys_of, JoinsWhere, MergeCatch, MergePlainConflictor, MergeLists, MergesWithAll, Catch, Plain, Conflictor}
 
 passed_key : (p : Named) (s s' : List Named) (p' : Named) → Passes p s s' p' → patch_key p' ≡ patch_key p
 passed_key p [] s' p' w = ap patch_key w.1
@@ -16,12 +15,9 @@ all_passed_labels : (r s s' r' : List Named) → PassesAll r s s' r' → map lab
 all_passed_labels [] s s' r' w = ap (map label_of) w.0
 all_passed_labels (p ∷ r) s s' r' w = passed_labels p w.0 s' w.1 w.4 ∙ all_passed_labels r s w.0 w.2 w.3
 
-same_label : (x y : Label) → (x ∷ []) ≡ (y ∷ []) → x ≡ y
-same_label x y e = cc
-
 passed_by_all_key : (r : List Named) (b b' : Named) (left : List Named) → PassesAll r (b ∷ []) (b' ∷ []) left → patch_key b' ≡ patch_key b
 passed_by_all_key r b b' left w =
-    ap key_of (same_label _ _ (all_passed_labels r (b ∷ []) (b' ∷ []) left w))
+    ap key_of (same_alone _ _ (all_passed_labels r (b ∷ []) (b' ∷ []) left w))
 
 merged_key : (a : Named) (s s' : List Named) (a' : Named) → MergesOne a s s' a' → patch_key a' ≡ patch_key a
 merged_key a s s' a' w = passed_key (inverse_of a) s s' (inverse_of a') (row_passes a s s' a' w)

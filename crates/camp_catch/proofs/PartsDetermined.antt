@@ -88,9 +88,6 @@ pub all_pass_by : (r s : List Named) (old : Conflictor) → Determined (Becomes 
 all_pass_by r s old =
     becomes old (just s) (one_add_of_all r) (add_of_all_exists r) (record { one = one_passing_of_all r old.identity; decided = list_passes_by_or_not r old.identity })
 
-same_head : (p q : Named) → (p ∷ []) ≡ (q ∷ []) → p ≡ q
-same_head p q e = cc
-
 -- a list of one, or another
 alone_or_not : (s : List Named) → Decided ((p : Named) × (s ≡ p ∷ []))
 alone_or_not [] = inr (λ w. let is = w.1 in cc)
@@ -102,7 +99,7 @@ pub comes_before : (r : List Named) (b : Named) → Determined (λ (p : Named ×
 comes_before r b = record {
   one = λ p q v w.
       let same = one_pass_of_all r (b ∷ []) (p.0 ∷ []) (q.0 ∷ []) p.1 q.1 v w in
-      let head = same_head p.0 q.0 same.0 in
+      let head = same_alone p.0 q.0 same.0 in
       λ t. (head t, same.1 t);
   decided = elim (all_pass_or_not r (b ∷ [])) [
     | inl w ↦ decided_by (λ p. ((p.0, w.1), subst (λ t. PassesAll r (b ∷ []) t w.1) p.1 w.2)) (λ q. (q.0.0, sym (one_pass_of_all r (b ∷ []) (q.0.0 ∷ []) w.0 q.0.1 w.1 q.1 w.2).0)) (alone_or_not w.0)

@@ -1,6 +1,7 @@
 -- The words that lemmas and answers of this crate share, so that a file brings them in by one line.
 pub use Rattle.std.proofs.Common.{Bool, Contains, IfOk, IsTrue, List, None, Option, Result, Some, [], ap, append-nil, arith, cond, drop, eqb-true, false, get_or, inl, inr, is_some, length, map, not, refl, rules, set, slice_index_or, subst, suc, sym, take, tests, true, ℕ, ◌&&◌, ◌++◌, ◌+◌, ◌-◌, ◌<◌, ◌↔◌, ◌∙◌, ◌∷◌, ◌≡◌, ◌≢◌, ◌≤◌, ◌⊎◌}
 pub use Rattle.std.proofs.lemmas.List.{append_assoc, drop-set, drop_all, drop_at, drop_more, get_or-set_same, length-append, length-take-le, length_push, map-append, nil_from_length, take-append-drop, take_all, take_at, take_more_set, take_rest, with_items_is}
+pub use Rattle.std.proofs.lemmas.Option.{same_Some}
 pub use Rattle.std.proofs.lemmas.Result.{IfOk-weaker}
 pub use Rattle.std.specs.Cmp.Lexicographic.{slice_cmp}
 pub use Rattle.std.specs.FinMap.{FinMap, contains_key, contains_key-keys, empty, empty_of_len, entries, get, get-empty, get-insert, get-remove, insert, keys, len, len-empty, len-insert, nat_cmp-IsAntisymmetric, remove, slice_cmp-IsAntisymmetric}

@@ -7,4 +7,4 @@ returns-in_default-clause-exact c =
 
 pub returns-clause-exact : goal.returns-clause-exact
 returns-clause-exact c =
-    record { b' = c.in-Some.b; a' = c.in-Some.a; swap = (rw c.in-Some.is at c.in_ok-swapped.ensures.exact); second = refl; first = refl }
+    record { b' = c.in-Some.b; a' = c.in-Some.a; swap = rw c.in-Some.is at c.in_ok-swapped.ensures.exact; second = refl; first = refl }

@@ -14,4 +14,4 @@ returns-in-None c =
 
 pub returns-in-Some-made : goal.returns-in-Some-made
 returns-in-Some-made c =
-    record { b' = _; left = _; passes = (rw c.in-Some.is at c.in_ok-behind.ensures); moved = _; becomes = (rw c.in-Some-made.is at c.in_ok-made.ensures); second = refl; first = refl }
+    record { b' = _; left = _; passes = rw c.in-Some.is at c.in_ok-behind.ensures; moved = _; becomes = rw c.in-Some-made.is at c.in_ok-made.ensures; second = refl; first = refl }

@@ -9,4 +9,4 @@ pub returns : goal.returns
 returns c =
     let made = rw (c.key.ensures.exact, c.label.ensures.exact) at c.in_ok-second.ensures in
     let q = c.requires in
-    record { z = _; member = q.member; named = q.named; several = q.several; rest = _; front = (rw c.in-Some.is at c.in_ok-found.ensures); s' = made.s'; effect = made.effect; second = ap Catch.Conflictor made.is; first = ap Catch.Conflictor c.in_ok-first.ensures }
+    record { z = _; member = q.member; named = q.named; several = q.several; rest = _; front = rw c.in-Some.is at c.in_ok-found.ensures; s' = made.s'; effect = made.effect; second = ap Catch.Conflictor made.is; first = ap Catch.Conflictor c.in_ok-first.ensures }

@@ -13,4 +13,4 @@ returns-in-None c =
 
 pub returns : goal.returns
 returns c =
-    record { apart = c.requires; passed = _; a' = _; passes = (rw c.in-Some.is at c.in_ok-behind.ensures.exact); moved = _; becomes = (rw c.in-Some-made.is at c.in_ok-made.ensures); second = refl; first = refl }
+    record { apart = c.requires; passed = _; a' = _; passes = rw c.in-Some.is at c.in_ok-behind.ensures.exact; moved = _; becomes = rw c.in-Some-made.is at c.in_ok-made.ensures; second = refl; first = refl }

@@ -12,4 +12,4 @@ returns-in_default-passed c =
 pub returns : goal.returns
 returns c =
     let (s', second, whole) = c.in_ok-effect.ensures in
-    record { common = _; rr = _; split = (rw c.in-Some.is at c.in_ok-parts.ensures); passed = _; left = _; passes = (rw c.in-Some-passed.is at c.in_ok-passed.ensures.exact); s' = s'; second = second; first = c.ordered.ensures.exact; whole = whole }
+    record { common = _; rr = _; split = rw c.in-Some.is at c.in_ok-parts.ensures; passed = _; left = _; passes = rw c.in-Some-passed.is at c.in_ok-passed.ensures.exact; s' = s'; second = second; first = c.ordered.ensures.exact; whole = whole }

@@ -7,4 +7,4 @@ returns-in_default c =
 
 pub returns : goal.returns
 returns c =
-    record { effect = _; rr' = _; effects = (rw c.in-Some.is at c.in_ok-passed.ensures); moved = _; becomes = c.in_ok-moved.ensures; own = _; joined = c.in_ok-own.ensures; second = refl; first = refl }
+    record { effect = _; rr' = _; effects = rw c.in-Some.is at c.in_ok-passed.ensures; moved = _; becomes = c.in_ok-moved.ensures; own = _; joined = c.in_ok-own.ensures; second = refl; first = refl }

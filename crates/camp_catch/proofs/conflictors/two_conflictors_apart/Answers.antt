@@ -19,4 +19,4 @@ returns-in_default-found c =
 pub returns : goal.returns
 returns c =
     let unseen = (rw (c.items.ensures.exact, c.context.ensures.exact, c.key.ensures.exact) at c.lacks_key.ensures).0 c.if-not-lacks_key.false in
-    record { apart = c.requires; unseen = unseen; effect = _; rr' = _; effects = (rw c.in-Some.is at c.in_ok-passed.ensures); moved = _; becomes = (rw c.in-Some-found.is at c.in_ok-found.ensures); own = _; own_becomes = c.in_ok-own.ensures; second = refl; first = refl }
+    record { apart = c.requires; unseen = unseen; effect = _; rr' = _; effects = rw c.in-Some.is at c.in_ok-passed.ensures; moved = _; becomes = rw c.in-Some-found.is at c.in_ok-found.ensures; own = _; own_becomes = c.in_ok-own.ensures; second = refl; first = refl }

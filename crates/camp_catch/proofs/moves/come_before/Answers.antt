@@ -26,7 +26,7 @@ loop-at-preserved c =
     let e : c.loop-at.at ≡ i + 1 = omega arith in
     let waiting = rw e at c.loop-at.invariant.waiting in
     record {
-      came = rw (at_last s0 s i c.index-list-at.result (omega arith) waiting, drop-set s i c.exchange.new.j (omega arith)) (_, _, drop (i + 1) s, rw e at c.loop-at.invariant.came, (rw c.if-not-branch.false at c.in_ok-exchange.ensures.exact), refl);
+      came = rw (at_last s0 s i c.index-list-at.result (omega arith) waiting, drop-set s i c.exchange.new.j (omega arith)) (_, _, drop (i + 1) s, rw e at c.loop-at.invariant.came, rw c.if-not-branch.false at c.in_ok-exchange.ensures.exact, refl);
       waiting = take_last s0 s i c.exchange.new.j waiting;
     }
 

@@ -7,4 +7,4 @@ returns-in_default c =
 
 pub returns : goal.returns
 returns c =
-    record { effect = refl; conflicts = c.in_ok-conflicts.ensures.exact; identity = (rw c.in-Some.is at c.in_ok-moved.ensures.exact) }
+    record { effect = refl; conflicts = c.in_ok-conflicts.ensures.exact; identity = rw c.in-Some.is at c.in_ok-moved.ensures.exact }
