@@ -26,9 +26,13 @@ at_last s0 s i d within waiting =
     grind (arith, common_steps, drop_more s0 i d within, get_or-take (i + 1) s i d, get_or-take (i + 1) s0 i d)
 
 -- and the list is unchanged before it
+pub shorter : {X : Type 0} (s0 s : List X) (i : ℕ) → take (i + 1) s ≡ take (i + 1) s0 → take i s ≡ take i s0
+shorter s0 s i waiting =
+    sym (take-take i (i + 1) s (omega arith)) ∙ ap (take i) waiting ∙ take-take i (i + 1) s0 (omega arith)
+
 pub take_last : {X : Type 0} (s0 s : List X) (i : ℕ) (y : X) → take (i + 1) s ≡ take (i + 1) s0 → take i (set s i y) ≡ take i s0
 take_last s0 s i y waiting =
-    take-set s i y ∙ sym (take-take i (i + 1) s (omega arith)) ∙ ap (λ t. take i t) waiting ∙ take-take i (i + 1) s0 (omega arith)
+    take-set s i y ∙ shorter s0 s i waiting
 
 -- backwards: from a place on the elements have become others, and those before it are as they were
 pub record DoneFrom (Done : List Named → List Named → Type 0) (s0 s : List Named) (at : ℕ) : Type 0 where

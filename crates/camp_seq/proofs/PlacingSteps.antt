@@ -1,5 +1,5 @@
 -- An element that is swapped to its place, from one neighbour to the next.
-use Rattle.camp_seq.proofs.Words.{◌≡◌, ◌≢◌, ℕ, ◌+◌, ◌-◌, ◌<◌, ◌≤◌, List, [], ◌∷◌, ◌++◌, length, take, drop, get_or, set, refl, sym, ap, ◌∙◌, subst, inl, inr, arith, append_assoc, length_push, length-set, length-take-le, take_at, drop_at, drop_all, drop_more, take_more, take_more_set, drop-set-lt, take-append-drop, take-take, Less, label_of, label_cmp, Swap, Named, own_inverse, swap_unique, ◌~◌, backwards, through, Precedes, IsHeld, ComesUpTo, InOrder, Follows, StartsAfter, StandsAt, StaysAt, Placed, HasRoom, ◌⊎◌, Label, not_below, not_above, not_below_both, IsLeast, Norm, Passes, Fronts, Reaches, further, here}
+use Rattle.camp_seq.proofs.Words.{◌≡◌, ◌≢◌, ℕ, ◌+◌, ◌-◌, ◌<◌, List, [], ◌∷◌, ◌++◌, length, take, drop, get_or, set, refl, sym, ap, ◌∙◌, subst, inl, inr, arith, append_assoc, length_push, length-set, length-take-le, take_at, drop_at, drop_all, drop_more, take_more, take_more_set, drop-set-lt, take-append-drop, take-take, Less, label_of, label_cmp, Swap, Named, own_inverse, swap_unique, ◌~◌, backwards, through, Precedes, IsHeld, ComesUpTo, InOrder, Follows, StartsAfter, StandsAt, StaysAt, Placed, HasRoom, ◌⊎◌, Label, not_below, not_above, not_below_both, IsLeast, Norm, Passes, Fronts, Reaches, further, here}
 use Rattle.camp_seq.proofs.ListSteps.{turned}
 use Rattle.camp_seq.proofs.ListEquivalence.{before, behind, passed}
 use Rattle.camp_seq.proofs.RoomSteps.{room_before, room_of_equivalent, kept_by_swaps, reaches_behind, front_reached, room_after, room_behind}
@@ -145,7 +145,6 @@ record Behind (s0 : List Named) (x0 : Named) (i : ℕ) (s : List Named) (x : Nam
 
 behind_it : (s0 s : List Named) (x0 x : Named) (i : ℕ) (d : Named) → i < length s → StandsAt s0 x0 i s x → Behind s0 x0 i s x d
 behind_it s0 s x0 x i d within w =
-    let long : length s ≡ length s0 = w.long in
     let first : Named = get_or s0 i d in
     let next : drop i s0 ≡ first ∷ drop (i + 1) s0 = drop_more s0 i d (omega arith) in
     let m = subst (λ y. Precedes y x0 x (drop i s)) next w.came in
@@ -165,12 +164,11 @@ behind_it s0 s x0 x i d within w =
 pub goes_on : (s0 s : List Named) (x0 x : Named) (i : ℕ) (d q' x' : Named) → i < length s → label_cmp (label_of (get_or s i d)) (label_of x) ≡ Less → Swap x (get_or s i d) q' x' → StandsAt s0 x0 i s x → StandsAt s0 x0 (i + 1) (set s i q') x'
 goes_on s0 s x0 x i d q' x' within less swap w =
     let b = behind_it s0 s x0 x i d within w in
-    let long : length s ≡ length s0 = w.long in
     let pair = swap_unique x (get_or s i d) q' x' (get_or s0 i d) b.coming swap b.back in
     let front : take (i + 1) s0 ≡ take i s0 ++ (get_or s0 i d) ∷ [] = take_more s0 i d (omega arith) in
     record {
       bound = omega arith;
-      long = length-set s i q' ∙ long;
+      long = length-set s i q' ∙ w.long;
       waiting = take_more_set s i q' within ∙ ap (λ y. y ++ q' ∷ []) w.waiting ∙ ap (λ y. take i s0 ++ y ∷ []) pair.0 ∙ sym front;
       came = subst (λ t. Precedes (drop (i + 1) s0) x0 x' t) (sym (drop-set-lt (i + 1) s i q' (omega arith))) (subst (λ y. Precedes (drop (i + 1) s0) x0 y (drop (i + 1) s)) (sym pair.1) b.came);
       follows = subst (λ a. Follows a (drop (i + 1) s0) x0) (sym front) (follows_more (take i s0) (get_or s0 i d) (drop (i + 1) s0) x0 (subst (λ t. Follows (take i s0) t x0) b.is w.follows) (b.labels ∙ less));
@@ -191,7 +189,6 @@ never_stuck s0 s x0 x i d within w never =
 pub stays_last : (s0 s : List Named) (x0 x : Named) (i : ℕ) → i ≡ length s → StandsAt s0 x0 i s x → StaysAt s0 x0 (length s) s x
 stays_last s0 s x0 x i last w =
     let stands = subst (λ n. StandsAt s0 x0 n s x) last w in
-    let long : length s ≡ length s0 = w.long in
     record { stands = stands; starts = subst (StartsAfter (label_of x0)) (sym (drop_all (length s) s0 (omega arith))) tt }
 
 -- a list of one element
@@ -203,8 +200,7 @@ only (x ∷ z ∷ s) d y one = absurd (omega arith)
 -- what is written from its place on
 pub placed_there : (s s0 left items part new : List Named) (x0 x : Named) (at : ℕ) → s ≡ s0 ++ x0 ∷ [] → StaysAt s0 x0 at left x → items ≡ left ++ x ∷ [] → part ≡ drop at items → new ≡ drop (length part - 1) part ++ take (length part - 1) part → Placed s (take at items ++ new)
 placed_there s s0 left items part new x0 x at was w is part_is new_is =
-    let long : length left ≡ length s0 = w.stands.long in
-    let bound : at ≤ length s0 = w.stands.bound in
+    let v = w.stands in
     let cut : left ≡ take at left ++ drop at left = sym (take-append-drop at left) in
     let whole : items ≡ take at left ++ (drop at left ++ x ∷ []) = is ∙ ap (λ y. y ++ x ∷ []) cut ∙ append_assoc (take at left) (drop at left) (x ∷ []) in
     let front : length (take at left) ≡ at = length-take-le at left (omega arith) in
@@ -227,9 +223,7 @@ placed s t n room long o w =
     let a : List Named = take w.at w.others in
     let back : List Named = drop w.at w.others in
     let cut : w.others ≡ a ++ back = sym (take-append-drop w.at w.others) in
-    let push : length (w.others ++ w.last ∷ []) ≡ length w.others + 1 = length_push w.others w.last in
-    let total : length s ≡ length (w.others ++ w.last ∷ []) = ap length w.was in
-    let ordered : InOrder (a ++ back) = subst InOrder (ap (take n) w.was ∙ take_at w.others (w.last ∷ []) n (omega arith) ∙ cut) o in
+    let ordered : InOrder (a ++ back) = subst InOrder (ap (take n) w.was ∙ take_at w.others (w.last ∷ []) n (omega (arith, ap length w.was, length_push w.others w.last)) ∙ cut) o in
     let now : t ≡ a ++ w.moved ∷ drop w.at w.left = w.becomes ∙ ap (λ x. x ++ w.moved ∷ drop w.at w.left) v.waiting in
     let whole : s ≡ (a ++ back) ++ w.last ∷ [] = w.was ∙ ap (λ x. x ++ w.last ∷ []) cut in
     let reached : s ~ (a ++ w.moved ∷ drop w.at w.left) = subst (λ x. x ~ (a ++ w.moved ∷ drop w.at w.left)) (sym whole) (backwards (came_behind a back w.last w.moved (drop w.at w.left) v.came)) in
