@@ -200,7 +200,6 @@ only (x ∷ z ∷ s) d y one = absurd (omega arith)
 -- what is written from its place on
 pub placed_there : (s s0 left items part new : List Named) (x0 x : Named) (at : ℕ) → s ≡ s0 ++ x0 ∷ [] → StaysAt s0 x0 at left x → items ≡ left ++ x ∷ [] → part ≡ drop at items → new ≡ drop (length part - 1) part ++ take (length part - 1) part → Placed s (take at items ++ new)
 placed_there s s0 left items part new x0 x at was w is part_is new_is =
-    let v = w.stands in
     let cut : left ≡ take at left ++ drop at left = sym (take-append-drop at left) in
     let whole : items ≡ take at left ++ (drop at left ++ x ∷ []) = is ∙ ap (λ y. y ++ x ∷ []) cut ∙ append_assoc (take at left) (drop at left) (x ∷ []) in
     let front : length (take at left) ≡ at = length-take-le at left (omega arith) in

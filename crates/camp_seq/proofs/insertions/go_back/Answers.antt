@@ -7,12 +7,10 @@ loop-at-init c = λ s0 x0 w. w
 
 pub loop-at-preserved : goal.loop-at-preserved
 loop-at-preserved c =
-    let s = c.loop-at.s in
-    let at = c.loop-at.at in
     let d = c.index-s-at-in-loop-at.result in
     let less = less_from_lt (label_cmp c.label.result c.label-in-loop-at.result) (sym c.is_less.ensures ∙ c.if-not-is_less.false) in
-    let there : c.label.result ≡ label_of (get_or s at d) = c.label.ensures.exact ∙ ap label_of (get_or_default s at c.index-s-at.result d (omega arith)) in
-    λ s0 x0 w. goes_on s0 s x0 c.loop-at.x at d c.pass_one.new.q c.pass_one.new.p (omega arith) (sym (λ k. label_cmp (there k) (c.label-in-loop-at.ensures.exact k)) ∙ less) c.if-not-pass_one.ensures.exact (c.loop-at.invariant s0 x0 w)
+    let there : c.label.result ≡ label_of (get_or c.loop-at.s c.loop-at.at d) = c.label.ensures.exact ∙ ap label_of (get_or_default c.loop-at.s c.loop-at.at c.index-s-at.result d (omega arith)) in
+    λ s0 x0 w. goes_on s0 c.loop-at.s x0 c.loop-at.x c.loop-at.at d c.pass_one.new.q c.pass_one.new.p (omega arith) (sym (λ k. label_cmp (there k) (c.label-in-loop-at.ensures.exact k)) ∙ less) c.if-not-pass_one.ensures.exact (c.loop-at.invariant s0 x0 w)
 
 pub returns-then-not-is_less : goal.returns-then-not-is_less
 returns-then-not-is_less c =
