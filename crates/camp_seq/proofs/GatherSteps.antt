@@ -1,18 +1,13 @@
 -- Elements with given labels, gathered from the last to the first.
-use Rattle.camp_seq.proofs.Words.{◌≡◌, ℕ, ◌+◌, ◌<◌, List, [], ◌∷◌, ◌++◌, length, take, drop, get_or, refl, sym, ap, ◌∙◌, subst, inl, inr, arith, Contains, append_assoc, length-take-le, drop_more, take-take, take_at, drop_at, put_mid, label_of, Label, Named, FirstPasses, PartsFrom, Passes, Parts}
+use Rattle.camp_seq.proofs.Words.{◌≡◌, ℕ, ◌+◌, ◌<◌, List, [], ◌∷◌, ◌++◌, length, take, drop, get_or, refl, sym, ap, ◌∙◌, subst, inl, inr, arith, Contains, append_assoc, length-take-le, drop_more, take_at, drop_at, put_mid, label_of, Label, Named, FirstPasses, PartsFrom, Passes, Parts}
 use Rattle.camp_seq.proofs.ListResults.{one_parting}
-use Rattle.camp_seq.proofs.ListSteps.{at_last, whole}
-
-shorter : (s0 s : List Named) (i : ℕ) → take (i + 1) s ≡ take (i + 1) s0 → take i s ≡ take i s0
-shorter s0 s i waiting =
-    sym (take-take i (i + 1) s (omega arith)) ∙ ap (λ t. take i t) waiting ∙ take-take i (i + 1) s0 (omega arith)
+use Rattle.camp_seq.proofs.ListSteps.{at_last, shorter, whole}
 
 -- an element with one of the labels stays where it is
 pub parts_named : (labels : List Label) (s0 s : List Named) (i count : ℕ) (d : Named) → i < length s → length s ≡ length s0 → PartsFrom labels s0 (i + 1) count s → Contains labels (label_of (get_or s i d)) → PartsFrom labels s0 i (count + 1) s
 parts_named labels s0 s i count d within same w named =
     let p : Named = get_or s i d in
     let next : drop i s0 ≡ p ∷ drop (i + 1) s0 = at_last s0 s i d (omega arith) w.waiting in
-    let counted : length w.named ≡ count = w.counted in
     record {
       named = p ∷ w.named;
       others = w.others;
@@ -31,7 +26,6 @@ window : (labels : List Label) (s0 s : List Named) (i count k : ℕ) (d : Named)
 window labels s0 s i count k d within v k_is w =
     let p : Named = get_or s i d in
     let from : drop i s ≡ (p ∷ w.named) ++ w.others = drop_more s i d within ∙ ap (λ x. p ∷ x) w.is in
-    let counted : length w.named ≡ count = w.counted in
     let long : length (p ∷ w.named) ≡ k = omega arith in
     (ap (take k) from ∙ take_at (p ∷ w.named) w.others k long, ap (drop k) from ∙ drop_at (p ∷ w.named) w.others k long)
 

@@ -1,5 +1,4 @@
 pub mod ExchangeSteps
-pub mod NormalForms
 pub mod FrontSteps
 pub mod GatherSteps
 pub mod LabelSteps
@@ -11,6 +10,7 @@ pub mod ListRuns
 pub mod ListSteps
 pub mod ListsDecided
 pub mod MergeGrid
+pub mod NormalForms
 pub mod NormalOrders
 pub mod OrderSteps
 pub mod OwnOrders

@@ -43,10 +43,7 @@ one_parting labels (p ∷ s) f t g u (inr v) (inr w) =
 pub label-front : (label : Label) (s : List Named) (y : Named) (t : List Named) → Fronts label s y t → label_of y ≡ label
 label-front label [] y t w = absurd w
 label-front label (p ∷ s) y t (inl w) = ap label_of w.1 ∙ w.0
-label-front label (p ∷ s) y t (inr w) =
-    let a = w.1 in
-    let swap : Swap p a.0 y a.1 = a.4 in
-    swap.anywhere.second ∙ label-front label s a.0 a.2 a.3
+label-front label (p ∷ s) y t (inr w) = w.1.4.anywhere.second ∙ label-front label s w.1.0 w.1.2 w.1.3
 
 pub one_order : (s t u : List Named) → Norm s t → Norm s u → t ≡ u
 one_order s [] [] v w = refl

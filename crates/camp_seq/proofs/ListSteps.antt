@@ -1,6 +1,6 @@
 -- A loop that goes over a list in place, from its first element to its last, or back.
-use Rattle.camp_seq.proofs.Words.{◌≡◌, ℕ, ◌+◌, ◌-◌, ◌<◌, List, [], ◌∷◌, ◌++◌, length, take, drop, get_or, set, refl, sym, ap, subst, ◌∙◌, arith, append_assoc, length_push, take_at, drop_at, drop_all, drop_more, take_more, take-append-drop, drop-set, drop-set-lt, take-set, take-take, get_or-take, Named}
-use Rattle.std.proofs.lemmas.Grind.{drop_more_same}
+use Rattle.camp_seq.proofs.Words.{◌≡◌, ℕ, ◌+◌, ◌-◌, ◌<◌, List, [], ◌∷◌, ◌++◌, length, take, drop, get_or, set, refl, sym, ap, subst, ◌∙◌, arith, append_assoc, length_push, take_at, drop_at, drop_all, drop_more, take-append-drop, drop-set, drop-set-lt, take-set, take-take, get_or-take, Named}
+use Rattle.std.proofs.lemmas.Grind.{common_steps, drop_more_same}
 
 -- the element at i and what is behind it, in a list that is unchanged from i on
 pub at_next : {X : Type 0} (s0 s : List X) (i : ℕ) (d : X) → i < length s → length s ≡ length s0 → drop i s ≡ drop i s0 → drop i s0 ≡ get_or s i d ∷ drop (i + 1) s0
@@ -14,10 +14,7 @@ drop_next s0 s i d y within same waiting =
 
 -- what stands before the element at i, with it
 pub take_next : {X : Type 0} (s0 : List X) (i : ℕ) (x : X) → i < length s0 → drop i s0 ≡ x ∷ drop (i + 1) s0 → take (i + 1) s0 ≡ take i s0 ++ x ∷ []
-take_next s0 i x within is =
-    let b : drop i s0 ≡ get_or s0 i x ∷ drop (i + 1) s0 = drop_more s0 i x within in
-    let e : get_or s0 i x ≡ x = cc in
-    take_more s0 i x within ∙ ap (λ y. take i s0 ++ y ∷ []) e
+take_next s0 i x within is = grind (arith, common_steps, drop_more s0 i x within)
 
 -- the whole list, by what stands before i and from i on
 pub whole : {X : Type 0} (s : List X) (i : ℕ) (t : List X) → drop i s ≡ t → s ≡ take i s ++ t
@@ -26,14 +23,16 @@ whole s i t is = sym (take-append-drop i s) ∙ ap (λ y. take i s ++ y) is
 -- backwards: the element at i, in a list that is unchanged before i + 1
 pub at_last : {X : Type 0} (s0 s : List X) (i : ℕ) (d : X) → i < length s0 → take (i + 1) s ≡ take (i + 1) s0 → drop i s0 ≡ get_or s i d ∷ drop (i + 1) s0
 at_last s0 s i d within waiting =
-    let c : get_or (take (i + 1) s) i d ≡ get_or s i d = get_or-take (i + 1) s i d (omega arith) in
-    let e : get_or (take (i + 1) s0) i d ≡ get_or s0 i d = get_or-take (i + 1) s0 i d (omega arith) in
-    drop_more s0 i d within ∙ ap (λ y. y ∷ drop (i + 1) s0) (sym e ∙ ap (λ y. get_or y i d) (sym waiting) ∙ c)
+    grind (arith, common_steps, drop_more s0 i d within, get_or-take (i + 1) s i d, get_or-take (i + 1) s0 i d)
 
 -- and the list is unchanged before it
+pub shorter : {X : Type 0} (s0 s : List X) (i : ℕ) → take (i + 1) s ≡ take (i + 1) s0 → take i s ≡ take i s0
+shorter s0 s i waiting =
+    sym (take-take i (i + 1) s (omega arith)) ∙ ap (take i) waiting ∙ take-take i (i + 1) s0 (omega arith)
+
 pub take_last : {X : Type 0} (s0 s : List X) (i : ℕ) (y : X) → take (i + 1) s ≡ take (i + 1) s0 → take i (set s i y) ≡ take i s0
 take_last s0 s i y waiting =
-    take-set s i y ∙ sym (take-take i (i + 1) s (omega arith)) ∙ ap (λ t. take i t) waiting ∙ take-take i (i + 1) s0 (omega arith)
+    take-set s i y ∙ shorter s0 s i waiting
 
 -- backwards: from a place on the elements have become others, and those before it are as they were
 pub record DoneFrom (Done : List Named → List Named → Type 0) (s0 s : List Named) (at : ℕ) : Type 0 where
@@ -51,13 +50,14 @@ one_more_done Was Done s0 s at i d y e within long w step =
       waiting = take_last s0 s i y v.waiting;
     }
 
+pub all_done : (Done : List Named → List Named → Type 0) (s0 s : List Named) (at : ℕ) → at ≡ 0 → DoneFrom Done s0 s at → Done s0 s
+all_done Done s0 s at none w = (subst (DoneFrom Done s0 s) none w).done
+
 -- a list that ends with y, turned so that y comes first
 pub turned : {X : Type 0} (s : List X) (y : X) (part : List X) → part ≡ s ++ y ∷ [] → drop (length part - 1) part ++ take (length part - 1) part ≡ y ∷ s
 turned s y part is =
-    let push : length (s ++ y ∷ []) ≡ length s + 1 = length_push s y in
-    let long : length part ≡ length (s ++ y ∷ []) = ap length is in
-    let less : length s ≡ length part - 1 = omega arith in
-    ap (λ x. drop (length part - 1) x ++ take (length part - 1) x) is ∙ ap (λ x. x ++ take (length part - 1) (s ++ y ∷ [])) (drop_at s (y ∷ []) (length part - 1) less) ∙ ap (λ x. y ∷ x) (take_at s (y ∷ []) (length part - 1) less)
+    let n : length s ≡ length (s ++ y ∷ []) - 1 = omega (arith, length_push s y) in
+    ap (λ x. drop (length x - 1) x ++ take (length x - 1) x) is ∙ (λ i. drop_at s (y ∷ []) (length (s ++ y ∷ []) - 1) n i ++ take_at s (y ∷ []) (length (s ++ y ∷ []) - 1) n i)
 
 -- the same of the front of a list
 pub turned_right : {X : Type 0} (xs s : List X) (y : X) (after new : List X) (n : ℕ) → xs ≡ s ++ y ∷ after → length s ≡ n → new ≡ drop (length (take (n + 1) xs) - 1) (take (n + 1) xs) ++ take (length (take (n + 1) xs) - 1) (take (n + 1) xs) → new ++ drop (n + 1) xs ≡ y ∷ (s ++ after)

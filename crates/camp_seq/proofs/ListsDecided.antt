@@ -1,5 +1,5 @@
 -- Whether lists pass, split and merge is decided.
-use Rattle.camp_seq.proofs.Words.{◌≡◌, ◌≢◌, zero, suc, List, [], ◌∷◌, refl, subst, inl, inr, arith, Contains, label_of, label_cmp, Swap, Label, Named, label_total, label_ties, Decided, decided_by, same_or_not, swap_or_not, swap_unique, CleanMerge, Splits, Passes, PassesAll, Parts, inverse_all}
+use Rattle.camp_seq.proofs.Words.{◌≡◌, ◌≢◌, zero, suc, List, [], ◌∷◌, refl, subst, inl, inr, arith, Contains, label_of, label_cmp, Label, Named, label_total, label_ties, Decided, decided_by, same_or_not, swap_or_not, swap_unique, CleanMerge, Splits, Passes, PassesAll, Parts, inverse_all}
 use Rattle.camp_seq.proofs.ListResults.{one_pass_of_all, one_parting}
 use Rattle.camp_seq.proofs.MergeGrid.{merge_is_passing, passing_merges}
 use Rattle.camp_seq.proofs.NormalOrders.{has_normal_order}

@@ -1,5 +1,5 @@
 -- What comes to the front of a list with room comes to the front of each list that is one exchange from it.
-use Rattle.camp_seq.proofs.Words.{◌≡◌, ◌≢◌, ◌⊎◌, List, [], ◌∷◌, ◌++◌, refl, sym, ap, ◌∙◌, subst, inl, inr, label_of, key_of, Label, Swap, Named, own_inverse, swap_unique, Exchanges, Fronts, Reaches, HasRoom, IsLeast, Norm, NormalForm}
+use Rattle.camp_seq.proofs.Words.{◌≡◌, ◌≢◌, ◌⊎◌, List, [], ◌∷◌, ◌++◌, refl, sym, ap, ◌∙◌, subst, inl, inr, label_of, key_of, Label, Swap, Named, own_inverse, swap_unique, Exchanges, Fronts, Reaches, HasRoom, IsLeast, Norm, NormalForm, length, length-append, arith}
 use Rattle.camp_seq.proofs.ExchangeSteps.{at_front, exchanges_behind, exchanges_back}
 use Rattle.camp_seq.proofs.LawOfThree.{law_of_three}
 use Rattle.camp_seq.proofs.RoomSteps.{reaches_behind, front_reached, room_after, room_before, room_behind, room_exchanged, kept_by_swaps}
@@ -76,10 +76,6 @@ pub exchanged_front : (label : Label) (s t : List Named) (y : Named) (u : List N
 exchanged_front label s t y u room e f =
     subst (λ x. FrontsNear label x y u) (sym e.becomes) (front_swapped_behind label e.before e.p e.q e.q' e.p' e.after y u (subst HasRoom e.was room) e.turns (subst (λ x. Fronts label x y u) e.was f))
 
-not_empty : (before : List Named) (p : Named) (s : List Named) → [] ≡ before ++ p ∷ s → ⊥
-not_empty [] p s e = cc
-not_empty (x ∷ before) p s e = cc
-
 least_exchanged : (s t : List Named) (y : Named) → HasRoom s → Exchanges Swap s t → IsLeast (label_of y) s → IsLeast (label_of y) t
 least_exchanged s t y room e least other z u f =
     let back = exchanged_front other t s z u (room_exchanged s t e room) (exchanges_back s t e) f in
@@ -87,7 +83,8 @@ least_exchanged s t y room e least other z u f =
 
 -- one exchange keeps the normal order of a list with room
 norm_exchanged : (s t u : List Named) → HasRoom s → Exchanges Swap s t → Norm s u → Norm t u
-norm_exchanged s t [] room e n = absurd (not_empty e.before e.p (e.q ∷ e.after) (sym n ∙ e.was))
+norm_exchanged s t [] room e n =
+    absurd (omega (arith, ap length (sym n ∙ e.was), length-append e.before (e.p ∷ e.q ∷ e.after)))
 norm_exchanged s t (y ∷ u) room e n =
     let f = exchanged_front (label_of y) s t y n.0 room e n.1 in
     let rest : Norm f.0 u = elim f.2 [

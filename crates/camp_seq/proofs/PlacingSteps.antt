@@ -1,5 +1,5 @@
 -- An element that is swapped to its place, from one neighbour to the next.
-use Rattle.camp_seq.proofs.Words.{◌≡◌, ◌≢◌, ℕ, ◌+◌, ◌-◌, ◌<◌, ◌≤◌, List, [], ◌∷◌, ◌++◌, length, take, drop, get_or, set, refl, sym, ap, ◌∙◌, subst, inl, inr, arith, append_assoc, length_push, length-set, length-take-le, take_at, drop_at, drop_all, drop_more, take_more, take_more_set, drop-set-lt, take-append-drop, take-take, Less, label_of, label_cmp, Swap, Named, own_inverse, swap_unique, ◌~◌, backwards, through, Precedes, IsHeld, ComesUpTo, InOrder, Follows, StartsAfter, StandsAt, StaysAt, Placed, HasRoom, ◌⊎◌, Label, not_below, not_above, not_below_both, IsLeast, Norm, Passes, Fronts, Reaches, further, here}
+use Rattle.camp_seq.proofs.Words.{◌≡◌, ◌≢◌, ℕ, ◌+◌, ◌-◌, ◌<◌, List, [], ◌∷◌, ◌++◌, length, take, drop, get_or, set, refl, sym, ap, ◌∙◌, subst, inl, inr, arith, append_assoc, length_push, length-set, length-take-le, take_at, drop_at, drop_all, drop_more, take_more, take_more_set, drop-set-lt, take-append-drop, take-take, Less, label_of, label_cmp, Swap, Named, own_inverse, swap_unique, ◌~◌, backwards, through, Precedes, IsHeld, ComesUpTo, InOrder, Follows, StartsAfter, StandsAt, StaysAt, Placed, HasRoom, ◌⊎◌, Label, not_below, not_above, not_below_both, IsLeast, Norm, Passes, Fronts, Reaches, further, here}
 use Rattle.camp_seq.proofs.ListSteps.{turned}
 use Rattle.camp_seq.proofs.ListEquivalence.{before, behind, passed}
 use Rattle.camp_seq.proofs.RoomSteps.{room_before, room_of_equivalent, kept_by_swaps, reaches_behind, front_reached, room_after, room_behind}
@@ -17,11 +17,6 @@ front_of_equivalent s t e room label y u f =
 abbrev FrontsPast : Label → Named → List Named → Named → Type 0
 FrontsPast label x s z = (z' : Named) × (x' : Named) × (u : List Named) × Swap x z z' x' × Fronts label s z' u
 
--- what comes to the front of a list, swapped with the element before it
-fronts_behind : (label : Label) (q : Named) (s t : List Named) (z r p : Named) (u : List Named) → label_of q ≢ label → s ≡ q ∷ t → Fronts label t r u → Swap q r z p → Fronts label s z (p ∷ u)
-fronts_behind label q s t z r p u other is f w =
-    subst (λ y. Fronts label y z (p ∷ u)) (sym is) (inr (other, (r, p, u, f, w, refl)))
-
 -- what comes to the front of a list comes to the front of what the list is behind an element that passes it, too
 front_past : (label : Label) (x : Named) (s s' : List Named) (x' z : Named) (w : List Named) → HasRoom (x ∷ s) → Passes x s s' x' → Fronts label s z w → FrontsPast label x s' z
 front_past label x [] s' x' z w room m f = absurd f
@@ -36,7 +31,7 @@ front_past label x (q ∷ s) s' x' z w room m (inr f) =
     let room_of_three : HasRoom (x ∷ q ∷ a.0 ∷ []) =
     room_before (x ∷ q ∷ a.0 ∷ []) a.2 (room_after (x ∷ q ∷ s) (x ∷ q ∷ a.0 ∷ a.2) room came) in
     let n = law_of_three.from_before x q a.0 m.0 m.1 next.0 next.1 z a.1 room_of_three m.3 next.3 a.4 in
-    (n.0, n.1, n.2 ∷ next.2, n.3.pr1, fronts_behind label m.0 s' m.2 n.0 next.0 n.2 next.2 (λ e. f.0 (sym m.3.anywhere.second ∙ e)) m.5 next.4 n.3.qr2)
+    (n.0, n.1, n.2 ∷ next.2, n.3.pr1, subst (λ y. Fronts label y n.0 (n.2 ∷ next.2)) (sym m.5) (inr ((λ e. f.0 (sym m.3.anywhere.second ∙ e)), (next.0, n.2, next.2, next.4, n.3.qr2, refl))))
 
 -- what a list leaves behind an element that came before it is in normal order where the list was
 left_in_order : (s : List Named) (x x' : Named) (s' : List Named) → HasRoom (x' ∷ s') → Precedes s x x' s' → InOrder s → InOrder s'
@@ -140,58 +135,50 @@ stands s0 s x0 x i w = record {
   follows = follows_held (take i s0) (drop i s0) x0 w.held;
 }
 
--- the element behind a place where it stands, and that it passes this one back
+-- the element behind a place where it stands: it passes this one back, and their labels are as they were
 record Behind (s0 : List Named) (x0 : Named) (i : ℕ) (s : List Named) (x : Named) (d : Named) : Type 0 where
   coming : Named
   is : drop i s0 ≡ get_or s0 i d ∷ drop (i + 1) s0
   came : Precedes (drop (i + 1) s0) x0 coming (drop (i + 1) s)
   back : Swap x (get_or s i d) (get_or s0 i d) coming
+  labels : label_cmp (label_of (get_or s0 i d)) (label_of x0) ≡ label_cmp (label_of (get_or s i d)) (label_of x)
 
 behind_it : (s0 s : List Named) (x0 x : Named) (i : ℕ) (d : Named) → i < length s → StandsAt s0 x0 i s x → Behind s0 x0 i s x d
 behind_it s0 s x0 x i d within w =
-    let long : length s ≡ length s0 = w.long in
     let first : Named = get_or s0 i d in
     let next : drop i s0 ≡ first ∷ drop (i + 1) s0 = drop_more s0 i d (omega arith) in
     let m = subst (λ y. Precedes y x0 x (drop i s)) next w.came in
     let both : m.1 ∷ m.2 ≡ get_or s i d ∷ drop (i + 1) s = sym m.5 ∙ drop_more s i d within in
     let this : m.1 ≡ get_or s i d = cc in
     let rest : m.2 ≡ drop (i + 1) s = cc in
+    let back = subst (λ q. Swap x q first m.0) this (own_inverse first m.0 x m.1 m.4) in
     record {
       coming = m.0;
       is = next;
       came = subst (λ t. Precedes (drop (i + 1) s0) x0 m.0 t) rest m.3;
-      back = subst (λ q. Swap x q first m.0) this (own_inverse first m.0 x m.1 m.4);
+      back = back;
+      labels = λ k. label_cmp (back.anywhere.second k) (sym (label_came (drop i s0) x0 x (drop i s) w.came) k);
     }
-
--- its label, and that of the element behind it, are as they were
-labels_as_were : (s0 s : List Named) (x0 x : Named) (i : ℕ) (d : Named) → StandsAt s0 x0 i s x → (b : Behind s0 x0 i s x d) → (label_of x ≡ label_of x0) × (label_of (get_or s i d) ≡ label_of (get_or s0 i d))
-labels_as_were s0 s x0 x i d w b =
-    (label_came (drop i s0) x0 x (drop i s) w.came, sym b.back.anywhere.second)
 
 -- one place further to the right
 pub goes_on : (s0 s : List Named) (x0 x : Named) (i : ℕ) (d q' x' : Named) → i < length s → label_cmp (label_of (get_or s i d)) (label_of x) ≡ Less → Swap x (get_or s i d) q' x' → StandsAt s0 x0 i s x → StandsAt s0 x0 (i + 1) (set s i q') x'
 goes_on s0 s x0 x i d q' x' within less swap w =
     let b = behind_it s0 s x0 x i d within w in
-    let labels = labels_as_were s0 s x0 x i d w b in
-    let long : length s ≡ length s0 = w.long in
     let pair = swap_unique x (get_or s i d) q' x' (get_or s0 i d) b.coming swap b.back in
     let front : take (i + 1) s0 ≡ take i s0 ++ (get_or s0 i d) ∷ [] = take_more s0 i d (omega arith) in
-    let lesser = subst (λ l. label_cmp l (label_of x0) ≡ Less) labels.1 (subst (λ l. label_cmp (label_of (get_or s i d)) l ≡ Less) labels.0 less) in
     record {
       bound = omega arith;
-      long = length-set s i q' ∙ long;
+      long = length-set s i q' ∙ w.long;
       waiting = take_more_set s i q' within ∙ ap (λ y. y ++ q' ∷ []) w.waiting ∙ ap (λ y. take i s0 ++ y ∷ []) pair.0 ∙ sym front;
       came = subst (λ t. Precedes (drop (i + 1) s0) x0 x' t) (sym (drop-set-lt (i + 1) s i q' (omega arith))) (subst (λ y. Precedes (drop (i + 1) s0) x0 y (drop (i + 1) s)) (sym pair.1) b.came);
-      follows = subst (λ a. Follows a (drop (i + 1) s0) x0) (sym front) (follows_more (take i s0) (get_or s0 i d) (drop (i + 1) s0) x0 (subst (λ t. Follows (take i s0) t x0) b.is w.follows) lesser);
+      follows = subst (λ a. Follows a (drop (i + 1) s0) x0) (sym front) (follows_more (take i s0) (get_or s0 i d) (drop (i + 1) s0) x0 (subst (λ t. Follows (take i s0) t x0) b.is w.follows) (b.labels ∙ less));
     }
 
 -- it stays before an element with no lesser label
 pub stays_before : (s0 s : List Named) (x0 x : Named) (i : ℕ) (d : Named) → i < length s → label_cmp (label_of (get_or s i d)) (label_of x) ≢ Less → StandsAt s0 x0 i s x → StaysAt s0 x0 i s x
 stays_before s0 s x0 x i d within not w =
     let b = behind_it s0 s x0 x i d within w in
-    let labels = labels_as_were s0 s x0 x i d w b in
-    let above = subst (λ l. label_cmp l (label_of x0) ≢ Less) labels.1 (subst (λ l. label_cmp (label_of (get_or s i d)) l ≢ Less) labels.0 not) in
-    record { stands = w; starts = subst (StartsAfter (label_of x0)) (sym b.is) above }
+    record { stands = w; starts = subst (StartsAfter (label_of x0)) (sym b.is) (λ less. not (sym b.labels ∙ less)) }
 
 -- it passes each element back
 pub never_stuck : (s0 s : List Named) (x0 x : Named) (i : ℕ) (d : Named) → i < length s → StandsAt s0 x0 i s x → ¬ ((a b : Named) → ¬ (Swap x (get_or s i d) a b))
@@ -199,10 +186,10 @@ never_stuck s0 s x0 x i d within w never =
     let b = behind_it s0 s x0 x i d within w in
     never (get_or s0 i d) b.coming b.back
 
-pub stays_last : (s0 s : List Named) (x0 x : Named) (i : ℕ) → length s ≤ i → StandsAt s0 x0 i s x → StaysAt s0 x0 i s x
+pub stays_last : (s0 s : List Named) (x0 x : Named) (i : ℕ) → i ≡ length s → StandsAt s0 x0 i s x → StaysAt s0 x0 (length s) s x
 stays_last s0 s x0 x i last w =
-    let long : length s ≡ length s0 = w.long in
-    record { stands = w; starts = subst (StartsAfter (label_of x0)) (sym (drop_all i s0 (omega arith))) tt }
+    let stands = subst (λ n. StandsAt s0 x0 n s x) last w in
+    record { stands = stands; starts = subst (StartsAfter (label_of x0)) (sym (drop_all (length s) s0 (omega arith))) tt }
 
 -- a list of one element
 pub only : (s : List Named) (d y : Named) → length s ≡ 1 → (s ≡ get_or s 0 d ∷ []) × (set s 0 y ≡ y ∷ [])
@@ -213,8 +200,6 @@ only (x ∷ z ∷ s) d y one = absurd (omega arith)
 -- what is written from its place on
 pub placed_there : (s s0 left items part new : List Named) (x0 x : Named) (at : ℕ) → s ≡ s0 ++ x0 ∷ [] → StaysAt s0 x0 at left x → items ≡ left ++ x ∷ [] → part ≡ drop at items → new ≡ drop (length part - 1) part ++ take (length part - 1) part → Placed s (take at items ++ new)
 placed_there s s0 left items part new x0 x at was w is part_is new_is =
-    let long : length left ≡ length s0 = w.stands.long in
-    let bound : at ≤ length s0 = w.stands.bound in
     let cut : left ≡ take at left ++ drop at left = sym (take-append-drop at left) in
     let whole : items ≡ take at left ++ (drop at left ++ x ∷ []) = is ∙ ap (λ y. y ++ x ∷ []) cut ∙ append_assoc (take at left) (drop at left) (x ∷ []) in
     let front : length (take at left) ≡ at = length-take-le at left (omega arith) in
@@ -237,9 +222,7 @@ placed s t n room long o w =
     let a : List Named = take w.at w.others in
     let back : List Named = drop w.at w.others in
     let cut : w.others ≡ a ++ back = sym (take-append-drop w.at w.others) in
-    let push : length (w.others ++ w.last ∷ []) ≡ length w.others + 1 = length_push w.others w.last in
-    let total : length s ≡ length (w.others ++ w.last ∷ []) = ap length w.was in
-    let ordered : InOrder (a ++ back) = subst InOrder (ap (take n) w.was ∙ take_at w.others (w.last ∷ []) n (omega arith) ∙ cut) o in
+    let ordered : InOrder (a ++ back) = subst InOrder (ap (take n) w.was ∙ take_at w.others (w.last ∷ []) n (omega (arith, ap length w.was, length_push w.others w.last)) ∙ cut) o in
     let now : t ≡ a ++ w.moved ∷ drop w.at w.left = w.becomes ∙ ap (λ x. x ++ w.moved ∷ drop w.at w.left) v.waiting in
     let whole : s ≡ (a ++ back) ++ w.last ∷ [] = w.was ∙ ap (λ x. x ++ w.last ∷ []) cut in
     let reached : s ~ (a ++ w.moved ∷ drop w.at w.left) = subst (λ x. x ~ (a ++ w.moved ∷ drop w.at w.left)) (sym whole) (backwards (came_behind a back w.last w.moved (drop w.at w.left) v.came)) in

@@ -1,6 +1,5 @@
 -- A list whose reach is in range has room: in every order its hunks stand in their files, whose ends are known.
 use Rattle.camp_seq.proofs.Words.{◌≡◌, ℕ, ◌+◌, ◌-◌, ◌≤◌, ◌^◌, max, List, [], ◌∷◌, ◌++◌, length, drop, get_or, refl, sym, ap, ◌∙◌, subst, inl, inr, arith, All, at_drop_all, All-nil, All-cons, All-head, All-tail, InRange, path_of, ChangePlaces, Primitive, Named, Reaches, here, further, HasRoom, line_of, sides_of, greatest_line, all_sides, reach_of}
-use Rattle.std.proofs.Math.Nat.{le-max_left, le-max_right}
 use Rattle.camp_prim.specs.declared.primitives.Primitive.TheVariants.{Add, Remove, Hunk}
 use Rattle.camp_prim.proofs.FileEnds.{Steps, same_path_or_not, both_turned, olds_of, news_of, news_kept}
 
@@ -65,8 +64,6 @@ stands path before (Hunk h) r within =
 every_fits : (path : List ℕ) (before top : ℕ) (s : List Named) → All (λ p. InRange p.prim) s → greatest_line s ≤ top → top + all_olds s ≤ before → Fits path before s
 every_fits path before top [] a g w = tt
 every_fits path before top (p ∷ s) a g w =
-    let l : line_of p.prim ≤ max (line_of p.prim) (greatest_line s) = le-max_left (line_of p.prim) (greatest_line s) in
-    let m : greatest_line s ≤ max (line_of p.prim) (greatest_line s) = le-max_right (line_of p.prim) (greatest_line s) in
     let c = stands path before p.prim (All-head (λ p. InRange p.prim) p s a) (omega arith) in
     let left : before ≤ c.0 + olds_of p.prim = c.2 in
     (c.0, c.1, every_fits path c.0 top s (All-tail (λ p. InRange p.prim) p s a) (omega arith) (omega arith))

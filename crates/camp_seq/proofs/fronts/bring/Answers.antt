@@ -14,7 +14,6 @@ cut c =
 pub returns-then-not-precede : goal.returns-then-not-precede
 returns-then-not-precede c =
     let w = c.in-Some.ensures in
-    let p = c.precede.new.p in
     let (front, back) = cut (goal.at.returns-then-not-precede c).After-precede in
     let first = ap (λ x. get_or x 0 c.index-rest-0.result) back in
     let stopped = c.if-not-precede.ensures.exact in
@@ -23,7 +22,7 @@ returns-then-not-precede c =
         λ any (y, t, f, is).
             let m = precedes_from c.args.label.now w.before w.first w.after y t w.lacks w.labelled (subst (λ x. Fronts c.args.label.now x y t) w.is f) in
             stopped.0 (m.0, y) (rw (front, first) m.1),
-        ap (λ x. c.precede.new.s ++ set x 0 p) back ∙ (λ i. (ap (λ x. x.0) stopped.1 ∙ front) i ++ (ap (λ x. x.1) stopped.1 ∙ first) i ∷ w.after) ∙ sym w.is,
+        ap (λ x. c.precede.new.s ++ set x 0 c.precede.new.p) back ∙ (λ i. (ap (λ x. x.0) stopped.1 ∙ front) i ++ (ap (λ x. x.1) stopped.1 ∙ first) i ∷ w.after) ∙ sym w.is,
       );
     }
 

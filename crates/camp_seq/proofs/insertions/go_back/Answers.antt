@@ -1,4 +1,4 @@
-use Rattle.camp_seq.proofs.Words.{◌≡◌, ◌≢◌, length, get_or, sym, ap, subst, ◌∙◌, arith, get_or_default, Less, label_of, label_cmp, less_from_lt, not_less_where, StandsAt, false, true}
+use Rattle.camp_seq.proofs.Words.{◌≡◌, get_or, sym, ap, ◌∙◌, arith, get_or_default, label_of, label_cmp, less_from_lt, not_less_where}
 use Rattle.camp_seq.proofs.PlacingSteps.{goes_on, stays_before, never_stuck, stays_last}
 use Rattle.camp_seq.proofs.insertions.go_back.Goals as goal
 
@@ -7,19 +7,15 @@ loop-at-init c = λ s0 x0 w. w
 
 pub loop-at-preserved : goal.loop-at-preserved
 loop-at-preserved c =
-    let s = c.loop-at.s in
-    let at = c.loop-at.at in
     let d = c.index-s-at-in-loop-at.result in
     let less = less_from_lt (label_cmp c.label.result c.label-in-loop-at.result) (sym c.is_less.ensures ∙ c.if-not-is_less.false) in
-    let there : c.label.result ≡ label_of (get_or s at d) = c.label.ensures.exact ∙ ap label_of (get_or_default s at c.index-s-at.result d (omega arith)) in
-    let lesser = subst (λ l. label_cmp (label_of (get_or s at d)) l ≡ Less) c.label-in-loop-at.ensures.exact (subst (λ l. label_cmp l c.label-in-loop-at.result ≡ Less) there less) in
-    λ s0 x0 w. goes_on s0 s x0 c.loop-at.x at d c.pass_one.new.q c.pass_one.new.p (omega arith) lesser c.if-not-pass_one.ensures.exact (c.loop-at.invariant s0 x0 w)
+    let there : c.label.result ≡ label_of (get_or c.loop-at.s c.loop-at.at d) = c.label.ensures.exact ∙ ap label_of (get_or_default c.loop-at.s c.loop-at.at c.index-s-at.result d (omega arith)) in
+    λ s0 x0 w. goes_on s0 c.loop-at.s x0 c.loop-at.x c.loop-at.at d c.pass_one.new.q c.pass_one.new.p (omega arith) (sym (λ k. label_cmp (there k) (c.label-in-loop-at.ensures.exact k)) ∙ less) c.if-not-pass_one.ensures.exact (c.loop-at.invariant s0 x0 w)
 
 pub returns-then-not-is_less : goal.returns-then-not-is_less
 returns-then-not-is_less c =
     let not = not_less_where (label_cmp c.label.result c.label-in-loop-at.result) (sym c.is_less.ensures ∙ c.if-not-is_less.true) in
-    let above = subst (λ l. label_cmp (label_of (get_or c.loop-at.s c.loop-at.at c.index-s-at.result)) l ≢ Less) c.label-in-loop-at.ensures.exact (subst (λ l. label_cmp l c.label-in-loop-at.result ≢ Less) c.label.ensures.exact not) in
-    λ s0 x0 w. stays_before s0 c.loop-at.s x0 c.loop-at.x c.loop-at.at c.index-s-at.result (omega arith) above (c.loop-at.invariant s0 x0 w)
+    λ s0 x0 w. stays_before s0 c.loop-at.s x0 c.loop-at.x c.loop-at.at c.index-s-at.result (omega arith) (λ less. not ((λ k. label_cmp (c.label.ensures.exact k) (c.label-in-loop-at.ensures.exact k)) ∙ less)) (c.loop-at.invariant s0 x0 w)
 
 pub returns-then-not-pass_one : goal.returns-then-not-pass_one
 returns-then-not-pass_one c = λ s0 x0 w.
@@ -27,6 +23,4 @@ returns-then-not-pass_one c = λ s0 x0 w.
 
 pub returns : goal.returns
 returns c = λ s0 x0 w.
-    let s = c.loop-at.s in
-    let e : c.loop-at.at ≡ length s = omega arith in
-    stays_last s0 s x0 c.loop-at.x (length s) (omega arith) (subst (λ n. StandsAt s0 x0 n s c.loop-at.x) e (c.loop-at.invariant s0 x0 w))
+    stays_last s0 c.loop-at.s x0 c.loop-at.x c.loop-at.at (omega arith) (c.loop-at.invariant s0 x0 w)

@@ -1,5 +1,5 @@
 use Rattle.camp_seq.proofs.Words.{◌≡◌, ◌+◌, ◌-◌, List, drop, set, refl, sym, ap, subst, ◌∙◌, arith, set-get_or, Named, Precedes, ComesUpTo}
-use Rattle.camp_seq.proofs.ListSteps.{DoneFrom, one_more_done}
+use Rattle.camp_seq.proofs.ListSteps.{all_done, one_more_done}
 use Rattle.camp_seq.proofs.PassingSteps.{comes_up_to}
 use Rattle.camp_seq.proofs.passes.come_forward.Goals as goal
 
@@ -21,6 +21,5 @@ loop-at-preserved c =
 
 pub returns : goal.returns
 returns c =
-    let e : c.loop-at.at ≡ 0 = omega arith in
-    let w = subst (DoneFrom (λ t u. Precedes t c.args.p.now c.loop-at.p u) c.args.s.now c.loop-at.s) e c.loop-at.invariant in
-    record { bound = omega arith; long = omega arith; waiting = refl; came = w.done; held = tt }
+    let came = all_done (λ t u. Precedes t c.args.p.now c.loop-at.p u) c.args.s.now c.loop-at.s c.loop-at.at (omega arith) c.loop-at.invariant in
+    record { bound = omega arith; long = omega arith; waiting = refl; came = came; held = tt }

@@ -1,5 +1,5 @@
-use Rattle.camp_seq.proofs.Words.{◌≡◌, ◌+◌, ◌-◌, drop, refl, subst, arith, PassesAll}
-use Rattle.camp_seq.proofs.ListSteps.{DoneFrom, one_more_done}
+use Rattle.camp_seq.proofs.Words.{◌+◌, ◌-◌, drop, refl, arith, PassesAll}
+use Rattle.camp_seq.proofs.ListSteps.{all_done, one_more_done}
 use Rattle.camp_seq.proofs.PassingSteps.{stops_all}
 use Rattle.camp_seq.proofs.passes.pass_all.Goals as goal
 
@@ -16,7 +16,6 @@ loop-at-preserved c =
     one_more_done (λ t u. PassesAll t c.args.s.now c.loop-at.s u) (λ t u. PassesAll t c.args.s.now c.pass.new.s u) c.args.r.now c.loop-at.r c.loop-at.at i c.index-r-at.result c.pass.new.p (omega arith) (omega arith) (omega arith) c.loop-at.invariant (λ passed. (c.loop-at.s, c.pass.new.p, drop (i + 1) c.loop-at.r, passed, c.if-not-pass.ensures.exact, refl))
 
 pub returns : goal.returns
-returns c =
-    let e : c.loop-at.at ≡ 0 = omega arith in
-    let w = subst (DoneFrom (λ t u. PassesAll t c.args.s.now c.loop-at.s u) c.args.r.now c.loop-at.r) e c.loop-at.invariant in
-    record { exact = w.done }
+returns c = record {
+  exact = all_done (λ t u. PassesAll t c.args.s.now c.loop-at.s u) c.args.r.now c.loop-at.r c.loop-at.at (omega arith) c.loop-at.invariant;
+}

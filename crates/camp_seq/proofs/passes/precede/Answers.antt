@@ -20,6 +20,5 @@ returns-then-at-gt0 c =
 
 pub returns : goal.returns
 returns c =
-    let at = c.come_forward-at.result in
-    let e : at ≡ 0 = omega arith in
+    let e : c.come_forward-at.result ≡ 0 = omega arith in
     record { exact = subst (λ n. Precedes (drop n c.args.s.now) c.args.p.now c.come_forward-at.new.p (drop n c.come_forward-at.new.s)) e c.come_forward-at.ensures.came }
