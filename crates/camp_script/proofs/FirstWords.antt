@@ -1,5 +1,5 @@
 -- The first words of a line say all that the line asks for, where it lists other names.
-use Rattle.camp_script.proofs.Words.{◌≡◌, true, false, ◌==◌, ℕ, List, [], ◌∷◌, ◌++◌, length, slice_index, take, refl, sym, ap, subst, ◌∙◌, cond-true, cond-false, GivesFaultFirst, GroupLine, change_of, group_line_of, Progress, OpenRecord, LineFault, ScriptFault}
+use Rattle.camp_script.proofs.Common.{◌≡◌, true, false, ◌==◌, ℕ, List, [], ◌∷◌, ◌++◌, length, slice_index, take, refl, sym, ap, subst, ◌∙◌, cond-true, cond-false, GivesFaultFirst, GroupLine, change_of, group_line_of, Progress, OpenRecord, LineFault, ScriptFault}
 use Rattle.std.specs.Prelude.{bytes_eq, codes, Result}
 use Rattle.std.proofs.Math.Seq.{take-append_seam}
 use Rattle.camp_script.specs.Commands.{Command, command, short_command, pull_line, obliterate_line, record_line, question}

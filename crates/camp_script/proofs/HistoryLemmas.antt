@@ -1,5 +1,5 @@
 -- Texts of histories that grow word by word and call by call.
-use Rattle.camp_script.proofs.Words.{◌≡◌, ℕ, ◌+◌, ◌-◌, ◌<◌, List, [], ◌∷◌, ◌++◌, length, get_or, take, drop, map, refl, sym, ap, subst, ◌∙◌, append_assoc, append-nil, arith, Result, flat_map-append, flat_map-cons, All, flat_map, join_with_byte, Call, entry_text, entries_text, spaced, HasText, line_text}
+use Rattle.camp_script.proofs.Common.{◌≡◌, ℕ, ◌+◌, ◌-◌, ◌<◌, List, [], ◌∷◌, ◌++◌, length, get_or, take, drop, map, refl, sym, ap, subst, ◌∙◌, append_assoc, append-nil, arith, Result, flat_map-append, flat_map-cons, All, flat_map, join_with_byte, Call, entry_text, entries_text, spaced, HasText, line_text}
 use Rattle.std.proofs.lemmas.List.{get_or-map, length-map, length-take, take_rest}
 use Rattle.std.proofs.lemmas.List.Elements.{All-tail}
 use Rattle.std.specs.Borrow.{Bor}

@@ -1,5 +1,5 @@
 -- What holds of the value that reading comes to, if it comes to one.
-use Rattle.camp_script.proofs.Words.{◌≡◌, Bool, true, false, cond, refl, Result, Ok, Err, IfOk, ◌>>=◌, LineFault}
+use Rattle.camp_script.proofs.Common.{◌≡◌, Bool, true, false, cond, refl, Result, Ok, Err, IfOk, ◌>>=◌, LineFault}
 
 pub record Holds {A : Type 0} (P : A → Type 0) (r : Result A LineFault) : Type 0 where
   pub value : IfOk r P

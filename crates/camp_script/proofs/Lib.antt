@@ -1,4 +1,4 @@
-mod Words
+mod Common
 pub mod Agreement
 pub mod Asked
 pub mod CanonicalCalls

@@ -1,5 +1,5 @@
 -- A line where a record is open, or none; and the line `end`.
-use Rattle.camp_script.proofs.Words.{◌≡◌, ℕ, ◌+◌, ◌==◌, true, false, cond, List, [], ◌∷◌, ◌++◌, length, length-append, arith, refl, sym, ap, subst, ◌∙◌, Option, None, Some, Result, Ok, Err, cond-false, nat_tests, Edit, Primitive, Hunk, Call, command_of, GivesFaultFirst, IsFaultFirst, HasNoFault, words_of, ◌>>=◌, OpenEdit, OpenRecord, Progress, with_record, with_one_more, after_record, after_change, obeyed, after_line, after_record_line, LineFault, ScriptFault, Line, Memory, Write}
+use Rattle.camp_script.proofs.Common.{◌≡◌, ℕ, ◌+◌, ◌==◌, true, false, cond, List, [], ◌∷◌, ◌++◌, length, length-append, arith, refl, sym, ap, subst, ◌∙◌, Option, None, Some, Result, Ok, Err, cond-false, nat_tests, Edit, Primitive, Hunk, Call, command_of, GivesFaultFirst, IsFaultFirst, HasNoFault, words_of, ◌>>=◌, OpenEdit, OpenRecord, Progress, with_record, with_one_more, after_record, after_change, obeyed, after_line, after_record_line, LineFault, ScriptFault, Line, Memory, Write}
 
 -- progress with these sections, these calls and no record open
 abbrev bare : List (List Call) → List Call → Progress

@@ -1,6 +1,6 @@
 -- Texts that grow part by part.
 use Rattle.std.proofs.Common.{◌≡◌, ℕ, ◌+◌, ◌-◌, ◌<◌, ◌≤◌, List, [], ◌∷◌, ◌++◌, length, take, drop, codes, refl, sym, ap, ◌∙◌, append_assoc, append-nil, take-append-drop, None, Some, Result, Ok, Err, arith}
-use Rattle.camp_script.proofs.Words.{take_more, take_rest, take_all, flat_map-append, flat_map-cons, decimal, Extends}
+use Rattle.camp_script.proofs.Common.{take_more, take_rest, take_all, flat_map-append, flat_map-cons, decimal, Extends}
 use Rattle.std.proofs.lemmas.Option.{slice_get-get_or, slice_get_within, get_or_from_slice_get, none-some}
 use Rattle.std.specs.List.{flat_map, slice_get}
 use Rattle.std.specs.Result.{IsErr}

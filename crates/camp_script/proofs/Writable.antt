@@ -1,5 +1,5 @@
 -- The calls of whatever is read are calls that a script can ask, within its limits.
-use Rattle.camp_script.proofs.Words.{◌≡◌, ℕ, ◌+◌, ◌^◌, ◌<◌, ◌≤◌, Bool, true, false, ◌&&◌, ◌==◌, nat_lt, nat_le, cond, List, [], ◌∷◌, ◌++◌, length, count_by, ◌∙◌, subst, None, Some, Option, arith, length-append, nat_tests, sum_by-append, sum_by-cons, AllByRecursion, is_name, is_path, is_line, Primitive, Hunk, is_writing, Call, Edit, Command, Nothing, Ask, BeginEdit, BeginGroup, BeginSection, command_of, lines_of, words_of, is_full, obey, heed, after_body, after_record_line, after_line, read_from}
+use Rattle.camp_script.proofs.Common.{◌≡◌, ℕ, ◌+◌, ◌^◌, ◌<◌, ◌≤◌, Bool, true, false, ◌&&◌, ◌==◌, nat_lt, nat_le, cond, List, [], ◌∷◌, ◌++◌, length, count_by, ◌∙◌, subst, None, Some, Option, arith, length-append, nat_tests, sum_by-append, sum_by-cons, AllByRecursion, is_name, is_path, is_line, Primitive, Hunk, is_writing, Call, Edit, Command, Nothing, Ask, BeginEdit, BeginGroup, BeginSection, command_of, lines_of, words_of, is_full, obey, heed, after_body, after_record_line, after_line, read_from}
 use Rattle.std.specs.Prelude.{IfOk, IsTrue, bytes_eq, codes}
 use Rattle.camp_call.specs.declared.calls.Call.TheVariants as call
 use Rattle.camp_script.specs.Canonical.{IsScriptCall, IsChange, AreLines, CanBeWritten, ReadIsWritable}

@@ -1,4 +1,4 @@
-use Rattle.camp_script.proofs.Words.{◌<◌, ◌+◌, ap, ◌∙◌, ◌++◌, ◌∷◌, [], sym, take, length, arith, take_more, entry_text}
+use Rattle.camp_script.proofs.Common.{◌<◌, ◌+◌, ap, ◌∙◌, ◌++◌, ◌∷◌, [], sym, take, length, arith, take_more, entry_text}
 use Rattle.camp_script.proofs.HistoryLemmas.{one_more_entry}
 use Rattle.camp_script.proofs.histories.extend_by_entries.Goals as goal
 

@@ -1,4 +1,4 @@
-use Rattle.camp_script.proofs.Words.{◌≡◌, ◌++◌, take, entries_text}
+use Rattle.camp_script.proofs.Common.{◌≡◌, ◌++◌, take, entries_text}
 use Rattle.camp_script.proofs.histories.extend_by_entries.Given as goal
 
 abbrev pub invariant-loop-seat : goal.invariant-loop-seat

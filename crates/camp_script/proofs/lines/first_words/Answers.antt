@@ -1,4 +1,4 @@
-use Rattle.camp_script.proofs.Words.{sym, ◌∙◌, map, length-map, eqb-true}
+use Rattle.camp_script.proofs.Common.{sym, ◌∙◌, map, length-map, eqb-true}
 use Rattle.camp_script.proofs.FirstWords.{front_of_six}
 use Rattle.camp_script.proofs.lines.first_words.Goals as goal
 

@@ -1,4 +1,4 @@
-use Rattle.camp_script.proofs.Words.{◌≡◌, ◌≤◌, ◌++◌, length, map}
+use Rattle.camp_script.proofs.Common.{◌≡◌, ◌≤◌, ◌++◌, length, map}
 use Rattle.camp_script.proofs.lines.first_words.Given as goal
 
 abbrev pub invariant-loop-word : goal.invariant-loop-word

@@ -1,4 +1,4 @@
-use Rattle.camp_script.proofs.Words.{ap, ◌∙◌, length, Option, ℕ, unwrap_or, rules, tests, YieldsList-from_slice, position_from_yields_List, is_blank}
+use Rattle.camp_script.proofs.Common.{ap, ◌∙◌, length, Option, ℕ, unwrap_or, rules, tests, YieldsList-from_slice, position_from_yields_List, is_blank}
 use Rattle.camp_script.proofs.WordLemmas.{position-at_end}
 use Rattle.camp_script.proofs.lines.word_len.Goals as goal
 

@@ -1,4 +1,4 @@
-use Rattle.camp_script.proofs.Words.{refl, take, arith, ap, ◌∙◌, ◌++◌, take_all, answers_text}
+use Rattle.camp_script.proofs.Common.{refl, take, arith, ap, ◌∙◌, ◌++◌, take_all, answers_text}
 use Rattle.camp_script.proofs.TextLemmas.{kept_further}
 use Rattle.camp_script.proofs.outputs.extend_by_answers.Goals as goal
 

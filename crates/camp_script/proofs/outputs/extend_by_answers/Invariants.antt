@@ -1,4 +1,4 @@
-use Rattle.camp_script.proofs.Words.{◌≡◌, ◌++◌, take, answers_text}
+use Rattle.camp_script.proofs.Common.{◌≡◌, ◌++◌, take, answers_text}
 use Rattle.camp_script.proofs.outputs.extend_by_answers.Given as goal
 
 abbrev pub invariant-loop-answer : goal.invariant-loop-answer

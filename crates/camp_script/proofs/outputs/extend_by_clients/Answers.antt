@@ -1,4 +1,4 @@
-use Rattle.camp_script.proofs.Words.{◌<◌, ◌+◌, ap, subst, ◌∙◌, ◌++◌, ◌∷◌, [], sym, take, map, length, refl, arith, take_more, take_all, All, client_text, clients_text, HasText}
+use Rattle.camp_script.proofs.Common.{◌<◌, ◌+◌, ap, subst, ◌∙◌, ◌++◌, ◌∷◌, [], sym, take, map, length, refl, arith, take_more, take_all, All, client_text, clients_text, HasText}
 use Rattle.camp_script.proofs.TextLemmas.{kept_further}
 use Rattle.camp_script.proofs.HistoryLemmas.{one_more_client, section_has_texts}
 use Rattle.camp_script.proofs.outputs.extend_by_clients.Goals as goal

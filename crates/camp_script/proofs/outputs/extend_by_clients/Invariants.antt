@@ -1,4 +1,4 @@
-use Rattle.camp_script.proofs.Words.{◌≡◌, ◌++◌, take, map, clients_text}
+use Rattle.camp_script.proofs.Common.{◌≡◌, ◌++◌, take, map, clients_text}
 use Rattle.camp_script.proofs.outputs.extend_by_clients.Given as goal
 
 abbrev pub invariant-loop-answers : goal.invariant-loop-answers

@@ -1,4 +1,4 @@
-use Rattle.camp_script.proofs.Words.{◌<◌, length, subst, sym, arith, All, HasText}
+use Rattle.camp_script.proofs.Common.{◌<◌, length, subst, sym, arith, All, HasText}
 use Rattle.camp_script.proofs.HistoryLemmas.{rest_have_texts, section_has_texts}
 use Rattle.camp_script.proofs.outputs.extend_by_sections.Goals as goal
 

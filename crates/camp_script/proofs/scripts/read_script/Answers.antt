@@ -1,4 +1,4 @@
-use Rattle.camp_script.proofs.Words.{◌≡◌, ◌∷◌, ◌+◌, List, ℕ, Result, length, map, ap, sym, subst, ◌∙◌, arith, rules, lines_of, without_end, ◌>>=◌, Progress, start, read_from, ScriptMayWant, LineFault, Memory}
+use Rattle.camp_script.proofs.Common.{◌≡◌, ◌∷◌, ◌+◌, List, ℕ, Result, length, map, ap, sym, subst, ◌∙◌, arith, rules, lines_of, without_end, ◌>>=◌, Progress, start, read_from, ScriptMayWant, LineFault, Memory}
 use Rattle.camp_script.proofs.Agreement.{reads_as_defined}
 use Rattle.camp_script.proofs.LineLemmas.{lines_without_end}
 use Rattle.camp_script.proofs.Wanting.{IsBegun, nothing_read, one_read, wants_now, wants_at_end}

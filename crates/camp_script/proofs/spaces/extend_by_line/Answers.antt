@@ -1,4 +1,4 @@
-use Rattle.camp_script.proofs.Words.{map}
+use Rattle.camp_script.proofs.Common.{map}
 use Rattle.camp_script.proofs.HistoryLemmas.{line_done}
 use Rattle.camp_script.proofs.spaces.extend_by_line.Goals as goal
 

@@ -1,4 +1,4 @@
-use Rattle.camp_script.proofs.Words.{◌∷◌, [], ◌++◌, ap, ◌∙◌, arith, take_all, spaced}
+use Rattle.camp_script.proofs.Common.{◌∷◌, [], ◌++◌, ap, ◌∙◌, arith, take_all, spaced}
 use Rattle.camp_script.proofs.TextLemmas.{kept, kept_further}
 use Rattle.camp_script.proofs.spaces.extend_by_named.Goals as goal
 

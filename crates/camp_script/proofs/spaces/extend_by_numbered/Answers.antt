@@ -1,4 +1,4 @@
-use Rattle.camp_script.proofs.Words.{decimal}
+use Rattle.camp_script.proofs.Common.{decimal}
 use Rattle.camp_script.proofs.HistoryLemmas.{entry_done}
 use Rattle.camp_script.proofs.spaces.extend_by_numbered.Goals as goal
 

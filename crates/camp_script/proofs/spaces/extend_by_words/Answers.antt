@@ -1,4 +1,4 @@
-use Rattle.camp_script.proofs.Words.{◌∷◌, [], ◌++◌, ap, ◌∙◌, arith, take_all, flat_map}
+use Rattle.camp_script.proofs.Common.{◌∷◌, [], ◌++◌, ap, ◌∙◌, arith, take_all, flat_map}
 use Rattle.camp_script.proofs.TextLemmas.{kept, kept_further}
 use Rattle.camp_script.proofs.HistoryLemmas.{spaced-map}
 use Rattle.camp_script.proofs.spaces.extend_by_words.Goals as goal

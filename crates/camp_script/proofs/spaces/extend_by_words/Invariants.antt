@@ -1,4 +1,4 @@
-use Rattle.camp_script.proofs.Words.{◌≡◌, ◌∷◌, ◌++◌, take, flat_map}
+use Rattle.camp_script.proofs.Common.{◌≡◌, ◌∷◌, ◌++◌, take, flat_map}
 use Rattle.camp_script.proofs.spaces.extend_by_words.Given as goal
 
 abbrev pub invariant-loop-word : goal.invariant-loop-word

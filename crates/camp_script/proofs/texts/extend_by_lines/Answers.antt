@@ -1,4 +1,4 @@
-use Rattle.camp_script.proofs.Words.{refl, sym, ◌∙◌, subst, flat_map, signed_line}
+use Rattle.camp_script.proofs.Common.{refl, sym, ◌∙◌, subst, flat_map, signed_line}
 use Rattle.camp_script.proofs.TextLemmas.{GrowsBy, nothing_done, one_done, all_done, kept_further}
 use Rattle.camp_script.proofs.texts.extend_by_lines.Goals as goal
 

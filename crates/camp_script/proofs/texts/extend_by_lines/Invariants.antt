@@ -1,4 +1,4 @@
-use Rattle.camp_script.proofs.Words.{signed_line}
+use Rattle.camp_script.proofs.Common.{signed_line}
 use Rattle.camp_script.proofs.TextLemmas.{GrowsBy}
 use Rattle.camp_script.proofs.texts.extend_by_lines.Given as goal
 

@@ -1,4 +1,4 @@
-use Rattle.camp_script.proofs.Words.{◌≡◌, ◌++◌, take, flat_map, name_text}
+use Rattle.camp_script.proofs.Common.{◌≡◌, ◌++◌, take, flat_map, name_text}
 use Rattle.camp_script.proofs.texts.extend_by_name_lines.Given as goal
 
 abbrev pub invariant-loop-name : goal.invariant-loop-name

@@ -1,4 +1,4 @@
-use Rattle.camp_script.proofs.Words.{refl, take, arith, ap, ◌∙◌, ◌++◌, take_all, flat_map, pair_text}
+use Rattle.camp_script.proofs.Common.{refl, take, arith, ap, ◌∙◌, ◌++◌, take_all, flat_map, pair_text}
 use Rattle.camp_script.proofs.TextLemmas.{kept_further}
 use Rattle.camp_script.proofs.texts.extend_by_pairs.Goals as goal
 

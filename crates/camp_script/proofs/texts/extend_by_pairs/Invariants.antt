@@ -1,4 +1,4 @@
-use Rattle.camp_script.proofs.Words.{◌≡◌, ◌++◌, take, flat_map, pair_text}
+use Rattle.camp_script.proofs.Common.{◌≡◌, ◌++◌, take, flat_map, pair_text}
 use Rattle.camp_script.proofs.texts.extend_by_pairs.Given as goal
 
 abbrev pub invariant-loop-first : goal.invariant-loop-first

@@ -1,4 +1,4 @@
-use Rattle.camp_script.proofs.Words.{◌∷◌, [], ◌++◌, take, codes, ap, ◌∙◌, append_assoc, refl, entries, flat_map, decimal, file_text, line_text}
+use Rattle.camp_script.proofs.Common.{◌∷◌, [], ◌++◌, take, codes, ap, ◌∙◌, append_assoc, refl, entries, flat_map, decimal, file_text, line_text}
 use Rattle.camp_script.proofs.TextLemmas.{one_more, no_file, tree_done, kept_further}
 use Rattle.camp_script.proofs.texts.extend_by_tree.Goals as goal
 

@@ -1,4 +1,4 @@
-use Rattle.camp_script.proofs.Words.{◌≡◌, ◌++◌, take, flat_map, entries, file_text}
+use Rattle.camp_script.proofs.Common.{◌≡◌, ◌++◌, take, flat_map, entries, file_text}
 use Rattle.camp_script.proofs.texts.extend_by_tree.Given as goal
 
 abbrev pub invariant-loop-index : goal.invariant-loop-index

@@ -1,4 +1,4 @@
-use Rattle.camp_script.proofs.Words.{◌++◌, take}
+use Rattle.camp_script.proofs.Common.{◌++◌, take}
 use Rattle.std.proofs.KnownBytes.{Appends-trans, Appends-kept}
 use Rattle.camp_script.proofs.TextLemmas.{moved_on}
 use Rattle.camp_script.proofs.texts.write_text.Goals.{in-Ok, in-Err}

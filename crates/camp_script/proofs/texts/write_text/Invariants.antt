@@ -1,4 +1,4 @@
-use Rattle.camp_script.proofs.Words.{◌≡◌, ℕ, List, ◌++◌}
+use Rattle.camp_script.proofs.Common.{◌≡◌, ℕ, List, ◌++◌}
 use Rattle.std.specs.Io.KnownBytes.{Appends}
 use Rattle.camp_script.proofs.texts.write_text.Given as goal
 

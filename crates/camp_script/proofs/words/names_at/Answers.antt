@@ -1,4 +1,4 @@
-use Rattle.camp_script.proofs.Words.{[], Ok, ap, subst, sym, rules, ◌∙◌}
+use Rattle.camp_script.proofs.Common.{[], Ok, ap, subst, sym, rules, ◌∙◌}
 use Rattle.camp_script.proofs.NameLemmas.{NamesFrom, nothing_named, one_named, fault_named, all_named, is_fault_of}
 use Rattle.camp_script.proofs.words.names_at.Goals as goal
 

@@ -1,4 +1,4 @@
-use Rattle.camp_script.proofs.Words.{◌∷◌, ◌++◌, [], subst, sym, rules}
+use Rattle.camp_script.proofs.Common.{◌∷◌, ◌++◌, [], subst, sym, rules}
 use Rattle.camp_script.proofs.NameLemmas.{NamesFrom, nothing_named, one_named, fault_named, all_named}
 use Rattle.camp_script.proofs.words.test_names.Goals as goal
 

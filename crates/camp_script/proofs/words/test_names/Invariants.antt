@@ -1,4 +1,4 @@
-use Rattle.camp_script.proofs.Words.{ℕ, List}
+use Rattle.camp_script.proofs.Common.{ℕ, List}
 use Rattle.camp_script.proofs.NameLemmas.{NamesFrom}
 use Rattle.camp_script.proofs.words.test_names.Given as goal
 

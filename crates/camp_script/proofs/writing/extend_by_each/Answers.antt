@@ -1,4 +1,4 @@
-use Rattle.camp_script.proofs.Words.{refl, take, flat_map, change_text}
+use Rattle.camp_script.proofs.Common.{refl, take, flat_map, change_text}
 use Rattle.camp_script.proofs.TextLemmas.{kept_further}
 use Rattle.camp_script.proofs.writing.extend_by_each.Goals as goal
 

@@ -1,4 +1,4 @@
-use Rattle.camp_script.proofs.Words.{◌≡◌, ◌++◌, take, flat_map, AllByRecursion, change_text, IsChange}
+use Rattle.camp_script.proofs.Common.{◌≡◌, ◌++◌, take, flat_map, AllByRecursion, change_text, IsChange}
 use Rattle.camp_script.proofs.writing.extend_by_each.Given as goal
 
 abbrev pub invariant-loop-change : goal.invariant-loop-change

@@ -1,4 +1,4 @@
-use Rattle.camp_script.proofs.Words.{take, call_text, CanStand}
+use Rattle.camp_script.proofs.Common.{take, call_text, CanStand}
 use Rattle.camp_script.proofs.WrittenLemmas.{AreWritten}
 use Rattle.camp_script.proofs.writing.extend_by_kept.Given as goal
 

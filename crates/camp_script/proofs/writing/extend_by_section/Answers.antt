@@ -1,4 +1,4 @@
-use Rattle.camp_script.proofs.Words.{◌++◌, ap, ◌∙◌, arith, refl, take, subst, take_all, flat_map, AllByRecursion, call_text, CanStand}
+use Rattle.camp_script.proofs.Common.{◌++◌, ap, ◌∙◌, arith, refl, take, subst, take_all, flat_map, AllByRecursion, call_text, CanStand}
 use Rattle.camp_script.proofs.TextLemmas.{kept_further}
 use Rattle.camp_script.proofs.WrittenLemmas.{one_more_written}
 use Rattle.camp_script.proofs.writing.extend_by_section.Goals as goal

@@ -1,4 +1,4 @@
-use Rattle.camp_script.proofs.Words.{◌≡◌, ◌++◌, take, flat_map, AreLines, signed_line}
+use Rattle.camp_script.proofs.Common.{◌≡◌, ◌++◌, take, flat_map, AreLines, signed_line}
 use Rattle.camp_script.proofs.writing.extend_by_side.Given as goal
 
 abbrev pub invariant-loop-line : goal.invariant-loop-line

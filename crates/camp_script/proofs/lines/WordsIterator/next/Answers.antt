@@ -1,4 +1,4 @@
-use Rattle.camp_script.proofs.Words.{◌≡◌, ◌<◌, false, ℕ, ◌==◌, sym, ◌∙◌, arith, eqb-true, nat_tests}
+use Rattle.camp_script.proofs.Common.{◌≡◌, ◌<◌, false, ℕ, ◌==◌, sym, ◌∙◌, arith, eqb-true, nat_tests}
 use Rattle.bstr.proofs.lemmas.MatchListLemmas.{goes-ref}
 use Rattle.camp_script.proofs.WordLemmas.{IsCut, IsCut-at, first_word, no_word}
 use Rattle.camp_script.proofs.lines.WordsIterator.next.Goals as goal

@@ -1,4 +1,4 @@
-use Rattle.camp_script.proofs.Words.{◌≡◌, true, false, ap, map, ◌∙◌, codes, rules, bytes_eq}
+use Rattle.camp_script.proofs.Common.{◌≡◌, true, false, ap, map, ◌∙◌, codes, rules, bytes_eq}
 use Rattle.camp_script.proofs.FirstWords.{pulls, obliterates, short}
 use Rattle.camp_script.proofs.readings.Reading.asked_by.Goals as goal
 

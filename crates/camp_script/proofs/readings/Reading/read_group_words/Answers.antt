@@ -1,4 +1,4 @@
-use Rattle.camp_script.proofs.Words.{◌≡◌, false, ◌==◌, length, map, slice_index, sym, ap, ◌∙◌, rules, open_record_of, words_of}
+use Rattle.camp_script.proofs.Common.{◌≡◌, false, ◌==◌, length, map, slice_index, sym, ap, ◌∙◌, rules, open_record_of, words_of}
 use Rattle.camp_script.proofs.FirstWords.{group_words}
 use Rattle.camp_script.proofs.readings.Reading.read_group_words.Goals as goal
 

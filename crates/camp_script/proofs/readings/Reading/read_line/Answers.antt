@@ -1,4 +1,4 @@
-use Rattle.camp_script.proofs.Words.{sym, ap, ◌∙◌}
+use Rattle.camp_script.proofs.Common.{sym, ap, ◌∙◌}
 use Rattle.std.specs.Option.{option_map}
 use Rattle.camp_script.specs.Inside.ReadingFields.{open_record_of, progress_of}
 use Rattle.camp_script.proofs.RecordLines.{in_record, no_record}

@@ -1,4 +1,4 @@
-use Rattle.camp_script.proofs.Words.{◌≡◌, true, false, map, codes, rules, bytes_eq}
+use Rattle.camp_script.proofs.Common.{◌≡◌, true, false, map, codes, rules, bytes_eq}
 use Rattle.camp_script.proofs.FirstWords.{records, questions}
 use Rattle.camp_script.proofs.readings.Reading.read_short_command.Goals as goal
 
