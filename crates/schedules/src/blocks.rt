@@ -1,6 +1,6 @@
 use crate::gates::{Delays, read_delay};
 use crate::orders::play_script;
-use crate::runs::{Run, counts_of, losses_of, output_of, run_drawn};
+use crate::runs::{Run, counts_of, output_of, run_drawn};
 use crate::scripts::{append_clients, append_race};
 use anyhow::{Result, bail};
 use bstr::ByteSlice;
@@ -27,8 +27,6 @@ enum Task {
     Orders { tries: u32 },
     /// Runs of other scripts, drawn by lot.
     Drawn { runs: u32 },
-    /// How many exchanges are lost over a head with a version for each so many calls.
-    Lost { tries: u32, every: u32 },
 }
 
 /// The words that lines begin with which are no lines of the script.
@@ -42,10 +40,9 @@ enum Keyword {
     Head,
     Orders,
     Drawn,
-    Lost,
 }
 
-const KEYWORDS: [(&[u8], Keyword); 9] = [
+const KEYWORDS: [(&[u8], Keyword); 8] = [
     (b"wait", Keyword::Wait),
     (b"clients", Keyword::Clients),
     (b"race", Keyword::Race),
@@ -54,7 +51,6 @@ const KEYWORDS: [(&[u8], Keyword); 9] = [
     (b"head", Keyword::Head),
     (b"orders", Keyword::Orders),
     (b"drawn", Keyword::Drawn),
-    (b"lost", Keyword::Lost),
 ];
 
 impl Keyword {
@@ -140,10 +136,6 @@ impl Block {
                 run_drawn(rt, alloc, runs)?;
                 line_of(alloc, &"each replay agrees")
             }
-            Task::Lost { tries, every } => {
-                let (accepted, lost) = losses_of(rt, alloc, &self.script, tries, every)?;
-                losses_text(alloc, accepted, lost)
-            }
         }
     }
 
@@ -170,11 +162,6 @@ fn answers_text(alloc: Global, answers: usize) -> Result<Vec<u8>> {
     Ok(text.into_bytes())
 }
 
-fn losses_text(alloc: Global, accepted: u64, lost: u64) -> Result<Vec<u8>> {
-    let text = format!(in alloc; "{accepted} accepted, {lost} exchanges lost\n")?;
-    Ok(text.into_bytes())
-}
-
 fn line_of<T: Display>(alloc: Global, shown: &T) -> Result<Vec<u8>> {
     let text = format!(in alloc; "{shown}\n")?;
     Ok(text.into_bytes())
@@ -194,10 +181,6 @@ fn task_of(keyword: Keyword, words: &[&[u8]]) -> Result<Option<Task>> {
         },
         (Keyword::Drawn, [runs]) => Task::Drawn {
             runs: number(runs)?,
-        },
-        (Keyword::Lost, [tries, every]) => Task::Lost {
-            tries: number(tries)?,
-            every: number(every)?,
         },
         _ => return Ok(None),
     }))

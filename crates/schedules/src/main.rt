@@ -10,7 +10,6 @@
 //! | `wait MOMENT SEAT NUMBER until MOMENT SEAT NUMBER` | a gate that waits at one moment until another has come; a moment is `before`, `exchange` or `after` |
 //! | `orders TRIES` | the script of two clients over a head, in every order in which they can take turns |
 //! | `drawn RUNS` | so many scripts that are drawn by lot, over a head |
-//! | `lost TRIES EVERY` | the script over a head with a version for each so many calls: how many exchanges are lost |
 //! | `clients CLIENTS RECORDS` | a script of so many clients with so many records each, on branches of their own |
 //! | `race CLIENTS RECORDS` | so many clients with so many records each, on one branch |
 //! | any other | a line of the script |

@@ -148,7 +148,7 @@ fn expect_run<R: Threads + Wait + Sync>(
     tries: u32,
 ) -> Result<()> {
     let baton = Baton::new(&game.turns);
-    let run = share(rt, alloc, sections, tries, 64, &baton)?;
+    let run = share(rt, alloc, sections, tries, &baton)?;
     ensure!(baton.is_played(), "a seat gave up");
     expect_game(&run, game)
 }

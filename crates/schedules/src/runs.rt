@@ -11,7 +11,6 @@ use camp_run::{Gate, NoGate, run_book, run_head, run_locked};
 use camp_script::read_script;
 use std::alloc::Global;
 use std::sync::Wait;
-use std::sync::atomic::{AtomicU64, Ordering};
 use std::thread::Threads;
 
 /// How a script is run.
@@ -146,7 +145,7 @@ fn counts_of_sections<R: Threads + Wait + Sync, G: Gate + Sync>(
     tries: u32,
     gate: &G,
 ) -> Result<Counts> {
-    let run = share(rt, alloc, sections, tries, 64, gate)?;
+    let run = share(rt, alloc, sections, tries, gate)?;
     let outcome = Outcome {
         answers: &run.answers,
         history: &run.history,
@@ -162,55 +161,18 @@ fn has_room(sections: &[Vec<Call>]) -> bool
     sections.iter().all(|calls| calls.len() <= 65_536)
 }
 
-/// The first section alone over a head, which keeps a version for each so many calls or none, and then each
-/// further one in a thread of its own.
+/// The first section alone over a head, and then each further one in a thread of its own.
 pub(crate) fn share<R: Threads + Wait + Sync, G: Gate + Sync>(
     rt: &R,
     alloc: Global,
     sections: &[Vec<Call>],
     tries: u32,
-    every: u32,
     gate: &G,
 ) -> Result<HeadRun<State>> {
     ensure!((1..=64).contains(&sections.len()), "1 to 64 sections");
     ensure!((1..=1_000).contains(&tries), "1 to 1000 tries");
-    ensure!(every <= 4_096, "a version for at most each 4096 calls");
     ensure!(has_room(sections), "at most 65536 calls in a section");
-    Ok(shared::<R, State, G>(rt, alloc, sections, tries, every, gate)?)
-}
-
-/// Counts the exchanges that are tried.
-#[derive(Drop)]
-struct Counter {
-    exchanges: AtomicU64,
-}
-
-impl Gate for Counter {
-    fn before(&self, _seat: u32, _call: u32) {}
-
-    fn exchange(&self, _seat: u32, _lost: u32) {
-        self.exchanges.fetch_add(1, Ordering::SeqCst);
-    }
-
-    fn after(&self, _seat: u32, _call: u32) {}
-}
-
-/// How many calls of a script are accepted over a head, and how many exchanges are lost.
-pub(crate) fn losses_of<R: Threads + Wait + Sync>(
-    rt: &R,
-    alloc: Global,
-    script: &[u8],
-    tries: u32,
-    every: u32,
-) -> Result<(u64, u64)> {
-    let script = read_script(alloc, script)?;
-    let counter = Counter {
-        exchanges: AtomicU64::new(0),
-    };
-    let run = share(rt, alloc, script.sections(), tries, every, &counter)?;
-    let accepted = run.history.len() as u64;
-    let exchanges = counter.exchanges.load(Ordering::SeqCst);
-    Ok((accepted, exchanges.saturating_sub(accepted)))
+    Ok(shared::<R, State, G>(rt, alloc, sections, tries, 64, gate)?)
 }
 
 /// Runs of scripts that are drawn by lot, with 1, 3 and 100 tries in turn, each replayed.
