@@ -1,7 +1,7 @@
 -- What the bodies of commuting know at their answers.
 use Rattle.camp_seq.proofs.GatherSteps.{length-passes}
 use Rattle.camp_catch.specs.Inside.Pairs.{JoinsBehindEffects}
-use Rattle.camp_catch.proofs.Words.{IfOk, List, None, Option, Result, Some, [], ap, arith, inl, inr, length, refl, sym, ◌∙◌, ◌∷◌, ◌≡◌, ◌≤◌, IfOk-weaker, empty_of_len, get, get-empty, len, remove, FindsPair, key_cmp, Key, Named, PassesAll, ContextedPatch, ContextedPatches, bare, context_key, patch_key, CommuteConflictors, CommutePlainConflictor, ConflictDissolves, OneOfSeveralConflicts, OnlyConflictGoes, PlainLeavesTheSet, PlainPastConflictor, TwoConflictorsApart, Catch, Conflictor}
+use Rattle.camp_catch.proofs.Words.{Bool, IfOk, List, None, Option, Result, Some, [], ap, arith, eqb-true, inl, inr, length, refl, sym, true, ◌==◌, ◌∙◌, ◌∷◌, ◌≡◌, ◌≤◌, nil_from_length, IfOk-weaker, empty_of_len, get, get-empty, len, remove, FindsPair, key_cmp, Key, Named, PassesAll, ContextedPatch, ContextedPatches, bare, context_key, patch_key, CommuteConflictors, CommutePlainConflictor, ConflictDissolves, OneOfSeveralConflicts, OnlyConflictGoes, PlainLeavesTheSet, PlainPastConflictor, TwoConflictorsApart, Catch, Conflictor}
 use Rattle.camp_catch.proofs.CommuteCases.{its_only, lacks_its_only, not_none, only_is_one}
 
 -- what one relation finds, another finds that has the same results
@@ -87,3 +87,7 @@ length-passes_all (p ∷ r) s s' r' w = length-passes p w.0 s' w.1 w.4 ∙ lengt
 -- what is the same as a patch without a context has none
 pub no_context : (x : ContextedPatch) (a : Named) → x ≡ bare a → x ≡ bare x.patch
 no_context x a is = is ∙ ap (λ (y : ContextedPatch). bare y.patch) (sym is)
+
+-- a list whose length tests as 0
+pub is_nothing : (s items : List Named) (test : Bool) → test ≡ (length items == 0) → test ≡ true → items ≡ s → s ≡ []
+is_nothing s items test is counts same = sym same ∙ nil_from_length items (eqb-true _ _ (sym is ∙ counts))

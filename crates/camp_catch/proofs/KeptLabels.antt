@@ -16,8 +16,7 @@ all_passed_labels [] s s' r' w = ap (map label_of) w.0
 all_passed_labels (p ∷ r) s s' r' w = passed_labels p w.0 s' w.1 w.4 ∙ all_passed_labels r s w.0 w.2 w.3
 
 passed_by_all_key : (r : List Named) (b b' : Named) (left : List Named) → PassesAll r (b ∷ []) (b' ∷ []) left → patch_key b' ≡ patch_key b
-passed_by_all_key r b b' left w =
-    ap key_of (same_alone _ _ (all_passed_labels r (b ∷ []) (b' ∷ []) left w))
+passed_by_all_key r b b' left w = ap key_of (same_alone _ _ (all_passed_labels r (b ∷ []) (b' ∷ []) left w))
 
 merged_key : (a : Named) (s s' : List Named) (a' : Named) → MergesOne a s s' a' → patch_key a' ≡ patch_key a
 merged_key a s s' a' w = passed_key (inverse_of a) s s' (inverse_of a') (row_passes a s s' a' w)

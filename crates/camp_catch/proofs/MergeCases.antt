@@ -85,8 +85,7 @@ plain_and_conflictor a k =
     either (λ x y. cases_exclude.plain_and_conflictor a k x.0 x.1 y.0 y.1) (plain_beside_conflictor a k) (plain_joins_conflictor a k)
 
 mirror : (j : Conflictor) (b : Named) → IsDetermined (Mirror j b)
-mirror j b =
-    made_of (plain_and_conflictor b j) (λ x. (x.1, x.0)) (λ x w. w) (λ pair c. ((pair.1, pair.0), c, refl))
+mirror j b = made_of (plain_and_conflictor b j) (λ x. (x.1, x.0)) (λ x w. w) (λ pair c. ((pair.1, pair.0), c, refl))
 
 -- merging is determined
 pub merging : (j k : Catch) → IsDetermined (MergeCatch j k)

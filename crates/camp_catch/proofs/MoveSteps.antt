@@ -64,9 +64,6 @@ names_decide m name =
     let seen = contains_key-keys m name in
     (λ e. Contains-from_any (tells_apart (slice_cmp-IsAntisymmetric nat_cmp-IsAntisymmetric)) name (keys m) (sym seen ∙ e), λ c. seen ∙ list_any-from_Contains (eq_by_cmp_equiv nat_list_cmp_total) name (keys m) c)
 
-joined : (first : List Catch) (k : Catch) (t : List Catch) → (first ++ k ∷ []) ++ t ≡ first ++ k ∷ t
-joined first k t = append_assoc first (k ∷ []) t
-
 -- of a whole list, `first` is in front and `rest` behind it, and how it is arranged depends on what is still to come
 pub record IsArrangedUpTo (names : List (List ℕ)) (whole first rest list : List Catch) : Type 0 where
   pub goes : (t others : List Catch) → ArrangesBehind names rest list t others → Arrange names whole (first ++ t) others
@@ -76,7 +73,7 @@ pub arranged_with_other : {names : List (List ℕ)} {whole first rest list : Lis
 arranged_with_other up not = record { goes = λ t others w. up.goes t others (inr (not, w)); sticks = λ patch on w. up.sticks patch on (inr (inr (not, w))) }
 
 pub arranged_with_named : {names : List (List ℕ)} {whole first rest rest' list : List Catch} {k : Catch} (k' : Catch) → IsArrangedUpTo names whole first rest (k ∷ list) → IsOf names k → ComesBefore rest k k' rest' → IsArrangedUpTo names whole (first ++ k' ∷ []) rest' list
-arranged_with_named {first = first} k' up is come = record { goes = λ t others w. rw (joined first k' t) (up.goes (k' ∷ t) others (inl (is, (k', _, t, come, w, refl)))); sticks = λ patch on w. up.sticks patch on (inr (inl (is, (k', _, come, w)))) }
+arranged_with_named {first = first} k' up is come = record { goes = λ t others w. rw (append_assoc first (k' ∷ []) t) (up.goes (k' ∷ t) others (inl (is, (k', _, t, come, w, refl)))); sticks = λ patch on w. up.sticks patch on (inr (inl (is, (k', _, come, w)))) }
 
 -- of a whole list, `front` is in order, and how it is aligned depends on the catches behind and the rest of the order
 pub record IsAlignedUpTo (all : List Key) (whole front : List Catch) (order : List Key) (back : List Catch) : Type 0 where
@@ -84,13 +81,13 @@ pub record IsAlignedUpTo (all : List Key) (whole front : List Catch) (order : Li
   pub sticks : (stuck : Key) → AlignSticks order back stuck → AlignSticks all whole stuck
 
 pub aligned_with : {all order : List Key} {whole front back others : List Catch} {key : Key} (k' : Catch) → IsAlignedUpTo all whole front (key ∷ order) back → ComesFirst key back k' others → IsAlignedUpTo all whole (front ++ k' ∷ []) order others
-aligned_with {front = front} k' up come = record { goes = λ t w. rw (joined front k' t) (up.goes (k' ∷ t) (k', _, t, come, w, refl)); sticks = λ stuck w. up.sticks stuck (inr (k', _, come, w)) }
+aligned_with {front = front} k' up come = record { goes = λ t w. rw (append_assoc front (k' ∷ []) t) (up.goes (k' ∷ t) (k', _, t, come, w, refl)); sticks = λ stuck w. up.sticks stuck (inr (k', _, come, w)) }
 
 -- the next catch of the order has come to its place
 pub aligned_more : {all order : List Key} {whole : List Catch} {key : Key} (s now xs : List Catch) (at : ℕ) → at ≤ length s → ComesFirstInPlace key (drop at s) now → xs ≡ take at s ++ now → IsAlignedUpTo all whole (take at s) (key ∷ order) (drop at s) → (at + 1 ≤ length xs) × IsAlignedUpTo all whole (take (at + 1) xs) order (drop (at + 1) xs)
 aligned_more s now xs at within (k', others, come, now_is) xs_is up =
     let front : List Catch = take at s ++ k' ∷ [] in
-    let is : xs ≡ front ++ others = xs_is ∙ ap (λ x. take at s ++ x) now_is ∙ sym (joined (take at s) k' others) in
+    let is : xs ≡ front ++ others = xs_is ∙ ap (λ x. take at s ++ x) now_is ∙ sym (append_assoc (take at s) (k' ∷ []) others) in
     let long : length front ≡ at + 1 = length_push (take at s) k' ∙ ap (λ n. n + 1) (length-take-le at s within) in
     let count : length xs ≡ length front + length others = ap length is ∙ length-append front others in
     (omega arith, rw (is, take_at front others (at + 1) long, drop_at front others (at + 1) long) (aligned_with k' up come))

@@ -81,8 +81,7 @@ passes_by a old effect =
     becomes old effect (one_add a) (add_exists a) (record { one = one_passing_by a old.identity; decided = passing_by_or_not a old.identity })
 
 pub all_added_to : (r s : List Named) (old : Conflictor) → Determined (Becomes (λ t. t ≡ s) (AddsAll r) (AddsAll r) old)
-all_added_to r s old =
-    becomes old (just s) (one_add_of_all r) (add_of_all_exists r) (adds_all r old.identity)
+all_added_to r s old = becomes old (just s) (one_add_of_all r) (add_of_all_exists r) (adds_all r old.identity)
 
 pub all_pass_by : (r s : List Named) (old : Conflictor) → Determined (Becomes (λ t. t ≡ s) (AddsAll r) (PassesByAll r) old)
 all_pass_by r s old =

@@ -4,8 +4,7 @@ use Rattle.camp_catch.proofs.PartsDetermined.{comes_before}
 use Rattle.camp_catch.proofs.commuting.conflictor_past_plain.Goals as goal
 
 pub returns-in_default : goal.returns-in_default
-returns-in_default c =
-    λ pair w. (rw c.in_default.is at c.in_ok-behind.ensures) (w.b', w.left) w.passes
+returns-in_default c = λ pair w. (rw c.in_default.is at c.in_ok-behind.ensures) (w.b', w.left) w.passes
 
 pub returns-in-None : goal.returns-in-None
 returns-in-None c =

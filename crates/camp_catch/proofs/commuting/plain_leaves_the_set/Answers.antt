@@ -2,8 +2,7 @@ use Rattle.camp_catch.proofs.Words.{ap, Catch}
 use Rattle.camp_catch.proofs.commuting.plain_leaves_the_set.Goals as goal
 
 pub returns-in_default : goal.returns-in_default
-returns-in_default c =
-    λ pair w. (rw c.in_default.is at c.in_ok-found.ensures) w.rest w.front
+returns-in_default c = λ pair w. (rw c.in_default.is at c.in_ok-found.ensures) w.rest w.front
 
 pub returns : goal.returns
 returns c =

@@ -4,8 +4,7 @@ use Rattle.camp_catch.proofs.PartsDetermined.{one_passes}
 use Rattle.camp_catch.proofs.commuting.plain_past_conflictor.Goals as goal
 
 pub returns-in_default : goal.returns-in_default
-returns-in_default c =
-    λ pair w. (rw c.in_default.is at c.in_ok-behind.ensures.exact) (w.passed, w.a') w.passes
+returns-in_default c = λ pair w. (rw c.in_default.is at c.in_ok-behind.ensures.exact) (w.passed, w.a') w.passes
 
 pub returns-in-None : goal.returns-in-None
 returns-in-None c =

@@ -2,8 +2,7 @@ use Rattle.camp_catch.proofs.Words.{subst, one_split, PassesAll}
 use Rattle.camp_catch.proofs.conflictors.effects_pass.Goals as goal
 
 pub returns-in_default : goal.returns-in_default
-returns-in_default c =
-    λ pair w. (rw c.in_default.is at c.in_ok-parts.ensures) (w.common, w.rr) w.split
+returns-in_default c = λ pair w. (rw c.in_default.is at c.in_ok-parts.ensures) (w.common, w.rr) w.split
 
 pub returns-in_default-passed : goal.returns-in_default-passed
 returns-in_default-passed c =

@@ -2,8 +2,7 @@ use Rattle.std.proofs.Common.{refl}
 use Rattle.camp_catch.proofs.conflictors.joins_behind_effects.Goals as goal
 
 pub returns-in_default : goal.returns-in_default
-returns-in_default c =
-    λ pair w. (rw c.in_default.is at c.in_ok-passed.ensures) (w.effect, w.rr') w.effects
+returns-in_default c = λ pair w. (rw c.in_default.is at c.in_ok-passed.ensures) (w.effect, w.rr') w.effects
 
 pub returns : goal.returns
 returns c =

@@ -8,8 +8,7 @@ returns-then-not-lacks_key c = λ pair w.
     told_not _ c.if-not-lacks_key.true (rw (c.items.ensures.exact, c.context.ensures.exact, c.key.ensures.exact) at c.lacks_key.ensures) w.unseen
 
 pub returns-in_default : goal.returns-in_default
-returns-in_default c =
-    λ pair w. (rw c.in_default.is at c.in_ok-passed.ensures) (w.effect, w.rr') w.effects
+returns-in_default c = λ pair w. (rw c.in_default.is at c.in_ok-passed.ensures) (w.effect, w.rr') w.effects
 
 pub returns-in_default-found : goal.returns-in_default-found
 returns-in_default-found c =

@@ -1,6 +1,6 @@
-use Rattle.camp_catch.proofs.Words.{subst, sym, IfOk-weaker, Adds}
+use Rattle.std.proofs.lemmas.Result.{IfOk-weaker}
 use Rattle.camp_catch.proofs.seen.one_before.Goals as goal
 
 pub returns : goal.returns
 returns c =
-    IfOk-weaker c.set_before.result _ _ (λ made w. record { effect = w.effect; conflicts = w.conflicts; identity = subst (Adds c.args.a.now c.args.k.now.identity) (sym w.identity) c.in_ok-identity.ensures.exact }) c.set_before.ensures
+    IfOk-weaker c.set_before.result _ _ (λ made w. record { effect = w.effect; conflicts = w.conflicts; identity = rw w.identity c.in_ok-identity.ensures.exact }) c.set_before.ensures
