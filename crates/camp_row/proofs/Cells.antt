@@ -1,11 +1,5 @@
 -- The cells of a chain: no two entries have one, and the word that names the last tells the chain among its fronts.
-use Rattle.std.proofs.Common.{◌≡◌, ◌≢◌, ℕ, suc, ◌+◌, ◌<◌, ◌≤◌, ◌⊎◌, inl, inr, List, [], ◌∷◌, ◌++◌, length, ◌==◌, sym, refl, ap, ◌∙◌, subst, arith, length-append}
-use Rattle.std.proofs.lemmas.List.{append-nil, append_assoc, append_cancel_left}
-use Rattle.std.proofs.lemmas.List.Elements.{filter-append}
-use Rattle.std.proofs.lemmas.Bool.{eq-eqb, ne_eqb, cond-true, cond-false}
-use Rattle.std.proofs.lemmas.Nat.{same_from_place}
-use Rattle.camp_row.specs.declared.entries.Entry.{Entry}
-use Rattle.camp_row.specs.Chains.{IsFront, own, turns, cell_of, head_after, head_word, Fits}
+use Rattle.camp_row.proofs.Words.{◌≡◌, ◌≢◌, ℕ, suc, ◌+◌, ◌<◌, ◌≤◌, ◌⊎◌, inl, inr, List, [], ◌∷◌, ◌++◌, length, ◌==◌, sym, refl, ap, ◌∙◌, subst, arith, length-append, append-nil, append_assoc, append_cancel_left, filter-append, eq-eqb, ne_eqb, cond-true, cond-false, same_from_place, Entry, IsFront, own, turns, cell_of, head_after, head_word, Fits}
 use Rattle.camp_row.proofs.Fronts.{front_cases, cut_longer, cut_push, fronts_meet, next_is}
 
 pub own-append : (seat : ℕ) (xs ys : List Entry) → own seat (xs ++ ys) ≡ own seat xs ++ own seat ys

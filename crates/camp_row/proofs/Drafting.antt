@@ -1,15 +1,5 @@
 -- Stores to a seat's next cell keep the rule: that cell is not in the chain, and no other seat's.
-use Rattle.std.proofs.Common.{◌≡◌, ◌≢◌, ℕ, ◌+◌, ◌*◌, ◌<◌, List, [], ◌∷◌, ◌++◌, length, sym, refl, ap, ◌∙◌, subst, arith, set, get_or}
-use Rattle.std.proofs.lemmas.List.{get_or-set_same, get_or-set_other, length-set}
-use Rattle.std.proofs.lemmas.Nat.{same_from_place, row_fits}
-use mathlib.Core.Option.{some}
-use lib.ListN.{get_elem?}
-use Rattle.camp_row.specs.declared.entries.Entry.{Entry}
-use Rattle.camp_row.specs.declared.knowledge.Knowledge.{Knowledge}
-use Rattle.camp_row.specs.Chains.{turns, cell_of, head_word}
-use Rattle.camp_row.specs.Inside.Parts.{Part}
-use Rattle.camp_row.specs.Inside.Rule.{parent_word, place_word, Holds, IsRuled}
-use Rattle.camp_row.specs.Inside.Steps.{StoredParent, StoredPlace}
+use Rattle.camp_row.proofs.Words.{◌≡◌, ◌≢◌, ℕ, ◌+◌, ◌*◌, ◌<◌, List, [], ◌∷◌, ◌++◌, length, sym, refl, ap, ◌∙◌, subst, arith, set, get_or, get_or-set_same, get_or-set_other, length-set, same_from_place, row_fits, some, get_elem?, Entry, Knowledge, turns, cell_of, head_word, Part, parent_word, place_word, Holds, IsRuled, StoredParent, StoredPlace}
 use Rattle.camp_row.proofs.Cells.{turns_cut}
 use Rattle.camp_row.proofs.Ruling.{Owes, only, knows, keep_one, holds_other}
 

@@ -1,7 +1,5 @@
 -- Fronts of lists, and lists cut at an element.
-use Rattle.std.proofs.Common.{arith, length, length-append, ◌≡◌, ◌⊎◌, inl, inr, List, [], ◌∷◌, ◌++◌, sym, refl, ap, ◌∙◌}
-use Rattle.std.proofs.lemmas.List.{append-nil, append_assoc, append_cancel_left}
-use Rattle.camp_row.specs.Chains.{IsFront, IsShorter}
+use Rattle.camp_row.proofs.Words.{arith, length, length-append, ◌≡◌, ◌⊎◌, inl, inr, List, [], ◌∷◌, ◌++◌, sym, refl, ap, ◌∙◌, append-nil, append_assoc, append_cancel_left, IsFront, IsShorter}
 
 module _ {A : Type 0} where
   pub cons_head : (x y : A) (xs ys : List A) → x ∷ xs ≡ y ∷ ys → x ≡ y

@@ -9,3 +9,4 @@ pub mod Publishing
 pub mod Ruling
 pub mod TrailPlaces
 pub mod TrailSteps
+pub mod Words

@@ -1,12 +1,5 @@
 -- Loads keep the rule, and tell what `specs/Inside/Steps` says.
-use Rattle.std.proofs.Common.{◌≡◌, ℕ, ◌+◌, ◌*◌, ◌<◌, List, [], ◌∷◌, ◌++◌, length, cond, ◌==◌, sym, refl, ap, ◌∙◌, subst, arith, set, slice_index, All, map}
-use Rattle.std.proofs.lemmas.List.Elements.{All-weaker, All-map}
-use Rattle.camp_row.specs.declared.entries.Entry.{Entry}
-use Rattle.camp_row.specs.declared.knowledge.Knowledge.{Knowledge}
-use Rattle.camp_row.specs.Chains.{IsShorter, own, turns, cell_of, head_word, Fits}
-use Rattle.camp_row.specs.Inside.Parts.{Part, parts_of, finds, IsSoundPart}
-use Rattle.camp_row.specs.Inside.Rule.{place_word, Holds, Knows, IsRuled}
-use Rattle.camp_row.specs.Inside.Steps.{Sees, Looked, Walked, Advanced}
+use Rattle.camp_row.proofs.Words.{◌≡◌, ℕ, ◌+◌, ◌*◌, ◌<◌, List, [], ◌∷◌, ◌++◌, length, cond, ◌==◌, sym, refl, ap, ◌∙◌, subst, arith, set, slice_index, All, map, All-weaker, All-map, Entry, Knowledge, IsShorter, own, turns, cell_of, head_word, Fits, Part, parts_of, finds, IsSoundPart, place_word, Holds, Knows, IsRuled, Sees, Looked, Walked, Advanced}
 use Rattle.camp_row.proofs.Fronts.{front_refl, cut_longer, cut_pushed}
 use Rattle.camp_row.proofs.Cells.{own_of_next}
 use Rattle.camp_row.proofs.Ruling.{Owes, only, one_at, parts_of-cons, keep, word_same, knows, keep_words}

@@ -1,15 +1,5 @@
 -- Two passes that find one chain.
-use Rattle.std.proofs.Common.{subst, ◌≡◌, ◌≢◌, inl, inr, ℕ, ◌+◌, ◌≤◌, List, [], ◌∷◌, All, map, sym, ap, ◌∙◌, arith}
-use Rattle.std.proofs.lemmas.List.Elements.{All-head, All-tail, All-same}
-use Rattle.atomic_table.specs.declared.shared.Seat.{Seat}
-use Rattle.camp_row.specs.declared.entries.Entry.{Entry}
-use Rattle.camp_row.specs.declared.knowledge.Knowledge.{Knowledge}
-use Rattle.camp_row.specs.declared.passes.Pass.TheInside.{Inside as PassInside}
-use Rattle.camp_row.specs.Chains.{IsFront}
-use Rattle.camp_row.specs.Known.{Known, FindsChain, OneBegins}
-use Rattle.camp_row.specs.Inside.Parts.{Part, part_of, known_of, parts_of, finds}
-use Rattle.camp_row.specs.Inside.PassFields.{part, known, IsPass}
-use Rattle.camp_row.specs.Inside.Steps.{Sees, Looked}
+use Rattle.camp_row.proofs.Words.{subst, ◌≡◌, ◌≢◌, inl, inr, ℕ, ◌+◌, ◌≤◌, List, [], ◌∷◌, All, map, sym, ap, ◌∙◌, arith, All-head, All-tail, All-same, Seat, Entry, Knowledge, PassInside, IsFront, Known, FindsChain, OneBegins, Part, part_of, known_of, parts_of, finds, part, known, IsPass, Sees, Looked}
 use Rattle.camp_row.proofs.Fronts.{fronts_meet, shorter_front}
 use Rattle.camp_row.proofs.Ruling.{parts_of-self}
 use Rattle.camp_row.proofs.PassOfRow.{at_part, known_at}

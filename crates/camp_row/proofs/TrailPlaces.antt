@@ -1,16 +1,5 @@
 -- A place of a trail, before the entries that lie before it are seen.
-use Rattle.std.proofs.Common.{◌≡◌, ℕ, zero, suc, ◌+◌, ◌-◌, ◌*◌, ◌%◌, ◌<◌, List, [], ◌∷◌, ◌++◌, length, slice_get, Some, sym, refl, ap, ◌∙◌, subst, arith, length-append}
-use Rattle.std.proofs.lemmas.List.{append-nil, append_assoc}
-use Rattle.std.proofs.lemmas.Option.{same_Some}
-use Rattle.std.proofs.lemmas.Nat.{mod-mul-add}
-use Rattle.camp_row.specs.declared.entries.Entry.{Entry}
-use Rattle.camp_row.specs.declared.passes.Pass.TheInside.{Inside as PassInside}
-use Rattle.camp_row.specs.declared.rows.Row.TheInside.{Inside as RowInside}
-use Rattle.camp_row.specs.Chains.{turns, cell_of}
-use Rattle.camp_row.specs.Known.{RowId, Known, Leads, cells_back}
-use Rattle.camp_row.specs.Inside.Parts.{Part, IsSoundPart}
-use Rattle.camp_row.specs.Inside.PassFields.{part, known}
-use Rattle.camp_row.specs.Inside.RowFields.{id_of}
+use Rattle.camp_row.proofs.Words.{◌≡◌, ℕ, zero, suc, ◌+◌, ◌-◌, ◌*◌, ◌%◌, ◌<◌, List, [], ◌∷◌, ◌++◌, length, slice_get, Some, sym, refl, ap, ◌∙◌, subst, arith, length-append, append-nil, append_assoc, same_Some, mod-mul-add, Entry, PassInside, RowInside, turns, cell_of, RowId, Known, Leads, cells_back, Part, IsSoundPart, part, known, id_of}
 use Rattle.camp_row.proofs.PassOfRow.{IsOf, is_of, cell_below}
 use Rattle.camp_row.proofs.TrailSteps.{length-cells_back}
 

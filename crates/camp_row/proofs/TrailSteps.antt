@@ -1,15 +1,5 @@
 -- A trail, popped and pushed.
-use Rattle.std.proofs.Common.{◌≡◌, ◌≢◌, ℕ, ◌+◌, ◌-◌, ◌*◌, ◌%◌, ◌<◌, List, [], ◌∷◌, ◌++◌, length, sym, refl, ap, ◌∙◌, subst, inl, inr, arith, length-append}
-use Rattle.std.proofs.lemmas.List.{same_from_push, append-nil, append_assoc, length_push}
-use Rattle.std.proofs.lemmas.Nat.{mod-mul-add}
-use Rattle.atomic_table.specs.Seated.{TableId}
-use Rattle.camp_row.specs.declared.entries.Entry.{Entry}
-use Rattle.camp_row.specs.declared.passes.Pass.TheInside.{Inside as PassInside}
-use Rattle.camp_row.specs.declared.rows.Row.TheInside.{Inside as RowInside}
-use Rattle.camp_row.specs.Chains.{IsFront, turns, cell_of, head_word}
-use Rattle.camp_row.specs.Known.{Known, ComesNext, Leads, cells_back}
-use Rattle.camp_row.specs.Inside.Parts.{Part, known_of, IsSoundPart}
-use Rattle.camp_row.specs.Inside.PassFields.{part, known}
+use Rattle.camp_row.proofs.Words.{◌≡◌, ◌≢◌, ℕ, ◌+◌, ◌-◌, ◌*◌, ◌%◌, ◌<◌, List, [], ◌∷◌, ◌++◌, length, sym, refl, ap, ◌∙◌, subst, inl, inr, arith, length-append, same_from_push, append-nil, append_assoc, length_push, mod-mul-add, TableId, Entry, PassInside, RowInside, IsFront, turns, cell_of, head_word, Known, ComesNext, Leads, cells_back, Part, known_of, IsSoundPart, part, known}
 use Rattle.camp_row.proofs.Fronts.{no_cut, cut_pushed, cut_longer}
 use Rattle.camp_row.proofs.Cells.{next_is_others, head_word-push, same_front, last_cases}
 use Rattle.camp_row.proofs.PassOfRow.{IsOf, cell_below}

@@ -1,11 +1,4 @@
-use Rattle.std.proofs.Common.{arith, ◌≡◌, ◌+◌, ◌∷◌, [], ◌++◌, sym, ap, ◌∙◌, length}
-use Rattle.camp_row.specs.declared.entries.Entry.{Entry}
-use Rattle.camp_row.specs.Chains.{own, cell_of}
-use Rattle.camp_row.specs.Known.{Known}
-use Rattle.camp_row.specs.Inside.Parts.{Part, known_of}
-use Rattle.camp_row.specs.Inside.PassFields.{part, known}
-use Rattle.camp_row.specs.Inside.Rule.{place_word}
-use Rattle.camp_row.specs.Inside.Steps.{Advanced}
+use Rattle.camp_row.proofs.Words.{arith, ◌≡◌, ◌+◌, ◌∷◌, [], ◌++◌, sym, ap, ◌∙◌, length, Entry, own, cell_of, Known, Part, known_of, part, known, place_word, Advanced}
 use Rattle.camp_row.proofs.Fronts.{next_is, cut_pushed}
 use Rattle.camp_row.proofs.Cells.{own_of_next, head_word-push}
 use Rattle.camp_row.proofs.Ruling.{allows_one}

@@ -1,5 +1,4 @@
-use Rattle.std.proofs.Common.{◌≡◌, ◌+◌, ◌≤◌, length, take}
-use Rattle.camp_row.specs.Known.{Leads}
+use Rattle.camp_row.proofs.Words.{◌≡◌, ◌+◌, ◌≤◌, length, take, Leads}
 use Rattle.camp_row.proofs.rows.Row.advance_by.Given as goal
 
 abbrev pub invariant-loop : goal.invariant-loop

@@ -1,7 +1,5 @@
-use Rattle.std.proofs.Common.{arith, ◌≡◌, ◌<◌, ◌+◌, ◌*◌, ◌∷◌, [], ◌++◌, refl, sym, ap, subst, ◌∙◌, zero-add}
+use Rattle.camp_row.proofs.Words.{arith, ◌≡◌, ◌<◌, ◌+◌, ◌*◌, ◌∷◌, [], ◌++◌, refl, sym, ap, subst, ◌∙◌, zero-add, RowId, newcomer, part_of, known_of, fresh}
 use Rattle.std.proofs.lemmas.List.FromFn.{map-range_with_len_more}
-use Rattle.camp_row.specs.Known.{RowId, newcomer}
-use Rattle.camp_row.specs.Inside.Parts.{part_of, known_of, fresh}
 use Rattle.camp_row.proofs.Fronts.{front_nil, no_cut}
 use Rattle.camp_row.proofs.Dealing.{splits, first_left}
 use Rattle.camp_row.proofs.PassOfRow.{at_part}

@@ -1,7 +1,4 @@
-use Rattle.std.proofs.Common.{◌≡◌, ◌-◌, map}
-use Rattle.std.specs.List.{range_with_len}
-use Rattle.camp_row.specs.Known.{newcomer}
-use Rattle.camp_row.specs.Inside.Parts.{fresh}
+use Rattle.camp_row.proofs.Words.{◌≡◌, ◌-◌, map, range_with_len, newcomer, fresh}
 use Rattle.camp_row.proofs.rows.Row.deal.Given as goal
 
 abbrev pub invariant-loop-number : goal.invariant-loop-number

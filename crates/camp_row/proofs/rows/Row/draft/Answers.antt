@@ -1,8 +1,4 @@
-use Rattle.std.proofs.Common.{arith, ◌≡◌, ◌∷◌, [], ap, ◌∙◌}
-use Rattle.camp_row.specs.Inside.Parts.{Part}
-use Rattle.camp_row.specs.Inside.PassFields.{part}
-use Rattle.camp_row.specs.Inside.Rule.{parent_word, place_word}
-use Rattle.camp_row.specs.Inside.Steps.{StoredParent, StoredPlace}
+use Rattle.camp_row.proofs.Words.{arith, ◌≡◌, ◌∷◌, [], ap, ◌∙◌, Part, part, parent_word, place_word, StoredParent, StoredPlace}
 use Rattle.camp_row.proofs.Ruling.{allows_one}
 use Rattle.camp_row.proofs.Drafting.{drafts_parent, drafts_place}
 use Rattle.camp_row.proofs.PassOfRow.{is_of, row_words, own_at, room_at}

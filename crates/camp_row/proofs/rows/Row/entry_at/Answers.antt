@@ -1,10 +1,4 @@
-use Rattle.std.proofs.Common.{arith, ◌≡◌, ◌%◌, ◌+◌, ◌-◌, sym, ap, subst, ◌∙◌, length, slice_get, Some}
-use Rattle.std.proofs.lemmas.Option.{slice_get_read}
-use Rattle.camp_row.specs.declared.entries.Entry.{Entry}
-use Rattle.camp_row.specs.Known.{Known}
-use Rattle.camp_row.specs.Inside.Rule.{place_word}
-use Rattle.camp_row.specs.Inside.Steps.{Walked}
-use Rattle.camp_row.specs.Inside.PassFields.{part}
+use Rattle.camp_row.proofs.Words.{arith, ◌≡◌, ◌%◌, ◌+◌, ◌-◌, sym, ap, subst, ◌∙◌, length, slice_get, Some, slice_get_read, Entry, Known, place_word, Walked, part}
 use Rattle.camp_row.proofs.Ruling.{allows_one}
 use Rattle.camp_row.proofs.Loading.{walks}
 use Rattle.camp_row.proofs.PassOfRow.{is_of, few_cells}

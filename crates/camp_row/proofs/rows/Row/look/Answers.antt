@@ -1,5 +1,4 @@
-use Rattle.std.proofs.Common.{arith, ◌<◌}
-use Rattle.camp_row.specs.Inside.Steps.{Looked}
+use Rattle.camp_row.proofs.Words.{arith, ◌<◌, Looked}
 use Rattle.camp_row.proofs.Ruling.{allows}
 use Rattle.camp_row.proofs.Loading.{looks}
 use Rattle.camp_row.proofs.PassOfRow.{is_of}

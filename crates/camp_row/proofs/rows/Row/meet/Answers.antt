@@ -1,9 +1,4 @@
-use Rattle.std.proofs.Common.{subst, arith, ◌≡◌, ◌<◌, ◌∷◌, [], ◌++◌, sym, ap, ◌∙◌, take, drop}
-use Rattle.camp_row.specs.Chains.{IsFront}
-use Rattle.camp_row.specs.Known.{Known, FindsChain}
-use Rattle.camp_row.specs.Inside.Parts.{part_of, known_of}
-use Rattle.camp_row.specs.Inside.PassFields.{part}
-use Rattle.camp_row.specs.Inside.Steps.{Looked}
+use Rattle.camp_row.proofs.Words.{subst, arith, ◌≡◌, ◌<◌, ◌∷◌, [], ◌++◌, sym, ap, ◌∙◌, take, drop, IsFront, Known, FindsChain, part_of, known_of, part, Looked}
 use Rattle.camp_row.proofs.Ruling.{allows}
 use Rattle.camp_row.proofs.Loading.{looks}
 use Rattle.camp_row.proofs.Dealing.{splits, joins}

@@ -1,7 +1,4 @@
-use Rattle.std.proofs.Common.{◌≡◌, ◌+◌, ◌*◌, ◌∷◌, [], sym, subst, ◌∙◌, replicate}
-use Rattle.camp_row.specs.declared.knowledge.Knowledge.{Knowledge}
-use Rattle.camp_row.specs.Inside.Parts.{all_fresh}
-use Rattle.camp_row.specs.Inside.Rule.{IsRuled}
+use Rattle.camp_row.proofs.Words.{◌≡◌, ◌+◌, ◌*◌, ◌∷◌, [], sym, subst, ◌∙◌, replicate, Knowledge, all_fresh, IsRuled}
 use Rattle.camp_row.proofs.Dealing.{opens}
 use Rattle.camp_row.proofs.rows.Row.new.Goals as goal
 

@@ -1,12 +1,4 @@
-use Rattle.std.proofs.Common.{arith, ◌≡◌, ◌==◌, ◌<◌, ◌+◌, ◌++◌, ◌∷◌, [], subst, refl, sym, ap, ◌∙◌}
-use Rattle.std.proofs.lemmas.Bool.{eq-eqb, MatchBool-at_true}
-use prog.Atomic.{either}
-use Rattle.camp_row.specs.declared.entries.Entry.{Entry}
-use Rattle.camp_row.specs.Chains.{head_word}
-use Rattle.camp_row.specs.Known.{IsDrafted}
-use Rattle.camp_row.specs.Inside.Parts.{Part}
-use Rattle.camp_row.specs.Inside.PassFields.{part}
-use Rattle.camp_row.specs.Inside.Steps.{drafted_part, won_part, WonPart, LostPart, Tried}
+use Rattle.camp_row.proofs.Words.{arith, ◌≡◌, ◌==◌, ◌<◌, ◌+◌, ◌++◌, ◌∷◌, [], subst, refl, sym, ap, ◌∙◌, eq-eqb, MatchBool-at_true, either, Entry, head_word, IsDrafted, Part, part, drafted_part, won_part, WonPart, LostPart, Tried}
 use Rattle.camp_row.proofs.Fronts.{front_refl}
 use Rattle.camp_row.proofs.Cells.{head_word-push, turns_push, fits_push, fits_front}
 use Rattle.camp_row.proofs.Ruling.{allows_one}

@@ -1,11 +1,4 @@
-use Rattle.std.proofs.Common.{arith, ◌≡◌, ◌<◌, ◌+◌, ◌-◌, ◌*◌, ◌∷◌, [], ◌++◌, sym, ap, subst, ◌∙◌, length}
-use Rattle.std.proofs.lemmas.List.{length_push}
-use Rattle.camp_row.specs.Chains.{head_word, cell_of}
-use Rattle.camp_row.specs.Known.{Leads}
-use Rattle.camp_row.specs.Inside.Parts.{Part, part_of, known_of}
-use Rattle.camp_row.specs.Inside.PassFields.{part}
-use Rattle.camp_row.specs.Inside.Rule.{parent_word}
-use Rattle.camp_row.specs.Inside.Steps.{Walked}
+use Rattle.camp_row.proofs.Words.{arith, ◌≡◌, ◌<◌, ◌+◌, ◌-◌, ◌*◌, ◌∷◌, [], ◌++◌, sym, ap, subst, ◌∙◌, length, length_push, head_word, cell_of, Leads, Part, part_of, known_of, part, parent_word, Walked}
 use Rattle.camp_row.proofs.Ruling.{allows_one}
 use Rattle.camp_row.proofs.Loading.{walks}
 use Rattle.camp_row.proofs.PassOfRow.{is_of, few_cells, same_part}

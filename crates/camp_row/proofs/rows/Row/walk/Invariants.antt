@@ -1,5 +1,4 @@
-use Rattle.std.proofs.Common.{◌≡◌, ◌-◌, length}
-use Rattle.camp_row.specs.Inside.PassFields.{part, known, IsPass}
+use Rattle.camp_row.proofs.Words.{◌≡◌, ◌-◌, length, part, known, IsPass}
 use Rattle.camp_row.proofs.TrailSteps.{Climbs}
 use Rattle.camp_row.proofs.rows.Row.walk.Given as goal
 
