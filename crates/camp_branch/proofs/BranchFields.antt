@@ -1,19 +1,6 @@
 -- The fields of a branch: its list grown by what is recorded, and its index.
-use Rattle.std.proofs.Common.{◌≡◌, ◌≤◌, ◌<◌, ℕ, suc, ◌+◌, Bool, true, false, cond, ◌||◌, Option, None, Some, List, [], ◌∷◌, ◌++◌, map, take, length, slice_index_or, is_some, bytes_eq, refl, sym, ap, ◌∙◌, subst, arith}
-use Rattle.std.proofs.lemmas.List.{append-nil, append_assoc, drop_all, length-take-le, map-append, take_all, take_more}
+use Rattle.camp_branch.proofs.Words.{◌≡◌, ◌≤◌, ◌<◌, ℕ, suc, ◌+◌, Bool, true, false, cond, ◌||◌, Option, None, Some, List, [], ◌∷◌, ◌++◌, map, take, length, slice_index_or, is_some, bytes_eq, refl, sym, ap, ◌∙◌, subst, arith, append-nil, append_assoc, drop_all, length-take-le, map-append, take_all, take_more, is_eq-slice_cmp, splice, nat_cmp, eq_by_cmp, slice_cmp, nat_list_cmp_total, FinMap, contains_key, get, empty, get-empty, get-insert, insert, Primitive, FitsAll, Catch, Plain, Files, IsLawfulBranch, LeadsTo, has_patch, is_among, name_of, recorded, AppliesEach}
 use Rattle.std.proofs.lemmas.List.Folds.{list_any-append}
-use Rattle.std.proofs.lemmas.Map.Text.{is_eq-slice_cmp}
-use Rattle.std.specs.List.{splice}
-use Rattle.std.specs.Ordering.{nat_cmp, eq_by_cmp}
-use Rattle.std.specs.Cmp.Lexicographic.{slice_cmp, nat_list_cmp_total}
-use Rattle.std.specs.FinMap.{FinMap, contains_key, get, empty, get-empty, get-insert, insert}
-use Rattle.camp_prim.specs.declared.primitives.Primitive.{Primitive}
-use Rattle.camp_catch.specs.Catches.{FitsAll}
-use Rattle.camp_catch.specs.declared.catches.Catch.{Catch}
-use Rattle.camp_catch.specs.declared.catches.Catch.TheVariants.{Plain}
-use Rattle.camp_base.specs.Trees.{Files}
-use Rattle.camp_branch.specs.Branches.{IsLawfulBranch, LeadsTo, has_patch, is_among, name_of, recorded}
-use Rattle.camp_branch.specs.Laws.{AppliesEach}
 use Rattle.camp_branch.proofs.BranchLabels.{recorded_patches}
 use Rattle.camp_branch.proofs.BranchTrees.{joined_fits, one_end, recorded_tree}
 use Rattle.camp_branch.proofs.EffectSteps.{second_fits}

@@ -1,19 +1,7 @@
 -- The labels and the names of branches, by their patches.
-use Rattle.std.proofs.Common.{◌≡◌, ◌≤◌, ◌==◌, ℕ, zero, suc, ◌+◌, Bool, true, false, not, ◌||◌, cond, List, [], ◌∷◌, ◌++◌, map, filter, length, bytes_eq, Ok, refl, sym, ap, ◌∙◌, subst, inl, inr, arith}
-use Rattle.std.specs.List.{AllByRecursion}
-use Rattle.std.proofs.lemmas.List.{append-nil, append_assoc, map-append}
+use Rattle.camp_branch.proofs.Words.{◌≡◌, ◌≤◌, ◌==◌, ℕ, zero, suc, ◌+◌, Bool, true, false, not, ◌||◌, cond, List, [], ◌∷◌, ◌++◌, map, filter, length, bytes_eq, Ok, refl, sym, ap, ◌∙◌, subst, inl, inr, arith, AllByRecursion, append-nil, append_assoc, map-append, filter-append, Key, Primitive, catch_key, KeysPart, keys_of, Catch, AreDistinct, HasPatches, IsSized, Patch, each_once, has_patch, is_among, labels_from, labels_of, name_of, names_of, patch_names, recorded, others_of, those_of, ObliterateGives, other_names, PullGives, common_names}
 use Rattle.std.proofs.lemmas.Bool.{eqb-true}
-use Rattle.std.proofs.lemmas.List.Elements.{filter-append}
-use Rattle.camp_prim.specs.declared.labels.Key.{Key}
-use Rattle.camp_prim.specs.declared.primitives.Primitive.{Primitive}
-use Rattle.camp_catch.specs.Catches.{catch_key}
-use Rattle.camp_catch.specs.Laws.{KeysPart, keys_of}
-use Rattle.camp_catch.specs.declared.catches.Catch.{Catch}
 use Rattle.camp_catch.proofs.KeptLabels.{keep_labels}
-use Rattle.camp_branch.specs.Branches.{AreDistinct, HasPatches, IsSized, Patch, each_once, has_patch, is_among, labels_from, labels_of, name_of, names_of, patch_names, recorded}
-use Rattle.camp_branch.specs.Laws.{others_of, those_of}
-use Rattle.camp_branch.specs.Obliterating.{ObliterateGives, other_names}
-use Rattle.camp_branch.specs.Pulling.{PullGives, common_names}
 use Rattle.camp_branch.proofs.Names.{all_append, all_filter, distinct_append, distinct_filter, filter_within, is_among_is, name_itself, not_among, not_kept, or_parts, or_true, other_way, passes_is_kept, without_other}
 use Rattle.camp_branch.proofs.Steps.{left_by, pulled_by}
 

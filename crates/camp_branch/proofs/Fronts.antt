@@ -1,16 +1,5 @@
 -- The front of a branch that stays as it is: what stands behind it is arranged alone.
-use Rattle.std.proofs.Common.{◌≡◌, ◌≤◌, ◌+◌, ◌-◌, ◌++◌, ◌&&◌, ℕ, zero, suc, Bool, true, false, not, cond, Ok, Err, List, [], ◌∷◌, take, drop, length, refl, sym, ap, ◌∙◌, subst, inl, inr, arith}
-use Rattle.std.proofs.lemmas.List.{length-drop, take_all}
-use Rattle.std.specs.FinMap.{contains_key, keys}
-use Rattle.std.specs.List.{slice_range}
-use Rattle.camp_prim.specs.declared.labels.Key.{Key}
-use Rattle.camp_catch.specs.Arranging.{Arrange, ArrangeSticks}
-use Rattle.camp_catch.specs.declared.catches.Catch.{Catch}
-use Rattle.camp_branch.specs.Branches.{IsLawfulBranch, has_patch, is_among, name_of}
-use Rattle.camp_branch.specs.Inside.Fronts.{front_of}
-use Rattle.camp_branch.specs.Inside.Stages.{DependsIn}
-use Rattle.camp_branch.specs.Obliterating.{ObliterateGives}
-use Rattle.camp_branch.specs.declared.faults.Blocked.{Blocked}
+use Rattle.camp_branch.proofs.Words.{◌≡◌, ◌≤◌, ◌+◌, ◌-◌, ◌++◌, ◌&&◌, ℕ, zero, suc, Bool, true, false, not, cond, Ok, Err, List, [], ◌∷◌, take, drop, length, refl, sym, ap, ◌∙◌, subst, inl, inr, arith, length-drop, take_all, contains_key, keys, slice_range, Key, Arrange, ArrangeSticks, Catch, IsLawfulBranch, has_patch, is_among, name_of, front_of, DependsIn, ObliterateGives, Blocked}
 use Rattle.camp_branch.proofs.BranchFields.{Names}
 use Rattle.camp_branch.proofs.KeepLawful.{obliterates_keep_lawful}
 use Rattle.camp_branch.proofs.NameSets.{has_listed}

@@ -1,13 +1,5 @@
 -- Sets of names, a name more or less at a time.
-use Rattle.std.proofs.Common.{◌≡◌, ◌<◌, ◌+◌, ℕ, Bool, true, false, not, cond, ◌||◌, ◌&&◌, Option, None, Some, List, [], ◌∷◌, map, drop, length, get_or, is_some, bytes_eq, refl, sym, ap, ◌∙◌}
-use Rattle.std.proofs.lemmas.Map.Text.{is_eq-slice_cmp}
-use Rattle.std.specs.List.{list_any}
-use Rattle.std.specs.Ordering.{nat_cmp, eq_by_cmp}
-use Rattle.std.specs.Cmp.Lexicographic.{slice_cmp, nat_list_cmp_total}
-use Rattle.std.specs.FinMap.{contains_key, contains_key-keys, get, get-remove, insert, remove, keys}
-use Rattle.camp_catch.specs.declared.catches.Catch.{Catch}
-use Rattle.camp_catch.proofs.MoveSteps.{stands_at}
-use Rattle.camp_branch.specs.Branches.{is_among, name_of}
+use Rattle.camp_branch.proofs.Words.{◌≡◌, ◌<◌, ◌+◌, ℕ, Bool, true, false, not, cond, ◌||◌, ◌&&◌, Option, None, Some, List, [], ◌∷◌, map, drop, length, get_or, is_some, bytes_eq, refl, sym, ap, ◌∙◌, is_eq-slice_cmp, list_any, nat_cmp, eq_by_cmp, slice_cmp, nat_list_cmp_total, contains_key, contains_key-keys, get, get-remove, insert, remove, keys, Catch, stands_at, is_among, name_of}
 use Rattle.camp_branch.proofs.BranchFields.{Names, contains_more}
 use Rattle.camp_branch.proofs.Names.{same_name}
 

@@ -1,16 +1,5 @@
 -- The names that a pull, or an obliteration, goes by, and those of what it gives.
-use Rattle.std.proofs.Common.{◌≡◌, ℕ, Bool, true, false, not, cond, ◌||◌, ◌&&◌, List, [], ◌∷◌, map, filter, bytes_eq, Ok, Err, refl, sym, ap, ◌∙◌, subst, inl, inr}
-use Rattle.std.specs.Prelude.{◌↔◌, Contains}
-use Rattle.std.specs.FinMap.{contains_key, keys}
-use Rattle.camp_catch.specs.Arranging.{Arrange}
-use Rattle.camp_catch.specs.declared.catches.Catch.{Catch}
-use Rattle.camp_catch.proofs.ListResults.{arrange_by_members}
-use Rattle.camp_catch.proofs.MoveSteps.{names_decide}
-use Rattle.camp_branch.specs.Branches.{IsLawfulBranch, each_once, has_patch, is_among, name_of, names_of}
-use Rattle.camp_branch.specs.Inside.Stages.{DependsIn}
-use Rattle.camp_branch.specs.Obliterating.{ObliterateGives, other_names}
-use Rattle.camp_branch.specs.Pulling.{common_names}
-use Rattle.camp_branch.specs.declared.faults.Blocked.{Blocked}
+use Rattle.camp_branch.proofs.Words.{◌≡◌, ℕ, Bool, true, false, not, cond, ◌||◌, ◌&&◌, List, [], ◌∷◌, map, filter, bytes_eq, Ok, Err, refl, sym, ap, ◌∙◌, subst, inl, inr, ◌↔◌, Contains, contains_key, keys, Arrange, Catch, arrange_by_members, names_decide, IsLawfulBranch, each_once, has_patch, is_among, name_of, names_of, DependsIn, ObliterateGives, other_names, common_names, Blocked}
 use Rattle.camp_branch.proofs.BranchFields.{Names}
 use Rattle.camp_branch.proofs.KeepLawful.{obliterates_keep_lawful}
 use Rattle.camp_branch.proofs.NameSets.{and_false, and_true}

@@ -1,18 +1,7 @@
 -- A pull comes to one outcome, and so does an obliteration.
-use Rattle.std.proofs.Common.{◌≡◌, ◌⊎◌, ℕ, List, [], ◌∷◌, ◌++◌, Ok, Err, refl, sym, ap, ◌∙◌, subst, inl, inr}
-use Rattle.camp_prim.specs.declared.labels.Key.{Key}
-use Rattle.camp_catch.specs.Arranging.{Arrange, ArrangeSticks, Align, AlignSticks}
-use Rattle.camp_catch.specs.Laws.{keys_of}
+use Rattle.camp_branch.proofs.Words.{◌≡◌, ◌⊎◌, ℕ, List, [], ◌∷◌, ◌++◌, Ok, Err, refl, sym, ap, ◌∙◌, subst, inl, inr, Key, Arrange, ArrangeSticks, Align, AlignSticks, keys_of, MergeLists, MergeSticks, Catch, lists_are_unique, lists_succeed_or_stick, name_of, ExactlyOne, OutcomesAreDetermined, other_names, Outcome, StepThen, SameThen, DiffersAt, common_names, Blocked}
 use Rattle.camp_catch.specs.ListLaws.{GivesOnePair, HasPair, OneOf}
-use Rattle.camp_catch.specs.MergingLists.{MergeLists, MergeSticks}
-use Rattle.camp_catch.specs.declared.catches.Catch.{Catch}
-use Rattle.camp_catch.proofs.ListResults.{lists_are_unique, lists_succeed_or_stick}
 use Rattle.camp_catch.proofs.SameCatches.{catch_or_not}
-use Rattle.camp_branch.specs.Branches.{name_of}
-use Rattle.camp_branch.specs.Laws.{ExactlyOne, OutcomesAreDetermined}
-use Rattle.camp_branch.specs.Obliterating.{other_names}
-use Rattle.camp_branch.specs.Pulling.{Outcome, StepThen, SameThen, DiffersAt, common_names}
-use Rattle.camp_branch.specs.declared.faults.Blocked.{Blocked}
 use Rattle.camp_branch.specs.declared.faults.Blocked.TheVariants.{Diverged}
 
 module _ (Gives : List Catch → List Catch → Type 0) (Sticks : Key → Key → Type 0) (why : Key → Key → Blocked) (Next : List Catch → List Catch → Outcome → Type 0) where

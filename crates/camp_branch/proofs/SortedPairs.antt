@@ -1,21 +1,11 @@
 -- Pairs of names in ascending order.
-use Rattle.std.proofs.Common.{◌≡◌, ◌⊎◌, ◌<◌, ℕ, zero, suc, Bool, ◌&&◌, List, [], ◌∷◌, map, length, get_or, T, is_some, bytes_eq, refl, sym, ap, ◌∙◌, subst, inl, inr, arith}
+use Rattle.camp_branch.proofs.Words.{◌≡◌, ◌⊎◌, ◌<◌, ℕ, zero, suc, Bool, ◌&&◌, List, [], ◌∷◌, map, length, get_or, T, is_some, bytes_eq, refl, sym, ap, ◌∙◌, subst, inl, inr, arith, Contains-from_any, list_any-from_Contains, tells_apart, Contains, AllPairs, dedup, list_any, nat_cmp, ordering_then, eq_by_cmp, IsTotalOrder, both_tied, tied_itself, eq_by_cmp_equiv, on_total, then_total, slice_cmp, nat_list_cmp_total, texts_ties, FinMap, IsAntisymmetric, contains_key-keys, entries, entries_sorted, from_entries, get-from_entries, keys, nat_cmp-IsAntisymmetric, slice_cmp-IsAntisymmetric, Ordering, Less, Equal, Greater, IsBefore}
 use Rattle.std.proofs.lemmas.List.Kept.{Contains-dedup, Contains-from_dedup, IsStrictlySortedBy-dedup}
 use Rattle.std.proofs.lemmas.List.Sorted.{Contains-permutation, IsPermutation-sym}
 use Rattle.std.proofs.lemmas.Map.Keys.{Less-from_sorted}
-use Rattle.std.proofs.lemmas.Map.Views.{Contains-from_any, list_any-from_Contains, tells_apart}
-use Rattle.std.specs.Prelude.{Contains, AllPairs}
-use Rattle.std.specs.List.{dedup, list_any}
 use Rattle.std.specs.List.Sorted.{IsPermutation, IsSorted}
-use Rattle.std.specs.Ordering.{nat_cmp, ordering_then, eq_by_cmp}
-use Rattle.std.specs.Cmp.{IsTotalOrder, both_tied, tied_itself, eq_by_cmp_equiv, on_total, then_total}
-use Rattle.std.specs.Cmp.Lexicographic.{slice_cmp, nat_list_cmp_total, texts_ties}
-use Rattle.std.specs.FinMap.{FinMap, IsAntisymmetric, contains_key-keys, entries, entries_sorted, from_entries, get-from_entries, keys, nat_cmp-IsAntisymmetric, slice_cmp-IsAntisymmetric}
 use Rattle.std.specs.FinMap.Entries.{below_all, is_sorted, is_some-find}
-use Rattle.std.specs.declared.cmp.Ordering.{Ordering}
-use Rattle.std.specs.declared.cmp.Ordering.TheVariants.{Less, Equal, Greater}
 use Rattle.camp_share.proofs.Entries.{first, second, is_less}
-use Rattle.camp_branch.specs.Conflicting.{IsBefore}
 
 -- a pair of names
 abbrev pub Pair : Type 0

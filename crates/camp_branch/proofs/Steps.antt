@@ -1,13 +1,5 @@
 -- The steps of a pull, and of an obliteration, that went through.
-use Rattle.std.proofs.Common.{◌≡◌, ℕ, List, ◌++◌, Ok, Err, refl, sym, subst, inl, inr}
-use Rattle.camp_catch.specs.Arranging.{Arrange, Align}
-use Rattle.camp_catch.specs.Laws.{keys_of}
-use Rattle.camp_catch.specs.MergingLists.{MergeLists}
-use Rattle.camp_catch.specs.declared.catches.Catch.{Catch}
-use Rattle.camp_branch.specs.Laws.{PullsBeginWithOwn}
-use Rattle.camp_branch.specs.Obliterating.{ObliterateGives, other_names}
-use Rattle.camp_branch.specs.Pulling.{Outcome, PullGives, common_names}
-use Rattle.camp_branch.specs.declared.faults.Blocked.{Blocked}
+use Rattle.camp_branch.proofs.Words.{◌≡◌, ℕ, List, ◌++◌, Ok, Err, refl, sym, subst, inl, inr, Arrange, Align, keys_of, MergeLists, Catch, PullsBeginWithOwn, ObliterateGives, other_names, Outcome, PullGives, common_names, Blocked}
 
 -- a pull that goes through
 pub record Pulled (from to : List Catch) (wanted : List (List ℕ)) (pulled : List Catch) : Type 0 where

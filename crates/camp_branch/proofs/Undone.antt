@@ -1,17 +1,7 @@
 -- Effects that are taken back, from the last to the first.
-use Rattle.std.proofs.Common.{◌≡◌, ◌≤◌, ◌+◌, ◌++◌, ℕ, List, [], ◌∷◌, take, drop, length, get_or, flat_map, refl, sym, ap, ◌∙◌, subst, arith}
+use Rattle.camp_branch.proofs.Words.{◌≡◌, ◌≤◌, ◌+◌, ◌++◌, ℕ, List, [], ◌∷◌, take, drop, length, get_or, flat_map, refl, sym, ap, ◌∙◌, subst, arith, drop_all, take-append-drop, Files, Applies, inverse_of, Named, AppliesAll, inverse_all, cut_run, joined_runs, runs_back, effect_of, Catch, run_once, stands_at}
 use Rattle.std.proofs.lemmas.Grind.{flat_map-append}
-use Rattle.std.proofs.lemmas.List.{drop_all, take-append-drop}
-use Rattle.camp_base.specs.Trees.{Files}
-use Rattle.camp_prim.specs.Effect.{Applies, inverse_of}
-use Rattle.camp_prim.specs.declared.named.Named.{Named}
 use Rattle.camp_prim.proofs.Inverses.{inverse_leads_back, leads_back}
-use Rattle.camp_seq.specs.Running.{AppliesAll, inverse_all}
-use Rattle.camp_seq.proofs.ListRuns.{cut_run, joined_runs, runs_back}
-use Rattle.camp_catch.specs.Catches.{effect_of}
-use Rattle.camp_catch.specs.declared.catches.Catch.{Catch}
-use Rattle.camp_catch.proofs.Fitting.{run_once}
-use Rattle.camp_catch.proofs.MoveSteps.{stands_at}
 
 -- a list leads to a tree from one tree at most
 pub one_start : (s : List Named) (old other new : Files) → AppliesAll s old new → AppliesAll s other new → old ≡ other

@@ -1,6 +1,4 @@
-use Rattle.std.proofs.Common.{[], ap, refl, arith, ◌+◌, ◌++◌, ◌∙◌}
-use Rattle.std.proofs.lemmas.List.{take_all}
-use Rattle.camp_branch.specs.Branches.{recorded}
+use Rattle.camp_branch.proofs.Words.{[], ap, refl, arith, ◌+◌, ◌++◌, ◌∙◌, take_all, recorded}
 use Rattle.camp_branch.proofs.BranchFields.{appended, recorded_step}
 use Rattle.camp_branch.proofs.branches.with_recorded.Goals as goal
 

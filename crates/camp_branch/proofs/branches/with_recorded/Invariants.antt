@@ -1,5 +1,4 @@
-use Rattle.std.proofs.Common.{◌≡◌, ◌+◌, take}
-use Rattle.camp_branch.specs.Branches.{recorded}
+use Rattle.camp_branch.proofs.Words.{◌≡◌, ◌+◌, take, recorded}
 use Rattle.camp_branch.proofs.branches.with_recorded.Given as goal
 
 abbrev pub invariant-loop-change : goal.invariant-loop-change

@@ -1,7 +1,4 @@
-use Rattle.std.proofs.Common.{List, sym, subst}
-use Rattle.camp_catch.specs.Arranging.{Arrange}
-use Rattle.camp_catch.specs.declared.catches.Catch.{Catch}
-use Rattle.camp_branch.specs.Fields.{names_in}
+use Rattle.camp_branch.proofs.Words.{List, sym, subst, Arrange, Catch, names_in}
 use Rattle.camp_branch.proofs.PullSteps.{either_answer, merges, no_merge}
 use Rattle.camp_branch.proofs.pulls.merge_behind.Goals as goal
 

@@ -1,7 +1,4 @@
-use Rattle.std.proofs.Common.{List, ◌++◌, Ok, Err, sym, subst}
-use Rattle.camp_catch.specs.Arranging.{Arrange}
-use Rattle.camp_catch.specs.declared.catches.Catch.{Catch}
-use Rattle.camp_branch.specs.Fields.{names_in}
+use Rattle.camp_branch.proofs.Words.{List, ◌++◌, Ok, Err, sym, subst, Arrange, Catch, names_in}
 use Rattle.camp_branch.proofs.PullSteps.{either_answer, depends, goes_behind}
 use Rattle.camp_branch.proofs.pulls.pull.Goals as goal
 

@@ -1,13 +1,4 @@
-use Rattle.std.proofs.Common.{List, Ok, ◌++◌, take, length, sym, ap, subst, ◌∙◌, arith}
-use Rattle.std.specs.Cmp.Lexicographic.{slice_cmp}
-use Rattle.std.specs.FinMap.{keys}
-use Rattle.std.specs.Ordering.{nat_cmp}
-use Rattle.camp_share.specs.Maps.{map_of}
-use Rattle.camp_catch.specs.declared.catches.Catch.{Catch}
-use Rattle.camp_branch.specs.Branches.{IsLawfulBranch, LeadsTo, has_patch}
-use Rattle.camp_branch.specs.Fields.{names_in}
-use Rattle.camp_branch.specs.Inside.Fronts.{front_of}
-use Rattle.camp_branch.specs.Obliterating.{ObliterateGives}
+use Rattle.camp_branch.proofs.Words.{List, Ok, ◌++◌, take, length, sym, ap, subst, ◌∙◌, arith, slice_cmp, keys, nat_cmp, map_of, Catch, IsLawfulBranch, LeadsTo, has_patch, names_in, front_of, ObliterateGives}
 use Rattle.camp_branch.proofs.Fronts.{behind_place, front_depends, front_lawful, front_named, front_stays, front_within}
 use Rattle.camp_branch.proofs.NamesKept.{stays_by}
 use Rattle.camp_branch.proofs.NewEnds.{end_arranged}
