@@ -1,5 +1,6 @@
 -- The conflicts of a branch: which they are, and that they are one list.
 use Rattle.camp_branch.proofs.Words.{◌≡◌, ◌⊎◌, ℕ, true, Option, None, Some, List, [], ◌∷◌, map, is_some, refl, sym, ap, ◌∙◌, subst, inl, inr, Contains-append_cases, Contains-append_left, Contains-append_right, Contains-from_any, list_any-from_Contains, tells_apart, Contains, flat_map, ordering_reverse, eq_by_cmp_equiv, nat_list_cmp_total, contains_key-keys, get, keys, Ordering, Less, Equal, Greater, Key, key_total, key_ties, ContextedPatches, ContextedPatch, Catch, Plain, name_of, AreConflicts, AreInConflict, ConflictsWith, IsBetween, names_against, names_within, ordered_by, pair_of, pairs_at, pairs_in, ConflictsAreDetermined}
+use Rattle.camp_branch.proofs.Names.{has_image}
 use Rattle.camp_branch.proofs.SortedPairs.{IsInOrder, Pair, Within, ascending_once, by_name, first_or_later, has_first, has_later, in_order, no_member}
 
 -- what one of the lists has that the elements of a list make
@@ -17,13 +18,6 @@ one_has f (z ∷ list) y c = elim (Contains-append_cases (f z) (flat_map f list)
   | inr d ↦
       let rest = one_has f list y d in
       (rest.0, has_later z rest.0 list rest.1, rest.2)
-]
-
-has_image : {X A : Type 0} (f : X → A) (list : List X) (x : X) → Contains list x → Contains (map f list) (f x)
-has_image f [] x c = no_member x c
-has_image f (z ∷ list) x c = elim (first_or_later z x list c) [
-  | inl e ↦ subst (λ y. Contains (f z ∷ map f list) y) (ap f e) (has_first (f z) (map f list))
-  | inr later ↦ has_later (f z) (f x) (map f list) (has_image f list x later)
 ]
 
 is_image : {X A : Type 0} (f : X → A) (list : List X) (y : A) → Contains (map f list) y → (x : X) × Contains list x × (f x ≡ y)

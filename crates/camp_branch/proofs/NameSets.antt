@@ -2,6 +2,8 @@
 use Rattle.camp_branch.proofs.Words.{◌≡◌, ◌<◌, ◌+◌, ℕ, Bool, true, false, not, cond, ◌||◌, ◌&&◌, Option, None, Some, List, [], ◌∷◌, map, drop, length, get_or, is_some, bytes_eq, refl, sym, ap, ◌∙◌, is_eq-slice_cmp, list_any, nat_cmp, eq_by_cmp, slice_cmp, nat_list_cmp_total, contains_key, contains_key-keys, get, get-remove, insert, remove, keys, Catch, stands_at, is_among, name_of}
 use Rattle.camp_branch.proofs.BranchFields.{Names, contains_more}
 use Rattle.camp_branch.proofs.Names.{same_name}
+use Rattle.std.proofs.Math.Bool.{or_assoc}
+pub use Rattle.std.proofs.Math.Bool.{and-false as and_false, and-true as and_true}
 
 -- what a set lists
 abbrev pub Entries : Type 0
@@ -34,10 +36,6 @@ and_not true true c = refl
 and_not true false c = refl
 and_not false b c = refl
 
-pub and_true : (a : Bool) → (a && true) ≡ a
-and_true true = refl
-and_true false = refl
-
 -- of a set, some names are still to go
 abbrev pub IsLessened : Names → Entries → (List ℕ → Bool) → Type 0
 IsLessened left rest aim = (name : List ℕ) → (contains_key left name && not (listed rest name)) ≡ aim name
@@ -46,17 +44,9 @@ pub one_goes : (left next : Names) (rest more : Entries) (entry : List ℕ × Un
 one_goes left next rest more entry aim inv is becomes name =
     ap (λ m. contains_key m name && not (listed more name)) becomes ∙ ap (λ b. b && not (listed more name)) (contains_less left entry.0 name) ∙ and_not (contains_key left name) (bytes_eq name entry.0) (listed more name) ∙ ap (λ r. contains_key left name && not (listed r name)) (sym is) ∙ inv name
 
-pub and_false : (c : Bool) → (c && false) ≡ false
-and_false true = refl
-and_false false = refl
-
 -- of some catches, the names of the rest are still to come into a set
 abbrev pub IsGrown : Names → List Catch → (List ℕ → Bool) → Type 0
 IsGrown all rest aim = (name : List ℕ) → (contains_key all name || is_among (map name_of rest) name) ≡ aim name
-
-or_assoc : (a b c : Bool) → ((a || b) || c) ≡ (a || (b || c))
-or_assoc true b c = refl
-or_assoc false b c = refl
 
 pub one_comes : (all next : Names) (taken : List Catch) (i : ℕ) (k d : Catch) (named : List ℕ) (aim : List ℕ → Bool) → IsGrown all (drop i taken) aim → i < length taken → k ≡ get_or taken i d → named ≡ name_of k → next ≡ insert all named tt → IsGrown next (drop (i + 1) taken) aim
 one_comes all next taken i k d named aim inv within is called becomes name =
