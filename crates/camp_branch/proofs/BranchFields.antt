@@ -1,5 +1,5 @@
 -- The fields of a branch: its list grown by what is recorded, and its index.
-use Rattle.camp_branch.proofs.Words.{◌≡◌, ◌≤◌, ◌<◌, ℕ, suc, ◌+◌, Bool, true, false, cond, ◌||◌, Option, None, Some, List, [], ◌∷◌, ◌++◌, map, take, length, slice_index_or, is_some, bytes_eq, refl, sym, ap, ◌∙◌, subst, arith, append-nil, append_assoc, drop_all, length-take-le, map-append, take_all, take_more, is_eq-slice_cmp, splice, nat_cmp, eq_by_cmp, slice_cmp, nat_list_cmp_total, FinMap, contains_key, get, empty, get-empty, get-insert, insert, Primitive, FitsAll, Catch, Plain, Files, IsLawfulBranch, LeadsTo, has_patch, is_among, name_of, recorded, AppliesEach}
+use Rattle.camp_branch.proofs.Words.{◌≡◌, ◌≤◌, ◌<◌, ℕ, ◌+◌, Bool, true, false, cond, ◌||◌, Option, None, Some, List, [], ◌∷◌, ◌++◌, map, length, slice_index_or, is_some, bytes_eq, refl, sym, ap, ◌∙◌, subst, arith, append-nil, append_assoc, drop_all, map-append, take_all, is_eq-slice_cmp, splice, nat_cmp, eq_by_cmp, slice_cmp, nat_list_cmp_total, FinMap, contains_key, get, empty, get-empty, get-insert, insert, Primitive, FitsAll, Catch, Plain, Files, IsLawfulBranch, LeadsTo, has_patch, is_among, name_of, recorded, AppliesEach, drop_more, drop, drop_more}
 use Rattle.std.proofs.lemmas.List.Folds.{list_any-append}
 use Rattle.camp_branch.proofs.BranchLabels.{recorded_patches}
 use Rattle.camp_branch.proofs.BranchTrees.{joined_fits, one_end, recorded_tree}
@@ -46,18 +46,6 @@ pub recorded_indexed : (names more : Names) (branch grown : List Catch) (added :
 recorded_indexed names more branch grown added changes indexed becomes pushed some name =
     ap (λ m. contains_key m name) becomes ∙ contains_more names added name ∙ (λ i. indexed name i || sym (among_recorded name added 1 changes some) i) ∙ sym (ap (λ l. has_patch l name) pushed ∙ ap (λ l. is_among l name) (map-append name_of branch (recorded added 1 changes)) ∙ list_any-append (bytes_eq name) (map name_of branch) (map name_of (recorded added 1 changes)))
 
--- one more change is recorded
-recorded_push : (name : List ℕ) (place : ℕ) (changes : List Primitive) (change : Primitive) → recorded name place (changes ++ change ∷ []) ≡ recorded name place changes ++ Plain (record { name = name; place = place + length changes; inverse = false; prim = change }) ∷ []
-recorded_push name place [] change =
-    ap (λ (p : ℕ). Plain (record { name = name; place = p; inverse = false; prim = change }) ∷ []) (let e : place ≡ place + 0 = omega arith in e)
-recorded_push name place (first ∷ changes) change =
-    ap (λ t. Plain (record { name = name; place = place; inverse = false; prim = first }) ∷ t) (recorded_push name (place + 1) changes change ∙ ap (λ (p : ℕ). recorded name (place + 1) changes ++ Plain (record { name = name; place = p; inverse = false; prim = change }) ∷ []) (let e : place + 1 + length changes ≡ place + suc (length changes) = omega arith in e))
-
-pub one_more_recorded : (catches list next : List Catch) (name : List ℕ) (place : ℕ) (done more : List Primitive) (change : Primitive) (k : Catch) → list ≡ catches ++ recorded name 1 done → place ≡ length done + 1 → more ≡ done ++ change ∷ [] → k ≡ Plain (record { name = name; place = place; inverse = false; prim = change }) → next ≡ list ++ k ∷ [] → next ≡ catches ++ recorded name 1 more
-one_more_recorded catches list next name place done more change k was at longer is pushed =
-    let here : place ≡ 1 + length done = omega (at, arith) in
-    pushed ∙ (λ i. was i ++ (is ∙ ap (λ (p : ℕ). Plain (record { name = name; place = p; inverse = false; prim = change })) here) i ∷ []) ∙ append_assoc catches (recorded name 1 done) _ ∙ ap (λ t. catches ++ t) (sym (recorded_push name 1 done change)) ∙ ap (λ t. catches ++ recorded name 1 t) (sym longer)
-
 pub lawful_none : IsLawfulBranch []
 lawful_none =
     record { patches = []; has = record { distinct = tt; sized = tt; labels = refl }; tree = empty; leads = refl }
@@ -76,11 +64,12 @@ grown branch more name changes old new lawful leads new_name some few applies is
       kept = subst (λ l. LeadsTo l new) (sym is) tree;
     }
 
--- the next change of a list of changes is recorded
-pub recorded_step : (catches list next : List Catch) (name : List ℕ) (place i : ℕ) (changes : List Primitive) (change d : Primitive) (k : Catch) → i < length changes → list ≡ catches ++ recorded name 1 (take i changes) → place ≡ i + 1 → change ≡ slice_index_or changes i d → k ≡ Plain (record { name = name; place = place; inverse = false; prim = change }) → next ≡ list ++ k ∷ [] → next ≡ catches ++ recorded name 1 (take (i + 1) changes)
-recorded_step catches list next name place i changes change d k within was at item is pushed =
-    let long : length (take i changes) ≡ i = length-take-le i changes (omega arith) in
-    one_more_recorded catches list next name place (take i changes) (take (i + 1) changes) change k was (at ∙ ap (λ n. n + 1) (sym long)) (take_more changes i d within ∙ ap (λ x. take i changes ++ x ∷ []) (sym item)) is pushed
+-- of some changes, those of the rest are still to be recorded
+pub one_recorded : (list next : List Catch) (name : List ℕ) (place i : ℕ) (changes : List Primitive) (change d : Primitive) (k : Catch) (aim : List Catch) → i < length changes → change ≡ slice_index_or changes i d → k ≡ Plain (record { name = name; place = place; inverse = false; prim = change }) → next ≡ list ++ k ∷ [] → list ++ recorded name place (drop i changes) ≡ aim → next ++ recorded name (place + 1) (drop (i + 1) changes) ≡ aim
+one_recorded list next name place i changes change d k aim within item is pushed so_far =
+    let rest = recorded name (place + 1) (drop (i + 1) changes) in
+    let there : drop i changes ≡ change ∷ drop (i + 1) changes = drop_more changes i d within ∙ ap (λ x. x ∷ drop (i + 1) changes) (sym item) in
+    (λ j. pushed j ++ rest) ∙ append_assoc list (k ∷ []) rest ∙ ap (λ x. list ++ x ∷ rest) is ∙ ap (λ l. list ++ recorded name place l) (sym there) ∙ so_far
 
 spliced_at_end : (catches taken : List Catch) (n : ℕ) → n ≡ length catches → splice catches n n taken ≡ catches ++ taken
 spliced_at_end catches taken n is =

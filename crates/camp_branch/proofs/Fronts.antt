@@ -65,17 +65,23 @@ behind_place catches own behind start n is was part =
     let long = length-drop start catches in
     part ∙ take_all (n - start) (drop start catches) (omega (is, long, arith)) ∙ ap (drop start) was
 
+-- what stands behind a front that stays, and which names stay
+pub record StaysInFront (own : List Catch) (gone : List (List ℕ)) (staying : Names) (start : ℕ) (behind : List Catch) : Type 0 where
+  pub stays : (n : List ℕ) → contains_key staying n ≡ (has_patch own n && not (is_among gone n))
+  pub at : start ≡ front_of (keys staying) own
+  pub is : behind ≡ drop start own
+
 -- an obliteration goes by what stands behind the front
-module _ (own : List Catch) (gone : List (List ℕ)) (staying : Names) (stays : (n : List ℕ) → contains_key staying n ≡ (has_patch own n && not (is_among gone n))) (start : ℕ) (behind : List Catch) (at : start ≡ front_of (keys staying) own) (is : behind ≡ drop start own) where
+module _ (own : List Catch) (gone : List (List ℕ)) (staying : Names) (start : ℕ) (behind : List Catch) (front : StaysInFront own gone staying start behind) where
   pub front_stays : (first rest : List Catch) → Arrange (keys staying) behind first rest → ObliterateGives own gone (Ok (take start own ++ first))
   front_stays first rest w =
-      let here = subst (λ n. Arrange (keys staying) (drop n own) first rest) at (subst (λ l. Arrange (keys staying) l first rest) is w) in
-      subst (λ n. ObliterateGives own gone (Ok (take n own ++ first))) (sym at) (obliterated own gone staying stays own (take (front_of (keys staying) own) own ++ first) rest refl (arranged_behind (keys staying) own first rest here))
+      let here = subst (λ n. Arrange (keys staying) (drop n own) first rest) front.at (subst (λ l. Arrange (keys staying) l first rest) front.is w) in
+      subst (λ n. ObliterateGives own gone (Ok (take n own ++ first))) (sym front.at) (obliterated own gone staying front.stays own (take (front_of (keys staying) own) own ++ first) rest refl (arranged_behind (keys staying) own first rest here))
 
   pub front_depends : (blocked : Blocked) → DependsIn (keys staying) behind blocked → ObliterateGives own gone (Err blocked)
   front_depends blocked w =
-      let here = subst (λ n. ArrangeSticks (keys staying) (drop n own) w.0 w.1) at (subst (λ l. ArrangeSticks (keys staying) l w.0 w.1) is w.2) in
-      obliterate_depends own gone staying stays own blocked refl (w.0, w.1, sticks_behind (keys staying) own w.0 w.1 here, w.3)
+      let here = subst (λ n. ArrangeSticks (keys staying) (drop n own) w.0 w.1) front.at (subst (λ l. ArrangeSticks (keys staying) l w.0 w.1) front.is w.2) in
+      obliterate_depends own gone staying front.stays own blocked refl (w.0, w.1, sticks_behind (keys staying) own w.0 w.1 here, w.3)
 
   -- what it leaves is lawful, and has the names that stay
   pub front_lawful : (first rest : List Catch) → Arrange (keys staying) behind first rest → IsLawfulBranch own → IsLawfulBranch (take start own ++ first)
@@ -84,4 +90,4 @@ module _ (own : List Catch) (gone : List (List ℕ)) (staying : Names) (stays : 
 
   pub front_named : (first rest : List Catch) → Arrange (keys staying) behind first rest → IsLawfulBranch own → (n : List ℕ) → contains_key staying n ≡ has_patch (take start own ++ first) n
   front_named first rest w lawful n =
-      stays n ∙ sym (left_has own (take start own ++ first) gone lawful (front_stays first rest w) n)
+      front.stays n ∙ sym (left_has own (take start own ++ first) gone lawful (front_stays first rest w) n)
