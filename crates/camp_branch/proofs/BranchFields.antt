@@ -1,9 +1,9 @@
 -- The fields of a branch: its list grown by what is recorded, and its index.
-use Rattle.camp_branch.proofs.Words.{◌≡◌, ◌≤◌, ◌<◌, ℕ, ◌+◌, Bool, true, false, cond, ◌||◌, Option, None, Some, List, [], ◌∷◌, ◌++◌, map, length, slice_index_or, is_some, bytes_eq, refl, sym, ap, ◌∙◌, subst, arith, append-nil, append_assoc, drop_all, map-append, take_all, is_eq-slice_cmp, splice, nat_cmp, eq_by_cmp, slice_cmp, nat_list_cmp_total, FinMap, contains_key, get, empty, get-empty, get-insert, insert, Primitive, FitsAll, Catch, Plain, Files, IsLawfulBranch, LeadsTo, has_patch, is_among, name_of, recorded, AppliesEach, drop_more, drop, drop_more}
-use Rattle.std.proofs.lemmas.List.Folds.{list_any-append}
+use Rattle.camp_branch.proofs.Words.{◌≡◌, ◌≤◌, ◌<◌, ℕ, ◌+◌, Bool, true, false, cond, ◌||◌, Option, None, Some, List, [], ◌∷◌, ◌++◌, map, length, slice_index_or, is_some, bytes_eq, refl, sym, ap, ◌∙◌, subst, arith, append-nil, append_assoc, drop_all, take_all, is_eq-slice_cmp, splice, nat_cmp, eq_by_cmp, slice_cmp, nat_list_cmp_total, FinMap, contains_key, get, empty, get-empty, get-insert, insert, Primitive, FitsAll, Catch, Plain, Files, IsLawfulBranch, LeadsTo, has_patch, is_among, name_of, recorded, AppliesEach, drop_more, drop, or-false, or_self}
 use Rattle.camp_branch.proofs.BranchLabels.{recorded_patches}
 use Rattle.camp_branch.proofs.BranchTrees.{joined_fits, one_end, recorded_tree}
 use Rattle.camp_branch.proofs.EffectSteps.{second_fits}
+use Rattle.camp_branch.proofs.Names.{has_split}
 
 -- a set of names
 abbrev pub Names : Type 0
@@ -27,24 +27,16 @@ pub contains_more : (names : Names) (added name : List ℕ) → contains_key (in
 contains_more names added name =
     ap is_some (get-insert nat_list_cmp_total names added tt name) ∙ is_some_of (eq_by_cmp (slice_cmp nat_cmp) name added) tt (get names name) ∙ ap (λ b. contains_key names name || b) (is_eq-slice_cmp name added)
 
-or_itself : (b c : Bool) → (c ≡ b) → (b || c) ≡ b
-or_itself true c e = refl
-or_itself false c e = e
-
-pub or_none : (b : Bool) → (b || false) ≡ b
-or_none true = refl
-or_none false = refl
-
 -- what is recorded has one name
 among_recorded : (name added : List ℕ) (place : ℕ) (changes : List Primitive) → 1 ≤ length changes → is_among (map name_of (recorded added place changes)) name ≡ bytes_eq name added
 among_recorded name added place [] some = absurd (omega arith)
-among_recorded name added place (change ∷ []) some = or_none (bytes_eq name added)
+among_recorded name added place (change ∷ []) some = or-false (bytes_eq name added)
 among_recorded name added place (change ∷ more ∷ changes) some =
-    or_itself (bytes_eq name added) _ (among_recorded name added (place + 1) (more ∷ changes) (omega arith))
+    ap (λ b. bytes_eq name added || b) (among_recorded name added (place + 1) (more ∷ changes) (omega arith)) ∙ or_self (bytes_eq name added)
 
 pub recorded_indexed : (names more : Names) (branch grown : List Catch) (added : List ℕ) (changes : List Primitive) → Indexes names branch → more ≡ insert names added tt → grown ≡ branch ++ recorded added 1 changes → 1 ≤ length changes → Indexes more grown
 recorded_indexed names more branch grown added changes indexed becomes pushed some name =
-    ap (λ m. contains_key m name) becomes ∙ contains_more names added name ∙ (λ i. indexed name i || sym (among_recorded name added 1 changes some) i) ∙ sym (ap (λ l. has_patch l name) pushed ∙ ap (λ l. is_among l name) (map-append name_of branch (recorded added 1 changes)) ∙ list_any-append (bytes_eq name) (map name_of branch) (map name_of (recorded added 1 changes)))
+    ap (λ m. contains_key m name) becomes ∙ contains_more names added name ∙ (λ i. indexed name i || sym (among_recorded name added 1 changes some) i) ∙ sym (ap (λ l. has_patch l name) pushed ∙ has_split branch (recorded added 1 changes) name)
 
 pub lawful_none : IsLawfulBranch []
 lawful_none =
@@ -92,4 +84,4 @@ taken_lead catches own taken next old new was becomes leads fits =
 
 pub taken_indexed : (names all : Names) (catches own taken next : List Catch) → Indexes names catches → catches ≡ own → ((name : List ℕ) → contains_key all name ≡ (contains_key names name || is_among (map name_of taken) name)) → next ≡ own ++ taken → Indexes all next
 taken_indexed names all catches own taken next indexed was grown becomes name =
-    grown name ∙ ap (λ b. b || is_among (map name_of taken) name) (indexed name ∙ ap (λ l. has_patch l name) was) ∙ sym (ap (λ l. has_patch l name) becomes ∙ ap (λ l. is_among l name) (map-append name_of own taken) ∙ list_any-append (bytes_eq name) (map name_of own) (map name_of taken))
+    grown name ∙ ap (λ b. b || is_among (map name_of taken) name) (indexed name ∙ ap (λ l. has_patch l name) was) ∙ sym (ap (λ l. has_patch l name) becomes ∙ has_split own taken name)

@@ -1,16 +1,13 @@
 -- The labels and the names of branches, by their patches.
-use Rattle.camp_branch.proofs.Words.{◌≡◌, ◌≤◌, ◌==◌, ℕ, zero, suc, ◌+◌, Bool, true, false, not, cond, List, [], ◌∷◌, ◌++◌, map, filter, length, bytes_eq, Ok, refl, sym, ap, ◌∙◌, subst, inl, inr, arith, AllByRecursion, append-nil, append_assoc, map-append, filter-append, Key, Primitive, catch_key, KeysPart, keys_of, Catch, AreDistinct, HasPatches, IsSized, Patch, each_once, has_patch, is_among, labels_from, labels_of, name_of, names_of, patch_names, recorded, others_of, those_of, ObliterateGives, other_names, PullGives, common_names, Contains, true≢false}
-use Rattle.std.proofs.lemmas.Bool.{cond-false, cond-true, cond_both, false_from_ne_true, ne_eqb, or_from}
-use Rattle.std.proofs.lemmas.List.Elements.{All-contains_itself, All-weaker, recursion_from_All}
-use Rattle.camp_catch.proofs.KeptLabels.{keep_labels}
-use Rattle.camp_branch.proofs.Names.{all_append, all_filter, among_once, distinct_append, distinct_filter, each_among, filter_image, filter_within, has_image, is_among_is, name_itself, not_among, not_kept, passes_is_kept, same_name, without_other}
+use Rattle.camp_branch.proofs.Words.{◌≡◌, ◌≤◌, ◌==◌, ℕ, zero, suc, ◌+◌, Bool, true, false, not, cond, List, [], ◌∷◌, ◌++◌, map, filter, length, bytes_eq, Ok, refl, sym, ap, ◌∙◌, subst, inl, inr, arith, AllByRecursion, append-nil, append_assoc, map-append, filter-append, Key, Primitive, catch_key, KeysPart, keys_of, Catch, AreDistinct, HasPatches, IsSized, Patch, each_once, has_patch, is_among, labels_from, labels_of, name_of, names_of, patch_names, recorded, others_of, those_of, ObliterateGives, other_names, PullGives, common_names, true≢false, cond-false, cond-true, cond_both, false_from_ne_true, ne_eqb, or_from, keep_labels}
+use Rattle.camp_branch.proofs.Names.{all_append, all_filter, among_once, distinct_append, distinct_filter, each_among, filter_image, each_named, filter_within, is_among_is, name_itself, not_among, not_kept, passes_is_kept, same_name, without_other}
 use Rattle.camp_branch.proofs.Steps.{left_by, pulled_by}
 
 -- the names of labels
 abbrev pub key_names : List Key → List (List ℕ)
 key_names keys = map (λ k. k.name) keys
 
-named_by_keys : (branch : List Catch) → map name_of branch ≡ key_names (keys_of branch)
+pub named_by_keys : (branch : List Catch) → map name_of branch ≡ key_names (keys_of branch)
 named_by_keys [] = refl
 named_by_keys (k ∷ branch) = ap (λ t. name_of k ∷ t) (named_by_keys branch)
 
@@ -116,8 +113,7 @@ pulled_patches from to pulled wanted theirs ours gives v w lacked =
     }
 
 own_names : (patches : List Patch) → AllByRecursion (λ p. is_among (patch_names patches) p.name ≡ true) patches
-own_names patches =
-    recursion_from_All _ patches (All-weaker (Contains patches) _ (λ p c. (is_among_is (patch_names patches) p.name).0 (has_image (λ (q : Patch). q.name) patches p c)) patches (All-contains_itself patches))
+own_names patches = each_named (λ (p : Patch). p.name) _ patches (λ p c. (is_among_is (patch_names patches) p.name).0 c)
 
 same_chosen : (passes : List ℕ → Bool) (names : List (List ℕ)) (patches : List Patch) → AllByRecursion (λ p. is_among names p.name ≡ true) patches → filter (λ p. is_among (filter passes names) p.name) patches ≡ filter (λ p. passes p.name) patches
 same_chosen passes names [] w = refl

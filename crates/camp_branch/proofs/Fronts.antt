@@ -1,42 +1,35 @@
 -- The front of a branch that stays as it is: what stands behind it is arranged alone.
-use Rattle.camp_branch.proofs.Words.{◌≡◌, ◌≤◌, ◌+◌, ◌-◌, ◌++◌, ◌&&◌, ℕ, zero, suc, Bool, true, false, not, cond, Ok, Err, List, [], ◌∷◌, take, drop, length, refl, sym, ap, ◌∙◌, subst, inl, inr, arith, length-drop, take_all, contains_key, keys, slice_range, Key, Arrange, ArrangeSticks, Catch, IsLawfulBranch, has_patch, is_among, name_of, front_of, DependsIn, ObliterateGives, Blocked}
+use Rattle.camp_branch.proofs.Words.{◌≡◌, ◌≤◌, ◌+◌, ◌-◌, ◌++◌, ◌&&◌, ℕ, zero, suc, Bool, true, false, not, cond, Ok, Err, List, [], ◌∷◌, take, drop, length, refl, sym, ap, ◌∙◌, subst, arith, length-drop, take_all, contains_key, keys, slice_range, Key, Arrange, ArrangeSticks, Catch, IsLawfulBranch, has_patch, is_among, name_of, front_of, DependsIn, ObliterateGives, Blocked, cond_both, take-append-drop}
 use Rattle.camp_branch.proofs.BranchFields.{Names}
 use Rattle.camp_branch.proofs.KeepLawful.{obliterates_keep_lawful}
 use Rattle.camp_branch.proofs.NameSets.{has_listed}
 use Rattle.camp_branch.proofs.Names.{is_among_is}
 use Rattle.camp_branch.proofs.NamesKept.{left_has, obliterate_depends, obliterated}
+use Rattle.camp_branch.proofs.AgreedFronts.{AllOf, arranged_front, sticks_front}
 
 module _ (names : List (List ℕ)) where
-  within_by : (b : Bool) (n m : ℕ) → n ≤ m → cond b (suc n) zero ≤ suc m
-  within_by true n m le = omega (le, arith)
-  within_by false n m le = omega arith
-
   pub front_within : (list : List Catch) → front_of names list ≤ length list
   front_within [] = omega arith
   front_within (k ∷ list) =
-      within_by (is_among names (name_of k)) (front_of names list) (length list) (front_within list)
+      cond_both (is_among names (name_of k)) (suc (front_of names list)) zero (λ m. m ≤ suc (length list)) (λ e. omega (arith, front_within list)) (λ e. omega arith)
 
-  arranged_by : (k : Catch) (list first rest : List Catch) (b : Bool) (n : ℕ) → is_among names (name_of k) ≡ b → (Arrange names (drop n list) first rest → Arrange names list (take n list ++ first) rest) → Arrange names (drop (cond b (suc n) zero) (k ∷ list)) first rest → Arrange names (k ∷ list) (take (cond b (suc n) zero) (k ∷ list) ++ first) rest
-  arranged_by k list first rest true n e behind w =
-      inl ((is_among_is names (name_of k)).1 e, (k, [], take n list ++ first, (refl, refl), behind w, refl))
-  arranged_by k list first rest false n e behind w = w
+  -- each catch of the front is of one of the patches
+  front_all : (list : List Catch) → AllOf names (take (front_of names list) list)
+  front_all [] = tt
+  front_all (k ∷ list) =
+      cond_both (is_among names (name_of k)) (suc (front_of names list)) zero (λ m. AllOf names (take m (k ∷ list))) (λ e. ((is_among_is names (name_of k)).1 e, front_all list)) (λ e. tt)
 
   -- the front is arranged as it stands
   pub arranged_behind : (list first rest : List Catch) → Arrange names (drop (front_of names list) list) first rest → Arrange names list (take (front_of names list) list ++ first) rest
-  arranged_behind [] first rest w = w
-  arranged_behind (k ∷ list) first rest w =
-      arranged_by k list first rest (is_among names (name_of k)) (front_of names list) refl (arranged_behind list first rest) w
-
-  sticks_by : (k : Catch) (list : List Catch) (patch on : Key) (b : Bool) (n : ℕ) → is_among names (name_of k) ≡ b → (ArrangeSticks names (drop n list) patch on → ArrangeSticks names list patch on) → ArrangeSticks names (drop (cond b (suc n) zero) (k ∷ list)) patch on → ArrangeSticks names (k ∷ list) patch on
-  sticks_by k list patch on true n e behind w =
-      inr (inl ((is_among_is names (name_of k)).1 e, (k, [], (refl, refl), behind w)))
-  sticks_by k list patch on false n e behind w = w
+  arranged_behind list first rest w =
+      let n = front_of names list in
+      subst (λ l. Arrange names l (take n list ++ first) rest) (take-append-drop n list) (arranged_front names (take n list) (drop n list) first rest (front_all list) w)
 
   -- what sticks behind the front sticks
   pub sticks_behind : (list : List Catch) (patch on : Key) → ArrangeSticks names (drop (front_of names list) list) patch on → ArrangeSticks names list patch on
-  sticks_behind [] patch on w = w
-  sticks_behind (k ∷ list) patch on w =
-      sticks_by k list patch on (is_among names (name_of k)) (front_of names list) refl (sticks_behind list patch on) w
+  sticks_behind list patch on w =
+      let n = front_of names list in
+      subst (λ l. ArrangeSticks names l patch on) (take-append-drop n list) (sticks_front names (take n list) (drop n list) patch on (front_all list) w)
 
 -- the front is counted catch by catch
 module _ (names : Names) (list rest more : List Catch) (k : Catch) (name : List ℕ) (front : ℕ) (is : rest ≡ k ∷ more) (of : name ≡ name_of k) (counted : front + front_of (keys names) rest ≡ front_of (keys names) list) where

@@ -1,11 +1,6 @@
 -- Lists of names, and of what has names.
-use Rattle.camp_branch.proofs.Words.{◌≡◌, ℕ, Bool, true, false, true≢false, not, ◌||◌, ◌&&◌, cond, List, [], ◌∷◌, ◌++◌, map, filter, bytes_eq, refl, sym, ap, ◌∙◌, Contains, AllByRecursion, AreDistinct, is_among, each_once, arith}
-use Rattle.std.proofs.lemmas.List.{get_or-map, length-map}
-use Rattle.std.proofs.Math.Bool.{and-true, and_comm}
-use Rattle.std.proofs.lemmas.Bool.{and_right, cond-false, cond-true, cond_both, false_from_ne_true, or_from}
+use Rattle.camp_branch.proofs.Words.{◌≡◌, ℕ, Bool, true, false, true≢false, not, ◌||◌, ◌&&◌, cond, List, [], ◌∷◌, ◌++◌, map, filter, bytes_eq, refl, sym, ap, ◌∙◌, Contains, AllByRecursion, AreDistinct, is_among, each_once, arith, get_or-map, length-map, and-true, and_comm, and_right, cond-false, cond-true, cond_both, false_from_ne_true, or_from, All-append, All-contains_itself, All-filter, All-from_recursion, All-weaker, Decides-contains, recursion_from_All, list_any-append, Catch, has_patch, name_of, map-append, or_right}
 use Rattle.std.proofs.lemmas.Bool.Decides.{Decides-by_or, Decides-like}
-use Rattle.std.proofs.lemmas.List.Elements.{All-append, All-contains_itself, All-filter, All-from_recursion, All-weaker, Decides-contains, recursion_from_All}
-use Rattle.std.proofs.lemmas.List.Folds.{list_any-append}
 use Rattle.std.proofs.lemmas.Map.Views.{any-filter_same}
 use Rattle.std.proofs.lemmas.Slice.Eq.{bytes_eq-Decides}
 pub use Rattle.std.proofs.lemmas.Bool.{or_parts, or_right as or_true}
@@ -38,6 +33,11 @@ each_among Q names holds =
 
 pub has_image : {X Y : Type 0} (f : X → Y) (xs : List X) (x : X) → Contains xs x → Contains (map f xs) (f x)
 has_image f xs x (k, within, is) = (k, (omega (arith, length-map xs f)), get_or-map f xs k x (f x) within ∙ ap f is)
+
+-- what holds of each that has a name holds of each of some, where that is known by their names
+pub each_named : {X : Type 0} (name_in : X → List ℕ) (Q : X → Type 0) (xs : List X) → ((x : X) → Contains (map name_in xs) (name_in x) → Q x) → AllByRecursion Q xs
+each_named name_in Q xs holds =
+    recursion_from_All Q xs (All-weaker (Contains xs) Q (λ x c. holds x (has_image name_in xs x c)) xs (All-contains_itself xs))
 
 -- what passes a test is found among what passes a wider one
 pub filter_within : {X : Type 0} (p q : X → Bool) → ((x : X) → p x ≡ true → q x ≡ true) → (xs : List X) → filter p (filter q xs) ≡ filter p xs
@@ -109,3 +109,8 @@ pub among_once : (names : List (List ℕ)) (n : List ℕ) → is_among (each_onc
 among_once [] n = refl
 among_once (x ∷ names) n =
     or_else (bytes_eq n x) _ _ (λ e. among_kept (λ other. not (bytes_eq x other)) (each_once names) n ∙ ap (λ t. is_among (each_once names) n && not t) (other_way n x e) ∙ and-true (is_among (each_once names) n) ∙ among_once names n)
+
+-- one list of catches behind another has the patches of both
+pub has_split : (front rest : List Catch) (n : List ℕ) → has_patch (front ++ rest) n ≡ (has_patch front n || has_patch rest n)
+has_split front rest n =
+    ap (λ l. is_among l n) (map-append name_of front rest) ∙ list_any-append (bytes_eq n) (map name_of front) (map name_of rest)
