@@ -1,5 +1,5 @@
 -- The fields of a branch: its list grown by what is recorded, and its index.
-use Rattle.camp_branch.proofs.Words.{◌≡◌, ◌≤◌, ◌<◌, ℕ, ◌+◌, Bool, true, false, cond, ◌||◌, Option, None, Some, List, [], ◌∷◌, ◌++◌, map, length, slice_index_or, is_some, bytes_eq, refl, sym, ap, ◌∙◌, subst, arith, append-nil, append_assoc, drop_all, take_all, is_eq-slice_cmp, splice, nat_cmp, eq_by_cmp, slice_cmp, nat_list_cmp_total, FinMap, contains_key, get, empty, get-empty, get-insert, insert, Primitive, FitsAll, Catch, Plain, Files, IsLawfulBranch, LeadsTo, has_patch, is_among, name_of, recorded, AppliesEach, drop_more, drop, or-false, or_self}
+use Rattle.camp_branch.proofs.Words.{◌≡◌, ◌≤◌, ◌<◌, ℕ, ◌+◌, Bool, false, cond, ◌||◌, Option, Some, List, [], ◌∷◌, ◌++◌, map, length, slice_index_or, is_some, bytes_eq, refl, sym, ap, ◌∙◌, subst, arith, append-nil, append_assoc, drop_all, take_all, is_eq-slice_cmp, splice, nat_cmp, eq_by_cmp, slice_cmp, nat_list_cmp_total, FinMap, contains_key, get, empty, get-empty, get-insert, insert, Primitive, FitsAll, Catch, Plain, Files, IsLawfulBranch, LeadsTo, has_patch, is_among, name_of, recorded, AppliesEach, drop_more, drop, or-false, or_self, cond_both, or_right}
 use Rattle.camp_branch.proofs.BranchLabels.{recorded_patches}
 use Rattle.camp_branch.proofs.BranchTrees.{joined_fits, one_end, recorded_tree}
 use Rattle.camp_branch.proofs.EffectSteps.{second_fits}
@@ -17,10 +17,8 @@ pub none_indexed : (names : Names) → names ≡ empty → Indexes names []
 none_indexed names is name = ap (λ m. contains_key m name) is ∙ ap is_some (get-empty (slice_cmp nat_cmp) name)
 
 is_some_of : {X : Type 0} (b : Bool) (x : X) (o : Option X) → is_some (cond b (Some x) o) ≡ (is_some o || b)
-is_some_of true x None = refl
-is_some_of true x (Some y) = refl
-is_some_of false x None = refl
-is_some_of false x (Some y) = refl
+is_some_of b x o =
+    cond_both b (Some x) o (λ y. is_some y ≡ (is_some o || b)) (λ e. sym (or_right (is_some o) b e)) (λ e. sym (ap (λ c. is_some o || c) e ∙ or-false (is_some o)))
 
 -- a name more
 pub contains_more : (names : Names) (added name : List ℕ) → contains_key (insert names added tt) name ≡ (contains_key names name || bytes_eq name added)
