@@ -19,19 +19,16 @@ not_itself : (name : List ℕ) (names : List (List ℕ)) → but_for name (name 
 not_itself name names = cond-false (not (bytes_eq name name)) _ _ (ap not (name_itself name))
 
 -- the labels of one patch have one name
-once_of_patch : (name : List ℕ) (place changes : ℕ) (keys : List Key) → each_once (key_names (labels_from name place (suc changes) ++ keys)) ≡ name ∷ but_for name (each_once (key_names keys))
-once_of_patch name place zero keys = refl
-once_of_patch name place (suc changes) keys =
-    ap (λ t. name ∷ but_for name t) (once_of_patch name (place + 1) changes keys) ∙ ap (λ t. name ∷ t) (not_itself name _ ∙ filter_within (λ other. not (bytes_eq name other)) (λ other. not (bytes_eq name other)) (λ x e. e) _)
-
-once_of_sized : (name : List ℕ) (place changes : ℕ) (keys : List Key) → 1 ≤ changes → each_once (key_names (labels_from name place changes ++ keys)) ≡ name ∷ but_for name (each_once (key_names keys))
-once_of_sized name place zero keys le = absurd (omega arith)
-once_of_sized name place (suc changes) keys le = once_of_patch name place changes keys
+once_of_patch : (name : List ℕ) (place changes : ℕ) (keys : List Key) → 1 ≤ changes → each_once (key_names (labels_from name place changes ++ keys)) ≡ name ∷ but_for name (each_once (key_names keys))
+once_of_patch name place zero keys le = absurd (omega arith)
+once_of_patch name place (suc zero) keys le = refl
+once_of_patch name place (suc (suc changes)) keys le =
+    ap (λ t. name ∷ but_for name t) (once_of_patch name (place + 1) (suc changes) keys (omega arith)) ∙ ap (λ t. name ∷ t) (not_itself name _ ∙ filter_within (λ other. not (bytes_eq name other)) (λ other. not (bytes_eq name other)) (λ x e. e) _)
 
 once_of_patches : (patches : List Patch) → AreDistinct (patch_names patches) → AllByRecursion IsSized patches → each_once (key_names (labels_of patches)) ≡ patch_names patches
 once_of_patches [] distinct sized = refl
 once_of_patches (p ∷ patches) distinct sized =
-    once_of_sized p.name 1 p.changes (labels_of patches) sized.0.0 ∙ ap (λ t. p.name ∷ but_for p.name t) (once_of_patches patches distinct.1 sized.1) ∙ ap (λ t. p.name ∷ t) (without_other p.name (patch_names patches) distinct.0)
+    once_of_patch p.name 1 p.changes (labels_of patches) sized.0.0 ∙ ap (λ t. p.name ∷ but_for p.name t) (once_of_patches patches distinct.1 sized.1) ∙ ap (λ t. p.name ∷ t) (without_other p.name (patch_names patches) distinct.0)
 
 pub names_of_patches : (branch : List Catch) (patches : List Patch) → HasPatches branch patches → names_of branch ≡ patch_names patches
 names_of_patches branch patches has =
@@ -90,13 +87,9 @@ apart_from : (names : List (List ℕ)) (patches : List Patch) (ours : List (List
 apart_from names patches ours apart = each_among _ ours (λ name e.
     ap (λ l. is_among l name) (names_chosen (is_among names) patches) ∙ not_kept (is_among names) (patch_names patches) name (false_from_ne_true (is_among names name) (λ f. true≢false (sym e ∙ apart name f))))
 
--- a name that is not in `to` is not common
-not_common : (from to : List Catch) (name : List ℕ) → has_patch to name ≡ false → not (is_among (common_names from to) name) ≡ true
-not_common from to name e = ap not (not_kept (has_patch to) (names_of from) name e)
-
 chosen_keys : (from to : List Catch) (wanted : List (List ℕ)) (theirs : List Patch) (behind chosen left ours : List Key) → keys_of from ≡ labels_of theirs → Chosen (common_names from to) (keys_of from) ours behind → Chosen wanted behind chosen left → ((name : List ℕ) → is_among wanted name ≡ true → has_patch to name ≡ false) → chosen ≡ labels_of (those_of wanted theirs)
 chosen_keys from to wanted theirs behind chosen left ours are v w lacked =
-    w.0 ∙ ap (filter (λ k. is_among wanted k.name)) v.1 ∙ filter_within (λ (k : Key). is_among wanted k.name) (λ k. not (is_among (common_names from to) k.name)) (λ k e. not_common from to k.name (lacked k.name e)) (keys_of from) ∙ ap (filter (λ k. is_among wanted k.name)) are ∙ labels_of_chosen (is_among wanted) theirs
+    w.0 ∙ ap (filter (λ k. is_among wanted k.name)) v.1 ∙ filter_within (λ (k : Key). is_among wanted k.name) (λ k. not (is_among (common_names from to) k.name)) (λ k e. ap not (not_kept (has_patch to) (names_of from) k.name (lacked k.name e))) (keys_of from) ∙ ap (filter (λ k. is_among wanted k.name)) are ∙ labels_of_chosen (is_among wanted) theirs
 
 pub pulled_patches : (from to pulled : List Catch) (wanted : List (List ℕ)) (theirs ours : List Patch) → PullGives from to wanted (Ok pulled) → HasPatches from theirs → HasPatches to ours → ((name : List ℕ) → is_among wanted name ≡ true → has_patch to name ≡ false) → HasPatches pulled (ours ++ those_of wanted theirs)
 pulled_patches from to pulled wanted theirs ours gives v w lacked =
