@@ -80,16 +80,10 @@ module _ (names : List (List ℕ)) (front others : List Catch) (a : AllOf names 
 
   -- a pull goes by what stands behind the two fronts
   pull_front : (from to : List Catch) (wanted : List (List ℕ)) (outcome : Outcome) → PullBy names from to wanted outcome → PullBy names (front ++ from) (others ++ to) wanted (fronted others outcome)
-  pull_front from to wanted outcome (inl w) =
-      inl (
-        front ++ w.0,
-        w.1,
-        arranged_front names front from w.0 w.1 a w.2,
-        elim w.3 [
-          | inl v ↦ inl (v.0, v.1, v.2, merges_front w.0 v.0 to outcome v.3)
-          | inr v ↦ inr (v.0, v.1, v.2, ap (fronted others) v.3)
-        ],
-      )
+  pull_front from to wanted outcome (inl (x, y, w, inl v)) =
+      inl (front ++ x, y, arranged_front names front from x y a w, inl (v.0, v.1, v.2, merges_front x v.0 to outcome v.3))
+  pull_front from to wanted outcome (inl (x, y, w, inr v)) =
+      inl (front ++ x, y, arranged_front names front from x y a w, inr (v.0, v.1, v.2, ap (fronted others) v.3))
   pull_front from to wanted outcome (inr w) =
       inr (w.0, w.1, sticks_front names front from w.0 w.1 a w.2, ap (fronted others) w.3)
 

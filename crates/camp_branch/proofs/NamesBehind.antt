@@ -35,16 +35,9 @@ module _ (names others : List (List ℕ)) where
   merges_alike from_common chosen to outcome same (inr w) = inr (w.0, w.1, stuck_alike [] to w.0 w.1 same w.2, w.3)
 
   pull_alike : (from to : List Catch) (wanted : List (List ℕ)) (outcome : Outcome) → AlikeOn from → AlikeOn to → PullBy names from to wanted outcome → PullBy others from to wanted outcome
-  pull_alike from to wanted outcome a b (inl w) =
-      inl (
-        w.0,
-        w.1,
-        arranged_alike [] from w.0 w.1 a w.2,
-        elim w.3 [
-          | inl v ↦ inl (v.0, v.1, v.2, merges_alike w.0 v.0 to outcome b v.3)
-          | inr v ↦ inr v
-        ],
-      )
+  pull_alike from to wanted outcome a b (inl (x, y, w, inl v)) =
+      inl (x, y, arranged_alike [] from x y a w, inl (v.0, v.1, v.2, merges_alike x v.0 to outcome b v.3))
+  pull_alike from to wanted outcome a b (inl (x, y, w, inr v)) = inl (x, y, arranged_alike [] from x y a w, inr v)
   pull_alike from to wanted outcome a b (inr w) = inr (w.0, w.1, stuck_alike [] from w.0 w.1 a w.2, w.3)
 
 -- whether a patch of either list is common: by whether it is in the lists, and by whether it is in the branches
