@@ -1,11 +1,5 @@
 -- The end of the file of a path, before and behind primitives: two that change places move it from where they did to where they did.
-use Rattle.std.proofs.Common.{◌≡◌, ◌≢◌, ℕ, ◌+◌, ◌-◌, ◌≤◌, ◌⊎◌, List, length, refl, sym, ap, ◌∙◌, subst, inl, inr, arith}
-use Rattle.std.specs.FinMap.{slice_cmp-IsAntisymmetric, nat_cmp-IsAntisymmetric}
-use Rattle.std.proofs.lemmas.Cmp.{nat_list_cmp_total}
-use Rattle.camp_prim.specs.Hunks.{Edit}
-use Rattle.camp_prim.specs.Swaps.{path_of, at_line, ChangePlaces}
-use Rattle.camp_prim.specs.declared.primitives.Primitive.{Primitive}
-use Rattle.camp_prim.specs.declared.primitives.Primitive.TheVariants.{Add, Remove, Hunk}
+use Rattle.camp_prim.proofs.Words.{◌≡◌, ◌≢◌, ℕ, ◌+◌, ◌-◌, ◌≤◌, ◌⊎◌, List, length, refl, sym, ap, ◌∙◌, subst, inl, inr, arith, slice_cmp-IsAntisymmetric, nat_cmp-IsAntisymmetric, nat_list_cmp_total, Edit, path_of, at_line, ChangePlaces, Primitive, Add, Remove, Hunk}
 use Rattle.camp_prim.proofs.SwapDecided.{Decided, same_or_not}
 
 -- a hunk of so many old and new lines stands at a line of a file that ends here, and moves the end there

@@ -1,12 +1,5 @@
 -- What two primitives become is determined.
-use Rattle.std.proofs.Common.{◌≡◌, ◌+◌, ◌<◌, true, false, None, Some, length, refl, sym, ap, ◌∙◌, inl, inr, arith}
-use Rattle.camp_prim.specs.Hunks.{Edit}
-use Rattle.camp_prim.specs.Labels.{label_of}
-use Rattle.camp_prim.specs.Laws.{CommuteIsExchange, SwapIsUnique}
-use Rattle.camp_prim.specs.Swaps.{path_of, at_line, SwapsBelow, SwapsAbove, ChangePlaces}
-use Rattle.camp_prim.specs.declared.primitives.Primitive.{Primitive}
-use Rattle.camp_prim.specs.declared.primitives.Primitive.TheVariants.{Hunk}
-use Rattle.camp_prim.specs.declared.named.Named.{Named}
+use Rattle.camp_prim.proofs.Words.{◌≡◌, ◌+◌, ◌<◌, true, false, None, Some, length, refl, sym, ap, ◌∙◌, inl, inr, arith, Edit, label_of, CommuteIsExchange, SwapIsUnique, path_of, at_line, SwapsBelow, SwapsAbove, ChangePlaces, Primitive, Hunk, Named}
 
 pub same_named : (a b : Named) → label_of a ≡ label_of b → a.prim ≡ b.prim → a ≡ b
 same_named a b labels prims = λ i. record { name = (labels i).name; place = (labels i).place; inverse = (labels i).inverse; prim = prims i }
