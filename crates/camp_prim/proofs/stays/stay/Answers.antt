@@ -1,6 +1,4 @@
-use Rattle.std.proofs.Common.{◌≡◌, true}
-use Rattle.camp_prim.proofs.Moving.{no_swap, told_not}
-use Rattle.camp_prim.proofs.Staying.{stay_there, none_moves}
+use Rattle.camp_prim.proofs.Moving.{no_swap}
 use Rattle.camp_prim.proofs.stays.stay.Goals as goal
 
 pub returns-in-None : goal.returns-in-None
