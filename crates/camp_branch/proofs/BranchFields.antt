@@ -1,22 +1,9 @@
 -- The fields of a branch: its list grown by what is recorded, and its index.
-use Rattle.std.proofs.Common.{◌≡◌, ◌≤◌, ◌<◌, ℕ, suc, ◌+◌, Bool, true, false, cond, ◌||◌, Option, None, Some, List, [], ◌∷◌, ◌++◌, map, take, length, slice_index_or, is_some, bytes_eq, refl, sym, ap, ◌∙◌, subst, arith}
-use Rattle.std.proofs.lemmas.List.{append-nil, append_assoc, drop_all, length-take-le, map-append, take_all, take_more}
-use Rattle.std.proofs.lemmas.List.Folds.{list_any-append}
-use Rattle.std.proofs.lemmas.Map.Text.{is_eq-slice_cmp}
-use Rattle.std.specs.List.{splice}
-use Rattle.std.specs.Ordering.{nat_cmp, eq_by_cmp}
-use Rattle.std.specs.Cmp.Lexicographic.{slice_cmp, nat_list_cmp_total}
-use Rattle.std.specs.FinMap.{FinMap, contains_key, get, empty, get-empty, get-insert, insert}
-use Rattle.camp_prim.specs.declared.primitives.Primitive.{Primitive}
-use Rattle.camp_catch.specs.Catches.{FitsAll}
-use Rattle.camp_catch.specs.declared.catches.Catch.{Catch}
-use Rattle.camp_catch.specs.declared.catches.Catch.TheVariants.{Plain}
-use Rattle.camp_base.specs.Trees.{Files}
-use Rattle.camp_branch.specs.Branches.{IsLawfulBranch, LeadsTo, has_patch, is_among, name_of, recorded}
-use Rattle.camp_branch.specs.Laws.{AppliesEach}
+use Rattle.camp_branch.proofs.Words.{◌≡◌, ◌≤◌, ◌<◌, ℕ, ◌+◌, Bool, false, cond, ◌||◌, Option, Some, List, [], ◌∷◌, ◌++◌, map, length, slice_index_or, is_some, bytes_eq, refl, sym, ap, ◌∙◌, subst, arith, append-nil, append_assoc, drop_all, take_all, is_eq-slice_cmp, splice, nat_cmp, eq_by_cmp, slice_cmp, nat_list_cmp_total, FinMap, contains_key, get, empty, get-empty, get-insert, insert, Primitive, FitsAll, Catch, Plain, Files, IsLawfulBranch, LeadsTo, has_patch, is_among, name_of, recorded, AppliesEach, drop_more, drop, or-false, or_self, cond_both, or_right}
 use Rattle.camp_branch.proofs.BranchLabels.{recorded_patches}
 use Rattle.camp_branch.proofs.BranchTrees.{joined_fits, one_end, recorded_tree}
 use Rattle.camp_branch.proofs.EffectSteps.{second_fits}
+use Rattle.camp_branch.proofs.Names.{has_split}
 
 -- a set of names
 abbrev pub Names : Type 0
@@ -30,46 +17,24 @@ pub none_indexed : (names : Names) → names ≡ empty → Indexes names []
 none_indexed names is name = ap (λ m. contains_key m name) is ∙ ap is_some (get-empty (slice_cmp nat_cmp) name)
 
 is_some_of : {X : Type 0} (b : Bool) (x : X) (o : Option X) → is_some (cond b (Some x) o) ≡ (is_some o || b)
-is_some_of true x None = refl
-is_some_of true x (Some y) = refl
-is_some_of false x None = refl
-is_some_of false x (Some y) = refl
+is_some_of b x o =
+    cond_both b (Some x) o (λ y. is_some y ≡ (is_some o || b)) (λ e. sym (or_right (is_some o) b e)) (λ e. sym (ap (λ c. is_some o || c) e ∙ or-false (is_some o)))
 
 -- a name more
 pub contains_more : (names : Names) (added name : List ℕ) → contains_key (insert names added tt) name ≡ (contains_key names name || bytes_eq name added)
 contains_more names added name =
     ap is_some (get-insert nat_list_cmp_total names added tt name) ∙ is_some_of (eq_by_cmp (slice_cmp nat_cmp) name added) tt (get names name) ∙ ap (λ b. contains_key names name || b) (is_eq-slice_cmp name added)
 
-or_itself : (b c : Bool) → (c ≡ b) → (b || c) ≡ b
-or_itself true c e = refl
-or_itself false c e = e
-
-pub or_none : (b : Bool) → (b || false) ≡ b
-or_none true = refl
-or_none false = refl
-
 -- what is recorded has one name
 among_recorded : (name added : List ℕ) (place : ℕ) (changes : List Primitive) → 1 ≤ length changes → is_among (map name_of (recorded added place changes)) name ≡ bytes_eq name added
 among_recorded name added place [] some = absurd (omega arith)
-among_recorded name added place (change ∷ []) some = or_none (bytes_eq name added)
+among_recorded name added place (change ∷ []) some = or-false (bytes_eq name added)
 among_recorded name added place (change ∷ more ∷ changes) some =
-    or_itself (bytes_eq name added) _ (among_recorded name added (place + 1) (more ∷ changes) (omega arith))
+    ap (λ b. bytes_eq name added || b) (among_recorded name added (place + 1) (more ∷ changes) (omega arith)) ∙ or_self (bytes_eq name added)
 
 pub recorded_indexed : (names more : Names) (branch grown : List Catch) (added : List ℕ) (changes : List Primitive) → Indexes names branch → more ≡ insert names added tt → grown ≡ branch ++ recorded added 1 changes → 1 ≤ length changes → Indexes more grown
 recorded_indexed names more branch grown added changes indexed becomes pushed some name =
-    ap (λ m. contains_key m name) becomes ∙ contains_more names added name ∙ (λ i. indexed name i || sym (among_recorded name added 1 changes some) i) ∙ sym (ap (λ l. has_patch l name) pushed ∙ ap (λ l. is_among l name) (map-append name_of branch (recorded added 1 changes)) ∙ list_any-append (bytes_eq name) (map name_of branch) (map name_of (recorded added 1 changes)))
-
--- one more change is recorded
-recorded_push : (name : List ℕ) (place : ℕ) (changes : List Primitive) (change : Primitive) → recorded name place (changes ++ change ∷ []) ≡ recorded name place changes ++ Plain (record { name = name; place = place + length changes; inverse = false; prim = change }) ∷ []
-recorded_push name place [] change =
-    ap (λ (p : ℕ). Plain (record { name = name; place = p; inverse = false; prim = change }) ∷ []) (let e : place ≡ place + 0 = omega arith in e)
-recorded_push name place (first ∷ changes) change =
-    ap (λ t. Plain (record { name = name; place = place; inverse = false; prim = first }) ∷ t) (recorded_push name (place + 1) changes change ∙ ap (λ (p : ℕ). recorded name (place + 1) changes ++ Plain (record { name = name; place = p; inverse = false; prim = change }) ∷ []) (let e : place + 1 + length changes ≡ place + suc (length changes) = omega arith in e))
-
-pub one_more_recorded : (catches list next : List Catch) (name : List ℕ) (place : ℕ) (done more : List Primitive) (change : Primitive) (k : Catch) → list ≡ catches ++ recorded name 1 done → place ≡ length done + 1 → more ≡ done ++ change ∷ [] → k ≡ Plain (record { name = name; place = place; inverse = false; prim = change }) → next ≡ list ++ k ∷ [] → next ≡ catches ++ recorded name 1 more
-one_more_recorded catches list next name place done more change k was at longer is pushed =
-    let here : place ≡ 1 + length done = omega (at, arith) in
-    pushed ∙ (λ i. was i ++ (is ∙ ap (λ (p : ℕ). Plain (record { name = name; place = p; inverse = false; prim = change })) here) i ∷ []) ∙ append_assoc catches (recorded name 1 done) _ ∙ ap (λ t. catches ++ t) (sym (recorded_push name 1 done change)) ∙ ap (λ t. catches ++ recorded name 1 t) (sym longer)
+    ap (λ m. contains_key m name) becomes ∙ contains_more names added name ∙ (λ i. indexed name i || sym (among_recorded name added 1 changes some) i) ∙ sym (ap (λ l. has_patch l name) pushed ∙ has_split branch (recorded added 1 changes) name)
 
 pub lawful_none : IsLawfulBranch []
 lawful_none =
@@ -89,11 +54,12 @@ grown branch more name changes old new lawful leads new_name some few applies is
       kept = subst (λ l. LeadsTo l new) (sym is) tree;
     }
 
--- the next change of a list of changes is recorded
-pub recorded_step : (catches list next : List Catch) (name : List ℕ) (place i : ℕ) (changes : List Primitive) (change d : Primitive) (k : Catch) → i < length changes → list ≡ catches ++ recorded name 1 (take i changes) → place ≡ i + 1 → change ≡ slice_index_or changes i d → k ≡ Plain (record { name = name; place = place; inverse = false; prim = change }) → next ≡ list ++ k ∷ [] → next ≡ catches ++ recorded name 1 (take (i + 1) changes)
-recorded_step catches list next name place i changes change d k within was at item is pushed =
-    let long : length (take i changes) ≡ i = length-take-le i changes (omega arith) in
-    one_more_recorded catches list next name place (take i changes) (take (i + 1) changes) change k was (at ∙ ap (λ n. n + 1) (sym long)) (take_more changes i d within ∙ ap (λ x. take i changes ++ x ∷ []) (sym item)) is pushed
+-- of some changes, those of the rest are still to be recorded
+pub one_recorded : (list next : List Catch) (name : List ℕ) (place i : ℕ) (changes : List Primitive) (change d : Primitive) (k : Catch) (aim : List Catch) → i < length changes → change ≡ slice_index_or changes i d → k ≡ Plain (record { name = name; place = place; inverse = false; prim = change }) → next ≡ list ++ k ∷ [] → list ++ recorded name place (drop i changes) ≡ aim → next ++ recorded name (place + 1) (drop (i + 1) changes) ≡ aim
+one_recorded list next name place i changes change d k aim within item is pushed so_far =
+    let rest = recorded name (place + 1) (drop (i + 1) changes) in
+    let there : drop i changes ≡ change ∷ drop (i + 1) changes = drop_more changes i d within ∙ ap (λ x. x ∷ drop (i + 1) changes) (sym item) in
+    (λ j. pushed j ++ rest) ∙ append_assoc list (k ∷ []) rest ∙ ap (λ x. list ++ x ∷ rest) is ∙ ap (λ l. list ++ recorded name place l) (sym there) ∙ so_far
 
 spliced_at_end : (catches taken : List Catch) (n : ℕ) → n ≡ length catches → splice catches n n taken ≡ catches ++ taken
 spliced_at_end catches taken n is =
@@ -116,4 +82,4 @@ taken_lead catches own taken next old new was becomes leads fits =
 
 pub taken_indexed : (names all : Names) (catches own taken next : List Catch) → Indexes names catches → catches ≡ own → ((name : List ℕ) → contains_key all name ≡ (contains_key names name || is_among (map name_of taken) name)) → next ≡ own ++ taken → Indexes all next
 taken_indexed names all catches own taken next indexed was grown becomes name =
-    grown name ∙ ap (λ b. b || is_among (map name_of taken) name) (indexed name ∙ ap (λ l. has_patch l name) was) ∙ sym (ap (λ l. has_patch l name) becomes ∙ ap (λ l. is_among l name) (map-append name_of own taken) ∙ list_any-append (bytes_eq name) (map name_of own) (map name_of taken))
+    grown name ∙ ap (λ b. b || is_among (map name_of taken) name) (indexed name ∙ ap (λ l. has_patch l name) was) ∙ sym (ap (λ l. has_patch l name) becomes ∙ has_split own taken name)

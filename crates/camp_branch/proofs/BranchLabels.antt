@@ -1,27 +1,13 @@
 -- The labels and the names of branches, by their patches.
-use Rattle.std.proofs.Common.{◌≡◌, ◌≤◌, ◌==◌, ℕ, zero, suc, ◌+◌, Bool, true, false, not, ◌||◌, cond, List, [], ◌∷◌, ◌++◌, map, filter, length, bytes_eq, Ok, refl, sym, ap, ◌∙◌, subst, inl, inr, arith}
-use Rattle.std.specs.List.{AllByRecursion}
-use Rattle.std.proofs.lemmas.List.{append-nil, append_assoc, map-append}
-use Rattle.std.proofs.lemmas.Bool.{eqb-true}
-use Rattle.std.proofs.lemmas.List.Elements.{filter-append}
-use Rattle.camp_prim.specs.declared.labels.Key.{Key}
-use Rattle.camp_prim.specs.declared.primitives.Primitive.{Primitive}
-use Rattle.camp_catch.specs.Catches.{catch_key}
-use Rattle.camp_catch.specs.Laws.{KeysPart, keys_of}
-use Rattle.camp_catch.specs.declared.catches.Catch.{Catch}
-use Rattle.camp_catch.proofs.KeptLabels.{keep_labels}
-use Rattle.camp_branch.specs.Branches.{AreDistinct, HasPatches, IsSized, Patch, each_once, has_patch, is_among, labels_from, labels_of, name_of, names_of, patch_names, recorded}
-use Rattle.camp_branch.specs.Laws.{others_of, those_of}
-use Rattle.camp_branch.specs.Obliterating.{ObliterateGives, other_names}
-use Rattle.camp_branch.specs.Pulling.{PullGives, common_names}
-use Rattle.camp_branch.proofs.Names.{all_append, all_filter, distinct_append, distinct_filter, filter_within, is_among_is, name_itself, not_among, not_kept, or_parts, or_true, other_way, passes_is_kept, without_other}
+use Rattle.camp_branch.proofs.Words.{◌≡◌, ◌≤◌, ◌==◌, ℕ, zero, suc, ◌+◌, Bool, true, false, not, cond, List, [], ◌∷◌, ◌++◌, map, filter, length, bytes_eq, Ok, refl, sym, ap, ◌∙◌, subst, inl, inr, arith, AllByRecursion, append-nil, append_assoc, map-append, filter-append, Key, Primitive, catch_key, KeysPart, keys_of, Catch, AreDistinct, HasPatches, IsSized, Patch, each_once, has_patch, is_among, labels_from, labels_of, name_of, names_of, patch_names, recorded, others_of, those_of, ObliterateGives, other_names, PullGives, common_names, true≢false, cond-false, cond-true, cond_both, false_from_ne_true, ne_eqb, or_from, keep_labels}
+use Rattle.camp_branch.proofs.Names.{all_append, all_filter, among_once, distinct_append, distinct_filter, each_among, filter_image, each_named, filter_within, is_among_is, name_itself, not_among, not_kept, passes_is_kept, same_name, without_other}
 use Rattle.camp_branch.proofs.Steps.{left_by, pulled_by}
 
 -- the names of labels
 abbrev pub key_names : List Key → List (List ℕ)
 key_names keys = map (λ k. k.name) keys
 
-named_by_keys : (branch : List Catch) → map name_of branch ≡ key_names (keys_of branch)
+pub named_by_keys : (branch : List Catch) → map name_of branch ≡ key_names (keys_of branch)
 named_by_keys [] = refl
 named_by_keys (k ∷ branch) = ap (λ t. name_of k ∷ t) (named_by_keys branch)
 
@@ -30,45 +16,40 @@ abbrev but_for : List ℕ → List (List ℕ) → List (List ℕ)
 but_for name names = filter (λ other. not (bytes_eq name other)) names
 
 not_itself : (name : List ℕ) (names : List (List ℕ)) → but_for name (name ∷ names) ≡ but_for name names
-not_itself name names = ap (λ b. cond (not b) (name ∷ but_for name names) (but_for name names)) (name_itself name)
+not_itself name names = cond-false (not (bytes_eq name name)) _ _ (ap not (name_itself name))
 
 -- the labels of one patch have one name
-once_of_patch : (name : List ℕ) (place changes : ℕ) (keys : List Key) → each_once (key_names (labels_from name place (suc changes) ++ keys)) ≡ name ∷ but_for name (each_once (key_names keys))
-once_of_patch name place zero keys = refl
-once_of_patch name place (suc changes) keys =
-    ap (λ t. name ∷ but_for name t) (once_of_patch name (place + 1) changes keys) ∙ ap (λ t. name ∷ t) (not_itself name _ ∙ filter_within (λ other. not (bytes_eq name other)) (λ other. not (bytes_eq name other)) (λ x e. e) _)
-
-once_of_sized : (name : List ℕ) (place changes : ℕ) (keys : List Key) → 1 ≤ changes → each_once (key_names (labels_from name place changes ++ keys)) ≡ name ∷ but_for name (each_once (key_names keys))
-once_of_sized name place zero keys le = absurd (omega arith)
-once_of_sized name place (suc changes) keys le = once_of_patch name place changes keys
+once_of_patch : (name : List ℕ) (place changes : ℕ) (keys : List Key) → 1 ≤ changes → each_once (key_names (labels_from name place changes ++ keys)) ≡ name ∷ but_for name (each_once (key_names keys))
+once_of_patch name place zero keys le = absurd (omega arith)
+once_of_patch name place (suc zero) keys le = refl
+once_of_patch name place (suc (suc changes)) keys le =
+    ap (λ t. name ∷ but_for name t) (once_of_patch name (place + 1) (suc changes) keys (omega arith)) ∙ ap (λ t. name ∷ t) (not_itself name _ ∙ filter_within (λ other. not (bytes_eq name other)) (λ other. not (bytes_eq name other)) (λ x e. e) _)
 
 once_of_patches : (patches : List Patch) → AreDistinct (patch_names patches) → AllByRecursion IsSized patches → each_once (key_names (labels_of patches)) ≡ patch_names patches
 once_of_patches [] distinct sized = refl
 once_of_patches (p ∷ patches) distinct sized =
-    once_of_sized p.name 1 p.changes (labels_of patches) sized.0.0 ∙ ap (λ t. p.name ∷ but_for p.name t) (once_of_patches patches distinct.1 sized.1) ∙ ap (λ t. p.name ∷ t) (without_other p.name (patch_names patches) distinct.0)
+    once_of_patch p.name 1 p.changes (labels_of patches) sized.0.0 ∙ ap (λ t. p.name ∷ but_for p.name t) (once_of_patches patches distinct.1 sized.1) ∙ ap (λ t. p.name ∷ t) (without_other p.name (patch_names patches) distinct.0)
 
 pub names_of_patches : (branch : List Catch) (patches : List Patch) → HasPatches branch patches → names_of branch ≡ patch_names patches
 names_of_patches branch patches has =
     ap each_once (named_by_keys branch ∙ ap key_names has.labels) ∙ once_of_patches patches has.distinct has.sized
 
 module _ (passes : List ℕ → Bool) where
-  labels_chosen : (name : List ℕ) (place changes : ℕ) (b : Bool) → passes name ≡ b → filter (λ k. passes k.name) (labels_from name place changes) ≡ cond b (labels_from name place changes) []
-  labels_chosen name place zero true e = refl
-  labels_chosen name place zero false e = refl
-  labels_chosen name place (suc changes) true e =
-      ap (λ b. cond b (record { name = name; place = place } ∷ filter (λ k. passes k.name) (labels_from name (place + 1) changes)) (filter (λ k. passes k.name) (labels_from name (place + 1) changes))) e ∙ ap (λ t. record { name = name; place = place } ∷ t) (labels_chosen name (place + 1) changes true e)
-  labels_chosen name place (suc changes) false e =
-      ap (λ b. cond b (record { name = name; place = place } ∷ filter (λ k. passes k.name) (labels_from name (place + 1) changes)) (filter (λ k. passes k.name) (labels_from name (place + 1) changes))) e ∙ labels_chosen name (place + 1) changes false e
+  labels_kept : (name : List ℕ) (place changes : ℕ) → passes name ≡ true → filter (λ k. passes k.name) (labels_from name place changes) ≡ labels_from name place changes
+  labels_kept name place zero e = refl
+  labels_kept name place (suc changes) e =
+      cond-true (passes name) _ _ e ∙ ap (λ t. record { name = name; place = place } ∷ t) (labels_kept name (place + 1) changes e)
 
-  labels_joined : (p : Patch) (rest : List Patch) (b : Bool) → cond b (labels_from p.name 1 p.changes) [] ++ labels_of rest ≡ labels_of (cond b (p ∷ rest) rest)
-  labels_joined p rest true = refl
-  labels_joined p rest false = refl
+  labels_dropped : (name : List ℕ) (place changes : ℕ) → passes name ≡ false → filter (λ k. passes k.name) (labels_from name place changes) ≡ []
+  labels_dropped name place zero e = refl
+  labels_dropped name place (suc changes) e = cond-false (passes name) _ _ e ∙ labels_dropped name (place + 1) changes e
 
   -- the labels with some names are those of the patches with these names
   pub labels_of_chosen : (patches : List Patch) → filter (λ k. passes k.name) (labels_of patches) ≡ labels_of (filter (λ p. passes p.name) patches)
   labels_of_chosen [] = refl
   labels_of_chosen (p ∷ patches) =
-      filter-append (λ (k : Key). passes k.name) (labels_from p.name 1 p.changes) (labels_of patches) ∙ (λ i. labels_chosen p.name 1 p.changes (passes p.name) refl i ++ labels_of_chosen patches i) ∙ labels_joined p (filter (λ q. passes q.name) patches) (passes p.name)
+      let rest = filter (λ q. passes q.name) patches in
+      filter-append (λ (k : Key). passes k.name) (labels_from p.name 1 p.changes) (labels_of patches) ∙ cond_both (passes p.name) (p ∷ rest) rest (λ l. filter (λ k. passes k.name) (labels_from p.name 1 p.changes) ++ filter (λ k. passes k.name) (labels_of patches) ≡ labels_of l) (λ e i. labels_kept p.name 1 p.changes e i ++ labels_of_chosen patches i) (λ e i. labels_dropped p.name 1 p.changes e i ++ labels_of_chosen patches i)
 
 pub labels_of-append : (ps qs : List Patch) → labels_of (ps ++ qs) ≡ labels_of ps ++ labels_of qs
 labels_of-append [] qs = refl
@@ -80,67 +61,35 @@ abbrev Chosen : List (List ℕ) → List Key → List Key → List Key → Type 
 Chosen names keys first rest =
     (first ≡ filter (λ k. is_among names k.name) keys) × (rest ≡ filter (λ k. not (is_among names k.name)) keys)
 
-chosen_with : (names : List (List ℕ)) (key : Key) (keys first rest t : List Key) → is_among names key.name ≡ true → Chosen names keys t rest → first ≡ key ∷ t → Chosen names (key ∷ keys) first rest
-chosen_with names key keys first rest t e w is =
-    (is ∙ ap (λ s. key ∷ s) w.0 ∙ sym (ap (λ c. cond c (key ∷ filter (λ k. is_among names k.name) keys) (filter (λ k. is_among names k.name) keys)) e), w.1 ∙ sym (ap (λ c. cond (not c) (key ∷ filter (λ k. not (is_among names k.name)) keys) (filter (λ k. not (is_among names k.name)) keys)) e))
-
-chosen_without : (names : List (List ℕ)) (key : Key) (keys first rest t : List Key) → is_among names key.name ≡ false → Chosen names keys first t → rest ≡ key ∷ t → Chosen names (key ∷ keys) first rest
-chosen_without names key keys first rest t e w is =
-    (w.0 ∙ sym (ap (λ c. cond c (key ∷ filter (λ k. is_among names k.name) keys) (filter (λ k. is_among names k.name) keys)) e), is ∙ ap (λ s. key ∷ s) w.1 ∙ sym (ap (λ c. cond (not c) (key ∷ filter (λ k. not (is_among names k.name)) keys) (filter (λ k. not (is_among names k.name)) keys)) e))
-
 chosen_by : (names : List (List ℕ)) (keys first rest : List Key) → KeysPart names keys first rest → Chosen names keys first rest
 chosen_by names [] first rest w = w
 chosen_by names (key ∷ keys) first rest (inl w) =
     let v = w.1 in
-    chosen_with names key keys first rest v.0 ((is_among_is names key.name).0 w.0) (chosen_by names keys v.0 rest v.1) v.2
+    let e = (is_among_is names key.name).0 w.0 in
+    let more = chosen_by names keys v.0 rest v.1 in
+    (v.2 ∙ ap (λ t. key ∷ t) more.0 ∙ sym (cond-true (is_among names key.name) _ _ e), more.1 ∙ sym (cond-false (not (is_among names key.name)) _ _ (ap not e)))
 chosen_by names (key ∷ keys) first rest (inr w) =
     let v = w.1 in
-    chosen_without names key keys first rest v.0 (not_among names key.name w.0) (chosen_by names keys first v.0 v.1) v.2
+    let e = not_among names key.name w.0 in
+    let more = chosen_by names keys first v.0 v.1 in
+    (more.0 ∙ sym (cond-false (is_among names key.name) _ _ e), v.2 ∙ ap (λ t. key ∷ t) more.1 ∙ sym (cond-true (not (is_among names key.name)) _ _ (ap not e)))
 
--- names of a patch are the names of its labels
-among_labels : (name : List ℕ) (p : Patch) (place changes : ℕ) (rest : List Key) → 1 ≤ changes → is_among (key_names (labels_from p.name place changes ++ rest)) name ≡ false → bytes_eq name p.name ≡ false
-among_labels name p place zero rest le e = absurd (omega arith)
-among_labels name p place (suc changes) rest le e =
-    (or_parts (bytes_eq name p.name) (is_among (key_names (labels_from p.name (place + 1) changes ++ rest)) name) e).0
-
-among_rest : (name other : List ℕ) (place changes : ℕ) (rest : List Key) → is_among (key_names (labels_from other place changes ++ rest)) name ≡ false → is_among (key_names rest) name ≡ false
-among_rest name other place zero rest e = e
-among_rest name other place (suc changes) rest e =
-    among_rest name other (place + 1) changes rest (or_parts (bytes_eq name other) (is_among (key_names (labels_from other (place + 1) changes ++ rest)) name) e).1
-
--- a name that no label has is no patch's
-among_patches : (name : List ℕ) (patches : List Patch) → AllByRecursion IsSized patches → is_among (key_names (labels_of patches)) name ≡ false → is_among (patch_names patches) name ≡ false
-among_patches name [] sized e = refl
-among_patches name (p ∷ patches) sized e =
-    ap (λ b. b || is_among (patch_names patches) name) (among_labels name p 1 p.changes (labels_of patches) sized.0.0 e) ∙ among_patches name patches sized.1 (among_rest name p.name 1 p.changes (labels_of patches) e)
-
+-- a name of which a branch has no patch is the name of none of its patches
 pub not_a_patch : (branch : List Catch) (patches : List Patch) (name : List ℕ) → HasPatches branch patches → has_patch branch name ≡ false → is_among (patch_names patches) name ≡ false
 not_a_patch branch patches name has e =
-    among_patches name patches has.sized (sym (ap (λ names. is_among names name) (named_by_keys branch ∙ ap key_names has.labels)) ∙ e)
+    ap (λ names. is_among names name) (sym (names_of_patches branch patches has)) ∙ among_once (map name_of branch) name ∙ e
 
-differs_kept : (names : List (List ℕ)) (name : List ℕ) (p : Patch) (rest : List Patch) (b : Bool) → is_among names p.name ≡ b → (is_among names p.name ≡ true → bytes_eq p.name name ≡ false) → is_among (patch_names rest) name ≡ false → is_among (patch_names (cond b (p ∷ rest) rest)) name ≡ false
-differs_kept names name p rest true e apart more =
-    ap (λ b. b || is_among (patch_names rest) name) (other_way p.name name (apart e)) ∙ more
-differs_kept names name p rest false e apart more = more
-
-none_of : (names : List (List ℕ)) (patches : List Patch) (name : List ℕ) (ours : List (List ℕ)) → ((other : List ℕ) → is_among names other ≡ true → is_among (name ∷ ours) other ≡ false) → is_among (patch_names (those_of names patches)) name ≡ false
-none_of names [] name ours apart = refl
-none_of names (p ∷ patches) name ours apart =
-    differs_kept names name p (those_of names patches) _ refl (λ e. (or_parts (bytes_eq p.name name) (is_among ours p.name) (apart p.name e)).0) (none_of names patches name ours apart)
+names_chosen : (passes : List ℕ → Bool) (patches : List Patch) → patch_names (filter (λ p. passes p.name) patches) ≡ filter passes (patch_names patches)
+names_chosen passes patches = sym (filter_image (λ (p : Patch). p.name) passes patches)
 
 -- patches whose names pass a test, where no name of some others does
 apart_from : (names : List (List ℕ)) (patches : List Patch) (ours : List (List ℕ)) → ((name : List ℕ) → is_among names name ≡ true → is_among ours name ≡ false) → AllByRecursion (λ name. is_among (patch_names (those_of names patches)) name ≡ false) ours
-apart_from names patches [] apart = tt
-apart_from names patches (name ∷ ours) apart =
-    (none_of names patches name ours apart, apart_from names patches ours (λ other e. (or_parts (bytes_eq other name) (is_among ours other) (apart other e)).1))
-
--- a name that is not in `to` is not common
-not_common : (from to : List Catch) (name : List ℕ) → has_patch to name ≡ false → not (is_among (common_names from to) name) ≡ true
-not_common from to name e = ap not (not_kept (has_patch to) (names_of from) name e)
+apart_from names patches ours apart = each_among _ ours (λ name e.
+    ap (λ l. is_among l name) (names_chosen (is_among names) patches) ∙ not_kept (is_among names) (patch_names patches) name (false_from_ne_true (is_among names name) (λ f. true≢false (sym e ∙ apart name f))))
 
 chosen_keys : (from to : List Catch) (wanted : List (List ℕ)) (theirs : List Patch) (behind chosen left ours : List Key) → keys_of from ≡ labels_of theirs → Chosen (common_names from to) (keys_of from) ours behind → Chosen wanted behind chosen left → ((name : List ℕ) → is_among wanted name ≡ true → has_patch to name ≡ false) → chosen ≡ labels_of (those_of wanted theirs)
 chosen_keys from to wanted theirs behind chosen left ours are v w lacked =
-    w.0 ∙ ap (filter (λ k. is_among wanted k.name)) v.1 ∙ filter_within (λ (k : Key). is_among wanted k.name) (λ k. not (is_among (common_names from to) k.name)) (λ k e. not_common from to k.name (lacked k.name e)) (keys_of from) ∙ ap (filter (λ k. is_among wanted k.name)) are ∙ labels_of_chosen (is_among wanted) theirs
+    w.0 ∙ ap (filter (λ k. is_among wanted k.name)) v.1 ∙ filter_within (λ (k : Key). is_among wanted k.name) (λ k. not (is_among (common_names from to) k.name)) (λ k e. ap not (not_kept (has_patch to) (names_of from) k.name (lacked k.name e))) (keys_of from) ∙ ap (filter (λ k. is_among wanted k.name)) are ∙ labels_of_chosen (is_among wanted) theirs
 
 pub pulled_patches : (from to pulled : List Catch) (wanted : List (List ℕ)) (theirs ours : List Patch) → PullGives from to wanted (Ok pulled) → HasPatches from theirs → HasPatches to ours → ((name : List ℕ) → is_among wanted name ≡ true → has_patch to name ≡ false) → HasPatches pulled (ours ++ those_of wanted theirs)
 pulled_patches from to pulled wanted theirs ours gives v w lacked =
@@ -156,14 +105,8 @@ pulled_patches from to pulled wanted theirs ours gives v w lacked =
       labels = ap keys_of p.becomes ∙ map-append catch_key to p.taken ∙ (λ i. w.labels i ++ taken i) ∙ sym (labels_of-append ours (those_of wanted theirs));
     }
 
-among_more : (n : List ℕ) (names : List (List ℕ)) (patches : List Patch) → AllByRecursion (λ p. is_among names p.name ≡ true) patches → AllByRecursion (λ p. is_among (n ∷ names) p.name ≡ true) patches
-among_more n names [] w = tt
-among_more n names (p ∷ patches) w = (or_true (bytes_eq p.name n) _ w.0, among_more n names patches w.1)
-
 own_names : (patches : List Patch) → AllByRecursion (λ p. is_among (patch_names patches) p.name ≡ true) patches
-own_names [] = tt
-own_names (p ∷ patches) =
-    (ap (λ b. b || is_among (patch_names patches) p.name) (name_itself p.name), among_more p.name (patch_names patches) patches (own_names patches))
+own_names patches = each_named (λ (p : Patch). p.name) _ patches (λ p c. (is_among_is (patch_names patches) p.name).0 c)
 
 same_chosen : (passes : List ℕ → Bool) (names : List (List ℕ)) (patches : List Patch) → AllByRecursion (λ p. is_among names p.name ≡ true) patches → filter (λ p. is_among (filter passes names) p.name) patches ≡ filter (λ p. passes p.name) patches
 same_chosen passes names [] w = refl
@@ -183,15 +126,6 @@ left_patches branch left names own gives has =
       labels = first.0 ∙ ap (filter (λ k. is_among (other_names branch names) k.name)) has.labels ∙ labels_of_chosen (is_among (other_names branch names)) own ∙ ap labels_of those;
     }
 
-names_step : (b : Bool) (p : Patch) (rest : List Patch) → patch_names (cond b (p ∷ rest) rest) ≡ cond b (p.name ∷ patch_names rest) (patch_names rest)
-names_step true p rest = refl
-names_step false p rest = refl
-
-names_chosen : (passes : List ℕ → Bool) (patches : List Patch) → patch_names (filter (λ p. passes p.name) patches) ≡ filter passes (patch_names patches)
-names_chosen passes [] = refl
-names_chosen passes (p ∷ patches) =
-    names_step (passes p.name) p (filter (λ q. passes q.name) patches) ∙ ap (λ t. cond (passes p.name) (p.name ∷ t) t) (names_chosen passes patches)
-
 pub names_of_pulled : (from to pulled : List Catch) (wanted : List (List ℕ)) (theirs ours : List Patch) → HasPatches from theirs → HasPatches to ours → HasPatches pulled (ours ++ those_of wanted theirs) → names_of pulled ≡ names_of to ++ filter (is_among wanted) (names_of from)
 names_of_pulled from to pulled wanted theirs ours v w has =
     names_of_patches pulled (ours ++ those_of wanted theirs) has ∙ map-append (λ (p : Patch). p.name) ours (those_of wanted theirs) ∙ (λ i. sym (names_of_patches to ours w) i ++ (names_chosen (is_among wanted) theirs ∙ ap (filter (is_among wanted)) (sym (names_of_patches from theirs v))) i)
@@ -207,10 +141,8 @@ recorded_labels name place (change ∷ changes) =
     ap (λ t. record { name = name; place = place } ∷ t) (recorded_labels name (place + 1) changes)
 
 none_else : (name : List ℕ) (names : List (List ℕ)) → is_among names name ≡ false → AllByRecursion (λ other. is_among (name ∷ []) other ≡ false) names
-none_else name [] e = tt
-none_else name (n ∷ names) e =
-    let parts = or_parts (bytes_eq name n) (is_among names name) e in
-    (ap (λ b. b || false) (other_way name n parts.0), none_else name names parts.1)
+none_else name names e = each_among _ names (λ other f.
+    or_from _ _ (false_from_ne_true (bytes_eq other name) (λ g. true≢false (sym (subst (λ n. is_among names n ≡ true) (same_name other name g) f) ∙ e))) refl)
 
 pub recorded_patches : (branch : List Catch) (patches : List Patch) (name : List ℕ) (changes : List Primitive) → HasPatches branch patches → has_patch branch name ≡ false → 1 ≤ length changes → length changes ≤ 64 → HasPatches (branch ++ recorded name 1 changes) (patches ++ record { name = name; changes = length changes } ∷ [])
 recorded_patches branch patches name changes has new some few =
@@ -226,17 +158,10 @@ recorded_patches branch patches name changes has new some few =
 abbrev pub starts_of : List Key → List (List ℕ)
 starts_of keys = key_names (filter (λ k. k.place == 1) keys)
 
-not_first : (place : ℕ) → 2 ≤ place → (place == 1) ≡ false
-not_first place le = elim (place == 1) as (λ b. (place == 1) ≡ b → b ≡ false) [
-  | true ↦ λ e. let is = eqb-true place 1 e in absurd (omega (is, arith))
-  | false ↦ λ e. refl
-] refl
-
 later_places : (name : List ℕ) (place changes : ℕ) (keys : List Key) → 2 ≤ place → starts_of (labels_from name place changes ++ keys) ≡ starts_of keys
 later_places name place zero keys le = refl
 later_places name place (suc changes) keys le =
-    let other : (place == 1) ≡ false = not_first place le in
-    ap (λ b. key_names (cond b (record { name = name; place = place } ∷ filter (λ k. k.place == 1) (labels_from name (place + 1) changes ++ keys)) (filter (λ k. k.place == 1) (labels_from name (place + 1) changes ++ keys)))) other ∙ later_places name (place + 1) changes keys (omega arith)
+    ap key_names (cond-false (place == 1) _ _ (ne_eqb place 1 (λ e. absurd (omega arith)))) ∙ later_places name (place + 1) changes keys (omega arith)
 
 starts_of_patch : (name : List ℕ) (changes : ℕ) (keys : List Key) → 1 ≤ changes → starts_of (labels_from name 1 changes ++ keys) ≡ name ∷ starts_of keys
 starts_of_patch name zero keys le = absurd (omega arith)
@@ -251,19 +176,9 @@ starts_of_patches (p ∷ patches) sized =
 abbrev pub starts : List Catch → List (List ℕ)
 starts branch = map name_of (filter (λ k. (catch_key k).place == 1) branch)
 
-starts_step : (k : Catch) (rest : List Catch) (b : Bool) → map name_of (cond b (k ∷ rest) rest) ≡ cond b (name_of k ∷ map name_of rest) (map name_of rest)
-starts_step k rest true = refl
-starts_step k rest false = refl
-
-key_step : (key : Key) (rest : List Key) (b : Bool) → key_names (cond b (key ∷ rest) rest) ≡ cond b (key.name ∷ key_names rest) (key_names rest)
-key_step key rest true = refl
-key_step key rest false = refl
-
 starts_by_keys : (branch : List Catch) → starts branch ≡ starts_of (keys_of branch)
-starts_by_keys [] = refl
-starts_by_keys (k ∷ branch) =
-    let test = (catch_key k).place == 1 in
-    starts_step k (filter (λ j. (catch_key j).place == 1) branch) test ∙ ap (λ t. cond test (name_of k ∷ t) t) (starts_by_keys branch) ∙ sym (key_step (catch_key k) (filter (λ key. key.place == 1) (keys_of branch)) test)
+starts_by_keys branch =
+    named_by_keys (filter (λ k. (catch_key k).place == 1) branch) ∙ sym (ap key_names (filter_image catch_key (λ k. k.place == 1) branch))
 
 -- a lawful branch has a catch at place 1 for each of its names
 pub starts_are_names : (branch : List Catch) (patches : List Patch) → HasPatches branch patches → starts branch ≡ names_of branch

@@ -1,20 +1,5 @@
 -- Branches lead to one tree, and what is pulled into them, or left of them, leads to one.
-use Rattle.std.proofs.Common.{◌≡◌, ℕ, ◌+◌, false, List, [], ◌∷◌, ◌++◌, flat_map, Ok, sym, ◌∙◌, subst}
-use Rattle.std.specs.FinMap.{empty}
-use Rattle.camp_base.specs.Trees.{Files}
-use Rattle.camp_prim.specs.declared.named.Named.{Named}
-use Rattle.camp_prim.specs.declared.primitives.Primitive.{Primitive}
-use Rattle.camp_seq.specs.Running.{AppliesAll}
-use Rattle.camp_seq.proofs.ListRuns.{joined_runs}
-use Rattle.camp_catch.specs.Catches.{FitsAll, effect_of}
-use Rattle.camp_catch.specs.Laws.{keys_of}
-use Rattle.camp_catch.specs.declared.catches.Catch.{Catch}
-use Rattle.camp_catch.proofs.Fitting.{one_runs, plain_fits, run_once}
-use Rattle.camp_catch.proofs.ListEffects.{lists_keep_effects}
-use Rattle.camp_branch.specs.Branches.{LeadsTo, recorded}
-use Rattle.camp_branch.specs.Laws.{AppliesEach}
-use Rattle.camp_branch.specs.Obliterating.{ObliterateGives, other_names}
-use Rattle.camp_branch.specs.Pulling.{PullGives, common_names}
+use Rattle.camp_branch.proofs.Words.{◌≡◌, ℕ, ◌+◌, false, List, [], ◌∷◌, ◌++◌, flat_map, Ok, sym, ◌∙◌, subst, empty, Files, Named, Primitive, AppliesAll, joined_runs, FitsAll, effect_of, keys_of, Catch, one_runs, plain_fits, run_once, lists_keep_effects, LeadsTo, recorded, AppliesEach, ObliterateGives, other_names, PullGives, common_names}
 use Rattle.camp_branch.proofs.Steps.{pulled_by, left_by}
 
 pub one_end : (list : List Catch) (old new other : Files) → FitsAll list old new → FitsAll list old other → new ≡ other

@@ -1,24 +1,6 @@
 -- The conflicts of a branch: which they are, and that they are one list.
-use Rattle.std.proofs.Common.{◌≡◌, ◌⊎◌, ℕ, true, Option, None, Some, List, [], ◌∷◌, map, is_some, refl, sym, ap, ◌∙◌, subst, inl, inr}
-use Rattle.std.proofs.lemmas.List.Elements.{Contains-append_cases, Contains-append_left, Contains-append_right}
-use Rattle.std.proofs.lemmas.Map.Views.{Contains-from_any, list_any-from_Contains, tells_apart}
-use Rattle.std.specs.Prelude.{Contains}
-use Rattle.std.specs.List.{flat_map}
-use Rattle.std.specs.Ordering.{ordering_reverse}
-use Rattle.std.specs.Cmp.{eq_by_cmp_equiv}
-use Rattle.std.specs.Cmp.Lexicographic.{nat_list_cmp_total}
-use Rattle.std.specs.FinMap.{contains_key-keys, get, keys}
-use Rattle.std.specs.declared.cmp.Ordering.{Ordering}
-use Rattle.std.specs.declared.cmp.Ordering.TheVariants.{Less, Equal, Greater}
-use Rattle.camp_prim.specs.declared.labels.Key.{Key}
-use Rattle.camp_prim.proofs.LabelOrder.{key_total, key_ties}
-use Rattle.camp_ctx.specs.Contexts.{ContextedPatches, ContextedPatch}
-use Rattle.camp_catch.specs.declared.catches.Catch.{Catch}
-use Rattle.camp_catch.specs.declared.catches.Catch.TheVariants.{Plain}
-use Rattle.camp_branch.specs.Branches.{name_of}
-use Rattle.camp_branch.specs.Conflicting.{AreConflicts, AreInConflict, ConflictsWith, IsBetween}
-use Rattle.camp_branch.specs.Inside.Collecting.{names_against, names_within, ordered_by, pair_of, pairs_at, pairs_in}
-use Rattle.camp_branch.specs.Laws.{ConflictsAreDetermined}
+use Rattle.camp_branch.proofs.Words.{◌≡◌, ◌⊎◌, ℕ, true, Option, None, Some, List, [], ◌∷◌, map, is_some, refl, sym, ap, ◌∙◌, subst, inl, inr, Contains-append_cases, Contains-append_left, Contains-append_right, Contains-from_any, list_any-from_Contains, tells_apart, Contains, flat_map, ordering_reverse, eq_by_cmp_equiv, nat_list_cmp_total, contains_key-keys, get, keys, Ordering, Less, Equal, Greater, Key, key_total, key_ties, ContextedPatches, ContextedPatch, Catch, Plain, name_of, AreConflicts, AreInConflict, ConflictsWith, IsBetween, names_against, names_within, ordered_by, pair_of, pairs_at, pairs_in, ConflictsAreDetermined, ◌<◌, length, get_or, arith, length-map, get_or-map, Contains-get_or}
+use Rattle.camp_branch.proofs.Names.{has_image}
 use Rattle.camp_branch.proofs.SortedPairs.{IsInOrder, Pair, Within, ascending_once, by_name, first_or_later, has_first, has_later, in_order, no_member}
 
 -- what one of the lists has that the elements of a list make
@@ -38,21 +20,11 @@ one_has f (z ∷ list) y c = elim (Contains-append_cases (f z) (flat_map f list)
       (rest.0, has_later z rest.0 list rest.1, rest.2)
 ]
 
-has_image : {X A : Type 0} (f : X → A) (list : List X) (x : X) → Contains list x → Contains (map f list) (f x)
-has_image f [] x c = no_member x c
-has_image f (z ∷ list) x c = elim (first_or_later z x list c) [
-  | inl e ↦ subst (λ y. Contains (f z ∷ map f list) y) (ap f e) (has_first (f z) (map f list))
-  | inr later ↦ has_later (f z) (f x) (map f list) (has_image f list x later)
-]
-
 is_image : {X A : Type 0} (f : X → A) (list : List X) (y : A) → Contains (map f list) y → (x : X) × Contains list x × (f x ≡ y)
 is_image f [] y c = no_member y c
-is_image f (z ∷ list) y c = elim (first_or_later (f z) y (map f list) c) [
-  | inl e ↦ (z, has_first z list, e)
-  | inr later ↦
-      let rest = is_image f list y later in
-      (rest.0, has_later z rest.0 list rest.1, rest.2)
-]
+is_image f (x ∷ list) y (k, within, is) =
+    let place : k < length (x ∷ list) = omega (arith, length-map (x ∷ list) f) in
+    (get_or (x ∷ list) k x, Contains-get_or (x ∷ list) k x place, sym (get_or-map f (x ∷ list) k x y place) ∙ is)
 
 value_of : {X : Type 0} (o : Option X) → is_some o ≡ true → (x : X) × (o ≡ Some x)
 value_of None e = cc

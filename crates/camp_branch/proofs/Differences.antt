@@ -1,7 +1,5 @@
 -- Where two lists of catches differ first, looked for from their fronts.
-use Rattle.std.proofs.Common.{◌≡◌, ℕ, List}
-use Rattle.camp_catch.specs.declared.catches.Catch.{Catch}
-use Rattle.camp_branch.specs.Pulling.{DiffersAt}
+use Rattle.camp_branch.proofs.Words.{◌≡◌, ℕ, List, Catch, DiffersAt}
 
 -- the lists differ, or are the same, as the rests of them
 pub record DiffersOn (list others rest more : List Catch) : Type 0 where

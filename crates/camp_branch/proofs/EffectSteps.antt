@@ -1,14 +1,6 @@
 -- Effects that apply where they are made, and the catches that they are of.
-use Rattle.std.proofs.Common.{◌≡◌, ◌<◌, ◌+◌, ℕ, List, [], ◌∷◌, ◌++◌, drop, length, get_or, refl, sym, subst}
-use Rattle.camp_base.specs.Trees.{Files}
-use Rattle.camp_prim.specs.Effect.{Applies}
-use Rattle.camp_prim.specs.declared.named.Named.{Named}
+use Rattle.camp_branch.proofs.Words.{◌≡◌, ◌<◌, ◌+◌, ℕ, List, [], ◌∷◌, ◌++◌, drop, length, get_or, refl, sym, subst, Files, Applies, Named, AppliesAll, FitsAll, effect_of, Catch, run_once, stands_at}
 use Rattle.camp_prim.proofs.Applied.{applies_once}
-use Rattle.camp_seq.specs.Running.{AppliesAll}
-use Rattle.camp_catch.specs.Catches.{FitsAll, effect_of}
-use Rattle.camp_catch.specs.declared.catches.Catch.{Catch}
-use Rattle.camp_catch.proofs.Fitting.{run_once}
-use Rattle.camp_catch.proofs.MoveSteps.{stands_at}
 
 -- what leads a list from a first tree leads the rest of it from this one
 abbrev pub RunsOn : List Named → Files → List Named → Files → Type 0

@@ -1,53 +1,35 @@
 -- The front of a branch that stays as it is: what stands behind it is arranged alone.
-use Rattle.std.proofs.Common.{◌≡◌, ◌≤◌, ◌+◌, ◌-◌, ◌++◌, ◌&&◌, ℕ, zero, suc, Bool, true, false, not, cond, Ok, Err, List, [], ◌∷◌, take, drop, length, refl, sym, ap, ◌∙◌, subst, inl, inr, arith}
-use Rattle.std.proofs.lemmas.List.{length-drop, take_all}
-use Rattle.std.specs.FinMap.{contains_key, keys}
-use Rattle.std.specs.List.{slice_range}
-use Rattle.camp_prim.specs.declared.labels.Key.{Key}
-use Rattle.camp_catch.specs.Arranging.{Arrange, ArrangeSticks}
-use Rattle.camp_catch.specs.declared.catches.Catch.{Catch}
-use Rattle.camp_branch.specs.Branches.{IsLawfulBranch, has_patch, is_among, name_of}
-use Rattle.camp_branch.specs.Inside.Fronts.{front_of}
-use Rattle.camp_branch.specs.Inside.Stages.{DependsIn}
-use Rattle.camp_branch.specs.Obliterating.{ObliterateGives}
-use Rattle.camp_branch.specs.declared.faults.Blocked.{Blocked}
+use Rattle.camp_branch.proofs.Words.{◌≡◌, ◌≤◌, ◌+◌, ◌-◌, ◌++◌, ◌&&◌, ℕ, zero, suc, Bool, true, false, not, cond, Ok, Err, List, [], ◌∷◌, take, drop, length, refl, sym, ap, ◌∙◌, subst, arith, length-drop, take_all, contains_key, keys, slice_range, Key, Arrange, ArrangeSticks, Catch, IsLawfulBranch, has_patch, is_among, name_of, front_of, DependsIn, ObliterateGives, Blocked, cond_both, take-append-drop}
 use Rattle.camp_branch.proofs.BranchFields.{Names}
 use Rattle.camp_branch.proofs.KeepLawful.{obliterates_keep_lawful}
 use Rattle.camp_branch.proofs.NameSets.{has_listed}
 use Rattle.camp_branch.proofs.Names.{is_among_is}
 use Rattle.camp_branch.proofs.NamesKept.{left_has, obliterate_depends, obliterated}
+use Rattle.camp_branch.proofs.AgreedFronts.{AllOf, arranged_front, sticks_front}
 
 module _ (names : List (List ℕ)) where
-  within_by : (b : Bool) (n m : ℕ) → n ≤ m → cond b (suc n) zero ≤ suc m
-  within_by true n m le = omega (le, arith)
-  within_by false n m le = omega arith
-
   pub front_within : (list : List Catch) → front_of names list ≤ length list
   front_within [] = omega arith
   front_within (k ∷ list) =
-      within_by (is_among names (name_of k)) (front_of names list) (length list) (front_within list)
+      cond_both (is_among names (name_of k)) (suc (front_of names list)) zero (λ m. m ≤ suc (length list)) (λ e. omega (arith, front_within list)) (λ e. omega arith)
 
-  arranged_by : (k : Catch) (list first rest : List Catch) (b : Bool) (n : ℕ) → is_among names (name_of k) ≡ b → (Arrange names (drop n list) first rest → Arrange names list (take n list ++ first) rest) → Arrange names (drop (cond b (suc n) zero) (k ∷ list)) first rest → Arrange names (k ∷ list) (take (cond b (suc n) zero) (k ∷ list) ++ first) rest
-  arranged_by k list first rest true n e behind w =
-      inl ((is_among_is names (name_of k)).1 e, (k, [], take n list ++ first, (refl, refl), behind w, refl))
-  arranged_by k list first rest false n e behind w = w
+  -- each catch of the front is of one of the patches
+  front_all : (list : List Catch) → AllOf names (take (front_of names list) list)
+  front_all [] = tt
+  front_all (k ∷ list) =
+      cond_both (is_among names (name_of k)) (suc (front_of names list)) zero (λ m. AllOf names (take m (k ∷ list))) (λ e. ((is_among_is names (name_of k)).1 e, front_all list)) (λ e. tt)
 
   -- the front is arranged as it stands
   pub arranged_behind : (list first rest : List Catch) → Arrange names (drop (front_of names list) list) first rest → Arrange names list (take (front_of names list) list ++ first) rest
-  arranged_behind [] first rest w = w
-  arranged_behind (k ∷ list) first rest w =
-      arranged_by k list first rest (is_among names (name_of k)) (front_of names list) refl (arranged_behind list first rest) w
-
-  sticks_by : (k : Catch) (list : List Catch) (patch on : Key) (b : Bool) (n : ℕ) → is_among names (name_of k) ≡ b → (ArrangeSticks names (drop n list) patch on → ArrangeSticks names list patch on) → ArrangeSticks names (drop (cond b (suc n) zero) (k ∷ list)) patch on → ArrangeSticks names (k ∷ list) patch on
-  sticks_by k list patch on true n e behind w =
-      inr (inl ((is_among_is names (name_of k)).1 e, (k, [], (refl, refl), behind w)))
-  sticks_by k list patch on false n e behind w = w
+  arranged_behind list first rest w =
+      let n = front_of names list in
+      subst (λ l. Arrange names l (take n list ++ first) rest) (take-append-drop n list) (arranged_front names (take n list) (drop n list) first rest (front_all list) w)
 
   -- what sticks behind the front sticks
   pub sticks_behind : (list : List Catch) (patch on : Key) → ArrangeSticks names (drop (front_of names list) list) patch on → ArrangeSticks names list patch on
-  sticks_behind [] patch on w = w
-  sticks_behind (k ∷ list) patch on w =
-      sticks_by k list patch on (is_among names (name_of k)) (front_of names list) refl (sticks_behind list patch on) w
+  sticks_behind list patch on w =
+      let n = front_of names list in
+      subst (λ l. ArrangeSticks names l patch on) (take-append-drop n list) (sticks_front names (take n list) (drop n list) patch on (front_all list) w)
 
 -- the front is counted catch by catch
 module _ (names : Names) (list rest more : List Catch) (k : Catch) (name : List ℕ) (front : ℕ) (is : rest ≡ k ∷ more) (of : name ≡ name_of k) (counted : front + front_of (keys names) rest ≡ front_of (keys names) list) where
@@ -76,17 +58,23 @@ behind_place catches own behind start n is was part =
     let long = length-drop start catches in
     part ∙ take_all (n - start) (drop start catches) (omega (is, long, arith)) ∙ ap (drop start) was
 
+-- what stands behind a front that stays, and which names stay
+pub record StaysInFront (own : List Catch) (gone : List (List ℕ)) (staying : Names) (start : ℕ) (behind : List Catch) : Type 0 where
+  pub stays : (n : List ℕ) → contains_key staying n ≡ (has_patch own n && not (is_among gone n))
+  pub at : start ≡ front_of (keys staying) own
+  pub is : behind ≡ drop start own
+
 -- an obliteration goes by what stands behind the front
-module _ (own : List Catch) (gone : List (List ℕ)) (staying : Names) (stays : (n : List ℕ) → contains_key staying n ≡ (has_patch own n && not (is_among gone n))) (start : ℕ) (behind : List Catch) (at : start ≡ front_of (keys staying) own) (is : behind ≡ drop start own) where
+module _ (own : List Catch) (gone : List (List ℕ)) (staying : Names) (start : ℕ) (behind : List Catch) (front : StaysInFront own gone staying start behind) where
   pub front_stays : (first rest : List Catch) → Arrange (keys staying) behind first rest → ObliterateGives own gone (Ok (take start own ++ first))
   front_stays first rest w =
-      let here = subst (λ n. Arrange (keys staying) (drop n own) first rest) at (subst (λ l. Arrange (keys staying) l first rest) is w) in
-      subst (λ n. ObliterateGives own gone (Ok (take n own ++ first))) (sym at) (obliterated own gone staying stays own (take (front_of (keys staying) own) own ++ first) rest refl (arranged_behind (keys staying) own first rest here))
+      let here = subst (λ n. Arrange (keys staying) (drop n own) first rest) front.at (subst (λ l. Arrange (keys staying) l first rest) front.is w) in
+      subst (λ n. ObliterateGives own gone (Ok (take n own ++ first))) (sym front.at) (obliterated own gone staying front.stays own (take (front_of (keys staying) own) own ++ first) rest refl (arranged_behind (keys staying) own first rest here))
 
   pub front_depends : (blocked : Blocked) → DependsIn (keys staying) behind blocked → ObliterateGives own gone (Err blocked)
   front_depends blocked w =
-      let here = subst (λ n. ArrangeSticks (keys staying) (drop n own) w.0 w.1) at (subst (λ l. ArrangeSticks (keys staying) l w.0 w.1) is w.2) in
-      obliterate_depends own gone staying stays own blocked refl (w.0, w.1, sticks_behind (keys staying) own w.0 w.1 here, w.3)
+      let here = subst (λ n. ArrangeSticks (keys staying) (drop n own) w.0 w.1) front.at (subst (λ l. ArrangeSticks (keys staying) l w.0 w.1) front.is w.2) in
+      obliterate_depends own gone staying front.stays own blocked refl (w.0, w.1, sticks_behind (keys staying) own w.0 w.1 here, w.3)
 
   -- what it leaves is lawful, and has the names that stay
   pub front_lawful : (first rest : List Catch) → Arrange (keys staying) behind first rest → IsLawfulBranch own → IsLawfulBranch (take start own ++ first)
@@ -95,4 +83,4 @@ module _ (own : List Catch) (gone : List (List ℕ)) (staying : Names) (stays : 
 
   pub front_named : (first rest : List Catch) → Arrange (keys staying) behind first rest → IsLawfulBranch own → (n : List ℕ) → contains_key staying n ≡ has_patch (take start own ++ first) n
   front_named first rest w lawful n =
-      stays n ∙ sym (left_has own (take start own ++ first) gone lawful (front_stays first rest w) n)
+      front.stays n ∙ sym (left_has own (take start own ++ first) gone lawful (front_stays first rest w) n)

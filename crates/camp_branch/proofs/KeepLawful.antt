@@ -1,7 +1,5 @@
 -- Branches stay lawful.
-use Rattle.std.proofs.Common.{◌++◌, refl}
-use Rattle.std.specs.FinMap.{empty}
-use Rattle.camp_branch.specs.Laws.{TreesAreDetermined, PullsKeepLawful, ObliteratesKeepLawful, RecordsKeepLawful, others_of, those_of}
+use Rattle.camp_branch.proofs.Words.{◌++◌, refl, empty, TreesAreDetermined, PullsKeepLawful, ObliteratesKeepLawful, RecordsKeepLawful, others_of, those_of}
 use Rattle.camp_branch.proofs.BranchLabels.{left_patches, names_of_left, names_of_pulled, pulled_patches, recorded_patches}
 use Rattle.camp_branch.proofs.BranchTrees.{left_tree, one_end, pulled_tree, recorded_tree, tree_of_effects}
 

@@ -19,3 +19,4 @@ pub mod PullsBehind
 pub mod SortedPairs
 pub mod Steps
 pub mod Undone
+pub mod Words

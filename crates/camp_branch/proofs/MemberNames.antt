@@ -1,16 +1,8 @@
 -- The names in a set of contexted patches, member by member.
-use Rattle.std.proofs.Common.{◌≡◌, ◌<◌, ◌≤◌, ◌+◌, ◌++◌, ℕ, suc, None, Some, List, [], ◌∷◌, map, take, refl, sym, ap, ◌∙◌, inl, inr, arith}
-use Rattle.std.proofs.lemmas.List.{flat_map_more, map-append, take_all}
+use Rattle.camp_branch.proofs.Words.{◌≡◌, ◌<◌, ◌≤◌, ◌+◌, ◌++◌, ℕ, suc, None, Some, List, [], ◌∷◌, map, take, refl, sym, ap, ◌∙◌, inl, inr, arith, flat_map_more, map-append, take_all, flat_map, slice_get, entries, entries_sorted, get-entries, len, Key, key_total, AreKeyed, ContextedPatches, ContextedPatch, context_key, count_of_members, members_of, names_within, pair_of}
 use Rattle.std.proofs.lemmas.Option.{none-some, slice_get_cases}
-use Rattle.std.specs.List.{flat_map, slice_get}
-use Rattle.std.specs.FinMap.{entries, entries_sorted, get-entries, len}
 use Rattle.camp_prim.specs.Labels.{key_cmp}
-use Rattle.camp_prim.specs.declared.labels.Key.{Key}
-use Rattle.camp_prim.proofs.LabelOrder.{key_total}
-use Rattle.camp_ctx.specs.Contexts.{AreKeyed, ContextedPatches, ContextedPatch, context_key}
 use Rattle.camp_ctx.proofs.EntrySteps.{found_at, take_push}
-use Rattle.camp_ctx.proofs.SetSteps.{count_of_members, members_of}
-use Rattle.camp_branch.specs.Inside.Collecting.{names_within, pair_of}
 use Rattle.camp_branch.proofs.SortedPairs.{Pair}
 
 -- the name of the patch of a member

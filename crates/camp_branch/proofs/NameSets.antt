@@ -1,15 +1,8 @@
 -- Sets of names, a name more or less at a time.
-use Rattle.std.proofs.Common.{◌≡◌, ◌<◌, ◌+◌, ℕ, Bool, true, false, not, cond, ◌||◌, ◌&&◌, Option, None, Some, List, [], ◌∷◌, map, drop, length, get_or, is_some, bytes_eq, refl, sym, ap, ◌∙◌}
-use Rattle.std.proofs.lemmas.Map.Text.{is_eq-slice_cmp}
-use Rattle.std.specs.List.{list_any}
-use Rattle.std.specs.Ordering.{nat_cmp, eq_by_cmp}
-use Rattle.std.specs.Cmp.Lexicographic.{slice_cmp, nat_list_cmp_total}
-use Rattle.std.specs.FinMap.{contains_key, contains_key-keys, get, get-remove, insert, remove, keys}
-use Rattle.camp_catch.specs.declared.catches.Catch.{Catch}
-use Rattle.camp_catch.proofs.MoveSteps.{stands_at}
-use Rattle.camp_branch.specs.Branches.{is_among, name_of}
+use Rattle.camp_branch.proofs.Words.{◌≡◌, ◌<◌, ◌+◌, ℕ, Bool, true, false, not, cond, ◌||◌, ◌&&◌, Option, None, List, ◌∷◌, map, drop, length, get_or, is_some, bytes_eq, refl, sym, ap, ◌∙◌, is_eq-slice_cmp, list_any, nat_cmp, eq_by_cmp, slice_cmp, nat_list_cmp_total, contains_key, contains_key-keys, get, get-remove, insert, remove, keys, Catch, stands_at, is_among, name_of, or_assoc, cond_both, and_right}
 use Rattle.camp_branch.proofs.BranchFields.{Names, contains_more}
 use Rattle.camp_branch.proofs.Names.{same_name}
+pub use Rattle.std.proofs.Math.Bool.{and-false as and_false, and-true as and_true}
 
 -- what a set lists
 abbrev pub Entries : Type 0
@@ -19,32 +12,22 @@ abbrev pub listed : Entries → List ℕ → Bool
 listed entries name = is_among (map (λ e. e.0) entries) name
 
 none_or_other : {X : Type 0} (b : Bool) (o : Option X) → is_some (cond b None o) ≡ (is_some o && not b)
-none_or_other true None = refl
-none_or_other true (Some x) = refl
-none_or_other false None = refl
-none_or_other false (Some x) = refl
+none_or_other b o =
+    cond_both b None o (λ x. is_some x ≡ (is_some o && not b)) (λ e. sym (and_right (is_some o) (not b) (ap not e))) (λ e. sym (ap (λ c. is_some o && not c) e ∙ and_true (is_some o)))
 
 -- a name less
 pub contains_less : (names : Names) (gone name : List ℕ) → contains_key (remove names gone) name ≡ (contains_key names name && not (bytes_eq name gone))
 contains_less names gone name =
     ap is_some (get-remove nat_list_cmp_total names gone name) ∙ none_or_other (eq_by_cmp (slice_cmp nat_cmp) name gone) (get names name) ∙ ap (λ b. contains_key names name && not b) (is_eq-slice_cmp name gone)
 
-any_alike : (p q : List ℕ → Bool) → ((x : List ℕ) → p x ≡ q x) → (xs : List (List ℕ)) → list_any p xs ≡ list_any q xs
-any_alike p q same [] = refl
-any_alike p q same (x ∷ xs) = λ i. same x i || any_alike p q same xs i
-
 -- a set has what it lists
 pub has_listed : (names : Names) (name : List ℕ) → contains_key names name ≡ is_among (keys names) name
-has_listed names name = contains_key-keys names name ∙ any_alike _ _ (is_eq-slice_cmp name) (keys names)
+has_listed names name = contains_key-keys names name ∙ ap (λ p. list_any p (keys names)) (λ i other. is_eq-slice_cmp name other i)
 
 and_not : (a b c : Bool) → ((a && not b) && not c) ≡ (a && not (b || c))
 and_not true true c = refl
 and_not true false c = refl
 and_not false b c = refl
-
-pub and_true : (a : Bool) → (a && true) ≡ a
-and_true true = refl
-and_true false = refl
 
 -- of a set, some names are still to go
 abbrev pub IsLessened : Names → Entries → (List ℕ → Bool) → Type 0
@@ -54,17 +37,9 @@ pub one_goes : (left next : Names) (rest more : Entries) (entry : List ℕ × Un
 one_goes left next rest more entry aim inv is becomes name =
     ap (λ m. contains_key m name && not (listed more name)) becomes ∙ ap (λ b. b && not (listed more name)) (contains_less left entry.0 name) ∙ and_not (contains_key left name) (bytes_eq name entry.0) (listed more name) ∙ ap (λ r. contains_key left name && not (listed r name)) (sym is) ∙ inv name
 
-pub and_false : (c : Bool) → (c && false) ≡ false
-and_false true = refl
-and_false false = refl
-
 -- of some catches, the names of the rest are still to come into a set
 abbrev pub IsGrown : Names → List Catch → (List ℕ → Bool) → Type 0
 IsGrown all rest aim = (name : List ℕ) → (contains_key all name || is_among (map name_of rest) name) ≡ aim name
-
-or_assoc : (a b c : Bool) → ((a || b) || c) ≡ (a || (b || c))
-or_assoc true b c = refl
-or_assoc false b c = refl
 
 pub one_comes : (all next : Names) (taken : List Catch) (i : ℕ) (k d : Catch) (named : List ℕ) (aim : List ℕ → Bool) → IsGrown all (drop i taken) aim → i < length taken → k ≡ get_or taken i d → named ≡ name_of k → next ≡ insert all named tt → IsGrown next (drop (i + 1) taken) aim
 one_comes all next taken i k d named aim inv within is called becomes name =

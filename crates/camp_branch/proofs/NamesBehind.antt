@@ -1,29 +1,17 @@
 -- The names that a pull goes by, where it goes by what stands behind two fronts.
-use Rattle.std.proofs.Common.{◌≡◌, ℕ, zero, suc, Bool, true, false, ◌||◌, ◌&&◌, List, [], ◌∷◌, ◌++◌, map, drop, take, refl, sym, ap, ◌∙◌, inl, inr, arith}
-use Rattle.std.proofs.lemmas.List.{take-append-drop}
-use Rattle.std.specs.Prelude.{◌↔◌, Contains}
-use Rattle.std.specs.FinMap.{contains_key, keys}
-use Rattle.camp_prim.specs.declared.labels.Key.{Key}
-use Rattle.camp_catch.specs.Arranging.{ArrangesBehind, IsOf, SticksBehind}
-use Rattle.camp_catch.specs.declared.catches.Catch.{Catch}
-use Rattle.camp_catch.proofs.MoveSteps.{names_decide}
-use Rattle.camp_branch.specs.Branches.{has_patch, name_of}
-use Rattle.camp_branch.specs.Pulling.{Outcome, MergesBehind, PullBy, common_names}
+use Rattle.camp_branch.proofs.Words.{◌≡◌, ℕ, Bool, true, false, ◌||◌, ◌&&◌, List, [], ◌∷◌, ◌++◌, map, drop, take, refl, sym, ap, ◌∙◌, inl, inr, take-append-drop, contains_key, keys, Key, ArrangesBehind, IsOf, SticksBehind, Catch, has_patch, name_of, Outcome, MergesBehind, PullBy, common_names, ◌↔◌, Contains, names_decide, AllByRecursion, or_right, or-false, or_comm, and_comm, false≢true}
 use Rattle.camp_branch.proofs.AgreedFronts.{behind_has}
 use Rattle.camp_branch.proofs.BranchFields.{Names}
-use Rattle.camp_branch.proofs.Names.{is_among_is}
+use Rattle.camp_branch.proofs.Names.{is_among_is, each_named}
 use Rattle.camp_branch.proofs.NamesKept.{among_common}
 
 module _ (names others : List (List ℕ)) where
   -- of the catches of a list, those of the one names are those of the others
   abbrev AlikeOn : List Catch → Type 0
-  AlikeOn [] = Unit {0}
-  AlikeOn (k ∷ list) = (IsOf names k ↔ IsOf others k) × AlikeOn list
+  AlikeOn list = AllByRecursion (λ k. IsOf names k ↔ IsOf others k) list
 
   alike_on : (list : List Catch) → ((n : List ℕ) → Contains (map name_of list) n → (Contains names n ↔ Contains others n)) → AlikeOn list
-  alike_on [] each = tt
-  alike_on (k ∷ list) each =
-      (each (name_of k) (zero, (omega arith), refl), alike_on list (λ n w. let within = w.1 in each n (suc w.0, (omega arith), w.2)))
+  alike_on list each = each_named name_of _ list (λ k c. each (name_of k) c)
 
   arranged_alike : (rest list first t : List Catch) → AlikeOn list → ArrangesBehind names rest list first t → ArrangesBehind others rest list first t
   arranged_alike rest [] first t same w = w
@@ -47,38 +35,17 @@ module _ (names others : List (List ℕ)) where
   merges_alike from_common chosen to outcome same (inr w) = inr (w.0, w.1, stuck_alike [] to w.0 w.1 same w.2, w.3)
 
   pull_alike : (from to : List Catch) (wanted : List (List ℕ)) (outcome : Outcome) → AlikeOn from → AlikeOn to → PullBy names from to wanted outcome → PullBy others from to wanted outcome
-  pull_alike from to wanted outcome a b (inl w) =
-      inl (
-        w.0,
-        w.1,
-        arranged_alike [] from w.0 w.1 a w.2,
-        elim w.3 [
-          | inl v ↦ inl (v.0, v.1, v.2, merges_alike w.0 v.0 to outcome b v.3)
-          | inr v ↦ inr v
-        ],
-      )
+  pull_alike from to wanted outcome a b (inl (x, y, w, inl v)) =
+      inl (x, y, arranged_alike [] from x y a w, inl (v.0, v.1, v.2, merges_alike x v.0 to outcome b v.3))
+  pull_alike from to wanted outcome a b (inl (x, y, w, inr v)) = inl (x, y, arranged_alike [] from x y a w, inr v)
   pull_alike from to wanted outcome a b (inr w) = inr (w.0, w.1, stuck_alike [] from w.0 w.1 a w.2, w.3)
 
 -- whether a patch of either list is common: by whether it is in the lists, and by whether it is in the branches
 of_theirs : (a b f t : Bool) → a ≡ true → f ≡ true → (b ≡ true → t ≡ true) → ((a && t) || (b && f)) ≡ (f && t)
-of_theirs a b f t is has within =
-    (λ i. (is i && t) || (b && has i)) ∙ this b t within ∙ ap (λ x. x && t) (sym has)
-  where
-    this : (b t : Bool) → (b ≡ true → t ≡ true) → ((true && t) || (b && true)) ≡ (true && t)
-    this true true within = refl
-    this true false within = sym (within refl)
-    this false true within = refl
-    this false false within = refl
-
-of_ours : (a b f t : Bool) → b ≡ true → t ≡ true → (a ≡ true → f ≡ true) → ((a && t) || (b && f)) ≡ (f && t)
-of_ours a b f t is has within =
-    (λ i. (a && has i) || (is i && f)) ∙ this a f within ∙ ap (λ x. f && x) (sym has)
-  where
-    this : (a f : Bool) → (a ≡ true → f ≡ true) → ((a && true) || (true && f)) ≡ (f && true)
-    this true true within = refl
-    this true false within = sym (within refl)
-    this false true within = refl
-    this false false within = refl
+of_theirs true true true t is has within = or_right t true refl ∙ sym (within refl)
+of_theirs true false true t is has within = or-false t
+of_theirs true b false t is has within = absurd (false≢true has)
+of_theirs false b f t is has within = absurd (false≢true is)
 
 module _ (from to : List Catch) (common : Names) (m : ℕ) (has : (n : List ℕ) → contains_key common n ≡ ((has_patch (drop m from) n && has_patch to n) || (has_patch (drop m to) n && has_patch from n))) where
   in_whole : (list : List Catch) (n : List ℕ) → has_patch (drop m list) n ≡ true → has_patch list n ≡ true
@@ -98,7 +65,7 @@ module _ (from to : List Catch) (common : Names) (m : ℕ) (has : (n : List ℕ)
   in_ours : (n : List ℕ) → Contains (map name_of (drop m to)) n → (Contains (keys common) n ↔ Contains (common_names from to) n)
   in_ours n c =
       let is = (is_among_is (map name_of (drop m to)) n).0 c in
-      same_at n (has n ∙ of_ours _ _ _ _ is (in_whole to n is) (in_whole from n))
+      same_at n (has n ∙ or_comm (has_patch (drop m from) n && has_patch to n) (has_patch (drop m to) n && has_patch from n) ∙ of_theirs _ _ _ _ is (in_whole to n is) (in_whole from n) ∙ and_comm (has_patch to n) (has_patch from n))
 
   -- a pull of what stands behind fronts, by a set of the common names that stand there
   pub pull_by_those : (wanted : List (List ℕ)) (outcome : Outcome) → PullBy (keys common) (drop m from) (drop m to) wanted outcome → PullBy (common_names from to) (drop m from) (drop m to) wanted outcome

@@ -1,44 +1,9 @@
 -- The names that a pull, or an obliteration, goes by, and those of what it gives.
-use Rattle.std.proofs.Common.{◌≡◌, ℕ, Bool, true, false, not, cond, ◌||◌, ◌&&◌, List, [], ◌∷◌, map, filter, bytes_eq, Ok, Err, refl, sym, ap, ◌∙◌, subst, inl, inr}
-use Rattle.std.specs.Prelude.{◌↔◌, Contains}
-use Rattle.std.specs.FinMap.{contains_key, keys}
-use Rattle.camp_catch.specs.Arranging.{Arrange}
-use Rattle.camp_catch.specs.declared.catches.Catch.{Catch}
-use Rattle.camp_catch.proofs.ListResults.{arrange_by_members}
-use Rattle.camp_catch.proofs.MoveSteps.{names_decide}
-use Rattle.camp_branch.specs.Branches.{IsLawfulBranch, each_once, has_patch, is_among, name_of, names_of}
-use Rattle.camp_branch.specs.Inside.Stages.{DependsIn}
-use Rattle.camp_branch.specs.Obliterating.{ObliterateGives, other_names}
-use Rattle.camp_branch.specs.Pulling.{common_names}
-use Rattle.camp_branch.specs.declared.faults.Blocked.{Blocked}
+use Rattle.camp_branch.proofs.Words.{◌≡◌, ℕ, not, ◌&&◌, List, map, Ok, Err, refl, sym, ap, ◌∙◌, subst, inl, inr, ◌↔◌, Contains, contains_key, keys, Arrange, Catch, arrange_by_members, names_decide, IsLawfulBranch, has_patch, is_among, name_of, names_of, DependsIn, ObliterateGives, other_names, common_names, Blocked}
 use Rattle.camp_branch.proofs.BranchFields.{Names}
 use Rattle.camp_branch.proofs.KeepLawful.{obliterates_keep_lawful}
-use Rattle.camp_branch.proofs.NameSets.{and_false, and_true}
-use Rattle.camp_branch.proofs.Names.{is_among_is, other_way, same_name}
-
-kept_step : (p : List ℕ → Bool) (n x : List ℕ) (kept names : List (List ℕ)) (b c : Bool) → bytes_eq n x ≡ b → p x ≡ c → is_among kept n ≡ (is_among names n && p n) → is_among (cond c (x ∷ kept) kept) n ≡ ((b || is_among names n) && p n)
-kept_step p n x kept names true true e f rest =
-    ap (λ t. t || is_among kept n) e ∙ sym (ap p (same_name n x e) ∙ f)
-kept_step p n x kept names true false e f rest =
-    let fails = ap p (same_name n x e) ∙ f in
-    rest ∙ ap (λ t. is_among names n && t) fails ∙ and_false (is_among names n) ∙ sym fails
-kept_step p n x kept names false true e f rest = ap (λ t. t || is_among kept n) e ∙ rest
-kept_step p n x kept names false false e f rest = rest
-
--- a name is among those that pass a test if it is there and passes it
-pub among_kept : (p : List ℕ → Bool) (names : List (List ℕ)) (n : List ℕ) → is_among (filter p names) n ≡ (is_among names n && p n)
-among_kept p [] n = refl
-among_kept p (x ∷ names) n = kept_step p n x (filter p names) names _ _ refl refl (among_kept p names n)
-
-once_step : (n x : List ℕ) (names once : List (List ℕ)) (b : Bool) → bytes_eq n x ≡ b → is_among once n ≡ is_among names n → (b || is_among (filter (λ other. not (bytes_eq x other)) once) n) ≡ (b || is_among names n)
-once_step n x names once true e rest = refl
-once_step n x names once false e rest =
-    among_kept (λ other. not (bytes_eq x other)) once n ∙ ap (λ t. is_among once n && not t) (other_way n x e) ∙ and_true (is_among once n) ∙ rest
-
--- each name once, they are the same names
-pub among_once : (names : List (List ℕ)) (n : List ℕ) → is_among (each_once names) n ≡ is_among names n
-among_once [] n = refl
-among_once (x ∷ names) n = once_step n x names (each_once names) _ refl (among_once names n)
+use Rattle.camp_branch.proofs.Names.{is_among_is}
+pub use Rattle.camp_branch.proofs.Names.{among_kept, among_once}
 
 pub among_others : (branch : List Catch) (gone : List (List ℕ)) (n : List ℕ) → is_among (other_names branch gone) n ≡ (has_patch branch n && not (is_among gone n))
 among_others branch gone n =

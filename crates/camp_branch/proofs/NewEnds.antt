@@ -1,15 +1,5 @@
 -- Branches whose last catches are brought into another order, and then end before some of them.
-use Rattle.std.proofs.Common.{◌≡◌, ◌++◌, ℕ, List, take, drop, length, flat_map, sym, ap, ◌∙◌, subst, arith}
-use Rattle.std.proofs.lemmas.List.{append-nil, drop_all, take-append-drop}
-use Rattle.std.specs.FinMap.{empty}
-use Rattle.std.specs.List.{splice}
-use Rattle.camp_base.specs.Trees.{Files}
-use Rattle.camp_seq.specs.Running.{AppliesAll}
-use Rattle.camp_catch.specs.Arranging.{Arrange}
-use Rattle.camp_catch.specs.Catches.{FitsAll, effect_of}
-use Rattle.camp_catch.specs.declared.catches.Catch.{Catch}
-use Rattle.camp_catch.proofs.ListEffects.{lists_keep_effects}
-use Rattle.camp_branch.specs.Branches.{LeadsTo}
+use Rattle.camp_branch.proofs.Words.{◌≡◌, ◌++◌, ℕ, List, take, drop, length, flat_map, sym, ap, ◌∙◌, subst, arith, append-nil, drop_all, take-append-drop, empty, splice, Files, AppliesAll, Arrange, FitsAll, effect_of, Catch, lists_keep_effects, LeadsTo}
 use Rattle.camp_branch.proofs.BranchTrees.{joined_fits, tree_of_effects}
 use Rattle.camp_branch.proofs.EffectSteps.{second_fits}
 use Rattle.camp_branch.proofs.Undone.{one_start}

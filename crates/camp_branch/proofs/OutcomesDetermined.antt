@@ -1,44 +1,36 @@
 -- A pull comes to one outcome, and so does an obliteration.
-use Rattle.std.proofs.Common.{◌≡◌, ◌⊎◌, ℕ, List, [], ◌∷◌, ◌++◌, Ok, Err, refl, sym, ap, ◌∙◌, subst, inl, inr}
-use Rattle.camp_prim.specs.declared.labels.Key.{Key}
-use Rattle.camp_catch.specs.Arranging.{Arrange, ArrangeSticks, Align, AlignSticks}
-use Rattle.camp_catch.specs.Laws.{keys_of}
+use Rattle.camp_branch.proofs.Words.{◌≡◌, ◌⊎◌, ℕ, List, [], ◌∷◌, ◌++◌, Ok, Err, refl, sym, ap, ◌∙◌, subst, inl, inr, Key, Arrange, ArrangeSticks, Align, AlignSticks, keys_of, MergeLists, MergeSticks, Catch, lists_are_unique, lists_succeed_or_stick, name_of, ExactlyOne, OutcomesAreDetermined, other_names, Outcome, StepThen, SameThen, DiffersAt, common_names, Blocked}
 use Rattle.camp_catch.specs.ListLaws.{GivesOnePair, HasPair, OneOf}
-use Rattle.camp_catch.specs.MergingLists.{MergeLists, MergeSticks}
-use Rattle.camp_catch.specs.declared.catches.Catch.{Catch}
-use Rattle.camp_catch.proofs.ListResults.{lists_are_unique, lists_succeed_or_stick}
 use Rattle.camp_catch.proofs.SameCatches.{catch_or_not}
-use Rattle.camp_branch.specs.Branches.{name_of}
-use Rattle.camp_branch.specs.Laws.{ExactlyOne, OutcomesAreDetermined}
-use Rattle.camp_branch.specs.Obliterating.{other_names}
-use Rattle.camp_branch.specs.Pulling.{Outcome, StepThen, SameThen, DiffersAt, common_names}
-use Rattle.camp_branch.specs.declared.faults.Blocked.{Blocked}
 use Rattle.camp_branch.specs.declared.faults.Blocked.TheVariants.{Diverged}
+
+-- of two ways to an outcome, one is open
+by_first : (P Q : Outcome → Type 0) → ExactlyOne P → ((outcome : Outcome) → ¬ (Q outcome)) → ExactlyOne (λ outcome. P outcome ⊎ Q outcome)
+by_first P Q one never = (one.0, inl one.1, λ other o. elim o [ inl p ↦ one.2 other p | inr q ↦ absurd (never other q) ])
+
+by_second : (P Q : Outcome → Type 0) → ExactlyOne Q → ((outcome : Outcome) → ¬ (P outcome)) → ExactlyOne (λ outcome. P outcome ⊎ Q outcome)
+by_second P Q one never = (one.0, inr one.1, λ other o. elim o [ inl p ↦ absurd (never other p) | inr q ↦ one.2 other q ])
 
 module _ (Gives : List Catch → List Catch → Type 0) (Sticks : Key → Key → Type 0) (why : Key → Key → Blocked) (Next : List Catch → List Catch → Outcome → Type 0) where
   goes_on : GivesOnePair Gives → (x y : List Catch) → Gives x y → (HasPair Sticks → ⊥) → ExactlyOne (Next x y) → ExactlyOne (StepThen Gives Sticks why Next)
-  goes_on one x y gives never next = (
-    next.0,
-    inl (x, y, gives, next.1),
-    λ other o. elim o [
-      | inl v ↦
-          let same = one v.0 x v.1 y v.2 gives in
-          next.2 other (subst (λ t. Next t y other) same.0 (subst (λ t. Next v.0 t other) same.1 v.3))
-      | inr s ↦ absurd (never (s.0, s.1, s.2))
-    ],
-  )
+  goes_on one x y gives never next =
+      by_first _ _ (
+        next.0,
+        (x, y, gives, next.1),
+        λ other v.
+            let same = one v.0 x v.1 y v.2 gives in
+            next.2 other (subst (λ t. Next t y other) same.0 (subst (λ t. Next v.0 t other) same.1 v.3)),
+      ) (λ other s. never (s.0, s.1, s.2))
 
   stops : GivesOnePair Sticks → (k l : Key) → Sticks k l → (HasPair Gives → ⊥) → ExactlyOne (StepThen Gives Sticks why Next)
-  stops one k l sticks never = (
-    Err (why k l),
-    inr (k, l, sticks, refl),
-    λ other o. elim o [
-      | inl v ↦ absurd (never (v.0, v.1, v.2))
-      | inr s ↦
-          let same = one s.0 k s.1 l s.2 sticks in
-          s.3 ∙ (λ i. Err (why (same.0 i) (same.1 i)))
-    ],
-  )
+  stops one k l sticks never =
+      by_second _ _ (
+        Err (why k l),
+        (k, l, sticks, refl),
+        λ other s.
+            let same = one s.0 k s.1 l s.2 sticks in
+            s.3 ∙ (λ i. Err (why (same.0 i) (same.1 i))),
+      ) (λ other v. never (v.0, v.1, v.2))
 
   -- a step that is determined, before what is
   pub step : GivesOnePair Gives → GivesOnePair Sticks → OneOf (HasPair Gives) (HasPair Sticks) → ((x y : List Catch) → ExactlyOne (Next x y)) → ExactlyOne (StepThen Gives Sticks why Next)
@@ -84,47 +76,37 @@ one_difference (j ∷ s) (k ∷ t) name other (inr v) (inl w) = absurd (w.0 v.0)
 one_difference (j ∷ s) (k ∷ t) name other (inr v) (inr w) = one_difference s t name other v.1 w.1
 
 module _ (from_common to_common : List Catch) (Next : Outcome → Type 0) where
+  never : ((aligned : List Catch) × Align (keys_of to_common) from_common aligned) → ((stuck : Key) × AlignSticks (keys_of to_common) from_common stuck) → ⊥
+  never = (lists_succeed_or_stick.aligns (keys_of to_common) from_common).1
+
+  one_order : (aligned other : List Catch) → Align (keys_of to_common) from_common aligned → Align (keys_of to_common) from_common other → aligned ≡ other
+  one_order = lists_are_unique.aligned (keys_of to_common) from_common
+
   same_fronts : Align (keys_of to_common) from_common to_common → ExactlyOne Next → ExactlyOne (SameThen from_common to_common Next)
-  same_fronts align next = (
-    next.0,
-    inl (align, next.1),
-    λ other o. elim o [
-      | inl v ↦ next.2 other v.1
-      | inr v ↦ elim v [
-        | inl s ↦ absurd ((lists_succeed_or_stick.aligns (keys_of to_common) from_common).1 (to_common, align) (s.0, s.1))
-        | inr d ↦ absurd (not_from_itself to_common d.1 (subst (λ l. DiffersAt l to_common d.1) (lists_are_unique.aligned (keys_of to_common) from_common d.0 to_common d.2 align) d.3))
-      ]
-    ],
-  )
+  same_fronts align next =
+      by_first _ _ (next.0, (align, next.1), λ other v. next.2 other v.1) (λ other o. elim o [
+        | inl s ↦ never (to_common, align) (s.0, s.1)
+        | inr d ↦ not_from_itself to_common d.1 (subst (λ l. DiffersAt l to_common d.1) (one_order d.0 to_common d.2 align) d.3)
+      ])
 
   other_fronts : (aligned : List Catch) (name : List ℕ) → Align (keys_of to_common) from_common aligned → DiffersAt aligned to_common name → ExactlyOne (SameThen from_common to_common Next)
-  other_fronts aligned name align differs = (
-    Err (Diverged name),
-    inr (inr (aligned, name, align, differs, refl)),
-    λ other o. elim o [
-      | inl v ↦ absurd (not_from_itself to_common name (subst (λ l. DiffersAt l to_common name) (lists_are_unique.aligned (keys_of to_common) from_common aligned to_common align v.0) differs))
-      | inr v ↦ elim v [
-        | inl s ↦ absurd ((lists_succeed_or_stick.aligns (keys_of to_common) from_common).1 (aligned, align) (s.0, s.1))
-        | inr d ↦
-            let same = lists_are_unique.aligned (keys_of to_common) from_common d.0 aligned d.2 align in
-            d.4 ∙ ap (λ n. Err (Diverged n)) (one_difference aligned to_common d.1 name (subst (λ l. DiffersAt l to_common d.1) same d.3) differs)
-      ]
-    ],
-  )
+  other_fronts aligned name align differs =
+      by_second _ _ (by_second _ _ (
+        Err (Diverged name),
+        (aligned, name, align, differs, refl),
+        λ other d.
+            d.4 ∙ ap (λ n. Err (Diverged n)) (one_difference aligned to_common d.1 name (subst (λ l. DiffersAt l to_common d.1) (one_order d.0 aligned d.2 align) d.3) differs),
+      ) (λ other s. never (aligned, align) (s.0, s.1))) (λ other v.
+      not_from_itself to_common name (subst (λ l. DiffersAt l to_common name) (one_order aligned to_common align v.0) differs))
 
   order_sticks : (stuck : Key) → AlignSticks (keys_of to_common) from_common stuck → ExactlyOne (SameThen from_common to_common Next)
   order_sticks stuck sticks =
-      let never = (lists_succeed_or_stick.aligns (keys_of to_common) from_common).1 in (
+      by_second _ _ (by_first _ _ (
         Err (Diverged stuck.name),
-        inr (inl (stuck, sticks, refl)),
-        λ other o. elim o [
-          | inl v ↦ absurd (never (to_common, v.0) (stuck, sticks))
-          | inr v ↦ elim v [
-            | inl s ↦ s.2 ∙ ap (λ (k : Key). Err (Diverged k.name)) (lists_are_unique.align_sticks (keys_of to_common) from_common s.0 stuck s.1 sticks)
-            | inr d ↦ absurd (never (d.0, d.2) (stuck, sticks))
-          ]
-        ],
-      )
+        (stuck, sticks, refl),
+        λ other s.
+            s.2 ∙ ap (λ (k : Key). Err (Diverged k.name)) (lists_are_unique.align_sticks (keys_of to_common) from_common s.0 stuck s.1 sticks),
+      ) (λ other d. never (d.0, d.2) (stuck, sticks))) (λ other v. never (to_common, v.0) (stuck, sticks))
 
   same_then : ExactlyOne Next → ExactlyOne (SameThen from_common to_common Next)
   same_then next = elim (lists_succeed_or_stick.aligns (keys_of to_common) from_common).0 [

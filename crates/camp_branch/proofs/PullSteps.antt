@@ -1,14 +1,6 @@
 -- The stages of a pull, put together.
-use Rattle.std.proofs.Common.{ℕ, List, ◌++◌, Result, Ok, Err, refl, ap, inl, inr}
-use Rattle.std.specs.Prelude.{IfOk}
+use Rattle.camp_branch.proofs.Words.{ℕ, List, ◌++◌, Result, Ok, Err, refl, ap, inl, inr, IfOk, Arrange, Align, keys_of, MergeLists, Catch, DependsIn, DoesNotMerge, Outcome, MergesBehind, PullBy, Blocked}
 use Rattle.std.specs.Result.{MatchResult}
-use Rattle.camp_catch.specs.Arranging.{Arrange, Align}
-use Rattle.camp_catch.specs.Laws.{keys_of}
-use Rattle.camp_catch.specs.MergingLists.{MergeLists}
-use Rattle.camp_catch.specs.declared.catches.Catch.{Catch}
-use Rattle.camp_branch.specs.Inside.Stages.{DependsIn, DoesNotMerge}
-use Rattle.camp_branch.specs.Pulling.{Outcome, MergesBehind, PullBy}
-use Rattle.camp_branch.specs.declared.faults.Blocked.{Blocked}
 
 -- what is said of either answer follows from what is said of it before
 pub either_answer : {X F E : Type 0} (P P' : X → Type 0) (Q Q' : F → Type 0) → ((x : X) → P x → P' x) → ((f : F) → Q f → Q' f) → (answer : Result (Result X F) E) → IfOk answer (λ a. MatchResult a P Q) → IfOk answer (λ a. MatchResult a P' Q')

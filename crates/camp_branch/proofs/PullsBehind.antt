@@ -1,11 +1,5 @@
 -- What a pull by what stands behind two fronts comes to.
-use Rattle.std.proofs.Common.{◌≡◌, ℕ, ◌||◌, ◌&&◌, Ok, Err, List, ◌++◌, drop, ap, ◌∙◌, subst}
-use Rattle.std.specs.FinMap.{contains_key, keys}
-use Rattle.camp_catch.specs.declared.catches.Catch.{Catch}
-use Rattle.camp_branch.specs.Agreeing.{Agree}
-use Rattle.camp_branch.specs.Branches.{has_patch}
-use Rattle.camp_branch.specs.Pulling.{Outcome, PullBy, PullGives, common_names}
-use Rattle.camp_branch.specs.declared.faults.Blocked.{Blocked}
+use Rattle.camp_branch.proofs.Words.{◌≡◌, ℕ, ◌||◌, ◌&&◌, Ok, Err, List, ◌++◌, drop, ap, ◌∙◌, subst, contains_key, keys, Catch, Agree, has_patch, Outcome, PullBy, PullGives, common_names, Blocked}
 use Rattle.camp_branch.proofs.AgreedFronts.{blocked_behind, goes_behind}
 use Rattle.camp_branch.proofs.BranchFields.{Indexes, Names}
 use Rattle.camp_branch.proofs.NamesBehind.{pull_by_those}

@@ -1,21 +1,11 @@
 -- Pairs of names in ascending order.
-use Rattle.std.proofs.Common.{◌≡◌, ◌⊎◌, ◌<◌, ℕ, zero, suc, Bool, ◌&&◌, List, [], ◌∷◌, map, length, get_or, T, is_some, bytes_eq, refl, sym, ap, ◌∙◌, subst, inl, inr, arith}
-use Rattle.std.proofs.lemmas.List.Kept.{Contains-dedup, Contains-from_dedup, IsStrictlySortedBy-dedup}
+use Rattle.camp_branch.proofs.Words.{◌≡◌, ◌⊎◌, ℕ, zero, suc, Bool, ◌&&◌, List, [], ◌∷◌, map, get_or, T, is_some, bytes_eq, refl, sym, ap, ◌∙◌, subst, inl, inr, arith, Contains-from_any, list_any-from_Contains, tells_apart, Contains, AllPairs, dedup, list_any, nat_cmp, ordering_then, eq_by_cmp, IsTotalOrder, both_tied, tied_itself, eq_by_cmp_equiv, on_total, then_total, slice_cmp, nat_list_cmp_total, texts_ties, FinMap, IsAntisymmetric, contains_key-keys, entries, entries_sorted, from_entries, get-from_entries, keys, nat_cmp-IsAntisymmetric, slice_cmp-IsAntisymmetric, Ordering, Less, Equal, Greater, IsBefore, All, All-nil, All-cons}
+use Rattle.std.proofs.lemmas.List.Kept.{AllPairs-cons, Contains-dedup, Contains-from_dedup, IsStrictlySortedBy-dedup}
 use Rattle.std.proofs.lemmas.List.Sorted.{Contains-permutation, IsPermutation-sym}
 use Rattle.std.proofs.lemmas.Map.Keys.{Less-from_sorted}
-use Rattle.std.proofs.lemmas.Map.Views.{Contains-from_any, list_any-from_Contains, tells_apart}
-use Rattle.std.specs.Prelude.{Contains, AllPairs}
-use Rattle.std.specs.List.{dedup, list_any}
 use Rattle.std.specs.List.Sorted.{IsPermutation, IsSorted}
-use Rattle.std.specs.Ordering.{nat_cmp, ordering_then, eq_by_cmp}
-use Rattle.std.specs.Cmp.{IsTotalOrder, both_tied, tied_itself, eq_by_cmp_equiv, on_total, then_total}
-use Rattle.std.specs.Cmp.Lexicographic.{slice_cmp, nat_list_cmp_total, texts_ties}
-use Rattle.std.specs.FinMap.{FinMap, IsAntisymmetric, contains_key-keys, entries, entries_sorted, from_entries, get-from_entries, keys, nat_cmp-IsAntisymmetric, slice_cmp-IsAntisymmetric}
 use Rattle.std.specs.FinMap.Entries.{below_all, is_sorted, is_some-find}
-use Rattle.std.specs.declared.cmp.Ordering.{Ordering}
-use Rattle.std.specs.declared.cmp.Ordering.TheVariants.{Less, Equal, Greater}
 use Rattle.camp_share.proofs.Entries.{first, second, is_less}
-use Rattle.camp_branch.specs.Conflicting.{IsBefore}
 
 -- a pair of names
 abbrev pub Pair : Type 0
@@ -64,7 +54,7 @@ not_both p q before after =
     cc
 
 later : (p : Pair) (pairs : List Pair) (q : Pair) → AllPairs IsBefore (p ∷ pairs) → Contains pairs q → IsBefore p q
-later p pairs q up c = let within = c.1 in subst (IsBefore p) c.2 (up 0 (suc c.0) q (omega arith) (omega arith))
+later p pairs q up (k, within, is) = subst (IsBefore p) is (up 0 (suc k) q (omega arith) (omega arith))
 
 rest_ascends : (p : Pair) (pairs : List Pair) → AllPairs IsBefore (p ∷ pairs) → AllPairs IsBefore pairs
 rest_ascends p pairs up i j d lt within = up (suc i) (suc j) d (omega arith) (omega arith)
@@ -73,14 +63,11 @@ pub has_first : {X : Type 0} (x : X) (list : List X) → Contains (x ∷ list) x
 has_first x list = (0, omega arith, refl)
 
 pub has_later : {X : Type 0} (x y : X) (list : List X) → Contains list y → Contains (x ∷ list) y
-has_later x y list c = let within = c.1 in (suc c.0, omega arith, c.2)
-
-at_first_or_later : {X : Type 0} (x y : X) (list : List X) (i : ℕ) → i < length (x ∷ list) → get_or (x ∷ list) i y ≡ y → (x ≡ y) ⊎ Contains list y
-at_first_or_later x y list zero within is = inl is
-at_first_or_later x y list (suc i) within is = inr (i, omega arith, is)
+has_later x y list (k, within, is) = (suc k, omega arith, is)
 
 pub first_or_later : {X : Type 0} (x y : X) (list : List X) → Contains (x ∷ list) y → (x ≡ y) ⊎ Contains list y
-first_or_later x y list c = at_first_or_later x y list c.0 c.1 c.2
+first_or_later x y list (zero, within, is) = inl is
+first_or_later x y list (suc i, within, is) = inr (i, omega arith, is)
 
 -- each of these pairs is one of those
 abbrev pub Within : List Pair → List Pair → Type 0
@@ -101,7 +88,7 @@ rests_within p q s t same up within x c = elim (first_or_later q x t (within x (
 ]
 
 pub no_member : {A : Type 0} {X : Type 0} (x : X) → Contains [] x → A
-no_member x c = let within = c.1 in absurd (omega arith)
+no_member x (k, within, is) = absurd (omega arith)
 
 -- pairs in ascending order are determined by which they are
 pub ascending_once : (s t : List Pair) → AllPairs IsBefore s → AllPairs IsBefore t → Within s t → Within t s → s ≡ t
@@ -114,17 +101,15 @@ ascending_once (p ∷ s) (q ∷ t) up up' f g =
     λ i. same i ∷ rests i
 
 -- a key of entries in order is below those that stand behind it
-below_later : {X : Type 0} (p : Pair) (list : List (Pair × X)) → T (below_all by_names p list) → (i : ℕ) (d : Pair) → i < length (map (λ e. e.0) list) → IsBefore p (get_or (map (λ e. e.0) list) i d)
-below_later p [] below i d within = absurd (omega arith)
-below_later p (e ∷ list) below zero d within = before_by_less p e.0 (is_less _ (first _ _ below))
-below_later p (e ∷ list) below (suc i) d within = below_later p list (second _ _ below) i d (omega arith)
+below_later : {X : Type 0} (p : Pair) (list : List (Pair × X)) → T (below_all by_names p list) → All (IsBefore p) (map (λ e. e.0) list)
+below_later p [] below = All-nil (IsBefore p)
+below_later p (e ∷ list) below =
+    All-cons (IsBefore p) e.0 (map (λ e. e.0) list) (before_by_less p e.0 (is_less _ (first _ _ below))) (below_later p list (second _ _ below))
 
 keys_ascend : {X : Type 0} (list : List (Pair × X)) → T (is_sorted by_names list) → AllPairs IsBefore (map (λ e. e.0) list)
-keys_ascend [] sorted i j d lt within = absurd (omega arith)
-keys_ascend (e ∷ list) sorted zero zero d lt within = absurd (omega arith)
-keys_ascend (e ∷ list) sorted zero (suc j) d lt within = below_later e.0 list (first _ _ sorted) j d (omega arith)
-keys_ascend (e ∷ list) sorted (suc i) zero d lt within = absurd (omega arith)
-keys_ascend (e ∷ list) sorted (suc i) (suc j) d lt within = keys_ascend list (second _ _ sorted) i j d (omega arith) (omega arith)
+keys_ascend [] sorted = λ i j d lt within. absurd (omega arith)
+keys_ascend (e ∷ list) sorted =
+    AllPairs-cons IsBefore e.0 (map (λ e. e.0) list) (below_later e.0 list (first _ _ sorted)) (keys_ascend list (second _ _ sorted))
 
 -- the set of some pairs
 abbrev set_of : List Pair → FinMap by_names (Unit {0})

@@ -1,13 +1,5 @@
 -- The steps of a pull, and of an obliteration, that went through.
-use Rattle.std.proofs.Common.{◌≡◌, ℕ, List, ◌++◌, Ok, Err, refl, sym, subst, inl, inr}
-use Rattle.camp_catch.specs.Arranging.{Arrange, Align}
-use Rattle.camp_catch.specs.Laws.{keys_of}
-use Rattle.camp_catch.specs.MergingLists.{MergeLists}
-use Rattle.camp_catch.specs.declared.catches.Catch.{Catch}
-use Rattle.camp_branch.specs.Laws.{PullsBeginWithOwn}
-use Rattle.camp_branch.specs.Obliterating.{ObliterateGives, other_names}
-use Rattle.camp_branch.specs.Pulling.{Outcome, PullGives, common_names}
-use Rattle.camp_branch.specs.declared.faults.Blocked.{Blocked}
+use Rattle.camp_branch.proofs.Words.{◌≡◌, ℕ, List, ◌++◌, Ok, Err, refl, sym, subst, inl, inr, Arrange, Align, keys_of, MergeLists, Catch, PullsBeginWithOwn, ObliterateGives, other_names, Outcome, PullGives, common_names, Blocked}
 
 -- a pull that goes through
 pub record Pulled (from to : List Catch) (wanted : List (List ℕ)) (pulled : List Catch) : Type 0 where
@@ -33,40 +25,28 @@ same_branch : (branch other : List Catch) (outcome : Outcome) → outcome ≡ Ok
 same_branch branch other outcome e f = cc
 
 pub pulled_by : (from to : List Catch) (wanted : List (List ℕ)) (pulled : List Catch) → PullGives from to wanted (Ok pulled) → Pulled from to wanted pulled
-pulled_by from to wanted pulled gives = elim gives [
-  | inr s ↦ apart pulled _ s.3
-  | inl a ↦ elim a.3 [
-    | inr s ↦ apart pulled _ s.3
-    | inl b ↦ elim b.3 [
-      | inr s ↦ apart pulled _ s.3
-      | inl c ↦ elim c.3 [
-        | inr s ↦ elim s [
-          | inl t ↦ apart pulled _ t.2
-          | inr t ↦ apart pulled _ t.4
-        ]
-        | inl d ↦ elim d.1 [
-          | inr s ↦ apart pulled _ s.3
-          | inl m ↦ record {
-            from_common = a.0;
-            behind = a.1;
-            own_front = a.2;
-            chosen = b.0;
-            left = b.1;
-            choice = b.2;
-            to_common = c.0;
-            others = c.1;
-            their_front = c.2;
-            same = d.0;
-            taken = m.0;
-            beside = m.1;
-            merge = m.2;
-            becomes = same_branch pulled (to ++ m.0) (Ok pulled) refl m.3;
-          }
-        ]
-      ]
-    ]
-  ]
-]
+pulled_by from to wanted pulled (inr s) = apart pulled _ s.3
+pulled_by from to wanted pulled (inl (_, _, _, inr s)) = apart pulled _ s.3
+pulled_by from to wanted pulled (inl (_, _, _, inl (_, _, _, inr s))) = apart pulled _ s.3
+pulled_by from to wanted pulled (inl (_, _, _, inl (_, _, _, inl (_, _, _, inr (inl s))))) = apart pulled _ s.2
+pulled_by from to wanted pulled (inl (_, _, _, inl (_, _, _, inl (_, _, _, inr (inr s))))) = apart pulled _ s.4
+pulled_by from to wanted pulled (inl (_, _, _, inl (_, _, _, inl (_, _, _, inl (_, inr s))))) = apart pulled _ s.3
+pulled_by from to wanted pulled (inl (from_common, behind, own_front, inl (chosen, left, choice, inl (to_common, others, their_front, inl (same, inl (taken, beside, merge, is)))))) = record {
+  from_common = from_common;
+  behind = behind;
+  own_front = own_front;
+  chosen = chosen;
+  left = left;
+  choice = choice;
+  to_common = to_common;
+  others = others;
+  their_front = their_front;
+  same = same;
+  taken = taken;
+  beside = beside;
+  merge = merge;
+  becomes = same_branch pulled (to ++ taken) (Ok pulled) refl is;
+}
 
 -- what an obliteration that goes through leaves
 pub left_by : (branch : List Catch) (names : List (List ℕ)) (left : List Catch) → ObliterateGives branch names (Ok left) → (gone : List Catch) × Arrange (other_names branch names) branch left gone

@@ -1,17 +1,7 @@
 -- Effects that are taken back, from the last to the first.
-use Rattle.std.proofs.Common.{◌≡◌, ◌≤◌, ◌+◌, ◌++◌, ℕ, List, [], ◌∷◌, take, drop, length, get_or, flat_map, refl, sym, ap, ◌∙◌, subst, arith}
+use Rattle.camp_branch.proofs.Words.{◌≡◌, ◌≤◌, ◌+◌, ◌++◌, ℕ, List, [], ◌∷◌, take, drop, length, get_or, flat_map, sym, ap, ◌∙◌, subst, arith, take-append-drop, Files, Applies, inverse_of, Named, AppliesAll, inverse_all, cut_run, joined_runs, runs_back, effect_of, Catch, run_once, stands_at}
 use Rattle.std.proofs.lemmas.Grind.{flat_map-append}
-use Rattle.std.proofs.lemmas.List.{drop_all, take-append-drop}
-use Rattle.camp_base.specs.Trees.{Files}
-use Rattle.camp_prim.specs.Effect.{Applies, inverse_of}
-use Rattle.camp_prim.specs.declared.named.Named.{Named}
 use Rattle.camp_prim.proofs.Inverses.{inverse_leads_back, leads_back}
-use Rattle.camp_seq.specs.Running.{AppliesAll, inverse_all}
-use Rattle.camp_seq.proofs.ListRuns.{cut_run, joined_runs, runs_back}
-use Rattle.camp_catch.specs.Catches.{effect_of}
-use Rattle.camp_catch.specs.declared.catches.Catch.{Catch}
-use Rattle.camp_catch.proofs.Fitting.{run_once}
-use Rattle.camp_catch.proofs.MoveSteps.{stands_at}
 
 -- a list leads to a tree from one tree at most
 pub one_start : (s : List Named) (old other new : Files) → AppliesAll s old new → AppliesAll s other new → old ≡ other
@@ -22,10 +12,6 @@ pub first_leads : (s t : List Named) (old between new : Files) → AppliesAll (s
 first_leads s t old between new runs second =
     let cut = cut_run s t old new runs in
     subst (AppliesAll s old) (one_start t cut.0 between new cut.2 second) cut.1
-
--- nothing is taken back yet
-pub none_back : (s : List Named) (i : ℕ) (tree : Files) → length s ≤ i → AppliesAll (drop i s) tree tree
-none_back s i tree past = subst (λ t. AppliesAll t tree tree) (sym (drop_all i s past)) refl
 
 -- the last primitive that is not taken back led to the tree
 pub goes_back : (s : List Named) (i at : ℕ) (p d : Named) (before tree new : Files) → i + 1 ≡ at → at ≤ length s → p ≡ get_or s i d → AppliesAll s before new → AppliesAll (drop at s) tree new → (next : Files) × Applies (inverse_of p).prim tree next
@@ -45,9 +31,6 @@ one_back s i at p d tree next new follows within is left back =
 -- the effects of catches
 abbrev pub effects_of : List Catch → List Named
 effects_of list = flat_map effect_of list
-
-pub none_left_back : (list : List Catch) (i : ℕ) (tree : Files) → length list ≤ i → AppliesAll (effects_of (drop i list)) tree tree
-none_left_back list i tree past = subst (λ l. AppliesAll (effects_of l) tree tree) (sym (drop_all i list past)) refl
 
 -- the last effect that is not taken back led to the tree
 pub effect_goes_back : (list : List Catch) (i at : ℕ) (k d : Catch) (effect : List Named) (before tree new : Files) → i + 1 ≡ at → at ≤ length list → k ≡ get_or list i d → effect ≡ effect_of k → AppliesAll (effects_of list) before new → AppliesAll (effects_of (drop at list)) tree new → (next : Files) × AppliesAll effect next tree

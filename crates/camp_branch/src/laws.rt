@@ -1,16 +1,19 @@
 ghost use Rattle.camp_branch.specs.Laws.{ConflictsAreDetermined, NamesAreOfPatches, ObliteratesKeepLawful, OutcomesAreDetermined, PullsBeginWithOwn, PullsKeepLawful, RecordsKeepLawful, TreesAreDetermined};
 
 /// A branch leads to one tree at most, which is the tree of its effects.
+#[tactic(auto, using(crate::proofs::KeepLawful::trees_are_determined))]
 pub fn trees_are_determined()
     ensures law { TreesAreDetermined }
 {}
 
 /// The names of a branch are those of its patches, in their order.
+#[tactic(auto, using(crate::proofs::BranchLabels::names_of_patches))]
 pub fn names_are_of_patches()
     ensures law { NamesAreOfPatches }
 {}
 
 /// A pull comes to one outcome, and so does an obliteration.
+#[tactic(auto, using(crate::proofs::OutcomesDetermined::outcomes_are_determined))]
 pub fn outcomes_are_determined()
     ensures law { OutcomesAreDetermined }
 {}
@@ -27,16 +30,19 @@ pub fn pulls_begin_with_own()
 
 /// A pulled branch has its own patches and then the wanted ones, in the order of the other branch, and
 /// is lawful.
+#[tactic(auto, using(crate::proofs::KeepLawful::pulls_keep_lawful))]
 pub fn pulls_keep_lawful()
     ensures law { PullsKeepLawful }
 {}
 
 /// What an obliteration leaves has the other patches, in their order, and is lawful.
+#[tactic(auto, using(crate::proofs::KeepLawful::obliterates_keep_lawful))]
 pub fn obliterates_keep_lawful()
     ensures law { ObliteratesKeepLawful }
 {}
 
 /// A new branch is lawful, and a record under a new name keeps it so.
+#[tactic(auto, using(crate::proofs::KeepLawful::records_keep_lawful))]
 pub fn records_keep_lawful()
     ensures law { RecordsKeepLawful }
 {}

@@ -1,5 +1,6 @@
 -- What a conflictor gains behind another one, where neither has an effect.
-use Rattle.std.proofs.Common.{◌≡◌, List, [], ◌∷◌, ◌++◌, true, refl, sym, ap, subst}
+use Rattle.std.proofs.Common.{◌≡◌, ◌==◌, ◌∙◌, Bool, List, [], ◌∷◌, ◌++◌, length, true, refl, sym, ap, subst, arith, eqb-true}
+use Rattle.camp_prim.specs.declared.named.Named.{Named}
 use Rattle.std.specs.List.{fold}
 use Rattle.std.proofs.lemmas.Grind.{fold-append}
 use Rattle.camp_seq.specs.Running.{inverse_all}
@@ -13,6 +14,13 @@ use Rattle.camp_catch.specs.Inside.TwoConflictors.{EffectsMerge, TellsConflict}
 use Rattle.camp_catch.specs.declared.catches.Catch.{Catch}
 use Rattle.camp_catch.specs.declared.catches.Conflictor.{Conflictor}
 use Rattle.camp_catch.proofs.MergeSteps.{joined_behind}
+
+-- what has no element is nothing
+pub is_nothing : (s items : List Named) (test : Bool) → test ≡ (length items == 0) → test ≡ true → items ≡ s → s ≡ []
+is_nothing s [] test is counts same = sym same
+is_nothing s (p ∷ items) test is counts same =
+    let none : length (p ∷ items) ≡ 0 = eqb-true _ _ (sym is ∙ counts) in
+    absurd (omega arith)
 
 -- two empty effects merge
 none_merge : EffectsMerge [] [] [] []

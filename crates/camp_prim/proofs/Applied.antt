@@ -1,13 +1,5 @@
 -- What a primitive does to a tree, as a relation and as a function.
-use Rattle.std.proofs.Common.{◌≡◌, ℕ, cond, Option, None, Some, is_some, option_map, option_and_then, List, [], ◌∷◌, refl, sym, ap, ◌∙◌}
-use Rattle.std.specs.FinMap.{get, insert, remove}
-use Rattle.std.proofs.lemmas.Option.{none-some, same_Some}
-use Rattle.camp_base.specs.Trees.{Lines, Files, Adds, Removes, Splices}
-use Rattle.camp_prim.specs.Hunks.{Edit}
-use Rattle.camp_prim.specs.Effect.{Applies}
-use Rattle.camp_prim.specs.Applied.{is_empty_file, spliced, applied, AppliedIsApplies}
-use Rattle.camp_prim.specs.declared.primitives.Primitive.{Primitive}
-use Rattle.camp_prim.specs.declared.primitives.Primitive.TheVariants.{Add, Remove, Hunk}
+use Rattle.camp_prim.proofs.Words.{◌≡◌, ℕ, cond, Option, None, Some, is_some, option_map, option_and_then, List, [], ◌∷◌, refl, sym, ap, ◌∙◌, get, insert, remove, none-some, same_Some, Lines, Files, Adds, Removes, Splices, Edit, Applies, is_empty_file, spliced, applied, AppliedIsApplies, Primitive, Add, Remove, Hunk}
 use Rattle.camp_prim.proofs.Splices.{SplicesLines-from_spliced, spliced-from_SplicesLines}
 
 Adds-from_applied : (path : List ℕ) (old new : Files) (found : Option Lines) → get old path ≡ found → cond (is_some found) None (Some (insert old path [])) ≡ Some new → Adds path old new

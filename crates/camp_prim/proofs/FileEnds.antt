@@ -1,11 +1,5 @@
 -- The end of the file of a path, before and behind primitives: two that change places move it from where they did to where they did.
-use Rattle.std.proofs.Common.{◌≡◌, ◌≢◌, ℕ, ◌+◌, ◌-◌, ◌≤◌, ◌⊎◌, List, length, refl, sym, ap, ◌∙◌, subst, inl, inr, arith}
-use Rattle.std.specs.FinMap.{slice_cmp-IsAntisymmetric, nat_cmp-IsAntisymmetric}
-use Rattle.std.proofs.lemmas.Cmp.{nat_list_cmp_total}
-use Rattle.camp_prim.specs.Hunks.{Edit}
-use Rattle.camp_prim.specs.Swaps.{path_of, at_line, ChangePlaces}
-use Rattle.camp_prim.specs.declared.primitives.Primitive.{Primitive}
-use Rattle.camp_prim.specs.declared.primitives.Primitive.TheVariants.{Add, Remove, Hunk}
+use Rattle.camp_prim.proofs.Words.{◌≡◌, ◌≢◌, ℕ, ◌+◌, ◌-◌, ◌≤◌, ◌⊎◌, List, length, refl, sym, ap, ◌∙◌, subst, inl, inr, arith, slice_cmp-IsAntisymmetric, nat_cmp-IsAntisymmetric, nat_list_cmp_total, Edit, path_of, at_line, ChangePlaces, Primitive, Add, Remove, Hunk}
 use Rattle.camp_prim.proofs.SwapDecided.{Decided, same_or_not}
 
 -- a hunk of so many old and new lines stands at a line of a file that ends here, and moves the end there
@@ -14,19 +8,11 @@ Ends line olds news before behind = (line + olds ≤ before) × (behind + olds �
 
 turned_below : (p a b q c d gap before between behind : ℕ) → q ≡ p + b + gap → Ends p a b before between → Ends q c d between behind → (m : ℕ) × Ends (p + a + gap) c d before m × Ends p a b m behind
 turned_below p a b q c d gap before between behind stands u v =
-    let u0 : p + a ≤ before = u.0 in
-    let u1 : between + a ≡ before + b = u.1 in
-    let v0 : q + c ≤ between = v.0 in
-    let v1 : behind + c ≡ between + d = v.1 in
-    (before + d - c, (omega arith, omega arith), (omega arith, omega arith))
+    (before + d - c, (omega (arith, u, v), omega (arith, u, v)), (omega (arith, u, v), omega (arith, u, v)))
 
 turned_above : (p a b q c d gap before between behind : ℕ) → p ≡ q + c + gap → Ends p a b before between → Ends q c d between behind → (m : ℕ) × Ends q c d before m × Ends (q + d + gap) a b m behind
 turned_above p a b q c d gap before between behind stands u v =
-    let u0 : p + a ≤ before = u.0 in
-    let u1 : between + a ≡ before + b = u.1 in
-    let v0 : q + c ≤ between = v.0 in
-    let v1 : behind + c ≡ between + d = v.1 in
-    (before + d - c, (omega arith, omega arith), (omega arith, omega arith))
+    (before + d - c, (omega (arith, u, v), omega (arith, u, v)), (omega (arith, u, v), omega (arith, u, v)))
 
 -- the end of the file of a path, before and behind a hunk of any path
 abbrev pub MovesEnd : List ℕ → ℕ → Edit → ℕ → Type 0

@@ -1,11 +1,5 @@
 -- What stands at a path of a tree, and trees with that changed.
-use Rattle.std.proofs.Common.{◌≡◌, ◌≢◌, ℕ, Bool, true, false, cond, List, Option, None, Some, refl, sym, ap, ◌∙◌}
-use Rattle.std.specs.Ordering.{nat_cmp, eq_by_cmp, is_eq}
-use Rattle.std.specs.Cmp.{Equal-is}
-use Rattle.std.specs.Cmp.Lexicographic.{slice_cmp}
-use Rattle.std.specs.FinMap.{get, insert, remove, get-insert, get-remove, same_map, slice_cmp-IsAntisymmetric, nat_cmp-IsAntisymmetric}
-use Rattle.std.proofs.lemmas.Cmp.{nat_list_cmp_total, tied_itself}
-use Rattle.camp_base.specs.Trees.{Lines, Files}
+use Rattle.camp_prim.proofs.Words.{◌≡◌, ◌≢◌, ℕ, Bool, true, false, cond, List, Option, None, Some, refl, sym, ap, ◌∙◌, nat_cmp, eq_by_cmp, is_eq, Equal-is, slice_cmp, get, insert, remove, get-insert, get-remove, same_map, slice_cmp-IsAntisymmetric, nat_cmp-IsAntisymmetric, nat_list_cmp_total, tied_itself, Lines, Files}
 
 pub same_path : (q p : List ℕ) → eq_by_cmp (slice_cmp nat_cmp) q p ≡ true → q ≡ p
 same_path q p e = slice_cmp-IsAntisymmetric nat_cmp-IsAntisymmetric q p ((Equal-is (slice_cmp nat_cmp q p)).0 e)

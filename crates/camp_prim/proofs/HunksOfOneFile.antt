@@ -1,6 +1,5 @@
 -- Two hunks of one file, one after the other: they may be put in the other order.
-use Rattle.std.proofs.Common.{◌≡◌, ℕ, ◌+◌, ◌≤◌, [], ◌∷◌, ◌++◌, length, refl, sym, ap, ◌∙◌, arith, append_assoc, length-append}
-use Rattle.camp_base.specs.Trees.{Lines, SplicesLines}
+use Rattle.camp_prim.proofs.Words.{◌≡◌, ℕ, ◌+◌, ◌≤◌, [], ◌∷◌, ◌++◌, length, refl, sym, ap, ◌∙◌, arith, append_assoc, length-append, Lines, SplicesLines}
 
 -- where lines are cut in two ways, the longer front is the shorter one and what lies between the cuts
 pub record Cut (xs ys us vs : Lines) : Type 0 where

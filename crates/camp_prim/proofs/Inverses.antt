@@ -1,12 +1,5 @@
 -- The inverse of a primitive leads back.
-use Rattle.std.proofs.Common.{◌≡◌, ℕ, Bool, true, false, not, List, [], refl, sym, ap, ◌∙◌}
-use Rattle.std.specs.FinMap.{get, insert, remove}
-use Rattle.camp_base.specs.Trees.{Lines, Files, Adds, Removes, Splices, SplicesLines}
-use Rattle.camp_prim.specs.Effect.{Applies, inverted, inverse_of}
-use Rattle.camp_prim.specs.Applied.{InverseLeadsBack}
-use Rattle.camp_prim.specs.declared.named.Named.{Named}
-use Rattle.camp_prim.specs.declared.primitives.Primitive.{Primitive}
-use Rattle.camp_prim.specs.declared.primitives.Primitive.TheVariants.{Add, Remove, Hunk}
+use Rattle.camp_prim.proofs.Words.{◌≡◌, ℕ, Bool, true, false, not, List, [], refl, sym, ap, ◌∙◌, get, insert, remove, Lines, Files, Adds, Removes, Splices, SplicesLines, Applies, inverted, inverse_of, InverseLeadsBack, Named, Primitive, Add, Remove, Hunk}
 use Rattle.camp_prim.proofs.Maps.{get_inserted, get_removed, remove-insert, insert-remove, insert-insert}
 
 removes_added : (path : List ℕ) (old new : Files) → Adds path old new → Removes path new old

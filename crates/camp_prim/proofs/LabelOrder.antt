@@ -1,11 +1,5 @@
 -- Labels and keys are in total orders, and only equal ones tie.
-use Rattle.std.proofs.Common.{◌≡◌, ◌≢◌, ◌⊎◌, Bool, true, false, IsTrue, refl, sym, ◌∙◌, subst, inl, inr, Ordering}
-use Rattle.std.specs.Ordering.{bool_cmp, ordering_then, ordering_reverse, is_lt}
-use Rattle.std.specs.declared.cmp.Ordering.TheVariants.{Less, Equal, Greater}
-use Rattle.std.specs.Cmp.{IsTotalOrder, nat_cmp_total, bool_cmp_total, tied_itself}
-use Rattle.std.specs.FinMap.{IsAntisymmetric, slice_cmp-IsAntisymmetric, nat_cmp-IsAntisymmetric}
-use Rattle.std.proofs.lemmas.Cmp.{nat_list_cmp_total, on_total, then_total}
-use Rattle.camp_prim.specs.Labels.{key_cmp, label_cmp}
+use Rattle.camp_prim.proofs.Words.{◌≡◌, ◌≢◌, ◌⊎◌, Bool, true, false, IsTrue, refl, sym, ◌∙◌, subst, inl, inr, Ordering, bool_cmp, ordering_then, ordering_reverse, is_lt, Less, Equal, Greater, IsTotalOrder, nat_cmp_total, bool_cmp_total, tied_itself, IsAntisymmetric, slice_cmp-IsAntisymmetric, nat_cmp-IsAntisymmetric, nat_list_cmp_total, on_total, then_total, key_cmp, label_cmp}
 use Rattle.camp_prim.specs.declared.labels.Key.{Key}
 use Rattle.camp_prim.specs.declared.labels.Label.{Label}
 

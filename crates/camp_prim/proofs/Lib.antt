@@ -15,3 +15,4 @@ pub mod SwapUnique
 pub mod ThreeAnywhere
 pub mod ThreeHunks
 pub mod ThreeSwaps
+pub mod Words

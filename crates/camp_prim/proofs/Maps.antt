@@ -1,11 +1,5 @@
 -- Changes of a tree at one path that undo each other.
-use Rattle.std.proofs.Common.{◌≡◌, ℕ, Bool, true, false, cond, Option, None, Some, List, refl, sym, ap, ◌∙◌}
-use Rattle.std.specs.Ordering.{nat_cmp, eq_by_cmp}
-use Rattle.std.specs.Cmp.{Equal-is}
-use Rattle.std.specs.Cmp.Lexicographic.{slice_cmp}
-use Rattle.std.specs.FinMap.{get, insert, remove, get_tied, get-insert, get-remove, same_map, nat_cmp-IsAntisymmetric, slice_cmp-IsAntisymmetric}
-use Rattle.std.proofs.lemmas.Cmp.{nat_list_cmp_total, tied_itself}
-use Rattle.camp_base.specs.Trees.{Lines, Files}
+use Rattle.camp_prim.proofs.Words.{◌≡◌, ℕ, Bool, true, false, cond, Option, None, Some, List, refl, sym, ap, ◌∙◌, nat_cmp, eq_by_cmp, Equal-is, slice_cmp, get, insert, remove, get_tied, get-insert, get-remove, same_map, nat_cmp-IsAntisymmetric, slice_cmp-IsAntisymmetric, nat_list_cmp_total, tied_itself, Lines, Files}
 
 -- whether two paths are equal
 abbrev same_path : List ℕ → List ℕ → Bool

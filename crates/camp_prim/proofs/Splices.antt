@@ -1,12 +1,6 @@
 -- Splicing lines, as a relation and as a function.
-use Rattle.std.proofs.Common.{◌≡◌, ℕ, ◌+◌, ◌-◌, true, Some, ◌++◌, length, take, drop, bytes_eq, refl, sym, ap, ◌∙◌, arith, length-append}
-use Rattle.std.specs.Cmp.Lexicographic.{pointwise}
+use Rattle.camp_prim.proofs.Words.{◌≡◌, ℕ, ◌+◌, ◌-◌, true, Some, ◌++◌, length, take, drop, bytes_eq, refl, sym, ap, ◌∙◌, arith, length-append, pointwise, eqb-true, eq-eqb, and_parts, and_from, cond-true, cond_some, slice_eq-Decides, bytes_eq-Decides, Lines, SplicesLines, is_cut, spliced}
 use Rattle.std.proofs.lemmas.List.{append_assoc, take_at, drop_at}
-use Rattle.std.proofs.lemmas.Bool.{eqb-true, eq-eqb, and_parts, and_from, cond-true}
-use Rattle.std.proofs.lemmas.Option.{cond_some}
-use Rattle.std.proofs.lemmas.Slice.Eq.{slice_eq-Decides, bytes_eq-Decides}
-use Rattle.camp_base.specs.Trees.{Lines, SplicesLines}
-use Rattle.camp_prim.specs.Applied.{is_cut, spliced}
 
 same_lines : (a b : Lines) → pointwise bytes_eq a b ≡ true → a ≡ b
 same_lines a b e = (slice_eq-Decides bytes_eq-Decides a b _ refl).0 e

@@ -1,9 +1,6 @@
 -- Primitives that change places as they are.
-use Rattle.std.proofs.Common.{◌≡◌, refl, sym, ap}
+use Rattle.camp_prim.proofs.Words.{◌≡◌, refl, sym, ap, SameKey, Swap, Named}
 use Rattle.camp_prim.specs.Inside.Targets.{moved, ChangeInRange}
-use Rattle.camp_prim.specs.Labels.{SameKey}
-use Rattle.camp_prim.specs.Swaps.{Swap}
-use Rattle.camp_prim.specs.declared.named.Named.{Named}
 use Rattle.camp_prim.specs.declared.swaps.Targets.{Targets}
 use Rattle.camp_prim.proofs.Moving.{swap_from}
 use Rattle.camp_prim.proofs.SwapUnique.{swap_unique}

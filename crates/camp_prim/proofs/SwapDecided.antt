@@ -1,17 +1,5 @@
 -- Two primitives swap or do not.
-use Rattle.std.proofs.Common.{◌≡◌, ℕ, ◌+◌, ◌-◌, ◌≤◌, ◌^◌, ◌⊎◌, length, Ordering, refl, sym, ap, ◌∙◌, subst, inl, inr, arith}
-use Rattle.std.proofs.lemmas.Bool.{cases_lt}
-use Rattle.std.proofs.lemmas.Cmp.{nat_list_cmp_total}
-use Rattle.std.specs.Cmp.{IsTotalOrder, tied_itself}
-use Rattle.std.specs.FinMap.{IsAntisymmetric, slice_cmp-IsAntisymmetric, nat_cmp-IsAntisymmetric}
-use Rattle.std.specs.declared.cmp.Ordering.TheVariants.{Less, Equal, Greater}
-use Rattle.camp_prim.specs.Effect.{InRange}
-use Rattle.camp_prim.specs.Hunks.{Edit, IsInRange}
-use Rattle.camp_prim.specs.Labels.{label_of, key_of, SameKey}
-use Rattle.camp_prim.specs.Swaps.{path_of, at_line, MayPass, SwapsBelow, SwapsAbove, ChangePlaces, Swap}
-use Rattle.camp_prim.specs.declared.primitives.Primitive.{Primitive}
-use Rattle.camp_prim.specs.declared.primitives.Primitive.TheVariants.{Add, Remove, Hunk}
-use Rattle.camp_prim.specs.declared.named.Named.{Named}
+use Rattle.camp_prim.proofs.Words.{◌≡◌, ℕ, ◌+◌, ◌-◌, ◌≤◌, ◌^◌, ◌⊎◌, length, Ordering, refl, sym, ap, ◌∙◌, subst, inl, inr, arith, cases_lt, nat_list_cmp_total, IsTotalOrder, tied_itself, IsAntisymmetric, slice_cmp-IsAntisymmetric, nat_cmp-IsAntisymmetric, Less, Equal, Greater, InRange, Edit, IsInRange, label_of, key_of, SameKey, path_of, at_line, MayPass, SwapsBelow, SwapsAbove, ChangePlaces, Swap, Primitive, Add, Remove, Hunk, Named}
 use Rattle.camp_prim.proofs.LabelOrder.{key_total, key_ties}
 use Rattle.camp_prim.proofs.SwapUnique.{same_hunk}
 

@@ -1,12 +1,5 @@
 -- Two primitives that swap have one effect in both orders.
-use Rattle.std.proofs.Common.{◌≡◌, ◌≢◌, ℕ, ◌+◌, inl, inr, [], Option, None, Some, length, refl, sym, ap, ◌∙◌, subst}
-use Rattle.std.specs.FinMap.{get}
-use Rattle.camp_base.specs.Trees.{Lines, Files, Splices, SplicesLines}
-use Rattle.camp_prim.specs.Hunks.{Edit}
-use Rattle.camp_prim.specs.Effect.{Applies, Leads}
-use Rattle.camp_prim.specs.Swaps.{path_of, at_line, ChangePlaces}
-use Rattle.camp_prim.specs.declared.primitives.Primitive.{Primitive}
-use Rattle.camp_prim.specs.declared.primitives.Primitive.TheVariants.{Add, Remove, Hunk}
+use Rattle.camp_prim.proofs.Words.{◌≡◌, ◌≢◌, ℕ, ◌+◌, inl, inr, [], Option, None, Some, length, refl, sym, ap, ◌∙◌, subst, get, Lines, Files, Splices, SplicesLines, Edit, Applies, Leads, path_of, at_line, ChangePlaces, Primitive, Add, Remove, Hunk}
 use Rattle.camp_prim.proofs.FilesAtPaths.{with_file, get-with_file_same, get-with_file_other, with_file_twice, with_files_apart}
 use Rattle.camp_prim.proofs.HunksOfOneFile.{SplicesTwice, lower_first, upper_first}
 

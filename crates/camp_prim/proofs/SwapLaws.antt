@@ -1,13 +1,5 @@
 -- The laws of swapping two primitives.
-use Rattle.std.proofs.Common.{◌≡◌, ℕ, ◌+◌, ◌≤◌, ◌^◌, length, refl, sym, ap, ◌∙◌, inl, inr, arith}
-use Rattle.camp_prim.specs.Hunks.{Edit, IsInRange}
-use Rattle.camp_prim.specs.Effect.{flipped, inverted, inverse_of, InRange}
-use Rattle.camp_prim.specs.Labels.{label_of, key_of, opposite, SameKey}
-use Rattle.camp_prim.specs.Laws.{OwnInverse, Inverse, Square, SameEffect, SwapLaws}
-use Rattle.camp_prim.specs.Swaps.{path_of, at_line, MayPass, Swap, ChangePlaces, SwapAnywhere}
-use Rattle.camp_prim.specs.declared.primitives.Primitive.{Primitive}
-use Rattle.camp_prim.specs.declared.primitives.Primitive.TheVariants.{Add, Remove, Hunk}
-use Rattle.camp_prim.specs.declared.named.Named.{Named}
+use Rattle.camp_prim.proofs.Words.{◌≡◌, ℕ, ◌+◌, length, refl, sym, ap, ◌∙◌, inl, inr, arith, Edit, IsInRange, flipped, inverted, inverse_of, InRange, label_of, key_of, opposite, SameKey, OwnInverse, Inverse, Square, SameEffect, SwapLaws, path_of, at_line, MayPass, Swap, ChangePlaces, SwapAnywhere, Primitive, Add, Remove, Hunk, Named}
 use Rattle.camp_prim.proofs.SwapEffect.{swaps_lead}
 
 passes_back : (gap : ℕ) (h k : Edit) → MayPass gap h k → MayPass gap k h
@@ -28,11 +20,7 @@ path_of-inverted (Remove path) = refl
 path_of-inverted (Hunk hunk) = refl
 
 in_range-flipped : (hunk : Edit) → IsInRange hunk → IsInRange (flipped hunk)
-in_range-flipped hunk r =
-    let counted : 1 ≤ hunk.line = r.counted in
-    let changes : 1 ≤ length hunk.old + length hunk.new = r.changes in
-    let within : hunk.line + length hunk.old + length hunk.new ≤ 2 ^ 30 = r.within in
-    record { counted = counted; changes = omega arith; within = omega arith }
+in_range-flipped hunk r = record { counted = r.counted; changes = omega arith; within = omega arith }
 
 in_range-inverted : (p : Primitive) → InRange p → InRange (inverted p)
 in_range-inverted (Add path) r = r

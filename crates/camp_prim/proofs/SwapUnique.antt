@@ -1,12 +1,5 @@
 -- What two primitives become is determined.
-use Rattle.std.proofs.Common.{◌≡◌, ◌+◌, ◌<◌, true, false, None, Some, length, refl, sym, ap, ◌∙◌, inl, inr, arith}
-use Rattle.camp_prim.specs.Hunks.{Edit}
-use Rattle.camp_prim.specs.Labels.{label_of}
-use Rattle.camp_prim.specs.Laws.{CommuteIsExchange, SwapIsUnique}
-use Rattle.camp_prim.specs.Swaps.{path_of, at_line, SwapsBelow, SwapsAbove, ChangePlaces}
-use Rattle.camp_prim.specs.declared.primitives.Primitive.{Primitive}
-use Rattle.camp_prim.specs.declared.primitives.Primitive.TheVariants.{Hunk}
-use Rattle.camp_prim.specs.declared.named.Named.{Named}
+use Rattle.camp_prim.proofs.Words.{◌≡◌, ◌+◌, true, false, None, Some, length, refl, sym, ap, ◌∙◌, inl, inr, arith, Edit, label_of, CommuteIsExchange, SwapIsUnique, path_of, at_line, SwapsBelow, SwapsAbove, ChangePlaces, Primitive, Hunk, Named}
 
 pub same_named : (a b : Named) → label_of a ≡ label_of b → a.prim ≡ b.prim → a ≡ b
 same_named a b labels prims = λ i. record { name = (labels i).name; place = (labels i).place; inverse = (labels i).inverse; prim = prims i }
@@ -25,37 +18,20 @@ not_both p q q' p' r' o' b a =
     let ks : b.k ≡ a.k = same_hunk b.k a.k (sym b.is_q ∙ a.is_q) in
     let h_line : b.h.line ≡ a.h.line = ap (λ x. x.line) hs in
     let k_line : b.k.line ≡ a.k.line = ap (λ x. x.line) ks in
-    let below : b.k.line ≡ b.h.line + length b.h.new + b.gap = b.stands in
-    let above : a.h.line ≡ a.k.line + length a.k.old + a.gap = a.stands in
-    elim b.passes [
-      | inl apart ↦ absurd (omega arith)
-      | inr full ↦ let some : 0 < length b.h.new = full.1 in absurd (omega arith)
-    ]
+    elim b.passes [ inl apart ↦ absurd (omega arith) | inr full ↦ absurd (omega (arith, full)) ]
 
 one_below : (p q q' p' r' o' : Primitive) → SwapsBelow p q q' p' → SwapsBelow p q r' o' → (q' ≡ r') × (p' ≡ o')
 one_below p q q' p' r' o' b a =
     let hs : b.h ≡ a.h = same_hunk b.h a.h (sym b.is_p ∙ a.is_p) in
     let ks : b.k ≡ a.k = same_hunk b.k a.k (sym b.is_q ∙ a.is_q) in
-    let h_line : b.h.line ≡ a.h.line = ap (λ x. x.line) hs in
-    let k_line : b.k.line ≡ a.k.line = ap (λ x. x.line) ks in
-    let h_old : length b.h.old ≡ length a.h.old = ap (λ x. length x.old) hs in
-    let h_new : length b.h.new ≡ length a.h.new = ap (λ x. length x.new) hs in
-    let stands : b.k.line ≡ b.h.line + length b.h.new + b.gap = b.stands in
-    let stands' : a.k.line ≡ a.h.line + length a.h.new + a.gap = a.stands in
-    let lines : b.h.line + length b.h.old + b.gap ≡ a.h.line + length a.h.old + a.gap = omega arith in
+    let lines : b.h.line + length b.h.old + b.gap ≡ a.h.line + length a.h.old + a.gap = omega (arith, ap (λ (x : Edit). x.line) hs, ap (λ (x : Edit). x.line) ks, ap (λ (x : Edit). length x.old) hs, ap (λ (x : Edit). length x.new) hs) in
     (b.second ∙ ap (λ l. Hunk (at_line l b.k)) lines ∙ ap (λ k. Hunk (at_line (a.h.line + length a.h.old + a.gap) k)) ks ∙ sym a.second, b.first ∙ sym a.first)
 
 one_above : (p q q' p' r' o' : Primitive) → SwapsAbove p q q' p' → SwapsAbove p q r' o' → (q' ≡ r') × (p' ≡ o')
 one_above p q q' p' r' o' b a =
     let hs : b.h ≡ a.h = same_hunk b.h a.h (sym b.is_p ∙ a.is_p) in
     let ks : b.k ≡ a.k = same_hunk b.k a.k (sym b.is_q ∙ a.is_q) in
-    let h_line : b.h.line ≡ a.h.line = ap (λ x. x.line) hs in
-    let k_line : b.k.line ≡ a.k.line = ap (λ x. x.line) ks in
-    let k_old : length b.k.old ≡ length a.k.old = ap (λ x. length x.old) ks in
-    let k_new : length b.k.new ≡ length a.k.new = ap (λ x. length x.new) ks in
-    let stands : b.h.line ≡ b.k.line + length b.k.old + b.gap = b.stands in
-    let stands' : a.h.line ≡ a.k.line + length a.k.old + a.gap = a.stands in
-    let lines : b.k.line + length b.k.new + b.gap ≡ a.k.line + length a.k.new + a.gap = omega arith in
+    let lines : b.k.line + length b.k.new + b.gap ≡ a.k.line + length a.k.new + a.gap = omega (arith, ap (λ (x : Edit). x.line) hs, ap (λ (x : Edit). x.line) ks, ap (λ (x : Edit). length x.old) ks, ap (λ (x : Edit). length x.new) ks) in
     (b.second ∙ sym a.second, b.first ∙ ap (λ l. Hunk (at_line l b.h)) lines ∙ ap (λ h. Hunk (at_line (a.k.line + length a.k.new + a.gap) h)) hs ∙ sym a.first)
 
 one_change : (p q q' p' r' o' : Primitive) → ChangePlaces p q q' p' → ChangePlaces p q r' o' → (q' ≡ r') × (p' ≡ o')

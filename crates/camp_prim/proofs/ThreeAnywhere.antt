@@ -1,9 +1,5 @@
 -- The six orders of three labelled primitives, in range or not.
-use Rattle.std.proofs.Common.{refl, sym, ◌∙◌, subst}
-use Rattle.camp_prim.specs.Effect.{inverse_of}
-use Rattle.camp_prim.specs.Laws.{SixOrders}
-use Rattle.camp_prim.specs.Swaps.{SwapAnywhere}
-use Rattle.camp_prim.specs.declared.named.Named.{Named}
+use Rattle.camp_prim.proofs.Words.{refl, sym, ◌∙◌, subst, inverse_of, SixOrders, SwapAnywhere, Named}
 use Rattle.camp_prim.proofs.Inverses.{inverse_of-inverse_of}
 use Rattle.camp_prim.proofs.SwapLaws.{same_key, own_inverse_anywhere, square_anywhere}
 use Rattle.camp_prim.proofs.ThreeSwaps.{three_swap}

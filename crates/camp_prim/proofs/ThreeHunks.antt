@@ -1,5 +1,5 @@
 -- Three hunks of one file as numbers: their lines, and how many lines each takes away and leaves.
-use Rattle.std.proofs.Common.{◌≡◌, ℕ, ◌+◌, ◌<◌, ◌⊎◌, refl, inl, inr, arith}
+use Rattle.camp_prim.proofs.Words.{◌≡◌, ℕ, ◌+◌, ◌<◌, ◌⊎◌, refl, inl, inr, arith}
 
 -- hunks of these sides may pass each other with this gap
 abbrev pub Pass : ℕ → ℕ → ℕ → ℕ → ℕ → Type 0
@@ -21,12 +21,6 @@ pub record MovesAbove (a b c d p q q' p' : ℕ) : Type 0 where
   pub second : q' ≡ q
   pub first : p' ≡ q + d + gap
 
-below : (a b c d p q q' p' : ℕ) (u : MovesBelow a b c d p q q' p') → (q ≡ p + b + u.gap) × (q' ≡ p + a + u.gap) × (p' ≡ p)
-below a b c d p q q' p' u = (u.stands, u.second, u.first)
-
-above : (a b c d p q q' p' : ℕ) (u : MovesAbove a b c d p q q' p') → (p ≡ q + c + u.gap) × (q' ≡ q) × (p' ≡ q + d + u.gap)
-above a b c d p q q' p' u = (u.stands, u.second, u.first)
-
 -- hunks at p and q, of the sides a, b and c, d, move to q' and p' as they change places
 abbrev pub Moves : ℕ → ℕ → ℕ → ℕ → ℕ → ℕ → ℕ → ℕ → Type 0
 Moves a b c d p q q' p' = MovesBelow a b c d p q q' p' ⊎ MovesAbove a b c d p q q' p'
@@ -44,133 +38,85 @@ module _ (a b c d e f p q q' p' r r1 q1 y p1 : ℕ) where
   -- the six arrangements in the file, each named from top to bottom
   first_second_third : MovesBelow a b c d p q q' p' → MovesBelow c d e f q r r1 q1 → MovesBelow a b e f p r1 y p1 → MovesInOrder a b c d e f p' q' r p1 q1 y
   first_second_third u v w =
-      let g = u.gap in
-      let h = v.gap in
-      let k = w.gap in
-      let us = below a b c d p q q' p' u in
-      let vs = below c d e f q r r1 q1 v in
-      let ws = below a b e f p r1 y p1 w in
-      let apart : 0 < g + d + h = elim u.passes [ inl some ↦ omega (arith, us, vs, ws) | inr full ↦ let side : 0 < d = full.3 in omega (arith, us, vs, ws) ] in
+      let apart : 0 < u.gap + d + v.gap = elim u.passes [ inl some ↦ omega arith | inr full ↦ let side : 0 < d = full.3 in omega arith ] in
       record {
-        r2 = p + a + (g + d + h);
+        r2 = p + a + (u.gap + d + v.gap);
         p2 = p;
         q2 = q';
-        past_first = inl (record { gap = g + d + h; stands = omega (arith, us, vs, ws); passes = inl apart; second = omega (arith, us, vs, ws); first = omega (arith, us, vs, ws) });
-        past_second = inl (record { gap = h; stands = omega (arith, us, vs, ws); passes = v.passes; second = omega (arith, us, vs, ws); first = refl });
-        others = inl (record { gap = g; stands = omega (arith, us, vs, ws); passes = u.passes; second = omega (arith, us, vs, ws); first = omega (arith, us, vs, ws) });
+        past_first = inl (record { gap = u.gap + d + v.gap; stands = omega arith; passes = inl apart; second = omega arith; first = omega arith });
+        past_second = inl (record { gap = v.gap; stands = omega arith; passes = v.passes; second = omega arith; first = refl });
+        others = inl (record { gap = u.gap; stands = omega arith; passes = u.passes; second = omega arith; first = omega arith });
       }
 
   first_third_second : MovesBelow a b c d p q q' p' → MovesAbove c d e f q r r1 q1 → MovesBelow a b e f p r1 y p1 → MovesInOrder a b c d e f p' q' r p1 q1 y
   first_third_second u v w =
-      let g = u.gap in
-      let h = v.gap in
-      let k = w.gap in
-      let us = below a b c d p q q' p' u in
-      let vs = above c d e f q r r1 q1 v in
-      let ws = below a b e f p r1 y p1 w in
-      let apart : 0 < k + f + h = elim w.passes [ inl some ↦ omega (arith, us, vs, ws) | inr full ↦ let side : 0 < f = full.3 in omega (arith, us, vs, ws) ] in
+      let apart : 0 < w.gap + f + v.gap = elim w.passes [ inl some ↦ omega arith | inr full ↦ let side : 0 < f = full.3 in omega arith ] in
       record {
-        r2 = p + a + k;
+        r2 = p + a + w.gap;
         p2 = p;
-        q2 = p + a + (k + f + h);
-        past_first = inl (record { gap = k; stands = omega (arith, us, vs, ws); passes = w.passes; second = omega (arith, us, vs, ws); first = omega (arith, us, vs, ws) });
-        past_second = inr (record { gap = h; stands = omega (arith, us, vs, ws); passes = v.passes; second = omega (arith, us, vs, ws); first = omega (arith, us, vs, ws) });
-        others = inl (record { gap = k + f + h; stands = omega (arith, us, vs, ws); passes = inl apart; second = omega (arith, us, vs, ws); first = omega (arith, us, vs, ws) });
+        q2 = p + a + (w.gap + f + v.gap);
+        past_first = inl (record { gap = w.gap; stands = omega arith; passes = w.passes; second = omega arith; first = omega arith });
+        past_second = inr (record { gap = v.gap; stands = omega arith; passes = v.passes; second = omega arith; first = omega arith });
+        others = inl (record { gap = w.gap + f + v.gap; stands = omega arith; passes = inl apart; second = omega arith; first = omega arith });
       }
 
   third_first_second : MovesBelow a b c d p q q' p' → MovesAbove c d e f q r r1 q1 → MovesAbove a b e f p r1 y p1 → MovesInOrder a b c d e f p' q' r p1 q1 y
   third_first_second u v w =
-      let g = u.gap in
-      let h = v.gap in
-      let k = w.gap in
-      let us = below a b c d p q q' p' u in
-      let vs = above c d e f q r r1 q1 v in
-      let ws = above a b e f p r1 y p1 w in
-      let apart : 0 < k + a + g = elim w.passes [ inl some ↦ omega (arith, us, vs, ws) | inr full ↦ let side : 0 < a = full.0 in omega (arith, us, vs, ws) ] in
+      let apart : 0 < w.gap + a + u.gap = elim w.passes [ inl some ↦ omega arith | inr full ↦ let side : 0 < a = full.0 in omega arith ] in
       record {
         r2 = r;
         p2 = p1;
-        q2 = r + f + (k + a + g);
-        past_first = inr (record { gap = k; stands = omega (arith, us, vs, ws); passes = w.passes; second = omega (arith, us, vs, ws); first = omega (arith, us, vs, ws) });
-        past_second = inr (record { gap = k + a + g; stands = omega (arith, us, vs, ws); passes = inl apart; second = omega (arith, us, vs, ws); first = omega (arith, us, vs, ws) });
-        others = inl (record { gap = g; stands = omega (arith, us, vs, ws); passes = u.passes; second = omega (arith, us, vs, ws); first = refl });
+        q2 = r + f + (w.gap + a + u.gap);
+        past_first = inr (record { gap = w.gap; stands = omega arith; passes = w.passes; second = omega arith; first = omega arith });
+        past_second = inr (record { gap = w.gap + a + u.gap; stands = omega arith; passes = inl apart; second = omega arith; first = omega arith });
+        others = inl (record { gap = u.gap; stands = omega arith; passes = u.passes; second = omega arith; first = refl });
       }
 
   second_first_third : MovesAbove a b c d p q q' p' → MovesBelow c d e f q r r1 q1 → MovesBelow a b e f p r1 y p1 → MovesInOrder a b c d e f p' q' r p1 q1 y
   second_first_third u v w =
-      let g = u.gap in
-      let h = v.gap in
-      let k = w.gap in
-      let us = above a b c d p q q' p' u in
-      let vs = below c d e f q r r1 q1 v in
-      let ws = below a b e f p r1 y p1 w in
-      let apart : 0 < g + a + k = elim u.passes [ inl some ↦ omega (arith, us, vs, ws) | inr full ↦ let side : 0 < a = full.0 in omega (arith, us, vs, ws) ] in
+      let apart : 0 < u.gap + a + w.gap = elim u.passes [ inl some ↦ omega arith | inr full ↦ let side : 0 < a = full.0 in omega arith ] in
       record {
-        r2 = p' + a + k;
+        r2 = p' + a + w.gap;
         p2 = p';
         q2 = q;
-        past_first = inl (record { gap = k; stands = omega (arith, us, vs, ws); passes = w.passes; second = refl; first = refl });
-        past_second = inl (record { gap = g + a + k; stands = omega (arith, us, vs, ws); passes = inl apart; second = omega (arith, us, vs, ws); first = omega (arith, us, vs, ws) });
-        others = inr (record { gap = g; stands = omega (arith, us, vs, ws); passes = u.passes; second = omega (arith, us, vs, ws); first = omega (arith, us, vs, ws) });
+        past_first = inl (record { gap = w.gap; stands = omega arith; passes = w.passes; second = refl; first = refl });
+        past_second = inl (record { gap = u.gap + a + w.gap; stands = omega arith; passes = inl apart; second = omega arith; first = omega arith });
+        others = inr (record { gap = u.gap; stands = omega arith; passes = u.passes; second = omega arith; first = omega arith });
       }
 
   second_third_first : MovesAbove a b c d p q q' p' → MovesBelow c d e f q r r1 q1 → MovesAbove a b e f p r1 y p1 → MovesInOrder a b c d e f p' q' r p1 q1 y
   second_third_first u v w =
-      let g = u.gap in
-      let h = v.gap in
-      let k = w.gap in
-      let us = above a b c d p q q' p' u in
-      let vs = below c d e f q r r1 q1 v in
-      let ws = above a b e f p r1 y p1 w in
-      let apart : 0 < h + f + k = elim v.passes [ inl some ↦ omega (arith, us, vs, ws) | inr full ↦ let side : 0 < f = full.3 in omega (arith, us, vs, ws) ] in
+      let apart : 0 < v.gap + f + w.gap = elim v.passes [ inl some ↦ omega arith | inr full ↦ let side : 0 < f = full.3 in omega arith ] in
       record {
         r2 = r;
-        p2 = r + f + k;
+        p2 = r + f + w.gap;
         q2 = q;
-        past_first = inr (record { gap = k; stands = omega (arith, us, vs, ws); passes = w.passes; second = refl; first = refl });
-        past_second = inl (record { gap = h; stands = omega (arith, us, vs, ws); passes = v.passes; second = omega (arith, us, vs, ws); first = omega (arith, us, vs, ws) });
-        others = inr (record { gap = h + f + k; stands = omega (arith, us, vs, ws); passes = inl apart; second = omega (arith, us, vs, ws); first = omega (arith, us, vs, ws) });
+        past_first = inr (record { gap = w.gap; stands = omega arith; passes = w.passes; second = refl; first = refl });
+        past_second = inl (record { gap = v.gap; stands = omega arith; passes = v.passes; second = omega arith; first = omega arith });
+        others = inr (record { gap = v.gap + f + w.gap; stands = omega arith; passes = inl apart; second = omega arith; first = omega arith });
       }
 
   third_second_first : MovesAbove a b c d p q q' p' → MovesAbove c d e f q r r1 q1 → MovesAbove a b e f p r1 y p1 → MovesInOrder a b c d e f p' q' r p1 q1 y
   third_second_first u v w =
-      let g = u.gap in
-      let h = v.gap in
-      let k = w.gap in
-      let us = above a b c d p q q' p' u in
-      let vs = above c d e f q r r1 q1 v in
-      let ws = above a b e f p r1 y p1 w in
-      let apart : 0 < h + d + g = elim v.passes [ inl some ↦ omega (arith, us, vs, ws) | inr full ↦ let side : 0 < d = full.1 in omega (arith, us, vs, ws) ] in
+      let apart : 0 < v.gap + d + u.gap = elim v.passes [ inl some ↦ omega arith | inr full ↦ let side : 0 < d = full.1 in omega arith ] in
       record {
         r2 = r;
-        p2 = r + f + (h + d + g);
+        p2 = r + f + (v.gap + d + u.gap);
         q2 = q1;
-        past_first = inr (record { gap = h + d + g; stands = omega (arith, us, vs, ws); passes = inl apart; second = refl; first = refl });
-        past_second = inr (record { gap = h; stands = omega (arith, us, vs, ws); passes = v.passes; second = omega (arith, us, vs, ws); first = omega (arith, us, vs, ws) });
-        others = inr (record { gap = g; stands = omega (arith, us, vs, ws); passes = u.passes; second = refl; first = omega (arith, us, vs, ws) });
+        past_first = inr (record { gap = v.gap + d + u.gap; stands = omega arith; passes = inl apart; second = refl; first = refl });
+        past_second = inr (record { gap = v.gap; stands = omega arith; passes = v.passes; second = omega arith; first = omega arith });
+        others = inr (record { gap = u.gap; stands = omega arith; passes = u.passes; second = refl; first = omega arith });
       }
 
   -- the other two can't be: the first stands above the second, the second above the third, and the third above the first
   never_round : MovesBelow a b c d p q q' p' → MovesBelow c d e f q r r1 q1 → MovesAbove a b e f p r1 y p1 → ⊥
   never_round u v w =
-      let g = u.gap in
-      let h = v.gap in
-      let k = w.gap in
-      let us = below a b c d p q q' p' u in
-      let vs = below c d e f q r r1 q1 v in
-      let ws = above a b e f p r1 y p1 w in
-      elim w.passes [ inl some ↦ omega (arith, us, vs, ws) | inr full ↦ let side : 0 < b = full.1 in omega (arith, us, vs, ws) ]
+      elim w.passes [ inl some ↦ omega arith | inr full ↦ let side : 0 < b = full.1 in omega arith ]
 
   -- and the same in the other direction
   never_round_back : MovesAbove a b c d p q q' p' → MovesAbove c d e f q r r1 q1 → MovesBelow a b e f p r1 y p1 → ⊥
   never_round_back u v w =
-      let g = u.gap in
-      let h = v.gap in
-      let k = w.gap in
-      let us = above a b c d p q q' p' u in
-      let vs = above c d e f q r r1 q1 v in
-      let ws = below a b e f p r1 y p1 w in
-      elim w.passes [ inl some ↦ omega (arith, us, vs, ws) | inr full ↦ let side : 0 < b = full.1 in omega (arith, us, vs, ws) ]
+      elim w.passes [ inl some ↦ omega arith | inr full ↦ let side : 0 < b = full.1 in omega arith ]
 
   -- where two hunks can change places and a third passes the second and then the first, it passes them in their other order too, and comes to the same line
   pub three_move : Moves a b c d p q q' p' → Moves c d e f q r r1 q1 → Moves a b e f p r1 y p1 → MovesInOrder a b c d e f p' q' r p1 q1 y

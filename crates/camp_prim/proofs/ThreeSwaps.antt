@@ -1,9 +1,5 @@
 -- Where two primitives change places and a third passes both, it passes them in their other order too.
-use Rattle.std.proofs.Common.{◌≡◌, ◌≢◌, ℕ, ◌⊎◌, ◌+◌, length, refl, sym, ap, ◌∙◌, subst, inl, inr}
-use Rattle.camp_prim.specs.Hunks.{Edit}
-use Rattle.camp_prim.specs.Swaps.{path_of, at_line, SwapsOnTwoPaths, SwapsBelow, SwapsAbove, ChangePlaces}
-use Rattle.camp_prim.specs.declared.primitives.Primitive.{Primitive}
-use Rattle.camp_prim.specs.declared.primitives.Primitive.TheVariants.{Hunk}
+use Rattle.camp_prim.proofs.Words.{◌≡◌, ◌≢◌, ℕ, ◌⊎◌, ◌+◌, length, refl, sym, ap, ◌∙◌, subst, inl, inr, Edit, path_of, at_line, SwapsOnTwoPaths, SwapsBelow, SwapsAbove, ChangePlaces, Primitive, Hunk}
 use Rattle.camp_prim.proofs.SwapUnique.{same_hunk, one_path}
 use Rattle.camp_prim.proofs.ThreeHunks.{Moves, MovesInOrder, three_move}
 

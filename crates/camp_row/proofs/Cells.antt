@@ -1,7 +1,5 @@
 -- The cells of a chain: no two entries have one, and the word that names the last tells the chain among its fronts.
-use Rattle.camp_row.proofs.Words.{◌≡◌, ◌≢◌, ℕ, suc, ◌+◌, ◌<◌, ◌≤◌, ◌⊎◌, inl, inr, List, [], ◌∷◌, ◌++◌, length, ◌==◌, sym, refl, ap, ◌∙◌, subst, arith, length-append, append-nil, append_assoc, append_cancel_left, eq-eqb, ne_eqb, cond-true, cond-false, same_from_place, Entry}
-use Rattle.std.proofs.lemmas.List.Elements.{filter-append}
-use Rattle.camp_row.specs.Chains.{IsFront, own, turns, cell_of, head_after, head_word, Fits}
+use Rattle.camp_row.proofs.Words.{◌≡◌, ◌≢◌, ℕ, suc, ◌+◌, ◌<◌, ◌≤◌, ◌⊎◌, inl, inr, List, [], ◌∷◌, ◌++◌, length, ◌==◌, sym, refl, ap, ◌∙◌, subst, arith, length-append, append-nil, append_assoc, append_cancel_left, filter-append, eq-eqb, ne_eqb, cond-true, cond-false, same_from_place, Entry, IsFront, own, turns, cell_of, head_after, head_word, Fits}
 use Rattle.camp_row.proofs.Fronts.{front_cases, cut_longer, cut_push, fronts_meet, next_is}
 
 pub own-append : (seat : ℕ) (xs ys : List Entry) → own seat (xs ++ ys) ≡ own seat xs ++ own seat ys

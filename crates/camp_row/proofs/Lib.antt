@@ -1,4 +1,3 @@
-mod Words
 pub mod Cells
 pub mod Dealing
 pub mod Drafting
@@ -10,3 +9,4 @@ pub mod Publishing
 pub mod Ruling
 pub mod TrailPlaces
 pub mod TrailSteps
+pub mod Words

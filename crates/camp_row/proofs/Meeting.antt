@@ -1,8 +1,5 @@
 -- Two passes that find one chain.
-use Rattle.camp_row.proofs.Words.{subst, ◌≡◌, ◌≢◌, inl, inr, ℕ, ◌+◌, ◌≤◌, List, [], ◌∷◌, All, map, sym, ap, ◌∙◌, arith, Seat, Entry, Knowledge, IsFront, Part, part_of, known_of, parts_of, finds, part, known, IsPass, Sees, Looked}
-use Rattle.std.proofs.lemmas.List.Elements.{All-head, All-tail, All-same}
-use Rattle.camp_row.specs.declared.passes.Pass.TheInside.{Inside as PassInside}
-use Rattle.camp_row.specs.Known.{Known, FindsChain, OneBegins}
+use Rattle.camp_row.proofs.Words.{subst, ◌≡◌, ◌≢◌, inl, inr, ℕ, ◌+◌, ◌≤◌, List, [], ◌∷◌, All, map, sym, ap, ◌∙◌, arith, All-head, All-tail, All-same, Seat, Entry, Knowledge, PassInside, IsFront, Known, FindsChain, OneBegins, Part, part_of, known_of, parts_of, finds, part, known, IsPass, Sees, Looked}
 use Rattle.camp_row.proofs.Fronts.{fronts_meet, shorter_front}
 use Rattle.camp_row.proofs.Ruling.{parts_of-self}
 use Rattle.camp_row.proofs.PassOfRow.{at_part, known_at}

@@ -1,10 +1,7 @@
 -- A pass over its fields, and the row that it is of.
-use Rattle.camp_row.proofs.Words.{◌≡◌, ◌≢◌, ℕ, ◌+◌, ◌*◌, ◌<◌, ◌≤◌, List, [], ◌∷◌, sym, refl, ap, ◌∙◌, subst, arith, row_fits, TableId, Seat, Knowledge, Next, IsShorter, turns, cell_of, RowId, Known, ComesNext, Part, part_of, known_of, IsSoundPart, part, known, IsPass}
+use Rattle.camp_row.proofs.Words.{◌≡◌, ◌≢◌, ℕ, ◌+◌, ◌*◌, ◌<◌, ◌≤◌, List, [], ◌∷◌, sym, refl, ap, ◌∙◌, subst, arith, row_fits, TableId, Seat, Knowledge, Next, IsShorter, turns, cell_of, RowId, Known, ComesNext, Part, part_of, known_of, IsSoundPart, part, known, IsPass, id_of, IsRow, PassInside, RowInside}
 use Rattle.std.proofs.Math.Nat.{mul-le-mul_left}
 use Rattle.camp_row.proofs.Drafting.{next_cell, HasRoom}
-use Rattle.camp_row.specs.Inside.RowFields.{id_of, IsRow}
-use Rattle.camp_row.specs.declared.passes.Pass.TheInside.{Inside as PassInside}
-use Rattle.camp_row.specs.declared.rows.Row.TheInside.{Inside as RowInside}
 
 -- the pass is to this row
 pub record IsOf (pass : PassInside) (row : RowInside) : Type 0 where

@@ -1,6 +1,5 @@
 -- A compare_exchange of the head keeps the rule: it lengthens the chain by the drafted cell where the chain is just what was seen, and else finds a longer one.
-use Rattle.std.proofs.Common.{◌≡◌, ◌≢◌, ℕ, ◌+◌, ◌*◌, ◌<◌, inl, inr, List, [], ◌∷◌, ◌++◌, Bool, true, false, ◌==◌, sym, refl, ap, ◌∙◌, subst, arith, set, slice_index, MatchBool}
-use Rattle.camp_row.proofs.Words.{get_or-set_same, length-set, eq-eqb, ne_eqb, cases_eq, some, either, get_elem?, Entry, Knowledge, IsFront, turns, cell_of, head_word, Fits, Part, finds, Holds, Knows, IsRuled, drafted_part, won_part, WonPart, LostPart}
+use Rattle.camp_row.proofs.Words.{◌≡◌, ◌≢◌, ℕ, ◌+◌, ◌*◌, ◌<◌, inl, inr, List, [], ◌∷◌, ◌++◌, Bool, true, false, ◌==◌, sym, refl, ap, ◌∙◌, subst, arith, set, slice_index, MatchBool, get_or-set_same, length-set, eq-eqb, ne_eqb, cases_eq, some, either, get_elem?, Entry, Knowledge, IsFront, turns, cell_of, head_word, Fits, Part, finds, Holds, Knows, IsRuled, drafted_part, won_part, WonPart, LostPart}
 use Rattle.camp_row.proofs.Fronts.{front_refl, front_both, front_push, front_cases, cut_push}
 use Rattle.camp_row.proofs.Cells.{turns_cut, own_push_other, head_word-push, same_front, fits_push}
 use Rattle.camp_row.proofs.Ruling.{only, knows, keep_one, keep_words, holds_other}

@@ -1,8 +1,5 @@
 -- The rule of the row, when a step changes one view and perhaps one word.
-use Rattle.camp_row.proofs.Words.{◌≡◌, ◌≢◌, ℕ, zero, suc, ◌+◌, ◌≤◌, inl, inr, List, [], ◌∷◌, length, cond, ◌==◌, sym, refl, ap, ◌∙◌, subst, arith, zero-add, set, get_or, slice_index, sum_by, All, sum_by-cons, All-head, All-cons, All-nil, eq-eqb, ne_eqb, cond-true, cond-false, some, some-injective, some-ne-none, get_elem?, at_set, Entry, Knowledge, head_word, Fits, Part, parts_of}
-use Rattle.std.proofs.lemmas.List.{get_or-set_other, set-get_or}
-use Rattle.atomic_table.specs.Table.{State, Me, keeps, Allows}
-use Rattle.camp_row.specs.Inside.Rule.{parent_word, place_word, Holds, IsLinked, Knows, IsRuled}
+use Rattle.camp_row.proofs.Words.{◌≡◌, ◌≢◌, ℕ, zero, suc, ◌+◌, ◌≤◌, inl, inr, List, [], ◌∷◌, length, cond, ◌==◌, sym, refl, ap, ◌∙◌, subst, arith, zero-add, set, get_or, slice_index, sum_by, All, get_or-set_other, set-get_or, sum_by-cons, All-head, All-cons, All-nil, eq-eqb, ne_eqb, cond-true, cond-false, some, some-injective, some-ne-none, get_elem?, State, Me, keeps, Allows, at_set, Entry, Knowledge, head_word, Fits, Part, parts_of, parent_word, place_word, Holds, IsLinked, Knows, IsRuled}
 
 -- what a step owes that takes no slot: whatever the words and the views are, there is a view that keeps the rule
 abbrev pub Owes : ℕ → ℕ → ℕ → Knowledge → ℕ → (ℕ → ℕ) → (ℕ → Knowledge → Type 0) → Type 0

@@ -1,8 +1,5 @@
 -- A place of a trail, before the entries that lie before it are seen.
-use Rattle.camp_row.proofs.Words.{◌≡◌, ℕ, zero, suc, ◌+◌, ◌-◌, ◌*◌, ◌%◌, ◌<◌, List, [], ◌∷◌, ◌++◌, length, slice_get, Some, sym, refl, ap, ◌∙◌, subst, arith, length-append, append-nil, append_assoc, mod-mul-add, Entry, turns, cell_of, RowId, Known, Leads, cells_back, Part, IsSoundPart, part, known, id_of}
-use Rattle.std.proofs.lemmas.Option.{same_Some}
-use Rattle.camp_row.specs.declared.passes.Pass.TheInside.{Inside as PassInside}
-use Rattle.camp_row.specs.declared.rows.Row.TheInside.{Inside as RowInside}
+use Rattle.camp_row.proofs.Words.{◌≡◌, ℕ, zero, suc, ◌+◌, ◌-◌, ◌*◌, ◌%◌, ◌<◌, List, [], ◌∷◌, ◌++◌, length, slice_get, Some, sym, refl, ap, ◌∙◌, subst, arith, length-append, append-nil, append_assoc, same_Some, mod-mul-add, Entry, PassInside, RowInside, turns, cell_of, RowId, Known, Leads, cells_back, Part, IsSoundPart, part, known, id_of}
 use Rattle.camp_row.proofs.PassOfRow.{IsOf, is_of, cell_below}
 use Rattle.camp_row.proofs.TrailSteps.{length-cells_back}
 

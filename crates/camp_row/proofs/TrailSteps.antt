@@ -1,8 +1,5 @@
 -- A trail, popped and pushed.
-use Rattle.camp_row.proofs.Words.{◌≡◌, ◌≢◌, ℕ, ◌+◌, ◌-◌, ◌*◌, ◌%◌, ◌<◌, List, [], ◌∷◌, ◌++◌, length, sym, refl, ap, ◌∙◌, subst, inl, inr, arith, length-append, mod-mul-add, TableId, Entry, IsFront, turns, cell_of, head_word, Known, ComesNext, Leads, cells_back, Part, known_of, IsSoundPart, part, known}
-use Rattle.std.proofs.lemmas.List.{same_from_push, append-nil, append_assoc, length_push}
-use Rattle.camp_row.specs.declared.passes.Pass.TheInside.{Inside as PassInside}
-use Rattle.camp_row.specs.declared.rows.Row.TheInside.{Inside as RowInside}
+use Rattle.camp_row.proofs.Words.{◌≡◌, ◌≢◌, ℕ, ◌+◌, ◌-◌, ◌*◌, ◌%◌, ◌<◌, List, [], ◌∷◌, ◌++◌, length, sym, refl, ap, ◌∙◌, subst, inl, inr, arith, length-append, same_from_push, append-nil, append_assoc, length_push, mod-mul-add, TableId, Entry, PassInside, RowInside, IsFront, turns, cell_of, head_word, Known, ComesNext, Leads, cells_back, Part, known_of, IsSoundPart, part, known}
 use Rattle.camp_row.proofs.Fronts.{no_cut, cut_pushed, cut_longer}
 use Rattle.camp_row.proofs.Cells.{next_is_others, head_word-push, same_front, last_cases}
 use Rattle.camp_row.proofs.PassOfRow.{IsOf, cell_below}

@@ -1,15 +1,18 @@
-use Rattle.std.proofs.Common.{[], ap, refl, arith, ◌+◌, ◌++◌, ◌∙◌}
-use Rattle.std.proofs.lemmas.List.{take_all}
-use Rattle.camp_branch.specs.Branches.{recorded}
-use Rattle.camp_branch.proofs.BranchFields.{appended, recorded_step}
+use Rattle.camp_branch.proofs.Words.{ap, refl, sym, arith, ◌+◌, ◌++◌, ◌∙◌, append-nil, drop_all, recorded}
+use Rattle.camp_branch.proofs.BranchFields.{appended, one_recorded}
 use Rattle.camp_branch.proofs.branches.with_recorded.Goals as goal
 
 pub loop-change-preserved : goal.loop-change-preserved
 loop-change-preserved c =
     let l = c.loop-change in
-    (recorded_step [] l.new.items _ c.args.name.now l.place l.change-index c.args.changes.now c.change-item.result c.change-item.result c.in_ok-catch.catch c.loop-change-test.true l.invariant.0 l.invariant.1 c.change-item.is c.in_ok-catch.ensures c.in_ok-push.ensures.items, ap (λ n. n + 1) l.invariant.1)
+    record {
+      so_far = one_recorded l.new.items _ c.args.name.now l.place l.change-index c.args.changes.now c.change-item.result c.change-item.result c.in_ok-catch.catch _ c.loop-change-test.true c.change-item.is c.in_ok-catch.ensures c.in_ok-push.ensures.items l.invariant.so_far;
+      at = ap (λ n. n + 1) l.invariant.at;
+    }
 
 pub returns : goal.returns
 returns c =
+    let l = c.loop-change in
+    let all = sym (append-nil l.new.items) ∙ ap (λ t. l.new.items ++ recorded c.args.name.now l.place t) (sym (drop_all l.change-index c.args.changes.now (omega arith))) ∙ l.invariant.so_far in
     appended c.args.catches.now c.args.catches.now c.deref.result.now c.in_ok-list.list c.len-end.result c.len-end.ensures.exact refl c.in_ok-list.ensures.exact
-    ∙ ap (λ xs. c.args.catches.now ++ xs) (c.deref.ensures.value ∙ c.loop-change.invariant.0 ∙ ap (recorded c.args.name.now 1) (take_all c.loop-change.change-index c.args.changes.now (omega arith)))
+    ∙ ap (λ xs. c.args.catches.now ++ xs) (c.deref.ensures.value ∙ all)

@@ -1,7 +1,8 @@
-use Rattle.std.proofs.Common.{◌≡◌, ◌+◌, take}
-use Rattle.camp_branch.specs.Branches.{recorded}
+use Rattle.camp_branch.proofs.Words.{◌≡◌, ◌+◌, ◌++◌, drop, recorded}
 use Rattle.camp_branch.proofs.branches.with_recorded.Given as goal
 
 abbrev pub invariant-loop-change : goal.invariant-loop-change
-invariant-loop-change l =
-    (l.new.items ≡ recorded l.name 1 (take l.change-index l.changes)) × (l.place ≡ l.change-index + 1)
+invariant-loop-change l = record {
+  so_far : l.new.items ++ recorded l.name l.place (drop l.change-index l.changes) ≡ recorded l.name 1 l.changes;
+  at : l.place ≡ l.change-index + 1;
+}

@@ -1,5 +1,4 @@
-use Rattle.std.proofs.Common.{◌≡◌, ◌++◌}
-use Rattle.camp_branch.specs.Inside.Collecting.{pairs_in}
+use Rattle.camp_branch.proofs.Words.{◌≡◌, ◌++◌, pairs_in}
 use Rattle.camp_branch.proofs.conflicts.collected.Given as goal
 
 abbrev pub invariant-loop-catch : goal.invariant-loop-catch

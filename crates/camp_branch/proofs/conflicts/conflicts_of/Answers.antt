@@ -1,4 +1,4 @@
-use Rattle.std.proofs.Common.{List, subst}
+use Rattle.camp_branch.proofs.Words.{List, subst}
 use Rattle.std.proofs.lemmas.List.Filters.{dedup_is}
 use Rattle.camp_branch.proofs.ConflictsDetermined.{conflicts_by}
 use Rattle.camp_branch.proofs.SortedPairs.{IsInOrder, Pair, sorted_once}

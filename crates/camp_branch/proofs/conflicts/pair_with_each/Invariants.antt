@@ -1,7 +1,4 @@
-use Rattle.std.proofs.Common.{◌≡◌, ◌++◌, map, take}
-use Rattle.std.specs.List.{flat_map}
-use Rattle.std.specs.FinMap.{values}
-use Rattle.camp_branch.specs.Inside.Collecting.{pair_of}
+use Rattle.camp_branch.proofs.Words.{◌≡◌, ◌++◌, map, take, flat_map, values, pair_of}
 use Rattle.camp_branch.proofs.conflicts.pair_with_each.Given as goal
 
 abbrev pub invariant-loop-index : goal.invariant-loop-index

@@ -1,4 +1,4 @@
-use Rattle.std.proofs.Common.{arith}
+use Rattle.camp_branch.proofs.Words.{arith}
 use Rattle.camp_branch.proofs.EffectSteps.{one_runs_on}
 use Rattle.camp_branch.proofs.effects.run.Goals as goal
 

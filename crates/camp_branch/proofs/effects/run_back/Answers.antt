@@ -1,4 +1,4 @@
-use Rattle.std.proofs.Common.{◌-◌, arith}
+use Rattle.camp_branch.proofs.Words.{◌-◌, arith}
 use Rattle.camp_branch.proofs.Undone.{goes_back, one_back}
 use Rattle.camp_branch.proofs.effects.run_back.Goals as goal
 

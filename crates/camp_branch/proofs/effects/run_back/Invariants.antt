@@ -1,5 +1,4 @@
-use Rattle.std.proofs.Common.{drop}
-use Rattle.camp_seq.specs.Running.{AppliesAll}
+use Rattle.camp_branch.proofs.Words.{drop, AppliesAll}
 use Rattle.camp_branch.proofs.effects.run_back.Given as goal
 
 abbrev pub invariant-loop-at : goal.invariant-loop-at

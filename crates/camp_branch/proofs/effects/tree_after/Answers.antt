@@ -1,5 +1,4 @@
-use Rattle.std.proofs.Common.{◌∙◌, ap, arith}
-use Rattle.camp_catch.specs.Catches.{effect_of}
+use Rattle.camp_branch.proofs.Words.{◌∙◌, ap, arith, effect_of}
 use Rattle.camp_branch.proofs.EffectSteps.{next_effect, one_fits_on}
 use Rattle.camp_branch.proofs.effects.tree_after.Goals as goal
 

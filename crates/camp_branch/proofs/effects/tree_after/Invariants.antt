@@ -1,4 +1,4 @@
-use Rattle.std.proofs.Common.{drop}
+use Rattle.camp_branch.proofs.Words.{drop}
 use Rattle.camp_branch.proofs.EffectSteps.{FitsOn}
 use Rattle.camp_branch.proofs.effects.tree_after.Given as goal
 

@@ -1,5 +1,4 @@
-use Rattle.std.proofs.Common.{◌-◌, arith, ◌∙◌, ap}
-use Rattle.camp_catch.specs.Catches.{effect_of}
+use Rattle.camp_branch.proofs.Words.{◌-◌, arith, ◌∙◌, ap, effect_of}
 use Rattle.camp_branch.proofs.Undone.{effect_goes_back, one_effect_back}
 use Rattle.camp_branch.proofs.effects.tree_before.Goals as goal
 

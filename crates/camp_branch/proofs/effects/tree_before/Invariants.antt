@@ -1,5 +1,4 @@
-use Rattle.std.proofs.Common.{drop}
-use Rattle.camp_seq.specs.Running.{AppliesAll}
+use Rattle.camp_branch.proofs.Words.{drop, AppliesAll}
 use Rattle.camp_branch.proofs.Undone.{effects_of}
 use Rattle.camp_branch.proofs.effects.tree_before.Given as goal
 

@@ -1,8 +1,4 @@
-use Rattle.std.proofs.Common.{◌∙◌, ap, sym}
-use Rattle.std.specs.Cmp.Lexicographic.{slice_cmp}
-use Rattle.std.specs.Ordering.{nat_cmp}
-use Rattle.camp_share.specs.Maps.{map_of}
-use Rattle.camp_branch.specs.Branches.{name_of}
+use Rattle.camp_branch.proofs.Words.{◌∙◌, ap, sym, slice_cmp, nat_cmp, map_of, name_of}
 use Rattle.camp_branch.proofs.Fronts.{fewer_behind, front_grows, front_stops}
 use Rattle.camp_branch.proofs.name_sets.front.Goals as goal
 

@@ -1,6 +1,4 @@
-use Rattle.std.proofs.Common.{◌≡◌, ◌+◌, length}
-use Rattle.camp_branch.specs.Fields.{names_in}
-use Rattle.camp_branch.specs.Inside.Fronts.{front_of}
+use Rattle.camp_branch.proofs.Words.{◌≡◌, ◌+◌, length, names_in, front_of}
 use Rattle.camp_branch.proofs.name_sets.front.Given as goal
 
 abbrev pub invariant-loop-catch : goal.invariant-loop-catch

@@ -1,6 +1,4 @@
-use Rattle.std.specs.Cmp.Lexicographic.{slice_cmp}
-use Rattle.std.specs.Ordering.{nat_cmp}
-use Rattle.camp_share.specs.Maps.{map_of}
+use Rattle.camp_branch.proofs.Words.{slice_cmp, nat_cmp, map_of}
 use Rattle.camp_branch.proofs.NameSets.{one_goes}
 use Rattle.camp_branch.proofs.name_sets.without.Goals as goal
 

@@ -1,4 +1,4 @@
-use Rattle.std.proofs.Common.{drop}
+use Rattle.camp_branch.proofs.Words.{drop}
 use Rattle.camp_branch.proofs.Differences.{DiffersOn}
 use Rattle.camp_branch.proofs.pulls.first_difference.Given as goal
 

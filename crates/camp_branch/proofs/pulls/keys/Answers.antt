@@ -1,6 +1,5 @@
-use Rattle.std.proofs.Common.{rules}
+use Rattle.camp_branch.proofs.Words.{rules, catch_key}
 use Rattle.std.proofs.lemmas.Iterator.{YieldsList-from_slice, YieldsList-from_map, items_from_collect}
-use Rattle.camp_catch.specs.Catches.{catch_key}
 use Rattle.camp_branch.proofs.pulls.keys.Goals as goal
 
 pub returns : goal.returns

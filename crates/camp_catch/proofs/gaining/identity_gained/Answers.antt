@@ -1,5 +1,4 @@
-use Rattle.camp_catch.proofs.CommuteSteps.{is_nothing}
-use Rattle.camp_catch.proofs.Gains.{gains}
+use Rattle.camp_catch.proofs.Gains.{gains, is_nothing}
 use Rattle.camp_catch.proofs.gaining.identity_gained.Goals as goal
 
 pub returns : goal.returns

@@ -1,4 +1,4 @@
-use Rattle.std.proofs.Common.{refl}
+use Rattle.camp_prim.proofs.Words.{refl}
 use Rattle.camp_prim.proofs.Moving.{no_swap}
 use Rattle.camp_prim.proofs.exchanges.exchange.Goals as goal
 

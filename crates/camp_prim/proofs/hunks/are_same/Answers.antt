@@ -1,4 +1,4 @@
-use Rattle.std.proofs.lemmas.Slice.Eq.{slice_eq-Decides, bytes_eq-Decides}
+use Rattle.camp_prim.proofs.Words.{slice_eq-Decides, bytes_eq-Decides}
 use Rattle.camp_prim.proofs.hunks.are_same.Goals as goal
 
 pub returns : goal.returns

@@ -1,4 +1,4 @@
-use Rattle.std.proofs.Common.{sym}
+use Rattle.camp_prim.proofs.Words.{sym}
 use Rattle.camp_prim.proofs.Moving.{comes_along, comes_below, no_place}
 use Rattle.camp_prim.proofs.swaps.hunk_targets.Goals as goal
 

@@ -1,5 +1,4 @@
-use Rattle.std.proofs.Common.{sym, subst}
-use Rattle.camp_branch.specs.Branches.{IsLawfulBranch, LeadsTo}
+use Rattle.camp_branch.proofs.Words.{sym, subst, IsLawfulBranch, LeadsTo}
 use Rattle.camp_branch.proofs.BranchFields.{Indexes, lawful_none, none_indexed}
 use Rattle.camp_branch.proofs.branches.Branch.empty.Goals as goal
 

@@ -1,5 +1,4 @@
-use Rattle.std.proofs.Common.{ap, ◌∙◌}
-use Rattle.camp_branch.specs.Branches.{has_patch}
+use Rattle.camp_branch.proofs.Words.{ap, ◌∙◌, has_patch}
 use Rattle.camp_branch.proofs.branches.Branch.has_patch.Goals as goal
 
 pub returns : goal.returns

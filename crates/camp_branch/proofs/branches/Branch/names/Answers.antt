@@ -1,6 +1,4 @@
-use Rattle.std.proofs.Common.{◌++◌, sym, ap, ◌∙◌}
-use Rattle.std.proofs.lemmas.List.{append-nil}
-use Rattle.camp_branch.specs.Branches.{names_of}
+use Rattle.camp_branch.proofs.Words.{◌++◌, sym, ap, ◌∙◌, append-nil, names_of}
 use Rattle.camp_branch.proofs.BranchLabels.{starts, starts_are_names}
 use Rattle.camp_branch.proofs.branches.Branch.names.Goals as goal
 

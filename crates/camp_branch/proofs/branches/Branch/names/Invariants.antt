@@ -1,4 +1,4 @@
-use Rattle.std.proofs.Common.{◌≡◌, ◌++◌}
+use Rattle.camp_branch.proofs.Words.{◌≡◌, ◌++◌}
 use Rattle.camp_branch.proofs.BranchLabels.{starts}
 use Rattle.camp_branch.proofs.branches.Branch.names.Given as goal
 

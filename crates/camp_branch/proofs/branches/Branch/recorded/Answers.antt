@@ -1,5 +1,4 @@
-use Rattle.std.proofs.Common.{subst, ap, ◌∙◌}
-use Rattle.camp_branch.specs.Branches.{LeadsTo, has_patch}
+use Rattle.camp_branch.proofs.Words.{subst, ap, ◌∙◌, LeadsTo, has_patch}
 use Rattle.camp_branch.proofs.BranchFields.{Grown, grown, recorded_indexed}
 use Rattle.camp_branch.proofs.branches.Branch.recorded.Goals as goal
 

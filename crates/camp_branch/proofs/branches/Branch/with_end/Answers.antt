@@ -1,5 +1,4 @@
-use Rattle.std.proofs.Common.{◌++◌, ap, sym, subst, take, ◌∙◌}
-use Rattle.camp_branch.specs.Branches.{IsLawfulBranch, LeadsTo, has_patch}
+use Rattle.camp_branch.proofs.Words.{◌++◌, ap, sym, subst, take, ◌∙◌, IsLawfulBranch, LeadsTo, has_patch}
 use Rattle.camp_branch.proofs.NewEnds.{end_led, end_replaced, front_leads}
 use Rattle.camp_branch.proofs.branches.Branch.with_end.Goals as goal
 

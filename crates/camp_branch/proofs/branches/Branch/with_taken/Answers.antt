@@ -1,9 +1,4 @@
-use Rattle.std.proofs.Common.{List, sym, subst}
-use Rattle.std.specs.Cmp.Lexicographic.{slice_cmp}
-use Rattle.std.specs.Ordering.{nat_cmp}
-use Rattle.camp_share.specs.Maps.{map_of}
-use Rattle.camp_catch.specs.declared.catches.Catch.{Catch}
-use Rattle.camp_branch.specs.Branches.{IsLawfulBranch}
+use Rattle.camp_branch.proofs.Words.{List, sym, subst, slice_cmp, nat_cmp, map_of, Catch, IsLawfulBranch}
 use Rattle.camp_branch.proofs.BranchFields.{appended, taken_fits, taken_indexed, taken_lead}
 use Rattle.camp_branch.proofs.branches.Branch.with_taken.Goals as goal
 

@@ -1,6 +1,5 @@
-use Rattle.std.proofs.Common.{sym, subst}
+use Rattle.camp_prim.proofs.Words.{sym, subst, Applies}
 use Rattle.camp_base.specs.Answers.{Answers}
-use Rattle.camp_prim.specs.Effect.{Applies}
 use Rattle.camp_prim.proofs.primitives.Primitive.apply.Goals as goal
 
 pub returns-in-Add : goal.returns-in-Add

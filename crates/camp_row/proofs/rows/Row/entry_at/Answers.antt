@@ -1,5 +1,4 @@
-use Rattle.camp_row.proofs.Words.{arith, ◌≡◌, ◌%◌, ◌+◌, ◌-◌, sym, ap, subst, ◌∙◌, length, slice_get, Some, Entry, Known, place_word, Walked, part}
-use Rattle.std.proofs.lemmas.Option.{slice_get_read}
+use Rattle.camp_row.proofs.Words.{arith, ◌≡◌, ◌%◌, ◌+◌, ◌-◌, sym, ap, subst, ◌∙◌, length, slice_get, Some, slice_get_read, Entry, Known, place_word, Walked, part}
 use Rattle.camp_row.proofs.Ruling.{allows_one}
 use Rattle.camp_row.proofs.Loading.{walks}
 use Rattle.camp_row.proofs.PassOfRow.{is_of, few_cells}

@@ -1,7 +1,4 @@
-use Rattle.std.proofs.Common.{arith, ◌≡◌, ◌<◌, ◌%◌, [], ◌++◌, sym, ap, subst, ◌∙◌, length, vec_len, MatchOption, Option}
-use Rattle.std.proofs.lemmas.List.{nil_from_length, append-nil}
-use Rattle.std.proofs.lemmas.Bool.{false≢true}
-use Rattle.camp_row.proofs.Words.{Next, ComesNext, Leads, cells_back, place_word, Walked, part}
+use Rattle.camp_row.proofs.Words.{arith, ◌≡◌, ◌<◌, ◌%◌, [], ◌++◌, sym, ap, subst, ◌∙◌, length, vec_len, MatchOption, Option, nil_from_length, append-nil, false≢true, Next, ComesNext, Leads, cells_back, place_word, Walked, part}
 use Rattle.camp_row.proofs.Ruling.{allows_one}
 use Rattle.camp_row.proofs.Loading.{walks}
 use Rattle.camp_row.proofs.PassOfRow.{is_of, few_cells}

@@ -1,7 +1,4 @@
-use Rattle.camp_row.proofs.Words.{arith, ◌≡◌, ◌==◌, ◌<◌, ◌+◌, ◌++◌, ◌∷◌, [], subst, refl, sym, ap, ◌∙◌, either, Entry, head_word, Part, part}
-use Rattle.std.proofs.lemmas.Bool.{eq-eqb, MatchBool-at_true}
-use Rattle.camp_row.specs.Known.{IsDrafted}
-use Rattle.camp_row.specs.Inside.Steps.{drafted_part, won_part, WonPart, LostPart, Tried}
+use Rattle.camp_row.proofs.Words.{arith, ◌≡◌, ◌==◌, ◌<◌, ◌+◌, ◌++◌, ◌∷◌, [], subst, refl, sym, ap, ◌∙◌, eq-eqb, MatchBool-at_true, either, Entry, head_word, IsDrafted, Part, part, drafted_part, won_part, WonPart, LostPart, Tried}
 use Rattle.camp_row.proofs.Fronts.{front_refl}
 use Rattle.camp_row.proofs.Cells.{head_word-push, turns_push, fits_push, fits_front}
 use Rattle.camp_row.proofs.Ruling.{allows_one}
