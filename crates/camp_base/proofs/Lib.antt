@@ -1,2 +1,3 @@
+mod ByteOrder
 mod LineLemmas
 mod TreeLemmas

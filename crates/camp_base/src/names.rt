@@ -154,8 +154,22 @@ impl Ord for Name {
     ghost matches_eq = { Prim.search (comparing, rules) };
 
     fn cmp(&self, other: &Name) -> Ordering {
-        self.bytes().cmp(&other.bytes())
+        compare(self.bytes(), other.bytes())
     }
+}
+
+/// The order of two lists of bytes. They are short, and mostly differ early: so they are looked at byte
+/// by byte.
+fn compare(left: &[u8], right: &[u8]) -> Ordering
+    ensures { result ≡ slice_cmp nat_cmp left.now right.now }
+{
+    let shorter = left.len().min(right.len());
+    for at in 0..shorter {
+        if left[at] != right[at] {
+            return left[at].cmp(&right[at]);
+        }
+    }
+    left.len().cmp(&right.len())
 }
 
 impl fmt::Display for Name {
