@@ -67,13 +67,10 @@ alone : {X : Type 0} (x y : X) → Contains (x ∷ []) y → x ≡ y
 alone x y c = elim (first_or_later x y [] c) [ inl e ↦ e | inr d ↦ no_member y d ]
 
 of_names : (a b : List ℕ) (o : Ordering) (p : Pair) → by_name a b ≡ o → Contains (ordered_by o a b) p → IsOfNames a b p
-of_names a b Less p e c =
-    let is = alone (a, b) p c in
-    subst (IsOfNames a b) is (e, inl (refl, refl))
+of_names a b Less p e c = subst (IsOfNames a b) (alone (a, b) p c) (e, inl (refl, refl))
 of_names a b Equal p e c = no_member p c
 of_names a b Greater p e c =
-    let is = alone (b, a) p c in
-    subst (IsOfNames a b) is (nat_list_cmp_total.antisymm b a ∙ ap ordering_reverse e, inr (refl, refl))
+    subst (IsOfNames a b) (alone (b, a) p c) (nat_list_cmp_total.antisymm b a ∙ ap ordering_reverse e, inr (refl, refl))
 
 -- the pairs that are collected are in conflict
 pub collected_conflict : (branch : List Catch) (p : Pair) → Contains (pairs_in branch) p → (by_name p.0 p.1 ≡ Less) × AreInConflict branch p.0 p.1
@@ -81,17 +78,9 @@ collected_conflict branch p c =
     let at = one_has pairs_at branch p c in
     let member = one_has (pair_of (name_of at.0)) (names_against at.0) p at.2 in
     let with = against at.0 member.0 member.1 in
-    let names = of_names (name_of at.0) member.0 _ p refl member.2 in (
-      names.0,
-      (
-        at.0,
-        at.1,
-        elim names.1 [
-          | inl e ↦ inl (e.0, subst (ConflictsWith at.0) e.1 with)
-          | inr e ↦ inr (e.0, subst (ConflictsWith at.0) e.1 with)
-        ],
-      ),
-    )
+    let names = of_names (name_of at.0) member.0 _ p refl member.2 in
+    let between = λ (n : List ℕ) (e : member.0 ≡ n). subst (ConflictsWith at.0) e with in
+    (names.0, (at.0, at.1, elim names.1 [ inl e ↦ inl (e.0, between p.1 e.1) | inr e ↦ inr (e.0, between p.0 e.1) ]))
 
 at_catch : (k : Catch) (first second : List ℕ) → by_name first second ≡ Less → IsBetween first second k → Contains (pairs_at k) (first, second)
 at_catch k first second less (inl w) =

@@ -38,19 +38,13 @@ module _ (names : Names) (list rest more : List Catch) (k : Catch) (name : List 
       ap (front_of (keys names)) is ∙ ap (λ b. cond b (suc (front_of (keys names) more)) zero) (sym (has_listed names (name_of k)) ∙ ap (contains_key names) (sym of) ∙ has)
 
   pub front_stops : contains_key names name ≡ false → front ≡ front_of (keys names) list
-  front_stops has =
-      let alone : front ≡ front + 0 = omega arith in
-      alone ∙ ap (λ n. front + n) (sym (next_by false has)) ∙ counted
+  front_stops has = omega (arith, next_by false has)
 
   pub front_grows : contains_key names name ≡ true → front + 1 + front_of (keys names) more ≡ front_of (keys names) list
-  front_grows has =
-      let one : front + 1 + front_of (keys names) more ≡ front + suc (front_of (keys names) more) = omega arith in
-      one ∙ ap (λ n. front + n) (sym (next_by true has)) ∙ counted
+  front_grows has = omega (arith, next_by true has)
 
   pub fewer_behind : (n : ℕ) → front + length rest ≡ n → front + 1 + length more ≡ n
-  fewer_behind n behind =
-      let one : front + 1 + length more ≡ front + length (k ∷ more) = omega arith in
-      one ∙ ap (λ l. front + length l) (sym is) ∙ behind
+  fewer_behind n behind = omega (arith, ap length is)
 
 -- what stands behind a place
 pub behind_place : (catches own behind : List Catch) (start n : ℕ) → n ≡ length catches → catches ≡ own → behind ≡ slice_range catches start n → behind ≡ drop start own

@@ -4,33 +4,26 @@ use Rattle.camp_catch.specs.ListLaws.{GivesOnePair, HasPair, OneOf}
 use Rattle.camp_catch.proofs.SameCatches.{catch_or_not}
 use Rattle.camp_branch.specs.declared.faults.Blocked.TheVariants.{Diverged}
 
+once : {Has : Outcome → Type 0} (one : Outcome) → Has one → ((other : Outcome) → Has other → other ≡ one) → ExactlyOne Has
+once one has unique = (one, has, unique)
+
 -- of two ways to an outcome, one is open
 by_first : (P Q : Outcome → Type 0) → ExactlyOne P → ((outcome : Outcome) → ¬ (Q outcome)) → ExactlyOne (λ outcome. P outcome ⊎ Q outcome)
-by_first P Q one never = (one.0, inl one.1, λ other o. elim o [ inl p ↦ one.2 other p | inr q ↦ absurd (never other q) ])
+by_first P Q one never =
+    once one.0 (inl one.1) (λ other o. elim o [ inl p ↦ one.2 other p | inr q ↦ absurd (never other q) ])
 
 by_second : (P Q : Outcome → Type 0) → ExactlyOne Q → ((outcome : Outcome) → ¬ (P outcome)) → ExactlyOne (λ outcome. P outcome ⊎ Q outcome)
-by_second P Q one never = (one.0, inr one.1, λ other o. elim o [ inl p ↦ absurd (never other p) | inr q ↦ one.2 other q ])
+by_second P Q one never =
+    once one.0 (inr one.1) (λ other o. elim o [ inl p ↦ absurd (never other p) | inr q ↦ one.2 other q ])
 
 module _ (Gives : List Catch → List Catch → Type 0) (Sticks : Key → Key → Type 0) (why : Key → Key → Blocked) (Next : List Catch → List Catch → Outcome → Type 0) where
   goes_on : GivesOnePair Gives → (x y : List Catch) → Gives x y → (HasPair Sticks → ⊥) → ExactlyOne (Next x y) → ExactlyOne (StepThen Gives Sticks why Next)
   goes_on one x y gives never next =
-      by_first _ _ (
-        next.0,
-        (x, y, gives, next.1),
-        λ other v.
-            let same = one v.0 x v.1 y v.2 gives in
-            next.2 other (subst (λ t. Next t y other) same.0 (subst (λ t. Next v.0 t other) same.1 v.3)),
-      ) (λ other s. never (s.0, s.1, s.2))
+      by_first _ _ (once next.0 (x, y, gives, next.1) (λ other v. next.2 other (subst (λ t. Next t y other) (one v.0 x v.1 y v.2 gives).0 (subst (λ t. Next v.0 t other) (one v.0 x v.1 y v.2 gives).1 v.3)))) (λ other s. never (s.0, s.1, s.2))
 
   stops : GivesOnePair Sticks → (k l : Key) → Sticks k l → (HasPair Gives → ⊥) → ExactlyOne (StepThen Gives Sticks why Next)
   stops one k l sticks never =
-      by_second _ _ (
-        Err (why k l),
-        (k, l, sticks, refl),
-        λ other s.
-            let same = one s.0 k s.1 l s.2 sticks in
-            s.3 ∙ (λ i. Err (why (same.0 i) (same.1 i))),
-      ) (λ other v. never (v.0, v.1, v.2))
+      by_second _ _ (once (Err (why k l)) (k, l, sticks, refl) (λ other s. s.3 ∙ (λ i. Err (why ((one s.0 k s.1 l s.2 sticks).0 i) ((one s.0 k s.1 l s.2 sticks).1 i))))) (λ other v. never (v.0, v.1, v.2))
 
   -- a step that is determined, before what is
   pub step : GivesOnePair Gives → GivesOnePair Sticks → OneOf (HasPair Gives) (HasPair Sticks) → ((x y : List Catch) → ExactlyOne (Next x y)) → ExactlyOne (StepThen Gives Sticks why Next)
@@ -84,29 +77,18 @@ module _ (from_common to_common : List Catch) (Next : Outcome → Type 0) where
 
   same_fronts : Align (keys_of to_common) from_common to_common → ExactlyOne Next → ExactlyOne (SameThen from_common to_common Next)
   same_fronts align next =
-      by_first _ _ (next.0, (align, next.1), λ other v. next.2 other v.1) (λ other o. elim o [
+      by_first _ _ (once next.0 (align, next.1) (λ other v. next.2 other v.1)) (λ other o. elim o [
         | inl s ↦ never (to_common, align) (s.0, s.1)
         | inr d ↦ not_from_itself to_common d.1 (subst (λ l. DiffersAt l to_common d.1) (one_order d.0 to_common d.2 align) d.3)
       ])
 
   other_fronts : (aligned : List Catch) (name : List ℕ) → Align (keys_of to_common) from_common aligned → DiffersAt aligned to_common name → ExactlyOne (SameThen from_common to_common Next)
   other_fronts aligned name align differs =
-      by_second _ _ (by_second _ _ (
-        Err (Diverged name),
-        (aligned, name, align, differs, refl),
-        λ other d.
-            d.4 ∙ ap (λ n. Err (Diverged n)) (one_difference aligned to_common d.1 name (subst (λ l. DiffersAt l to_common d.1) (one_order d.0 aligned d.2 align) d.3) differs),
-      ) (λ other s. never (aligned, align) (s.0, s.1))) (λ other v.
-      not_from_itself to_common name (subst (λ l. DiffersAt l to_common name) (one_order aligned to_common align v.0) differs))
+      by_second _ _ (by_second _ _ (once (Err (Diverged name)) (aligned, name, align, differs, refl) (λ other d. d.4 ∙ ap (λ n. Err (Diverged n)) (one_difference aligned to_common d.1 name (subst (λ l. DiffersAt l to_common d.1) (one_order d.0 aligned d.2 align) d.3) differs))) (λ other s. never (aligned, align) (s.0, s.1))) (λ other v. not_from_itself to_common name (subst (λ l. DiffersAt l to_common name) (one_order aligned to_common align v.0) differs))
 
   order_sticks : (stuck : Key) → AlignSticks (keys_of to_common) from_common stuck → ExactlyOne (SameThen from_common to_common Next)
   order_sticks stuck sticks =
-      by_second _ _ (by_first _ _ (
-        Err (Diverged stuck.name),
-        (stuck, sticks, refl),
-        λ other s.
-            s.2 ∙ ap (λ (k : Key). Err (Diverged k.name)) (lists_are_unique.align_sticks (keys_of to_common) from_common s.0 stuck s.1 sticks),
-      ) (λ other d. never (d.0, d.2) (stuck, sticks))) (λ other v. never (to_common, v.0) (stuck, sticks))
+      by_second _ _ (by_first _ _ (once (Err (Diverged stuck.name)) (stuck, sticks, refl) (λ other s. s.2 ∙ ap (λ (k : Key). Err (Diverged k.name)) (lists_are_unique.align_sticks (keys_of to_common) from_common s.0 stuck s.1 sticks))) (λ other d. never (d.0, d.2) (stuck, sticks))) (λ other v. never (to_common, v.0) (stuck, sticks))
 
   same_then : ExactlyOne Next → ExactlyOne (SameThen from_common to_common Next)
   same_then next = elim (lists_succeed_or_stick.aligns (keys_of to_common) from_common).0 [
