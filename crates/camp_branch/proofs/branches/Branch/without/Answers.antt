@@ -13,8 +13,8 @@ use Rattle.camp_branch.proofs.NamesKept.{stays_by}
 use Rattle.camp_branch.proofs.NewEnds.{end_arranged}
 use Rattle.camp_branch.proofs.branches.Branch.without.Goals as goal
 
-pub copied-requires-clause-range : goal.copied-requires-clause-range
-copied-requires-clause-range c =
+pub range_to_vec-requires-clause-range : goal.range_to_vec-behind-requires-clause-range
+range_to_vec-requires-clause-range c =
     let within = front_within (names_in c.in_ok-staying.staying) c.self.inside.catches in
     omega (c.front-start.ensures, c.len.ensures.exact, within, arith)
 
@@ -31,7 +31,7 @@ with_end-requires-clause-lawful c =
     let staying = map_of (slice_cmp nat_cmp) c.in_ok-staying.staying in
     let stays = stays_by (map_of (slice_cmp nat_cmp) c.self.inside.names) staying c.self.inside.catches own gone c.self.invariant.named c.self.view_is c.in_ok-staying.ensures in
     let at = c.front-start.ensures ∙ ap (front_of (keys staying)) c.self.view_is in
-    let is = c.deref.ensures.value ∙ behind_place c.self.inside.catches own c.in_ok-behind.behind.items c.front-start.result c.len.result c.len.ensures.exact c.self.view_is (c.in_ok-behind.ensures.exact ∙ c.in_ok-copied.ensures.exact) in
+    let is = c.deref.ensures.value ∙ behind_place c.self.inside.catches own c.in_ok-behind.behind.items c.front-start.result c.len.result c.len.ensures.exact c.self.view_is c.in_ok-behind.ensures.exact in
     let first : List Catch = c.in-Ok.arranged.first.items in
     let arranged = rw c.in-Ok.is at c.in_ok-arranged.ensures.exact in
     let lawful = subst IsLawfulBranch c.self.view_is c.self.invariant.lawful in
@@ -44,7 +44,7 @@ with_end-requires-clause-named c name =
     let staying = map_of (slice_cmp nat_cmp) c.in_ok-staying.staying in
     let stays = stays_by (map_of (slice_cmp nat_cmp) c.self.inside.names) staying c.self.inside.catches own gone c.self.invariant.named c.self.view_is c.in_ok-staying.ensures in
     let at = c.front-start.ensures ∙ ap (front_of (keys staying)) c.self.view_is in
-    let is = c.deref.ensures.value ∙ behind_place c.self.inside.catches own c.in_ok-behind.behind.items c.front-start.result c.len.result c.len.ensures.exact c.self.view_is (c.in_ok-behind.ensures.exact ∙ c.in_ok-copied.ensures.exact) in
+    let is = c.deref.ensures.value ∙ behind_place c.self.inside.catches own c.in_ok-behind.behind.items c.front-start.result c.len.result c.len.ensures.exact c.self.view_is c.in_ok-behind.ensures.exact in
     let first : List Catch = c.in-Ok.arranged.first.items in
     let arranged = rw c.in-Ok.is at c.in_ok-arranged.ensures.exact in
     let lawful = subst IsLawfulBranch c.self.view_is c.self.invariant.lawful in
@@ -57,7 +57,7 @@ returns-in_ok-with_end-in-Ok c =
     let staying = map_of (slice_cmp nat_cmp) c.in_ok-staying.staying in
     let stays = stays_by (map_of (slice_cmp nat_cmp) c.self.inside.names) staying c.self.inside.catches own gone c.self.invariant.named c.self.view_is c.in_ok-staying.ensures in
     let at = c.front-start.ensures ∙ ap (front_of (keys staying)) c.self.view_is in
-    let is = c.deref.ensures.value ∙ behind_place c.self.inside.catches own c.in_ok-behind.behind.items c.front-start.result c.len.result c.len.ensures.exact c.self.view_is (c.in_ok-behind.ensures.exact ∙ c.in_ok-copied.ensures.exact) in
+    let is = c.deref.ensures.value ∙ behind_place c.self.inside.catches own c.in_ok-behind.behind.items c.front-start.result c.len.result c.len.ensures.exact c.self.view_is c.in_ok-behind.ensures.exact in
     let first : List Catch = c.in-Ok.arranged.first.items in
     let arranged = rw c.in-Ok.is at c.in_ok-arranged.ensures.exact in
     let gives = front_stays own gone staying stays c.front-start.result c.deref.result.now at is first c.in-Ok.arranged.rest.items arranged in
@@ -72,7 +72,7 @@ returns-in-Err c =
     let staying = map_of (slice_cmp nat_cmp) c.in_ok-staying.staying in
     let stays = stays_by (map_of (slice_cmp nat_cmp) c.self.inside.names) staying c.self.inside.catches own gone c.self.invariant.named c.self.view_is c.in_ok-staying.ensures in
     let at = c.front-start.ensures ∙ ap (front_of (keys staying)) c.self.view_is in
-    let is = c.deref.ensures.value ∙ behind_place c.self.inside.catches own c.in_ok-behind.behind.items c.front-start.result c.len.result c.len.ensures.exact c.self.view_is (c.in_ok-behind.ensures.exact ∙ c.in_ok-copied.ensures.exact) in
+    let is = c.deref.ensures.value ∙ behind_place c.self.inside.catches own c.in_ok-behind.behind.items c.front-start.result c.len.result c.len.ensures.exact c.self.view_is c.in_ok-behind.ensures.exact in
     let stuck = rw c.in-Err.is at c.in_ok-arranged.ensures.exact in
     record {
       exact = front_depends own gone staying stays c.front-start.result c.deref.result.now at is c.in-Err.blocked stuck;
@@ -81,7 +81,7 @@ returns-in-Err c =
 pub with_end-requires-clause-reordered : goal.with_end-requires-clause-reordered
 with_end-requires-clause-reordered c tree leads =
     let own : List Catch = c.args.self.now in
-    let is = c.deref.ensures.value ∙ behind_place c.self.inside.catches own c.in_ok-behind.behind.items c.front-start.result c.len.result c.len.ensures.exact c.self.view_is (c.in_ok-behind.ensures.exact ∙ c.in_ok-copied.ensures.exact) in
+    let is = c.deref.ensures.value ∙ behind_place c.self.inside.catches own c.in_ok-behind.behind.items c.front-start.result c.len.result c.len.ensures.exact c.self.view_is c.in_ok-behind.ensures.exact in
     let first : List Catch = c.in-Ok.arranged.first.items in
     let arranged = rw c.in-Ok.is at c.in_ok-arranged.ensures.exact in
     let front = take c.front-start.result own in
