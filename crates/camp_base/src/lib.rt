@@ -1,6 +1,7 @@
 //! Names, paths, lines, and trees of files: the values that patches are about.
 #![tactic(auto)]
 
+mod bytes;
 mod faults;
 mod lines;
 mod names;

@@ -9,6 +9,7 @@ ghost use Rattle.std.specs.FinMap.{nat_cmp-IsAntisymmetric, slice_cmp-IsAntisymm
 ghost use Rattle.std.proofs.Common.{rules};
 ghost use Rattle.camp_base.specs.Bytes.{is_name, is_name_byte};
 
+use crate::bytes::order;
 use crate::{BaseFault, MAX_NAME_LENGTH};
 use camp_share::{Key, Share};
 use std::alloc::AllocError;
@@ -154,7 +155,7 @@ impl Ord for Name {
     ghost matches_eq = { Prim.search (comparing, rules) };
 
     fn cmp(&self, other: &Name) -> Ordering {
-        self.bytes().cmp(&other.bytes())
+        order(self.bytes(), other.bytes())
     }
 }
 

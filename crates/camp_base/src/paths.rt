@@ -10,6 +10,7 @@ ghost use Rattle.camp_base.specs.Bytes.{is_graphic, is_path, is_path_part, path_
 ghost use Rattle.camp_base.specs.Made.{Makes};
 ghost use Rattle.camp_base.specs.declared.faults.BaseFault.TheVariants as fault;
 
+use crate::bytes::order;
 use crate::{BaseFault, MAX_PATH_LENGTH};
 use camp_share::{Key, Share, Shared};
 use std::alloc::{AllocError, Global};
@@ -138,7 +139,7 @@ impl Ord for Path {
     ghost matches_eq = { Prim.search (comparing, rules) };
 
     fn cmp(&self, other: &Path) -> Ordering {
-        self.bytes().cmp(&other.bytes())
+        order(self.bytes(), other.bytes())
     }
 }
 

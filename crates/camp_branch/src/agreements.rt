@@ -19,8 +19,8 @@ pub(crate) fn agreed(
 {
     prove!(from.len() <= usize::MAX);
     let more = alike_in_labels(from, to, known);
-    let theirs = from.copied(known, known + more)?.to_vec()?;
-    let ours = to.copied(known, known + more)?.to_vec()?;
+    let theirs = from.range_to_vec(known, known + more)?;
+    let ours = to.range_to_vec(known, known + more)?;
     let same = same_front(alloc, &theirs, &ours)?;
     match same {
         Ok(()) => Ok(known + more),

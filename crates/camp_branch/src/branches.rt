@@ -199,7 +199,7 @@ impl Branch {
     {
         let staying = name_sets::without(&self.names, names)?;
         let start = name_sets::front(&self.catches, &staying);
-        let behind = self.catches.copied(start, self.catches.len())?.to_vec()?;
+        let behind = self.catches.range_to_vec(start, self.catches.len())?;
         let arranged = wanted_next(self.catches.allocator(), &behind, &staying)?;
         match arranged {
             Ok(arranged) => Ok(Ok(self.with_end(start, &arranged.first, &arranged.rest, staying)?)),
@@ -256,7 +256,7 @@ fn behind(
     requires { start ≤ length catches.now }
     ensures { IfOk result (λ list. list.items ≡ drop start catches.now) }
 {
-    catches.copied(start, catches.len())?.to_vec()
+    catches.range_to_vec(start, catches.len())
 }
 
 /// The list with a plain catch behind it for each change, at places from 1.

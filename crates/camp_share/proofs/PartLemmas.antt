@@ -1,9 +1,9 @@
 -- Elements and ranges of lists in parts.
 use Rattle.std.proofs.Common.{◌≡◌, ℕ, zero, suc, ◌+◌, ◌-◌, ◌<◌, ◌≤◌, List, [], ◌∷◌, ◌++◌, length, get_or, set, take, drop, Option, None, Some, Bor, sym, ap, subst, ◌∙◌, refl, arith}
-use Rattle.std.proofs.lemmas.List.{drop_all, get_or_default, length-drop, append-nil, append_assoc, length-append, take_more, drop_more, take_all, take-append-drop, take-append-le, drop-append-le, get_or-append-add, get_or_append_left, set_split}
+use Rattle.std.proofs.lemmas.List.{drop_all, drop-drop, get_or_default, get_or-drop, length-drop, append-nil, append_assoc, length-append, take_more, drop_more, take_all, take-append-drop, take-append-le, drop-append-le, get_or-append-add, get_or_append_left, set_split}
 use Rattle.std.proofs.Math.Seq.{take-nil, take-append-add, drop-append-add}
 use Rattle.std.proofs.lemmas.Option.{slice_get_past, slice_get_read}
-use Rattle.std.specs.List.{All, AllByRecursion, slice_get, slice_range, remove}
+use Rattle.std.specs.List.{All, AllByRecursion, slice_get, slice_range, insert, remove}
 use Rattle.std.specs.Map.Iter.{TakesFirst, deref}
 use Rattle.std.specs.Option.{option_copied}
 use Rattle.std.proofs.lemmas.Grind.{flat_map-append}
@@ -136,6 +136,12 @@ module _ {X Z : Type 0} (parts : List (Vec X Z)) (index place : ℕ) where
       ∙ append_assoc (front ++ middle) (drop place part.items) rest
       ∙ ap (λ xs. front ++ middle ++ xs) (behind_place part within read inside)
 
+  -- the elements before a cut part, and new ones behind its front
+  pub renewed_behind : (part : Vec X Z) → index < length parts → part ≡ get_or parts index part → place ≤ length part.items → (first more items rest all : List X) → first ≡ take place part.items → items ≡ first ++ more → all ≡ joined (take index parts) ++ items ++ rest → all ≡ take (offset parts index place) (joined parts) ++ more ++ rest
+  renewed_behind part within read inside first more items rest all front grown whole =
+      whole ∙ ap (λ xs. joined (take index parts) ++ xs ++ rest) (grown ∙ ap (λ ys. ys ++ more) front)
+      ∙ ap (λ xs. xs ++ rest) (sym (append_assoc (joined (take index parts)) (take place part.items) more) ∙ ap (λ xs. xs ++ more) (before_place part within read inside))
+
 -- a place behind the first of a part is in a part
 pub place_within : {X Z : Type 0} (parts : List (Vec X Z)) (index place : ℕ) → offset parts index place ≤ length (joined (take (index + 1) parts)) → 0 < place → index < length parts
 place_within {X = X} {Z = Z} [] index place at some =
@@ -231,3 +237,54 @@ pub replaced_between : {X : Type 0} (xs before with after : List X) (x : X) (i n
 replaced_between xs before with after x i n within first more next is =
     is ∙ ap (λ ys. ys ++ drop n xs) (more ∙ ap (λ ys. ys ++ x ∷ []) first) ∙ append_assoc (take i xs) (x ∷ []) (drop n xs)
     ∙ ap (λ k. take i xs ++ x ∷ drop k xs) {x = n} {y = suc i} (omega arith) ∙ sym (set_split xs i x within)
+
+-- one more of those that are taken is put behind the others
+pub taken_one : {X : Type 0} (items rest after all now : List X) (x y : X) (n m : ℕ) → rest ≡ x ∷ after → m + 1 ≡ n → now ≡ items ++ y ∷ [] → y ≡ x → items ++ take n rest ≡ all → now ++ take m after ≡ all
+taken_one items rest after all now x y n m is fewer grown same whole =
+    ap (λ ys. ys ++ take m after) grown ∙ append_assoc items (y ∷ []) (take m after) ∙ ap (λ z. items ++ z ∷ take m after) same
+    ∙ ap (λ k. items ++ take k (x ∷ after)) {x = suc m} {y = n} (omega arith) ∙ ap (λ r. items ++ take n r) (sym is) ∙ whole
+
+-- parts before one, new ones that join to the same elements as others do, and the parts behind it
+pub joined_between : {X Z : Type 0} (parts front new all : List (Vec X Z)) (index next : ℕ) (items : List X) → front ≡ take index parts → joined new ≡ joined front ++ items → all ≡ new ++ drop next parts → joined all ≡ joined (take index parts) ++ items ++ joined (drop next parts)
+joined_between {X} {Z} parts front new all index next items first grown whole =
+    ap joined whole ∙ flat_map-append (λ (p : Vec X Z). p.items) new (drop next parts)
+    ∙ ap (λ xs. xs ++ joined (drop next parts)) (grown ∙ ap (λ ps. joined ps ++ items) first)
+
+-- the elements before a place and those from there on, with one more between them
+pub inserted_between : {X : Type 0} (xs after : List X) (x : X) (i n : ℕ) → i ≡ n → after ≡ take i xs ++ x ∷ [] ++ drop i xs → after ≡ insert xs n x
+inserted_between xs after x i n same is = is ∙ append_assoc (take i xs) (x ∷ []) (drop i xs) ∙ ap (λ k. insert xs k x) same
+
+-- the last parts of a list, one of them, and those behind it
+module _ {X Z : Type 0} (parts last : List (Vec X Z)) (at : ℕ) (part : Vec X Z) (end : last ≡ drop (length parts - length last) parts) (few : length last ≤ length parts) (within : at < length last) (read : part ≡ get_or last at part) where
+  abbrev place_of_end : ℕ
+  place_of_end = (length parts - length last) + at
+
+  inside_all : place_of_end < length parts
+  inside_all = omega arith
+
+  read_of_all : part ≡ get_or parts place_of_end part
+  read_of_all = read ∙ ap (λ (ps : List (Vec X Z)). get_or ps at part) end ∙ get_or-drop (length parts - length last) parts at part
+
+  rest_of_all : drop (at + 1) last ≡ drop (place_of_end + 1) parts
+  rest_of_all =
+      ap (drop (at + 1)) end ∙ drop-drop (at + 1) (length parts - length last) parts
+      ∙ ap (λ k. drop k parts) {x = (length parts - length last) + (at + 1)} {y = place_of_end + 1} (omega arith)
+
+  end_length : length (joined (take place_of_end parts)) + length part.items + length (joined (drop (at + 1) last)) ≡ length (joined parts)
+  end_length =
+      let both = ap (λ (ps : List (Vec X Z)). length (joined ps)) (take-append-drop (place_of_end + 1) parts) in
+      let parted = ap length (flat_map-append (λ (p : Vec X Z). p.items) (take (place_of_end + 1) parts) (drop (place_of_end + 1) parts)) ∙ length-append (joined (take (place_of_end + 1) parts)) (joined (drop (place_of_end + 1) parts)) in
+      let grown = length_grown parts place_of_end part inside_all read_of_all in
+      let rest = ap (λ (ps : List (Vec X Z)). length (joined ps)) rest_of_all in omega arith
+
+  -- no more elements stand in it and behind it than in all parts
+  pub end_fits : length part.items + length (joined (drop (at + 1) last)) ≤ length (joined parts)
+  end_fits = let all = end_length in omega arith
+
+  -- what stands in it from a place on, and behind it, stands from that place on
+  pub from_end : (start from : ℕ) → start + length part.items + length (joined (drop (at + 1) last)) ≡ length (joined parts) → start ≤ from → from < start + length part.items → drop (from - start) part.items ++ joined (drop (at + 1) last) ≡ drop from (joined parts)
+  from_end start from total begun before =
+      let all = end_length in
+      ap (λ ps. drop (from - start) part.items ++ joined ps) rest_of_all
+      ∙ behind_place parts place_of_end (from - start) part inside_all read_of_all (omega arith)
+      ∙ ap (λ k. drop k (joined parts)) {x = offset parts place_of_end (from - start)} {y = from} (omega arith)

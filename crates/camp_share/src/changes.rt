@@ -1,9 +1,9 @@
-ghost use Rattle.std.specs.Prelude.{◌≡◌, ◌+◌, ◌<◌, ◌≤◌, ◌^◌, List, ◌∷◌, [], ◌++◌, length, take, drop, slice_set, IfOk, OnOk};
+ghost use Rattle.std.specs.Prelude.{◌≡◌, ◌+◌, ◌<◌, ◌≤◌, ◌^◌, List, ◌∷◌, [], ◌++◌, length, take, drop, slice_set, IfOk, IfSome, IsTrue, OnOk};
 ghost use Rattle.std.specs.List.{All, insert, remove};
 ghost use Rattle.camp_share.specs.Inside.Parts.{joined, IsPart, offset, IsPlace};
 
-use crate::Share;
-use crate::growing::{Growing, MAX_PART_LENGTH, Part};
+use crate::growing::{Growing, MAX_PART_LENGTH, Part, append_copies, first_of};
+use crate::{Share, Shared};
 use std::alloc::{AllocError, Global};
 use std::marker::Model;
 
@@ -208,9 +208,15 @@ pub(crate) fn inserted_at<T: Share + Drop>(
     ensures items { IfOk result (λ new. joined new ≡ insert (joined parts.now) (offset parts.now index place) item) }
     ensures parts { IfOk result (λ new. All IsPart new) }
 {
-    let mut change = Change::before(parts, index, place)?;
-    change.push(item)?;
-    change.with_rest(parts, index, place)
+    let (index, place) = behind_with_room(parts, index, place);
+    if index == parts.len() {
+        let mut change = Change::before(parts, index, place)?;
+        change.push(item)?;
+        return change.with_rest(parts, index, place);
+    }
+    let mut items = first_of(parts.at(index), place)?;
+    items.push(item)?;
+    with_end_of(parts, index, place, items)
 }
 
 // The parts with another element at a place.
@@ -226,9 +232,101 @@ pub(crate) fn replaced_at<T: Share + Drop>(
     ensures items { IfOk result (λ new. joined new ≡ slice_set (joined parts.now) (offset parts.now index place) item) }
     ensures parts { IfOk result (λ new. All IsPart new) }
 {
-    let mut change = Change::before(parts, index, place)?;
-    change.push(item)?;
-    change.with_rest(parts, index, place + 1)
+    let mut items = first_of(parts.at(index), place)?;
+    items.push(item)?;
+    with_end_of(parts, index, place + 1, items)
+}
+
+// The parts with copies of new elements in place of so many from a place on, where all of these are
+// in one part and the new ones are few, but some.
+pub(crate) fn spliced_in_part<T: Share + Drop>(
+    parts: &Growing<Part<T>>,
+    index: usize,
+    place: usize,
+    gone: usize,
+    new: &[T],
+) -> Result<Option<Growing<Part<T>>>, AllocError>
+    requires parts { All IsPart parts.now }
+    requires place { IsPlace parts.now index place }
+    requires fits { length (joined parts.now) < 2 ^ 64 }
+    ensures items { IfOk result (λ found. IfSome found (λ changed. joined changed ≡ take (offset parts.now index place) (joined parts.now) ++ new.now ++ drop (offset parts.now index place + gone) (joined parts.now))) }
+    ensures parts { IfOk result (λ found. IfSome found (λ changed. All IsPart changed)) }
+{
+    let (index, place) = behind_with_room(parts, index, place);
+    if index == parts.len() {
+        return Ok(None);
+    }
+    let part = parts.at(index);
+    if !is_within(part, place, gone, new.len()) {
+        return Ok(None);
+    }
+    let mut items = first_of(part, place)?;
+    append_copies(&mut items, new)?;
+    let changed = with_end_of(parts, index, place + gone, items)?;
+    Ok(Some(changed))
+}
+
+// Whether a part has so many elements from a place on, and so many new ones can take their place in
+// it. Where they are too many for the part, it is divided at a place inside it alone: what comes
+// before it or behind it leaves it whole.
+fn is_within<T>(part: &[T], place: usize, gone: usize, new: usize) -> bool
+    requires { place ≤ length part.now }
+    ensures within { IsTrue result → place + gone ≤ length part.now }
+    ensures some { IsTrue result → 0 < new }
+    ensures few { IsTrue result → new ≤ 32 }
+{
+    let left = part.len() - place;
+    if new == 0 || new > MAX_PART_LENGTH || gone > left {
+        return false;
+    }
+    let kept = part.len() - gone;
+    new <= MAX_PART_LENGTH.saturating_sub(kept) || (place > 0 && left > 0)
+}
+
+// The parts in which one part has new elements and, behind them, those that it has from a place on.
+fn with_end_of<T: Share + Drop>(
+    parts: &Growing<Part<T>>,
+    index: usize,
+    place: usize,
+    items: Vec<T>,
+) -> Result<Growing<Part<T>>, AllocError>
+    requires parts { All IsPart parts.now }
+    requires within { index < length parts.now }
+    requires place { IsPlace parts.now index place }
+    requires some { 0 < length items.items }
+    requires few { length items.items ≤ place + 32 }
+    requires fits { length (joined parts.now) < 2 ^ 64 }
+    ensures items { IfOk result (λ new. joined new ≡ joined (take index parts.now) ++ items.items ++ drop (offset parts.now index place) (joined parts.now)) }
+    ensures parts { IfOk result (λ new. All IsPart new) }
+{
+    let mut items = items;
+    let part = parts.at(index);
+    append_copies(&mut items, &part[place..])?;
+    let mut new = parts.front(index)?;
+    push_as_parts(&mut new, items)?;
+    new.push_rest(parts, index + 1)?;
+    Ok(new)
+}
+
+// Adds elements as a part, or as two where they are too many for one.
+fn push_as_parts<T: Share + Drop>(
+    parts: &mut Growing<Part<T>>,
+    items: Vec<T>,
+) -> Result<(), AllocError>
+    requires parts { All IsPart parts.old }
+    requires some { 0 < length items.items }
+    requires few { length items.items ≤ 64 }
+    ensures items { OnOk result (joined parts.new ≡ joined parts.old ++ items.items) }
+    ensures parts { OnOk result (All IsPart parts.new) }
+{
+    let mut items = items;
+    let alloc = *items.allocator();
+    if items.len() > MAX_PART_LENGTH {
+        let rest = items.split_off(items.len() / 2)?;
+        parts.push(Shared::new(alloc, items)?)?;
+        return parts.push(Shared::new(alloc, rest)?);
+    }
+    parts.push(Shared::new(alloc, items)?)
 }
 
 // The parts without the element at a place.

@@ -1,4 +1,4 @@
-ghost use Rattle.std.specs.Prelude.{◌≡◌, ◌+◌, ◌<◌, ◌≤◌, ◌^◌, List, [], ◌∷◌, ◌++◌, length, take, drop, slice_index_or, IfOk, OnOk};
+ghost use Rattle.std.specs.Prelude.{◌≡◌, ◌+◌, ◌-◌, ◌<◌, ◌≤◌, ◌^◌, List, [], ◌∷◌, ◌++◌, length, take, drop, slice_index_or, IfOk, OnOk};
 ghost use Rattle.std.specs.List.{All};
 ghost use Rattle.std.specs.Map.Iter.{ShowsInOrder, deref};
 ghost use Rattle.camp_share.specs.Inside.Parts.{joined, IsPart};
@@ -73,6 +73,14 @@ impl<T> Growing<T> {
             left -= part.len();
         }
         &self.last[left]
+    }
+
+    // The elements of the part that still takes some: those at the end.
+    pub(crate) fn last(&self) -> &[T]
+        ensures within { length result.now ≤ length self.now }
+        ensures end { result.now ≡ drop (length self.now - length result.now) self.now }
+    {
+        &self.last
     }
 
     // The elements from the first to the last.
@@ -217,7 +225,7 @@ impl<T: Share + Drop> Share for Growing<T> {
 }
 
 // Copies of the first elements, with room for the others and one more.
-fn first_of<T: Share + Drop>(items: &Vec<T>, count: usize) -> Result<Vec<T>, AllocError>
+pub(crate) fn first_of<T: Share + Drop>(items: &Vec<T>, count: usize) -> Result<Vec<T>, AllocError>
     requires { count ≤ length items.now.items }
     ensures { IfOk result (λ first. first.items ≡ take count items.now.items) }
 {

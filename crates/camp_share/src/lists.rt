@@ -1,4 +1,4 @@
-ghost use Rattle.std.specs.Prelude.{◌≡◌, ◌+◌, ◌<◌, ◌≤◌, ◌^◌, ◌==◌, List, [], ◌∷◌, ◌++◌, length, take, drop, slice_get, slice_range, slice_set, IfOk};
+ghost use Rattle.std.specs.Prelude.{◌≡◌, ◌+◌, ◌<◌, ◌≤◌, ◌^◌, ◌==◌, List, [], ◌∷◌, ◌++◌, length, take, drop, slice_get, slice_range, slice_set, IfOk, IfSome};
 ghost use Rattle.std.specs.List.{splice, insert, remove};
 ghost use Rattle.std.specs.List.{All};
 ghost use Rattle.camp_share.specs.Inside.Parts.{joined, IsPart};
@@ -6,8 +6,9 @@ ghost use Rattle.std.specs.Option.{option_copied};
 ghost use Rattle.std.specs.Cmp.Lexicographic.{pointwise, lists_per, lists_equiv};
 ghost use Rattle.std.specs.Map.Iter.{ShowsInOrder, deref};
 
-use crate::changes::{Change, inserted_at, place_of, removed_at, replaced_at};
+use crate::changes::{Change, inserted_at, place_of, removed_at, replaced_at, spliced_in_part};
 use crate::growing::{Growing, Part, append_copies};
+use crate::iters::Steps;
 use crate::{Iter, Share};
 use std::alloc::{AllocError, Global};
 use std::marker::Model;
@@ -76,6 +77,9 @@ impl<T> SharedList<T> {
         ensures rest { result ≡ drop from self.now }
         ensures runs { ShowsInOrder (deref {X = T}) }
     {
+        if let Some(rest) = self.near_end(from) {
+            return rest;
+        }
         let mut parts = self.parts.iter();
         let mut start = from;
         while let Some(part) = parts.next() {
@@ -85,6 +89,26 @@ impl<T> SharedList<T> {
             start -= part.len();
         }
         Iter::within(&[], parts)
+    }
+
+    // The same where the place is in one of the last parts: these are passed from the end.
+    fn near_end(&self, from: usize) -> Option<Iter<'_, T>>
+        ensures { IfSome result (λ it. (it ≡ drop from self.now) × ShowsInOrder (deref {X = T})) }
+    {
+        if from >= self.len {
+            return Some(Iter::within(&[], Steps::new(&[], &[])));
+        }
+        let last = self.parts.last();
+        let mut start = self.len;
+        for at in (0..last.len()).rev() {
+            let part = &last[at];
+            start -= part.len();
+            if start <= from {
+                let parts = Steps::new(&[], &last[at + 1..]);
+                return Some(Iter::within(&part[from - start..], parts));
+            }
+        }
+        None
     }
 
     /// The allocator of the list.
@@ -137,6 +161,19 @@ impl<T: Share + Drop> SharedList<T> {
         Ok(items)
     }
 
+    /// Copies of the elements from one place up to another, in one vector.
+    pub fn range_to_vec(&self, from: usize, to: usize) -> Result<Vec<T>, AllocError>
+        requires range { from ≤ to }
+        requires within { to ≤ length self.now }
+        ensures exact { IfOk result (λ items. items.items ≡ slice_range self.now from to) }
+    {
+        let mut items = Vec::with_capacity(self.parts.allocator(), to - from)?;
+        for item in self.iter_from(from).take(to - from) {
+            items.push(item.share()?)?;
+        }
+        Ok(items)
+    }
+
     /// The list with one element more at its end.
     pub fn pushed(&self, item: T) -> Result<SharedList<T>, AllocError>
         ensures exact { IfOk result (λ list. list ≡ self.now ++ item ∷ []) }
@@ -167,6 +204,10 @@ impl<T: Share + Drop> SharedList<T> {
             return Err(AllocError);
         };
         let (part, place) = place_of(&self.parts, from, self.len);
+        let changed = spliced_in_part(&self.parts, part, place, to - from, items)?;
+        if let Some(parts) = changed {
+            return Ok(SharedList { parts, len });
+        }
         let mut change = Change::before(&self.parts, part, place)?;
         change.push_items(items)?;
         let (part, place) = place_of(&self.parts, to, self.len);

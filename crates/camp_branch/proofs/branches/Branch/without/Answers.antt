@@ -5,8 +5,8 @@ use Rattle.camp_branch.proofs.NewEnds.{end_arranged}
 use Rattle.camp_branch.proofs.branches.Branch.without.Goals as goal
 use Rattle.camp_branch.proofs.branches.Branch.without.Goals.{In_ok-arranged}
 
-pub copied-requires-clause-range : goal.copied-requires-clause-range
-copied-requires-clause-range c =
+pub range_to_vec-requires-clause-range : goal.range_to_vec-behind-requires-clause-range
+range_to_vec-requires-clause-range c =
     let within = front_within (names_in c.in_ok-staying.staying) c.self.inside.catches in
     omega (c.front-start.ensures, c.len.ensures.exact, within, arith)
 
@@ -21,7 +21,7 @@ front : (c : In_ok-arranged) → StaysInFront c.args.self.now (names_in c.args.n
 front c = record {
   stays = stays_by (map_of (slice_cmp nat_cmp) c.self.inside.names) _ c.self.inside.catches c.args.self.now (names_in c.args.names.now) c.self.invariant.named c.self.view_is c.in_ok-staying.ensures;
   at = c.front-start.ensures ∙ ap (front_of (names_in c.in_ok-staying.staying)) c.self.view_is;
-  is = c.deref.ensures.value ∙ behind_place c.self.inside.catches c.args.self.now c.in_ok-behind.behind.items c.front-start.result c.len.result c.len.ensures.exact c.self.view_is (c.in_ok-behind.ensures.exact ∙ c.in_ok-copied.ensures.exact);
+  is = c.deref.ensures.value ∙ behind_place c.self.inside.catches c.args.self.now c.in_ok-behind.behind.items c.front-start.result c.len.result c.len.ensures.exact c.self.view_is c.in_ok-behind.ensures.exact;
 }
 
 pub with_end-requires-clause-lawful : goal.with_end-requires-clause-lawful

@@ -7,11 +7,11 @@ use Rattle.camp_share.proofs.lists.SharedList.iter_from.Goals as goal
 
 pub loop-part-preserved : goal.loop-part-preserved
 loop-part-preserved g c =
-    let size = length_told _ c.in-Some.part.now _ c.deref.ensures c.len.ensures in
-    let less = length_told _ c.in-Some.part.now _ c.deref-in-Some.ensures c.len-start.ensures in
+    let size = length_told _ c.in-Some-next.part.now _ c.deref.ensures c.len.ensures in
+    let less = length_told _ c.in-Some-next.part.now _ c.deref-in-Some-next.ensures c.len-start.ensures in
     record {
       can_next = tt;
       is_finite = tt;
-      parts = All-tail IsPart _ _ (subst (All IsPart) c.in-Some.ensures.steps c.loop-part.invariant.parts);
-      rest = left_behind c.loop-part.parts c.next.new.self c.in-Some.part.now c.loop-part.start c.len-start.result c.in-Some.ensures.steps less (omega arith) ∙ c.loop-part.invariant.rest;
+      parts = All-tail IsPart _ _ (subst (All IsPart) c.in-Some-next.ensures.steps c.loop-part.invariant.parts);
+      rest = left_behind c.loop-part.parts c.next.new.self c.in-Some-next.part.now c.loop-part.start c.len-start.result c.in-Some-next.ensures.steps less (omega arith) ∙ c.loop-part.invariant.rest;
     }

@@ -1,0 +1,29 @@
+use Rattle.std.proofs.Common.{◌<◌, ◌++◌, ◌∷◌, [], length, take, drop, ◌∙◌, ap, arith, Vec}
+use Rattle.std.proofs.lemmas.Result.{IfOk-weaker}
+use Rattle.camp_share.specs.Inside.Parts.{joined, offset}
+use Rattle.camp_share.proofs.PartLemmas.{parts_fewer, length_grown, renewed_behind, inserted_between}
+use Rattle.camp_share.proofs.changes.inserted_at.Goals as goal
+
+pub len-requires : goal.len-requires
+len-requires g c = let fewer = parts_fewer c.args.parts.now c.requires.parts in omega (arith, c.requires.fits)
+
+pub returns-then-index-len-clause-items : goal.returns-then-index-len-clause-items
+returns-then-index-len-clause-items g c =
+    let rest = drop (offset c.args.parts.now c.behind_with_room-index.result.0 c.behind_with_room-index.result.1) (joined c.args.parts.now) in
+    IfOk-weaker c.with_rest.result _ _
+    (λ new is. inserted_between _ _ _ _ _ c.behind_with_room-index.ensures.same
+    (is ∙ ap (λ ys. ys ++ rest) (c.in_ok-push.ensures ∙ ap (λ ys. ys ++ c.args.item ∷ []) c.in_ok-change.ensures)))
+    c.with_rest.ensures.items
+
+pub returns-clause-items : goal.returns-clause-items
+returns-clause-items g c =
+    let parts = c.args.parts.now in
+    let index = c.behind_with_room-index.result.0 in
+    let place = c.behind_with_room-index.result.1 in
+    let inside : index < length parts = omega (arith, c.behind_with_room-index.ensures.place.0) in
+    let longer = length_grown parts index c.at.result.now inside c.at.ensures in
+    IfOk-weaker c.with_end_of.result _ _
+    (λ new is. inserted_between _ _ _ _ _ c.behind_with_room-index.ensures.same
+    (renewed_behind parts index place c.at.result.now inside c.at.ensures (omega (arith, c.behind_with_room-index.ensures.place.1)) _ _ _ _ _
+    (c.in_ok-items.ensures ∙ ap (λ (p : Vec _ _). take place p.items) c.deref.ensures) c.in_ok-push-2.ensures.items is))
+    c.with_end_of.ensures.items

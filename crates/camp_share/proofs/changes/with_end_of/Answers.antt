@@ -1,0 +1,20 @@
+use Rattle.std.proofs.Common.{sym, ap, subst, ◌∙◌, arith, Vec, take}
+use Rattle.std.specs.List.{All}
+use Rattle.std.proofs.lemmas.List.Elements.{All-append, All-drop, All-take}
+use Rattle.camp_share.specs.Inside.Parts.{joined, IsPart}
+use Rattle.camp_share.proofs.PartLemmas.{parts_fewer, length_grown, joined_between, pushed_behind}
+use Rattle.camp_share.proofs.changes.with_end_of.Goals as goal
+
+pub overflow_add-index : goal.overflow_add-index
+overflow_add-index g c = let fewer = parts_fewer c.args.parts.now c.requires.parts in omega (arith, c.requires.fits)
+
+pub returns-clause-items : goal.returns-clause-items
+returns-clause-items g c =
+    let longer = length_grown c.args.parts.now c.args.index c.at-part.result.now c.requires.within c.at-part.ensures in
+    joined_between c.args.parts.now _ _ c.push_rest.new.self c.args.index _ _ c.in_ok-new.ensures c.in_ok-push_as_parts.ensures.items c.in_ok-push_rest.ensures
+    ∙ pushed_behind c.args.parts.now c.args.index c.args.place c.at-part.result.now c.requires.within c.at-part.ensures (omega (arith, c.requires.place.1)) (joined (take c.args.index c.args.parts.now)) c.args.items.items _ _ c.in_ok-append_copies.ensures.joined
+    (c.deref-2.ensures.value ∙ ap (λ (p : Vec _ _). p.items) c.deref.ensures)
+
+pub returns-clause-parts : goal.returns-clause-parts
+returns-clause-parts g c =
+    subst (All IsPart) (sym c.in_ok-push_rest.ensures) (All-append IsPart _ _ c.in_ok-push_as_parts.ensures.parts (All-drop IsPart _ _ c.requires.parts))

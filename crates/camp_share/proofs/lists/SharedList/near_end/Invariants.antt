@@ -1,0 +1,10 @@
+use Rattle.std.proofs.Common.{◌≡◌, ◌+◌, ◌<◌, ◌≤◌, length, drop}
+use Rattle.camp_share.specs.Inside.Parts.{joined}
+use Rattle.camp_share.proofs.lists.SharedList.near_end.Given as goal
+
+abbrev pub invariant-loop-at : goal.invariant-loop-at
+invariant-loop-at g l = record {
+  within : l.at ≤ length l.last;
+  before : l.from < l.start;
+  left : l.start + length (joined (drop l.at l.last)) ≡ length l.self;
+}
