@@ -1,5 +1,5 @@
 -- What stays as it is where a primitive passes it as it is.
-use Rattle.std.proofs.Common.{◌≡◌, ◌∙◌, ℕ, suc, ◌<◌, ◌≤◌, length, get_or, Some, None, Bool, true, false, cond, List, [], ◌∷◌, ◌++◌, map, refl, sym, ap, subst, inl, inr, arith}
+use Rattle.std.proofs.Common.{◌≡◌, ◌∙◌, ℕ, suc, ◌<◌, ◌≤◌, length, Some, None, Bool, true, false, cond, List, [], ◌∷◌, ◌++◌, map, refl, sym, ap, subst, inl, inr, arith}
 use Rattle.std.specs.List.{slice_get}
 use Rattle.std.specs.FinMap.{entries, get-entries, len, len-entries}
 use Rattle.std.specs.FinMap.Entries.{find}
@@ -87,16 +87,11 @@ module _ (back : Named) (t : List Named) (passes : Passes back t t back) where
     merge = (t, inverse_of back, [], passes_row back t t back passes, (refl, refl), refl);
   }
 
-alone : (s : List Named) (p : Named) → length s ≡ 1 → p ≡ get_or s 0 p → s ≡ p ∷ []
-alone [] p one is = absurd (omega arith)
-alone (q ∷ []) p one is = ap (λ r. r ∷ []) (sym is)
-alone (q ∷ r ∷ s) p one is = absurd (omega arith)
-
--- the same of what a body has of the two lists
-pub merge_aside_told : (s t items others own : List Named) (p first back : Named) → items ≡ s → length items ≡ 1 → p ≡ get_or items 0 p → first ≡ p → back ≡ inverse_of first → others ≡ t → Passes back others others back → own ≡ t → Norm own own → MergesBehindCommon s t t s
-merge_aside_told s t items others own p first back is one at copy turned theirs passes also ordered =
-    let forth : inverse_of back ≡ p = ap inverse_of (turned ∙ ap inverse_of copy) ∙ inverse_of-inverse_of p in
-    let list : inverse_of back ∷ [] ≡ s = ap (λ q. q ∷ []) forth ∙ sym (alone items p one at) ∙ is in
+-- the same of a patch without a context, and of what a body has of the two
+pub merge_aside_told : (x : ContextedPatch) (t others own : List Named) (first back : Named) → x.context ≡ [] → first ≡ x.patch → back ≡ inverse_of first → others ≡ t → Passes back others others back → own ≡ t → Norm own own → MergesBehindCommon (whole x) t t (whole x)
+merge_aside_told x t others own first back none copy turned theirs passes also ordered =
+    let forth : inverse_of back ≡ x.patch = ap inverse_of (turned ∙ ap inverse_of copy) ∙ inverse_of-inverse_of x.patch in
+    let list : inverse_of back ∷ [] ≡ whole x = ap (λ q. q ∷ []) forth ∙ ap (λ c. c ++ x.patch ∷ []) (sym none) in
     subst (λ l. MergesBehindCommon l t t l) list
     (merges_aside back t (subst (λ l. Passes back l l back) theirs passes) (subst (λ l. Norm l l) also ordered))
 

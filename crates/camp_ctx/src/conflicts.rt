@@ -20,11 +20,11 @@ pub fn conflict(x: &Contexted, y: &Contexted) -> Result<bool, AllocError>
     if clash(x, y)? {
         return Ok(true);
     }
-    let first = whole(x)?;
     let second = whole(y)?;
-    if stand_aside(&first, &second)? {
+    if stand_aside(x, &second)? {
         return Ok(false);
     }
+    let first = whole(x)?;
     let merged = merge_behind_common(x.allocator(), &first, &second)?;
     match merged {
         None => Ok(true),
@@ -58,17 +58,16 @@ fn has_no_context(x: &Contexted) -> bool
     x.context().items().is_empty()
 }
 
-/// Whether a look tells that a list of one primitive merges with another list, and both stay as they
-/// are. Where it says no, they may still do.
-fn stand_aside(s: &Seq, t: &Seq) -> Result<bool, AllocError>
-    ensures { IfOk result (λ yes. IsTrue yes → MergesBehindCommon s.now t.now t.now s.now) }
+/// Whether a look tells that a patch without a context merges with a list, and both stay as they are.
+/// Where it says no, they may still do.
+fn stand_aside(x: &Contexted, t: &Seq) -> Result<bool, AllocError>
+    ensures { IfOk result (λ yes. IsTrue yes → MergesBehindCommon (whole x.now) t.now t.now (whole x.now)) }
 {
-    let items = s.items();
-    if items.len() != 1 {
+    if !has_no_context(x) {
         return Ok(false);
     }
-    let first = items[0].try_clone()?;
-    let back = first.invert();
+    let patch = x.patch().try_clone()?;
+    let back = patch.invert();
     if !stays_past(&back, t.items()) {
         return Ok(false);
     }
