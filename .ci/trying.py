@@ -1,5 +1,5 @@
-"""What .ci/refusals, .ci/turns and .ci/locked share: a program that is built without proofs, the tables of
-crates/worked, and the scripts of .ci/cases."""
+"""What .ci/refusals, .ci/sharing, .ci/turns and .ci/locked share: a program that is built without proofs, the tables
+of crates/worked, and the scripts of .ci/cases."""
 
 import glob
 import os
@@ -13,6 +13,17 @@ import time
 
 TOP = os.path.abspath(os.path.join(os.path.dirname(__file__), ".."))
 WORKED = f"{TOP}/crates/worked"
+# The allocation of a run that the program of `refusing` is refused.
+REFUSED = 4_000
+
+
+def refusing(folder):
+    """The program of crates/worked, built so that it is refused one allocation: the one that REFUSING names, which is built
+    where there is none, or one in the folder."""
+    program = os.environ.get("REFUSING", f"{folder}/worked")
+    if not os.path.exists(program):
+        build(WORKED, program, ["--fail-alloc", str(REFUSED)])
+    return program
 
 
 def build(crate, program, words=(), given="stdin"):

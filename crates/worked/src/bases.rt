@@ -1,4 +1,5 @@
-use crate::calls::{CallLine, ask_none, ask_one, ask_two, find};
+use crate::arguments::{End, One, Two};
+use crate::calls::{Asked, CallLine, ask, find};
 use crate::results::{Outcome, fault, order};
 use crate::tables::Table;
 use crate::wants::Wants;
@@ -11,25 +12,23 @@ use std::alloc::AllocError;
 /// The calls on names, paths, lines and faults.
 #[derive(Clone, Copy)]
 pub(crate) enum BaseCall {
-    Name,
-    Path,
-    Line,
+    Word(OfWord),
     CopyPath,
     CopyLines,
     CompareNames,
     ComparePaths,
-    Faults,
+    FaultWords,
 }
 
 const CALLS: [(&[u8], BaseCall); 8] = [
-    (b"name", BaseCall::Name),
-    (b"path", BaseCall::Path),
-    (b"line", BaseCall::Line),
+    (b"name", BaseCall::Word(OfWord::Name)),
+    (b"path", BaseCall::Word(OfWord::Path)),
+    (b"line", BaseCall::Word(OfWord::Line)),
     (b"copy_path", BaseCall::CopyPath),
     (b"copy_lines", BaseCall::CopyLines),
     (b"compare_names", BaseCall::CompareNames),
     (b"compare_paths", BaseCall::ComparePaths),
-    (b"faults", BaseCall::Faults),
+    (b"faults", BaseCall::FaultWords),
 ];
 
 impl BaseCall {
@@ -41,15 +40,94 @@ impl BaseCall {
     /// Reads the arguments of a line, and makes the call.
     pub(crate) fn ask(self, asked: CallLine<'_>, wants: &mut Wants) -> Outcome {
         match self {
-            BaseCall::Name => ask_one(asked, wants, name),
-            BaseCall::Path => ask_one(asked, wants, path),
-            BaseCall::Line => ask_one(asked, wants, line),
-            BaseCall::CopyPath => ask_one(asked, wants, copy_path),
-            BaseCall::CopyLines => ask_one(asked, wants, copy_lines),
-            BaseCall::CompareNames => ask_two(asked, wants, compare_names),
-            BaseCall::ComparePaths => ask_two(asked, wants, compare_paths),
-            BaseCall::Faults => ask_none(asked, wants, faults),
+            BaseCall::Word(call) => ask(asked, wants, call),
+            BaseCall::CopyPath => ask(asked, wants, CopyPath),
+            BaseCall::CopyLines => ask(asked, wants, CopyLines),
+            BaseCall::CompareNames => ask(asked, wants, CompareNames),
+            BaseCall::ComparePaths => ask(asked, wants, ComparePaths),
+            BaseCall::FaultWords => ask(asked, wants, FaultWords),
         }
+    }
+}
+
+/// A word as a value of a kind.
+#[derive(Clone, Copy)]
+pub(crate) enum OfWord {
+    Name,
+    Path,
+    Line,
+}
+
+impl Asked for OfWord {
+    type On = One<Vec<u8>>;
+
+    fn answer(self, table: &Table, on: &One<Vec<u8>>) -> Outcome {
+        let word = &on.first;
+        match self {
+            OfWord::Name => name(table, word),
+            OfWord::Path => path(table, word),
+            OfWord::Line => line(table, word),
+        }
+    }
+}
+
+/// A copy of a path.
+#[derive(Clone, Copy)]
+pub(crate) struct CopyPath;
+
+impl Asked for CopyPath {
+    type On = One<Path>;
+
+    fn answer(self, table: &Table, on: &One<Path>) -> Outcome {
+        copy_path(table, &on.first)
+    }
+}
+
+/// Copies of lines.
+#[derive(Clone, Copy)]
+pub(crate) struct CopyLines;
+
+impl Asked for CopyLines {
+    type On = One<Lines>;
+
+    fn answer(self, table: &Table, on: &One<Lines>) -> Outcome {
+        copy_lines(table, &on.first)
+    }
+}
+
+/// The order of two names.
+#[derive(Clone, Copy)]
+pub(crate) struct CompareNames;
+
+impl Asked for CompareNames {
+    type On = Two<Name, Name>;
+
+    fn answer(self, table: &Table, on: &Two<Name, Name>) -> Outcome {
+        order(table, on.first.cmp(&on.rest.first))
+    }
+}
+
+/// The order of two paths.
+#[derive(Clone, Copy)]
+pub(crate) struct ComparePaths;
+
+impl Asked for ComparePaths {
+    type On = Two<Path, Path>;
+
+    fn answer(self, table: &Table, on: &Two<Path, Path>) -> Outcome {
+        order(table, on.first.cmp(&on.rest.first))
+    }
+}
+
+/// The words of every fault.
+#[derive(Clone, Copy)]
+pub(crate) struct FaultWords;
+
+impl Asked for FaultWords {
+    type On = End;
+
+    fn answer(self, table: &Table, _on: &End) -> Outcome {
+        faults(table)
     }
 }
 
@@ -105,14 +183,6 @@ fn copies_of(table: &Table, lines: &[Line]) -> Result<Vec<Line>, AllocError> {
 fn side_text(table: &Table, side: &Lines) -> Outcome {
     let shared = side.share()?;
     Ok(lines_text(table.alloc(), shared.as_slice())?)
-}
-
-fn compare_names(table: &Table, left: &Name, right: &Name) -> Outcome {
-    order(table, left.cmp(right))
-}
-
-fn compare_paths(table: &Table, left: &Path, right: &Path) -> Outcome {
-    order(table, left.cmp(right))
 }
 
 /// The words of every fault.

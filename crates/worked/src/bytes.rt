@@ -1,6 +1,7 @@
 //! Which bytes, and how many, names, paths and lines may have.
 
-use crate::calls::{CallLine, ask_one, find};
+use crate::arguments::One;
+use crate::calls::{Asked, CallLine, ask, find};
 use crate::results::{Outcome, none, word};
 use crate::tables::Table;
 use crate::wants::Wants;
@@ -11,15 +12,13 @@ use std::alloc::Global;
 /// The calls on bytes.
 #[derive(Clone, Copy)]
 pub(crate) enum ByteCall {
-    Alone,
-    Within,
-    Lengths,
+    Kind(OfKind),
 }
 
 const CALLS: [(&[u8], ByteCall); 3] = [
-    (b"bytes_alone", ByteCall::Alone),
-    (b"bytes_within", ByteCall::Within),
-    (b"lengths", ByteCall::Lengths),
+    (b"bytes_alone", ByteCall::Kind(OfKind::Alone)),
+    (b"bytes_within", ByteCall::Kind(OfKind::Within)),
+    (b"lengths", ByteCall::Kind(OfKind::Lengths)),
 ];
 
 impl ByteCall {
@@ -31,9 +30,28 @@ impl ByteCall {
     /// Reads the arguments of a line, and makes the call.
     pub(crate) fn ask(self, asked: CallLine<'_>, wants: &mut Wants) -> Outcome {
         match self {
-            ByteCall::Alone => ask_one(asked, wants, bytes_alone),
-            ByteCall::Within => ask_one(asked, wants, bytes_within),
-            ByteCall::Lengths => ask_one(asked, wants, lengths),
+            ByteCall::Kind(call) => ask(asked, wants, call),
+        }
+    }
+}
+
+/// Which bytes, or how many, a value of a kind may have.
+#[derive(Clone, Copy)]
+pub(crate) enum OfKind {
+    Alone,
+    Within,
+    Lengths,
+}
+
+impl Asked for OfKind {
+    type On = One<Vec<u8>>;
+
+    fn answer(self, table: &Table, on: &One<Vec<u8>>) -> Outcome {
+        let word = &on.first;
+        match self {
+            OfKind::Alone => bytes_alone(table, word),
+            OfKind::Within => bytes_within(table, word),
+            OfKind::Lengths => lengths(table, word),
         }
     }
 }

@@ -1,11 +1,10 @@
-use crate::arguments::{Argument, Arguments, End, Five, Four, One, Then, Three, Two};
+use crate::arguments::Arguments;
 use crate::results::{Outcome, word};
 use crate::splits::split;
 use crate::tables::Table;
 use crate::wants::Wants;
 use crate::{bases, bytes, catch_lists, catches, contexts, lists, primitives, sets, shares, trees};
 use camp_notation::NotationError;
-use camp_prim::Label;
 
 /// A line that is a call. Its arguments may name what stands in the table.
 #[derive(Clone, Copy)]
@@ -135,177 +134,21 @@ impl<'a> CallLine<'a> {
     }
 }
 
-/// The result of a call without an argument. It is made again where it wanted memory and left its arguments as they were.
-pub(crate) fn ask_none<F: Fn(&Table) -> Outcome>(
-    line: CallLine<'_>,
-    wants: &mut Wants,
-    function: F,
-) -> Outcome
-    requires { F.IsAlwaysCallable function }
-{
-    let a: End = line.read(wants)?;
-    match function(line.table) {
-        Err(NotationError::Memory) => {
-            if line.has_kept(&a, wants)? {
-                function(line.table)
-            } else {
-                line.changed()
-            }
-        }
-        outcome => outcome,
-    }
+/// The calls on arguments of one kind.
+pub(crate) trait Asked: Copy {
+    type On: Arguments;
+
+    /// The result of the call.
+    fn answer(self, table: &Table, on: &Self::On) -> Outcome;
 }
 
-/// The result of a call of one argument.
-pub(crate) fn ask_one<A: Argument, F: Fn(&Table, &A) -> Outcome>(
-    line: CallLine<'_>,
-    wants: &mut Wants,
-    function: F,
-) -> Outcome
-    requires { F.IsAlwaysCallable function }
-{
-    let a: One<A> = line.read(wants)?;
-    match function(line.table, &a.first) {
+/// The result of a call. It is made again where it wanted memory and left its arguments as they were.
+pub(crate) fn ask<C: Asked>(line: CallLine<'_>, wants: &mut Wants, call: C) -> Outcome {
+    let on = line.read::<C::On>(wants)?;
+    match call.answer(line.table, &on) {
         Err(NotationError::Memory) => {
-            if line.has_kept(&a, wants)? {
-                function(line.table, &a.first)
-            } else {
-                line.changed()
-            }
-        }
-        outcome => outcome,
-    }
-}
-
-/// The result of a call of two arguments.
-pub(crate) fn ask_two<A: Argument, B: Argument, F: Fn(&Table, &A, &B) -> Outcome>(
-    line: CallLine<'_>,
-    wants: &mut Wants,
-    function: F,
-) -> Outcome
-    requires { F.IsAlwaysCallable function }
-{
-    let a: Two<A, B> = line.read(wants)?;
-    match function(line.table, &a.first, &a.rest.first) {
-        Err(NotationError::Memory) => {
-            if line.has_kept(&a, wants)? {
-                function(line.table, &a.first, &a.rest.first)
-            } else {
-                line.changed()
-            }
-        }
-        outcome => outcome,
-    }
-}
-
-/// The result of a call of three arguments.
-pub(crate) fn ask_three<
-    A: Argument,
-    B: Argument,
-    C: Argument,
-    F: Fn(&Table, &A, &B, &C) -> Outcome,
->(line: CallLine<'_>, wants: &mut Wants, function: F) -> Outcome
-    requires { F.IsAlwaysCallable function }
-{
-    let a: Three<A, B, C> = line.read(wants)?;
-    match function(line.table, &a.first, &a.rest.first, &a.rest.rest.first) {
-        Err(NotationError::Memory) => {
-            if line.has_kept(&a, wants)? {
-                function(line.table, &a.first, &a.rest.first, &a.rest.rest.first)
-            } else {
-                line.changed()
-            }
-        }
-        outcome => outcome,
-    }
-}
-
-/// The result of a call of four arguments.
-pub(crate) fn ask_four<
-    A: Argument,
-    B: Argument,
-    C: Argument,
-    D: Argument,
-    F: Fn(&Table, &A, &B, &C, &D) -> Outcome,
->(line: CallLine<'_>, wants: &mut Wants, function: F) -> Outcome
-    requires { F.IsAlwaysCallable function }
-{
-    let a: Four<A, B, C, D> = line.read(wants)?;
-    match function(
-        line.table,
-        &a.first,
-        &a.rest.first,
-        &a.rest.rest.first,
-        &a.rest.rest.rest.first,
-    ) {
-        Err(NotationError::Memory) => {
-            if line.has_kept(&a, wants)? {
-                function(
-                    line.table,
-                    &a.first,
-                    &a.rest.first,
-                    &a.rest.rest.first,
-                    &a.rest.rest.rest.first,
-                )
-            } else {
-                line.changed()
-            }
-        }
-        outcome => outcome,
-    }
-}
-
-/// The result of a call of five arguments.
-pub(crate) fn ask_five<
-    A: Argument,
-    B: Argument,
-    C: Argument,
-    D: Argument,
-    E: Argument,
-    F: Fn(&Table, &A, &B, &C, &D, &E) -> Outcome,
->(line: CallLine<'_>, wants: &mut Wants, function: F) -> Outcome
-    requires { F.IsAlwaysCallable function }
-{
-    let a: Five<A, B, C, D, E> = line.read(wants)?;
-    match function(
-        line.table,
-        &a.first,
-        &a.rest.first,
-        &a.rest.rest.first,
-        &a.rest.rest.rest.first,
-        &a.rest.rest.rest.rest.first,
-    ) {
-        Err(NotationError::Memory) => {
-            if line.has_kept(&a, wants)? {
-                function(
-                    line.table,
-                    &a.first,
-                    &a.rest.first,
-                    &a.rest.rest.first,
-                    &a.rest.rest.rest.first,
-                    &a.rest.rest.rest.rest.first,
-                )
-            } else {
-                line.changed()
-            }
-        }
-        outcome => outcome,
-    }
-}
-
-/// The result of a call of one argument and of the labels behind it.
-pub(crate) fn ask_with_labels<A: Argument, F: Fn(&Table, &A, &[Label]) -> Outcome>(
-    line: CallLine<'_>,
-    wants: &mut Wants,
-    function: F,
-) -> Outcome
-    requires { F.IsAlwaysCallable function }
-{
-    let a: Then<A, Vec<Label>> = line.read(wants)?;
-    match function(line.table, &a.first, &a.rest) {
-        Err(NotationError::Memory) => {
-            if line.has_kept(&a, wants)? {
-                function(line.table, &a.first, &a.rest)
+            if line.has_kept(&on, wants)? {
+                call.answer(line.table, &on)
             } else {
                 line.changed()
             }

@@ -1,4 +1,5 @@
-use crate::calls::{CallLine, ask_one, ask_two, ask_with_labels, find};
+use crate::arguments::{One, Then, Two};
+use crate::calls::{Asked, CallLine, ask, find};
 use crate::results::{Outcome, catch_list_text, joined, key_text};
 use crate::tables::Table;
 use crate::wants::Wants;
@@ -13,15 +14,14 @@ use std::alloc::AllocError;
 #[derive(Clone, Copy)]
 pub(crate) enum CatchListCall {
     Read,
-    Arrange,
-    Align,
+    Labels(OfLabels),
     MergeLists,
 }
 
 const CALLS: [(&[u8], CatchListCall); 4] = [
     (b"read_catches", CatchListCall::Read),
-    (b"arrange", CatchListCall::Arrange),
-    (b"align", CatchListCall::Align),
+    (b"arrange", CatchListCall::Labels(OfLabels::Arrange)),
+    (b"align", CatchListCall::Labels(OfLabels::Align)),
     (b"merge_lists", CatchListCall::MergeLists),
 ];
 
@@ -34,21 +34,57 @@ impl CatchListCall {
     /// Reads the arguments of a line, and makes the call.
     pub(crate) fn ask(self, asked: CallLine<'_>, wants: &mut Wants) -> Outcome {
         match self {
-            CatchListCall::Read => ask_one(asked, wants, read),
-            CatchListCall::Arrange => ask_with_labels(asked, wants, arranged),
-            CatchListCall::Align => ask_with_labels(asked, wants, aligned),
-            CatchListCall::MergeLists => ask_two(asked, wants, merged),
+            CatchListCall::Read => ask(asked, wants, Read),
+            CatchListCall::Labels(call) => ask(asked, wants, call),
+            CatchListCall::MergeLists => ask(asked, wants, MergeLists),
         }
+    }
+}
+
+/// A list of catches.
+#[derive(Clone, Copy)]
+pub(crate) struct Read;
+
+impl Asked for Read {
+    type On = One<Catches>;
+
+    fn answer(self, table: &Table, on: &One<Catches>) -> Outcome {
+        catch_list_text(table, &on.first)
+    }
+}
+
+/// Calls on a list of catches and the labels that stand behind it.
+#[derive(Clone, Copy)]
+pub(crate) enum OfLabels {
+    Arrange,
+    Align,
+}
+
+impl Asked for OfLabels {
+    type On = Then<Catches, Vec<Label>>;
+
+    fn answer(self, table: &Table, on: &Then<Catches, Vec<Label>>) -> Outcome {
+        match self {
+            OfLabels::Arrange => arranged(table, &on.first, &on.rest),
+            OfLabels::Align => aligned(table, &on.first, &on.rest),
+        }
+    }
+}
+
+/// Two lists of catches merged.
+#[derive(Clone, Copy)]
+pub(crate) struct MergeLists;
+
+impl Asked for MergeLists {
+    type On = Two<Catches, Catches>;
+
+    fn answer(self, table: &Table, on: &Two<Catches, Catches>) -> Outcome {
+        merged(table, &on.first, &on.rest.first)
     }
 }
 
 type Catches = Vec<Shared<Catch>>;
 
-fn read(table: &Table, list: &Catches) -> Outcome {
-    catch_list_text(table, list)
-}
-
-/// The names stand behind the list, each as a label.
 fn arranged(table: &Table, list: &Catches, labels: &[Label]) -> Outcome {
     match names(table, labels) {
         Ok(names) => arranged_by(table, list, &names),
@@ -76,7 +112,6 @@ fn stuck_on(table: &Table, stuck: Stuck) -> Result<String, AllocError> {
     format!(in table.alloc(); "stuck {patch} on {on}")
 }
 
-/// The labels stand behind the list.
 fn aligned(table: &Table, list: &Catches, labels: &[Label]) -> Outcome {
     match keys(table, labels) {
         Ok(order) => aligned_by(table, list, &order),

@@ -1,4 +1,5 @@
-use crate::calls::{CallLine, ask_one, ask_two, find};
+use crate::arguments::{One, Two};
+use crate::calls::{Asked, CallLine, ask, find};
 use crate::results::{Outcome, Shown, both, key_text, made, yes_or_no};
 use crate::tables::Table;
 use crate::wants::Wants;
@@ -8,21 +9,17 @@ use camp_ctx::join;
 /// The calls on catches.
 #[derive(Clone, Copy)]
 pub(crate) enum CatchCall {
-    Read,
-    Copy,
-    Key,
-    Effect,
-    AreSame,
-    Merge,
+    Catch(OfCatch),
+    Two(OfTwo),
 }
 
 const CALLS: [(&[u8], CatchCall); 6] = [
-    (b"read_catch", CatchCall::Read),
-    (b"copy_catch", CatchCall::Copy),
-    (b"key_of_catch", CatchCall::Key),
-    (b"effect", CatchCall::Effect),
-    (b"are_same_catches", CatchCall::AreSame),
-    (b"merge", CatchCall::Merge),
+    (b"read_catch", CatchCall::Catch(OfCatch::Read)),
+    (b"copy_catch", CatchCall::Catch(OfCatch::Copy)),
+    (b"key_of_catch", CatchCall::Catch(OfCatch::Key)),
+    (b"effect", CatchCall::Catch(OfCatch::Effect)),
+    (b"are_same_catches", CatchCall::Two(OfTwo::AreSame)),
+    (b"merge", CatchCall::Two(OfTwo::Merge)),
 ];
 
 impl CatchCall {
@@ -34,40 +31,66 @@ impl CatchCall {
     /// Reads the arguments of a line, and makes the call.
     pub(crate) fn ask(self, asked: CallLine<'_>, wants: &mut Wants) -> Outcome {
         match self {
-            CatchCall::Read => ask_one(asked, wants, read),
-            CatchCall::Copy => ask_one(asked, wants, copy),
-            CatchCall::Key => ask_one(asked, wants, key),
-            CatchCall::Effect => ask_one(asked, wants, effect),
-            CatchCall::AreSame => ask_two(asked, wants, are_same),
-            CatchCall::Merge => ask_two(asked, wants, merged),
+            CatchCall::Catch(call) => ask(asked, wants, call),
+            CatchCall::Two(call) => ask(asked, wants, call),
         }
     }
 }
 
-fn read(table: &Table, j: &Catch) -> Outcome {
-    j.shown(table)
+/// Calls on a catch.
+#[derive(Clone, Copy)]
+pub(crate) enum OfCatch {
+    Read,
+    Copy,
+    Key,
+    Effect,
 }
 
-fn copy(table: &Table, j: &Catch) -> Outcome {
-    made(table, j.try_clone())
+impl Asked for OfCatch {
+    type On = One<Catch>;
+
+    fn answer(self, table: &Table, on: &One<Catch>) -> Outcome {
+        let catch = &on.first;
+        match self {
+            OfCatch::Read => catch.shown(table),
+            OfCatch::Copy => made(table, catch.try_clone()),
+            OfCatch::Key => key(table, catch),
+            OfCatch::Effect => made(table, join(table.alloc(), catch.effect(), &[])),
+        }
+    }
+}
+
+/// Calls on two catches.
+#[derive(Clone, Copy)]
+pub(crate) enum OfTwo {
+    AreSame,
+    Merge,
+}
+
+impl Asked for OfTwo {
+    type On = Two<Catch, Catch>;
+
+    fn answer(self, table: &Table, on: &Two<Catch, Catch>) -> Outcome {
+        let (left, right) = (&on.first, &on.rest.first);
+        match self {
+            OfTwo::AreSame => yes_or_no(table, left.is_same(right)),
+            OfTwo::Merge => both(table, merge(table.alloc(), left, right)),
+        }
+    }
+}
+
+/// Two catches commuted: `commute`, which is of primitives, too.
+#[derive(Clone, Copy)]
+pub(crate) struct Commuted;
+
+impl Asked for Commuted {
+    type On = Two<Catch, Catch>;
+
+    fn answer(self, table: &Table, on: &Two<Catch, Catch>) -> Outcome {
+        both(table, commute(table.alloc(), &on.first, &on.rest.first))
+    }
 }
 
 fn key(table: &Table, j: &Catch) -> Outcome {
     Ok(key_text(table, j.key())?)
-}
-
-fn effect(table: &Table, j: &Catch) -> Outcome {
-    made(table, join(table.alloc(), j.effect(), &[]))
-}
-
-fn are_same(table: &Table, left: &Catch, right: &Catch) -> Outcome {
-    yes_or_no(table, left.is_same(right))
-}
-
-pub(crate) fn commuted(table: &Table, j: &Catch, k: &Catch) -> Outcome {
-    both(table, commute(table.alloc(), j, k))
-}
-
-fn merged(table: &Table, j: &Catch, k: &Catch) -> Outcome {
-    both(table, merge(table.alloc(), j, k))
 }

@@ -1,4 +1,5 @@
-use crate::calls::{CallLine, ask_one, ask_two, ask_with_labels, find};
+use crate::arguments::{One, Then, Two};
+use crate::calls::{Asked, CallLine, ask, find};
 use crate::results::{Outcome, Shown, both, changed, made, word, yes_or_no};
 use crate::tables::Table;
 use crate::wants::Wants;
@@ -10,33 +11,28 @@ use camp_seq::{Seq, apply_all, clean_merge, front, invert_all, norm, past, past_
 /// The calls on lists of primitives.
 #[derive(Clone, Copy)]
 pub(crate) enum ListCall {
-    Copy,
+    List(OfList),
     Push,
-    Past,
-    PastAll,
-    Front,
-    Split,
-    Norm,
-    InvertAll,
-    CleanMerge,
+    Passed,
+    Two(OfTwoLists),
+    Fronted,
+    SplitOff,
     ApplyAll,
-    AreSame,
-    Listing,
 }
 
 const CALLS: [(&[u8], ListCall); 12] = [
-    (b"copy_list", ListCall::Copy),
+    (b"copy_list", ListCall::List(OfList::Copy)),
     (b"push", ListCall::Push),
-    (b"past", ListCall::Past),
-    (b"past_all", ListCall::PastAll),
-    (b"front", ListCall::Front),
-    (b"split", ListCall::Split),
-    (b"norm", ListCall::Norm),
-    (b"invert_all", ListCall::InvertAll),
-    (b"clean_merge", ListCall::CleanMerge),
+    (b"past", ListCall::Passed),
+    (b"past_all", ListCall::Two(OfTwoLists::PastAll)),
+    (b"front", ListCall::Fronted),
+    (b"split", ListCall::SplitOff),
+    (b"norm", ListCall::List(OfList::Norm)),
+    (b"invert_all", ListCall::List(OfList::Invert)),
+    (b"clean_merge", ListCall::Two(OfTwoLists::CleanMerge)),
     (b"apply_all", ListCall::ApplyAll),
-    (b"are_same_lists", ListCall::AreSame),
-    (b"listing", ListCall::Listing),
+    (b"are_same_lists", ListCall::Two(OfTwoLists::AreSame)),
+    (b"listing", ListCall::List(OfList::Listing)),
 ];
 
 impl ListCall {
@@ -48,41 +44,119 @@ impl ListCall {
     /// Reads the arguments of a line, and makes the call.
     pub(crate) fn ask(self, asked: CallLine<'_>, wants: &mut Wants) -> Outcome {
         match self {
-            ListCall::Copy => ask_one(asked, wants, copy),
-            ListCall::Push => ask_two(asked, wants, pushed),
-            ListCall::Past => ask_two(asked, wants, passed),
-            ListCall::PastAll => ask_two(asked, wants, passed_all),
-            ListCall::Front => ask_two(asked, wants, fronted),
-            ListCall::Split => ask_with_labels(asked, wants, split_off),
-            ListCall::Norm => ask_one(asked, wants, ordered),
-            ListCall::InvertAll => ask_one(asked, wants, inverted),
-            ListCall::CleanMerge => ask_two(asked, wants, merged),
-            ListCall::ApplyAll => ask_two(asked, wants, applied),
-            ListCall::AreSame => ask_two(asked, wants, are_same),
-            ListCall::Listing => ask_one(asked, wants, listed),
+            ListCall::List(call) => ask(asked, wants, call),
+            ListCall::Push => ask(asked, wants, Push),
+            ListCall::Passed => ask(asked, wants, Passed),
+            ListCall::Two(call) => ask(asked, wants, call),
+            ListCall::Fronted => ask(asked, wants, Fronted),
+            ListCall::SplitOff => ask(asked, wants, SplitOff),
+            ListCall::ApplyAll => ask(asked, wants, ApplyAll),
         }
     }
 }
 
-fn passed(table: &Table, p: &Named, behind: &Seq) -> Outcome {
-    both(table, past(p, behind))
+/// Calls on a list.
+#[derive(Clone, Copy)]
+pub(crate) enum OfList {
+    Copy,
+    Norm,
+    Invert,
+    Listing,
 }
 
-fn passed_all(table: &Table, before: &Seq, behind: &Seq) -> Outcome {
-    both(table, past_all(before, behind))
+impl Asked for OfList {
+    type On = One<Seq>;
+
+    fn answer(self, table: &Table, on: &One<Seq>) -> Outcome {
+        let list = &on.first;
+        match self {
+            OfList::Copy => made(table, list.try_clone()),
+            OfList::Norm => made(table, norm(list)),
+            OfList::Invert => made(table, invert_all(list)),
+            OfList::Listing => listed(table, list),
+        }
+    }
 }
 
-fn fronted(table: &Table, whole: &Seq, label: &Label) -> Outcome {
-    both(table, front(whole, label))
+/// Calls on two lists.
+#[derive(Clone, Copy)]
+pub(crate) enum OfTwoLists {
+    PastAll,
+    CleanMerge,
+    AreSame,
 }
 
-/// The labels stand behind the list.
-fn split_off(table: &Table, whole: &Seq, labels: &[Label]) -> Outcome {
-    both(table, split(whole, labels))
+impl Asked for OfTwoLists {
+    type On = Two<Seq, Seq>;
+
+    fn answer(self, table: &Table, on: &Two<Seq, Seq>) -> Outcome {
+        let (left, right) = (&on.first, &on.rest.first);
+        match self {
+            OfTwoLists::PastAll => both(table, past_all(left, right)),
+            OfTwoLists::CleanMerge => both(table, clean_merge(left, right)),
+            OfTwoLists::AreSame => yes_or_no(table, left.is_same(right)),
+        }
+    }
 }
 
-fn copy(table: &Table, list: &Seq) -> Outcome {
-    made(table, list.try_clone())
+/// A list with one more behind it.
+#[derive(Clone, Copy)]
+pub(crate) struct Push;
+
+impl Asked for Push {
+    type On = Two<Seq, Named>;
+
+    fn answer(self, table: &Table, on: &Two<Seq, Named>) -> Outcome {
+        pushed(table, &on.first, &on.rest.first)
+    }
+}
+
+/// A primitive past a list.
+#[derive(Clone, Copy)]
+pub(crate) struct Passed;
+
+impl Asked for Passed {
+    type On = Two<Named, Seq>;
+
+    fn answer(self, table: &Table, on: &Two<Named, Seq>) -> Outcome {
+        both(table, past(&on.first, &on.rest.first))
+    }
+}
+
+/// The primitive of a label at the front.
+#[derive(Clone, Copy)]
+pub(crate) struct Fronted;
+
+impl Asked for Fronted {
+    type On = Two<Seq, Label>;
+
+    fn answer(self, table: &Table, on: &Two<Seq, Label>) -> Outcome {
+        both(table, front(&on.first, &on.rest.first))
+    }
+}
+
+/// A list split by the labels that stand behind it.
+#[derive(Clone, Copy)]
+pub(crate) struct SplitOff;
+
+impl Asked for SplitOff {
+    type On = Then<Seq, Vec<Label>>;
+
+    fn answer(self, table: &Table, on: &Then<Seq, Vec<Label>>) -> Outcome {
+        both(table, split(&on.first, &on.rest))
+    }
+}
+
+/// A list applied to a tree.
+#[derive(Clone, Copy)]
+pub(crate) struct ApplyAll;
+
+impl Asked for ApplyAll {
+    type On = Two<Seq, Tree>;
+
+    fn answer(self, table: &Table, on: &Two<Seq, Tree>) -> Outcome {
+        applied(table, &on.first, &on.rest.first)
+    }
 }
 
 /// A list that has wanted memory for one more is as it was.
@@ -113,26 +187,10 @@ fn grown(table: &Table, before: &Seq, list: &Seq, has_room: bool) -> Outcome {
     }
 }
 
-fn ordered(table: &Table, list: &Seq) -> Outcome {
-    made(table, norm(list))
-}
-
-fn inverted(table: &Table, list: &Seq) -> Outcome {
-    made(table, invert_all(list))
-}
-
-fn merged(table: &Table, left: &Seq, right: &Seq) -> Outcome {
-    both(table, clean_merge(left, right))
-}
-
 fn applied(table: &Table, whole: &Seq, before: &Tree) -> Outcome {
     let mut tree = before.try_clone()?;
     let answer = apply_all(whole, &mut tree);
     changed(table, before, tree, answer)
-}
-
-fn are_same(table: &Table, left: &Seq, right: &Seq) -> Outcome {
-    yes_or_no(table, left.is_same(right))
 }
 
 /// The lines of a listing, as one word.

@@ -5,6 +5,7 @@
 //! |---|---|
 //! | `# ..`, or nothing | a comment |
 //! | `table NAME` | a new table: nothing is known from here on |
+//! | `quiet` | of the values that calls make it is told only that they are made, and not what they are |
 //! | `p f 1 [one] -> [uno]` | a primitive, which is known as `p` from here on, and its inverse as `p^` |
 //! | `s = [a add f, p]` | a list or a tree, which is called `s` from here on |
 //! | `commute(p, q)` | a call |
@@ -24,7 +25,8 @@
 //! memory.
 //!
 //! `worked N M` makes so many allocations first that the M-th of the whole run is number N behind them:
-//! where it is run with its M-th allocation refused, the number says which one that is.
+//! where it is run with its M-th allocation refused, the number says which one that is. `worked M` tells
+//! behind the lines how many allocations are made before one is refused, M at most.
 #![tactic(auto)]
 
 mod arguments;
@@ -65,7 +67,7 @@ use std::io::{Read, Write};
 use std::process::ExitCode;
 use std::sync::Wait;
 use std::thread::Threads;
-use wants::{Wants, allocate_before};
+use wants::{Wants, allocate_before, tell_room};
 
 fn main(rt: HostRuntime) -> ExitCode {
     match run(&rt, rt.alloc(), &mut rt.stdin(), &mut rt.stdout()) {
@@ -83,5 +85,7 @@ fn run<T: Env + Threads + Wait + Sync, R: Read, W: Write>(
     allocate_before(rt, alloc)?;
     let mut input = Vec::new(alloc);
     reader.read_to_end(&mut input)?;
-    print_tables(rt, alloc, &input, writer)
+    let wants = print_tables(rt, alloc, &input, writer)?;
+    tell_room(rt, alloc, writer)?;
+    Ok(wants)
 }

@@ -1,7 +1,8 @@
-use crate::calls::{CallLine, ask_four, ask_one, ask_two, find};
-use crate::catches;
+use crate::arguments::{Four, One, Two};
+use crate::calls::{Asked, CallLine, ask, find};
+use crate::catches::Commuted;
 use crate::results::{
-    Outcome, Shown, both, changed, joined, made, none, order, pair_text, word, yes_or_no,
+    Outcome, both, changed, joined, made, none, order, pair_text, show, word, yes_or_no,
 };
 use crate::tables::Table;
 use crate::wants::Wants;
@@ -14,33 +15,28 @@ use std::alloc::AllocError;
 /// The calls on primitives.
 #[derive(Clone, Copy)]
 pub(crate) enum PrimitiveCall {
-    Hunk,
-    Read,
-    Copy,
-    CopyPrimitive,
-    CopyHunk,
-    Invert,
-    AreSame,
-    CompareLabels,
-    Apply,
-    ApplyPrimitive,
-    Exchange,
-    Commute,
+    MakeHunk,
+    One(OfOne),
+    Two(OfTwo),
+    Tree(OfTree),
 }
 
 const CALLS: [(&[u8], PrimitiveCall); 12] = [
-    (b"hunk", PrimitiveCall::Hunk),
-    (b"read", PrimitiveCall::Read),
-    (b"copy", PrimitiveCall::Copy),
-    (b"copy_primitive", PrimitiveCall::CopyPrimitive),
-    (b"copy_hunk", PrimitiveCall::CopyHunk),
-    (b"invert", PrimitiveCall::Invert),
-    (b"are_same", PrimitiveCall::AreSame),
-    (b"compare_labels", PrimitiveCall::CompareLabels),
-    (b"apply", PrimitiveCall::Apply),
-    (b"apply_primitive", PrimitiveCall::ApplyPrimitive),
-    (b"exchange", PrimitiveCall::Exchange),
-    (b"commute", PrimitiveCall::Commute),
+    (b"hunk", PrimitiveCall::MakeHunk),
+    (b"read", PrimitiveCall::One(OfOne::Read)),
+    (b"copy", PrimitiveCall::One(OfOne::Copy)),
+    (b"copy_primitive", PrimitiveCall::One(OfOne::CopyPrimitive)),
+    (b"copy_hunk", PrimitiveCall::One(OfOne::CopyHunk)),
+    (b"invert", PrimitiveCall::One(OfOne::Invert)),
+    (b"are_same", PrimitiveCall::Two(OfTwo::AreSame)),
+    (b"compare_labels", PrimitiveCall::Two(OfTwo::CompareLabels)),
+    (b"apply", PrimitiveCall::Tree(OfTree::Apply)),
+    (
+        b"apply_primitive",
+        PrimitiveCall::Tree(OfTree::ApplyPrimitive),
+    ),
+    (b"exchange", PrimitiveCall::Two(OfTwo::Exchange)),
+    (b"commute", PrimitiveCall::Two(OfTwo::Commute)),
 ];
 
 impl PrimitiveCall {
@@ -52,21 +48,98 @@ impl PrimitiveCall {
     /// Reads the arguments of a line, and makes the call.
     pub(crate) fn ask(self, asked: CallLine<'_>, wants: &mut Wants) -> Outcome {
         match self {
-            PrimitiveCall::Hunk => ask_four(asked, wants, hunk),
-            PrimitiveCall::Read => ask_one(asked, wants, read),
-            PrimitiveCall::Copy => ask_one(asked, wants, copy),
-            PrimitiveCall::CopyPrimitive => ask_one(asked, wants, copy_primitive),
-            PrimitiveCall::CopyHunk => ask_one(asked, wants, copy_hunk),
-            PrimitiveCall::Invert => ask_one(asked, wants, invert),
-            PrimitiveCall::AreSame => ask_two(asked, wants, are_same),
-            PrimitiveCall::CompareLabels => ask_two(asked, wants, compare),
-            PrimitiveCall::Apply => ask_two(asked, wants, apply),
-            PrimitiveCall::ApplyPrimitive => ask_two(asked, wants, apply_primitive),
-            PrimitiveCall::Exchange => ask_two(asked, wants, exchanged),
-            PrimitiveCall::Commute if asked.is_of_catches() => {
-                ask_two(asked, wants, catches::commuted)
+            PrimitiveCall::MakeHunk => ask(asked, wants, MakeHunk),
+            PrimitiveCall::One(call) => ask(asked, wants, call),
+            PrimitiveCall::Two(OfTwo::Commute) if asked.is_of_catches() => {
+                ask(asked, wants, Commuted)
             }
-            PrimitiveCall::Commute => ask_two(asked, wants, commuted),
+            PrimitiveCall::Two(call) => ask(asked, wants, call),
+            PrimitiveCall::Tree(call) => ask(asked, wants, call),
+        }
+    }
+}
+
+/// A hunk of its parts.
+#[derive(Clone, Copy)]
+pub(crate) struct MakeHunk;
+
+impl Asked for MakeHunk {
+    type On = Four<Path, u32, Lines, Lines>;
+
+    fn answer(self, table: &Table, on: &Four<Path, u32, Lines, Lines>) -> Outcome {
+        hunk(
+            table,
+            &on.first,
+            &on.rest.first,
+            &on.rest.rest.first,
+            &on.rest.rest.rest.first,
+        )
+    }
+}
+
+/// Calls on a primitive.
+#[derive(Clone, Copy)]
+pub(crate) enum OfOne {
+    Read,
+    Copy,
+    CopyPrimitive,
+    CopyHunk,
+    Invert,
+}
+
+impl Asked for OfOne {
+    type On = One<Named>;
+
+    fn answer(self, table: &Table, on: &One<Named>) -> Outcome {
+        let patch = &on.first;
+        match self {
+            OfOne::Read => show(table, patch),
+            OfOne::Copy => made(table, patch.try_clone()),
+            OfOne::CopyPrimitive => copy_primitive(table, patch),
+            OfOne::CopyHunk => copy_hunk(table, patch),
+            OfOne::Invert => invert(table, patch),
+        }
+    }
+}
+
+/// Calls on two primitives.
+#[derive(Clone, Copy)]
+pub(crate) enum OfTwo {
+    AreSame,
+    CompareLabels,
+    Exchange,
+    Commute,
+}
+
+impl Asked for OfTwo {
+    type On = Two<Named, Named>;
+
+    fn answer(self, table: &Table, on: &Two<Named, Named>) -> Outcome {
+        let (left, right) = (&on.first, &on.rest.first);
+        match self {
+            OfTwo::AreSame => yes_or_no(table, left.is_same(right)),
+            OfTwo::CompareLabels => order(table, left.label().cmp(&right.label())),
+            OfTwo::Exchange => exchanged(table, left, right),
+            OfTwo::Commute => both(table, commute(left, right)),
+        }
+    }
+}
+
+/// Calls on a primitive and a tree.
+#[derive(Clone, Copy)]
+pub(crate) enum OfTree {
+    Apply,
+    ApplyPrimitive,
+}
+
+impl Asked for OfTree {
+    type On = Two<Named, Tree>;
+
+    fn answer(self, table: &Table, on: &Two<Named, Tree>) -> Outcome {
+        let (patch, tree) = (&on.first, &on.rest.first);
+        match self {
+            OfTree::Apply => apply(table, patch, tree),
+            OfTree::ApplyPrimitive => apply_primitive(table, patch, tree),
         }
     }
 }
@@ -129,14 +202,6 @@ fn sides(table: &Table, hunk: &Hunk) -> Outcome {
     joined(old, " -> ", &new)
 }
 
-fn read(table: &Table, p: &Named) -> Outcome {
-    p.shown(table)
-}
-
-fn copy(table: &Table, p: &Named) -> Outcome {
-    made(table, p.try_clone())
-}
-
 /// Whether a copy of what the primitive does is the same.
 fn copy_primitive(table: &Table, p: &Named) -> Outcome {
     match p.prim.try_clone() {
@@ -166,14 +231,6 @@ fn invert(table: &Table, p: &Named) -> Outcome {
     }
 }
 
-fn are_same(table: &Table, left: &Named, right: &Named) -> Outcome {
-    yes_or_no(table, left.is_same(right))
-}
-
-fn compare(table: &Table, left: &Named, right: &Named) -> Outcome {
-    order(table, left.label().cmp(&right.label()))
-}
-
 fn apply(table: &Table, p: &Named, before: &Tree) -> Outcome {
     let mut tree = before.try_clone()?;
     let answer = p.apply(&mut tree);
@@ -184,10 +241,6 @@ fn apply_primitive(table: &Table, p: &Named, before: &Tree) -> Outcome {
     let mut tree = before.try_clone()?;
     let answer = p.prim.apply(&mut tree);
     changed(table, before, tree, answer)
-}
-
-fn commuted(table: &Table, p: &Named, q: &Named) -> Outcome {
-    both(table, commute(p, q))
 }
 
 /// The two as they stand after an exchange; both as they were where they can't change places.

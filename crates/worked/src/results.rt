@@ -114,8 +114,17 @@ fn told(text: String, is_read_back: bool) -> Outcome {
 /// The result of a call.
 pub(crate) fn made<T: Shown + Drop>(table: &Table, value: Result<T, AllocError>) -> Outcome {
     match value {
-        Ok(value) => value.shown(table),
+        Ok(value) => show(table, &value),
         Err(_) => Err(NotationError::Memory),
+    }
+}
+
+/// The text of a value, or `made` where values are not shown.
+pub(crate) fn show<T: Shown>(table: &Table, value: &T) -> Outcome {
+    if table.is_quiet() {
+        word(table, "made")
+    } else {
+        value.shown(table)
     }
 }
 
@@ -213,7 +222,7 @@ pub(crate) fn changed(
     answer: Result<(), Apply>,
 ) -> Outcome {
     match answer {
-        Ok(()) => after.shown(table),
+        Ok(()) => made(table, Ok(after)),
         Err(why) => refused(table, why, after.is_same(before)),
     }
 }

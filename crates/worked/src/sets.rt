@@ -1,4 +1,5 @@
-use crate::calls::{CallLine, ask_one, ask_two, find};
+use crate::arguments::{One, Two};
+use crate::calls::{Asked, CallLine, ask, find};
 use crate::results::{Outcome, Shown, found, made, yes_or_no};
 use crate::tables::Table;
 use crate::wants::Wants;
@@ -9,28 +10,24 @@ use camp_seq::Seq;
 /// The calls on sets of contexted patches.
 #[derive(Clone, Copy)]
 pub(crate) enum SetCall {
-    Read,
-    Copy,
+    Set(OfSet),
     AreSame,
     Insert,
-    Without,
-    MemberCount,
-    Member,
-    Sole,
+    Label(OfLabel),
     MemberAt,
     AddOne,
     Add,
 }
 
 const CALLS: [(&[u8], SetCall); 11] = [
-    (b"read_set", SetCall::Read),
-    (b"copy_set", SetCall::Copy),
+    (b"read_set", SetCall::Set(OfSet::Read)),
+    (b"copy_set", SetCall::Set(OfSet::Copy)),
     (b"are_same_sets", SetCall::AreSame),
     (b"insert", SetCall::Insert),
-    (b"without", SetCall::Without),
-    (b"member_count", SetCall::MemberCount),
-    (b"member", SetCall::Member),
-    (b"sole", SetCall::Sole),
+    (b"without", SetCall::Label(OfLabel::Without)),
+    (b"member_count", SetCall::Set(OfSet::MemberCount)),
+    (b"member", SetCall::Label(OfLabel::Member)),
+    (b"sole", SetCall::Set(OfSet::Sole)),
     (b"member_at", SetCall::MemberAt),
     (b"add_one_to_set", SetCall::AddOne),
     (b"add_to_set", SetCall::Add),
@@ -45,63 +42,120 @@ impl SetCall {
     /// Reads the arguments of a line, and makes the call.
     pub(crate) fn ask(self, asked: CallLine<'_>, wants: &mut Wants) -> Outcome {
         match self {
-            SetCall::Read => ask_one(asked, wants, read),
-            SetCall::Copy => ask_one(asked, wants, copy),
-            SetCall::AreSame => ask_two(asked, wants, are_same),
-            SetCall::Insert => ask_two(asked, wants, insert),
-            SetCall::Without => ask_two(asked, wants, without),
-            SetCall::MemberCount => ask_one(asked, wants, member_count),
-            SetCall::Member => ask_two(asked, wants, member),
-            SetCall::Sole => ask_one(asked, wants, sole_member),
-            SetCall::MemberAt => ask_two(asked, wants, member_at),
-            SetCall::AddOne => ask_two(asked, wants, add_one),
-            SetCall::Add => ask_two(asked, wants, add),
+            SetCall::Set(call) => ask(asked, wants, call),
+            SetCall::AreSame => ask(asked, wants, AreSame),
+            SetCall::Insert => ask(asked, wants, Insert),
+            SetCall::Label(call) => ask(asked, wants, call),
+            SetCall::MemberAt => ask(asked, wants, MemberAt),
+            SetCall::AddOne => ask(asked, wants, AddOne),
+            SetCall::Add => ask(asked, wants, Add),
         }
     }
 }
 
-fn read(table: &Table, set: &ContextedSet) -> Outcome {
-    set.shown(table)
+/// Calls on a set alone.
+#[derive(Clone, Copy)]
+pub(crate) enum OfSet {
+    Read,
+    Copy,
+    MemberCount,
+    Sole,
 }
 
-fn copy(table: &Table, set: &ContextedSet) -> Outcome {
-    made(table, set.try_clone())
+impl Asked for OfSet {
+    type On = One<ContextedSet>;
+
+    fn answer(self, table: &Table, on: &One<ContextedSet>) -> Outcome {
+        let set = &on.first;
+        match self {
+            OfSet::Read => set.shown(table),
+            OfSet::Copy => made(table, set.try_clone()),
+            OfSet::MemberCount => member_count(table, set),
+            OfSet::Sole => found(table, set.sole()),
+        }
+    }
 }
 
-fn are_same(table: &Table, left: &ContextedSet, right: &ContextedSet) -> Outcome {
-    yes_or_no(table, left.is_same(right))
+/// Calls on a set and an absolute label, which is written as a label without a caret.
+#[derive(Clone, Copy)]
+pub(crate) enum OfLabel {
+    Member,
+    Without,
+}
+
+impl Asked for OfLabel {
+    type On = Two<ContextedSet, Label>;
+
+    fn answer(self, table: &Table, on: &Two<ContextedSet, Label>) -> Outcome {
+        let (set, label) = (&on.first, &on.rest.first);
+        match self {
+            OfLabel::Member => found(table, set.get(&label.key())),
+            OfLabel::Without => made(table, set.without(&label.key())),
+        }
+    }
+}
+
+/// Whether two sets are the same.
+#[derive(Clone, Copy)]
+pub(crate) struct AreSame;
+
+impl Asked for AreSame {
+    type On = Two<ContextedSet, ContextedSet>;
+
+    fn answer(self, table: &Table, on: &Two<ContextedSet, ContextedSet>) -> Outcome {
+        yes_or_no(table, on.first.is_same(&on.rest.first))
+    }
+}
+
+/// A set with one more member.
+#[derive(Clone, Copy)]
+pub(crate) struct Insert;
+
+impl Asked for Insert {
+    type On = Two<ContextedSet, Contexted>;
+
+    fn answer(self, table: &Table, on: &Two<ContextedSet, Contexted>) -> Outcome {
+        made(table, on.first.insert(&on.rest.first))
+    }
+}
+
+/// The member at a place.
+#[derive(Clone, Copy)]
+pub(crate) struct MemberAt;
+
+impl Asked for MemberAt {
+    type On = Two<ContextedSet, u32>;
+
+    fn answer(self, table: &Table, on: &Two<ContextedSet, u32>) -> Outcome {
+        found(table, on.first.at(on.rest.first as usize))
+    }
+}
+
+/// A primitive added to each member.
+#[derive(Clone, Copy)]
+pub(crate) struct AddOne;
+
+impl Asked for AddOne {
+    type On = Two<Named, ContextedSet>;
+
+    fn answer(self, table: &Table, on: &Two<Named, ContextedSet>) -> Outcome {
+        made(table, ContextedSet::add_one(&on.first, &on.rest.first))
+    }
+}
+
+/// A list added to each member.
+#[derive(Clone, Copy)]
+pub(crate) struct Add;
+
+impl Asked for Add {
+    type On = Two<Seq, ContextedSet>;
+
+    fn answer(self, table: &Table, on: &Two<Seq, ContextedSet>) -> Outcome {
+        made(table, ContextedSet::add(&on.first, &on.rest.first))
+    }
 }
 
 fn member_count(table: &Table, set: &ContextedSet) -> Outcome {
     let count = set.len();
     Ok(format!(in table.alloc(); "{count}")?)
-}
-
-/// An absolute label is written as a label without a caret.
-fn member(table: &Table, set: &ContextedSet, label: &Label) -> Outcome {
-    found(table, set.get(&label.key()))
-}
-
-fn member_at(table: &Table, set: &ContextedSet, index: &u32) -> Outcome {
-    found(table, set.at(*index as usize))
-}
-
-fn sole_member(table: &Table, set: &ContextedSet) -> Outcome {
-    found(table, set.sole())
-}
-
-fn insert(table: &Table, set: &ContextedSet, x: &Contexted) -> Outcome {
-    made(table, set.insert(x))
-}
-
-fn without(table: &Table, set: &ContextedSet, label: &Label) -> Outcome {
-    made(table, set.without(&label.key()))
-}
-
-fn add_one(table: &Table, p: &Named, set: &ContextedSet) -> Outcome {
-    made(table, ContextedSet::add_one(p, set))
-}
-
-fn add(table: &Table, s: &Seq, set: &ContextedSet) -> Outcome {
-    made(table, ContextedSet::add(s, set))
 }

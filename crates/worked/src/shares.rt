@@ -1,6 +1,7 @@
 ghost use Rattle.std.specs.Prelude.{◌≤◌, ◌<◌, IsTrue, length};
 
-use crate::calls::{CallLine, ask_four, ask_one, ask_three, ask_two, find};
+use crate::arguments::{Four, One, Three, Two};
+use crate::calls::{Asked, CallLine, ask, find};
 use crate::numbers::{Number, Numbers};
 use crate::places::Places;
 use crate::results::{Outcome, made, none};
@@ -13,33 +14,31 @@ use camp_share::{Share, SharedList};
 /// The calls on shared lists and maps.
 #[derive(Clone, Copy)]
 pub(crate) enum ShareCall {
-    ListToVec,
-    ListShared,
-    ListPushed,
-    ListInserted,
-    ListReplaced,
-    ListWithout,
-    ListSpliced,
-    ListCopied,
+    List(OfList),
+    Number(OfNumber),
+    Numbers(OfNumbers),
+    Spliced,
     MapShared,
-    MapInserted,
-    MapInsertedIfAbsent,
+    Entry(OfEntry),
     MapWithout,
     MapIntersection,
 }
 
 const CALLS: [(&[u8], ShareCall); 13] = [
-    (b"list_to_vec", ShareCall::ListToVec),
-    (b"list_shared", ShareCall::ListShared),
-    (b"list_pushed", ShareCall::ListPushed),
-    (b"list_inserted", ShareCall::ListInserted),
-    (b"list_replaced", ShareCall::ListReplaced),
-    (b"list_without", ShareCall::ListWithout),
-    (b"list_spliced", ShareCall::ListSpliced),
-    (b"list_copied", ShareCall::ListCopied),
+    (b"list_to_vec", ShareCall::List(OfList::ToVec)),
+    (b"list_shared", ShareCall::List(OfList::Shared)),
+    (b"list_pushed", ShareCall::Number(OfNumber::Pushed)),
+    (b"list_inserted", ShareCall::Numbers(OfNumbers::Inserted)),
+    (b"list_replaced", ShareCall::Numbers(OfNumbers::Replaced)),
+    (b"list_without", ShareCall::Number(OfNumber::Without)),
+    (b"list_spliced", ShareCall::Spliced),
+    (b"list_copied", ShareCall::Numbers(OfNumbers::Copied)),
     (b"map_shared", ShareCall::MapShared),
-    (b"map_inserted", ShareCall::MapInserted),
-    (b"map_inserted_if_absent", ShareCall::MapInsertedIfAbsent),
+    (b"map_inserted", ShareCall::Entry(OfEntry::Inserted)),
+    (
+        b"map_inserted_if_absent",
+        ShareCall::Entry(OfEntry::InsertedIfAbsent),
+    ),
     (b"map_without", ShareCall::MapWithout),
     (b"map_intersection", ShareCall::MapIntersection),
 ];
@@ -53,20 +52,150 @@ impl ShareCall {
     /// Reads the arguments of a line, and makes the call.
     pub(crate) fn ask(self, asked: CallLine<'_>, wants: &mut Wants) -> Outcome {
         match self {
-            ShareCall::ListToVec => ask_one(asked, wants, list_to_vec),
-            ShareCall::ListShared => ask_one(asked, wants, list_shared),
-            ShareCall::ListPushed => ask_two(asked, wants, list_pushed),
-            ShareCall::ListInserted => ask_three(asked, wants, list_inserted),
-            ShareCall::ListReplaced => ask_three(asked, wants, list_replaced),
-            ShareCall::ListWithout => ask_two(asked, wants, list_without),
-            ShareCall::ListSpliced => ask_four(asked, wants, list_spliced),
-            ShareCall::ListCopied => ask_three(asked, wants, list_copied),
-            ShareCall::MapShared => ask_one(asked, wants, map_shared),
-            ShareCall::MapInserted => ask_three(asked, wants, map_inserted),
-            ShareCall::MapInsertedIfAbsent => ask_three(asked, wants, map_inserted_if_absent),
-            ShareCall::MapWithout => ask_two(asked, wants, map_without),
-            ShareCall::MapIntersection => ask_two(asked, wants, map_intersection),
+            ShareCall::List(call) => ask(asked, wants, call),
+            ShareCall::Number(call) => ask(asked, wants, call),
+            ShareCall::Numbers(call) => ask(asked, wants, call),
+            ShareCall::Spliced => ask(asked, wants, Spliced),
+            ShareCall::MapShared => ask(asked, wants, MapShared),
+            ShareCall::Entry(call) => ask(asked, wants, call),
+            ShareCall::MapWithout => ask(asked, wants, MapWithout),
+            ShareCall::MapIntersection => ask(asked, wants, MapIntersection),
         }
+    }
+}
+
+/// Calls on a list.
+#[derive(Clone, Copy)]
+pub(crate) enum OfList {
+    ToVec,
+    Shared,
+}
+
+impl Asked for OfList {
+    type On = One<Numbers>;
+
+    fn answer(self, table: &Table, on: &One<Numbers>) -> Outcome {
+        let list = &on.first;
+        match self {
+            OfList::ToVec => list_to_vec(table, list),
+            OfList::Shared => made(table, list.share()),
+        }
+    }
+}
+
+/// Calls on a list and a number.
+#[derive(Clone, Copy)]
+pub(crate) enum OfNumber {
+    Pushed,
+    Without,
+}
+
+impl Asked for OfNumber {
+    type On = Two<Numbers, u32>;
+
+    fn answer(self, table: &Table, on: &Two<Numbers, u32>) -> Outcome {
+        let (list, number) = (&on.first, &on.rest.first);
+        match self {
+            OfNumber::Pushed => made(table, list.pushed(Number(*number))),
+            OfNumber::Without => list_without(table, list, number),
+        }
+    }
+}
+
+/// Calls on a list and two numbers.
+#[derive(Clone, Copy)]
+pub(crate) enum OfNumbers {
+    Inserted,
+    Replaced,
+    Copied,
+}
+
+impl Asked for OfNumbers {
+    type On = Three<Numbers, u32, u32>;
+
+    fn answer(self, table: &Table, on: &Three<Numbers, u32, u32>) -> Outcome {
+        let (list, at, number) = (&on.first, &on.rest.first, &on.rest.rest.first);
+        match self {
+            OfNumbers::Inserted => list_inserted(table, list, at, number),
+            OfNumbers::Replaced => list_replaced(table, list, at, number),
+            OfNumbers::Copied => list_copied(table, list, at, number),
+        }
+    }
+}
+
+/// A list with another one in place of a range.
+#[derive(Clone, Copy)]
+pub(crate) struct Spliced;
+
+impl Asked for Spliced {
+    type On = Four<Numbers, u32, u32, Numbers>;
+
+    fn answer(self, table: &Table, on: &Four<Numbers, u32, u32, Numbers>) -> Outcome {
+        list_spliced(
+            table,
+            &on.first,
+            &on.rest.first,
+            &on.rest.rest.first,
+            &on.rest.rest.rest.first,
+        )
+    }
+}
+
+/// A map.
+#[derive(Clone, Copy)]
+pub(crate) struct MapShared;
+
+impl Asked for MapShared {
+    type On = One<Places>;
+
+    fn answer(self, table: &Table, on: &One<Places>) -> Outcome {
+        made(table, on.first.share())
+    }
+}
+
+/// Calls on a map and an entry.
+#[derive(Clone, Copy)]
+pub(crate) enum OfEntry {
+    Inserted,
+    InsertedIfAbsent,
+}
+
+impl Asked for OfEntry {
+    type On = Three<Places, Name, u32>;
+
+    fn answer(self, table: &Table, on: &Three<Places, Name, u32>) -> Outcome {
+        let (map, name, number) = (&on.first, &on.rest.first, &on.rest.rest.first);
+        match self {
+            OfEntry::Inserted => made(table, map.inserted(*name, Number(*number))),
+            OfEntry::InsertedIfAbsent => made(
+                table,
+                map.inserted_if_absent(*name, Number(*number)),
+            ),
+        }
+    }
+}
+
+/// A map without a name.
+#[derive(Clone, Copy)]
+pub(crate) struct MapWithout;
+
+impl Asked for MapWithout {
+    type On = Two<Places, Name>;
+
+    fn answer(self, table: &Table, on: &Two<Places, Name>) -> Outcome {
+        made(table, on.first.without(&on.rest.first))
+    }
+}
+
+/// The entries of a map whose names another one has.
+#[derive(Clone, Copy)]
+pub(crate) struct MapIntersection;
+
+impl Asked for MapIntersection {
+    type On = Two<Places, Places>;
+
+    fn answer(self, table: &Table, on: &Two<Places, Places>) -> Outcome {
+        made(table, on.first.intersection(&on.rest.first))
     }
 }
 
@@ -76,14 +205,6 @@ fn list_to_vec(table: &Table, list: &Numbers) -> Outcome {
         Ok(items) => made(table, SharedList::from_items(table.alloc(), &items)),
         Err(_) => Err(NotationError::Memory),
     }
-}
-
-fn list_shared(table: &Table, list: &Numbers) -> Outcome {
-    made(table, list.share())
-}
-
-fn list_pushed(table: &Table, list: &Numbers, number: &u32) -> Outcome {
-    made(table, list.pushed(Number(*number)))
 }
 
 fn list_inserted(table: &Table, list: &Numbers, at: &u32, number: &u32) -> Outcome {
@@ -134,24 +255,4 @@ fn is_range(list: &Numbers, from: usize, to: usize) -> bool
     ensures to { IsTrue result → to ≤ length list.now }
 {
     from <= to && to <= list.len()
-}
-
-fn map_shared(table: &Table, map: &Places) -> Outcome {
-    made(table, map.share())
-}
-
-fn map_inserted(table: &Table, map: &Places, name: &Name, number: &u32) -> Outcome {
-    made(table, map.inserted(*name, Number(*number)))
-}
-
-fn map_inserted_if_absent(table: &Table, map: &Places, name: &Name, number: &u32) -> Outcome {
-    made(table, map.inserted_if_absent(*name, Number(*number)))
-}
-
-fn map_without(table: &Table, map: &Places, name: &Name) -> Outcome {
-    made(table, map.without(name))
-}
-
-fn map_intersection(table: &Table, map: &Places, others: &Places) -> Outcome {
-    made(table, map.intersection(others))
 }

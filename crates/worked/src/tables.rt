@@ -4,12 +4,13 @@ use camp_prim::Named;
 use std::alloc::{AllocError, AllocFailed, Global};
 
 /// What the lines of a table have told so far: the primitives that have a line of their own, their
-/// inverses, and the names of other values.
+/// inverses, and the names of other values; and whether values that are made are shown.
 #[derive(Drop)]
 pub(crate) struct Table {
     alloc: Global,
     known: Vec<Named>,
     bound: Vec<Binding>,
+    is_quiet: bool,
 }
 
 /// A name, and the text that it stands for.
@@ -39,6 +40,7 @@ impl Table {
             alloc,
             known: Vec::new(alloc),
             bound: Vec::new(alloc),
+            is_quiet: false,
         }
     }
 
@@ -48,6 +50,11 @@ impl Table {
 
     pub(crate) fn known(&self) -> &[Named] {
         &self.known
+    }
+
+    /// Whether a value that a call makes is not shown.
+    pub(crate) fn is_quiet(&self) -> bool {
+        self.is_quiet
     }
 
     /// What a word stands for: itself, where it is bound to nothing.
@@ -69,6 +76,10 @@ impl Table {
             self.forget();
             return Ok(());
         }
+        if line == b"quiet".as_slice() {
+            self.is_quiet = true;
+            return Ok(());
+        }
         match line.split_once_str(b" = ") {
             Some((name, text)) if !name.contains(&b' ') => self.bind(name, text),
             _ => self.know(line),
@@ -79,6 +90,7 @@ impl Table {
     fn forget(&mut self) {
         self.known.clear();
         self.bound.clear();
+        self.is_quiet = false;
     }
 
     // A later line of the same name counts in place of an earlier one.

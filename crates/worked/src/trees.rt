@@ -1,4 +1,5 @@
-use crate::calls::{CallLine, ask_five, ask_one, ask_two, find};
+use crate::arguments::{Five, One, Two};
+use crate::calls::{Asked, CallLine, ask, find};
 use crate::results::{Outcome, changed, made, none, yes_or_no};
 use crate::tables::Table;
 use crate::wants::Wants;
@@ -11,26 +12,22 @@ use std::alloc::AllocError;
 /// The calls on trees.
 #[derive(Clone, Copy)]
 pub(crate) enum TreeCall {
-    FileCount,
-    IsEmpty,
-    File,
-    At,
-    Copy,
-    AddFile,
-    RemoveFile,
-    Splice,
+    Tree(OfTree),
+    Path(OfPath),
+    FileAt,
+    SpliceFile,
     AreSame,
 }
 
 const CALLS: [(&[u8], TreeCall); 9] = [
-    (b"len", TreeCall::FileCount),
-    (b"is_empty", TreeCall::IsEmpty),
-    (b"file", TreeCall::File),
-    (b"at", TreeCall::At),
-    (b"copy_tree", TreeCall::Copy),
-    (b"add_file", TreeCall::AddFile),
-    (b"remove_file", TreeCall::RemoveFile),
-    (b"splice", TreeCall::Splice),
+    (b"len", TreeCall::Tree(OfTree::FileCount)),
+    (b"is_empty", TreeCall::Tree(OfTree::IsEmpty)),
+    (b"file", TreeCall::Path(OfPath::File)),
+    (b"at", TreeCall::FileAt),
+    (b"copy_tree", TreeCall::Tree(OfTree::Copy)),
+    (b"add_file", TreeCall::Path(OfPath::Add)),
+    (b"remove_file", TreeCall::Path(OfPath::Remove)),
+    (b"splice", TreeCall::SpliceFile),
     (b"are_same_trees", TreeCall::AreSame),
 ];
 
@@ -43,26 +40,103 @@ impl TreeCall {
     /// Reads the arguments of a line, and makes the call.
     pub(crate) fn ask(self, asked: CallLine<'_>, wants: &mut Wants) -> Outcome {
         match self {
-            TreeCall::FileCount => ask_one(asked, wants, file_count),
-            TreeCall::IsEmpty => ask_one(asked, wants, is_empty),
-            TreeCall::File => ask_two(asked, wants, file),
-            TreeCall::At => ask_two(asked, wants, at),
-            TreeCall::Copy => ask_one(asked, wants, copy),
-            TreeCall::AddFile => ask_two(asked, wants, add_file),
-            TreeCall::RemoveFile => ask_two(asked, wants, remove_file),
-            TreeCall::Splice => ask_five(asked, wants, splice),
-            TreeCall::AreSame => ask_two(asked, wants, are_same_trees),
+            TreeCall::Tree(call) => ask(asked, wants, call),
+            TreeCall::Path(call) => ask(asked, wants, call),
+            TreeCall::FileAt => ask(asked, wants, FileAt),
+            TreeCall::SpliceFile => ask(asked, wants, SpliceFile),
+            TreeCall::AreSame => ask(asked, wants, AreSame),
         }
+    }
+}
+
+/// Calls on a tree alone.
+#[derive(Clone, Copy)]
+pub(crate) enum OfTree {
+    FileCount,
+    IsEmpty,
+    Copy,
+}
+
+impl Asked for OfTree {
+    type On = One<Tree>;
+
+    fn answer(self, table: &Table, on: &One<Tree>) -> Outcome {
+        let tree = &on.first;
+        match self {
+            OfTree::FileCount => file_count(table, tree),
+            OfTree::IsEmpty => yes_or_no(table, tree.is_empty()),
+            OfTree::Copy => made(table, tree.try_clone()),
+        }
+    }
+}
+
+/// Calls on a tree and a path.
+#[derive(Clone, Copy)]
+pub(crate) enum OfPath {
+    File,
+    Add,
+    Remove,
+}
+
+impl Asked for OfPath {
+    type On = Two<Tree, Path>;
+
+    fn answer(self, table: &Table, on: &Two<Tree, Path>) -> Outcome {
+        let (tree, path) = (&on.first, &on.rest.first);
+        match self {
+            OfPath::File => file(table, tree, path),
+            OfPath::Add => add_file(table, tree, path),
+            OfPath::Remove => remove_file(table, tree, path),
+        }
+    }
+}
+
+/// The file at a place.
+#[derive(Clone, Copy)]
+pub(crate) struct FileAt;
+
+impl Asked for FileAt {
+    type On = Two<Tree, u32>;
+
+    fn answer(self, table: &Table, on: &Two<Tree, u32>) -> Outcome {
+        at(table, &on.first, &on.rest.first)
+    }
+}
+
+/// Lines in place of others.
+#[derive(Clone, Copy)]
+pub(crate) struct SpliceFile;
+
+impl Asked for SpliceFile {
+    type On = Five<Tree, Path, u32, Lines, Lines>;
+
+    fn answer(self, table: &Table, on: &Five<Tree, Path, u32, Lines, Lines>) -> Outcome {
+        splice(
+            table,
+            &on.first,
+            &on.rest.first,
+            &on.rest.rest.first,
+            &on.rest.rest.rest.first,
+            &on.rest.rest.rest.rest.first,
+        )
+    }
+}
+
+/// Whether two trees are the same.
+#[derive(Clone, Copy)]
+pub(crate) struct AreSame;
+
+impl Asked for AreSame {
+    type On = Two<Tree, Tree>;
+
+    fn answer(self, table: &Table, on: &Two<Tree, Tree>) -> Outcome {
+        yes_or_no(table, on.first.is_same(&on.rest.first))
     }
 }
 
 fn file_count(table: &Table, tree: &Tree) -> Outcome {
     let count = tree.len();
     Ok(format!(in table.alloc(); "{count}")?)
-}
-
-fn is_empty(table: &Table, tree: &Tree) -> Outcome {
-    yes_or_no(table, tree.is_empty())
 }
 
 fn file(table: &Table, tree: &Tree, path: &Path) -> Outcome {
@@ -89,10 +163,6 @@ fn entry_text(table: &Table, path: &Path, lines: &SharedList<Line>) -> Result<St
     format!(in table.alloc(); "{path}: {lines}")
 }
 
-fn copy(table: &Table, tree: &Tree) -> Outcome {
-    made(table, tree.try_clone())
-}
-
 fn add_file(table: &Table, before: &Tree, path: &Path) -> Outcome {
     let mut tree = before.try_clone()?;
     let answer = tree.add_file(path);
@@ -116,8 +186,4 @@ fn splice(
     let mut tree = before.try_clone()?;
     let answer = tree.splice(path, *line, old.as_slice(), new.as_slice());
     changed(table, before, tree, answer)
-}
-
-fn are_same_trees(table: &Table, left: &Tree, right: &Tree) -> Outcome {
-    yes_or_no(table, left.is_same(right))
 }

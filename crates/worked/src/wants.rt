@@ -1,6 +1,6 @@
 use std::alloc::{AllocError, Global};
 use std::env::{Env, FillError};
-use std::io::ErrorKind;
+use std::io::{ErrorKind, Write};
 use std::{io, str};
 
 /// How many lines have wanted memory. Only one allocation is refused, so only one may.
@@ -30,15 +30,32 @@ impl Wants {
 }
 
 /// Makes, and lets go, so many allocations that the refused one, of the number that the second argument
-/// tells, is of the number that the first one tells. Without an argument it makes none.
+/// tells, is of the number that the first one tells. Without a second argument it makes none.
 pub(crate) fn allocate_before(rt: &impl Env, alloc: Global) -> io::Result<()> {
     match (number_at(rt, 1)?, number_at(rt, 2)?) {
         (Some(number), Some(refused)) => {
             Ok(allocate_each(alloc, refused.saturating_sub(number))?)
         }
-        (None, None) => Ok(()),
-        _ => Err(ErrorKind::InvalidInput.into()),
+        _ => Ok(()),
     }
+}
+
+/// Tells behind the lines how many allocations are made before one is refused, of as many as the first
+/// argument tells, where there is no second one.
+pub(crate) fn tell_room<W: Write>(rt: &impl Env, alloc: Global, out: &mut W) -> io::Result<()> {
+    match (number_at(rt, 1)?, number_at(rt, 2)?) {
+        (Some(most), None) => writeln!(out, "room {}", room(alloc, most)),
+        _ => Ok(()),
+    }
+}
+
+fn room(alloc: Global, most: u32) -> u32 {
+    for count in 0..most {
+        if allocate(alloc).is_err() {
+            return count;
+        }
+    }
+    most
 }
 
 /// The number that an argument tells, where there is one.
