@@ -6,12 +6,4 @@ mod clients;
 #[cfg(test)]
 mod ends;
 #[cfg(test)]
-mod objects;
-#[cfg(test)]
-mod options;
-#[cfg(test)]
-mod rows;
-#[cfg(test)]
-mod shares;
-#[cfg(test)]
 mod texts;
