@@ -1,7 +1,10 @@
 -- The conflicts of a branch: which they are, and that they are one list.
-use Rattle.camp_branch.proofs.Words.{◌≡◌, ◌⊎◌, ℕ, true, Option, None, Some, List, [], ◌∷◌, map, is_some, refl, sym, ap, ◌∙◌, subst, inl, inr, Contains-append_cases, Contains-append_left, Contains-append_right, Contains-from_any, list_any-from_Contains, tells_apart, Contains, flat_map, ordering_reverse, eq_by_cmp_equiv, nat_list_cmp_total, contains_key-keys, get, keys, Ordering, Less, Equal, Greater, Key, key_total, key_ties, ContextedPatches, ContextedPatch, Catch, Plain, name_of, AreConflicts, AreInConflict, ConflictsWith, IsBetween, names_against, names_within, ordered_by, pair_of, pairs_at, pairs_in, ConflictsAreDetermined, ◌<◌, length, get_or, arith, length-map, get_or-map, Contains-get_or}
+use Rattle.camp_branch.proofs.Words.{◌≡◌, ◌⊎◌, ℕ, true, Option, None, Some, List, [], ◌∷◌, map, is_some, refl, sym, ap, ◌∙◌, subst, inl, inr, Contains-append_cases, Contains-append_left, Contains-append_right, Contains-from_any, list_any-from_Contains, tells_apart, Contains, flat_map, ordering_reverse, eq_by_cmp_equiv, nat_list_cmp_total, contains_key-keys, get, keys, Ordering, Less, Equal, Greater, Key, key_total, key_ties, ContextedPatches, ContextedPatch, Catch, Plain, name_of, AreConflicts, AreInConflict, ConflictsWith, IsBetween, names_against, names_within, ordered_by, pair_of, pairs_at, pairs_in, ConflictsAreDetermined, ◌<◌, length, get_or, arith, length-map, get_or-map, Contains-get_or, ◌≤◌, ◌+◌, ◌++◌, suc, take, flat_map_more, map-append, take_all, slice_get, entries, entries_sorted, get-entries, len, AreKeyed, context_key, count_of_members, members_of}
 use Rattle.camp_branch.proofs.Names.{has_image}
 use Rattle.camp_branch.proofs.SortedPairs.{IsInOrder, Pair, Within, ascending_once, by_name, first_or_later, has_first, has_later, in_order, no_member}
+use Rattle.std.proofs.lemmas.Option.{none-some, slice_get_cases}
+use Rattle.camp_prim.specs.Labels.{key_cmp}
+use Rattle.camp_ctx.proofs.EntrySteps.{found_at, take_push}
 
 -- what one of the lists has that the elements of a list make
 has_of_each : {X A : Type 0} (f : X → List A) (list : List X) (x : X) (y : A) → Contains list x → Contains (f x) y → Contains (flat_map f list) y
@@ -109,3 +112,37 @@ conflicts_are_determined branch =
     let all = in_order (pairs_in branch) in
     let are = conflicts_by branch all.0 all.1 in
     (all.0, are, λ other also. ascending_once other all.0 also.ascending are.ascending (both_list branch other all.0 also are) (both_list branch all.0 other are also))
+
+-- the name of the patch of a member
+abbrev pub member_name : ContextedPatch → List ℕ
+member_name x = x.patch.name
+
+names_by_index : (es : List (Key × ContextedPatch)) → ((i : ℕ) (k : Key) (x : ContextedPatch) → slice_get es i ≡ Some (k, x) → k ≡ context_key x) → map (λ key. key.name) (map (λ (e : Key × ContextedPatch). e.0) es) ≡ map member_name (map (λ (e : Key × ContextedPatch). e.1) es)
+names_by_index [] own = refl
+names_by_index (e ∷ es) own =
+    λ t. (own 0 e.0 e.1 refl t).name ∷ names_by_index es (λ i k x is. own (suc i) k x is) t
+
+-- the names of the labels are those of the members
+pub names_of_members : (xs : ContextedPatches) → AreKeyed xs → names_within xs ≡ map member_name (members_of xs)
+names_of_members xs keyed =
+    names_by_index (entries xs) (λ i k x is. keyed k x (get-entries xs k ∙ found_at key_cmp key_total (entries xs) i k x is (entries_sorted xs)))
+
+-- the pairs of a name with those of one more member
+pub one_more_paired : (name : List ℕ) (members : List ContextedPatch) (i : ℕ) (x : ContextedPatch) (old list next : List Pair) → slice_get members i ≡ Some x → list ≡ old ++ flat_map (pair_of name) (map member_name (take i members)) → next ≡ list ++ pair_of name (member_name x) → next ≡ old ++ flat_map (pair_of name) (map member_name (take (i + 1) members))
+one_more_paired name members i x old list next at was becomes =
+    let grown : map member_name (take (i + 1) members) ≡ map member_name (take i members) ++ member_name x ∷ [] =
+    ap (map member_name) (take_push members i x at) ∙ map-append member_name (take i members) (x ∷ []) in
+    becomes ∙ ap (λ l. l ++ pair_of name (member_name x)) was ∙ flat_map_more (pair_of name) old (map member_name (take i members)) (member_name x) ∙ ap (λ names. old ++ flat_map (pair_of name) names) (sym grown)
+
+pub all_paired : (name : List ℕ) (xs : ContextedPatches) (i n : ℕ) (old list : List Pair) → AreKeyed xs → n ≡ len xs → n ≤ i → list ≡ old ++ flat_map (pair_of name) (map member_name (take i (members_of xs))) → list ≡ old ++ flat_map (pair_of name) (names_within xs)
+all_paired name xs i n old list keyed counted past was =
+    let long = count_of_members xs in
+    let whole : take i (members_of xs) ≡ members_of xs = take_all i (members_of xs) (omega arith) in
+    was ∙ ap (λ l. old ++ flat_map (pair_of name) l) (ap (map member_name) whole ∙ sym (names_of_members xs keyed))
+
+-- no place below the number of members is empty
+pub some_member : {A : Type 0} (xs : ContextedPatches) (i n : ℕ) → n ≡ len xs → i < n → slice_get (members_of xs) i ≡ None → A
+some_member xs i n counted within none = absurd (elim (slice_get_cases (members_of xs) i).1 [
+  | inl there ↦ none-some there.0 (sym none ∙ there.2)
+  | inr past ↦ omega (arith, past.0, count_of_members xs)
+])

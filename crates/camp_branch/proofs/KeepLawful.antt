@@ -1,5 +1,5 @@
 -- Branches stay lawful.
-use Rattle.camp_branch.proofs.Words.{◌++◌, refl, empty, TreesAreDetermined, PullsKeepLawful, ObliteratesKeepLawful, RecordsKeepLawful, others_of, those_of}
+use Rattle.camp_branch.proofs.Words.{◌++◌, refl, empty, TreesAreDetermined, PullsKeepLawful, ObliteratesKeepLawful, RecordsKeepLawful, others_of, those_of, List, Catch, Patch, HasPatches, Files, LeadsTo, IsLawfulBranch}
 use Rattle.camp_branch.proofs.BranchLabels.{left_patches, names_of_left, names_of_pulled, pulled_patches, recorded_patches}
 use Rattle.camp_branch.proofs.BranchTrees.{left_tree, one_end, pulled_tree, recorded_tree, tree_of_effects}
 
@@ -9,19 +9,16 @@ trees_are_determined = record {
   effects = λ branch tree v. tree_of_effects branch empty tree v;
 }
 
+lawful_by : (branch : List Catch) (patches : List Patch) → HasPatches branch patches → (tree : Files) × LeadsTo branch tree → IsLawfulBranch branch
+lawful_by branch patches has tree = record { patches = patches; has = has; tree = tree.0; leads = tree.1 }
+
 pub pulls_keep_lawful : PullsKeepLawful
 pulls_keep_lawful = record {
   patches = pulled_patches;
   names = λ from to pulled wanted gives v w lacked.
       names_of_pulled from to pulled wanted v.patches w.patches v.has w.has (pulled_patches from to pulled wanted v.patches w.patches gives v.has w.has lacked);
   lawful = λ from to pulled wanted gives v w lacked.
-      let tree = pulled_tree from to pulled wanted v.tree w.tree gives v.leads w.leads in
-      record {
-        patches = w.patches ++ those_of wanted v.patches;
-        has = pulled_patches from to pulled wanted v.patches w.patches gives v.has w.has lacked;
-        tree = tree.0;
-        leads = tree.1;
-      };
+      lawful_by pulled (w.patches ++ those_of wanted v.patches) (pulled_patches from to pulled wanted v.patches w.patches gives v.has w.has lacked) (pulled_tree from to pulled wanted v.tree w.tree gives v.leads w.leads);
 }
 
 pub obliterates_keep_lawful : ObliteratesKeepLawful
@@ -30,13 +27,7 @@ obliterates_keep_lawful = record {
   names = λ branch left names gives v.
       names_of_left branch left names v.patches v.has (left_patches branch left names v.patches gives v.has);
   lawful = λ branch left names gives v.
-      let tree = left_tree branch left names v.tree gives v.leads in
-      record {
-        patches = others_of names v.patches;
-        has = left_patches branch left names v.patches gives v.has;
-        tree = tree.0;
-        leads = tree.1;
-      };
+      lawful_by left (others_of names v.patches) (left_patches branch left names v.patches gives v.has) (left_tree branch left names v.tree gives v.leads);
 }
 
 pub records_keep_lawful : RecordsKeepLawful

@@ -3,14 +3,11 @@ pub mod BranchFields
 pub mod BranchLabels
 pub mod BranchTrees
 pub mod ConflictsDetermined
-pub mod Differences
 pub mod EffectSteps
 pub mod Fronts
 pub mod KeepLawful
-pub mod MemberNames
 pub mod NameSets
 pub mod Names
-pub mod NamesBehind
 pub mod NamesKept
 pub mod NewEnds
 pub mod OutcomesDetermined
@@ -18,5 +15,4 @@ pub mod PullSteps
 pub mod PullsBehind
 pub mod SortedPairs
 pub mod Steps
-pub mod Undone
 pub mod Words

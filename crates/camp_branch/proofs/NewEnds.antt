@@ -1,8 +1,7 @@
 -- Branches whose last catches are brought into another order, and then end before some of them.
 use Rattle.camp_branch.proofs.Words.{◌≡◌, ◌++◌, ℕ, List, take, drop, length, flat_map, sym, ap, ◌∙◌, subst, arith, append-nil, drop_all, take-append-drop, empty, splice, Files, AppliesAll, Arrange, FitsAll, effect_of, Catch, lists_keep_effects, LeadsTo}
 use Rattle.camp_branch.proofs.BranchTrees.{joined_fits, tree_of_effects}
-use Rattle.camp_branch.proofs.EffectSteps.{second_fits}
-use Rattle.camp_branch.proofs.Undone.{one_start}
+use Rattle.camp_branch.proofs.EffectSteps.{second_fits, one_start}
 
 -- the list with another end
 pub end_replaced : (catches own new next : List Catch) (start n : ℕ) → n ≡ length catches → catches ≡ own → next ≡ splice catches start n new → next ≡ take start own ++ new

@@ -1,5 +1,5 @@
 -- The stages of a pull, put together.
-use Rattle.camp_branch.proofs.Words.{ℕ, List, ◌++◌, Result, Ok, Err, refl, ap, inl, inr, IfOk, Arrange, Align, keys_of, MergeLists, Catch, DependsIn, DoesNotMerge, Outcome, MergesBehind, PullBy, Blocked}
+use Rattle.camp_branch.proofs.Words.{ℕ, List, ◌++◌, Result, Ok, Err, refl, ap, inl, inr, IfOk, Arrange, Align, keys_of, MergeLists, Catch, DependsIn, DoesNotMerge, Outcome, MergesBehind, PullBy, Blocked, ◌≡◌, DiffersAt}
 use Rattle.std.specs.Result.{MatchResult}
 
 -- what is said of either answer follows from what is said of it before
@@ -21,3 +21,8 @@ module _ (common : List (List ℕ)) (from to : List Catch) (wanted : List (List 
 
   pub goes_behind : (chosen left : List Catch) → Arrange wanted behind chosen left → (outcome : Outcome) → MergesBehind common from_common chosen to outcome → PullBy common from to wanted outcome
   goes_behind chosen left choice outcome w = inl (from_common, behind, front, inl (chosen, left, choice, w))
+
+-- the lists differ, or are the same, as the rests of them
+pub record DiffersOn (list others rest more : List Catch) : Type 0 where
+  pub differs : (name : List ℕ) → DiffersAt rest more name → DiffersAt list others name
+  pub same : rest ≡ more → list ≡ others

@@ -27,7 +27,11 @@ pub use Rattle.camp_prim.specs.declared.primitives.Primitive.{Primitive}
 pub use Rattle.camp_catch.proofs.MoveSteps.{names_decide, stands_at}
 pub use Rattle.camp_catch.specs.Arranging.{Align, AlignSticks, Arrange, ArrangeSticks, ArrangesBehind, ComesFirst, IsOf, SticksBehind}
 pub use Rattle.std.proofs.lemmas.List.Folds.{list_any-append}
+pub use Rattle.camp_branch.specs.Inside.Fronts.{front_of}
+pub use Rattle.camp_branch.specs.Inside.Stages.{DependsIn, DoesNotMerge}
 pub use Rattle.std.proofs.lemmas.Map.Text.{is_eq-slice_cmp}
+pub use Rattle.camp_catch.specs.Catches.{FitsAll, catch_key, effect_of}
+pub use Rattle.camp_catch.specs.Laws.{KeysPart, keys_of}
 pub use Rattle.std.proofs.lemmas.Map.Views.{Contains-from_any, list_any-from_Contains, tells_apart}
 pub use Rattle.std.specs.Cmp.{IsTotalOrder, both_tied, eq_by_cmp_equiv, on_total, then_total, tied_itself}
 pub use Rattle.std.specs.Cmp.Lexicographic.{nat_list_cmp_total, slice_cmp, texts_ties}
@@ -37,13 +41,9 @@ pub use Rattle.std.specs.Ordering.{eq_by_cmp, nat_cmp, ordering_reverse, orderin
 pub use Rattle.std.specs.Prelude.{AllPairs, IfOk, ◌↔◌}
 pub use Rattle.std.specs.declared.cmp.Ordering.{Ordering}
 pub use Rattle.std.specs.declared.cmp.Ordering.TheVariants.{Equal, Greater, Less}
-pub use Rattle.camp_catch.specs.Catches.{FitsAll, catch_key, effect_of}
-pub use Rattle.camp_catch.specs.Laws.{KeysPart, keys_of}
 pub use Rattle.camp_catch.specs.MergingLists.{MergeLists, MergeSticks}
 pub use Rattle.camp_catch.specs.declared.catches.Catch.{Catch}
 pub use Rattle.camp_catch.specs.declared.catches.Catch.TheVariants.{Plain}
-pub use Rattle.camp_branch.specs.Inside.Fronts.{front_of}
-pub use Rattle.camp_branch.specs.Inside.Stages.{DependsIn, DoesNotMerge}
 pub use Rattle.camp_branch.specs.Laws.{AppliesEach, ConflictsAreDetermined, ExactlyOne, ObliteratesKeepLawful, OutcomesAreDetermined, PullsBeginWithOwn, PullsKeepLawful, RecordsKeepLawful, TreesAreDetermined, others_of, those_of}
 pub use Rattle.camp_branch.specs.Obliterating.{ObliterateGives, other_names}
 pub use Rattle.camp_branch.specs.Pulling.{DiffersAt, MergedLast, MergesBehind, Outcome, PullBy, PullGives, SameThen, StepThen, common_names}

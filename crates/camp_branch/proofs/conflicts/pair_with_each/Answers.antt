@@ -1,5 +1,5 @@
 use Rattle.camp_branch.proofs.Words.{ap, ◌∙◌, ◌++◌, members_of, pair_of}
-use Rattle.camp_branch.proofs.MemberNames.{all_paired, one_more_paired, some_member}
+use Rattle.camp_branch.proofs.ConflictsDetermined.{all_paired, one_more_paired, some_member}
 use Rattle.camp_branch.proofs.conflicts.pair_with_each.Goals.{in-Some+in_ok-push_pair, in_default}
 use Rattle.camp_branch.proofs.conflicts.pair_with_each.Goals as goal
 

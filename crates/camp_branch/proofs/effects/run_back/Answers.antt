@@ -1,5 +1,5 @@
 use Rattle.camp_branch.proofs.Words.{◌-◌, arith}
-use Rattle.camp_branch.proofs.Undone.{goes_back, one_back}
+use Rattle.camp_branch.proofs.EffectSteps.{goes_back, one_back}
 use Rattle.camp_branch.proofs.effects.run_back.Goals as goal
 
 pub unreachable-requires : goal.unreachable-requires

@@ -1,5 +1,5 @@
 use Rattle.camp_branch.proofs.Words.{◌-◌, arith, ◌∙◌, ap, effect_of}
-use Rattle.camp_branch.proofs.Undone.{effect_goes_back, one_effect_back}
+use Rattle.camp_branch.proofs.EffectSteps.{effect_goes_back, one_effect_back}
 use Rattle.camp_branch.proofs.effects.tree_before.Goals as goal
 
 pub run_back-requires : goal.run_back-requires

@@ -1,5 +1,5 @@
 use Rattle.camp_branch.proofs.Words.{drop, AppliesAll}
-use Rattle.camp_branch.proofs.Undone.{effects_of}
+use Rattle.camp_branch.proofs.EffectSteps.{effects_of}
 use Rattle.camp_branch.proofs.effects.tree_before.Given as goal
 
 abbrev pub invariant-loop-at : goal.invariant-loop-at

@@ -1,5 +1,5 @@
 use Rattle.camp_branch.proofs.Words.{drop}
-use Rattle.camp_branch.proofs.Differences.{DiffersOn}
+use Rattle.camp_branch.proofs.PullSteps.{DiffersOn}
 use Rattle.camp_branch.proofs.pulls.first_difference.Given as goal
 
 abbrev pub invariant-loop-at : goal.invariant-loop-at
