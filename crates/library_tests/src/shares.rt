@@ -104,7 +104,7 @@ fn is_spliced(
     has(&list.spliced(from, to, two)?, &want)
 }
 
-/// Whether a vector and a list of a range of a list, and the list there, have just these elements.
+/// Whether the list of a range of a list, and the list there, have just these elements.
 fn is_copied(
     list: &SharedList<Number>,
     from: usize,
@@ -112,10 +112,6 @@ fn is_copied(
     items: &[Number],
 ) -> Result<bool, AllocError> {
     if to < from || list.len() < to {
-        return Ok(false);
-    }
-    let read = list.range_to_vec(from, to)?;
-    if read.as_slice() != items {
         return Ok(false);
     }
     Ok(list.has_at(from, items) && has(&list.copied(from, to)?, items)?)
