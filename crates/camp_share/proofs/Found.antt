@@ -43,6 +43,11 @@ module _ {K X : Type 0} (R : K → K → Ordering) where
   above_behind o k [] (y ∷ ys) some h all = all
   above_behind o k (x ∷ xs) (y ∷ ys) some h all = (o.trans x.0 y.0 k (below_next x.0 xs ys y (first _ _ h)) all.0, above_behind o k xs (y ∷ ys) some (second _ _ h) all)
 
+  -- a key above two lists of entries is above them one behind the other
+  pub above_both : (k : K) (xs ys : List (K × X)) → IsAbove R xs k → IsAbove R ys k → IsAbove R (xs ++ ys) k
+  above_both k [] ys h all = all
+  above_both k (x ∷ xs) ys h all = (h.0, above_both k xs ys h.1 all)
+
   pub last_above : (k : K) (xs : List (K × X)) (e : K × X) → IsAbove R (xs ++ e ∷ []) k → R e.0 k ≡ Less
   last_above k [] e h = h.0
   last_above k (x ∷ xs) e h = last_above k xs e h.1

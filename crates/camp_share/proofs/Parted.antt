@@ -1,18 +1,21 @@
 -- A key's place among entries in parts, from its place in one part.
 use Rattle.std.proofs.Common.{◌≡◌, ◌↔◌, ℕ, ◌+◌, ◌-◌, ◌<◌, ◌≤◌, Bool, true, T, List, [], ◌∷◌, ◌++◌, length, get_or, take, drop, IsTrue, Some, sym, ap, subst, ◌∙◌, refl, arith}
-use Rattle.std.proofs.lemmas.List.{length-append, take-append-drop, take_all, take_more, get_or-append-add, get_or_append_left}
+use Rattle.std.proofs.lemmas.List.{length-append, length-drop, append-nil, append_assoc, drop-drop, drop_at, get_or-drop, take-append-drop, take-append-le, take_all, take_more, get_or-append-add, get_or_append_left}
 use Rattle.std.proofs.lemmas.Grind.{flat_map-append}
+use Rattle.std.proofs.lemmas.List.Elements.{All-drop, All-take}
+use Rattle.std.proofs.Math.Seq.{take-add}
+use Rattle.std.specs.List.{All}
 use Rattle.std.specs.declared.cmp.Ordering.{Ordering}
 use Rattle.std.specs.declared.cmp.Ordering.TheVariants.{Less, Equal, Greater}
 use Rattle.std.specs.declared.vec.Vec.{Vec}
 use Rattle.std.specs.Ordering.{is_lt}
 use Rattle.std.specs.Cmp.{IsTotalOrder}
 use Rattle.std.specs.FinMap.Entries.{is_sorted, find}
-use Rattle.camp_share.specs.Inside.Parts.{joined}
+use Rattle.camp_share.specs.Inside.Parts.{joined, IsPart}
 use Rattle.camp_share.specs.Inside.Places.{IsAt, WouldBeAt, IsAbove}
 use Rattle.camp_share.proofs.Entries.{is_less, present, at_within}
-use Rattle.camp_share.proofs.Found.{sorted_left, sorted_right, above_last, above_behind, last_above, above_would, would_behind, would_front, at_behind, at_front}
-use Rattle.camp_share.proofs.PartLemmas.{from_here, up_to_here}
+use Rattle.camp_share.proofs.Found.{sorted_left, sorted_right, above_last, above_behind, above_both, last_above, above_would, would_behind, would_front, at_behind, at_front}
+use Rattle.camp_share.proofs.PartLemmas.{closed_passed, from_here, up_to_here}
 
 less_told : (r : Ordering) → (is_lt r ≡ true → r ≡ Less) × (r ≡ Less → is_lt r ≡ true)
 less_told Less = (λ h. refl, λ h. refl)
@@ -80,3 +83,49 @@ module _ {K X : Type 0} (R : K → K → Ordering) (o : IsTotalOrder R) where
     gap_at_end past before =
         let all : joined (take index parts) ≡ joined parts = ap joined (take_all index parts past) in
         subst (λ xs. WouldBeAt R xs key (length (joined (take index parts)))) all (above_would R key (joined (take index parts)) _ refl before)
+
+  -- what some parts behind others tell is told at their place among all
+  module _ {Z : Type 0} (parts some rest : List (Vec (K × X) Z)) (passed found : ℕ) (key : K) (stand : drop passed parts ≡ some ++ rest) (inside : passed ≤ length parts) (within : found ≤ length some) where
+    pub above_so_far : IsAbove R (joined (take passed parts)) key → IsAbove R (joined (take found some)) key → IsAbove R (joined (take (passed + found) parts)) key
+    above_so_far before here =
+        subst (λ xs. IsAbove R xs key)
+        (sym
+        (ap joined (take-add passed found parts ∙ ap (λ ps. take passed parts ++ take found ps) stand ∙ ap (λ ps. take passed parts ++ ps) (take-append-le found some rest within))
+        ∙ flat_map-append (λ (p : Vec (K × X) Z). p.items) (take passed parts) (take found some)))
+        (above_both R key (joined (take passed parts)) (joined (take found some)) before here)
+
+    pub found_within : passed + found ≤ length parts
+    found_within =
+        let left = length-drop passed parts in
+        let long = ap length stand ∙ length-append some rest in omega arith
+
+    pub stands_there : (part : Vec (K × X) Z) → found < length some → part ≡ get_or parts (passed + found) part → part ≡ get_or some found part
+    stands_there part before read =
+        read ∙ sym (get_or-drop passed parts found part) ∙ ap (λ (ps : List (Vec (K × X) Z)). get_or ps found part) stand ∙ get_or_append_left some rest part found before
+
+    pub parts_there : All IsPart parts → All IsPart some
+    parts_there all =
+        subst (All IsPart) (ap (take (length some)) stand ∙ take-append-le (length some) some rest (omega arith) ∙ take_all (length some) some (omega arith))
+        (All-take IsPart (length some) (drop passed parts) (All-drop IsPart passed parts all))
+
+    pub sorted_there : T (is_sorted R (joined parts)) → T (is_sorted R (joined some))
+    sorted_there sorted =
+        sorted_left R (joined some) (joined rest)
+        (subst (λ xs. T (is_sorted R xs)) (ap joined stand ∙ flat_map-append (λ (p : Vec (K × X) Z). p.items) some rest)
+        (sorted_right R (joined (take passed parts)) (joined (drop passed parts))
+        (subst (λ xs. T (is_sorted R xs)) (ap joined (sym (take-append-drop passed parts)) ∙ flat_map-append (λ (p : Vec (K × X) Z). p.items) (take passed parts) (drop passed parts)) sorted)))
+
+    pub goes_on : found ≡ length some → drop (passed + found) parts ≡ rest
+    goes_on all =
+        sym (drop-drop found passed parts) ∙ ap (drop found) stand ∙ drop_at some rest found (sym all)
+
+module _ {A W : Type 0} (parts : List A) (closed : List (Vec A W)) (last : List A) (passed i : ℕ) (stand : drop passed parts ≡ joined (drop i closed) ++ last) where
+  -- a closed part stands before the closed ones behind it
+  pub group_stands : (group : Vec A W) → i < length closed → group ≡ get_or closed i group → (some : List A) → some ≡ group.items → drop passed parts ≡ some ++ (joined (drop (i + 1) closed) ++ last)
+  group_stands group within read some lent =
+      stand ∙ ap (λ xs. xs ++ last) (from_here closed i group within read) ∙ append_assoc group.items (joined (drop (i + 1) closed)) last
+      ∙ ap (λ xs. xs ++ (joined (drop (i + 1) closed) ++ last)) (sym lent)
+
+  -- behind the closed parts stand the last elements
+  pub last_stands : length closed ≤ i → drop passed parts ≡ last ++ []
+  last_stands past = stand ∙ closed_passed closed last i past ∙ sym (append-nil last)

@@ -83,6 +83,14 @@ impl<T> Growing<T> {
         &self.last
     }
 
+    // The closed parts, and the elements behind them.
+    pub(crate) fn divided(&self) -> (&[Part<T>], &[T])
+        ensures whole { joined result.0.now ++ result.1.now ≡ self.now }
+        ensures parts { All IsPart result.0.now }
+    {
+        (&self.closed, &self.last)
+    }
+
     // The elements from the first to the last.
     pub(crate) fn iter(&self) -> Steps<'_, T>
         ensures rest { result ≡ self.now }

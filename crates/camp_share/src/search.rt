@@ -8,7 +8,8 @@ ghost use Rattle.camp_share.specs.Inside.Places.{IsAt, WouldBeAt, IsAbove, IsInP
 use crate::Key;
 use crate::growing::{Growing, Part};
 
-// The first part that has a key which is not below the given one, or else the number of parts.
+// The first part that has a key which is not below the given one, or else the number of parts. Parts
+// of parts are passed by their last key.
 pub(crate) fn part_for<K: Key, V>(parts: &Growing<Part<(K, V)>>, key: &K) -> usize
     requires parts { All IsPart parts.now }
     requires sorted { Holds (is_sorted K.cmp (joined parts.now)) }
@@ -17,10 +18,34 @@ pub(crate) fn part_for<K: Key, V>(parts: &Growing<Part<(K, V)>>, key: &K) -> usi
     ensures before { IsAbove K.cmp (joined (take result parts.now)) key.now }
     ensures reached { (part : _) → result < length parts.now → part ≡ slice_index_or parts.now result part → ¬ (IsAbove K.cmp part.items key.now) }
 {
-    let (mut low, mut high) = (0, parts.len());
+    let (closed, last) = parts.divided();
+    let mut passed = 0;
+    for group in closed {
+        let found = part_among(group, key);
+        if found < group.len() {
+            return passed + found;
+        }
+        passed += found;
+    }
+    passed + part_among(last, key)
+}
+
+// The first of some parts that has a key which is not below the given one, or else their number.
+fn part_among<K: Key, V>(parts: &[Part<(K, V)>], key: &K) -> usize
+    requires parts { All IsPart parts.now }
+    requires sorted { Holds (is_sorted K.cmp (joined parts.now)) }
+    ensures within { result ≤ length parts.now }
+    ensures before { IsAbove K.cmp (joined (take result parts.now)) key.now }
+    ensures reached { (part : _) → result < length parts.now → part ≡ slice_index_or parts.now result part → ¬ (IsAbove K.cmp part.items key.now) }
+{
+    let len = parts.len();
+    if len > 0 && ends_below(&parts[len - 1], key) {
+        return len;
+    }
+    let (mut low, mut high) = (0, len);
     while low < high {
         let middle = low + (high - low) / 2;
-        if ends_below(parts.at(middle), key) {
+        if ends_below(&parts[middle], key) {
             low = middle + 1;
         } else {
             high = middle;

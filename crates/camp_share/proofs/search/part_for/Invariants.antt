@@ -1,15 +1,11 @@
-use Rattle.std.proofs.Common.{◌≡◌, ◌<◌, ◌≤◌, ◌-◌, length, take, get_or}
+use Rattle.std.proofs.Common.{◌≡◌, ◌≤◌, ◌++◌, length, take, drop}
 use Rattle.camp_share.specs.Inside.Parts.{joined}
 use Rattle.camp_share.specs.Inside.Places.{IsAbove}
 use Rattle.camp_share.proofs.search.part_for.Given as goal
 
-abbrev pub invariant-loop-low : goal.invariant-loop-low
-invariant-loop-low g l = record {
-  within : l.high ≤ length l.parts;
-  rises : l.low ≤ l.high;
-  before : IsAbove g.K.Ord.cmp (joined (take l.low l.parts)) l.key;
-  reached : (part : _) → l.high < length l.parts → part ≡ get_or l.parts l.high part → ¬ (IsAbove g.K.Ord.cmp part.items l.key);
+abbrev pub invariant-loop-group : goal.invariant-loop-group
+invariant-loop-group g l = record {
+  within : l.passed ≤ length l.parts;
+  stand : drop l.passed l.parts ≡ joined (drop l.group-index l.closed) ++ l.last;
+  before : IsAbove g.K.Ord.cmp (joined (take l.passed l.parts)) l.key;
 }
-
-abbrev pub decreases-loop-low : goal.decreases-loop-low
-decreases-loop-low g l = l.high - l.low

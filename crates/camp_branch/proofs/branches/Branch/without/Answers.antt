@@ -5,7 +5,7 @@ use Rattle.camp_branch.proofs.NewEnds.{end_arranged}
 use Rattle.camp_branch.proofs.branches.Branch.without.Goals as goal
 use Rattle.camp_branch.proofs.branches.Branch.without.Goals.{In_ok-arranged}
 
-pub range_to_vec-requires-clause-range : goal.range_to_vec-behind-requires-clause-range
+pub range_to_vec-requires-clause-range : goal.range_to_vec-requires-clause-range
 range_to_vec-requires-clause-range c =
     let within = front_within (names_in c.in_ok-staying.staying) c.self.inside.catches in
     omega (c.front-start.ensures, c.len.ensures.exact, within, arith)
