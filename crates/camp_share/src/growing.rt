@@ -260,7 +260,7 @@ pub(crate) fn append_copies<T: Share + Drop>(
 {
     items.reserve(more.len())?;
     for item in more {
-        items.push(item.share()?)?;
+        items.push_reserved(item.share()?);
     }
     Ok(())
 }

@@ -1,5 +1,6 @@
-use Rattle.std.proofs.Common.{◌≡◌, ◌++◌, take}
+use Rattle.std.proofs.Common.{◌≡◌, ◌≤◌, ◌+◌, ◌++◌, length, take, vec_len, vec_capacity}
 use Rattle.camp_share.proofs.growing.append_copies.Given as goal
 
 abbrev pub invariant-loop-item : goal.invariant-loop-item
-invariant-loop-item g l = l.items.items ≡ l.initial.items.items ++ take l.item-index l.more
+invariant-loop-item g l =
+    (l.items.items ≡ l.initial.items.items ++ take l.item-index l.more) × (vec_len l.items + length l.more ≤ vec_capacity l.items + l.item-index)
