@@ -1,6 +1,6 @@
 -- Two branches whose fronts agree: a pull goes by what stands behind those.
 use Rattle.camp_branch.proofs.Words.{◌≡◌, ◌≤◌, ◌+◌, ℕ, Bool, true, ◌||◌, Ok, Err, List, [], ◌∷◌, ◌++◌, map, bytes_eq, take, drop, length, slice_range, ◌-◌, refl, sym, ap, ◌∙◌, subst, inl, inr, arith, append_assoc, length-append, length-take-le, take-append-drop, take-append-le, Key, Align, AlignSticks, Arrange, ArrangeSticks, ComesFirst, IsOf, Catch, keep_labels, Agree, has_patch, is_among, name_of, DiffersAt, MergedLast, MergesBehind, Outcome, PullBy, PullGives, SameThen, common_names, Blocked, Contains, catch_key, keys_of, AllByRecursion, or_assoc, or_comm, or_left, and_from}
-use Rattle.std.proofs.Math.Seq.{take-append-add}
+use Rattle.std.proofs.Math.Seq.{take-append-add, take-length}
 use Rattle.camp_catch.specs.Laws.{KeysAlign}
 use Rattle.camp_branch.proofs.Names.{is_among_is, or_true, each_named, has_split}
 use Rattle.camp_branch.proofs.NamesKept.{among_common}
@@ -144,6 +144,15 @@ module _ (from to : List Catch) (wanted : List (List ℕ)) (m : ℕ) (agree : Ag
 -- before the first catch
 pub agree_none : (from to : List Catch) → Agree from to 0
 agree_none from to = record { within = omega arith; within_too = omega arith; same = refl }
+
+-- a branch agrees with itself
+pub agree_itself : (list : List Catch) → Agree list list (length list)
+agree_itself list =
+    record { within = omega arith; within_too = omega arith; same = subst (λ l. Align (keys_of l) l l) (sym (take-length list)) (as_it_is list) }
+  where
+    as_it_is : (list : List Catch) → Align (keys_of list) list list
+    as_it_is [] = refl
+    as_it_is (k ∷ list) = (k, list, list, inl (refl, refl, refl), as_it_is list, refl)
 
 -- branches that agree still do with more behind them
 pub agree_grown : (from to more other : List Catch) (n : ℕ) → Agree from to n → Agree (from ++ more) (to ++ other) n

@@ -2,7 +2,7 @@
 use Rattle.std.proofs.Common.{◌≡◌, ℕ, zero, suc, pred, List, [], ◌∷◌, ◌++◌, length, zip, slice_get, Some, Result, Ok, Err, IfOk, refl, sym, ap, ◌∙◌, subst, append-nil}
 use Rattle.camp_repo.proofs.Words.{none-some, same_Some, Catch, Agree, AgreesIn, AllHold, catches_in, placed, Branches}
 use Rattle.std.specs.List.{AllByRecursion, remove}
-use Rattle.camp_branch.proofs.AgreedFronts.{agree_grown, agree_none}
+use Rattle.camp_branch.proofs.AgreedFronts.{agree_grown, agree_itself, agree_none}
 use Rattle.camp_repo.specs.declared.fronts.KnownFront.{KnownFront}
 
 pub all_with : {X : Type 0} (P : X → Type 0) (xs : List X) (x : X) → AllByRecursion P xs → P x → AllByRecursion P (xs ++ x ∷ [])
@@ -86,6 +86,45 @@ all_further branches new (known ∷ all) w =
       },
       all_further branches new all w.1,
     )
+
+-- what is known of a branch is so of its copy
+pub from_copy : (branches : List (List Catch)) (known : KnownFront) (of copy : ℕ) → known.from ≡ of → AgreesIn branches known → slice_get branches copy ≡ slice_get branches of → AgreesIn branches (record { from = copy; to = known.to; long = known.long })
+from_copy branches known of copy is w same =
+    record { theirs = w.theirs; ours = w.ours; from_is = same ∙ ap (slice_get branches) (sym is) ∙ w.from_is; to_is = w.to_is; agree = w.agree }
+
+pub to_copy : (branches : List (List Catch)) (known : KnownFront) (of copy : ℕ) → known.to ≡ of → AgreesIn branches known → slice_get branches copy ≡ slice_get branches of → AgreesIn branches (record { from = known.from; to = copy; long = known.long })
+to_copy branches known of copy is w same =
+    record { theirs = w.theirs; ours = w.ours; from_is = w.from_is; to_is = same ∙ ap (slice_get branches) (sym is) ∙ w.to_is; agree = w.agree }
+
+-- all of these hold where all do that are known, and a branch has a copy
+abbrev pub CopyHolds : List KnownFront → ℕ → ℕ → List KnownFront → Type 0
+CopyHolds known of copy rest = (branches : List (List Catch)) → AllByRecursion (AgreesIn branches) known → slice_get branches copy ≡ slice_get branches of → AllByRecursion (AgreesIn branches) rest
+
+-- with what is known of a branch and its copy, both ways, behind what holds of the copy
+pub then_hold : {E : Type 0} (known : List KnownFront) (of copy long : ℕ) (held : List KnownFront) → CopyHolds known of copy held
+    → (forth : List KnownFront) → ((branches : List (List Catch)) → AllByRecursion (AgreesIn branches) held → AgreesIn branches (record { from = of; to = copy; long = long }) → AllByRecursion (AgreesIn branches) forth)
+    → (result : Result (List KnownFront) E) → IfOk result (λ all. (branches : List (List Catch)) → AllByRecursion (AgreesIn branches) forth → AgreesIn branches (record { from = copy; to = of; long = long }) → AllByRecursion (AgreesIn branches) all)
+    → IfOk result (λ all. (branches : List (List Catch)) → AllByRecursion (AgreesIn branches) known → slice_get branches copy ≡ slice_get branches of → AgreesIn branches (record { from = of; to = copy; long = long }) → AgreesIn branches (record { from = copy; to = of; long = long }) → AllByRecursion (AgreesIn branches) all)
+then_hold known of copy long held are forth and_forth (Ok all) and_back = λ branches w same one other.
+    and_back branches (and_forth branches (are branches w same) one) other
+then_hold known of copy long held are forth and_forth (Err error) and_back = tt
+
+last_at : (branches : Branches) (name : List ℕ) (catches : List Catch) → slice_get (catches_in (branches ++ (name, catches) ∷ [])) (length branches) ≡ Some catches
+last_at [] name catches = refl
+last_at (branch ∷ branches) name catches = last_at branches name catches
+
+-- a copy of a branch, which stands behind all, agrees with it
+pub all_copied : (branches : Branches) (name : List ℕ) (of copy long : ℕ) (catches : List Catch) → slice_get (catches_in branches) of ≡ Some catches → copy ≡ length branches → long ≡ length catches → (known : List KnownFront) → AllHold branches known → (all : List KnownFront)
+    → ((copied : List (List Catch)) → AllByRecursion (AgreesIn copied) known → slice_get copied copy ≡ slice_get copied of → AgreesIn copied (record { from = of; to = copy; long = long }) → AgreesIn copied (record { from = copy; to = of; long = long }) → AllByRecursion (AgreesIn copied) all)
+    → AllHold (branches ++ (name, catches) ∷ []) all
+all_copied branches name of copy long catches at behind whole known w all then_all =
+    let more = catches_in (branches ++ (name, catches) ∷ []) in
+    let old = further_at branches (name, catches) of catches at in
+    let new = ap (slice_get more) behind ∙ last_at branches name catches in
+    let same = subst (Agree catches catches) (sym whole) (agree_itself catches) in
+    then_all more (all_further branches (name, catches) known w) (new ∙ sym old)
+    (record { theirs = catches; ours = catches; from_is = old; to_is = new; agree = same })
+    (record { theirs = catches; ours = catches; from_is = new; to_is = old; agree = same })
 
 -- the branches of a state in its fields
 pub zip_catches : (names : List (List ℕ)) (branches : List (List Catch)) → length names ≡ length branches → catches_in (zip names branches) ≡ branches

@@ -62,6 +62,68 @@ pub(crate) fn with_front(
     others.pushed(KnownFront { from, to, long })
 }
 
+/// What is known, and of a copy of a branch: so long it agrees with that branch, and with others as
+/// far as that does, where there is room.
+pub(crate) fn with_copy(
+    known: &SharedList<KnownFront>,
+    of: usize,
+    copy: usize,
+    long: usize,
+) -> Result<SharedList<KnownFront>, AllocError>
+    ensures { IfOk result (λ all. (branches : List (List Catch)) → AllByRecursion (AgreesIn branches) known.now
+        → slice_get branches copy ≡ slice_get branches of
+        → AgreesIn branches (record { from = of; to = copy; long = long })
+        → AgreesIn branches (record { from = copy; to = of; long = long }) → AllByRecursion (AgreesIn branches) all) }
+{
+    let all = taken_over(known, of, copy)?;
+    let forth = with_front(&all, of, copy, long)?;
+    with_front(&forth, copy, of, long)
+}
+
+/// What is known, and what of it holds of a copy of a branch too, where there is room for more.
+fn taken_over(
+    known: &SharedList<KnownFront>,
+    of: usize,
+    copy: usize,
+) -> Result<SharedList<KnownFront>, AllocError>
+    ensures { IfOk result (λ all. (branches : List (List Catch)) → AllByRecursion (AgreesIn branches) known.now
+        → slice_get branches copy ≡ slice_get branches of → AllByRecursion (AgreesIn branches) all) }
+{
+    let mut all = known.share()?;
+    for front in known.iter() {
+        if all.len() >= MAX_PAIRS - 2 {
+            return Ok(all);
+        }
+        if let Some(of_copy) = of_copy(front, of, copy) {
+            all = all.pushed(of_copy)?;
+        }
+    }
+    Ok(all)
+}
+
+/// What is known of a branch, as it holds of its copy.
+fn of_copy(front: &KnownFront, of: usize, copy: usize) -> Option<KnownFront>
+    ensures { IfSome result (λ other. (branches : List (List Catch)) → AgreesIn branches front.now
+        → slice_get branches copy ≡ slice_get branches of → AgreesIn branches other) }
+{
+    let KnownFront { from, to, long } = *front;
+    if from == of {
+        return Some(KnownFront {
+            from: copy,
+            to,
+            long,
+        });
+    }
+    if to == of {
+        return Some(KnownFront {
+            from,
+            to: copy,
+            long,
+        });
+    }
+    None
+}
+
 /// What is known of other branches, with room for one more pair.
 fn others(
     known: &SharedList<KnownFront>,

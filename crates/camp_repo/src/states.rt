@@ -166,11 +166,18 @@ impl State {
         })
     }
 
-    /// The state after one more accepted call, with a further branch.
-    pub(crate) fn with_new_branch(&self, name: &Name, branch: &Branch) -> Result<State, AllocError>
+    /// The state after one more accepted call, with a further branch, and this is known of the fronts
+    /// of its branches.
+    pub(crate) fn with_new_branch(
+        &self,
+        name: &Name,
+        branch: &Branch,
+        known: SharedList<KnownFront>,
+    ) -> Result<State, AllocError>
         requires counts { self.now.count < 2 ^ 64 - 1 }
         requires fresh { catches_of self.now.branches name.now ≡ None }
         requires lawful { IsLawfulState (after self.now (self.now.branches ++ (name.now, branch.now) ∷ [])) }
+        requires known { AllHold (self.now.branches ++ (name.now, branch.now) ∷ []) known }
         ensures { IfOk result (λ next. next ≡ after self.now (self.now.branches ++ (name.now, branch.now) ∷ [])) }
     {
         let mut names = (*self.names).clone()?;
@@ -179,7 +186,6 @@ impl State {
         let names = Shared::new(alloc, names)?;
         let branch = Shared::new(alloc, branch.try_clone()?)?;
         let branches = self.branches.pushed(branch)?;
-        let known = self.known.share()?;
         Ok(State {
             names,
             branches,

@@ -7,7 +7,7 @@ ghost use Rattle.camp_repo.specs.States.{after};
 ghost use Rattle.camp_repo.specs.Steps.{is_too_large, refused, refusal_of, step, step_branch, step_obliterate, step_pull, step_record};
 ghost use Rattle.camp_repo.specs.Wanting.{HasBranch, MayWant, MayWantCopy, MayWantObliterate, MayWantPull, MayWantRecord};
 
-use crate::fronts::{KnownFront, known_long, with_front};
+use crate::fronts::{KnownFront, known_long, with_copy, with_front};
 use crate::name_lists::{first_lacked, first_lacked_of, is_full_with, lists_none, set_of, wanted};
 use crate::sizes::{changed, is_too_large};
 use crate::{
@@ -45,7 +45,7 @@ impl State {
         ensures exact { IfOk result (λ decided. decided ≡ step_branch self.now new.now from.now) }
         ensures memory { IfErr result (λ error. MayWantCopy self.now new.now from.now) }
     {
-        let Some(branch) = self.branch(from) else {
+        let Some((place, branch)) = self.find(from) else {
             return Ok(refused(Refusal::NoBranch(*from)));
         };
         if self.branch(new).is_some() {
@@ -54,7 +54,8 @@ impl State {
         if self.len() >= MAX_BRANCHES {
             return Ok(refused(Refusal::TooLarge));
         }
-        let next = self.with_new_branch(new, branch)?;
+        let known = with_copy(self.known(), place, self.len(), branch.catches().len())?;
+        let next = self.with_new_branch(new, branch, known)?;
         Ok(Decided::Next(next))
     }
 

@@ -1,5 +1,4 @@
 use Rattle.camp_repo.proofs.Words.{◌≡◌, ap, ◌∙◌, ◌++◌, [], ◌∷◌, sym, subst, AllZip, AllHold, IsLawfulState}
-use Rattle.camp_repo.proofs.FrontSteps.{all_further}
 use Rattle.camp_repo.proofs.StateSteps.{grown_as_long, grown_state}
 use Rattle.camp_repo.proofs.states.State.with_new_branch.Goals as goal
 
@@ -11,7 +10,7 @@ invariant_of-result c =
     record {
       as_many = grown_as_long c.self.inside.names.keys c.self.inside.branches c.self.inside.count c.args.self.now c.self.view_is c.self.invariant.as_many c.args.name.now c.args.branch.now c.in_ok-names.names.keys c.in_ok-names-2.names.keys c.in_ok-branches.branches c.requires.fresh clone inserted pushed;
       lawful = subst IsLawfulState (sym (grown_state c.self.inside.names.keys c.self.inside.branches c.self.inside.count c.args.self.now c.self.view_is c.self.invariant.as_many c.args.name.now c.args.branch.now c.in_ok-names.names.keys c.in_ok-names-2.names.keys c.in_ok-branches.branches c.requires.fresh clone inserted pushed)) c.requires.lawful;
-      known = subst (λ s. AllHold s.branches c.in_ok-known.known) (sym (grown_state c.self.inside.names.keys c.self.inside.branches c.self.inside.count c.args.self.now c.self.view_is c.self.invariant.as_many c.args.name.now c.args.branch.now c.in_ok-names.names.keys c.in_ok-names-2.names.keys c.in_ok-branches.branches c.requires.fresh clone inserted pushed)) (all_further c.args.self.now.branches (c.args.name.now, c.args.branch.now) c.in_ok-known.known (subst (λ l. AllHold c.args.self.now.branches l) (sym c.in_ok-known.ensures) (subst (λ s. AllHold s.branches c.self.inside.known) c.self.view_is c.self.invariant.known)));
+      known = subst (λ s. AllHold s.branches c.args.known) (sym (grown_state c.self.inside.names.keys c.self.inside.branches c.self.inside.count c.args.self.now c.self.view_is c.self.invariant.as_many c.args.name.now c.args.branch.now c.in_ok-names.names.keys c.in_ok-names-2.names.keys c.in_ok-branches.branches c.requires.fresh clone inserted pushed)) c.requires.known;
     }
 
 pub returns : goal.returns
