@@ -1,4 +1,4 @@
-use Rattle.std.proofs.Common.{◌≡◌, ◌++◌, take}
+use Rattle.camp_share.proofs.Words.{◌≡◌, ◌++◌, take}
 use Rattle.camp_share.proofs.growing.append_copies.Given as goal
 
 abbrev pub invariant-loop-item : goal.invariant-loop-item
