@@ -1,19 +1,6 @@
 -- Adding and passing by have at most one result, and adding always has one.
-use Rattle.std.proofs.Common.{◌≡◌, List, [], ◌∷◌, refl, sym, ap, ◌∙◌, subst, inl, inr}
-use Rattle.camp_prim.specs.Effect.{inverse_of}
-use Rattle.camp_prim.specs.Labels.{label_of, key_of}
-use Rattle.camp_prim.specs.Swaps.{Swap}
-use Rattle.camp_prim.specs.declared.named.Named.{Named}
-use Rattle.camp_prim.proofs.SwapUnique.{swap_unique}
-use Rattle.camp_seq.specs.NormalOrder.{Norm}
-use Rattle.camp_seq.specs.Passing.{Passes, Fronts}
-use Rattle.camp_seq.proofs.ListResults.{one_pass, one_front, one_order}
-use Rattle.camp_seq.proofs.ListsDecided.{passes_or_not}
+use Rattle.camp_ctx.proofs.Words.{◌≡◌, List, [], ◌∷◌, refl, sym, ap, ◌∙◌, subst, inl, inr, inverse_of, label_of, key_of, Swap, Named, swap_unique, Norm, Passes, Fronts, one_pass, one_front, one_order, passes_or_not, Decided, decided_by, swap_or_not, Cancels, PassesBy, Keeps, Adds, cancel, commute, keep, FromLast, AddsAll, PassesByAll, ContextedPatch, patch_key, context_key, GivesOne, AlwaysGives}
 use Rattle.camp_seq.proofs.NormalOrders.{front_or_not, has_normal_order}
-use Rattle.camp_prim.proofs.SwapDecided.{Decided, decided_by, swap_or_not}
-use Rattle.camp_ctx.specs.Adding.{Cancels, PassesBy, Keeps, Adds, cancel, commute, keep, FromLast, AddsAll, PassesByAll}
-use Rattle.camp_ctx.specs.Contexts.{ContextedPatch, patch_key, context_key}
-use Rattle.camp_ctx.specs.Laws.{GivesOne, AlwaysGives}
 use Rattle.camp_ctx.proofs.NamedDecided.{named_or_not}
 
 pub same_in_context : (x y : ContextedPatch) → x.context ≡ y.context → x.patch ≡ y.patch → x ≡ y

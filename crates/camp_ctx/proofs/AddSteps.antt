@@ -1,20 +1,7 @@
 -- What a body of adding and passing by knows at its answers.
-use Rattle.std.proofs.Common.{◌≡◌, ℕ, ◌+◌, ◌<◌, List, [], ◌∷◌, ◌++◌, length, take, drop, get_or, sym, ap, ◌∙◌, subst}
-use Rattle.std.proofs.lemmas.List.{drop_more}
-use Rattle.camp_prim.specs.Effect.{inverse_of}
-use Rattle.camp_prim.specs.Labels.{label_of}
-use Rattle.camp_prim.specs.Swaps.{Swap}
-use Rattle.camp_prim.specs.declared.labels.Label.{Label}
-use Rattle.camp_prim.specs.declared.named.Named.{Named}
-use Rattle.camp_seq.specs.NormalOrder.{Norm}
-use Rattle.camp_seq.specs.Passing.{Passes, Fronts}
-use Rattle.camp_seq.proofs.ListResults.{one_front, one_pass}
+use Rattle.camp_ctx.proofs.Words.{◌≡◌, ℕ, ◌+◌, ◌<◌, List, [], ◌∷◌, ◌++◌, length, take, drop, get_or, sym, ap, ◌∙◌, subst, drop_more, inverse_of, label_of, Swap, Label, Named, Norm, Passes, Fronts, one_front, one_pass, inverse_of-inverse_of, Cancels, PassesBy, GivesNone, FromLast, ContextedPatch, GivesOne}
 use Rattle.camp_seq.proofs.ListSteps.{whole}
-use Rattle.camp_prim.proofs.Inverses.{inverse_of-inverse_of}
-use Rattle.camp_ctx.specs.Adding.{Cancels, PassesBy, GivesNone, FromLast}
-use Rattle.camp_ctx.specs.Contexts.{ContextedPatch}
 use Rattle.camp_ctx.proofs.AddResults.{one_from_last}
-use Rattle.camp_ctx.specs.Laws.{GivesOne}
 
 -- a label that does not come to the front of a context
 pub nothing_cancels : (a : Named) (x : ContextedPatch) (label : Label) (s : List Named) → label ≡ label_of (inverse_of a) → s ≡ x.context → ((pair : Named × List Named) → ¬ (Fronts label s pair.0 pair.1)) → GivesNone (Cancels a) x

@@ -1,19 +1,9 @@
 -- What is valid behind a list becomes valid before it.
-use Rattle.std.proofs.Common.{◌≡◌, List, [], ◌∷◌, ◌++◌, sym, subst}
-use Rattle.std.proofs.lemmas.List.{append_assoc}
-use Rattle.camp_base.specs.Trees.{Files}
-use Rattle.camp_prim.specs.Effect.{Applies, inverse_of}
-use Rattle.camp_prim.specs.Labels.{label_of}
-use Rattle.camp_prim.specs.declared.named.Named.{Named}
+use Rattle.camp_ctx.proofs.Words.{◌≡◌, List, [], ◌∷◌, ◌++◌, sym, subst, append_assoc, Files, Applies, inverse_of, label_of, Named, leads_back, AppliesAll, Cancels, PassesBy, Keeps, Adds, cancel, commute, keep, FromLast, AddsAll, PassesByAll, ContextedPatch, whole, Valid, KeepsValid}
 use Rattle.camp_prim.proofs.Applied.{applies_once}
-use Rattle.camp_prim.proofs.Inverses.{leads_back}
 use Rattle.camp_seq.specs.Equivalence.{◌~◌, through}
-use Rattle.camp_seq.specs.Running.{AppliesAll}
 use Rattle.camp_seq.proofs.ListEquivalence.{equal_are, before, behind, after_one, swapped, passed, fronted, ordered}
 use Rattle.camp_seq.proofs.ListRuns.{cut_run, equivalent_run}
-use Rattle.camp_ctx.specs.Adding.{Cancels, PassesBy, Keeps, Adds, cancel, commute, keep, FromLast, AddsAll, PassesByAll}
-use Rattle.camp_ctx.specs.Contexts.{ContextedPatch, whole, Valid}
-use Rattle.camp_ctx.specs.Laws.{KeepsValid}
 
 -- lists that are equivalent lead from the same trees
 pub run_along : (s t : List Named) → s ~ t → (old new : Files) → AppliesAll s old new → AppliesAll t old new

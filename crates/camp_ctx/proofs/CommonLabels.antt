@@ -1,15 +1,6 @@
 -- The labels that two lists have in common.
-use Rattle.std.proofs.Common.{◌≡◌, zero, suc, ◌⊎◌, Bool, true, false, cond, ◌||◌, List, [], ◌∷◌, map, refl, sym, subst, inl, inr, arith}
-use Rattle.std.specs.Prelude.{Contains}
-use Rattle.std.specs.List.{filter}
-use Rattle.std.specs.Cmp.{Equal-is, tied_itself}
-use Rattle.std.specs.Ordering.{eq_by_cmp}
-use Rattle.camp_prim.specs.Labels.{label_of, label_cmp}
-use Rattle.camp_prim.specs.declared.labels.Label.{Label}
-use Rattle.camp_prim.specs.declared.named.Named.{Named}
-use Rattle.camp_seq.specs.Passing.{Fronts}
-use Rattle.camp_prim.proofs.LabelOrder.{label_total, label_ties}
-use Rattle.camp_ctx.specs.Conflicts.{has_label, common_labels}
+use Rattle.camp_ctx.proofs.Words.{◌≡◌, zero, suc, ◌⊎◌, Bool, true, false, cond, List, [], ◌∷◌, map, refl, sym, subst, inl, inr, arith, filter, Equal-is, tied_itself, eq_by_cmp, label_of, label_cmp, Label, Named, Fronts, label_total, label_ties, has_label, common_labels, Contains}
+use Rattle.std.proofs.lemmas.Bool.{or_cases, or_left, or_right}
 
 -- an element of a list, by recursion
 abbrev pub IsIn : Label → List Label → Type 0
@@ -29,30 +20,18 @@ contains_from_in l (x ∷ xs) (inr among) =
     let within = rest.1 in
     (suc rest.0, (omega arith), rest.2)
 
-either : (a b : Bool) → (a || b) ≡ true → (a ≡ true) ⊎ (b ≡ true)
-either true b e = inl refl
-either false b e = inr e
-
-first_true : (a b : Bool) → a ≡ true → (a || b) ≡ true
-first_true true b e = refl
-first_true false b e = cc
-
-second_true : (a b : Bool) → b ≡ true → (a || b) ≡ true
-second_true true b e = refl
-second_true false b e = e
-
 same_label : (a b : Label) → eq_by_cmp label_cmp a b ≡ true → a ≡ b
 same_label a b e = label_ties a b ((Equal-is _).0 e)
 
 pub in_from_has : (t : List Named) (l : Label) → has_label t l ≡ true → IsIn l (map label_of t)
 in_from_has [] l e = cc
-in_from_has (p ∷ t) l e = elim (either _ _ e) [ inl here ↦ inl (same_label _ _ here) | inr later ↦ inr (in_from_has t l later) ]
+in_from_has (p ∷ t) l e = elim (or_cases _ _ e) [ inl here ↦ inl (same_label _ _ here) | inr later ↦ inr (in_from_has t l later) ]
 
 pub has_from_in : (t : List Named) (l : Label) → IsIn l (map label_of t) → has_label t l ≡ true
 has_from_in [] l among = absurd among
 has_from_in (p ∷ t) l (inl is) =
-    first_true _ _ (subst (λ x. eq_by_cmp label_cmp (label_of p) x ≡ true) is ((Equal-is _).1 (tied_itself label_total (label_of p))))
-has_from_in (p ∷ t) l (inr among) = second_true _ _ (has_from_in t l among)
+    or_left _ _ (subst (λ x. eq_by_cmp label_cmp (label_of p) x ≡ true) is ((Equal-is _).1 (tied_itself label_total (label_of p))))
+has_from_in (p ∷ t) l (inr among) = or_right _ _ (has_from_in t l among)
 
 in_filtered : (test : Label → Bool) (l x : Label) (xs : List Label) (b : Bool) → test x ≡ b → IsIn l (cond b (x ∷ filter test xs) (filter test xs)) → (IsIn l (filter test xs) → IsIn l xs × (test l ≡ true)) → IsIn l (x ∷ xs) × (test l ≡ true)
 in_filtered test l x xs true is (inl here) rest = (inl here, subst (λ y. test y ≡ true) here is)
@@ -79,7 +58,8 @@ common_turned s t l among =
     let both = in_from_filter (has_label t) l (map label_of s) (in_from_contains l (common_labels s t) among) in
     contains_from_in l (common_labels t s) (filter_from_in (has_label s) l (map label_of t) (has_from_in s l both.0) (in_from_has t l both.1))
 
-in_from_fronts : (l : Label) (s : List Named) (y : Named) (t : List Named) → Fronts l s y t → IsIn l (map label_of s)
+-- what comes to the front of a list is in it
+pub in_from_fronts : (l : Label) (s : List Named) (y : Named) (t : List Named) → Fronts l s y t → IsIn l (map label_of s)
 in_from_fronts l [] y t w = absurd w
 in_from_fronts l (p ∷ s) y t (inl w) = inl w.0
 in_from_fronts l (p ∷ s) y t (inr w) = let found = w.1 in inr (in_from_fronts l s found.0 found.2 found.3)

@@ -1,15 +1,5 @@
 -- Merging behind a common front has at most one result, and does not depend on the order of the two; so neither does conflict.
-use Rattle.std.proofs.Common.{◌≡◌, List, [], ◌∷◌, subst, inl, inr, Contains}
-use Rattle.camp_prim.specs.Labels.{label_of}
-use Rattle.camp_prim.specs.declared.labels.Label.{Label}
-use Rattle.camp_prim.specs.declared.named.Named.{Named}
-use Rattle.camp_seq.specs.Merging.{CleanMerge}
-use Rattle.camp_seq.specs.NormalOrder.{Splits}
-use Rattle.camp_seq.specs.Passing.{Parts}
-use Rattle.camp_seq.proofs.ListResults.{one_split, one_clean_merge}
-use Rattle.camp_seq.proofs.MergeGrid.{merge_is_symmetric}
-use Rattle.camp_ctx.specs.Conflicts.{common_labels, MergesBehindCommon, Conflict}
-use Rattle.camp_ctx.specs.Contexts.{ContextedPatch, whole}
+use Rattle.camp_ctx.proofs.Words.{◌≡◌, List, [], ◌∷◌, subst, inl, inr, Contains, label_of, Label, Named, CleanMerge, Splits, Parts, one_split, one_clean_merge, merge_is_symmetric, common_labels, MergesBehindCommon, Conflict, ContextedPatch, whole}
 use Rattle.camp_ctx.proofs.CommonLabels.{common_turned}
 
 pub one_merge_behind : (s t t' s' u v : List Named) → MergesBehindCommon s t t' s' → MergesBehindCommon s t u v → (t' ≡ u) × (s' ≡ v)

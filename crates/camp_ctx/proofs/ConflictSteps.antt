@@ -1,13 +1,6 @@
 -- What the body of a merge behind a common front knows at its answers.
-use Rattle.std.proofs.Common.{◌≡◌, List, Option, None, Some, sym, ◌∙◌, subst}
+use Rattle.camp_ctx.proofs.Words.{◌≡◌, List, Option, None, Some, sym, ◌∙◌, subst, Label, Named, CleanMerge, Splits, one_split, common_labels, MergesBehindCommon, Conflict, ContextedPatch, whole}
 use Rattle.camp_base.specs.Answers.{FindsPair}
-use Rattle.camp_prim.specs.declared.labels.Label.{Label}
-use Rattle.camp_prim.specs.declared.named.Named.{Named}
-use Rattle.camp_seq.specs.Merging.{CleanMerge}
-use Rattle.camp_seq.specs.NormalOrder.{Splits}
-use Rattle.camp_seq.proofs.ListResults.{one_split}
-use Rattle.camp_ctx.specs.Conflicts.{common_labels, MergesBehindCommon, Conflict}
-use Rattle.camp_ctx.specs.Contexts.{ContextedPatch, whole}
 
 -- no two lists merge behind what these have in common
 abbrev pub NoMerge : List Named → List Named → Type 0

@@ -1,28 +1,20 @@
 -- Whether contexted patches pass and conflict, and whether a set has one member, is decided.
-use Rattle.std.proofs.Common.{◌≡◌, None, Some, List, [], ◌∷◌, refl, sym, ap, ◌∙◌, subst, inl, inr}
-use Rattle.std.specs.FinMap.{entries, same_entries_map}
-use Rattle.camp_prim.specs.declared.labels.Key.{Key}
-use Rattle.camp_prim.specs.Labels.{key_cmp}
-use Rattle.camp_prim.specs.declared.named.Named.{Named}
-use Rattle.camp_prim.proofs.LabelOrder.{key_total, key_ties}
-use Rattle.camp_prim.proofs.SwapDecided.{Decided, decided_by, same_or_not}
-use Rattle.camp_seq.specs.NormalOrder.{Splits}
-use Rattle.camp_seq.proofs.ListsDecided.{TwoOrNone, clean_merge_or_not, splits_or_not}
-use Rattle.camp_ctx.specs.Adding.{PassesBy, PassesByAll}
-use Rattle.camp_ctx.specs.Conflicts.{common_labels, MergesBehindCommon, Conflict}
-use Rattle.camp_ctx.specs.Contexts.{ContextedPatch, ContextedPatches, context_key, only, whole}
+use Rattle.camp_ctx.proofs.Words.{◌≡◌, None, Some, List, [], ◌∷◌, refl, sym, ap, ◌∙◌, subst, inl, inr, entries, same_entries_map, Key, key_cmp, Named, key_total, key_ties, Decided, decided_by, same_or_not, Splits, TwoOrNone, clean_merge_or_not, splits_or_not, PassesBy, PassesByAll, common_labels, MergesBehindCommon, Conflict, ContextedPatch, ContextedPatches, context_key, only, whole}
 use Rattle.camp_ctx.proofs.AddResults.{one_passing_of_all, passing_by_or_not, same_in_context}
 use Rattle.camp_ctx.proofs.ConflictSteps.{no_first, no_second, other_fronts, merges_as_the_rests}
 use Rattle.camp_ctx.proofs.NamedDecided.{both_or_not, named_or_not}
 use Rattle.camp_ctx.proofs.SetSteps.{entries-only}
 
--- two lists are the same, or they are not
+-- two lists are the same or they are not, where this is decided of elements
+elements_or_not : {X : Type 0} → ((x y : X) → Decided (x ≡ y)) → (xs ys : List X) → Decided (xs ≡ ys)
+elements_or_not decide [] [] = inl refl
+elements_or_not decide [] (y ∷ ys) = inr (λ e. cc)
+elements_or_not decide (x ∷ xs) [] = inr (λ e. cc)
+elements_or_not decide (x ∷ xs) (y ∷ ys) =
+    decided_by (λ e i. e.0 i ∷ e.1 i) (λ e. (cc, cc)) (both_or_not (decide x y) (elements_or_not decide xs ys))
+
 pub lists_or_not : (s t : List Named) → Decided (s ≡ t)
-lists_or_not [] [] = inl refl
-lists_or_not [] (q ∷ t) = inr (λ e. cc)
-lists_or_not (p ∷ s) [] = inr (λ e. cc)
-lists_or_not (p ∷ s) (q ∷ t) =
-    decided_by (λ e i. e.0 i ∷ e.1 i) (λ e. (cc, cc)) (both_or_not (named_or_not p q) (lists_or_not s t))
+lists_or_not = elements_or_not named_or_not
 
 pub in_context_or_not : (x y : ContextedPatch) → Decided (x ≡ y)
 in_context_or_not x y =
@@ -82,22 +74,11 @@ entries_or_not xs (e ∷ f ∷ es) is = inr (λ y.
 pub only_or_not : (xs : ContextedPatches) → Decided ((x : ContextedPatch) × (xs ≡ only x))
 only_or_not xs = entries_or_not xs (entries xs) refl
 
-first_entry : (e f : Key × ContextedPatch) (es fs : List (Key × ContextedPatch)) → e ∷ es ≡ f ∷ fs → e ≡ f
-first_entry e f es fs same = cc
-
-rest_entries : (e f : Key × ContextedPatch) (es fs : List (Key × ContextedPatch)) → e ∷ es ≡ f ∷ fs → es ≡ fs
-rest_entries e f es fs same = cc
-
-entry_lists_or_not : (es fs : List (Key × ContextedPatch)) → Decided (es ≡ fs)
-entry_lists_or_not [] [] = inl refl
-entry_lists_or_not [] (f ∷ fs) = inr (λ e. cc)
-entry_lists_or_not (e ∷ es) [] = inr (λ e. cc)
-entry_lists_or_not ((k, x) ∷ es) ((l, y) ∷ fs) =
-    decided_by (λ e i. (e.0.0 i, e.0.1 i) ∷ e.1 i) (λ e.
-    let head = first_entry (k, x) (l, y) es fs e in
-    ((ap (λ (p : Key × ContextedPatch). p.0) head, ap (λ (p : Key × ContextedPatch). p.1) head), rest_entries (k, x) (l, y) es fs e)) (both_or_not (both_or_not (keys_or_not k l) (in_context_or_not x y)) (entry_lists_or_not es fs))
+entry_or_not : (e f : Key × ContextedPatch) → Decided (e ≡ f)
+entry_or_not e f =
+    decided_by (λ same i. (same.0 i, same.1 i)) (λ same. (ap (λ (p : Key × ContextedPatch). p.0) same, ap (λ (p : Key × ContextedPatch). p.1) same)) (both_or_not (keys_or_not e.0 f.0) (in_context_or_not e.1 f.1))
 
 -- two sets are the same, or they are not
 pub contexts_or_not : (xs ys : ContextedPatches) → Decided (xs ≡ ys)
 contexts_or_not xs ys =
-    decided_by (same_entries_map xs ys) (ap entries) (entry_lists_or_not (entries xs) (entries ys))
+    decided_by (same_entries_map xs ys) (ap entries) (elements_or_not entry_or_not (entries xs) (entries ys))

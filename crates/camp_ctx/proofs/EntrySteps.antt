@@ -1,12 +1,5 @@
 -- Entries in order, met one after the other.
-use Rattle.std.proofs.Common.{◌≡◌, ℕ, zero, suc, ◌+◌, T, cond, false, Some, None, List, [], ◌∷◌, ◌++◌, take, refl, sym, ap, ◌∙◌, subst, arith}
-use Rattle.std.proofs.lemmas.Option.{same_Some, none-some}
-use Rattle.std.specs.List.{slice_get}
-use Rattle.std.specs.Ordering.{is_eq, eq_by_cmp}
-use Rattle.std.specs.Cmp.{IsTotalOrder, tied_itself}
-use Rattle.std.specs.declared.cmp.Ordering.{Ordering}
-use Rattle.std.specs.declared.cmp.Ordering.TheVariants.{Less}
-use Rattle.std.specs.FinMap.Entries.{find, below_all, is_sorted}
+use Rattle.camp_ctx.proofs.Words.{◌≡◌, ℕ, zero, suc, ◌+◌, T, cond, false, Some, None, List, [], ◌∷◌, ◌++◌, take, refl, sym, ap, ◌∙◌, subst, arith, same_Some, none-some, slice_get, is_eq, eq_by_cmp, IsTotalOrder, tied_itself, find, below_all, is_sorted, Ordering, Less}
 use Rattle.camp_share.proofs.Entries.{first, second, is_less, above}
 
 -- the elements up to the one at i, with it

@@ -11,3 +11,4 @@ pub mod NamedDecided
 pub mod SetChanges
 pub mod SetSteps
 pub mod Standing
+pub mod Words

@@ -1,14 +1,6 @@
 -- What neither swaps nor cancels with its neighbour is kept before the context.
-use Rattle.std.proofs.Common.{List, [], ◌∷◌, ◌++◌, refl, subst}
-use Rattle.camp_prim.specs.Effect.{inverse_of}
-use Rattle.camp_prim.specs.Labels.{label_of}
-use Rattle.camp_prim.specs.Swaps.{Swap}
-use Rattle.camp_prim.specs.declared.named.Named.{Named}
+use Rattle.camp_ctx.proofs.Words.{List, [], ◌∷◌, ◌++◌, refl, subst, inverse_of, label_of, Swap, Named, chain_is_ordered, front_of_chain, Adds, AddsAll, Cancels, GivesNone, PassesBy, keep, ContextedPatch, Links}
 use Rattle.camp_seq.specs.Chains.{Chain}
-use Rattle.camp_seq.proofs.OwnOrders.{chain_is_ordered, front_of_chain}
-use Rattle.camp_ctx.specs.Adding.{Adds, AddsAll, Cancels, GivesNone, PassesBy, keep}
-use Rattle.camp_ctx.specs.Contexts.{ContextedPatch}
-use Rattle.camp_ctx.specs.Inside.Links.{Links}
 
 abbrev at : List Named → Named → ContextedPatch
 at s patch = record { context = s; patch = patch }

@@ -1,19 +1,10 @@
 -- Two labelled primitives are equal or not.
-use Rattle.std.proofs.Common.{◌≡◌, ℕ, List, ap, inl, inr}
+use Rattle.camp_ctx.proofs.Words.{◌≡◌, ℕ, List, ap, inl, inr, nat_cmp_total, nat_cmp, IsAntisymmetric, slice_cmp-IsAntisymmetric, nat_cmp-IsAntisymmetric, Lines, label_of, Named, label_total, label_ties, same_named, same_hunk, Decided, decided_by, same_or_not}
 use Rattle.std.proofs.lemmas.Cmp.{nat_list_cmp_total}
-use Rattle.std.specs.Cmp.{nat_cmp_total}
 use Rattle.std.specs.Cmp.Lexicographic.{slice_cmp, lists_total}
-use Rattle.std.specs.Ordering.{nat_cmp}
-use Rattle.std.specs.FinMap.{IsAntisymmetric, slice_cmp-IsAntisymmetric, nat_cmp-IsAntisymmetric}
-use Rattle.camp_base.specs.Trees.{Lines}
 use Rattle.camp_prim.specs.Hunks.{Edit}
-use Rattle.camp_prim.specs.Labels.{label_of}
 use Rattle.camp_prim.specs.declared.primitives.Primitive.{Primitive}
 use Rattle.camp_prim.specs.declared.primitives.Primitive.TheVariants.{Add, Remove, Hunk}
-use Rattle.camp_prim.specs.declared.named.Named.{Named}
-use Rattle.camp_prim.proofs.LabelOrder.{label_total, label_ties}
-use Rattle.camp_prim.proofs.SwapUnique.{same_named, same_hunk}
-use Rattle.camp_prim.proofs.SwapDecided.{Decided, decided_by, same_or_not}
 
 bytes_tie : IsAntisymmetric (slice_cmp nat_cmp)
 bytes_tie = slice_cmp-IsAntisymmetric nat_cmp-IsAntisymmetric

@@ -1,19 +1,7 @@
 -- Sets whose members change.
-use Rattle.std.proofs.Common.{◌≡◌, true, false, cond, T, ◌&&◌, Option, None, Some, List, [], ◌∷◌, map, refl, sym, ap, ◌∙◌, subst}
-use Rattle.std.specs.Option.{option_map}
-use Rattle.std.specs.FinMap.{get, entries, entries_sorted, from_sorted, is_sorted, find, same_map, get-from_sorted, get-entries}
-use Rattle.std.specs.FinMap.Entries.{below_all}
-use Rattle.std.specs.Ordering.{is_lt, eq_by_cmp}
-use Rattle.std.proofs.lemmas.Option.{same_Some}
-use Rattle.camp_base.specs.Trees.{Files}
-use Rattle.camp_prim.specs.declared.named.Named.{Named}
-use Rattle.camp_ctx.specs.Adding.{Adds, AddsAll}
-use Rattle.camp_ctx.specs.Contexts.{ContextedPatch, ContextedPatches, ChangesAt, EachMember}
-use Rattle.camp_prim.specs.Labels.{key_cmp}
-use Rattle.camp_prim.specs.declared.labels.Key.{Key}
-use Rattle.camp_ctx.specs.Laws.{GivesOne, AlwaysGives, KeepsValid, KeepsMembersValid}
+use Rattle.camp_ctx.proofs.Words.{◌≡◌, true, false, cond, T, ◌&&◌, Option, None, Some, List, [], ◌∷◌, map, refl, sym, ap, ◌∙◌, subst, option_map, get, entries, entries_sorted, from_sorted, is_sorted, find, same_map, get-from_sorted, get-entries, below_all, is_lt, eq_by_cmp, same_Some, Files, Named, Adds, AddsAll, ContextedPatch, ContextedPatches, ChangesAt, EachMember, key_cmp, Key, GivesOne}
+use Rattle.camp_ctx.proofs.Words.{AlwaysGives, KeepsValid, KeepsMembersValid, key_total, key_ties}
 use Rattle.camp_ctx.proofs.AddResults.{one_add_of_all}
-use Rattle.camp_prim.proofs.LabelOrder.{key_total, key_ties}
 
 -- at each label a change of one result has one result
 one_change_at : (Change : ContextedPatch → ContextedPatch → Type 0) → GivesOne Change → (was now other : Option ContextedPatch) → ChangesAt Change was now → ChangesAt Change was other → now ≡ other

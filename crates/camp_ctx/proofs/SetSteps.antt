@@ -1,19 +1,6 @@
 -- What bodies of sets know at their answers.
-use Rattle.std.proofs.Common.{◌≡◌, ℕ, zero, suc, ◌+◌, ◌<◌, ◌≤◌, Bool, true, false, cond, Option, Some, None, List, [], ◌∷◌, length, take, map, refl, sym, ap, ◌∙◌, subst, arith}
-use Rattle.std.proofs.lemmas.List.{length-map, take_all}
-use Rattle.std.proofs.lemmas.Option.{same_Some, none-some, slice_get-map}
-use Rattle.std.specs.List.{fold, slice_get}
-use Rattle.std.specs.Option.{option_map}
-use Rattle.std.specs.Ordering.{eq_by_cmp}
-use Rattle.std.specs.Cmp.{Equal-is}
-use Rattle.std.specs.FinMap.{empty, get, contains_key, insert, remove, entries, entries_sorted, len, get-empty, get-entries, get-insert, get-remove, same_entries_map, entries-insert, len-entries, len-empty}
-use Rattle.std.specs.FinMap.Entries.{find, put, find-append}
-use Rattle.camp_prim.specs.Labels.{key_cmp}
-use Rattle.camp_prim.specs.declared.labels.Key.{Key}
-use Rattle.camp_prim.specs.declared.named.Named.{Named}
-use Rattle.camp_prim.proofs.LabelOrder.{key_total, key_ties}
-use Rattle.camp_ctx.specs.Adding.{AddsAll}
-use Rattle.camp_ctx.specs.Contexts.{ContextedPatch, ContextedPatches, context_key, only, with_member, AreKeyed, ChangesAt, EachMember}
+use Rattle.camp_ctx.proofs.Words.{◌≡◌, ℕ, suc, ◌+◌, ◌<◌, ◌≤◌, Bool, true, false, cond, Option, Some, None, List, [], ◌∷◌, length, take, map, refl, sym, ap, ◌∙◌, subst, arith, length-map, take_all, same_Some, none-some, slice_get-map, fold, slice_get, option_map, eq_by_cmp, Equal-is, empty, get, contains_key, insert, remove, entries, entries_sorted, len, get-empty, get-entries, get-insert}
+use Rattle.camp_ctx.proofs.Words.{same_lists, unwrap_or, unwrap_or-slice_get, slice_get_cases, inl, inr, get-remove, same_entries_map, entries-insert, len-entries, len-empty, find, put, find-append, key_cmp, Key, Named, key_total, key_ties, AddsAll, ContextedPatch, ContextedPatches, context_key, only, with_member, AreKeyed, ChangesAt, EachMember}
 use Rattle.camp_ctx.proofs.AddResults.{same_key_of_sum}
 use Rattle.camp_ctx.proofs.EntrySteps.{take_push, found_at, not_before}
 use Rattle.camp_ctx.proofs.SetChanges.{member_before}
@@ -77,18 +64,11 @@ same_members xs ys keyed also same =
     same_entries_map xs ys (entries_are xs keyed ∙ ap (map entry_of) same ∙ sym (entries_are ys also))
 
 pub same_by_index : {X : Type 0} (xs ys : List X) → length xs ≡ length ys → ((k : ℕ) → k < length xs → slice_get xs k ≡ slice_get ys k) → xs ≡ ys
-same_by_index [] [] long same = refl
-same_by_index [] (y ∷ ys) long same = absurd (omega arith)
-same_by_index (x ∷ xs) [] long same = absurd (omega arith)
-same_by_index (x ∷ xs) (y ∷ ys) long same =
-    let head : x ≡ y = same_Some x y (same 0 (omega arith)) in
-    let tail : xs ≡ ys = same_by_index xs ys (omega arith) (λ k within. same (suc k) (omega arith)) in
-    λ i. head i ∷ tail i
+same_by_index xs ys long same =
+    same_lists xs ys long (λ k d within. sym (unwrap_or-slice_get xs k d) ∙ ap (λ o. unwrap_or o d) (same k within) ∙ unwrap_or-slice_get ys k d)
 
 past_end : {X : Type 0} (xs : List X) (i : ℕ) → slice_get xs i ≡ None → length xs ≤ i
-past_end [] i is = omega arith
-past_end (x ∷ xs) zero is = absurd (none-some x (sym is))
-past_end (x ∷ xs) (suc i) is = let rest = past_end xs i is in omega arith
+past_end xs i is = elim (slice_get_cases xs i).1 [ inl w ↦ absurd (none-some w.0 (sym is ∙ w.2)) | inr w ↦ w.0 ]
 
 -- an entry at its place
 pub entry_at : (as_kept xs : ContextedPatches) (i : ℕ) (e : Key × ContextedPatch) → as_kept ≡ xs → Some e ≡ slice_get (entries as_kept) i → slice_get (entries xs) i ≡ Some e

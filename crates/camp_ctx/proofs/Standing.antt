@@ -1,25 +1,8 @@
 -- What stays as it is where a primitive passes it as it is.
-use Rattle.std.proofs.Common.{◌≡◌, ◌∙◌, ℕ, suc, ◌<◌, ◌≤◌, length, Some, None, Bool, true, false, cond, List, [], ◌∷◌, ◌++◌, map, refl, sym, ap, subst, inl, inr, arith}
-use Rattle.std.specs.List.{slice_get}
-use Rattle.std.specs.FinMap.{entries, get-entries, len, len-entries}
-use Rattle.std.specs.FinMap.Entries.{find}
-use Rattle.std.specs.Ordering.{eq_by_cmp}
-use Rattle.camp_prim.specs.Effect.{inverse_of}
-use Rattle.camp_prim.specs.Labels.{label_of, key_of, key_cmp}
-use Rattle.camp_prim.specs.Swaps.{Swap}
-use Rattle.camp_prim.specs.declared.labels.Key.{Key}
-use Rattle.camp_prim.specs.declared.labels.Label.{Label}
-use Rattle.camp_prim.specs.declared.named.Named.{Named}
-use Rattle.camp_prim.proofs.Inverses.{inverse_of-inverse_of}
-use Rattle.camp_seq.specs.NormalOrder.{Norm, Splits}
-use Rattle.camp_seq.specs.Passing.{Fronts, Parts, Passes}
-use Rattle.camp_seq.proofs.MergeGrid.{passes_row}
-use Rattle.camp_seq.proofs.OwnOrders.{chain_is_ordered}
-use Rattle.camp_ctx.specs.Adding.{Adds, commute}
-use Rattle.camp_ctx.specs.Conflicts.{MergesBehindCommon, common_labels, has_label, Conflict}
-use Rattle.camp_ctx.specs.Contexts.{ChangesAt, ContextedPatches, EachMember, ContextedPatch, whole}
+use Rattle.camp_ctx.proofs.Words.{◌≡◌, ◌∙◌, ℕ, suc, ◌<◌, ◌≤◌, length, Some, None, Bool, true, false, cond, List, [], ◌∷◌, ◌++◌, map, refl, sym, ap, subst, inl, inr, arith, slice_get, entries, get-entries, len, len-entries, find, eq_by_cmp, inverse_of, label_of, key_of, key_cmp, Swap, Key, Label, Named, inverse_of-inverse_of, Norm, Splits, Parts, Passes, passes_row, chain_is_ordered, Adds}
+use Rattle.camp_ctx.proofs.Words.{commute, MergesBehindCommon, common_labels, has_label, Conflict, ChangesAt, ContextedPatches, EachMember, ContextedPatch, whole}
 use Rattle.camp_ctx.specs.Inside.Apart.{NoCleanMerge}
-use Rattle.camp_ctx.proofs.CommonLabels.{IsIn, in_from_has}
+use Rattle.camp_ctx.proofs.CommonLabels.{IsIn, in_from_fronts, in_from_has}
 use Rattle.camp_ctx.proofs.ConflictSteps.{conflicts_from, merges_as_the_rests}
 use Rattle.camp_ctx.proofs.SetSteps.{members_of}
 
@@ -31,16 +14,10 @@ has_other_labels a (q ∷ s) s' a' w l same (inl is) =
 has_other_labels a (q ∷ s) s' a' w l same (inr among) =
     has_other_labels w.1 s _ a' w.4 l (same ∙ ap key_of (sym w.3.anywhere.first)) among
 
--- what comes to the front of a list is in it
-front_is_in : (l : Label) (s : List Named) (y : Named) (t : List Named) → Fronts l s y t → IsIn l (map label_of s)
-front_is_in l [] y t fronts = absurd fronts
-front_is_in l (p ∷ s) y t (inl here) = inl here.0
-front_is_in l (p ∷ s) y t (inr later) = inr (front_is_in l s later.1.0 later.1.2 later.1.3)
-
 -- what passes by a contexted patch in normal order, where all stay as they are, is added to it so
 pub stays_put : (a : Named) (x : ContextedPatch) → Passes a x.context x.context a → Norm x.context x.context → Swap a x.patch x.patch a → Adds a x x
 stays_put a x passes own swap =
-    commute (λ y w. has_other_labels a x.context x.context a passes (label_of (inverse_of a)) refl (front_is_in _ x.context _ _ w.front))
+    commute (λ y w. has_other_labels a x.context x.context a passes (label_of (inverse_of a)) refl (in_from_fronts _ x.context _ _ w.front))
     (record { a' = a; a'' = a; passed = x.context; past_context = passes; past_patch = swap; context = own })
 
 -- what changes each element of entries to itself changes each value to itself

@@ -1,15 +1,7 @@
 -- What edits at a place do to a sorted list of entries, and to the map that it stands for.
-use Rattle.std.proofs.Common.{◌≡◌, ℕ, zero, suc, Bool, true, false, cond, not, ◌&&◌, T, List, [], ◌∷◌, ◌++◌, get_or, set, sym, ◌<◌, ◌≤◌, arith, ap, subst, ◌∙◌, refl, length, None, Some}
-use Rattle.std.proofs.lemmas.List.{append-nil}
-use Rattle.std.specs.List.{insert, remove}
-use Rattle.std.specs.declared.cmp.Ordering.{Ordering}
-use Rattle.std.specs.Ordering.{is_lt, is_eq, eq_by_cmp, ordering_reverse}
-use Rattle.std.specs.declared.cmp.Ordering.TheVariants.{Less, Equal, Greater}
-use Rattle.std.specs.Cmp.{IsTotalOrder, tied_itself, tied_back, alike_right, eq_by_cmp_equiv}
+use Rattle.camp_share.proofs.Words.{◌≡◌, ℕ, zero, suc, Bool, true, false, cond, not, ◌&&◌, T, List, [], ◌∷◌, ◌++◌, get_or, set, sym, ◌<◌, ◌≤◌, arith, ap, subst, ◌∙◌, refl, length, None, Some, append-nil, insert, remove, Ordering, is_lt, is_eq, eq_by_cmp, ordering_reverse, Less, Equal, Greater, IsTotalOrder, tied_itself, tied_back, alike_right, eq_by_cmp_equiv, from_sorted, entries_sorted}
+use Rattle.camp_share.proofs.Words.{IsAntisymmetric, same_map, same_entries_map, entries-from_sorted, entries-insert, get-from_sorted, get-remove, get-retain_keys, get_tied, len-entries, empty_of_len, find, put, is_sorted, below_all, where_key, is_sorted-put, is_sorted-where_key, find-where_key, IsAt, WouldBeAt}
 use Rattle.std.specs.FinMap as map
-use Rattle.std.specs.FinMap.{from_sorted, entries_sorted, IsAntisymmetric, same_map, same_entries_map, entries-from_sorted, entries-insert, get-from_sorted, get-remove, get-retain_keys, get_tied, len-entries, empty_of_len}
-use Rattle.std.specs.FinMap.Entries.{find, put, is_sorted, below_all, where_key, is_sorted-put, is_sorted-where_key, find-where_key}
-use Rattle.camp_share.specs.Inside.Places.{IsAt, WouldBeAt}
 
 pub first : (a b : Bool) → T (a && b) → T a
 first true b h = tt

@@ -1,14 +1,7 @@
 -- Where a search finds a key, part by part.
-use Rattle.std.proofs.Common.{◌≡◌, ℕ, zero, suc, ◌+◌, ◌<◌, ◌≤◌, T, List, [], ◌∷◌, ◌++◌, length, get_or, false, ap, subst, ◌∙◌, Ok, Err, Result, IfOk, IfErr, arith}
+use Rattle.camp_share.proofs.Words.{◌≡◌, ℕ, zero, suc, ◌+◌, ◌<◌, ◌≤◌, T, List, [], ◌∷◌, ◌++◌, length, get_or, false, append-nil, ap, subst, ◌∙◌, Ok, Err, Result, IfOk, IfErr, arith, Ordering, Less, Equal, Greater, ordering_index, ordering_reverse, is_lt, IsTotalOrder, IsAntisymmetric, is_sorted, below_all, IsAt, WouldBeAt, IsAbove}
 use Rattle.std.specs.List.Sorted.{IsSearchInRange, IsBinarySearchResult, IsNonDecreasingBy}
 use Rattle.std.proofs.lemmas.List.Sorted.{searchable_from_sorted}
-use Rattle.std.specs.declared.cmp.Ordering.{Ordering}
-use Rattle.std.specs.declared.cmp.Ordering.TheVariants.{Less, Equal, Greater}
-use Rattle.std.specs.Ordering.{ordering_index, ordering_reverse, is_lt}
-use Rattle.std.specs.Cmp.{IsTotalOrder}
-use Rattle.std.specs.FinMap.{IsAntisymmetric}
-use Rattle.std.specs.FinMap.Entries.{is_sorted, below_all}
-use Rattle.camp_share.specs.Inside.Places.{IsAt, WouldBeAt, IsAbove}
 use Rattle.camp_share.proofs.Entries.{first, second, both, is_less, above}
 
 module _ {K X : Type 0} (R : K → K → Ordering) where
@@ -23,15 +16,6 @@ module _ {K X : Type 0} (R : K → K → Ordering) where
   pub sorted_right : (xs ys : List (K × X)) → T (is_sorted R (xs ++ ys)) → T (is_sorted R ys)
   sorted_right [] ys h = h
   sorted_right (x ∷ xs) ys h = sorted_right xs ys (second _ _ h)
-
-  below_end : (k : K) (xs : List (K × X)) (e : K × X) → T (below_all R k (xs ++ e ∷ [])) → R k e.0 ≡ Less
-  below_end k [] e h = is_less _ (first _ _ h)
-  below_end k (x ∷ xs) e h = below_end k xs e (second _ _ h)
-
-  -- a key above the last of entries in order is above them all
-  pub above_last : IsTotalOrder R → (k : K) (xs : List (K × X)) (e : K × X) → T (is_sorted R (xs ++ e ∷ [])) → R e.0 k ≡ Less → IsAbove R (xs ++ e ∷ []) k
-  above_last o k [] e h less = (less, tt)
-  above_last o k (x ∷ xs) e h less = (o.trans x.0 e.0 k (below_end x.0 xs e (first _ _ h)) less, above_last o k xs e (second _ _ h) less)
 
   below_next : (k : K) (xs ys : List (K × X)) (y : K × X) → T (below_all R k (xs ++ y ∷ ys)) → R k y.0 ≡ Less
   below_next k [] ys y h = is_less _ (first _ _ h)
@@ -52,16 +36,13 @@ module _ {K X : Type 0} (R : K → K → Ordering) where
   last_above k [] e h = h.0
   last_above k (x ∷ xs) e h = last_above k xs e h.1
 
-  pub above_would : (k : K) (xs : List (K × X)) (n : ℕ) → n ≡ length xs → IsAbove R xs k → WouldBeAt R xs k n
-  above_would k [] zero e h = tt
-  above_would k [] (suc n) e h = absurd (omega arith)
-  above_would k (x ∷ xs) zero e h = absurd (omega arith)
-  above_would k (x ∷ xs) (suc n) e h = (h.0, above_would k xs n (omega arith) h.1)
-
   pub would_behind : (k : K) (xs ys : List (K × X)) (i n : ℕ) → n ≡ length xs + i → IsAbove R xs k → WouldBeAt R ys k i → WouldBeAt R (xs ++ ys) k n
   would_behind k [] ys i n e h w = subst (WouldBeAt R ys k) {x = i} {y = n} (omega arith) w
   would_behind k (x ∷ xs) ys i zero e h w = absurd (omega arith)
   would_behind k (x ∷ xs) ys i (suc n) e h w = (h.0, would_behind k xs ys i n (omega arith) h.1 w)
+
+  pub above_would : (k : K) (xs : List (K × X)) (n : ℕ) → n ≡ length xs → IsAbove R xs k → WouldBeAt R xs k n
+  above_would k xs n e h = subst (λ ys. WouldBeAt R ys k n) (append-nil xs) (would_behind k xs [] 0 n (omega arith) h tt)
 
   pub would_front : (k : K) (xs ys : List (K × X)) (i : ℕ) → ¬ (IsAbove R xs k) → WouldBeAt R xs k i → WouldBeAt R (xs ++ ys) k i
   would_front k [] ys i reached w = absurd (reached tt)

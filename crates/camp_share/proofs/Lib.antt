@@ -3,3 +3,4 @@ mod Found
 mod MapLemmas
 mod Parted
 mod PartLemmas
+pub mod Words

@@ -1,13 +1,6 @@
 -- What the maps of entries in order are, and what edits of the entries do to them.
-use Rattle.std.proofs.Common.{◌≡◌, ℕ, T, None, List, length, set, sym, ap, subst, ◌∙◌}
-use Rattle.std.specs.List.{insert, remove}
-use Rattle.std.specs.declared.cmp.Ordering.{Ordering}
-use Rattle.std.specs.Cmp.{IsTotalOrder}
+use Rattle.camp_share.proofs.Words.{◌≡◌, ℕ, T, None, List, length, set, sym, ap, subst, ◌∙◌, insert, remove, Ordering, IsTotalOrder, IsAntisymmetric, entries-from_sorted, get-from_sorted, len-entries, is_sorted, find, map_of, IsAt, WouldBeAt}
 use Rattle.std.specs.FinMap as map
-use Rattle.std.specs.FinMap.{IsAntisymmetric, entries-from_sorted, get-from_sorted, len-entries}
-use Rattle.std.specs.FinMap.Entries.{is_sorted, find}
-use Rattle.camp_share.specs.Maps.{map_of}
-use Rattle.camp_share.specs.Inside.Places.{IsAt, WouldBeAt}
 use Rattle.camp_share.proofs.Entries.{map_inserted, map_replaced, map_removed, map_kept, absent}
 
 module _ {K X : Type 0} (R : K → K → Ordering) (o : IsTotalOrder R) (inside now : List (K × X)) (is : inside ≡ now) (sorted : T (is_sorted R inside)) where

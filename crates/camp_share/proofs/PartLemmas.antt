@@ -1,17 +1,9 @@
 -- Elements and ranges of lists in parts.
-use Rattle.std.proofs.Common.{◌≡◌, ℕ, zero, suc, ◌+◌, ◌-◌, ◌<◌, ◌≤◌, List, [], ◌∷◌, ◌++◌, length, get_or, set, take, drop, Option, None, Some, Bor, sym, ap, subst, ◌∙◌, refl, arith}
-use Rattle.std.proofs.lemmas.List.{drop_all, drop-drop, get_or_default, get_or-drop, length-drop, append-nil, append_assoc, length-append, take_more, drop_more, take_all, take-append-drop, take-append-le, drop-append-le, get_or-append-add, get_or_append_left, set_split}
-use Rattle.std.proofs.Math.Seq.{take-nil, take-append-add, drop-append-add}
+use Rattle.camp_share.proofs.Words.{◌≡◌, ℕ, zero, suc, ◌+◌, ◌-◌, ◌<◌, ◌≤◌, List, [], ◌∷◌, ◌++◌, length, get_or, set, take, drop, Option, None, Some, Bor, sym, ap, subst, ◌∙◌, refl, arith, drop_all, drop-drop, get_or_default, get_or-drop, length-drop, append-nil, append_assoc, length-append, take_more, drop_more, take_all, take-append-drop, take-append-le, drop-append-le, get_or-append-add}
+use Rattle.camp_share.proofs.Words.{get_or_append_left, set_split, take-nil, take-append-add, drop-append-add, All, slice_get, slice_range, insert, remove, TakesFirst, deref, option_copied, flat_map-append, recursion_from_All, joined, IsPart, offset, IsPlace, Vec, vec_len}
 use Rattle.std.proofs.lemmas.Option.{slice_get_past, slice_get_read}
-use Rattle.std.specs.List.{All, AllByRecursion, slice_get, slice_range, insert, remove}
-use Rattle.std.specs.Map.Iter.{TakesFirst, deref}
-use Rattle.std.specs.Option.{option_copied}
-use Rattle.std.proofs.lemmas.Grind.{flat_map-append}
+use Rattle.std.specs.List.{AllByRecursion}
 use Rattle.std.proofs.lemmas.List.Folds.{length-flat_map-take}
-use Rattle.std.proofs.lemmas.List.Elements.{recursion_from_All}
-use Rattle.camp_share.specs.Inside.Parts.{joined, IsPart, offset, IsPlace}
-use Rattle.std.specs.declared.vec.Vec.{Vec}
-use Rattle.std.specs.Vec.{vec_len}
 
 -- the length that a lent part tells
 pub length_told : {X Z : Type 0} (lent part : Vec X Z) (n : ℕ) → lent ≡ part → n ≡ vec_len lent → n ≡ length part.items

@@ -1,20 +1,8 @@
 -- A key's place among entries in parts, from its place in one part.
-use Rattle.std.proofs.Common.{◌≡◌, ◌↔◌, ℕ, ◌+◌, ◌-◌, ◌<◌, ◌≤◌, Bool, true, T, List, [], ◌∷◌, ◌++◌, length, get_or, take, drop, IsTrue, Some, sym, ap, subst, ◌∙◌, refl, arith}
-use Rattle.std.proofs.lemmas.List.{length-append, length-drop, append-nil, append_assoc, drop-drop, drop_at, get_or-drop, take-append-drop, take-append-le, take_all, take_more, get_or-append-add, get_or_append_left}
-use Rattle.std.proofs.lemmas.Grind.{flat_map-append}
-use Rattle.std.proofs.lemmas.List.Elements.{All-drop, All-take}
-use Rattle.std.proofs.Math.Seq.{take-add}
-use Rattle.std.specs.List.{All}
-use Rattle.std.specs.declared.cmp.Ordering.{Ordering}
-use Rattle.std.specs.declared.cmp.Ordering.TheVariants.{Less, Equal, Greater}
-use Rattle.std.specs.declared.vec.Vec.{Vec}
-use Rattle.std.specs.Ordering.{is_lt}
-use Rattle.std.specs.Cmp.{IsTotalOrder}
-use Rattle.std.specs.FinMap.Entries.{is_sorted, find}
-use Rattle.camp_share.specs.Inside.Parts.{joined, IsPart}
-use Rattle.camp_share.specs.Inside.Places.{IsAt, WouldBeAt, IsAbove}
+use Rattle.camp_share.proofs.Words.{◌≡◌, ◌↔◌, ℕ, ◌+◌, ◌-◌, ◌<◌, ◌≤◌, Bool, true, T, List, [], ◌∷◌, ◌++◌, length, get_or, take, drop, IsTrue, Some, sym, ap, subst, ◌∙◌, refl, arith, length-append, length-drop, append-nil, append_assoc, drop-drop, drop_at, get_or-drop, take-append-drop, take-append-le, take_all, take_more, get_or-append-add, get_or_append_left, flat_map-append, All-drop, All-take}
+use Rattle.camp_share.proofs.Words.{take-add, All, Ordering, Less, Equal, Greater, Vec, is_lt, IsTotalOrder, is_sorted, find, joined, IsPart, IsAt, WouldBeAt, IsAbove}
 use Rattle.camp_share.proofs.Entries.{is_less, present, at_within}
-use Rattle.camp_share.proofs.Found.{sorted_left, sorted_right, above_last, above_behind, above_both, last_above, above_would, would_behind, would_front, at_behind, at_front}
+use Rattle.camp_share.proofs.Found.{sorted_left, sorted_right, above_behind, above_both, last_above, above_would, would_behind, would_front, at_behind, at_front}
 use Rattle.camp_share.proofs.PartLemmas.{closed_passed, from_here, up_to_here}
 
 less_told : (r : Ordering) → (is_lt r ≡ true → r ≡ Less) × (r ≡ Less → is_lt r ≡ true)
@@ -32,7 +20,7 @@ module _ {K X : Type 0} (R : K → K → Ordering) (o : IsTotalOrder R) where
   pub by_last : (es : List (K × X)) (e : K × X) (key : K) (told : Bool) → T (is_sorted R es) → 0 < length es → e ≡ get_or es (length es - 1) e → told ≡ is_lt (R e.0 key) → IsTrue told ↔ IsAbove R es key
   by_last es e key told sorted some read is =
       let parts = ends es e some read in (
-        λ yes. subst (λ xs. IsAbove R xs key) (sym parts) (above_last R o key (take (length es - 1) es) e (subst (λ xs. T (is_sorted R xs)) parts sorted) ((less_told _).0 (sym is ∙ yes))),
+        λ yes. subst (λ xs. IsAbove R xs key) (sym parts) (above_behind R o key (take (length es - 1) es) (e ∷ []) (omega arith) (subst (λ xs. T (is_sorted R xs)) parts sorted) ((less_told _).0 (sym is ∙ yes), tt)),
         λ all. is ∙ (less_told _).1 (last_above R key (take (length es - 1) es) e (subst (λ xs. IsAbove R xs key) parts all)),
       )
 

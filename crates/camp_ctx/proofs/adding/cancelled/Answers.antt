@@ -1,5 +1,4 @@
-use Rattle.std.proofs.Common.{◌∙◌, ap, sym}
-use Rattle.camp_prim.specs.Labels.{opposite}
+use Rattle.camp_ctx.proofs.Words.{◌∙◌, ap, sym, opposite}
 use Rattle.camp_ctx.proofs.AddSteps.{nothing_cancels, not_cancelled, cancels_from}
 use Rattle.camp_ctx.proofs.CommonLabels.{none_fronts}
 use Rattle.camp_ctx.proofs.adding.cancelled.Goals as goal

@@ -1,5 +1,4 @@
-use Rattle.std.proofs.Common.{ap, sym, [], ◌∷◌, ◌∙◌}
-use Rattle.camp_prim.specs.Labels.{label_of}
+use Rattle.camp_ctx.proofs.Words.{ap, sym, [], ◌∷◌, ◌∙◌, label_of}
 use Rattle.camp_ctx.proofs.Standing.{clashes}
 use Rattle.camp_ctx.proofs.conflicts.clash.Goals as goal
 

@@ -1,8 +1,6 @@
-use Rattle.std.proofs.Common.{rules, tests}
+use Rattle.camp_ctx.proofs.Words.{rules, tests, label_of, has_label}
 use Rattle.std.proofs.lemmas.Iterator.{YieldsList-from_slice, YieldsList-from_map, items_from_collect}
 use Rattle.std.proofs.lemmas.Iterator.Consumers.{YieldsList-from_filter}
-use Rattle.camp_prim.specs.Labels.{label_of}
-use Rattle.camp_ctx.specs.Conflicts.{has_label}
 use Rattle.camp_ctx.proofs.conflicts.common_labels.Goals as goal
 
 pub returns : goal.returns

@@ -1,4 +1,4 @@
-use Rattle.std.proofs.Common.{refl}
+use Rattle.camp_ctx.proofs.Words.{refl}
 use Rattle.camp_ctx.proofs.ConflictSteps.{conflicts_from}
 use Rattle.camp_ctx.proofs.conflicts.conflict.Goals as goal
 

@@ -1,6 +1,5 @@
-use Rattle.std.proofs.Common.{◌∙◌, [], refl}
+use Rattle.camp_ctx.proofs.Words.{◌∙◌, [], refl, common_labels}
 use Rattle.std.proofs.lemmas.Result.{IfOk-weaker}
-use Rattle.camp_ctx.specs.Conflicts.{common_labels}
 use Rattle.camp_ctx.proofs.ConflictSteps.{no_first, no_second, other_fronts, merges_as_the_rests}
 use Rattle.camp_ctx.proofs.Standing.{no_split}
 use Rattle.camp_ctx.proofs.conflicts.merge_behind_common.Goals as goal

@@ -1,4 +1,4 @@
-use Rattle.std.proofs.Common.{◌∙◌}
+use Rattle.camp_ctx.proofs.Words.{◌∙◌}
 use Rattle.camp_ctx.proofs.Standing.{merge_aside_told}
 use Rattle.camp_ctx.proofs.conflicts.stand_aside.Goals as goal
 

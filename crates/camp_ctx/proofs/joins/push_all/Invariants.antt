@@ -1,4 +1,4 @@
-use Rattle.std.proofs.Common.{◌≡◌, ◌++◌, take}
+use Rattle.camp_ctx.proofs.Words.{◌≡◌, ◌++◌, take}
 use Rattle.camp_ctx.proofs.joins.push_all.Given as goal
 
 abbrev pub invariant-loop-p : goal.invariant-loop-p

@@ -1,4 +1,4 @@
-use Rattle.camp_ctx.specs.Adding.{Adds, AddsAll}
+use Rattle.camp_ctx.proofs.Words.{Adds, AddsAll}
 use Rattle.camp_ctx.proofs.AddResults.{add_exists, add_of_all_exists}
 use Rattle.camp_ctx.proofs.SetChanges.{members_change}
 use Rattle.camp_ctx.proofs.laws.adding_always_gives.Goals as goal

@@ -1,6 +1,4 @@
-use Rattle.camp_prim.specs.Effect.{Applies}
-use Rattle.camp_seq.specs.Running.{AppliesAll}
-use Rattle.camp_ctx.specs.Adding.{Adds, AddsAll}
+use Rattle.camp_ctx.proofs.Words.{Applies, AppliesAll, Adds, AddsAll}
 use Rattle.camp_ctx.proofs.AddValid.{valid_by_adding, valid_by_adding_all, valid_by_passing, valid_by_passing_all}
 use Rattle.camp_ctx.proofs.SetChanges.{members_valid}
 use Rattle.camp_ctx.proofs.laws.adding_and_passing_keep_valid.Goals as goal

@@ -1,4 +1,4 @@
-use Rattle.camp_ctx.specs.Adding.{Adds, AddsAll}
+use Rattle.camp_ctx.proofs.Words.{Adds, AddsAll}
 use Rattle.camp_ctx.proofs.AddResults.{one_add, one_add_of_all, one_passing_by, one_passing_of_all}
 use Rattle.camp_ctx.proofs.ConflictLaws.{one_merge_behind}
 use Rattle.camp_ctx.proofs.SetChanges.{one_change_of_members}

@@ -1,7 +1,4 @@
-use Rattle.std.proofs.Common.{◌≡◌, ◌+◌, ◌-◌, ◌∷◌, ◌++◌, List, drop, ap, sym, subst, ◌∙◌, arith}
-use Rattle.std.proofs.lemmas.List.{drop_more, take_rest}
-use Rattle.camp_prim.specs.declared.named.Named.{Named}
-use Rattle.camp_ctx.specs.Inside.Links.{Links}
+use Rattle.camp_ctx.proofs.Words.{◌≡◌, ◌+◌, ◌-◌, ◌∷◌, ◌++◌, List, drop, ap, sym, subst, ◌∙◌, arith, drop_more, take_rest, Named, Links}
 use Rattle.camp_ctx.proofs.LinkSteps.{Linked, linked_more}
 use Rattle.camp_ctx.proofs.links.links_from.Goals as goal
 

@@ -1,4 +1,4 @@
-use Rattle.std.proofs.Common.{drop}
+use Rattle.camp_ctx.proofs.Words.{drop}
 use Rattle.camp_ctx.proofs.LinkSteps.{Linked}
 use Rattle.camp_ctx.proofs.links.links_from.Given as goal
 

@@ -1,6 +1,4 @@
-use Rattle.std.proofs.Common.{◌++◌, take, ap, ◌∙◌, arith}
-use Rattle.std.proofs.lemmas.Result.{IfOk-weaker}
-use Rattle.camp_share.specs.Inside.Parts.{joined}
+use Rattle.camp_share.proofs.Words.{◌++◌, take, ap, ◌∙◌, arith, IfOk-weaker, joined}
 use Rattle.camp_share.proofs.PartLemmas.{before_part, before_place, place_within, length_grown}
 use Rattle.camp_share.proofs.changes.front_of.Goals as goal
 

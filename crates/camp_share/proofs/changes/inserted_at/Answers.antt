@@ -1,6 +1,4 @@
-use Rattle.std.proofs.Common.{◌<◌, ◌++◌, ◌∷◌, [], length, take, drop, ◌∙◌, ap, arith, Vec}
-use Rattle.std.proofs.lemmas.Result.{IfOk-weaker}
-use Rattle.camp_share.specs.Inside.Parts.{joined, offset}
+use Rattle.camp_share.proofs.Words.{◌<◌, ◌++◌, ◌∷◌, [], length, take, drop, ◌∙◌, ap, arith, Vec, IfOk-weaker, joined, offset}
 use Rattle.camp_share.proofs.PartLemmas.{parts_fewer, length_grown, renewed_behind, inserted_between}
 use Rattle.camp_share.proofs.changes.inserted_at.Goals as goal
 

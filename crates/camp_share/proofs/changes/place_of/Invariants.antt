@@ -1,5 +1,4 @@
-use Rattle.std.proofs.Common.{◌≡◌, ◌+◌, length, take, drop}
-use Rattle.camp_share.specs.Inside.Parts.{joined}
+use Rattle.camp_share.proofs.Words.{◌≡◌, ◌+◌, length, take, drop, joined}
 use Rattle.camp_share.proofs.changes.place_of.Given as goal
 
 abbrev pub invariant-loop-part : goal.invariant-loop-part

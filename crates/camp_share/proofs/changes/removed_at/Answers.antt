@@ -1,5 +1,4 @@
-use Rattle.std.proofs.Common.{◌+◌, arith}
-use Rattle.std.proofs.lemmas.Result.{IfOk-weaker}
+use Rattle.camp_share.proofs.Words.{◌+◌, arith, IfOk-weaker}
 use Rattle.camp_share.proofs.PartLemmas.{front_within, removed_between}
 use Rattle.camp_share.proofs.changes.removed_at.Goals as goal
 

@@ -1,5 +1,4 @@
-use Rattle.std.proofs.Common.{◌∙◌, ◌+◌, take, ap, arith, refl, Vec}
-use Rattle.std.proofs.lemmas.Result.{IfOk-weaker}
+use Rattle.camp_share.proofs.Words.{◌∙◌, ◌+◌, take, ap, arith, refl, Vec, IfOk-weaker}
 use Rattle.camp_share.proofs.PartLemmas.{front_within, length_grown, place_within, renewed_behind, replaced_between}
 use Rattle.camp_share.proofs.changes.replaced_at.Goals as goal
 

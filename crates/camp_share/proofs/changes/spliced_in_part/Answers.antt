@@ -1,5 +1,4 @@
-use Rattle.std.proofs.Common.{◌≡◌, ◌<◌, ◌+◌, ◌++◌, length, take, drop, ◌∙◌, ap, arith, Vec}
-use Rattle.camp_share.specs.Inside.Parts.{joined, offset}
+use Rattle.camp_share.proofs.Words.{◌≡◌, ◌<◌, ◌+◌, ◌++◌, length, take, drop, ◌∙◌, ap, arith, Vec, joined, offset}
 use Rattle.camp_share.proofs.PartLemmas.{parts_fewer, length_grown, renewed_behind}
 use Rattle.camp_share.proofs.changes.spliced_in_part.Goals as goal
 

@@ -1,7 +1,4 @@
-use Rattle.std.proofs.Common.{sym, ap, subst, ◌∙◌, arith, Vec, take}
-use Rattle.std.specs.List.{All}
-use Rattle.std.proofs.lemmas.List.Elements.{All-append, All-drop, All-take}
-use Rattle.camp_share.specs.Inside.Parts.{joined, IsPart}
+use Rattle.camp_share.proofs.Words.{sym, ap, subst, ◌∙◌, arith, Vec, take, All, All-append, All-drop, joined, IsPart}
 use Rattle.camp_share.proofs.PartLemmas.{parts_fewer, length_grown, joined_between, pushed_behind}
 use Rattle.camp_share.proofs.changes.with_end_of.Goals as goal
 

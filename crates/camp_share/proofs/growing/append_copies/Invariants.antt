@@ -1,4 +1,5 @@
-use Rattle.std.proofs.Common.{◌≡◌, ◌≤◌, ◌+◌, ◌++◌, length, take, vec_len, vec_capacity}
+use Rattle.std.proofs.Common.{vec_capacity}
+use Rattle.camp_share.proofs.Words.{◌≡◌, ◌≤◌, ◌+◌, ◌++◌, length, take, vec_len}
 use Rattle.camp_share.proofs.growing.append_copies.Given as goal
 
 abbrev pub invariant-loop-item : goal.invariant-loop-item

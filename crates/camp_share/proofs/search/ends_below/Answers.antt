@@ -1,5 +1,4 @@
-use Rattle.std.proofs.Common.{ap, ◌∙◌}
-use Rattle.std.specs.Ordering.{is_lt}
+use Rattle.camp_share.proofs.Words.{ap, ◌∙◌, is_lt}
 use Rattle.camp_share.proofs.Parted.{by_last}
 use Rattle.camp_share.proofs.search.ends_below.Goals as goal
 

@@ -1,7 +1,4 @@
-use Rattle.std.proofs.Common.{T, ◌+◌, ◌-◌, length, take, sym, ap, subst, ◌∙◌, arith, Vec}
-use Rattle.std.specs.FinMap.{is_sorted}
-use Rattle.camp_share.specs.Inside.Parts.{joined}
-use Rattle.camp_share.specs.Inside.Places.{IsAbove}
+use Rattle.camp_share.proofs.Words.{T, ◌+◌, ◌-◌, length, take, sym, ap, subst, ◌∙◌, arith, Vec, is_sorted, joined, IsAbove}
 use Rattle.camp_share.proofs.PartLemmas.{part_is}
 use Rattle.camp_share.proofs.Parted.{part_sorted, above_part}
 use Rattle.camp_share.proofs.search.part_among.Goals as goal

@@ -1,6 +1,4 @@
-use Rattle.std.proofs.Common.{◌≡◌, ◌<◌, ◌≤◌, ◌-◌, length, take, get_or}
-use Rattle.camp_share.specs.Inside.Parts.{joined}
-use Rattle.camp_share.specs.Inside.Places.{IsAbove}
+use Rattle.camp_share.proofs.Words.{◌≡◌, ◌<◌, ◌≤◌, ◌-◌, length, take, get_or, joined, IsAbove}
 use Rattle.camp_share.proofs.search.part_among.Given as goal
 
 abbrev pub invariant-loop-low : goal.invariant-loop-low

@@ -1,6 +1,4 @@
-use Rattle.std.proofs.Common.{◌≡◌, ◌≤◌, ◌++◌, length, take, drop}
-use Rattle.camp_share.specs.Inside.Parts.{joined}
-use Rattle.camp_share.specs.Inside.Places.{IsAbove}
+use Rattle.camp_share.proofs.Words.{◌≡◌, ◌≤◌, ◌++◌, length, take, drop, joined, IsAbove}
 use Rattle.camp_share.proofs.search.part_for.Given as goal
 
 abbrev pub invariant-loop-group : goal.invariant-loop-group

@@ -1,4 +1,4 @@
-use Rattle.std.proofs.Common.{rules}
+use Rattle.camp_share.proofs.Words.{rules}
 use Rattle.std.proofs.lemmas.Fn.{always_returns_same}
 use Rattle.camp_share.proofs.Found.{searched}
 use Rattle.camp_share.proofs.search.place_in.Goals as goal

@@ -1,6 +1,4 @@
-use Rattle.std.proofs.Common.{T, Vec, ◌+◌, sym, ap, subst, ◌∙◌, arith, add-zero}
-use Rattle.std.specs.FinMap.{is_sorted}
-use Rattle.camp_share.specs.Inside.Places.{IsAt, WouldBeAt}
+use Rattle.camp_share.proofs.Words.{T, Vec, ◌+◌, sym, ap, subst, ◌∙◌, arith, add-zero, is_sorted, IsAt, WouldBeAt}
 use Rattle.camp_share.proofs.Entries.{at_within, would_be_within}
 use Rattle.camp_share.proofs.PartLemmas.{read_twice, parts_fewer, place_inside, place_at_end}
 use Rattle.camp_share.proofs.Parted.{part_sorted, at_in_part, gap_in_part, gap_at_end}

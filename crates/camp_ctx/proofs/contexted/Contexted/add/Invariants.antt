@@ -1,5 +1,4 @@
-use Rattle.std.proofs.Common.{drop}
-use Rattle.camp_ctx.specs.Adding.{AddsAll}
+use Rattle.camp_ctx.proofs.Words.{drop, AddsAll}
 use Rattle.camp_ctx.proofs.contexted.Contexted.add.Given as goal
 
 abbrev pub invariant-loop-at : goal.invariant-loop-at

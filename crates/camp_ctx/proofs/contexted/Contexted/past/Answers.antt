@@ -1,5 +1,4 @@
-use Rattle.std.proofs.Common.{◌≡◌, ◌+◌, ◌-◌, drop, subst, arith}
-use Rattle.camp_ctx.specs.Adding.{PassesBy, GivesNone, PassesByAll}
+use Rattle.camp_ctx.proofs.Words.{◌≡◌, ◌+◌, ◌-◌, drop, subst, arith, PassesBy, GivesNone, PassesByAll}
 use Rattle.camp_ctx.proofs.AddResults.{one_passing_by}
 use Rattle.camp_ctx.proofs.AddSteps.{none_at_step}
 use Rattle.camp_ctx.proofs.contexted.Contexted.past.Goals as goal

@@ -1,5 +1,4 @@
-use Rattle.std.proofs.Common.{drop}
-use Rattle.camp_ctx.specs.Adding.{PassesByAll}
+use Rattle.camp_ctx.proofs.Words.{drop, PassesByAll}
 use Rattle.camp_ctx.proofs.contexted.Contexted.past.Given as goal
 
 abbrev pub invariant-loop-at : goal.invariant-loop-at

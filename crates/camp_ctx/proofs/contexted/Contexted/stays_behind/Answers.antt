@@ -1,7 +1,4 @@
-use Rattle.std.proofs.Common.{◌∙◌, subst}
-use Rattle.camp_prim.specs.Swaps.{Swap}
-use Rattle.camp_seq.specs.NormalOrder.{Norm}
-use Rattle.camp_seq.specs.Passing.{Passes}
+use Rattle.camp_ctx.proofs.Words.{◌∙◌, subst, Swap, Norm, Passes}
 use Rattle.camp_ctx.proofs.Standing.{stays_put}
 use Rattle.camp_ctx.proofs.contexted.Contexted.stays_behind.Goals as goal
 

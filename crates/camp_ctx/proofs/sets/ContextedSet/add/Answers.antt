@@ -1,8 +1,4 @@
-use Rattle.std.proofs.Common.{ap, subst, ◌∙◌}
-use Rattle.camp_prim.specs.Labels.{key_cmp}
-use Rattle.camp_share.specs.Maps.{map_of}
-use Rattle.camp_ctx.specs.Adding.{AddsAll}
-use Rattle.camp_ctx.specs.Contexts.{AreKeyed, EachMember}
+use Rattle.camp_ctx.proofs.Words.{ap, subst, ◌∙◌, key_cmp, map_of, AddsAll, AreKeyed, EachMember}
 use Rattle.camp_ctx.proofs.SetSteps.{nothing_added, entry_at, one_more_added, none_missing, all_added, keyed_sum}
 use Rattle.camp_ctx.proofs.sets.ContextedSet.add.Goals.{in-Some+in_ok-sum+in_ok-members, in_default}
 use Rattle.camp_ctx.proofs.sets.ContextedSet.add.Goals as goal

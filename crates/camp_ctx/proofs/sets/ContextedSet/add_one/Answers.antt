@@ -1,4 +1,4 @@
-use Rattle.std.proofs.Common.{◌∙◌, ap, [], ◌++◌}
+use Rattle.camp_ctx.proofs.Words.{◌∙◌, ap, [], ◌++◌}
 use Rattle.camp_ctx.proofs.SetChanges.{added_alone}
 use Rattle.camp_ctx.proofs.sets.ContextedSet.add_one.Goals as goal
 

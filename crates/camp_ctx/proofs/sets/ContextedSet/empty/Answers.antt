@@ -1,5 +1,4 @@
-use Rattle.std.proofs.Common.{sym, subst}
-use Rattle.camp_ctx.specs.Contexts.{AreKeyed}
+use Rattle.camp_ctx.proofs.Words.{sym, subst, AreKeyed}
 use Rattle.camp_ctx.proofs.SetSteps.{keyed_empty}
 use Rattle.camp_ctx.proofs.sets.ContextedSet.empty.Goals as goal
 

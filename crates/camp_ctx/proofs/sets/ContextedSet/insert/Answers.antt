@@ -1,5 +1,4 @@
-use Rattle.std.proofs.Common.{sym, ap, ◌∙◌, subst}
-use Rattle.camp_ctx.specs.Contexts.{AreKeyed, context_key}
+use Rattle.camp_ctx.proofs.Words.{sym, ap, ◌∙◌, subst, AreKeyed, context_key}
 use Rattle.camp_ctx.proofs.SetSteps.{keyed_with}
 use Rattle.camp_ctx.proofs.sets.ContextedSet.insert.Goals as goal
 

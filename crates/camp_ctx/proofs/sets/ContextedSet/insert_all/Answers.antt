@@ -1,5 +1,4 @@
-use Rattle.std.proofs.Common.{sym, subst, take, ◌∙◌}
-use Rattle.camp_ctx.specs.Contexts.{AreKeyed}
+use Rattle.camp_ctx.proofs.Words.{sym, subst, take, ◌∙◌, AreKeyed}
 use Rattle.camp_ctx.proofs.SetSteps.{keyed_with_all}
 use Rattle.camp_ctx.proofs.sets.ContextedSet.insert_all.Goals as goal
 

@@ -1,4 +1,4 @@
-use Rattle.std.proofs.Common.{◌≡◌, refl, arith, length}
+use Rattle.camp_ctx.proofs.Words.{◌≡◌, refl, arith, length}
 use Rattle.camp_ctx.proofs.SetSteps.{members_of, count_of_members, same_members, same_by_index}
 use Rattle.camp_ctx.proofs.sets.ContextedSet.is_same.Goals as goal
 

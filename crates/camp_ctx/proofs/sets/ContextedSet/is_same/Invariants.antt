@@ -1,5 +1,4 @@
-use Rattle.std.proofs.Common.{◌≡◌, ℕ, ◌<◌}
-use Rattle.std.specs.List.{slice_get}
+use Rattle.camp_ctx.proofs.Words.{◌≡◌, ℕ, ◌<◌, slice_get}
 use Rattle.camp_ctx.proofs.SetSteps.{members_of}
 use Rattle.camp_ctx.proofs.sets.ContextedSet.is_same.Given as goal
 

@@ -1,7 +1,4 @@
-use Rattle.std.proofs.Common.{◌≡◌, ap, sym, ◌∙◌, None, Some, MatchOption}
-use Rattle.std.specs.FinMap.{len}
-use Rattle.std.specs.List.{slice_get}
-use Rattle.camp_ctx.specs.Contexts.{ContextedPatch, only}
+use Rattle.camp_ctx.proofs.Words.{◌≡◌, ap, sym, ◌∙◌, None, Some, MatchOption, len, slice_get, ContextedPatch, only}
 use Rattle.camp_ctx.proofs.SetSteps.{members_of, len-only, is_only, none_only}
 use Rattle.camp_ctx.proofs.sets.ContextedSet.sole.Goals as goal
 

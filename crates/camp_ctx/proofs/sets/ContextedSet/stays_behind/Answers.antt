@@ -1,4 +1,4 @@
-use Rattle.camp_ctx.specs.Adding.{Adds}
+use Rattle.camp_ctx.proofs.Words.{Adds}
 use Rattle.camp_ctx.proofs.Standing.{each_is_same}
 use Rattle.camp_ctx.proofs.sets.ContextedSet.stays_behind.Goals as goal
 

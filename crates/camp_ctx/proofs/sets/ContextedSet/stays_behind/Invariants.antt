@@ -1,7 +1,4 @@
-use Rattle.std.proofs.Common.{ℕ, ◌<◌}
-use Rattle.std.specs.List.{slice_get}
-use Rattle.camp_ctx.specs.Adding.{Adds}
-use Rattle.camp_ctx.specs.Contexts.{ChangesAt}
+use Rattle.camp_ctx.proofs.Words.{ℕ, ◌<◌, slice_get, Adds, ChangesAt}
 use Rattle.camp_ctx.proofs.SetSteps.{members_of}
 use Rattle.camp_ctx.proofs.sets.ContextedSet.stays_behind.Given as goal
 

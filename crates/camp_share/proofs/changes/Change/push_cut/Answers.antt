@@ -1,5 +1,4 @@
-use Rattle.std.proofs.Common.{◌++◌, drop, Vec, ap, ◌∙◌, arith}
-use Rattle.camp_share.specs.Inside.Parts.{joined, offset}
+use Rattle.camp_share.proofs.Words.{◌++◌, drop, Vec, ap, ◌∙◌, arith, joined, offset}
 use Rattle.camp_share.proofs.PartLemmas.{parts_fewer, place_within, behind_part, pushed_behind, length_grown}
 use Rattle.camp_share.proofs.changes.Change.push_cut.Goals as goal
 

@@ -1,4 +1,4 @@
-use Rattle.std.proofs.Common.{arith}
+use Rattle.camp_share.proofs.Words.{arith}
 use Rattle.camp_share.proofs.PartLemmas.{parts_fewer}
 use Rattle.camp_share.proofs.changes.Change.push_small.Goals as goal
 

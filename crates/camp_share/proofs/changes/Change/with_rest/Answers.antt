@@ -1,7 +1,4 @@
-use Rattle.std.proofs.Common.{sym, subst}
-use Rattle.std.specs.List.{All}
-use Rattle.std.proofs.lemmas.List.Elements.{All-append, All-drop}
-use Rattle.camp_share.specs.Inside.Parts.{IsPart}
+use Rattle.camp_share.proofs.Words.{sym, subst, All, All-append, All-drop, IsPart}
 use Rattle.camp_share.proofs.changes.Change.with_rest.Goals as goal
 
 pub returns-clause-parts : goal.returns-clause-parts

@@ -1,5 +1,4 @@
-use Rattle.std.proofs.Common.{◌≡◌, ◌<◌, ◌++◌, length, drop, get_or}
-use Rattle.camp_share.specs.Inside.Parts.{joined}
+use Rattle.camp_share.proofs.Words.{◌≡◌, ◌<◌, ◌++◌, length, drop, get_or, joined}
 use Rattle.camp_share.proofs.growing.Growing.at.Given as goal
 
 abbrev pub invariant-loop-part : goal.invariant-loop-part

@@ -1,5 +1,4 @@
-use Rattle.std.proofs.Common.{◌++◌, take, Vec, ap, ◌∙◌, arith}
-use Rattle.camp_share.specs.Inside.Parts.{joined}
+use Rattle.camp_share.proofs.Words.{◌++◌, take, Vec, ap, ◌∙◌, arith, joined}
 use Rattle.camp_share.proofs.PartLemmas.{front_cut, front_whole, length_told}
 use Rattle.camp_share.proofs.growing.Growing.front.Goals as goal
 

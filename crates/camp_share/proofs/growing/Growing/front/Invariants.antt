@@ -1,5 +1,4 @@
-use Rattle.std.proofs.Common.{◌≡◌, ◌+◌, length, take}
-use Rattle.camp_share.specs.Inside.Parts.{joined}
+use Rattle.camp_share.proofs.Words.{◌≡◌, ◌+◌, length, take, joined}
 use Rattle.camp_share.proofs.growing.Growing.front.Given as goal
 
 abbrev pub invariant-loop-part : goal.invariant-loop-part

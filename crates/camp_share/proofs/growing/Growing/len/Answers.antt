@@ -1,4 +1,4 @@
-use Rattle.std.proofs.Common.{arith}
+use Rattle.camp_share.proofs.Words.{arith}
 use Rattle.camp_share.proofs.PartLemmas.{shorter, length_told}
 use Rattle.camp_share.proofs.growing.Growing.len.Goals as goal
 

@@ -1,5 +1,4 @@
-use Rattle.std.proofs.Common.{◌≡◌, ◌+◌, length, drop}
-use Rattle.camp_share.specs.Inside.Parts.{joined}
+use Rattle.camp_share.proofs.Words.{◌≡◌, ◌+◌, length, drop, joined}
 use Rattle.camp_share.proofs.growing.Growing.len.Given as goal
 
 abbrev pub invariant-loop-part : goal.invariant-loop-part

@@ -1,5 +1,4 @@
-use Rattle.std.specs.Map.Iter.{deref}
-use Rattle.std_collections.proofs.IterRuns.{shows_in_order}
+use Rattle.camp_share.proofs.Words.{deref, shows_in_order}
 use Rattle.camp_share.proofs.iters.Iter.within.Goals as goal
 
 pub returns-clause-runs : goal.returns-clause-runs

@@ -1,7 +1,4 @@
-use Rattle.std.proofs.Common.{subst}
-use Rattle.std.specs.List.{All}
-use Rattle.std.proofs.lemmas.List.Elements.{All-tail}
-use Rattle.camp_share.specs.Inside.Parts.{IsPart}
+use Rattle.camp_share.proofs.Words.{subst, All, All-tail, IsPart}
 use Rattle.camp_share.proofs.iters.IterIterator.next.Goals as goal
 
 pub invariant_of-self-in-Some : goal.invariant_of-self-in-Some

@@ -1,5 +1,4 @@
-use Rattle.std.proofs.Common.{ap, ◌∙◌}
-use Rattle.std.specs.List.{slice_range}
+use Rattle.camp_share.proofs.Words.{ap, ◌∙◌, slice_range}
 use Rattle.camp_share.proofs.PartLemmas.{copied_between}
 use Rattle.camp_share.proofs.lists.SharedList.copied.Goals as goal
 

@@ -1,5 +1,4 @@
-use Rattle.std.proofs.Common.{◌≡◌, ◌-◌, length, take, drop}
-use Rattle.std.specs.Cmp.Lexicographic.{pointwise}
+use Rattle.camp_share.proofs.Words.{◌≡◌, ◌-◌, length, take, drop, pointwise}
 use Rattle.camp_share.proofs.lists.SharedList.has_at.Given as goal
 
 abbrev pub invariant-loop-item : goal.invariant-loop-item

@@ -1,7 +1,4 @@
-use Rattle.std.proofs.Common.{subst, ◌∙◌, arith}
-use Rattle.std.specs.List.{All}
-use Rattle.std.proofs.lemmas.List.Elements.{All-tail}
-use Rattle.camp_share.specs.Inside.Parts.{IsPart}
+use Rattle.camp_share.proofs.Words.{subst, ◌∙◌, arith, All, All-tail, IsPart}
 use Rattle.camp_share.proofs.PartLemmas.{left_behind, length_told}
 use Rattle.camp_share.proofs.lists.SharedList.iter_from.Goals as goal
 

@@ -1,6 +1,4 @@
-use Rattle.std.proofs.Common.{◌≡◌, drop}
-use Rattle.std.specs.List.{All}
-use Rattle.camp_share.specs.Inside.Parts.{joined, IsPart}
+use Rattle.camp_share.proofs.Words.{◌≡◌, drop, All, joined, IsPart}
 use Rattle.camp_share.proofs.lists.SharedList.iter_from.Given as goal
 
 abbrev pub invariant-loop-part : goal.invariant-loop-part

@@ -1,6 +1,4 @@
-use Rattle.std.proofs.Common.{◌+◌, ◌-◌, ◌≤◌, ◌++◌, length, drop, ap, ◌∙◌, arith, Vec}
-use Rattle.std.proofs.lemmas.List.{length-drop, take_all}
-use Rattle.camp_share.specs.Inside.Parts.{joined}
+use Rattle.camp_share.proofs.Words.{◌+◌, ◌-◌, ◌≤◌, ◌++◌, length, drop, ap, ◌∙◌, arith, Vec, length-drop, take_all, joined}
 use Rattle.camp_share.proofs.PartLemmas.{length_told, end_fits, from_end}
 use Rattle.camp_share.proofs.lists.SharedList.near_end.Goals as goal
 

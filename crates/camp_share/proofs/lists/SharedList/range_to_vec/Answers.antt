@@ -1,4 +1,3 @@
-use Rattle.std.proofs.Common.{◌∙◌, ap, sym}
 use Rattle.camp_share.proofs.PartLemmas.{taken_one}
 use Rattle.camp_share.proofs.lists.SharedList.range_to_vec.Goals as goal
 

@@ -1,4 +1,4 @@
-use Rattle.std.proofs.Common.{◌≡◌, ◌++◌, take, slice_range}
+use Rattle.camp_share.proofs.Words.{◌≡◌, ◌++◌, take, slice_range}
 use Rattle.camp_share.proofs.lists.SharedList.range_to_vec.Given as goal
 
 abbrev pub invariant-loop-item : goal.invariant-loop-item

@@ -1,5 +1,4 @@
-use Rattle.std.proofs.Common.{◌≡◌, ◌++◌}
-use Rattle.camp_share.specs.Inside.Parts.{joined}
+use Rattle.camp_share.proofs.Words.{◌≡◌, ◌++◌, joined}
 use Rattle.camp_share.proofs.lists.SharedList.to_vec.Given as goal
 
 abbrev pub invariant-loop-part : goal.invariant-loop-part

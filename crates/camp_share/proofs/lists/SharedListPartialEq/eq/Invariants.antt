@@ -1,5 +1,4 @@
-use Rattle.std.proofs.Common.{◌≡◌, length}
-use Rattle.std.specs.Cmp.Lexicographic.{pointwise}
+use Rattle.camp_share.proofs.Words.{◌≡◌, length, pointwise}
 use Rattle.camp_share.proofs.lists.SharedListPartialEq.eq.Given as goal
 
 abbrev pub invariant-loop-item : goal.invariant-loop-item

@@ -1,8 +1,5 @@
-use Rattle.std.proofs.Common.{◌≡◌, T, Some, None, ap, sym, subst, refl, ◌∙◌}
-use Rattle.std.specs.List.{insert}
+use Rattle.camp_share.proofs.Words.{T, ap, sym, subst, refl, ◌∙◌, insert, is_sorted}
 use Rattle.std.specs.FinMap as map
-use Rattle.std.specs.FinMap.{is_sorted}
-use Rattle.camp_share.specs.Maps.{map_of}
 use Rattle.camp_share.proofs.Entries.{present}
 use Rattle.camp_share.proofs.MapLemmas.{get_is, insertion, missing}
 use Rattle.camp_share.proofs.maps.MapBuilder.insert_if_absent.Goals as goal

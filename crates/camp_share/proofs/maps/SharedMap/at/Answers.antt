@@ -1,4 +1,4 @@
-use Rattle.std.proofs.Common.{sym, ap, ◌∙◌, slice_get}
+use Rattle.camp_share.proofs.Words.{sym, ap, ◌∙◌, slice_get}
 use Rattle.camp_share.proofs.MapLemmas.{entries_are}
 use Rattle.camp_share.proofs.maps.SharedMap.at.Goals as goal
 

@@ -1,6 +1,4 @@
-use Rattle.std.proofs.Common.{T, length, get_or, Vec, sym, ap, subst, ◌∙◌, arith}
-use Rattle.std.specs.FinMap.{is_sorted}
-use Rattle.camp_share.specs.Inside.Parts.{joined}
+use Rattle.camp_share.proofs.Words.{T, length, get_or, Vec, sym, ap, subst, ◌∙◌, arith, is_sorted}
 use Rattle.camp_share.proofs.Entries.{at_within}
 use Rattle.camp_share.proofs.MapLemmas.{get_is, missing}
 use Rattle.camp_share.proofs.Parted.{value_in_part}

@@ -1,5 +1,4 @@
-use Rattle.std.proofs.Common.{T, sym, subst, ◌∙◌}
-use Rattle.std.specs.FinMap.{is_sorted}
+use Rattle.camp_share.proofs.Words.{T, sym, subst, ◌∙◌, is_sorted}
 use Rattle.camp_share.proofs.MapLemmas.{insertion, replacement}
 use Rattle.camp_share.proofs.maps.SharedMap.inserted.Goals as goal
 

@@ -1,8 +1,5 @@
-use Rattle.std.proofs.Common.{◌++◌, T, ap, sym, subst, ◌∙◌}
+use Rattle.camp_share.proofs.Words.{◌++◌, T, ap, sym, subst, ◌∙◌, is_sorted, where_key, map_of}
 use Rattle.std.specs.FinMap as map
-use Rattle.std.specs.FinMap.{is_sorted}
-use Rattle.std.specs.FinMap.Entries.{where_key}
-use Rattle.camp_share.specs.Maps.{map_of}
 use Rattle.camp_share.proofs.Entries.{map_retained, retained_whole}
 use Rattle.camp_share.proofs.maps.SharedMap.intersection.Goals as goal
 

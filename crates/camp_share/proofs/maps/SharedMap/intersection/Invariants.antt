@@ -1,7 +1,5 @@
-use Rattle.std.proofs.Common.{◌≡◌, ◌++◌}
+use Rattle.camp_share.proofs.Words.{◌≡◌, ◌++◌, where_key, map_of}
 use Rattle.std.specs.FinMap as map
-use Rattle.std.specs.FinMap.Entries.{where_key}
-use Rattle.camp_share.specs.Maps.{map_of}
 use Rattle.camp_share.proofs.maps.SharedMap.intersection.Given as goal
 
 abbrev pub invariant-loop-entry : goal.invariant-loop-entry

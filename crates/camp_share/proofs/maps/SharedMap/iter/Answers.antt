@@ -1,4 +1,4 @@
-use Rattle.std.proofs.Common.{sym, ◌∙◌}
+use Rattle.camp_share.proofs.Words.{sym, ◌∙◌}
 use Rattle.camp_share.proofs.MapLemmas.{entries_are}
 use Rattle.camp_share.proofs.maps.SharedMap.iter.Goals as goal
 

@@ -1,7 +1,5 @@
-use Rattle.std.proofs.Common.{T, length, sym, ap, subst, ◌∙◌, arith}
-use Rattle.std.specs.FinMap.{is_sorted}
+use Rattle.camp_share.proofs.Words.{T, length, sym, ap, subst, ◌∙◌, arith, is_sorted, joined, offset}
 use Rattle.std.proofs.lemmas.List.Edits.{length-remove}
-use Rattle.camp_share.specs.Inside.Parts.{joined, offset}
 use Rattle.camp_share.proofs.Entries.{at_within}
 use Rattle.camp_share.proofs.MapLemmas.{removal, nothing_removed}
 use Rattle.camp_share.proofs.maps.SharedMap.without.Goals as goal
