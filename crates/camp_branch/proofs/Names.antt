@@ -1,5 +1,5 @@
 -- Lists of names, and of what has names.
-use Rattle.camp_branch.proofs.Words.{◌≡◌, ℕ, Bool, true, false, true≢false, not, ◌||◌, ◌&&◌, cond, List, [], ◌∷◌, ◌++◌, map, filter, bytes_eq, refl, sym, ap, ◌∙◌, Contains, AllByRecursion, AreDistinct, is_among, each_once, arith, get_or-map, length-map, and-true, and_comm, and_right, cond-false, cond-true, cond_both, false_from_ne_true, or_from, All-append, All-contains_itself, All-filter, All-from_recursion, All-weaker, Decides-contains, recursion_from_All, list_any-append, Catch, has_patch, name_of, map-append, or_right}
+use Rattle.camp_branch.proofs.Words.{◌≡◌, ℕ, Bool, true, false, true≢false, not, ◌||◌, ◌&&◌, cond, List, [], ◌∷◌, ◌++◌, map, filter, bytes_eq, refl, sym, ap, ◌∙◌, Contains, AllByRecursion, AreDistinct, is_among, each_once, arith, get_or-map, length-map, and-true, and_comm, and_right, cond-false, cond-true, cond_both, false_from_ne_true, or_from, All-append, All-contains_itself, All-filter, All-from_recursion, All-weaker, Decides-contains, recursion_from_All, list_any-append, Catch, has_patch, name_of, map-append}
 use Rattle.std.proofs.lemmas.Bool.Decides.{Decides-by_or, Decides-like}
 use Rattle.std.proofs.lemmas.Map.Views.{any-filter_same}
 use Rattle.std.proofs.lemmas.Slice.Eq.{bytes_eq-Decides}

@@ -72,6 +72,11 @@ module _ (from to : List Catch) (common : Names) (m : ℕ) (has : (n : List ℕ)
   pull_by_those wanted outcome =
       pull_alike (keys common) (common_names from to) (drop m from) (drop m to) wanted outcome (alike_on (keys common) (common_names from to) (drop m from) in_theirs) (alike_on (keys common) (common_names from to) (drop m to) in_ours)
 
+-- what is pulled behind the fronts, or blocked there, is so for the whole of both branches
+pub record PullsWhole (from to theirs ours : List Catch) (common : Names) (wanted : List (List ℕ)) : Type 0 where
+  pub gives : (taken : List Catch) → PullBy (keys common) theirs ours wanted (Ok (ours ++ taken)) → PullGives from to wanted (Ok (to ++ taken))
+  pub blocked : (blocked : Blocked) → PullBy (keys common) theirs ours wanted (Err blocked) → PullGives from to wanted (Err blocked)
+
 module _ (from to list other theirs ours : List Catch) (m : ℕ) (index other_index common : Names) (is : list ≡ from) (is_too : other ≡ to) (behind : theirs ≡ drop m list) (behind_too : ours ≡ drop m other) (named : Indexes index list) (named_too : Indexes other_index other) (has : (n : List ℕ) → contains_key common n ≡ ((has_patch theirs n && contains_key other_index n) || (has_patch ours n && contains_key index n))) (agree : Agree from to m) (wanted : List (List ℕ)) where
   theirs_is : theirs ≡ drop m from
   theirs_is = behind ∙ ap (drop m) is
@@ -89,9 +94,8 @@ module _ (from to list other theirs ours : List Catch) (m : ℕ) (index other_in
   by_names outcome w =
       pull_by_those from to common m common_has wanted outcome (subst (λ l. PullBy (keys common) l (drop m to) wanted outcome) theirs_is (subst (λ l. PullBy (keys common) theirs l wanted outcome) ours_is w))
 
-  pub gives_of : (taken : List Catch) → PullBy (keys common) theirs ours wanted (Ok (ours ++ taken)) → PullGives from to wanted (Ok (to ++ taken))
-  gives_of taken w =
-      goes_behind from to wanted m agree taken (by_names (Ok (drop m to ++ taken)) (subst (λ l. PullBy (keys common) theirs ours wanted (Ok (l ++ taken))) ours_is w))
-
-  pub blocked_of : (blocked : Blocked) → PullBy (keys common) theirs ours wanted (Err blocked) → PullGives from to wanted (Err blocked)
-  blocked_of blocked w = blocked_behind from to wanted m agree blocked (by_names (Err blocked) w)
+  pub pulls_whole : PullsWhole from to theirs ours common wanted
+  pulls_whole = record {
+    gives = λ taken w. goes_behind from to wanted m agree taken (by_names (Ok (drop m to ++ taken)) (subst (λ l. PullBy (keys common) theirs ours wanted (Ok (l ++ taken))) ours_is w));
+    blocked = λ blocked w. blocked_behind from to wanted m agree blocked (by_names (Err blocked) w);
+  }

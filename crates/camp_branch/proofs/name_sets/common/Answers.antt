@@ -1,9 +1,4 @@
-use Rattle.std.proofs.Common.{◌||◌, ◌&&◌, ap, ◌∙◌, is_some, map}
-use Rattle.std.specs.Cmp.Lexicographic.{slice_cmp}
-use Rattle.std.specs.FinMap.{contains_key, get-empty}
-use Rattle.std.specs.Ordering.{nat_cmp}
-use Rattle.camp_branch.specs.Branches.{is_among, name_of}
-use Rattle.camp_branch.specs.Fields.{has_name}
+use Rattle.camp_branch.proofs.Words.{◌||◌, ◌&&◌, ap, ◌∙◌, is_some, map, slice_cmp, nat_cmp, contains_key, get-empty, is_among, name_of, has_name}
 use Rattle.camp_branch.proofs.name_sets.common.Goals as goal
 
 pub returns : goal.returns

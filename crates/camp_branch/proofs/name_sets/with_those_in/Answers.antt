@@ -1,8 +1,4 @@
-use Rattle.std.proofs.Common.{◌∙◌, ap, arith, sym}
-use Rattle.std.specs.Cmp.Lexicographic.{slice_cmp}
-use Rattle.std.specs.Ordering.{nat_cmp}
-use Rattle.camp_share.specs.Maps.{map_of}
-use Rattle.camp_branch.specs.Branches.{name_of}
+use Rattle.camp_branch.proofs.Words.{◌∙◌, ap, arith, sym, slice_cmp, nat_cmp, map_of, name_of}
 use Rattle.camp_branch.proofs.NameSets.{one_held, one_not_held}
 use Rattle.camp_branch.proofs.name_sets.with_those_in.Goals as goal
 

@@ -1,9 +1,4 @@
-use Rattle.std.proofs.Common.{◌||◌, ◌&&◌, drop, map}
-use Rattle.std.specs.Cmp.Lexicographic.{slice_cmp}
-use Rattle.std.specs.Ordering.{nat_cmp}
-use Rattle.camp_share.specs.Maps.{map_of}
-use Rattle.camp_branch.specs.Branches.{is_among, name_of}
-use Rattle.camp_branch.specs.Fields.{has_name}
+use Rattle.camp_branch.proofs.Words.{◌||◌, ◌&&◌, drop, map, slice_cmp, nat_cmp, map_of, is_among, name_of, has_name}
 use Rattle.camp_branch.proofs.NameSets.{IsGrownBy}
 use Rattle.camp_branch.proofs.name_sets.with_those_in.Given as goal
 
