@@ -8,9 +8,9 @@ ghost use Rattle.camp_catch.specs.Merging.{MergeCatch, MergePlainConflictor};
 ghost use Rattle.camp_catch.specs.declared.catches.Catch.{Catch as AnyCatch};
 ghost use Rattle.camp_catch.specs.declared.catches.Catch.TheVariants.{Plain};
 
-use crate::values::{bare, inverse};
+use crate::merging::conflicts_with;
+use crate::values::inverse;
 use crate::{Catch, Conflictor};
-use camp_ctx::{Contexted, conflict};
 use camp_prim::{Named, stay};
 use camp_seq::{is_own_order, stays_past};
 use std::alloc::{AllocError, Global};
@@ -50,9 +50,7 @@ fn stand_aside(alloc: Global, a: &Named, k: &Conflictor) -> Result<bool, AllocEr
     if !stays_behind(&back, k) {
         return Ok(false);
     }
-    let own = bare(alloc, a)?;
-    let seen = Contexted::add(&k.effect, &k.identity)?;
-    let in_conflict = conflict(&own, &seen)?;
+    let in_conflict = conflicts_with(alloc, a, k)?;
     Ok(!in_conflict)
 }
 
