@@ -11,7 +11,7 @@ ghost use Rattle.camp_ctx.specs.Conflicts.{Conflict};
 ghost use Rattle.camp_ctx.specs.Contexts.{ContextedPatch, bare};
 ghost use Rattle.camp_catch.specs.Inside.InPlace.{MergesBehind};
 ghost use Rattle.camp_catch.specs.Inside.Pairs.{JoinsAs};
-ghost use Rattle.camp_catch.specs.Inside.TwoConflictors.{EffectsMerge, JoinEachOther, TellsConflict};
+ghost use Rattle.camp_catch.specs.Inside.TwoConflictors.{EffectsMerge, JoinEachOther, TellsConflict, TellsPlainConflict};
 ghost use Rattle.camp_catch.specs.Merging.{Clean, FirstConflict, MergeCatch, MergePlainConflictor, Mirror, PlainBesideConflictor, PlainJoinsConflictor, TwoConflictors};
 ghost use Rattle.camp_catch.specs.declared.catches.Catch.{Catch as AnyCatch};
 ghost use Rattle.camp_catch.specs.declared.catches.Catch.TheVariants.{Plain};
@@ -101,15 +101,25 @@ fn plain_and_conflictor(
 ) -> Result<Option<(Catch, Catch)>, AllocError>
     ensures exact { IfOk result (FindsPair (MergePlainConflictor a.now k.now)) }
 {
-    let own = bare(alloc, a)?;
-    let seen = Contexted::add(&k.effect, &k.identity)?;
-    let in_conflict = conflict(&own, &seen)?;
-    if in_conflict {
+    if conflicts_with(alloc, a, k)? {
         let joined = plain_joins_conflictor(alloc, a, k)?;
         return Ok(Some(joined));
     }
     let beside = plain_beside_conflictor(a, k)?;
     Ok(beside)
+}
+
+/// Whether a patch is in conflict with what a conflictor is, as seen from before its effect.
+pub(crate) fn conflicts_with(
+    alloc: Global,
+    a: &Named,
+    k: &Conflictor,
+) -> Result<bool, AllocError>
+    ensures { IfOk result (TellsPlainConflict a.now k.now) }
+{
+    let own = bare(alloc, a)?;
+    let seen = Contexted::add(&k.effect, &k.identity)?;
+    conflict(&own, &seen)
 }
 
 /// `[a] | (s, Y, l) -> (s', Y', l') | [a']`, where `a'^` added to `Y` and `l` gives `Y'` and `l'`

@@ -1,5 +1,6 @@
 ghost use Rattle.std.specs.Prelude.{◌≡◌, IfOk, IsTrue};
 ghost use Rattle.camp_ctx.specs.Adding.{Adds};
+ghost use Rattle.camp_prim.specs.Effect.{inverse_of};
 ghost use Rattle.camp_seq.specs.NormalOrder.{Norm};
 ghost use Rattle.camp_seq.specs.Passing.{Passes};
 ghost use Rattle.camp_catch.specs.Commuting.{CommuteCatch};
@@ -8,9 +9,9 @@ ghost use Rattle.camp_catch.specs.Merging.{MergeCatch, MergePlainConflictor};
 ghost use Rattle.camp_catch.specs.declared.catches.Catch.{Catch as AnyCatch};
 ghost use Rattle.camp_catch.specs.declared.catches.Catch.TheVariants.{Plain};
 
-use crate::values::{bare, inverse};
+use crate::merging::conflicts_with;
+use crate::values::inverse;
 use crate::{Catch, Conflictor};
-use camp_ctx::{Contexted, conflict};
 use camp_prim::{Named, stay};
 use camp_seq::{is_own_order, stays_past};
 use std::alloc::{AllocError, Global};
@@ -46,13 +47,10 @@ pub(crate) fn merge_as_they_are(alloc: Global, j: &Catch, k: &Catch) -> Result<b
 fn stand_aside(alloc: Global, a: &Named, k: &Conflictor) -> Result<bool, AllocError>
     ensures { IfOk result (λ yes. IsTrue yes → MergePlainConflictor a.now k.now (AnyCatch.Conflictor k.now) (Plain a.now)) }
 {
-    let back = inverse(a)?;
-    if !stays_behind(&back, k) {
+    if !stays_behind_inverse(a, k)? {
         return Ok(false);
     }
-    let own = bare(alloc, a)?;
-    let seen = Contexted::add(&k.effect, &k.identity)?;
-    let in_conflict = conflict(&own, &seen)?;
+    let in_conflict = conflicts_with(alloc, a, k)?;
     Ok(!in_conflict)
 }
 
@@ -73,4 +71,13 @@ fn stays_behind(a: &Named, k: &Conflictor) -> bool
         return false;
     }
     k.conflicts.stays_behind(a)
+}
+
+/// The same of the inverse of `a`.
+fn stays_behind_inverse(a: &Named, k: &Conflictor) -> Result<bool, AllocError>
+    ensures passes { IfOk result (λ yes. IsTrue yes → Passes (inverse_of a.now) k.now.effect k.now.effect (inverse_of a.now)) }
+    ensures becomes { IfOk result (λ yes. IsTrue yes → Becomes (Norm k.now.effect) (Adds (inverse_of a.now)) (Adds (inverse_of a.now)) k.now k.now) }
+{
+    let back = inverse(a)?;
+    Ok(stays_behind(&back, k))
 }

@@ -1,10 +1,10 @@
--- The parts of a merge of two conflictors.
+-- The parts of a merge with a conflictor.
 use Rattle.std.specs.Prelude.{◌≡◌, Bool, List, IsTrue, ◌↔◌}
 use Rattle.camp_prim.specs.declared.named.Named.{Named}
 use Rattle.camp_seq.specs.NormalOrder.{Norm}
 use Rattle.camp_ctx.specs.Adding.{AddsAll}
 use Rattle.camp_ctx.specs.Conflicts.{MergesBehindCommon, Conflict}
-use Rattle.camp_ctx.specs.Contexts.{ContextedPatch}
+use Rattle.camp_ctx.specs.Contexts.{ContextedPatch, bare}
 use Rattle.camp_catch.specs.Merging.{JoinsWhere}
 use Rattle.camp_catch.specs.declared.catches.Catch.{Catch}
 use Rattle.camp_catch.specs.declared.catches.Conflictor.{Conflictor}
@@ -16,6 +16,12 @@ pub record EffectsMerge (r s s2 r2 : List Named) : Type 0 where
   pub merge : MergesBehindCommon r s merged left
   pub effect : Norm merged s2
   pub own_effect : Norm left r2
+
+-- whether a patch conflicts with the identity of a conflictor, as seen before its effect
+pub record TellsPlainConflict (a : Named) (k : Conflictor) (found : Bool) : Type 0 where
+  pub seen : ContextedPatch
+  pub sees : AddsAll k.effect k.identity seen
+  pub tells : IsTrue found ↔ Conflict (bare a) seen
 
 -- whether two identities conflict, as seen before the effects
 pub record TellsConflict (j k : Conflictor) (found : Bool) : Type 0 where
