@@ -15,10 +15,7 @@ front_empty list = record { rest = list; makes = refl }
 
 pub front_front : {Entry : Type 0} {one two three : List Entry} → IsFront one two → IsFront two three → IsFront one three
 front_front {one = one} {two = two} {three = three} first second =
-    record {
-      rest = first.rest ++ second.rest;
-      makes = sym (append_assoc one first.rest second.rest) ∙ ap (λ list. list ++ second.rest) first.makes ∙ second.makes;
-    }
+    record { rest = first.rest ++ second.rest; makes = sym (append_assoc one first.rest second.rest) ∙ ap (λ list. list ++ second.rest) first.makes ∙ second.makes }
 
 pub front_longer : {Entry : Type 0} {front whole : List Entry} (rest : List Entry) → IsFront front whole → IsFront front (whole ++ rest)
 front_longer {whole = whole} rest begins = front_front begins (front_append whole rest)
@@ -39,7 +36,4 @@ pub front_shorter : {Entry : Type 0} (one two whole : List Entry) → IsFront on
 front_shorter one two whole first second short =
     let left = length two - length one in
     let all : length one + left ≡ length two = omega arith in
-    record {
-      rest = take left first.rest;
-      makes = sym (take-append-add one first.rest left) ∙ (λ i. take (all i) ((first.makes ∙ sym second.makes) i)) ∙ take_at two second.rest (length two) refl;
-    }
+    record { rest = take left first.rest; makes = sym (take-append-add one first.rest left) ∙ (λ i. take (all i) ((first.makes ∙ sym second.makes) i)) ∙ take_at two second.rest (length two) refl }
