@@ -1,2 +1,3 @@
 mod LineLemmas
 mod TreeLemmas
+pub mod Words

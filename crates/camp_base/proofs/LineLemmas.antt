@@ -1,12 +1,5 @@
 -- Lines put in place of others.
-use Rattle.std.proofs.Common.{◌≡◌, ◌↔◌, ℕ, ◌+◌, ◌-◌, ◌<◌, ◌≤◌, Bool, List, ◌++◌, length, take, drop, eqb, IsTrue, sym, ap, ◌∙◌, refl, arith}
-use Rattle.std.proofs.lemmas.List.{append_assoc, length-append, take-append-drop, drop-drop, drop_at, take_at, length-take-le}
-use Rattle.std.proofs.lemmas.Bool.Decides.{Decides-eqb}
-use Rattle.std.proofs.lemmas.Slice.Eq.{slice_eq-Decides}
-use Rattle.std.specs.Cmp.Lexicographic.{pointwise}
-use Rattle.std.specs.List.{splice}
-use Rattle.camp_base.specs.Trees.{Lines, SplicesLines}
-use Rattle.camp_base.specs.Inside.Steps.{StandsAt}
+use Rattle.camp_base.proofs.Words.{◌≡◌, ◌↔◌, ℕ, ◌+◌, ◌-◌, ◌<◌, ◌≤◌, Bool, ◌++◌, length, take, drop, eqb, IsTrue, sym, ap, ◌∙◌, refl, arith, append_assoc, length-append, take-append-drop, drop-drop, drop_at, take_at, length-take-le, Decides-eqb, slice_eq-Decides, pointwise, splice, Lines, SplicesLines, StandsAt}
 
 pub lines_told : (line : ℕ) (front lines : Lines) (told : Bool) → 0 < line → line - 1 ≤ length lines → told ≡ pointwise (pointwise eqb) (take (length front) (drop (line - 1) lines)) front → IsTrue told ↔ StandsAt line front lines
 lines_told line front lines told positive within answers =

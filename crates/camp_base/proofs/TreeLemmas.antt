@@ -1,28 +1,16 @@
 -- Trees by their files, and what the three changes want of them.
-use Rattle.std.proofs.Common.{◌≡◌, ◌↔◌, ℕ, ◌+◌, ◌-◌, Bool, true, false, ◌&&◌, T, List, [], length, Option, is_some, arith, None, Some, Ok, Err, Result, IsTrue, eqb, sym, ap, subst, ◌∙◌, refl, Decides}
+use Rattle.camp_base.proofs.Words.{Decides-and, ◌≡◌, ◌↔◌, ℕ, ◌+◌, ◌-◌, Bool, true, false, ◌&&◌, T, List, [], length, Option, is_some, arith, None, Some, Ok, Err, Result, IsTrue, eqb, sym, ap, subst, ◌∙◌, refl, Decides, nil_from_length, nat_tests, Decides-eqb, slice_eq-Decides, nat_cmp, slice_cmp, pointwise, splice, Steps, StandsAt, Lines}
+use Rattle.camp_base.proofs.Words.{Files, Adds, Removes, Splices, SplicesLines}
 use Rattle.std.proofs.lemmas.Bool.{false≢true}
-use Rattle.std.proofs.lemmas.List.{nil_from_length}
-use Rattle.std.proofs.lemmas.Bool.Decides.{nat_tests}
 use Rattle.std.proofs.lemmas.Option.{same_Some, none-some}
-use Rattle.std.proofs.lemmas.Bool.Decides.{Decides-eqb}
-use Rattle.std.proofs.lemmas.Slice.Eq.{slice_eq-Decides}
-use Rattle.std.specs.Ordering.{nat_cmp}
-use Rattle.std.specs.Cmp.Lexicographic.{slice_cmp, pointwise}
 use Rattle.std.specs.FinMap.{entries, entries-from_sorted}
 use Rattle.std.specs.FinMap.Entries.{is_sorted}
 use Rattle.camp_share.specs.Maps.{map_of}
 use Rattle.std.specs.FinMap as map
-use Rattle.std.specs.List.{splice}
 use Rattle.camp_base.specs.declared.faults.Apply.{Apply}
 use Rattle.camp_base.specs.declared.faults.Apply.TheVariants.{DoesNotApply, Memory}
 use Rattle.camp_base.specs.Answers.{Answers}
-use Rattle.camp_base.specs.Inside.Steps.{Steps, StandsAt}
-use Rattle.camp_base.specs.Trees.{Lines, Files, Adds, Removes, Splices, SplicesLines}
 use Rattle.camp_base.proofs.LineLemmas.{spliced, stands}
-
-pairs_decided : {A B : Type 0} (p q : Bool) (a x : A) (b y : B) → Decides p (a ≡ x) → Decides q (b ≡ y) → Decides (p && q) (◌≡◌ {A = A × B} (a, b) (x, y))
-pairs_decided true q a x b y f g = (λ h i. (f.0 refl i, g.0 h i), λ e. g.1 (ap (λ z. z.1) e))
-pairs_decided false q a x b y f g = (λ h. absurd (false≢true h), λ e. absurd (false≢true (f.1 (ap (λ z. z.0) e))))
 
 -- whether two files are equal
 abbrev pub same_file : List ℕ × Lines → List ℕ × Lines → Bool
@@ -30,9 +18,8 @@ same_file file other = pointwise eqb file.0 other.0 && pointwise (pointwise eqb)
 
 file_decided : (a b : List ℕ × Lines) → Decides (same_file a b) (a ≡ b)
 file_decided a b =
-    pairs_decided _ _ a.0 b.0 a.1 b.1
-    (slice_eq-Decides Decides-eqb a.0 b.0 _ refl)
-    (slice_eq-Decides (λ l m. slice_eq-Decides Decides-eqb l m _ refl) a.1 b.1 _ refl)
+    let both = Decides-and _ _ (slice_eq-Decides Decides-eqb a.0 b.0 _ refl) (slice_eq-Decides (λ l m. slice_eq-Decides Decides-eqb l m _ refl) a.1 b.1 _ refl) in
+    (λ is i. ((both.0 is).0 i, (both.0 is).1 i), λ same. both.1 (ap (λ file. file.0) same, ap (λ file. file.1) same))
 
 -- trees are equal where their files are
 pub trees_decided : (files others : List (List ℕ × Lines)) (tree other : Files) → map_of (slice_cmp nat_cmp) files ≡ tree → map_of (slice_cmp nat_cmp) others ≡ other → T (is_sorted (slice_cmp nat_cmp) files) → T (is_sorted (slice_cmp nat_cmp) others) → (result : Bool) → result ≡ pointwise same_file files others → IsTrue result ↔ (tree ≡ other)

@@ -11,9 +11,7 @@ same_order : (s t u v : List Named) → s ≡ t → Norm s u → Norm t v → u 
 same_order s t u v e n m = one_order t u v (subst (λ l. Norm l u) e n) m
 
 pub one_cancel : (a : Named) → GivesOne (Cancels a)
-one_cancel a x y z v w =
-    let rests = one_front _ x.context v.rest w.rest (inverse_of a) (inverse_of a) v.front w.front in
-    same_in_context y z (same_order _ _ _ _ rests.1 v.context w.context) (v.patch ∙ sym w.patch)
+one_cancel a x y z v w = same_in_context y z (same_order _ _ _ _ (one_front _ x.context v.rest w.rest (inverse_of a) (inverse_of a) v.front w.front).1 v.context w.context) (v.patch ∙ sym w.patch)
 
 pub one_passing_by : (a : Named) → GivesOne (PassesBy a)
 one_passing_by a x y z v w =

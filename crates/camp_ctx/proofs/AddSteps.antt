@@ -14,9 +14,7 @@ module _ (a : Named) (x : ContextedPatch) (label : Label) (s : List Named) (firs
   front = subst (λ t. Fronts (label_of (inverse_of a)) t first rest) is (subst (λ l. Fronts l s first rest) labelled comes)
 
   pub not_cancelled : ¬ (inverse_of first ≡ a) → GivesNone (Cancels a) x
-  not_cancelled other y w =
-      let firsts = one_front _ x.context rest w.rest first (inverse_of a) front w.front in
-      other (ap inverse_of firsts.0 ∙ inverse_of-inverse_of a)
+  not_cancelled other y w = other (ap inverse_of (one_front _ x.context rest w.rest first (inverse_of a) front w.front).0 ∙ inverse_of-inverse_of a)
 
   pub cancels_from : (y : ContextedPatch) → inverse_of first ≡ a → Norm rest y.context → y.patch ≡ x.patch → Cancels a x y
   cancels_from y same order kept =

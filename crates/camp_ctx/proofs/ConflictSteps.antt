@@ -48,6 +48,4 @@ module _ (s t : List Named) (labels : List Label) (are : labels ≡ common_label
     merges_as_the_rests same (Some pair) merge = merges_from same pair.0 pair.1 merge
 
 pub conflicts_from : (s t : List Named) (x y : ContextedPatch) → s ≡ whole x → t ≡ whole y → NoMerge s t → Conflict x y
-conflicts_from s t x y first second never t' s' =
-    let none = subst (λ u. NoMerge u (whole y)) first (subst (λ u. NoMerge s u) second never) in
-    none (t', s')
+conflicts_from s t x y first second never t' s' = subst (λ u. NoMerge u (whole y)) first (subst (λ u. NoMerge s u) second never) (t', s')

@@ -56,24 +56,6 @@ conflict_or_not x y = elim (merge_behind_or_not (whole x) (whole y)) [
 pub same_alone : {X : Type 0} (x y : X) → x ∷ [] ≡ y ∷ [] → x ≡ y
 same_alone x y e = cc
 
-one_entry_or_not : (xs : ContextedPatches) (k : Key) (x : ContextedPatch) → entries xs ≡ (k, x) ∷ [] → Decided (k ≡ context_key x) → Decided ((y : ContextedPatch) × (xs ≡ only y))
-one_entry_or_not xs k x is (inl own) =
-    inl (x, same_entries_map xs (only x) (is ∙ ap (λ l. (l, x) ∷ []) own ∙ sym (entries-only x)))
-one_entry_or_not xs k x is (inr other) = inr (λ y.
-    let same = same_alone (k, x) (context_key y.0, y.0) (sym is ∙ ap entries y.1 ∙ entries-only y.0) in
-    other (ap (λ (e : Key × ContextedPatch). e.0) same ∙ ap (λ (e : Key × ContextedPatch). context_key e.1) (sym same)))
-
-entries_or_not : (xs : ContextedPatches) (es : List (Key × ContextedPatch)) → entries xs ≡ es → Decided ((y : ContextedPatch) × (xs ≡ only y))
-entries_or_not xs [] is = inr (λ y.
-    let e : [] ≡ (context_key y.0, y.0) ∷ [] = sym is ∙ ap entries y.1 ∙ entries-only y.0 in cc)
-entries_or_not xs ((k, x) ∷ []) is = one_entry_or_not xs k x is (keys_or_not k (context_key x))
-entries_or_not xs (e ∷ f ∷ es) is = inr (λ y.
-    let same : e ∷ f ∷ es ≡ (context_key y.0, y.0) ∷ [] = sym is ∙ ap entries y.1 ∙ entries-only y.0 in cc)
-
--- a set has one member, which stands under its own label, or it is another
-pub only_or_not : (xs : ContextedPatches) → Decided ((x : ContextedPatch) × (xs ≡ only x))
-only_or_not xs = entries_or_not xs (entries xs) refl
-
 entry_or_not : (e f : Key × ContextedPatch) → Decided (e ≡ f)
 entry_or_not e f =
     decided_by (λ same i. (same.0 i, same.1 i)) (λ same. (ap (λ (p : Key × ContextedPatch). p.0) same, ap (λ (p : Key × ContextedPatch). p.1) same)) (both_or_not (keys_or_not e.0 f.0) (in_context_or_not e.1 f.1))
@@ -82,3 +64,18 @@ entry_or_not e f =
 pub contexts_or_not : (xs ys : ContextedPatches) → Decided (xs ≡ ys)
 contexts_or_not xs ys =
     decided_by (same_entries_map xs ys) (ap entries) (elements_or_not entry_or_not (entries xs) (entries ys))
+
+first_entry : (e f : Key × ContextedPatch) (es fs : List (Key × ContextedPatch)) → e ∷ es ≡ f ∷ fs → e ≡ f
+first_entry e f es fs same = cc
+
+entries_or_not : (xs : ContextedPatches) (es : List (Key × ContextedPatch)) → entries xs ≡ es → Decided ((y : ContextedPatch) × (xs ≡ only y))
+entries_or_not xs [] is = inr (λ y.
+    let e : [] ≡ (context_key y.0, y.0) ∷ [] = sym is ∙ ap entries y.1 ∙ entries-only y.0 in cc)
+entries_or_not xs (e ∷ es) is =
+    decided_by (λ same. (e.1, same)) (λ y.
+    let same = first_entry e (context_key y.0, y.0) es [] (sym is ∙ ap entries y.1 ∙ entries-only y.0) in
+    y.1 ∙ ap (λ (f : Key × ContextedPatch). only f.1) (sym same)) (contexts_or_not xs (only e.1))
+
+-- a set has one member, which stands under its own label, or it is another
+pub only_or_not : (xs : ContextedPatches) → Decided ((x : ContextedPatch) × (xs ≡ only x))
+only_or_not xs = entries_or_not xs (entries xs) refl

@@ -1,14 +1,10 @@
 -- Entries in order, met one after the other.
-use Rattle.camp_ctx.proofs.Words.{◌≡◌, ℕ, zero, suc, ◌+◌, T, cond, false, Some, None, List, [], ◌∷◌, ◌++◌, take, refl, sym, ap, ◌∙◌, subst, arith, same_Some, none-some, slice_get, is_eq, eq_by_cmp, IsTotalOrder, tied_itself, find, below_all, is_sorted, Ordering, Less}
+use Rattle.camp_ctx.proofs.Words.{take_more, slice_get_within, get_or_from_slice_get, ◌≡◌, ℕ, zero, suc, ◌+◌, T, cond, false, Some, None, List, [], ◌∷◌, ◌++◌, take, refl, sym, ap, ◌∙◌, subst, same_Some, none-some, slice_get, is_eq, eq_by_cmp, IsTotalOrder, tied_itself, find, below_all, is_sorted, Ordering, Less}
 use Rattle.camp_share.proofs.Entries.{first, second, is_less, above}
 
 -- the elements up to the one at i, with it
 pub take_push : {X : Type 0} (xs : List X) (i : ℕ) (x : X) → slice_get xs i ≡ Some x → take (i + 1) xs ≡ take i xs ++ x ∷ []
-take_push [] i x is = absurd (none-some x is)
-take_push (y ∷ xs) zero x is = ap (λ z. z ∷ []) (same_Some y x is)
-take_push (y ∷ xs) (suc i) x is =
-    let more : suc i + 1 ≡ suc (i + 1) = omega arith in
-    ap (λ n. take n (y ∷ xs)) more ∙ ap (λ t. y ∷ t) (take_push xs i x is)
+take_push xs i x is = take_more xs i x (slice_get_within xs i x is) ∙ ap (λ y. take i xs ++ y ∷ []) (get_or_from_slice_get xs i x x is)
 
 module _ {K X : Type 0} (R : K → K → Ordering) (o : IsTotalOrder R) where
   -- a key further on is greater

@@ -1,5 +1,5 @@
 -- What bodies of sets know at their answers.
-use Rattle.camp_ctx.proofs.Words.{◌≡◌, ℕ, suc, ◌+◌, ◌<◌, ◌≤◌, Bool, true, false, cond, Option, Some, None, List, [], ◌∷◌, length, take, map, refl, sym, ap, ◌∙◌, subst, arith, length-map, take_all, same_Some, none-some, slice_get-map, fold, slice_get, option_map, eq_by_cmp, Equal-is, empty, get, contains_key, insert, remove, entries, entries_sorted, len, get-empty, get-entries, get-insert}
+use Rattle.camp_ctx.proofs.Words.{nil_from_length, ◌≡◌, ℕ, suc, ◌+◌, ◌<◌, ◌≤◌, Bool, true, false, cond, Option, Some, None, List, [], ◌∷◌, length, take, map, refl, sym, ap, ◌∙◌, subst, arith, length-map, take_all, same_Some, none-some, slice_get-map, fold, slice_get, option_map, eq_by_cmp, Equal-is, empty, get, contains_key, insert, remove, entries, entries_sorted, len, get-empty, get-entries, get-insert}
 use Rattle.camp_ctx.proofs.Words.{same_lists, unwrap_or, unwrap_or-slice_get, slice_get_cases, inl, inr, get-remove, same_entries_map, entries-insert, len-entries, len-empty, find, put, find-append, key_cmp, Key, Named, key_total, key_ties, AddsAll, ContextedPatch, ContextedPatches, context_key, only, with_member, AreKeyed, ChangesAt, EachMember}
 use Rattle.camp_ctx.proofs.AddResults.{same_key_of_sum}
 use Rattle.camp_ctx.proofs.EntrySteps.{take_push, found_at, not_before}
@@ -79,14 +79,10 @@ pub member_at : (as_kept xs : ContextedPatches) (i : ℕ) (e : Key × ContextedP
 member_at as_kept xs i e is entry =
     slice_get-map (λ e. e.1) (entries xs) i ∙ ap (option_map (λ (e : Key × ContextedPatch). e.1)) (entry_at as_kept xs i e is entry)
 
-no_length : {X : Type 0} (xs : List X) → length xs ≡ 0 → xs ≡ []
-no_length [] is = refl
-no_length (x ∷ xs) is = absurd (omega arith)
-
 -- what one member's entries are
 pub entries-only : (x : ContextedPatch) → entries (only x) ≡ entry_of x ∷ []
 entries-only x =
-    entries-insert key_total empty (context_key x) x ∙ ap (put key_cmp (context_key x) x) (no_length (entries empty) (sym (len-entries empty) ∙ len-empty key_cmp ContextedPatch))
+    entries-insert key_total empty (context_key x) x ∙ ap (put key_cmp (context_key x) x) (nil_from_length (entries empty) (sym (len-entries empty) ∙ len-empty key_cmp ContextedPatch))
 
 pub len-only : (x : ContextedPatch) → len (only x) ≡ 1
 len-only x = len-entries (only x) ∙ ap length (entries-only x)
@@ -97,17 +93,12 @@ one_element (y ∷ []) x long is = ap (λ z. z ∷ []) (same_Some y x is)
 one_element (y ∷ z ∷ xs) x long is = absurd (omega arith)
 
 pub is_only : (xs : ContextedPatches) (x : ContextedPatch) → AreKeyed xs → len xs ≡ 1 → slice_get (members_of xs) 0 ≡ Some x → xs ≡ only x
-is_only xs x keyed one is =
-    let long : length (members_of xs) ≡ 1 = length-map (entries xs) (λ e. e.1) ∙ sym (len-entries xs) ∙ one in
-    same_entries_map xs (only x) (entries_are xs keyed ∙ ap (map entry_of) (one_element (members_of xs) x long is) ∙ sym (entries-only x))
+is_only xs x keyed one is = same_entries_map xs (only x) (entries_are xs keyed ∙ ap (map entry_of) (one_element (members_of xs) x (count_of_members xs ∙ one) is) ∙ sym (entries-only x))
 
 pub none_only : (xs : ContextedPatches) (x : ContextedPatch) → slice_get (members_of xs) 0 ≡ None → ¬ (xs ≡ only x)
 none_only xs x none is =
     let one : len xs ≡ 1 = ap len is ∙ len-only x in
-    let counted = len-entries xs in
-    let long = length-map (entries xs) (λ e. e.1) in
-    let past = past_end (members_of xs) 0 none in
-    omega arith
+    omega (arith, count_of_members xs, past_end (members_of xs) 0 none)
 
 -- a list is added to the members one after the other
 pub nothing_added : (r : List Named) (none : ContextedPatches) → none ≡ empty → (key : Key) → ChangesAt (AddsAll r) None (get none key)

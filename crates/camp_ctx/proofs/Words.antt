@@ -1,7 +1,7 @@
 -- The words that most proofs about patches in context use.
 pub use Rattle.std.proofs.Common.{Bool, Contains, Less, List, MatchOption, None, Option, Ordering, Some, T, [], ap, append_assoc, arith, cond, drop, false, filter, fold, get_or, inl, inr, is_eq, is_lt, length, map, nat_cmp, option_map, refl, rules, slice_get, subst, suc, sym, take, take_all, tests, true, unwrap_or, zero, ℕ, ◌&&◌, ◌++◌, ◌+◌, ◌-◌, ◌<◌, ◌∙◌, ◌∷◌, ◌≡◌, ◌≤◌, ◌⊎◌}
-pub use Rattle.std.proofs.lemmas.List.{drop_more, length-map, same_lists, take_rest}
-pub use Rattle.std.proofs.lemmas.Option.{none-some, same_Some, slice_get-map, slice_get_cases, unwrap_or-slice_get}
+pub use Rattle.std.proofs.lemmas.List.{drop_more, length-map, nil_from_length, same_lists, take_more, take_rest}
+pub use Rattle.std.proofs.lemmas.Option.{none-some, same_Some, get_or_from_slice_get, slice_get-map, slice_get_cases, slice_get_within, unwrap_or-slice_get}
 pub use Rattle.std.specs.Cmp.{Equal-is, IsTotalOrder, nat_cmp_total, tied_itself}
 pub use Rattle.std.specs.FinMap.{IsAntisymmetric, contains_key, empty, entries, entries-insert, entries_sorted, from_sorted, get, get-empty, get-entries, get-from_sorted, get-insert, get-remove, insert, is_sorted, len, len-empty, len-entries, nat_cmp-IsAntisymmetric, remove, same_entries_map, same_map, slice_cmp-IsAntisymmetric}
 pub use Rattle.std.specs.FinMap.Entries.{below_all, find, find-append, put}

@@ -133,11 +133,7 @@ module _ {State Call Reply : Type 0} (object : Sequential State Call Reply) (cal
 pub loses_length : {State Call Reply : Type 0} (object : Sequential State Call Reply) (call : Call) (times : ℕ) (seen now : List (ℕ × Call))
     → Loses object call times seen now → length seen + times ≤ length now
 loses_length object call zero seen now begins = let within = length-front begins in omega arith
-loses_length object call (suc times) seen now loses =
-    let within = length-front loses.2 in
-    let longer = length_push loses.0 loses.1 in
-    let further = loses_length object call times (loses.0 ++ loses.1 ∷ []) now loses.4 in
-    omega arith
+loses_length object call (suc times) seen now loses = omega (arith, length-front loses.2, length_push loses.0 loses.1, loses_length object call times (loses.0 ++ loses.1 ∷ []) now loses.4)
 
 -- where every call is the caller's own, no exchange is lost
 pub never_busy_among_own : {State Call Reply : Type 0} (object : Sequential State Call Reply) (caller : Caller) (seen : List (ℕ × Call)) (call : Call) (answer : Result Reply Fault) (now : List (ℕ × Call))

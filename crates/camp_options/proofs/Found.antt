@@ -1,21 +1,11 @@
 -- What a parse finds of an argument of the caller's that has a default: a value, and it passed the argument's parser.
-use Rattle.std.proofs.Common.{◌≡◌, ◌∙◌, ◌<◌, ◌≤◌, ℕ, zero, suc, Bool, true, false, List, [], ◌∷◌, length, Some, None, refl, sym, ap, subst, inl, inr, arith}
-use Rattle.std.specs.List.{All, slice_index_or}
-use Rattle.std.specs.Str.{bytes_eq}
-use Rattle.std.specs.Prelude.{find, option_map, slice_get}
-use Rattle.std.specs.Borrow.{Bor}
-use Rattle.std.proofs.lemmas.Slice.Eq.{bytes_eq-Decides}
+use Rattle.camp_options.proofs.Common.{◌≡◌, ◌⊎◌, ◌∙◌, ◌<◌, ◌≤◌, ℕ, zero, suc, Bool, true, false, List, [], ◌∷◌, length, Some, None, refl, sym, ap, subst, inl, inr, arith, All, slice_index_or, bytes_eq, find, option_map, slice_get, Bor, bytes_eq-Decides, args_of, groups_of, Entry, EntryPasses, HasReading, PassesArg}
+use Rattle.camp_options.proofs.Common.{WantsDefault, least_values, parser_of, parser_of_value, IsAuto, IsParsedFrom, SameRules, found_of, matched_of, one_text, Arg, Command, ArgMatches}
 use Rattle.std.proofs.lemmas.List.Elements.{All-get_or}
-use Rattle.clap.specs.Facts.{args_of, groups_of, Entry, EntryPasses, HasReading, PassesArg, WantsDefault, least_values, parser_of, parser_of_value}
-use Rattle.clap.specs.Built.{IsAuto, IsParsedFrom, SameRules}
-use Rattle.clap.specs.Matches.{found_of, matched_of, one_text}
 use Rattle.clap.specs.Values.{Accepts, read_as, reading_of}
 use Rattle.clap.specs.declared.builder.value_parser.Reading.{Reading}
 use Rattle.clap.specs.declared.builder.value_parser.ValueParser.{ValueParser}
-use Rattle.clap.specs.declared.builder.arg.Arg.{Arg}
-use Rattle.clap.specs.declared.builder.command.Command.{Command}
 use Rattle.clap.specs.declared.builder.command.Command.TheViews.{out-Command}
-use Rattle.clap.specs.declared.parser.matches.ArgMatches.{ArgMatches}
 use Rattle.clap.specs.declared.parser.matches.MatchedArg.{MatchedArg}
 use Rattle.clap.specs.declared.builder.action.ArgAction.TheVariants.{Count, Set}
 use Rattle.clap.proofs.CallerLemmas.{default_present, entry_by_id, same_rules_by_id}
@@ -49,9 +39,7 @@ has_entry (e ∷ xs) id i lt at = go (bytes_eq e.0.now id) refl i lt at (has_ent
         → ((k : ℕ) → k < length xs → ((d : Entry) → bytes_eq (slice_index_or xs k d).0.now id ≡ true) → (x : MatchedArg) × (option_map (λ e. e.1) (find (λ e. bytes_eq e.0.now id) xs) ≡ Some x))
         → (x : MatchedArg) × (option_map (λ e. e.1) (find (λ e. bytes_eq e.0.now id) (e ∷ xs)) ≡ Some x)
     go true t j low has rest = (e.1, rw t refl)
-    go false t zero low has rest =
-        let bad : false ≡ true = sym t ∙ has e in
-        cc
+    go false t zero low has rest = cc (sym t ∙ has e)
     go false t (suc j) low has rest =
         let found = rest j (omega arith) has in
         (found.0, rw t found.1)
@@ -86,13 +74,12 @@ module _ (old : Command) (m : ArgMatches) (p : IsParsedFrom old m) (globals : (o
   of_entry : (x : MatchedArg) → matched_of (found_of m) a.id.now ≡ Some x → (e : Entry) → e.1 ≡ x → e.0.now ≡ a.id.now → EntryPasses p.built e → HasValue m a q
   of_entry x found e is key pass = finish (first_of (λ v. PassesArg p.built a.id.now v.now) x.reading x.vals.items has_one all) (ap (λ (y : MatchedArg). y.reading) (sym is) ∙ how)
     where
+      no_known : (e.0.now ≡ []) ⊎ (0 < length (groups_of p.built)) → ⊥
+      no_known (inl empty) = alone.named (sym key ∙ empty)
+      no_known (inr lots) = let bad : 0 < 0 = rw no_groups at lots in omega arith
+
       no_group : e.1.is_group ≡ true → ⊥
-      no_group g = elim (pass.3 g) [
-        | inl empty ↦ alone.named (sym key ∙ empty)
-        | inr lots ↦
-            let bad : 0 < 0 = rw no_groups at lots in
-            absurd (omega arith)
-      ]
+      no_group g = no_known (pass.3 g)
 
       all : All (λ v. PassesArg p.built a.id.now v.now) x.vals.items
       all = elim pass.0 [
@@ -105,12 +92,7 @@ module _ (old : Command) (m : ArgMatches) (p : IsParsedFrom old m) (globals : (o
 
       has_one : 0 < length x.vals.items
       has_one = elim pass.1 [
-        | inl h ↦ elim h.1 [
-          | inl empty ↦ absurd (alone.named (sym key ∙ empty))
-          | inr lots ↦
-              let bad : 0 < 0 = rw no_groups at lots in
-              absurd (omega arith)
-        ]
+        | inl h ↦ absurd (no_known h.1)
         | inr (inl v) ↦ rw is at v
         | inr (inr (inl h)) ↦
             let any = h.1 in
@@ -120,9 +102,7 @@ module _ (old : Command) (m : ArgMatches) (p : IsParsedFrom old m) (globals : (o
         | inr (inr (inr h)) ↦
             let s = same_rules h.0 h.1 h.2 h.3 (rw key at h.4.0) in
             elim h.4.1 [
-              | inl none ↦
-                  let one = s.least filled.set filled.least in
-                  absurd (omega arith)
+              | inl none ↦ absurd (omega (arith, s.least filled.set filled.least))
               | inr split ↦
                   let bad : false ≡ true = rw (s.val_delim, filled.delimiter) at split in
                   cc

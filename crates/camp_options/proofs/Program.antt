@@ -1,27 +1,14 @@
 -- What a parse of the program's own command line finds.
-use Rattle.std.proofs.Common.{◌≡◌, ◌∙◌, ◌<◌, ◌≤◌, ℕ, zero, suc, Bool, true, false, true≢false, List, [], ◌∷◌, length, map, codes, unwrap_or, Option, Some, None, refl, sym, ap, subst, inl, inr, arith}
-use Rattle.std.specs.Prelude.{◌↔◌, Ok, Result, pos}
-use Rattle.std.specs.Str.Parse.{ParsesBool, ParsesUnsigned}
-use Rattle.std.specs.List.{list_all, slice_index_or}
-use Rattle.std.specs.Str.{bytes_eq}
+use Rattle.camp_options.proofs.Common.{◌≡◌, ◌∙◌, ◌<◌, ◌≤◌, ℕ, zero, suc, Bool, true, false, true≢false, List, [], ◌∷◌, length, map, codes, unwrap_or, Option, Some, None, refl, sym, ap, subst, inl, inr, arith, ◌↔◌, Ok, Result, pos, ParsesBool, ParsesUnsigned, slice_index_or, bytes_eq, bytes_eq-Decides, args_of}
+use Rattle.camp_options.proofs.Common.{least_values, IsParsedFrom, ReadsOne, found_of, one_text, rows_of, App, IsSimple, app_of, is_ready, is_ready_leaf, Arg, Command, ArgMatches, WritesNumber, program, tries, one_text-rows}
+use Rattle.std.specs.List.{list_all}
 use Rattle.std.proofs.lemmas.List.{length-map}
-use Rattle.std.proofs.lemmas.Slice.Eq.{bytes_eq-Decides}
-use Rattle.clap.specs.Facts.{args_of, least_values}
 use Rattle.clap.specs.Texts.{items_of}
-use Rattle.clap.specs.Built.{IsParsedFrom}
 use Rattle.clap.specs.Lexer.{without_minus}
-use Rattle.clap.specs.Matches.{ReadsOne, found_of, one_text}
-use Rattle.clap.specs.Values.{}
-use Rattle.clap.specs.Walk.{Rule, rows_of, rule_of}
-use Rattle.clap.specs.Simple.{App, IsSimple, app_of, is_ready, is_ready_leaf}
-use Rattle.clap.specs.declared.builder.arg.Arg.{Arg}
-use Rattle.clap.specs.declared.builder.command.Command.{Command}
+use Rattle.clap.specs.Walk.{Rule, rule_of}
 use Rattle.clap.specs.declared.builder.value_parser.ValueParser.TheVariants as vp
-use Rattle.clap.specs.declared.parser.matches.ArgMatches.{ArgMatches}
-use Rattle.camp_options.specs.Options.{WritesNumber, program, tries}
 use Rattle.clap.proofs.CallerReads.{signed_reads}
 use Rattle.clap.proofs.SimpleLemmas.{all_simple, ready_simple, simple_groups}
-use Rattle.clap.proofs.WalkLemmas.{one_text-rows}
 use Rattle.camp_options.proofs.Found.{Alone, Filled, has_value}
 
 differ : (x y : List ℕ) → bytes_eq x y ≡ false → x ≡ y → ⊥

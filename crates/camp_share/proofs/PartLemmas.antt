@@ -56,14 +56,18 @@ divided_before {X} {Z} closed last i =
 pub closed_passed : {X Z : Type 0} (closed : List (Vec X Z)) (last : List X) (i : ℕ) → length closed ≤ i → joined (drop i closed) ++ last ≡ last
 closed_passed closed last i past = ap (λ ps. joined ps ++ last) (drop_all i closed past)
 
--- the front of a list that grows, where it ends in the last part
-pub front_whole : {X Z : Type 0} (closed : List (Vec X Z)) (last : List X) (i count left : ℕ) → left + length (joined (take i closed)) ≡ count → length closed ≤ i → joined (take i closed) ++ take left last ≡ take count (joined closed ++ last)
-front_whole closed last i count left is past =
+-- the front of a list that grows, from one of its closed parts on
+front_from : {X Z : Type 0} (closed : List (Vec X Z)) (last : List X) (i count left : ℕ) → left + length (joined (take i closed)) ≡ count → joined (take i closed) ++ take left (joined (drop i closed) ++ last) ≡ take count (joined closed ++ last)
+front_from closed last i count left is =
     sym
     (ap (take count) (divided_before closed last i)
     ∙ ap (λ n. take n (joined (take i closed) ++ (joined (drop i closed) ++ last))) {x = count} {y = length (joined (take i closed)) + left} (omega arith)
-    ∙ take-append-add (joined (take i closed)) (joined (drop i closed) ++ last) left
-    ∙ ap (λ xs. joined (take i closed) ++ take left xs) (closed_passed closed last i past))
+    ∙ take-append-add (joined (take i closed)) (joined (drop i closed) ++ last) left)
+
+-- the same where it ends in the last part
+pub front_whole : {X Z : Type 0} (closed : List (Vec X Z)) (last : List X) (i count left : ℕ) → left + length (joined (take i closed)) ≡ count → length closed ≤ i → joined (take i closed) ++ take left last ≡ take count (joined closed ++ last)
+front_whole closed last i count left is past =
+    ap (λ xs. joined (take i closed) ++ take left xs) (sym (closed_passed closed last i past)) ∙ front_from closed last i count left is
 
 module _ {X Z : Type 0} (closed : List (Vec X Z)) (last : List X) (i : ℕ) (part : Vec X Z) (within : i < length closed) (read : part ≡ get_or closed i part) where
   -- what stands in a list that grows from one of its closed parts on
@@ -87,11 +91,7 @@ module _ {X Z : Type 0} (closed : List (Vec X Z)) (last : List X) (i : ℕ) (par
   -- the front of a list that grows, where it ends in one of its closed parts
   pub front_cut : (count left : ℕ) → left + length (joined (take i closed)) ≡ count → left ≤ length part.items → joined (take i closed) ++ take left part.items ≡ take count (joined closed ++ last)
   front_cut count left is inside =
-      sym
-      (ap (take count) (divided_before closed last i)
-      ∙ ap (λ n. take n (joined (take i closed) ++ (joined (drop i closed) ++ last))) {x = count} {y = length (joined (take i closed)) + left} (omega arith)
-      ∙ take-append-add (joined (take i closed)) (joined (drop i closed) ++ last) left
-      ∙ ap (λ xs. joined (take i closed) ++ xs) (ap (take left) rest_from_here ∙ take-append-le left part.items (joined (drop (i + 1) closed) ++ last) inside))
+      ap (λ xs. joined (take i closed) ++ xs) (sym (ap (take left) rest_from_here ∙ take-append-le left part.items (joined (drop (i + 1) closed) ++ last) inside)) ∙ front_from closed last i count left is
 
   pub rest_past : (left : ℕ) → length part.items ≤ left → drop (left - length part.items) (joined (drop (i + 1) closed) ++ last) ≡ drop left (joined (drop i closed) ++ last)
   rest_past left past =
@@ -153,10 +153,7 @@ place_at_end {X} {Z} parts index end =
 
 fewer : {X Z : Type 0} (parts : List (Vec X Z)) → AllByRecursion IsPart parts → length parts ≤ length (joined parts)
 fewer [] all = omega arith
-fewer (p ∷ ps) all =
-    let size = length-append p.items (joined ps) in
-    let rest = fewer ps all.1 in
-    let some = all.0.0 in omega arith
+fewer (p ∷ ps) all = omega (arith, length-append p.items (joined ps), fewer ps all.1, all.0.0)
 
 -- there are no more parts than elements
 pub parts_fewer : {X Z : Type 0} (parts : List (Vec X Z)) → All IsPart parts → length parts ≤ length (joined parts)

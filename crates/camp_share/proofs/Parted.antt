@@ -83,9 +83,7 @@ module _ {K X : Type 0} (R : K → K → Ordering) (o : IsTotalOrder R) where
         (above_both R key (joined (take passed parts)) (joined (take found some)) before here)
 
     pub found_within : passed + found ≤ length parts
-    found_within =
-        let left = length-drop passed parts in
-        let long = ap length stand ∙ length-append some rest in omega arith
+    found_within = omega (arith, length-drop passed parts, ap length stand ∙ length-append some rest)
 
     pub stands_there : (part : Vec (K × X) Z) → found < length some → part ≡ get_or parts (passed + found) part → part ≡ get_or some found part
     stands_there part before read =

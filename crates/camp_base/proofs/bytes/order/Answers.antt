@@ -1,8 +1,4 @@
-use Rattle.std.proofs.Common.{◌≡◌, ℕ, ◌<◌, List, [], ◌∷◌, length, sym, refl, ◌∙◌, arith}
-use Rattle.std.proofs.lemmas.List.{length-drop}
-use Rattle.std.specs.Ordering.{nat_cmp}
-use Rattle.std.specs.declared.cmp.Ordering.TheVariants.{Greater}
-use Rattle.std.specs.Cmp.Lexicographic.{slice_cmp}
+use Rattle.camp_base.proofs.Words.{◌≡◌, ℕ, ◌<◌, List, [], ◌∷◌, length, sym, refl, ◌∙◌, arith, length-drop, nat_cmp, Greater, slice_cmp}
 use Rattle.camp_base.proofs.bytes.order.Goals as goal
 
 -- a list is above the empty one

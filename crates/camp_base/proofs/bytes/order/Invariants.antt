@@ -1,6 +1,4 @@
-use Rattle.std.proofs.Common.{◌≡◌, drop}
-use Rattle.std.specs.Ordering.{nat_cmp}
-use Rattle.std.specs.Cmp.Lexicographic.{slice_cmp}
+use Rattle.camp_base.proofs.Words.{◌≡◌, drop, nat_cmp, slice_cmp}
 use Rattle.camp_base.proofs.bytes.order.Given as goal
 
 abbrev pub invariant-loop-byte : goal.invariant-loop-byte

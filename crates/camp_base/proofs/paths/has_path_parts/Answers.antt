@@ -1,7 +1,6 @@
-use Rattle.std.proofs.Common.{◌==◌, rules, tests}
+use Rattle.camp_base.proofs.Words.{◌==◌, rules, tests, is_path_part}
 use Rattle.std.proofs.lemmas.Iterator.Search.{all_from_yields_List}
 use Rattle.std.proofs.lemmas.Iterator.Splits.{YieldsList-from_slice_split}
-use Rattle.camp_base.specs.Bytes.{is_path_part}
 use Rattle.camp_base.proofs.paths.has_path_parts.Goals as goal
 
 pub returns : goal.returns

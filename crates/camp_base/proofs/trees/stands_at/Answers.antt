@@ -1,4 +1,4 @@
-use Rattle.std.proofs.Common.{arith}
+use Rattle.camp_base.proofs.Words.{arith}
 use Rattle.camp_base.proofs.LineLemmas.{lines_told}
 use Rattle.camp_base.proofs.trees.stands_at.Goals as goal
 

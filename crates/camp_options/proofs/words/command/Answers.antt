@@ -1,11 +1,7 @@
-use Rattle.std.proofs.Common.{codes, ap, ap₂, ◌≡◌, ◌∙◌}
+use Rattle.camp_options.proofs.Common.{codes, ap, ap₂, ◌≡◌, ◌∙◌, app_of_fields, app_of, new_app, with_rule, program}
 use Rattle.std.proofs.lemmas.Result.{IfOk-weaker}
-use Rattle.clap.specs.Simple.{app_of_fields}
-use Rattle.clap.specs.Words.{app_of, new_app, with_rule}
-use Rattle.camp_options.specs.Options.{program}
 use Rattle.camp_options.proofs.words.command.Goals as goal
 
--- src/words.rt
 pub returns : goal.returns
 returns c =
     let bare : app_of c.after_help.result ≡ new_app (codes "camp") = ap app_of_fields c.after_help.ensures ∙ ap app_of_fields c.override_usage.ensures ∙ c.new.ensures.app in

@@ -1,11 +1,7 @@
-use Rattle.std.proofs.Common.{◌≡◌, ℕ, List, Option, Some, codes, subst, sym, true}
-use Rattle.std.specs.Prelude.{◌↔◌}
-use Rattle.clap.specs.Words.{found_of, one_text}
-use Rattle.clap.proofs.WalkLemmas.{one_text-rows}
+use Rattle.camp_options.proofs.Common.{◌≡◌, ℕ, List, Option, Some, codes, subst, sym, true, ◌↔◌, found_of, one_text, one_text-rows}
 use Rattle.camp_options.proofs.Program.{flag_is}
 use Rattle.camp_options.proofs.words.is_set.Goals as goal
 
--- src/words.rt
 pub returns : goal.returns
 returns c =
     let found = found_of c.args.matches.now in

@@ -1,19 +1,12 @@
-use Rattle.std.proofs.Common.{◌≡◌, ◌∙◌, ℕ, List, ap, map, refl, subst, sym}
-use Rattle.std.specs.Prelude.{Option, unwrap_or}
-use Rattle.std.specs.Str.Parse.{ExplainsUnsignedError, HasUnsignedDigitsIfOk, ParsesUnsigned}
-use Rattle.clap.specs.Matches.{found_of}
-use Rattle.clap.specs.Words.{App, Row, fault_of, is_simple, is_simple_and_free, matches_of, rows_of}
-use Rattle.camp_options.specs.Options.{Given, program}
+use Rattle.camp_options.proofs.Common.{◌≡◌, ◌∙◌, ℕ, List, ap, map, refl, subst, sym, Option, unwrap_or, ExplainsUnsignedError, HasUnsignedDigitsIfOk, ParsesUnsigned, found_of, App, Row, fault_of, is_simple, is_simple_and_free, matches_of, rows_of, Given, program}
 use Rattle.camp_options.proofs.Program.{tries_of}
 use Rattle.camp_options.proofs.words.options.Goals as goal
 
--- src/words.rt
 pub unwrap-requires : goal.unwrap-requires
 unwrap-requires g c =
     let tries = tries_of c.in_ok-command.field-0 c.in_ok-matches.matches c.in_ok-command.ensures c.in_ok-matches.ensures.parsed _ (λ bs r. ParsesUnsigned 32 10 bs r × ExplainsUnsignedError 10 bs r × HasUnsignedDigitsIfOk bs r) (λ text x h. h.0) c.get_one.result c.get_one.ensures.value in
     rw tries.is refl
 
--- src/words.rt
 pub returns : goal.returns
 returns g c =
     let words = map g.S.AsStr.text c.args.words.now in

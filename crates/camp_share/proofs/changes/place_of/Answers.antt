@@ -8,8 +8,7 @@ len-requires g c = let fewer = parts_fewer c.args.parts.now c.requires.parts in 
 pub overflow_add-count : goal.overflow_add-count
 overflow_add-count g c =
     let next = next_of c.args.parts.now c.next.new.self c.loop-part.count c.in-Some.part.now (c.loop-part.invariant.rest ∙ c.in-Some.ensures.steps) in
-    let within = next.0 in
-    let fewer = parts_fewer c.args.parts.now c.requires.parts in omega (arith, c.requires.len)
+    omega (arith, next.0, parts_fewer c.args.parts.now c.requires.parts, c.requires.len)
 
 pub loop-part-preserved : goal.loop-part-preserved
 loop-part-preserved g c =

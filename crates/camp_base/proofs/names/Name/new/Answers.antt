@@ -1,6 +1,4 @@
-use Rattle.std.proofs.Common.{◌≡◌, ℕ, List, length, drop, ◌++◌, ◌-◌, replicate, sym, ap, refl, IsTrue}
-use Rattle.std.proofs.lemmas.List.{drop-replicate, take_at}
-use Rattle.camp_base.specs.Bytes.{is_name}
+use Rattle.camp_base.proofs.Words.{◌≡◌, ℕ, List, length, drop, ◌++◌, ◌-◌, replicate, sym, ap, refl, IsTrue, drop-replicate, take_at, is_name}
 use Rattle.camp_base.specs.Inside.NameFields.{IsPadded, padded}
 use Rattle.camp_base.proofs.names.Name.new.Goals as goal
 

@@ -23,7 +23,4 @@ invariant_of-result c =
     keyed_sum c.args.r.now c.args.set.now _ sum (subst AreKeyed c.set.view_is c.set.invariant)
 
 pub returns : goal.returns
-returns c = record {
-  exact =
-      all_added c.args.r.now _ c.args.set.now _ _ _ c.set.view_is c.len-index-end.ensures.value c.loop-index-test.false c.loop-index.invariant;
-}
+returns c = record { exact = all_added c.args.r.now _ c.args.set.now _ _ _ c.set.view_is c.len-index-end.ensures.value c.loop-index-test.false c.loop-index.invariant }

@@ -4,10 +4,8 @@ use Rattle.camp_share.proofs.growing.Growing.len.Goals as goal
 
 pub overflow_add-sum : goal.overflow_add-sum
 overflow_add-sum g c =
-    let size = length_told _ c.part-item.result _ c.deref.ensures c.len-sum-in-loop-part.ensures in
-    let rest = shorter _ _ c.part-item.result c.loop-part-test.true c.part-item.is in omega (arith, c.loop-part.invariant)
+    omega (arith, length_told _ c.part-item.result _ c.deref.ensures c.len-sum-in-loop-part.ensures, shorter _ _ c.part-item.result c.loop-part-test.true c.part-item.is, c.loop-part.invariant)
 
 pub loop-part-preserved : goal.loop-part-preserved
 loop-part-preserved g c =
-    let size = length_told _ c.part-item.result _ c.deref.ensures c.len-sum-in-loop-part.ensures in
-    let rest = shorter _ _ c.part-item.result c.loop-part-test.true c.part-item.is in omega (arith, c.loop-part.invariant)
+    omega (arith, length_told _ c.part-item.result _ c.deref.ensures c.len-sum-in-loop-part.ensures, shorter _ _ c.part-item.result c.loop-part-test.true c.part-item.is, c.loop-part.invariant)

@@ -22,8 +22,6 @@ returns-in-Ok g c = record {
 }
 
 pub returns-in-Err : goal.returns-in-Err
-returns-in-Err g c = record {
-  exact =
-      let sorted = subst (λ es. T (is_sorted g.K.Ord.cmp es)) (sym c.parts-parts.ensures.items) c.self.invariant in
-      sym (missing _ g.met.K.Ord.total _ _ (c.parts-parts.ensures.items ∙ c.self.view_is) sorted c.args.key.now _ c.in-Err.ensures.absent.1);
-}
+returns-in-Err g c =
+    let sorted = subst (λ es. T (is_sorted g.K.Ord.cmp es)) (sym c.parts-parts.ensures.items) c.self.invariant in
+    record { exact = sym (missing _ g.met.K.Ord.total _ _ (c.parts-parts.ensures.items ∙ c.self.view_is) sorted c.args.key.now _ c.in-Err.ensures.absent.1) }

@@ -17,10 +17,8 @@ invariant_of-result g c =
     subst (λ es. T (is_sorted g.K.Ord.cmp es)) (sym is) (map_retained _ g.met.K.Ord.total g.met.K.Key.same own has).0
 
 pub returns : goal.returns
-returns g c = record {
-  exact =
-      let has = map.contains_key (map_of g.K.Ord.cmp c.args.others.now) in
-      let own = map_of g.K.Ord.cmp c.args.self.now in
-      let is = retained_whole _ g.met.K.Ord.total has c.loop-entry.kept.items c.loop-entry.entry-iterator (where_key g.K.Ord.cmp has (map.entries own)) c.in_ok-entries.entries (c.in_ok-entries.ensures.exact ∙ c.deref.ensures.value) c.in-None.ensures.steps.0 c.loop-entry.invariant in
-      ap (map_of g.K.Ord.cmp) is ∙ (map_retained _ g.met.K.Ord.total g.met.K.Key.same own has).1;
-}
+returns g c =
+    let has = map.contains_key (map_of g.K.Ord.cmp c.args.others.now) in
+    let own = map_of g.K.Ord.cmp c.args.self.now in
+    let is = retained_whole _ g.met.K.Ord.total has c.loop-entry.kept.items c.loop-entry.entry-iterator (where_key g.K.Ord.cmp has (map.entries own)) c.in_ok-entries.entries (c.in_ok-entries.ensures.exact ∙ c.deref.ensures.value) c.in-None.ensures.steps.0 c.loop-entry.invariant in
+    record { exact = ap (map_of g.K.Ord.cmp) is ∙ (map_retained _ g.met.K.Ord.total g.met.K.Key.same own has).1 }

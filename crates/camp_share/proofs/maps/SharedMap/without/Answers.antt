@@ -9,9 +9,7 @@ of_parts-entries-requires-clause-len g c =
     let whole = joined c.parts-parts.result.now in
     let place = offset c.parts-parts.result.now c.in-Ok.index c.in-Ok.place in
     let within = at_within whole c.args.key.now place c.in-Ok.ensures.found.2 in
-    let shorter = length-remove whole place within in
-    let less = ap length c.in_ok-parts-in-Ok.ensures.items in
-    let same = ap length c.parts-parts.ensures.items in omega (arith, c.len.ensures.exact)
+    omega (arith, length-remove whole place within, ap length c.in_ok-parts-in-Ok.ensures.items, ap length c.parts-parts.ensures.items, c.len.ensures.exact)
 
 pub invariant_of-result : goal.invariant_of-result
 invariant_of-result g c = (removal _ g.met.K.Ord.total _ _ (c.parts-parts.ensures.items ∙ c.self.view_is) (subst (λ es. T (is_sorted g.K.Ord.cmp es)) (sym c.parts-parts.ensures.items) c.self.invariant) g.met.K.Key.same c.args.key.now _ c.of_parts-entries.result c.in-Ok.ensures.found.2 (c.of_parts-entries.ensures ∙ c.in_ok-parts-in-Ok.ensures.items)).0
