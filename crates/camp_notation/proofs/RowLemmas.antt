@@ -1,14 +1,11 @@
 -- Rows that grow item by item.
-use Rattle.std.proofs.Common.{◌≡◌, ℕ, ◌+◌, ◌<◌, ◌≤◌, List, [], ◌∷◌, ◌++◌, length, take, None, Some, sym, ap, ◌∙◌, append_assoc, append-nil, arith}
-use Rattle.std.proofs.lemmas.List.{take_more, take_all, length-take-le}
+use Rattle.camp_notation.proofs.Common.{◌≡◌, ℕ, ◌+◌, ◌<◌, ◌≤◌, List, [], ◌∷◌, ◌++◌, length, take, None, Some, sym, ap, ◌∙◌, append_assoc, append-nil, arith, take_all, length-take-le, slice_get-get_or, slice_get_within, get_or_from_slice_get, none-some}
+use Rattle.camp_notation.proofs.Common.{flat_map, slice_get, entries, values, len, len-entries, row, separator}
+use Rattle.std.proofs.lemmas.List.{take_more}
 use Rattle.std.proofs.lemmas.Grind.{flat_map-append}
-use Rattle.std.proofs.lemmas.Option.{slice_get-get_or, slice_get_within, get_or_from_slice_get, none-some}
-use Rattle.std.specs.List.{flat_map, slice_get}
-use Rattle.std.specs.FinMap.{entries, values, len, len-entries}
 use Rattle.camp_base.specs.Trees.{Files}
 use Rattle.camp_ctx.specs.Contexts.{ContextedPatch, ContextedPatches}
 use Rattle.camp_ctx.proofs.SetSteps.{count_of_members}
-use Rattle.camp_notation.specs.Words.{row, separator}
 
 -- one more item, behind those that are there
 behind : {X : Type 0} (text : X → List ℕ) (xs : List X) (x : X) → row text (xs ++ x ∷ []) ≡ row text xs ++ (separator (length xs) ++ text x)
@@ -38,24 +35,16 @@ all_items text xs i old now over so = so ∙ ap (λ s. old ++ row text s) (take_
 
 -- a tree has a file at each place below its number of files
 pub no_file : (tree : Files) (n i : ℕ) → n ≡ len tree → i < n → slice_get (entries tree) i ≡ None → ⊥
-no_file tree n i is within none =
-    let size = len-entries tree in
-    no_item (entries tree) i (omega arith) none
+no_file tree n i is within none = no_item (entries tree) i (omega (arith, len-entries tree)) none
 
 -- all files of a tree
 pub all_files : (text : List ℕ × List (List ℕ) → List ℕ) (tree : Files) (n i : ℕ) (old now : List ℕ) → n ≡ len tree → n ≤ i → now ≡ old ++ row text (take i (entries tree)) → now ≡ old ++ row text (entries tree)
-all_files text tree n i old now is past so =
-    let size = len-entries tree in
-    all_items text (entries tree) i old now (omega arith) so
+all_files text tree n i old now is past so = all_items text (entries tree) i old now (omega (arith, len-entries tree)) so
 
 -- a set has a member at each place below its number of members
 pub no_member : (xs : ContextedPatches) (n i : ℕ) → n ≡ len xs → i < n → slice_get (values xs) i ≡ None → ⊥
-no_member xs n i is within none =
-    let size = count_of_members xs in
-    no_item (values xs) i (omega arith) none
+no_member xs n i is within none = no_item (values xs) i (omega (arith, count_of_members xs)) none
 
 -- all members of a set
 pub all_members : (text : ContextedPatch → List ℕ) (xs : ContextedPatches) (n i : ℕ) (old now : List ℕ) → n ≡ len xs → n ≤ i → now ≡ old ++ row text (take i (values xs)) → now ≡ old ++ row text (values xs)
-all_members text xs n i old now is past so =
-    let size = count_of_members xs in
-    all_items text (values xs) i old now (omega arith) so
+all_members text xs n i old now is past so = all_items text (values xs) i old now (omega (arith, count_of_members xs)) so

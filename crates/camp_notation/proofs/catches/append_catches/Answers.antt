@@ -1,7 +1,4 @@
-use Rattle.std.proofs.Common.{◌≡◌, ◌++◌, ◌∙◌, Some, ap, sym, string_bytes}
-use Rattle.std.proofs.lemmas.Option.{slice_get-get_or}
-use Rattle.std.specs.List.{slice_get}
-use Rattle.camp_notation.specs.Catches.{catch_text}
+use Rattle.camp_notation.proofs.Common.{◌≡◌, ◌++◌, ◌∙◌, Some, ap, sym, string_bytes, slice_get-get_or, slice_get, catch_text}
 use Rattle.camp_notation.proofs.RowLemmas.{one_more}
 use Rattle.camp_notation.proofs.catches.append_catches.Goals as goal
 

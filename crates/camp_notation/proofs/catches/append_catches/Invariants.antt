@@ -1,6 +1,4 @@
-use Rattle.std.proofs.Common.{◌≡◌, ◌++◌, take, string_bytes}
-use Rattle.camp_notation.specs.Words.{row}
-use Rattle.camp_notation.specs.Catches.{catch_text}
+use Rattle.camp_notation.proofs.Common.{◌≡◌, ◌++◌, take, string_bytes, row, catch_text}
 use Rattle.camp_notation.proofs.catches.append_catches.Given as goal
 
 abbrev pub invariant-loop-at : goal.invariant-loop-at

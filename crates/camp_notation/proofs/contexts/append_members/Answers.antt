@@ -1,6 +1,4 @@
-use Rattle.std.proofs.Common.{string_bytes}
-use Rattle.std.specs.FinMap.{values}
-use Rattle.camp_notation.specs.Contexts.{contexted_text}
+use Rattle.camp_notation.proofs.Common.{string_bytes, values, contexted_text}
 use Rattle.camp_notation.proofs.RowLemmas.{one_more, no_member, all_members}
 use Rattle.camp_notation.proofs.contexts.append_members.Goals as goal
 

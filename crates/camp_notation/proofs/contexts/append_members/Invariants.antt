@@ -1,7 +1,4 @@
-use Rattle.std.proofs.Common.{◌≡◌, ◌++◌, take, string_bytes}
-use Rattle.std.specs.FinMap.{values}
-use Rattle.camp_notation.specs.Words.{row}
-use Rattle.camp_notation.specs.Contexts.{contexted_text}
+use Rattle.camp_notation.proofs.Common.{◌≡◌, ◌++◌, take, string_bytes, values, row, contexted_text}
 use Rattle.camp_notation.proofs.contexts.append_members.Given as goal
 
 abbrev pub invariant-loop-at : goal.invariant-loop-at

@@ -1,6 +1,4 @@
-use Rattle.std.proofs.Common.{◌≡◌, [], ◌∷◌, ◌++◌, take, string_bytes}
-use Rattle.std.specs.List.{flat_map}
-use Rattle.camp_notation.specs.Patches.{named_text}
+use Rattle.camp_notation.proofs.Common.{◌≡◌, [], ◌∷◌, ◌++◌, take, string_bytes, flat_map, named_text}
 use Rattle.camp_notation.proofs.lists.append_lines_of.Given as goal
 
 abbrev pub invariant-loop-p : goal.invariant-loop-p

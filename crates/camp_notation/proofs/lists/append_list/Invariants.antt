@@ -1,6 +1,4 @@
-use Rattle.std.proofs.Common.{◌≡◌, ◌++◌, take, string_bytes}
-use Rattle.camp_notation.specs.Words.{row}
-use Rattle.camp_notation.specs.Patches.{named_text}
+use Rattle.camp_notation.proofs.Common.{◌≡◌, ◌++◌, take, string_bytes, row, named_text}
 use Rattle.camp_notation.proofs.lists.append_list.Given as goal
 
 abbrev pub invariant-loop-at : goal.invariant-loop-at

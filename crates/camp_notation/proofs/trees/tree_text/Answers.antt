@@ -1,7 +1,4 @@
-use Rattle.std.proofs.Common.{◌≡◌, ◌∷◌, [], ap, ◌++◌, ◌∙◌, string_bytes, lit<}
-use Rattle.std.specs.FinMap.{entries}
-use Rattle.camp_notation.specs.Words.{row}
-use Rattle.camp_notation.specs.Trees.{file_text}
+use Rattle.camp_notation.proofs.Common.{◌≡◌, ◌∷◌, [], ap, ◌++◌, ◌∙◌, string_bytes, lit<, entries, row, file_text}
 use Rattle.camp_notation.proofs.RowLemmas.{one_more, no_file, all_files}
 use Rattle.camp_notation.proofs.trees.tree_text.Goals as goal
 
@@ -14,10 +11,8 @@ loop-at-preserved c =
     c.loop-at.invariant c.in-Some.ensures.exact c.in_ok-append_separator.ensures c.in_ok-append_file.ensures
 
 pub returns : goal.returns
-returns c = record {
-  exact =
-      let all = all_files file_text c.args.tree.now c.len-at-end.result c.loop-at.at (string_bytes c.push.new.self) (string_bytes c.loop-at.text) c.len-at-end.ensures.exact c.loop-at-test.false c.loop-at.invariant in
-      let begun : string_bytes c.push.new.self ≡ string_bytes c.new-text.result ++ 123 ∷ [] = c.in_ok-push.ensures.bytes ∙ ap (λ t. string_bytes c.new-text.result ++ t) (c.in_ok-push.ensures.ascii (lit< tt)) in
-      let ended : string_bytes c.push-2.new.self ≡ string_bytes c.loop-at.text ++ 125 ∷ [] = c.in_ok-push-2.ensures.bytes ∙ ap (λ t. string_bytes c.loop-at.text ++ t) (c.in_ok-push-2.ensures.ascii (lit< tt)) in
-      ended ∙ ap (λ t. t ++ 125 ∷ []) (all ∙ ap (λ t. t ++ row file_text (entries c.args.tree.now)) (begun ∙ ap (λ t. t ++ 123 ∷ []) c.new-text.ensures.bytes));
-}
+returns c =
+    let all = all_files file_text c.args.tree.now c.len-at-end.result c.loop-at.at (string_bytes c.push.new.self) (string_bytes c.loop-at.text) c.len-at-end.ensures.exact c.loop-at-test.false c.loop-at.invariant in
+    let begun : string_bytes c.push.new.self ≡ string_bytes c.new-text.result ++ 123 ∷ [] = c.in_ok-push.ensures.bytes ∙ ap (λ t. string_bytes c.new-text.result ++ t) (c.in_ok-push.ensures.ascii (lit< tt)) in
+    let ended : string_bytes c.push-2.new.self ≡ string_bytes c.loop-at.text ++ 125 ∷ [] = c.in_ok-push-2.ensures.bytes ∙ ap (λ t. string_bytes c.loop-at.text ++ t) (c.in_ok-push-2.ensures.ascii (lit< tt)) in
+    record { exact = ended ∙ ap (λ t. t ++ 125 ∷ []) (all ∙ ap (λ t. t ++ row file_text (entries c.args.tree.now)) (begun ∙ ap (λ t. t ++ 123 ∷ []) c.new-text.ensures.bytes)) }

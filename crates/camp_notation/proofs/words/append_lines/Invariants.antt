@@ -1,5 +1,4 @@
-use Rattle.std.proofs.Common.{◌≡◌, ◌++◌, take, string_bytes}
-use Rattle.camp_notation.specs.Words.{row, word_text}
+use Rattle.camp_notation.proofs.Common.{◌≡◌, ◌++◌, take, string_bytes, row, word_text}
 use Rattle.camp_notation.proofs.words.append_lines.Given as goal
 
 abbrev pub invariant-loop-at : goal.invariant-loop-at

@@ -1,4 +1,4 @@
-use Rattle.std.proofs.Common.{◌≡◌, ◌++◌, take, string_bytes}
+use Rattle.camp_notation.proofs.Common.{◌≡◌, ◌++◌, take, string_bytes}
 use Rattle.camp_notation.proofs.words.append_plain.Given as goal
 
 abbrev pub invariant-loop-byte : goal.invariant-loop-byte

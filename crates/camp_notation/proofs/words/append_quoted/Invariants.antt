@@ -1,6 +1,4 @@
-use Rattle.std.proofs.Common.{◌≡◌, ◌∷◌, ◌++◌, take, string_bytes}
-use Rattle.std.specs.List.{flat_map}
-use Rattle.camp_notation.specs.Words.{quoted_byte}
+use Rattle.camp_notation.proofs.Common.{◌≡◌, ◌++◌, take, string_bytes, flat_map, quoted_byte}
 use Rattle.camp_notation.proofs.words.append_quoted.Given as goal
 
 abbrev pub invariant-loop-byte : goal.invariant-loop-byte
