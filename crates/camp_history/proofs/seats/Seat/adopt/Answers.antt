@@ -1,5 +1,4 @@
-use Rattle.std.proofs.Common.{◌≡◌, ◌≤◌, ◌+◌, ◌++◌, Some, sym, ◌∙◌, ap, map, length, subst, arith, IsOk, is_ok, slice_range, take, vec_len, vec_capacity, if◌then◌else◌}
-use Rattle.camp_history.proofs.Words.{length-map, IsFront, replay, front_self, Leads, Seated, asked, history_of, news, GoesOn, Adopts, seated, entry_of}
+use Rattle.camp_history.proofs.Words.{length-map, IsFront, replay, front_self, Leads, Seated, asked, history_of, news, GoesOn, Adopts, seated, entry_of, ◌≡◌, ◌≤◌, ◌+◌, ◌++◌, Some, sym, ◌∙◌, ap, map, length, subst, arith, IsOk, is_ok, slice_range, take, vec_len, vec_capacity, if◌then◌else◌}
 use Rattle.camp_history.proofs.Versioned.{news_are, news_within, appended, adopts, adopted_places, adopted_below, adopted_asks}
 use Rattle.camp_history.proofs.seats.Seat.adopt.Goals as goal
 
