@@ -5,8 +5,7 @@ use Rattle.boxcar.specs.Slot.{Named}
 use Rattle.camp_row.specs.Chains as chain
 use Rattle.camp_row.proofs.Cells.{turns_front}
 use Rattle.camp_row.proofs.TrailSteps.{length-cells_back}
-use Rattle.camp_history.proofs.Marked.{length-own, map_more}
-use Rattle.camp_history.proofs.Seeing.{sees_more_self}
+use Rattle.camp_history.proofs.Seeing.{sees_more_self, length-own, map_more}
 use Rattle.camp_history.proofs.Together.{own_front}
 
 -- the number of a bucket, among those of its store
