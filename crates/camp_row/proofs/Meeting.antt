@@ -1,7 +1,6 @@
 -- Two passes that find one chain.
 use Rattle.camp_row.proofs.Words.{subst, ◌≡◌, ◌≢◌, inl, inr, ℕ, ◌+◌, ◌≤◌, List, [], ◌∷◌, All, map, sym, ap, ◌∙◌, arith, All-head, All-tail, All-same, Seat, Entry, Knowledge, PassInside, IsFront, Known, FindsChain, OneBegins, Part, part_of, known_of, parts_of, finds, part, known, IsPass, Sees, Looked, ◌++◌}
-use Rattle.camp_row.proofs.Fronts.{fronts_meet, shorter_front}
-use Rattle.camp_row.proofs.PassOfRow.{known_at}
+use Rattle.camp_row.proofs.PassOfRow.{known_at, fronts_meet, shorter_front}
 use Rattle.camp_row.proofs.Ruling.{parts_of-self}
 
 -- both parts, after a load of the head by the seat that has both

@@ -3,7 +3,7 @@ use Rattle.camp_row.proofs.Words.{◌≡◌, ℕ, ◌+◌, ◌*◌, ◌<◌, ◌
 use Rattle.std.proofs.Math.Nat.{mul-le-mul_left}
 use Rattle.camp_row.proofs.Drafting.{next_cell, HasRoom}
 use Rattle.camp_row.proofs.Dealing.{splits}
-use Rattle.camp_row.proofs.Fronts.{front_refl}
+pub use Rattle.camp_row.proofs.Fronts.{cut_longer, cut_pushed, front_nil, front_refl, fronts_meet, next_is, no_cut, shorter_front}
 use Rattle.camp_row.proofs.Loading.{looks, walks}
 use Rattle.camp_row.proofs.Ruling.{Owes, Ruled, allows, only, allows_one}
 

@@ -1,7 +1,6 @@
 -- A place of a trail, before the entries that lie before it are seen.
 use Rattle.camp_row.proofs.Words.{◌≡◌, ℕ, zero, suc, ◌+◌, ◌-◌, ◌<◌, List, [], ◌∷◌, ◌++◌, length, slice_get, Some, sym, refl, ap, ◌∙◌, subst, arith, length-append, append-nil, append_assoc, same_Some, Entry, PassInside, RowInside, cell_of, Known, Leads, cells_back, Part, IsSoundPart, part, known, get_or, slice_get_read}
-use Rattle.camp_row.proofs.PassOfRow.{IsOf, Held, held}
-use Rattle.camp_row.proofs.TrailSteps.{length-cells_back}
+use Rattle.camp_row.proofs.TrailSteps.{length-cells_back, IsOf, Held, held}
 
 -- the entry at a place of a list, and its cell
 record Placed (seats : ℕ) (before left : List Entry) (index cell : ℕ) : Type 0 where

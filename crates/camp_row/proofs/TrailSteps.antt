@@ -1,8 +1,7 @@
 -- A trail, popped and pushed.
 use Rattle.camp_row.proofs.Words.{◌≡◌, ◌≢◌, ℕ, ◌+◌, ◌-◌, ◌%◌, ◌<◌, List, [], ◌∷◌, ◌++◌, length, sym, refl, ap, ◌∙◌, subst, inl, inr, arith, length-append, same_from_push, append-nil, append_assoc, length_push, TableId, Entry, PassInside, RowInside, IsFront, cell_of, head_word, Known, ComesNext, Leads, Reads, cells_back, Part, known_of, IsSoundPart, part, known, IsPass, place_word}
-use Rattle.camp_row.proofs.Fronts.{no_cut, cut_pushed, cut_longer}
 use Rattle.camp_row.proofs.Cells.{next_is_others, head_word-push, same_front, last_cases}
-use Rattle.camp_row.proofs.PassOfRow.{IsOf, Held, held}
+pub use Rattle.camp_row.proofs.PassOfRow.{Held, IsOf, cut_longer, cut_pushed, found_pass, held, is_of, no_cut, sees_still, walks_in}
 
 pub trail_none : (seats : ℕ) (before left : List Entry) → cells_back seats before left ≡ [] → left ≡ []
 trail_none seats before [] e = refl

@@ -1,7 +1,6 @@
 use Rattle.camp_row.proofs.Words.{arith, ◌≡◌, ◌+◌, ◌∷◌, [], ◌++◌, sym, ap, ◌∙◌, length, Entry, own, cell_of, Known, Part, known_of, part, known, place_word, Advanced}
-use Rattle.camp_row.proofs.Fronts.{next_is, cut_pushed}
 use Rattle.camp_row.proofs.Cells.{own_of_next, head_word-push}
-use Rattle.camp_row.proofs.PassOfRow.{is_of, next_of, at_part, known_at, steps_in}
+use Rattle.camp_row.proofs.PassOfRow.{is_of, next_of, at_part, known_at, steps_in, next_is, cut_pushed}
 use Rattle.camp_row.proofs.Loading.{advances}
 use Rattle.camp_row.proofs.rows.Row.advance.Goals as goal
 

@@ -1,8 +1,7 @@
 use Rattle.camp_row.proofs.Words.{arith, ◌≡◌, ◌<◌, ◌∷◌, [], ◌++◌, refl, sym, ap, subst, ◌∙◌, zero-add, RowId, newcomer, part_of, known_of, fresh}
 use Rattle.std.proofs.lemmas.List.FromFn.{map-range_with_len_more}
-use Rattle.camp_row.proofs.Fronts.{front_nil, no_cut}
 use Rattle.camp_row.proofs.Dealing.{first_left}
-use Rattle.camp_row.proofs.PassOfRow.{at_part, splits_in}
+use Rattle.camp_row.proofs.PassOfRow.{at_part, splits_in, front_nil, no_cut}
 use Rattle.camp_row.proofs.rows.Row.deal.Goals as goal
 
 pub split_seat-seat-requires : goal.split_seat-seat-requires

@@ -1,8 +1,7 @@
 use Rattle.camp_row.proofs.Words.{arith, ◌≡◌, ◌==◌, ◌+◌, ◌++◌, ◌∷◌, [], subst, refl, sym, ap, ◌∙◌, eq-eqb, MatchBool-at_true, either, Entry, head_word, IsDrafted, Part, part, drafted_part, won_part, WonPart, LostPart, Tried}
-use Rattle.camp_row.proofs.Fronts.{front_refl}
 use Rattle.camp_row.proofs.Cells.{head_word-push, turns_push, fits_push, fits_front}
 use Rattle.camp_row.proofs.Publishing.{publishes}
-use Rattle.camp_row.proofs.PassOfRow.{at_part, at_own, steps_in}
+use Rattle.camp_row.proofs.PassOfRow.{at_part, at_own, steps_in, front_refl}
 use Rattle.camp_row.proofs.rows.Row.publish.Goals as goal
 
 pub compare_exchange-found-requires : goal.compare_exchange-found-requires

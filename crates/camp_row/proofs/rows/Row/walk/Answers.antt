@@ -1,6 +1,5 @@
 use Rattle.camp_row.proofs.Words.{arith, ◌≡◌, ◌+◌, ◌-◌, ◌∷◌, [], ◌++◌, sym, ap, subst, ◌∙◌, length, length_push, Leads, Part, part_of, known_of, part, parent_word}
-use Rattle.camp_row.proofs.PassOfRow.{is_of, found_pass, sees_still, walks_in}
-use Rattle.camp_row.proofs.TrailSteps.{Climbs, climbs_first, above, climbs_on, climbs_last}
+use Rattle.camp_row.proofs.TrailSteps.{Climbs, climbs_first, above, climbs_on, climbs_last, is_of, found_pass, sees_still, walks_in}
 use Rattle.camp_row.proofs.rows.Row.walk.Goals as goal
 
 pub loop-word-init : goal.loop-word-init
