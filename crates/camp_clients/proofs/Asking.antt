@@ -1,10 +1,7 @@
 -- Lemmas on what one answer says.
-use Rattle.camp_clients.proofs.Words.{◌≡◌, ℕ, ◌+◌, ◌≤◌, true, false, cond, List, [], ◌∷◌, ◌++◌, length, Option, None, Some, IsSome, Result, Ok, Err, MatchOption, refl, sym, ◌∙◌, ap, subst, arith, Ask, Caller, Accepts, AddsNothing, Sequential, IsLawfulObject, Fault, Memory, Busy, Full, own_at, where_done}
+use Rattle.camp_clients.proofs.Words.{◌≡◌, ℕ, ◌+◌, ◌≤◌, true, false, cond, List, [], ◌∷◌, ◌++◌, length, Option, None, Some, IsSome, Result, Ok, Err, MatchOption, refl, sym, ◌∙◌, ap, subst, arith, Ask, Caller, Accepts, AddsNothing, Sequential, IsLawfulObject, Fault, Memory, Busy, Full, own_at, where_done, IsFront, IsLegal, IsAccepted, IsAnswered, replay, own, Asks, GoesOn, HasMemory, told, own_mine}
 use Rattle.std.proofs.lemmas.List.{append-nil, append_cancel_right, length-append}
 use Rattle.std.specs.Option.{option_and_then}
-use Rattle.camp_object.specs.Histories.{IsFront, IsLegal, IsAccepted, IsAnswered, replay, own}
-use Rattle.camp_clients.specs.Answers.{Asks, GoesOn, HasMemory, told}
-use Rattle.camp_object.proofs.Replays.{own_mine}
 use Rattle.camp_clients.proofs.Histories.{last_accepted}
 use Rattle.camp_clients.proofs.Positions.{own_at_front, own_at_push}
 

@@ -1,8 +1,6 @@
 -- Lemmas on comparing a history with answers, entry by entry.
-use Rattle.std.proofs.Common.{◌≡◌, ℕ, ◌+◌, ◌≤◌, ◌<◌, ◌==◌, true, false, List, [], ◌∷◌, ◌++◌, length, Option, None, Some, is_some, MatchOption, take, drop, get_or, refl, sym, ◌∙◌, ap, subst, append_assoc, replicate, inl, inr, arith}
-use Rattle.camp_clients.proofs.Words.{eqb_tells, cases_lt, own_at, done_at, IsExactly, section_of}
+use Rattle.camp_clients.proofs.Words.{eqb_tells, cases_lt, own_at, done_at, IsExactly, section_of, ◌≡◌, ℕ, ◌+◌, ◌≤◌, ◌<◌, ◌==◌, true, false, List, [], ◌∷◌, ◌++◌, length, Option, None, Some, is_some, MatchOption, take, drop, get_or, refl, sym, ◌∙◌, ap, subst, append_assoc, replicate, inl, inr, arith, IsFound, Matches, Differs, left_from}
 use Rattle.std.proofs.lemmas.List.{append-nil, append_cancel_left, take_more, take_all, take-append-drop, length-take-le, get_or-set_same, get_or-set_other, get_or-replicate, get_or_past, length-replicate, get_or_default}
-use Rattle.camp_clients.specs.Comparing.{IsFound, Matches, Differs, left_from}
 use Rattle.camp_clients.proofs.Positions.{own_at-append, own_at_push}
 
 module _ {Call : Type 0} (history : List (ℕ × Call)) (i : ℕ) (below : i < length history) (entry : ℕ × Call) (is_entry : entry ≡ get_or history i entry) where

@@ -1,12 +1,9 @@
 -- Lemmas on sections of calls.
-use Rattle.std.proofs.Common.{◌≡◌, ℕ, ◌+◌, ◌≤◌, true, false, List, [], ◌∷◌, ◌++◌, length, Option, None, Some, Result, Ok, Err, MatchOption, zero, suc, cond, count_by, get_or, drop, take, ◌<◌, refl, sym, ◌∙◌, ap, subst, append_assoc, add-zero, arith}
-use Rattle.camp_clients.proofs.Words.{append-nil, length-append, take_more, IsFront, IsLegal, IsAnswered, own, Sequential, IsLawfulObject, Fault, Memory, Busy, Full, Asks, HasMemory, IsDone, IsOvertaken, SaysAmongThreads, SaysAlone, told, own_at, where_done, done_at, OneByOne, Section}
+use Rattle.camp_clients.proofs.Words.{append-nil, length-append, take_more, IsFront, IsLegal, IsAnswered, own, Sequential, IsLawfulObject, Fault, Memory, Busy, Full, Asks, HasMemory, IsDone, IsOvertaken, SaysAmongThreads, SaysAlone, told, own_at, where_done, done_at, OneByOne, Section, ◌≡◌, ℕ, ◌+◌, ◌≤◌, true, false, List, [], ◌∷◌, ◌++◌, length, Option, None, Some, Result, Ok, Err, MatchOption, zero, suc, cond, count_by, get_or, drop, take, ◌<◌, refl, sym, ◌∙◌, ap, subst, append_assoc, add-zero, arith, front_longer, front_self, front_front, Ask, Caller, Accepts, AddsNothing, IsBusy, Loses, alone_at}
 use Rattle.std.proofs.lemmas.List.Sums.{sum_by-drop_more}
-use Rattle.camp_object.specs.Asking.{Ask, Caller, Accepts, AddsNothing, IsBusy, Loses, alone_at}
 use Rattle.camp_clients.proofs.Asking.{own_at_asks, own_counts, goes_on}
-use Rattle.camp_object.proofs.Fronts.{front_longer, front_self, front_front}
 use Rattle.camp_clients.proofs.Histories.{own_rest}
-use Rattle.camp_clients.proofs.Positions.{where_done-append}
+pub use Rattle.camp_clients.proofs.Positions.{own_at-append, own_at_behind, own_at_first, own_at_front, own_at_mine, own_at_none, same_first, where_done-append}
 
 module _ {Front Call Answer : Type 0} (SaysAmongThreads : Front → Call → Answer → Front → Type 0) where
   -- one more call at the end

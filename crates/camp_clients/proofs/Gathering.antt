@@ -1,9 +1,6 @@
 -- Lemmas on lists that go side by side.
-use Rattle.std.proofs.Common.{◌≡◌, ℕ, ◌+◌, ◌<◌, suc, zero, List, [], ◌∷◌, ◌++◌, length, take, get_or, Result, Ok, IfOk, refl, sym, ◌∙◌, ap, subst, add-one, arith}
-use Rattle.std.specs.List.{All, AllZip, remove}
-use Rattle.std.specs.Prelude.{OnOk, is_err, false, Err}
 use Rattle.std.proofs.lemmas.List.{take_more, get_or-map, append_assoc, append-nil}
-use Rattle.camp_clients.proofs.Words.{Vec, vec_items, Gathers, lists_of, section_of}
+use Rattle.camp_clients.proofs.Words.{Vec, vec_items, Gathers, lists_of, section_of, ◌≡◌, ℕ, ◌+◌, ◌<◌, suc, zero, List, [], ◌∷◌, ◌++◌, length, take, get_or, Result, Ok, IfOk, refl, sym, ◌∙◌, ap, subst, add-one, arith, All, AllZip, remove, OnOk, is_err, false, Err}
 
 module _ {A B : Type 0} (R : A → B → Type 0) where
   pub zip_push : (xs : List A) (ys : List B) (x : A) (y : B) → AllZip R xs ys → R x y → AllZip R (xs ++ x ∷ []) (ys ++ y ∷ [])

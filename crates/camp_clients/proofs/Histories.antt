@@ -1,6 +1,5 @@
 -- Lemmas on histories: their parts, and the calls of a seat in them.
-use Rattle.camp_clients.proofs.Words.{◌≡◌, ℕ, ◌==◌, true, List, [], ◌∷◌, ◌++◌, Some, IsSome, refl, sym, ◌∙◌, ap, subst, inl, inr, append-nil, append_cancel_left, eqb_tells, IsFront, IsLegal, IsAccepted, own, Sequential}
-use Rattle.camp_object.proofs.Replays.{own-append, run-append}
+use Rattle.camp_clients.proofs.Words.{◌≡◌, ℕ, ◌==◌, true, List, [], ◌∷◌, ◌++◌, Some, IsSome, refl, sym, ◌∙◌, ap, subst, inl, inr, append-nil, append_cancel_left, eqb_tells, IsFront, IsLegal, IsAccepted, own, Sequential, own-append, run-append}
 
 pub same_seat : (seat : ℕ) → (seat == seat) ≡ true
 same_seat seat = elim (eqb_tells seat seat) [ inl same ↦ same.0 | inr other ↦ absurd (other.1 refl) ]

@@ -1,22 +1,9 @@
 -- Lemmas on clients that meet the opening's seat, before and after their threads.
-use Rattle.std.proofs.Common.{◌≡◌, ◌⊎◌, ℕ, ◌+◌, ◌<◌, suc, zero, IfOk, List, [], ◌∷◌, ◌++◌, length, get_or, map, Option, None, Some, MatchOption, append_assoc, Result, Ok, Err, refl, sym, ◌∙◌, ap, subst, add-one, inl, inr, arith}
+use Rattle.camp_clients.proofs.Words.{◌≡◌, ◌⊎◌, ℕ, ◌+◌, ◌<◌, suc, zero, IfOk, List, [], ◌∷◌, ◌++◌, length, get_or, map, Option, None, Some, MatchOption, append_assoc, Result, Ok, Err, refl, sym, ◌∙◌, ap, subst, add-one, inl, inr, arith, All, AllZip, IsFront, IsAnswered, IsLegal, own, Sequential, Fault, Memory, Busy, Full, Asks, SaysAmongThreads, IsDone, told, Sight, AreNew, HasMet, IsMet, Ran, caller_of, own_at, done_at, HasFronts, IsShared, OwnDone, section_of, Section, front_front, front_whole, own-append}
 use Rattle.std.proofs.lemmas.List.{length-append, length-map, get_or-map}
-use Rattle.std.specs.List.{All, AllZip}
-use Rattle.camp_object.specs.Histories.{IsFront, IsAnswered, IsLegal, own}
-use Rattle.camp_object.specs.Objects.{Sequential}
-use Rattle.camp_object.specs.declared.faults.Fault.{Fault}
-use Rattle.camp_object.specs.declared.faults.Fault.TheVariants.{Memory, Busy, Full}
-use Rattle.camp_clients.specs.Answers.{Asks, SaysAmongThreads, IsDone, told}
-use Rattle.camp_clients.specs.Meeting.{Sight, AreNew, HasMet, IsMet, Ran, caller_of}
-use Rattle.camp_clients.specs.Positions.{own_at, done_at}
-use Rattle.camp_clients.specs.Runs.{HasFronts, IsShared, OwnDone, section_of}
-use Rattle.camp_clients.specs.Sections.{Section}
-use Rattle.camp_clients.proofs.Fronts.{section_grows, section_map, section_own_at, says}
-use Rattle.camp_clients.proofs.Gathering.{zip_at, zip_length}
-use Rattle.camp_object.proofs.Fronts.{front_front, front_whole}
-use Rattle.camp_object.proofs.Replays.{own-append}
+use Rattle.camp_clients.proofs.Fronts.{section_grows, section_map, section_own_at, says, own_at_front, own_at_none}
+pub use Rattle.camp_clients.proofs.Gathering.{all_first, all_rest, gathered_alone, ok_holds, ok_map, zip_all, zip_at, zip_length, zip_push}
 use Rattle.camp_clients.proofs.Histories.{append_nil_right}
-use Rattle.camp_clients.proofs.Positions.{own_at_front, own_at_none}
 
 module _ {A B : Type 0} (R S : A → B → Type 0) (each : (x : A) (y : B) → R x y → S x y) where
   pub zip_map : (xs : List A) (ys : List B) → AllZip R xs ys → AllZip S xs ys

@@ -1,11 +1,7 @@
 -- Lemmas on a section whose calls stand in a history one after the other, with nothing between them.
-use Rattle.camp_clients.proofs.Words.{◌≡◌, ℕ, ◌+◌, ◌<◌, List, [], ◌∷◌, ◌++◌, length, Option, None, Some, Result, Ok, Err, MatchOption, refl, sym, ◌∙◌, ap, subst, append_assoc, inl, inr, arith, All-same, cases_lt, All, IsFront, IsAnswered, own, Sequential, Fault, Memory, Busy, Full, IsDone, IsOvertaken, SaysAmongThreads, SaysAlone, told, own_at, where_done, done_at, Section, front_front, own-append}
+use Rattle.camp_clients.proofs.Words.{◌≡◌, ℕ, ◌+◌, ◌<◌, List, [], ◌∷◌, ◌++◌, length, Option, None, Some, Result, Ok, Err, MatchOption, refl, sym, ◌∙◌, ap, subst, append_assoc, inl, inr, arith, All-same, cases_lt, All, IsFront, IsAnswered, own, Sequential, Fault, Memory, Busy, Full, IsDone, IsOvertaken, SaysAmongThreads, SaysAlone, told, own_at, where_done, done_at, Section, front_front, own-append, length-own-all, length-own-within, HasOpening, front_whole, length-front}
 use Rattle.std.proofs.lemmas.List.{length-append, get_or-append-add}
-use Rattle.camp_object.proofs.Fronts.{front_whole, length-front}
-use Rattle.camp_object.proofs.Replays.{length-own-all, length-own-within}
-use Rattle.camp_clients.specs.Runs.{HasOpening}
-use Rattle.camp_clients.proofs.Fronts.{says_grows, section_front}
-use Rattle.camp_clients.proofs.Positions.{own_at_first, own_at_mine, same_first}
+use Rattle.camp_clients.proofs.Fronts.{says_grows, section_front, own_at_first, own_at_mine, same_first}
 
 -- what holds of all elements holds of those behind a front
 pub all_behind : {X : Type 0} (P : X → Type 0) (front whole : List X) (begins : IsFront front whole) → All P whole → All P begins.rest

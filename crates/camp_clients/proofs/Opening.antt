@@ -1,9 +1,7 @@
 -- Lemmas on a new head and its seats.
-use Rattle.camp_clients.proofs.Words.{◌≡◌, ℕ, ◌<◌, List, [], length, get_or, sym, ◌∙◌, ap, subst, zero-add, refl, arith, length-map}
+use Rattle.camp_clients.proofs.Words.{◌≡◌, ℕ, ◌<◌, List, [], length, get_or, sym, ◌∙◌, ap, subst, zero-add, refl, arith, length-map, range_with_len, HeadId, Seated, IsSeatOf, history_of}
 use Rattle.std.proofs.lemmas.List.FromFn.{get_or-map-range_with_len, length-range_with_len}
-use Rattle.std.specs.List.{range_with_len}
 use Rattle.camp_history.specs.Opening.{IsOpened, seat_at}
-use Rattle.camp_history.specs.Seats.{HeadId, Seated, IsSeatOf, history_of}
 
 -- a seat of the head, with its number, that has seen nothing
 pub record IsNew {Call : Type 0} (head : HeadId) (number : ℕ) (seat : Seated Call) : Type 0 where

@@ -1,12 +1,8 @@
 -- The opening of a run over a head runs alone.
-use Rattle.camp_clients.proofs.Words.{◌≡◌, ℕ, suc, ◌+◌, ◌<◌, ◌≤◌, ◌==◌, eq-eqb, true, false, cond, List, [], ◌∷◌, ◌++◌, length, Option, None, Some, Result, Ok, Err, MatchOption, refl, sym, ◌∙◌, ap, subst, inl, inr, arith, cases_lt, append-nil, IsFront, IsAnswered, own, Sequential, Fault, length-front, IsDone, SaysAmongThreads, told, own_at, where_done, done_at, section_of, Section, front_self}
+use Rattle.camp_clients.proofs.Words.{◌≡◌, ℕ, suc, ◌+◌, ◌<◌, ◌≤◌, ◌==◌, eq-eqb, true, false, cond, List, [], ◌∷◌, ◌++◌, length, Option, None, Some, Result, Ok, Err, MatchOption, refl, sym, ◌∙◌, ap, subst, inl, inr, arith, cases_lt, append-nil, IsFront, IsAnswered, own, Sequential, Fault, length-front, IsDone, SaysAmongThreads, told, own_at, where_done, done_at, section_of, Section, front_self, All, AllByRecursion, All-cons, All-nil, All-same, OpeningIsAlone}
 use Rattle.std.proofs.Math.ListN.{get_or-append}
-use Rattle.std.proofs.lemmas.List.Elements.{All-cons, All-nil, All-same}
-use Rattle.std.specs.List.{All, AllByRecursion}
-use Rattle.camp_clients.specs.Laws.{OpeningIsAlone}
-use Rattle.camp_clients.proofs.Fronts.{says_grows, section_front}
+use Rattle.camp_clients.proofs.Fronts.{says_grows, section_front, own_at-append, own_at_behind}
 use Rattle.camp_clients.proofs.OneSection.{section_behind, section_is_alone}
-use Rattle.camp_clients.proofs.Positions.{own_at-append, own_at_behind}
 
 -- no position lies past a number
 abbrev AreUpTo : {Call : Type 0} → ℕ → List (ℕ × Call) → Type 0

@@ -1,7 +1,6 @@
 -- Lemmas on calls with their positions.
-use Rattle.std.proofs.Common.{◌≡◌, ℕ, ◌+◌, ◌==◌, true, false, cond, List, [], ◌∷◌, ◌++◌, length, Option, None, Some, refl, sym, ◌∙◌, ap, zero-add, inl, inr, min, drop, get_or, ◌<◌, ◌≤◌, eq-eqb, arith}
 use Rattle.std.proofs.lemmas.List.{append-nil, drop_all, drop_more}
-use Rattle.camp_clients.proofs.Words.{cases_lt, eqb_tells, IsFront, own, own_at, where_done, done_at}
+use Rattle.camp_clients.proofs.Words.{cases_lt, eqb_tells, IsFront, own, own_at, where_done, done_at, ◌≡◌, ℕ, ◌+◌, ◌==◌, true, false, cond, List, [], ◌∷◌, ◌++◌, length, Option, None, Some, refl, sym, ◌∙◌, ap, zero-add, inl, inr, min, drop, get_or, ◌<◌, ◌≤◌, eq-eqb, arith}
 use Rattle.camp_clients.proofs.Histories.{own_rest, same_seat}
 
 -- the calls of a seat in two parts of a history, one after the other

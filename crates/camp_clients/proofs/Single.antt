@@ -1,10 +1,5 @@
 -- Lemmas on runs of a single section, and on the calls that are done in runs one after the other.
-use Rattle.camp_clients.proofs.Words.{◌≡◌, ℕ, ◌+◌, ◌<◌, List, [], ◌∷◌, ◌++◌, length, MatchOption, Result, Ok, Err, refl, subst, arith, All, IsFront, IsAnswered, IsLegal, Sequential, Fault, Section, front_self, front_front}
-use Rattle.std.proofs.lemmas.List.Elements.{All-weaker}
-use Rattle.camp_object.proofs.Replays.{legal_front}
-use Rattle.camp_clients.specs.Answers.{SaysAmongThreads, SaysAlone, StepsAlone, told}
-use Rattle.camp_clients.specs.Laws.{DoneWasAccepted, LockedIsSerial, SharedIsSerial}
-use Rattle.camp_clients.specs.Runs.{InTurn, IsExactly, OneByOne}
+use Rattle.camp_clients.proofs.Words.{◌≡◌, ℕ, ◌+◌, ◌<◌, List, [], ◌∷◌, ◌++◌, length, MatchOption, Result, Ok, Err, refl, subst, arith, All, IsFront, IsAnswered, IsLegal, Sequential, Fault, Section, front_self, front_front, SaysAmongThreads, SaysAlone, StepsAlone, told, legal_front, All-weaker, DoneWasAccepted, LockedIsSerial, SharedIsSerial, InTurn, IsExactly, OneByOne}
 use Rattle.camp_clients.proofs.Fronts.{alone_grows, section_front, section_within}
 use Rattle.camp_clients.proofs.Histories.{last_accepted}
 use Rattle.camp_clients.proofs.OneSection.{alone_begins, leaves_none, section_is_alone}

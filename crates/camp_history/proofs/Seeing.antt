@@ -1,11 +1,8 @@
 -- Lemmas on what a seat sees.
-use Rattle.camp_history.proofs.Words.{◌≡◌, ◌≢◌, ℕ, ◌+◌, ◌<◌, ◌≤◌, List, [], ◌∷◌, ◌++◌, length, map, All, Option, None, Some, refl, sym, ◌∙◌, ap, subst, arith, All-push, All-same, append_assoc, map-append, length-map, Shows, Sequential, IsLawfulObject, IsFront, replay, own, Decides, Entry, HeadId, Seated, asked, history_of, IsSeatOf, Mark, entry_of, DecidesAt, SeesNext, SeesMore}
+use Rattle.camp_history.proofs.Words.{◌≡◌, ◌≢◌, ℕ, ◌+◌, ◌<◌, ◌≤◌, List, [], ◌∷◌, ◌++◌, length, map, All, Option, None, Some, refl, sym, ◌∙◌, ap, subst, arith, All-push, All-same, append_assoc, map-append, length-map, Shows, Sequential, IsLawfulObject, IsFront, replay, own, Decides, Entry, HeadId, Seated, asked, history_of, IsSeatOf, Mark, entry_of, DecidesAt, SeesNext, SeesMore, own_other, count-replay, front_self, front_front, front_append, Known, Leads, ComesNext}
 use Rattle.camp_object.specs.declared.objects.Decided.{Decided}
-use Rattle.camp_object.proofs.Fronts.{front_self, front_front, front_append}
-use Rattle.camp_object.proofs.Replays.{own_other, count-replay}
-use Rattle.camp_row.specs.Known.{Known, Leads, ComesNext}
 use Rattle.camp_row.specs.declared.trails.Next.{Next}
-use Rattle.camp_history.proofs.Marked.{map_more}
+pub use Rattle.camp_history.proofs.Marked.{length-own, map_more}
 
 -- a list of marks with one more
 module _ {Call : Type 0} (marks now : List (Mark Call)) (mark : Mark Call) (grows : now ≡ marks ++ mark ∷ []) where

@@ -1,14 +1,8 @@
 -- Lemmas on seats that meet.
-use Rattle.std.proofs.Common.{◌≡◌, ℕ, zero, suc, ◌+◌, ◌≤◌, ◌⊎◌, inl, inr, List, [], ◌∷◌, ◌++◌, length, map, Result, Ok, Err, OnOk, IfErr, refl, sym, ◌∙◌, ap, subst, arith}
-use Rattle.std.proofs.lemmas.List.{length-map, length-append, append-nil, nil_from_length}
-use Rattle.camp_history.proofs.Words.{IsFront, own, Fault, Memory, Seated, asked, history_of, entry_of, entries_of, SeesMore}
-use Rattle.camp_object.proofs.Fronts.{front_front, front_shorter, length-front}
-use Rattle.camp_object.proofs.Replays.{own-append}
+use Rattle.camp_history.proofs.Words.{IsFront, own, Fault, Memory, Seated, asked, history_of, entry_of, entries_of, SeesMore, ◌≡◌, ℕ, zero, suc, ◌+◌, ◌≤◌, ◌⊎◌, inl, inr, List, [], ◌∷◌, ◌++◌, length, map, Result, Ok, Err, OnOk, IfErr, refl, sym, ◌∙◌, ap, subst, arith, length-map, length-append, append-nil, nil_from_length, own-append, front_front, front_shorter, length-front, FindsChain}
 use Rattle.camp_row.specs.Chains as chain
-use Rattle.camp_row.specs.Known.{FindsChain}
 use Rattle.camp_history.specs.Meeting.{Meets}
-use Rattle.camp_history.proofs.Marked.{length-own}
-use Rattle.camp_history.proofs.Seeing.{history_front}
+use Rattle.camp_history.proofs.Seeing.{history_front, length-own}
 
 -- of two lists one is not longer than the other
 shorter : (m n : ℕ) → (m ≤ n) ⊎ (n ≤ m)

@@ -1,23 +1,25 @@
 -- Words that the proofs of this crate have in common: of the standard library, of definitions, and of crates below.
-pub use Rattle.std.proofs.Common.{◌++◌, ◌+◌, ◌-◌, ◌<◌, ◌∙◌, ◌∷◌, ◌≡◌, ◌≢◌, ◌≤◌, All, Err, IfSome, List, None, Ok, Option, Result, Some, [], ap, arith, drop, length, map, refl, slice_get, subst, sym, take, ℕ}
-pub use Rattle.std.proofs.lemmas.List.{append-nil, append_assoc, length-append, length-map, map-append}
-pub use Rattle.std.proofs.lemmas.List.Elements.{All-map, All-push, All-rest, All-same}
-pub use Rattle.std.proofs.lemmas.Option.{same_Some}
-pub use Rattle.std.specs.List.{splice}
-pub use Rattle.boxcar.specs.Table.{Shows, Where}
+pub use Rattle.std.proofs.Common.{All, Bool, Err, IfErr, IfSome, IsErrAnd, IsOk, List, None, Ok, OnErr, OnOk, Option, Result, Some, [], add-one, ap, arith, below_more, cond, drop, false, filter, if◌then◌else◌, inl, inr, is_ok, length, map, option_map, refl, slice_get, slice_index_or, slice_range, subst, suc, sym, take, true, vec_capacity, vec_len, zero, ℕ, ◌++◌, ◌+◌, ◌-◌, ◌<◌, ◌==◌, ◌∙◌, ◌∷◌, ◌≡◌, ◌≢◌, ◌≤◌, ◌⊎◌}
+pub use Rattle.std.proofs.lemmas.List.{append-nil, append_assoc, drop-drop, drop-map, drop_all, drop_at, length-append, length-map, map-append, nil_from_length, take-append-drop, take_all, take_at, take_more, take_rest}
+pub use Rattle.std.proofs.lemmas.List.Elements.{All-append, All-drop, All-map, All-push, All-rest, All-same, All-weaker}
+pub use Rattle.std.proofs.lemmas.Option.{get_or_from_slice_get, same_Some, slice_get-map, slice_get_within}
+pub use Rattle.std.specs.List.{range_with_len, splice}
+pub use Rattle.boxcar.specs.Table.{Shelves, Shows, Where}
 pub use Rattle.camp_history.specs.Inside.SeatFields.{seated}
-pub use Rattle.camp_history.specs.Inside.Steps.{Attempts, DecidesAt, LosesOne, Publishes, SeesMore, SeesNext, entries_of, entry_of}
+pub use Rattle.camp_history.specs.Inside.Steps.{Attempts, DecidesAt, FindsMore, LosesOne, Publishes, SeesMore, SeesNext, entries_of, entry_of}
 pub use Rattle.camp_history.specs.Seats.{HeadId, IsSeatOf, Seated, asked, caller_at, history_of, unseen}
-pub use Rattle.camp_history.specs.Versions.{Adopts, GoesOn, IsIn, ids, list_of, made_of, news}
+pub use Rattle.camp_history.specs.Versions.{Adopts, GoesOn, IsIn, IsMade, ids, list_of, made_of, news}
 pub use Rattle.camp_history.specs.declared.marks.Mark.{Mark}
-pub use Rattle.camp_object.proofs.Fronts.{front_self}
-pub use Rattle.camp_object.specs.Asking.{Ask, Loses}
+pub use Rattle.camp_object.proofs.Fronts.{front_append, front_front, front_self, front_shorter, length-front}
+pub use Rattle.camp_object.specs.Asking.{AddsNothing, Ask, Caller, IsNotBusy, Loses}
 pub use Rattle.camp_object.specs.Deciding.{Decides}
-pub use Rattle.camp_object.specs.Histories.{IsFront, IsLegal, own, replay}
+pub use Rattle.camp_object.specs.Histories.{IsAccepted, IsFront, IsLegal, own, replay}
 pub use Rattle.camp_object.specs.Objects.{IsLawfulObject, Sequential}
 pub use Rattle.camp_object.specs.declared.faults.Fault.{Fault}
 pub use Rattle.camp_object.specs.declared.faults.Fault.TheVariants.{Memory}
 pub use Rattle.camp_object.specs.declared.objects.Decided.TheVariants.{Answer, Next}
 pub use Rattle.camp_row.specs.Chains.{turns}
-pub use Rattle.camp_row.specs.Known.{IsSound, Known, Leads}
+pub use Rattle.camp_row.specs.Known.{ComesNext, FindsChain, IsSound, Known, Leads, Won, drafted, newcomer, with_draft}
 pub use Rattle.camp_row.specs.declared.entries.Entry.{Entry}
+pub use Rattle.camp_object.proofs.Asks.{ask_answered, ask_done, ask_memory, ask_since, loses_more, never_busy_among_own}
+pub use Rattle.camp_object.proofs.Replays.{accepted_at, count-replay, own-append, own_other, replay_accepted, some_is_some}

@@ -30,6 +30,13 @@ pub record SplicesTwice (line : ℕ) (gone come : Lines) (line' : ℕ) (gone' co
   pub first : SplicesLines line gone come old between
   pub second : SplicesLines line' gone' come' between new
 
+-- the same changes, taken back
+taken_back : {line : ℕ} {gone come old new : Lines} → SplicesLines line gone come old new → SplicesLines line come gone new old
+taken_back s = record { before = s.before; after = s.after; at = s.at; was = s.becomes; becomes = s.was }
+
+both_taken_back : {line line' : ℕ} {gone come gone' come' old new : Lines} → SplicesTwice line gone come line' gone' come' old new → SplicesTwice line' come' gone' line come gone new old
+both_taken_back t = record { between = t.between; first = taken_back t.second; second = taken_back t.first }
+
 module _ (line line' gap : ℕ) (o n o' n' : Lines) (old new : Lines) where
   -- the second stands below what the first leaves
   pub lower_first : line' ≡ line + length n + gap → SplicesTwice line o n line' o' n' old new → SplicesTwice (line + length o + gap) o' n' line o n old new
@@ -63,34 +70,6 @@ module _ (line line' gap : ℕ) (o n o' n' : Lines) (old new : Lines) where
         };
       }
 
-  -- the first stands below what the second takes away
-  pub upper_first : line ≡ line' + length o' + gap → SplicesTwice line o n line' o' n' old new → SplicesTwice line' o' n' (line' + length n' + gap) o n old new
-  upper_first stands t =
-      let b = t.first.before in
-      let a = t.first.after in
-      let b' = t.second.before in
-      let a' = t.second.after in
-      let at : length b + 1 ≡ line = t.first.at in
-      let at' : length b' + 1 ≡ line' = t.second.at in
-      let sum : length (b' ++ o') ≡ length b' + length o' = length-append b' o' in
-      let c = cut (b' ++ o') a' b (n ++ a) (sym t.second.was ∙ t.first.becomes ∙ append_assoc b n a) (omega arith) in
-      let m = c.middle in
-      let front : length b ≡ length b' + length o' + length m = ap length c.front ∙ length-append (b' ++ o') m ∙ ap (λ k. k + length m) sum in
-      let behind : length (b' ++ n' ++ m) ≡ length b' + length n' + length m = length-append (b' ++ n') m ∙ ap (λ k. k + length m) (length-append b' n') in
-      record {
-        between = b' ++ n' ++ m ++ o ++ a;
-        first = record {
-          before = b';
-          after = m ++ o ++ a;
-          at = at';
-          was = t.first.was ∙ ap (λ r. r ++ o ++ a) c.front ∙ front_to_rear (b' ++ o') m o a;
-          becomes = front_to_rear (b' ++ n') m o a;
-        };
-        second = record {
-          before = b' ++ n' ++ m;
-          after = a;
-          at = omega arith;
-          was = refl;
-          becomes = t.second.becomes ∙ ap (λ r. b' ++ n' ++ r) c.rear ∙ rear_to_front (b' ++ n') m n a;
-        };
-      }
+-- the first stands below what the second takes away
+pub upper_first : (line line' gap : ℕ) (o n o' n' old new : Lines) → line ≡ line' + length o' + gap → SplicesTwice line o n line' o' n' old new → SplicesTwice line' o' n' (line' + length n' + gap) o n old new
+upper_first line line' gap o n o' n' old new stands t = both_taken_back (lower_first line' line gap n' o' n o new old stands (both_taken_back t))

@@ -1,17 +1,6 @@
 -- Where hunks that change places come to stand.
-use Rattle.std.proofs.Common.{◌≡◌, ℕ, ◌+◌, ◌<◌, ◌⊎◌, ◌↔◌, Bool, true, false, IsTrue, Option, option_map, Result, Ok, Err, IfErr, length, refl, sym, ap, subst, inl, inr}
-use Rattle.camp_base.specs.Trees.{Lines}
-use Rattle.camp_prim.specs.Effect.{InRange}
-use Rattle.camp_prim.specs.Hunks.{Edit, IsInRange}
-use Rattle.camp_prim.specs.Labels.{SameKey}
-use Rattle.camp_base.specs.Answers.{FindsPair}
-use Rattle.camp_prim.specs.Inside.Targets.{moved, turned, ComesTo, ChangeInRange}
-use Rattle.camp_prim.specs.Swaps.{at_line, MayPass, Swap}
-use Rattle.camp_prim.specs.declared.primitives.Primitive.{Primitive}
-use Rattle.camp_prim.specs.declared.primitives.Primitive.TheVariants.{Hunk}
-use Rattle.camp_prim.specs.declared.named.Named.{Named}
-use Rattle.camp_prim.specs.declared.swaps.Targets.{Targets}
-use Rattle.camp_prim.proofs.SwapUnique.{same_hunk}
+use Rattle.camp_prim.proofs.Words.{◌≡◌, ℕ, ◌+◌, ◌<◌, ◌⊎◌, ◌↔◌, Bool, true, false, IsTrue, Option, option_map, Result, Ok, Err, IfErr, length, refl, sym, ap, subst, inl, inr, Lines, InRange, Edit, IsInRange, SameKey, FindsPair, moved, turned, ComesTo, ChangeInRange, at_line, MayPass, Swap, Primitive, Hunk, Named, Targets}
+use Rattle.camp_prim.proofs.SwapUnique.{same_hunk, hunk_below, hunk_above}
 
 -- the sides of the upper hunk as other names for them have it
 pub comes_along : (upper upper' : ℕ) (takes takes' leaves leaves' : Lines) (lower : Edit) (line : ℕ) → upper ≡ upper' → takes ≡ takes' → leaves ≡ leaves' → ComesTo upper (length takes) (length leaves) lower line → ComesTo upper' (length takes') (length leaves') lower line
@@ -20,18 +9,7 @@ comes_along upper upper' takes takes' leaves leaves' lower line e f g c =
 
 pub comes_below : (h k : Edit) (line : ℕ) → h.path ≡ k.path → IsInRange h → IsInRange k → ComesTo h.line (length h.old) (length h.new) k line → ChangeInRange (Hunk h) (Hunk k) (Hunk (at_line line k)) (Hunk h)
 comes_below h k line path r s c = record {
-  change = inr (inl (record {
-    h = h;
-    k = k;
-    gap = c.gap;
-    is_p = refl;
-    is_q = refl;
-    path = path;
-    stands = c.stands;
-    passes = c.passes;
-    second = ap (λ l. Hunk (at_line l k)) c.comes;
-    first = refl;
-  }));
+  change = hunk_below h k c.gap refl refl path c.stands c.passes (ap (λ l. Hunk (at_line l k)) c.comes) refl;
   ranges = (r, s, c.fits, r);
 }
 
@@ -45,18 +23,7 @@ passes_back gap h k (inr full) = inr (full.2, full.3, full.1, full.0)
 
 pub comes_above : (h k : Edit) (line : ℕ) → h.path ≡ k.path → IsInRange h → IsInRange k → ComesTo k.line (length k.new) (length k.old) h line → ChangeInRange (Hunk h) (Hunk k) (Hunk k) (Hunk (at_line line h))
 comes_above h k line path r s c = record {
-  change = inr (inr (record {
-    h = h;
-    k = k;
-    gap = c.gap;
-    is_p = refl;
-    is_q = refl;
-    path = path;
-    stands = c.stands;
-    passes = passes_back c.gap h k c.passes;
-    second = refl;
-    first = ap (λ l. Hunk (at_line l h)) c.comes;
-  }));
+  change = hunk_above h k c.gap refl refl path c.stands (passes_back c.gap h k c.passes) refl (ap (λ l. Hunk (at_line l h)) c.comes);
   ranges = (r, s, s, c.fits);
 }
 

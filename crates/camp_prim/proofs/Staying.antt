@@ -1,7 +1,5 @@
 -- Primitives that change places as they are.
-use Rattle.camp_prim.proofs.Words.{◌≡◌, refl, sym, ap, SameKey, Swap, Named}
-use Rattle.camp_prim.specs.Inside.Targets.{moved, ChangeInRange}
-use Rattle.camp_prim.specs.declared.swaps.Targets.{Targets}
+use Rattle.camp_prim.proofs.Words.{◌≡◌, refl, sym, ap, SameKey, Swap, Named, moved, ChangeInRange, Targets}
 use Rattle.camp_prim.proofs.Moving.{swap_from}
 use Rattle.camp_prim.proofs.SwapUnique.{swap_unique}
 

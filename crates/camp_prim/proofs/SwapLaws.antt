@@ -1,6 +1,7 @@
 -- The laws of swapping two primitives.
 use Rattle.camp_prim.proofs.Words.{◌≡◌, ℕ, ◌+◌, length, refl, sym, ap, ◌∙◌, inl, inr, arith, Edit, IsInRange, flipped, inverted, inverse_of, InRange, label_of, key_of, opposite, SameKey, OwnInverse, Inverse, Square, SameEffect, SwapLaws, path_of, at_line, MayPass, Swap, ChangePlaces, SwapAnywhere, Primitive, Add, Remove, Hunk, Named}
 use Rattle.camp_prim.proofs.SwapEffect.{swaps_lead}
+use Rattle.camp_prim.proofs.SwapUnique.{hunk_below, hunk_above}
 
 passes_back : (gap : ℕ) (h k : Edit) → MayPass gap h k → MayPass gap k h
 passes_back gap h k (inl apart) = inl apart
@@ -43,30 +44,10 @@ swaps_back p q q' p' (inl s) = inl (record {
   second = sym s.first;
   first = sym s.second;
 })
-swaps_back p q q' p' (inr (inl s)) = inr (inr (record {
-  h = at_line (s.h.line + length s.h.old + s.gap) s.k;
-  k = s.h;
-  gap = s.gap;
-  is_p = s.second;
-  is_q = s.first ∙ s.is_p;
-  path = sym s.path;
-  stands = refl;
-  passes = passes_back s.gap s.h s.k s.passes;
-  second = sym s.first;
-  first = at_own_line q s.k (s.h.line + length s.h.new + s.gap) s.is_q s.stands;
-}))
-swaps_back p q q' p' (inr (inr s)) = inr (inl (record {
-  h = s.k;
-  k = at_line (s.k.line + length s.k.new + s.gap) s.h;
-  gap = s.gap;
-  is_p = s.second ∙ s.is_q;
-  is_q = s.first;
-  path = sym s.path;
-  stands = refl;
-  passes = passes_back s.gap s.h s.k s.passes;
-  second = at_own_line p s.h (s.k.line + length s.k.old + s.gap) s.is_p s.stands;
-  first = sym s.second;
-}))
+swaps_back p q q' p' (inr (inl s)) =
+    hunk_above (at_line (s.h.line + length s.h.old + s.gap) s.k) s.h s.gap s.second (s.first ∙ s.is_p) (sym s.path) refl (passes_back s.gap s.h s.k s.passes) (sym s.first) (at_own_line q s.k (s.h.line + length s.h.new + s.gap) s.is_q s.stands)
+swaps_back p q q' p' (inr (inr s)) =
+    hunk_below s.k (at_line (s.k.line + length s.k.new + s.gap) s.h) s.gap (s.second ∙ s.is_q) s.first (sym s.path) refl (passes_back s.gap s.h s.k s.passes) (at_own_line p s.h (s.k.line + length s.k.old + s.gap) s.is_p s.stands) (sym s.second)
 
 pub own_inverse_anywhere : (p q q' p' : Named) → SwapAnywhere p q q' p' → SwapAnywhere q' p' p q
 own_inverse_anywhere p q q' p' s = record {
@@ -86,30 +67,10 @@ swaps_inverse p q q' p' (inl s) = inl (record {
   second = ap inverted s.first;
   first = ap inverted s.second;
 })
-swaps_inverse p q q' p' (inr (inl s)) = inr (inr (record {
-  h = flipped s.k;
-  k = flipped s.h;
-  gap = s.gap;
-  is_p = ap inverted s.is_q;
-  is_q = ap inverted s.is_p;
-  path = sym s.path;
-  stands = s.stands;
-  passes = passes_both_flipped s.gap s.h s.k s.passes;
-  second = ap inverted s.first;
-  first = ap inverted s.second;
-}))
-swaps_inverse p q q' p' (inr (inr s)) = inr (inl (record {
-  h = flipped s.k;
-  k = flipped s.h;
-  gap = s.gap;
-  is_p = ap inverted s.is_q;
-  is_q = ap inverted s.is_p;
-  path = sym s.path;
-  stands = s.stands;
-  passes = passes_both_flipped s.gap s.h s.k s.passes;
-  second = ap inverted s.first;
-  first = ap inverted s.second;
-}))
+swaps_inverse p q q' p' (inr (inl s)) =
+    hunk_above (flipped s.k) (flipped s.h) s.gap (ap inverted s.is_q) (ap inverted s.is_p) (sym s.path) s.stands (passes_both_flipped s.gap s.h s.k s.passes) (ap inverted s.first) (ap inverted s.second)
+swaps_inverse p q q' p' (inr (inr s)) =
+    hunk_below (flipped s.k) (flipped s.h) s.gap (ap inverted s.is_q) (ap inverted s.is_p) (sym s.path) s.stands (passes_both_flipped s.gap s.h s.k s.passes) (ap inverted s.first) (ap inverted s.second)
 
 pub inverse : (p q q' p' : Named) → Swap p q q' p' → Inverse p q q' p'
 inverse p q q' p' s = record {
@@ -128,30 +89,10 @@ swaps_square p q q' p' (inl s) = inl (record {
   second = sym s.second;
   first = ap inverted s.first;
 })
-swaps_square p q q' p' (inr (inl s)) = inr (inl (record {
-  h = flipped s.h;
-  k = at_line (s.h.line + length s.h.old + s.gap) s.k;
-  gap = s.gap;
-  is_p = ap inverted s.is_p;
-  is_q = s.second;
-  path = s.path;
-  stands = refl;
-  passes = passes_flipped s.gap s.h s.k s.passes;
-  second = at_own_line q s.k (s.h.line + length s.h.new + s.gap) s.is_q s.stands;
-  first = ap inverted s.first;
-}))
-swaps_square p q q' p' (inr (inr s)) = inr (inr (record {
-  h = flipped s.h;
-  k = s.k;
-  gap = s.gap;
-  is_p = ap inverted s.is_p;
-  is_q = s.second ∙ s.is_q;
-  path = s.path;
-  stands = s.stands;
-  passes = passes_flipped s.gap s.h s.k s.passes;
-  second = sym s.second;
-  first = ap inverted s.first;
-}))
+swaps_square p q q' p' (inr (inl s)) =
+    hunk_below (flipped s.h) (at_line (s.h.line + length s.h.old + s.gap) s.k) s.gap (ap inverted s.is_p) s.second s.path refl (passes_flipped s.gap s.h s.k s.passes) (at_own_line q s.k (s.h.line + length s.h.new + s.gap) s.is_q s.stands) (ap inverted s.first)
+swaps_square p q q' p' (inr (inr s)) =
+    hunk_above (flipped s.h) s.k s.gap (ap inverted s.is_p) (s.second ∙ s.is_q) s.path s.stands (passes_flipped s.gap s.h s.k s.passes) (sym s.second) (ap inverted s.first)
 
 pub square_anywhere : (p q q' p' : Named) → SwapAnywhere p q q' p' → SwapAnywhere (inverse_of p) q' q (inverse_of p')
 square_anywhere p q q' p' s = record {

@@ -1,6 +1,6 @@
 -- Where two primitives change places and a third passes both, it passes them in their other order too.
 use Rattle.camp_prim.proofs.Words.{◌≡◌, ◌≢◌, ℕ, ◌⊎◌, ◌+◌, length, refl, sym, ap, ◌∙◌, subst, inl, inr, Edit, path_of, at_line, SwapsOnTwoPaths, SwapsBelow, SwapsAbove, ChangePlaces, Primitive, Hunk}
-use Rattle.camp_prim.proofs.SwapUnique.{same_hunk, one_path}
+use Rattle.camp_prim.proofs.SwapUnique.{same_hunk, one_path, hunk_below, hunk_above}
 use Rattle.camp_prim.proofs.ThreeHunks.{Moves, MovesInOrder, three_move}
 
 -- two hunks of one file change places
@@ -43,30 +43,10 @@ hunks_move h k p q q' p' is_p is_q (inr s) =
     move_of h k s.h s.k q' p' (same_hunk s.h h (sym s.is_p ∙ is_p)) (same_hunk s.k k (sym s.is_q ∙ is_q)) (above_moves p q q' p' s)
 
 swaps_by_moves : (h k : Edit) (p q q' p' : Primitive) (q_line p_line : ℕ) → h.path ≡ k.path → p ≡ Hunk h → q ≡ Hunk k → q' ≡ Hunk (at_line q_line k) → p' ≡ Hunk (at_line p_line h) → Moves (length h.old) (length h.new) (length k.old) (length k.new) h.line k.line q_line p_line → ChangePlaces p q q' p'
-swaps_by_moves h k p q q' p' q_line p_line path is_p is_q second first (inl m) = inr (inl (record {
-  h = h;
-  k = k;
-  gap = m.gap;
-  is_p = is_p;
-  is_q = is_q;
-  path = path;
-  stands = m.stands;
-  passes = m.passes;
-  second = second ∙ ap (λ l. Hunk (at_line l k)) m.second;
-  first = first ∙ ap (λ l. Hunk (at_line l h)) m.first ∙ sym is_p;
-}))
-swaps_by_moves h k p q q' p' q_line p_line path is_p is_q second first (inr m) = inr (inr (record {
-  h = h;
-  k = k;
-  gap = m.gap;
-  is_p = is_p;
-  is_q = is_q;
-  path = path;
-  stands = m.stands;
-  passes = m.passes;
-  second = second ∙ ap (λ l. Hunk (at_line l k)) m.second ∙ sym is_q;
-  first = first ∙ ap (λ l. Hunk (at_line l h)) m.first;
-}))
+swaps_by_moves h k p q q' p' q_line p_line path is_p is_q second first (inl m) =
+    hunk_below h k m.gap is_p is_q path m.stands m.passes (second ∙ ap (λ l. Hunk (at_line l k)) m.second) (first ∙ ap (λ l. Hunk (at_line l h)) m.first ∙ sym is_p)
+swaps_by_moves h k p q q' p' q_line p_line path is_p is_q second first (inr m) =
+    hunk_above h k m.gap is_p is_q path m.stands m.passes (second ∙ ap (λ l. Hunk (at_line l k)) m.second ∙ sym is_q) (first ∙ ap (λ l. Hunk (at_line l h)) m.first)
 
 -- the hunks of two that change places
 record Hunks (p q : Primitive) : Type 0 where

@@ -1,5 +1,5 @@
 -- The words that most proofs about primitives use.
-pub use Rattle.std.proofs.Common.{Bool, IsTrue, List, None, Option, Ordering, Some, [], ap, append_assoc, arith, bytes_eq, cond, drop, false, inl, inr, is_some, length, length-append, not, option_and_then, option_map, refl, subst, sym, take, true, ℕ, ◌++◌, ◌+◌, ◌-◌, ◌<◌, ◌^◌, ◌∙◌, ◌∷◌, ◌≡◌, ◌≢◌, ◌≤◌, ◌⊎◌}
+pub use Rattle.std.proofs.Common.{Bool, Err, IfErr, IsTrue, List, None, Ok, Option, Ordering, Result, Some, [], ap, append_assoc, arith, bytes_eq, cond, drop, false, inl, inr, is_some, length, length-append, not, option_and_then, option_map, refl, subst, sym, take, true, ℕ, ◌++◌, ◌+◌, ◌-◌, ◌<◌, ◌^◌, ◌↔◌, ◌∙◌, ◌∷◌, ◌≡◌, ◌≢◌, ◌≤◌, ◌⊎◌}
 pub use Rattle.camp_base.specs.Trees.{Adds, Files, Lines, Removes, Splices, SplicesLines}
 pub use Rattle.camp_prim.specs.Applied.{AppliedIsApplies, InverseLeadsBack, applied, is_cut, is_empty_file, spliced}
 pub use Rattle.camp_prim.specs.Effect.{Applies, InRange, Leads, flipped, inverse_of, inverted}
@@ -19,3 +19,6 @@ pub use Rattle.camp_prim.specs.Swaps.{ChangePlaces, MayPass, Swap, SwapAnywhere,
 pub use Rattle.camp_prim.specs.declared.named.Named.{Named}
 pub use Rattle.camp_prim.specs.declared.primitives.Primitive.{Primitive}
 pub use Rattle.camp_prim.specs.declared.primitives.Primitive.TheVariants.{Add, Hunk, Remove}
+pub use Rattle.camp_base.specs.Answers.{Answers, FindsPair}
+pub use Rattle.camp_prim.specs.Inside.Targets.{ChangeInRange, ComesTo, moved, turned}
+pub use Rattle.camp_prim.specs.declared.swaps.Targets.{Targets}

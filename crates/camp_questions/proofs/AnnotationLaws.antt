@@ -1,14 +1,6 @@
 -- The laws of annotations.
-use Rattle.camp_questions.proofs.Words.{◌≡◌, ◌≤◌, ℕ, ◌+◌, ◌-◌, ◌==◌, Bool, true, false, ◌||◌, cond, List, [], ◌∷◌, ◌++◌, map, bytes_eq, subst, Option, None, Some, length, take, drop, replicate, refl, sym, ap, ◌∙◌, arith, empty, get, get-empty, get-insert, insert, Edit, key_cmp, key_of, label_of, Key, Named, Primitive, Add, Remove, Hunk, key_total, effect_of, Catch, has_patch, is_among, name_of, name_itself, or_true, Known, behind_all, behind_catches, behind_change, behind_hunk, names_coming, nothing_known, lines_or_none}
-use Rattle.std.specs.List.{All, slice_range, splice}
-use Rattle.std.specs.Ordering.{eq_by_cmp, is_eq}
-use Rattle.std.proofs.lemmas.Bool.{eq-eqb}
+use Rattle.camp_questions.proofs.Words.{◌≡◌, ◌≤◌, ℕ, ◌+◌, ◌-◌, ◌==◌, Bool, true, false, ◌||◌, cond, List, [], ◌∷◌, ◌++◌, map, bytes_eq, subst, Option, None, Some, length, take, drop, replicate, refl, sym, ap, ◌∙◌, arith, empty, get, get-empty, get-insert, insert, Edit, key_cmp, key_of, label_of, Key, Named, Primitive, Add, Remove, Hunk, key_total, effect_of, Catch, has_patch, is_among, name_of, name_itself, or_true, Known, behind_all, behind_catches, behind_change, behind_hunk, names_coming, nothing_known, lines_or_none, LinesHaveNames, append_assoc, drop_at, drop-drop, length-append, length-drop, length-take-le, take-append-drop, take_at, All, slice_range, splice, eq_by_cmp, is_eq, eq-eqb, All-append, All-drop, All-nil, All-replicate, All-take, none-some, same_Some, flipped}
 use Rattle.std.proofs.lemmas.Cmp.{tied_itself}
-use Rattle.std.proofs.lemmas.List.Elements.{All-append, All-drop, All-nil, All-replicate, All-take}
-use Rattle.std.proofs.lemmas.Option.{none-some, same_Some}
-use Rattle.std.proofs.lemmas.List.{append_assoc, drop_at, drop-drop, length-append, length-drop, length-take-le, take-append-drop, take_at}
-use Rattle.camp_prim.specs.Effect.{flipped}
-use Rattle.camp_questions.specs.Laws.{LinesHaveNames}
 use Rattle.camp_questions.proofs.LineNames.{as_many, catches_count, none_known}
 
 kept_at : (taken : List (List ℕ)) (name : List ℕ) (count : ℕ) → length taken ≡ count → names_coming (Some taken) name count ≡ taken

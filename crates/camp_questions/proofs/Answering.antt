@@ -1,13 +1,6 @@
 -- Questions that have an answer.
-use Rattle.std.proofs.Common.{◌≡◌, ℕ, List, [], ◌∷◌, Result, Ok, Err, Some, IsErrAnd, refl, sym, ap, ◌∙◌}
-use Rattle.camp_questions.proofs.Words.{get, Files, Catch, LeadsTo, Contents, catches_of, first_lacked, AreAnnotated, annotated, names_of_lines}
-use Rattle.camp_questions.specs.declared.annotations.Annotated.{Annotated}
-use Rattle.camp_questions.specs.Answers.{AnswerOf, Tells}
-use Rattle.camp_questions.specs.Dependencies.{OfNames}
-use Rattle.camp_questions.specs.Inside.Finding.{IsFound}
+use Rattle.camp_questions.proofs.Words.{ExactlyOne, get, Files, Catch, LeadsTo, Contents, catches_of, first_lacked, AreAnnotated, annotated, names_of_lines, ◌≡◌, ℕ, List, [], ◌∷◌, Result, Ok, Err, Some, IsErrAnd, refl, sym, ap, ◌∙◌, OfNames, Annotated, AnswerOf, Tells, IsFound, Unanswered, Refused, Memory}
 use Rattle.camp_questions.specs.Showing.{IsShown, Patch, patch_in}
-use Rattle.camp_questions.specs.declared.faults.Unanswered.{Unanswered}
-use Rattle.camp_questions.specs.declared.faults.Unanswered.TheVariants.{Refused, Memory}
 
 -- there is the branch, and it has the patches
 pub are_related : (Relates : List Catch → List (List ℕ) → List (List ℕ) → Type 0) (state : Contents) (branch : List ℕ) (names : List (List ℕ)) (catches : List Catch) (related : List (List ℕ)) → IsFound state branch names catches → Relates catches names related → OfNames Relates state branch names (Ok related)
@@ -18,6 +11,12 @@ pub memory_told : {A : Type 0} (ComesTo : AnswerOf A → Type 0) (result : Resul
 memory_told ComesTo (Ok other) answer is w = absurd is
 memory_told ComesTo (Err (Refused refusal)) answer is w = cc
 memory_told ComesTo (Err Memory) answer is w = (answer, w)
+
+-- the same, where the branch has the patches
+pub related_refused : (Relates : List Catch → List (List ℕ) → List (List ℕ) → Type 0) {state : Contents} {branch : List ℕ} {names : List (List ℕ)} {catches : List Catch} (result : Result (List (List ℕ)) Unanswered)
+    → ExactlyOne (Relates catches names) → IsFound state branch names catches → IsErrAnd result (λ why. why ≡ Memory) → Tells (OfNames Relates state branch names) result
+related_refused Relates {state} {branch} {names} {catches} result one found is =
+    memory_told (OfNames Relates state branch names) result one.0 is (are_related Relates state branch names catches one.0 found one.1)
 
 -- there is the branch, and this is told of a path of it
 pub are_annotated : (state : Contents) (branch path : List ℕ) (catches : List Catch) (tree : Files) (told : Annotated) → catches_of state.branches branch ≡ Some catches → LeadsTo catches tree → told ≡ annotated (get tree path) (names_of_lines path catches) → AreAnnotated state branch path (Ok told)

@@ -1,7 +1,5 @@
 -- The arrows of a graph are the direct needs.
-use Rattle.camp_questions.proofs.Words.{◌≡◌, ◌≢◌, ℕ, Bool, true, false, true≢false, not, ◌&&◌, ◌||◌, List, [], ◌∷◌, ◌++◌, map, bytes_eq, refl, sym, ap, ◌∙◌, subst, ◌↔◌, AllByRecursion, list_any, Catch, is_among, name_of, names_of, name_itself, or_true, same_name, among_kept, among_once, Needs, Node}
-use Rattle.camp_questions.specs.Graphs.{Needing, NeedsThese, goes_between, needs_directly, needs_other, node_of}
-use Rattle.camp_questions.specs.Laws.{ArrowsAreDirectNeeds, NeedsDirectly, NeedsPatch}
+use Rattle.camp_questions.proofs.Words.{◌≡◌, ◌≢◌, ℕ, Bool, true, false, true≢false, not, ◌&&◌, ◌||◌, List, [], ◌∷◌, ◌++◌, map, bytes_eq, refl, sym, ap, ◌∙◌, subst, ◌↔◌, AllByRecursion, list_any, Catch, is_among, name_of, names_of, name_itself, or_true, same_name, among_kept, among_once, Needs, Node, ArrowsAreDirectNeeds, NeedsDirectly, NeedsPatch, Needing, NeedsThese, goes_between, needs_directly, needs_other, node_of}
 use Rattle.camp_questions.proofs.BranchGrowths.{needs_are_determined}
 use Rattle.camp_questions.proofs.Growths.{in_order_there}
 

@@ -1,15 +1,10 @@
 -- Names that grow until they come to the front of a branch, or until they can be taken out of it.
-use Rattle.camp_questions.proofs.Words.{◌≡◌, ◌≢◌, ℕ, Bool, true, false, true≢false, not, cond, ◌&&◌, ◌||◌, List, [], ◌∷◌, ◌++◌, map, None, Some, Ok, Err, bytes_eq, refl, sym, ap, ◌∙◌, inl, inr, ◌↔◌, Contains, Key, Catch, has_patch, is_among, name_of, is_among_is, name_itself, or_true, same_name, Next, Has, first_lacked, is_empty, step, AreHeldIn, CanGo, ComeToFront, StickOn}
+use Rattle.camp_questions.proofs.Words.{◌≡◌, ◌≢◌, ℕ, Bool, true, false, true≢false, not, cond, ◌&&◌, ◌||◌, List, [], ◌∷◌, ◌++◌, map, None, Some, Ok, Err, bytes_eq, refl, sym, ap, ◌∙◌, inl, inr, ◌↔◌, Contains, Key, Catch, has_patch, is_among, name_of, is_among_is, name_itself, or_true, same_name, Next, Has, first_lacked, is_empty, step, AreHeldIn, CanGo, ComeToFront, StickOn, other_names, among_others, Contents, after, with_catches, AreAlike, obliterate_alike, AreAmong, HeldCanGo, HeldIsDetermined, NeedsAreDetermined, NeedsComeFirst}
 use Rattle.camp_catch.proofs.ListResults.{arrange_by_members, lists_are_unique, lists_succeed_or_stick}
-use Rattle.camp_branch.specs.Obliterating.{other_names}
 use Rattle.camp_branch.specs.Pulling.{Outcome}
 use Rattle.camp_branch.specs.declared.faults.Blocked.TheVariants.{Depends}
-use Rattle.camp_branch.proofs.NamesKept.{among_others}
 use Rattle.camp_branch.proofs.OutcomesDetermined.{outcomes_are_determined}
 use Rattle.camp_call.specs.declared.calls.Call.TheVariants as call
-use Rattle.camp_repo.specs.States.{Contents, after, with_catches}
-use Rattle.camp_repo.proofs.ByMembers.{AreAlike, obliterate_alike}
-use Rattle.camp_questions.specs.Laws.{AreAmong, HeldCanGo, HeldIsDetermined, NeedsAreDetermined, NeedsComeFirst}
 use Rattle.camp_questions.proofs.Growths.{Grow, grew, grows_to_one, in_order_there}
 use Rattle.camp_questions.proofs.Stuck.{sticks_between}
 

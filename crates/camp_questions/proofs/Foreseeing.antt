@@ -1,12 +1,8 @@
 -- The branch that an accepted call writes to.
-use Rattle.camp_questions.proofs.Words.{◌≡◌, ℕ, Bool, true, false, cond, List, [], ◌∷◌, ◌++◌, Option, None, Some, bytes_eq, refl, sym, ap, ◌∙◌, subst, same_Some, Files, Catch, LeadsTo, AreConflicts, name_itself, step, accepted_calls}
+use Rattle.camp_questions.proofs.Words.{◌≡◌, ℕ, Bool, true, false, cond, List, [], ◌∷◌, ◌++◌, Option, None, Some, bytes_eq, refl, sym, ap, ◌∙◌, subst, same_Some, Files, Catch, LeadsTo, AreConflicts, name_itself, step, accepted_calls, Branches, Contents, catches_of, conflicts_shown, tree_shown, Next, Answer, Effect, Has}
 use Rattle.camp_call.specs.declared.calls.Call.{Call}
 use Rattle.camp_call.specs.declared.calls.Call.TheVariants as call
 use Rattle.camp_call.specs.declared.replies.Reply.TheVariants as reply
-use Rattle.camp_object.specs.declared.objects.Decided.TheVariants.{Next, Answer}
-use Rattle.camp_repo.specs.Laws.{Effect, Has}
-use Rattle.camp_repo.specs.States.{Branches, Contents, catches_of}
-use Rattle.camp_repo.proofs.DecideSteps.{conflicts_shown, tree_shown}
 use Rattle.camp_questions.specs.Foresight.{Foresees, ForeseesOf, StandsIn, branch_written}
 use Rattle.camp_questions.specs.declared.foresight.Standing.{Standing}
 use Rattle.camp_questions.specs.Inside.Foresight.{LedTo}

@@ -1,8 +1,6 @@
 -- The graph of a branch, patch by patch.
-use Rattle.camp_questions.proofs.Words.{◌≡◌, ◌<◌, ℕ, ◌+◌, Bool, true, false, cond, not, ◌&&◌, ◌||◌, List, [], ◌∷◌, ◌++◌, map, filter, length, take, drop, get_or, Ok, Some, refl, sym, ap, ◌∙◌, subst, arith, AllByRecursion, list_any, Catch, names_of, AreConflicts, all_append, Contents, catches_of, Drawn, IsGraph, IsGraphOf, Needing, NeedsThese, goes_between, needs_other, node_of, NeedEach, needing, Node}
-use Rattle.std.proofs.lemmas.List.{drop_all, drop_more, map-append, take_more}
+use Rattle.camp_questions.proofs.Words.{◌≡◌, ◌<◌, ℕ, ◌+◌, Bool, true, false, cond, not, ◌&&◌, ◌||◌, List, [], ◌∷◌, ◌++◌, map, filter, length, take, drop, get_or, Ok, Some, refl, sym, ap, ◌∙◌, subst, arith, AllByRecursion, list_any, Catch, names_of, AreConflicts, all_append, Contents, catches_of, Drawn, IsGraph, IsGraphOf, Needing, NeedsThese, goes_between, needs_other, node_of, NeedEach, needing, Node, drop_all, drop_more, map-append, take_more, and_true}
 use Rattle.camp_branch.proofs.ConflictsDetermined.{conflicts_are_determined}
-use Rattle.camp_branch.proofs.NameSets.{and_true}
 use Rattle.camp_questions.specs.declared.graphs.Needed.{Needed}
 use Rattle.camp_questions.proofs.BranchGrowths.{needs_are_determined}
 

@@ -1,8 +1,5 @@
 -- Names to which others are added, one by one, until they do what they are to do.
-use Rattle.std.proofs.Common.{◌≡◌, ◌⊎◌, ◌<◌, ◌≤◌, ℕ, zero, suc, Bool, true, false, true≢false, not, cond, ◌||◌, ◌&&◌, List, [], ◌∷◌, ◌++◌, filter, length, map, bytes_eq, append-nil, refl, sym, ap, ◌∙◌, subst, inl, inr, arith}
-use Rattle.camp_questions.proofs.Words.{append_assoc, list_any-append, Catch, has_patch, is_among, name_of, names_of, name_itself, same_name, among_kept, among_once, AreAlike, AreAdded, AreGrown, in_order}
-use Rattle.camp_branch.specs.Laws.{ExactlyOne}
-use Rattle.camp_questions.specs.Laws.{AreAmong, GrewFrom, WasMet}
+use Rattle.camp_questions.proofs.Words.{ExactlyOne, append_assoc, list_any-append, Catch, has_patch, is_among, name_of, names_of, name_itself, same_name, among_kept, among_once, AreAlike, AreAdded, AreGrown, in_order, AreAmong, GrewFrom, WasMet, ◌≡◌, ◌⊎◌, ◌<◌, ◌≤◌, ℕ, zero, suc, Bool, true, false, true≢false, not, cond, ◌||◌, ◌&&◌, List, [], ◌∷◌, ◌++◌, filter, length, map, bytes_eq, append-nil, refl, sym, ap, ◌∙◌, subst, inl, inr, arith}
 
 -- names are done, or one of their own, which they lack, stops them; both go by which names there are
 pub record Grow (own : List (List ℕ)) (Done : List (List ℕ) → Type 0) (Stops : List (List ℕ) → List ℕ → Type 0) : Type 0 where

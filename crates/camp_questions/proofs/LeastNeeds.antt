@@ -1,7 +1,6 @@
 -- What names need is the least that comes to the front, where all catches are plain and have room.
-use Rattle.camp_questions.proofs.Words.{◌≡◌, ℕ, Bool, true, false, ◌&&◌, List, ◌++◌, sym, ap, ◌∙◌, subst, Contains, ArrangeSticks, Catch, is_among, names_of, is_among_is, among_kept, ComeToFront, StickOn, in_order}
+use Rattle.camp_questions.proofs.Words.{◌≡◌, ℕ, Bool, true, false, ◌&&◌, List, ◌++◌, sym, ap, ◌∙◌, subst, Contains, ArrangeSticks, Catch, is_among, names_of, is_among_is, among_kept, ComeToFront, StickOn, in_order, AreAmong, IsPlain, NeedsAreLeast}
 use Rattle.camp_catch.proofs.PlainArranging.{what_stops_comes_along}
-use Rattle.camp_questions.specs.Laws.{AreAmong, IsPlain, NeedsAreLeast}
 use Rattle.camp_questions.proofs.Growths.{all_within}
 
 -- what stops some names comes along with all that come to the front and have them

@@ -1,13 +1,7 @@
 -- As many names are known on the way as the file has lines.
-use Rattle.camp_questions.proofs.Words.{◌≡◌, ◌≢◌, ◌<◌, ◌≤◌, ℕ, ◌+◌, ◌-◌, ◌==◌, Bool, true, false, true≢false, cond, List, [], ◌∷◌, ◌++◌, Option, None, Some, length, take, drop, get_or, replicate, bytes_eq, refl, sym, ap, ◌∙◌, subst, arith, empty, get, get-empty, splice, nat_cmp, eq_by_cmp, slice_cmp, bytes_eq-Decides, Edit, key_of, label_of, Key, Named, Primitive, Add, Remove, Hunk, Catch, name_of, Known, behind_all, behind_catches, behind_change, behind_hunk, names_coming, names_of_lines, nothing_known}
-use Rattle.std.proofs.lemmas.Bool.{eqb-true}
-use Rattle.std.proofs.lemmas.List.{drop_more, length-append, length-drop, length-replicate, length-take-le}
-use Rattle.camp_base.specs.Trees.{Files, Lines, Splices}
-use Rattle.camp_prim.specs.Effect.{Applies}
+use Rattle.camp_questions.proofs.Words.{◌≡◌, ◌≢◌, ◌<◌, ◌≤◌, ℕ, ◌+◌, ◌-◌, ◌==◌, Bool, true, false, true≢false, cond, List, [], ◌∷◌, ◌++◌, Option, None, Some, length, take, drop, get_or, replicate, bytes_eq, refl, sym, ap, ◌∙◌, subst, arith, empty, get, get-empty, splice, nat_cmp, eq_by_cmp, slice_cmp, bytes_eq-Decides, Edit, key_of, label_of, Key, Named, Primitive, Add, Remove, Hunk, Catch, name_of, Known, behind_all, behind_catches, behind_change, behind_hunk, names_coming, names_of_lines, nothing_known, AppliesOn, AreKnownIn, FollowsOn, StandsWithin, lines_or_none, drop_more, length-append, length-drop, length-replicate, length-take-le, eqb-true, Applies, Files, Lines, Splices, FitsAll, effect_of}
 use Rattle.camp_prim.proofs.FilesAtPaths.{get-with_file, get-with_file_other, get-with_file_same, same_path, with_file}
 use Rattle.camp_seq.specs.Running.{AppliesAll}
-use Rattle.camp_catch.specs.Catches.{FitsAll, effect_of}
-use Rattle.camp_questions.specs.Inside.Walking.{AppliesOn, AreKnownIn, FollowsOn, StandsWithin, lines_or_none}
 
 as_many_at : (taken : List (List ℕ)) (name : List ℕ) (count : ℕ) (b : Bool) → (length taken == count) ≡ b → length (cond b taken (replicate count name)) ≡ count
 as_many_at taken name count true e = eqb-true (length taken) count e

@@ -1,11 +1,7 @@
 -- What is missing is what a pull without names brings.
-use Rattle.camp_questions.proofs.Words.{◌≡◌, ◌≢◌, ℕ, Bool, true, false, not, cond, ◌||◌, List, [], ◌∷◌, ◌++◌, filter, Option, None, Some, Ok, bytes_eq, refl, sym, ap, ◌∙◌, same_Some, Catch, has_patch, is_among, names_of, Next, Has, Contents, is_empty, step, accepted_calls, IsMissing, missing_in}
-use Rattle.camp_branch.proofs.Names.{name_itself, or_true, passes_is_kept, same_name}
+use Rattle.camp_questions.proofs.Words.{◌≡◌, ◌≢◌, ℕ, Bool, true, false, not, cond, ◌||◌, List, [], ◌∷◌, ◌++◌, filter, Option, None, Some, Ok, bytes_eq, refl, sym, ap, ◌∙◌, same_Some, Catch, has_patch, is_among, names_of, Next, Has, Contents, is_empty, step, accepted_calls, IsMissing, missing_in, MissingIsPulled, name_itself, or_true, passes_is_kept, same_name, pull_nothing, none_lacked}
 use Rattle.camp_call.specs.declared.calls.Call.TheVariants as call
 use Rattle.camp_repo.specs.Lawful.{IsLawfulState}
-use Rattle.camp_repo.proofs.DecideSteps.{pull_nothing}
-use Rattle.camp_repo.proofs.NameSteps.{none_lacked}
-use Rattle.camp_questions.specs.Laws.{MissingIsPulled}
 
 module _ (p q : List ℕ → Bool) where
   -- tests that agree on what is there keep the same

@@ -1,8 +1,6 @@
 -- The patches of a lawful branch up to one come to its front, as they stand there.
-use Rattle.camp_questions.proofs.Words.{◌≡◌, ◌≢◌, ◌<◌, ℕ, zero, suc, ◌+◌, Bool, true, false, true≢false, ◌||◌, cond, List, [], ◌∷◌, ◌++◌, bytes_eq, append-nil, refl, sym, ap, ◌∙◌, subst, inl, inr, arith, AllByRecursion, append_assoc, Key, Catch, all_append, is_among_is, name_itself, or_true, same_name, ComeToFront}
-use Rattle.camp_catch.specs.Arranging.{ArrangesBehind}
+use Rattle.camp_questions.proofs.Words.{◌≡◌, ◌≢◌, ◌<◌, ℕ, zero, suc, ◌+◌, Bool, true, false, true≢false, ◌||◌, cond, List, [], ◌∷◌, ◌++◌, bytes_eq, append-nil, refl, sym, ap, ◌∙◌, subst, inl, inr, arith, AllByRecursion, append_assoc, Key, Catch, all_append, is_among_is, name_itself, or_true, same_name, ComeToFront, ArrangesBehind, AreDistinct, HasPatches, Patch, is_among, labels_from, labels_of, name_of, names_of, patch_names}
 use Rattle.camp_catch.specs.Laws.{keys_of}
-use Rattle.camp_branch.specs.Branches.{AreDistinct, HasPatches, Patch, is_among, labels_from, labels_of, name_of, names_of, patch_names}
 use Rattle.camp_branch.proofs.BranchLabels.{names_of_patches}
 
 -- names up to one

@@ -1,7 +1,5 @@
 -- What a patch needs is reached from it along the arrows of the graph, where all catches are plain and have room.
-use Rattle.camp_questions.proofs.Words.{◌≡◌, ◌<◌, ◌≤◌, ℕ, zero, suc, ◌+◌, Bool, true, false, true≢false, not, ◌||◌, cond, List, [], ◌∷◌, map, bytes_eq, None, Some, refl, sym, ap, ◌∙◌, subst, arith, ◌↔◌, Contains, AllByRecursion, list_any, Catch, name_itself, same_name, among_once, first_lacked, Needs, Drawn, IsGraph, Needing, NeedsThese, goes_between, needs_other, node_of, Node}
-use Rattle.camp_branch.specs.Branches.{IsLawfulBranch, has_patch, is_among, name_of, names_of}
-use Rattle.camp_questions.specs.Laws.{AreAmong, Arrow, IsPlain, IsReached, NeedsAreReached, NeedsDirectly, NeedsPatch, itself, along}
+use Rattle.camp_questions.proofs.Words.{◌≡◌, ◌<◌, ◌≤◌, ℕ, zero, suc, ◌+◌, Bool, true, false, true≢false, not, ◌||◌, cond, List, [], ◌∷◌, map, bytes_eq, None, Some, refl, sym, ap, ◌∙◌, subst, arith, ◌↔◌, Contains, AllByRecursion, list_any, Catch, name_itself, same_name, among_once, first_lacked, Needs, Drawn, IsGraph, Needing, NeedsThese, goes_between, needs_other, node_of, Node, AreAmong, Arrow, IsPlain, IsReached, NeedsAreReached, NeedsDirectly, NeedsPatch, itself, along, IsLawfulBranch, has_patch, is_among, name_of, names_of}
 use Rattle.camp_questions.proofs.Arrows.{and_true, arrow_is_need, arrows_are_direct_needs, both, is_there, known_needs, needs_known, one_needed, one_passes}
 use Rattle.camp_questions.proofs.BranchGrowths.{needs_are_determined, needs_come_first}
 use Rattle.camp_questions.proofs.LeastNeeds.{needs_are_least}

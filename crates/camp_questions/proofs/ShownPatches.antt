@@ -1,13 +1,8 @@
 -- A patch as it stands where it was recorded.
-use Rattle.camp_questions.proofs.Words.{◌≡◌, ℕ, ◌+◌, Bool, true, false, true≢false, ◌||◌, cond, List, [], ◌∷◌, ◌++◌, bytes_eq, refl, sym, ap, ◌∙◌, bytes_eq-Decides, Primitive, Catch, catches_named, accepted_calls, changes_of}
-use Rattle.std.proofs.lemmas.List.Elements.{filter-append}
-use Rattle.camp_branch.specs.Branches.{has_patch, is_among, name_of, recorded}
-use Rattle.camp_branch.proofs.Names.{name_itself, or_parts, same_name}
+use Rattle.camp_questions.proofs.Words.{◌≡◌, ℕ, ◌+◌, Bool, true, false, true≢false, ◌||◌, cond, List, [], ◌∷◌, ◌++◌, bytes_eq, refl, sym, ap, ◌∙◌, bytes_eq-Decides, Primitive, Catch, catches_named, accepted_calls, changes_of, stands, RecordedIsShown, name_itself, or_parts, same_name, has_patch, is_among, name_of, recorded, filter-append}
 use Rattle.camp_call.specs.declared.calls.Call.TheVariants as call
-use Rattle.camp_repo.specs.States.{stands}
 use Rattle.camp_repo.proofs.AcceptedSteps.{has_branch, passes}
 use Rattle.camp_repo.proofs.RecordSteps.{is_new}
-use Rattle.camp_questions.specs.Laws.{RecordedIsShown}
 use Rattle.camp_questions.proofs.MissingNames.{same_catches}
 
 apart_too : (a b : List ℕ) → bytes_eq a b ≡ false → (c : Bool) → bytes_eq b a ≡ c → c ≡ false

@@ -1,8 +1,6 @@
 -- What a branch sticks on when patches are brought to its front.
-use Rattle.camp_questions.proofs.Words.{◌≡◌, ℕ, Bool, true, false, ◌||◌, List, [], ◌∷◌, ◌++◌, map, bytes_eq, refl, sym, ap, ◌∙◌, subst, inl, inr, map-append, list_any-append, Key, Catch, is_among, name_of}
-use Rattle.camp_catch.specs.Arranging.{ArrangeSticks, ComesBefore, SticksBehind, StopsAt}
+use Rattle.camp_questions.proofs.Words.{◌≡◌, ℕ, Bool, true, false, ◌||◌, List, [], ◌∷◌, ◌++◌, map, bytes_eq, refl, sym, ap, ◌∙◌, subst, inl, inr, map-append, list_any-append, Key, Catch, is_among, name_of, ArrangeSticks, ComesBefore, SticksBehind, StopsAt, is_among_is, name_itself, not_among, or_true, same_name}
 use Rattle.camp_catch.proofs.KeptLabels.{keep_labels}
-use Rattle.camp_branch.proofs.Names.{is_among_is, name_itself, not_among, or_true, same_name}
 
 -- the names of the patches of some catches
 abbrev names_at : List Catch → List (List ℕ)

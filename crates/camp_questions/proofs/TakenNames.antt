@@ -1,12 +1,9 @@
 -- The names that are kept under the absolute labels of hunks, as a finite map.
-use Rattle.camp_questions.proofs.Words.{◌≡◌, ℕ, cond, List, [], ◌∷◌, Some, refl, sym, ap, ◌∙◌, eq_by_cmp, key_cmp, Key}
+use Rattle.camp_questions.proofs.Words.{◌≡◌, ℕ, cond, List, [], ◌∷◌, Some, refl, sym, ap, ◌∙◌, eq_by_cmp, key_cmp, Key, find, get, get-from_entries, get-insert, insert, same_map, key_ties, key_total, kept_in}
 use Rattle.std.specs.BTreeMap as tree
 use Rattle.std.specs.BTreeMap.{BTreeMap, is_at}
 use Rattle.std.specs.Cmp.{eq_by_cmp_equiv}
-use Rattle.std.specs.FinMap.{find, get, get-from_entries, get-insert, insert, same_map}
 use Rattle.std.specs.Map.{lookup}
-use Rattle.camp_prim.proofs.LabelOrder.{key_ties, key_total}
-use Rattle.camp_questions.specs.Inside.Walking.{kept_in}
 
 listed_under : (entries : List (Key × List (List ℕ))) (key : Key) → find key_cmp key entries ≡ lookup (is_at (key_cmp key)) entries
 listed_under [] key = refl

@@ -1,5 +1,5 @@
 -- The cells of a chain: no two entries have one, and the word that names the last tells the chain among its fronts.
-use Rattle.camp_row.proofs.Words.{◌≡◌, ◌≢◌, ℕ, suc, ◌+◌, ◌<◌, ◌≤◌, ◌⊎◌, inl, inr, List, [], ◌∷◌, ◌++◌, length, ◌==◌, sym, refl, ap, ◌∙◌, subst, arith, length-append, append-nil, append_assoc, append_cancel_left, filter-append, eq-eqb, ne_eqb, cond-true, cond-false, same_from_place, Entry, IsFront, own, turns, cell_of, head_after, head_word, Fits}
+use Rattle.camp_row.proofs.Words.{◌≡◌, ◌≢◌, ℕ, suc, ◌+◌, ◌<◌, ◌≤◌, ◌⊎◌, inl, inr, List, [], ◌∷◌, ◌++◌, length, ◌==◌, sym, refl, ap, ◌∙◌, subst, arith, length-append, append-nil, append_assoc, append_cancel_left, filter-append, eq-eqb, ne_eqb, cond-true, cond-false, same_from_place, Entry, IsFront, IsShorter, own, turns, cell_of, head_after, head_word, Fits}
 use Rattle.camp_row.proofs.Fronts.{front_cases, cut_longer, cut_push, fronts_meet, next_is}
 
 pub own-append : (seat : ℕ) (xs ys : List Entry) → own seat (xs ++ ys) ≡ own seat xs ++ own seat ys
@@ -67,29 +67,24 @@ last_cases (x ∷ xs) = inr (elim (last_cases xs) [
 ])
 
 module _ (seats per_seat : ℕ) (chain : List Entry) (fits : Fits seats per_seat chain) where
+  -- two entries of one seat that have one turn, where the chain goes on to the second from behind the first
+  none_between : (b : List Entry) (e : Entry) (a c : List Entry) (f : Entry) (d : List Entry) → b ++ e ∷ a ≡ chain → c ++ f ∷ d ≡ chain → turns e.seat b ≡ turns e.seat c → IsShorter b c → ⊥
+  none_between b e a c f d at_e at_f same s =
+      let next : s.next ≡ e = next_is b s.next e (s.rest ++ f ∷ d) a chain (cut_longer b s.next s.rest c (f ∷ d) chain s.is at_f) at_e in
+      let more : turns e.seat b < turns e.seat c = subst (λ (x : Entry). turns x.seat b < turns x.seat c) next (turns_cut b s.next s.rest c s.is) in
+      omega arith
+
   -- two entries of one cell stand at one place of the chain
   pub one_place : (b : List Entry) (e : Entry) (a : List Entry) (c : List Entry) (f : Entry) (d : List Entry) → b ++ e ∷ a ≡ chain → c ++ f ∷ d ≡ chain → cell_of seats b e ≡ cell_of seats c f → b ≡ c
   one_place b e a c f d at_e at_f same =
       let apart = same_from_place (turns e.seat b) e.seat (turns f.seat c) f.seat seats (fits b e a at_e).0 (fits c f d at_f).0 same in
-      let front_b : IsFront b chain = record { rest = e ∷ a; is = at_e } in
-      let front_c : IsFront c chain = record { rest = f ∷ d; is = at_f } in
       let seat_is : e.seat ≡ f.seat = apart.1 in
-      elim (fronts_meet b c chain front_b front_c) [
+      elim (fronts_meet b c chain (record { rest = e ∷ a; is = at_e }) (record { rest = f ∷ d; is = at_f })) [
         | inl b_first ↦ elim (front_cases b c b_first) [
           | inl is ↦ is
-          | inr shorter ↦
-              let next : shorter.next ≡ e = next_is b shorter.next e (shorter.rest ++ f ∷ d) a chain (cut_longer b shorter.next shorter.rest c (f ∷ d) chain shorter.is at_f) at_e in
-              let more : turns shorter.next.seat b < turns shorter.next.seat c = turns_cut b shorter.next shorter.rest c shorter.is in
-              let more' : turns e.seat b < turns e.seat c = subst (λ (x : Entry). turns x.seat b < turns x.seat c) next more in
-              let same' : turns e.seat b ≡ turns e.seat c = apart.0 ∙ ap (λ s. turns s c) (sym seat_is) in
-              absurd (omega arith)
+          | inr shorter ↦ absurd (none_between b e a c f d at_e at_f (apart.0 ∙ ap (λ s. turns s c) (sym seat_is)) shorter)
         ]
-        | inr c_shorter ↦
-            let next : c_shorter.next ≡ f = next_is c c_shorter.next f (c_shorter.rest ++ e ∷ a) d chain (cut_longer c c_shorter.next c_shorter.rest b (e ∷ a) chain c_shorter.is at_e) at_f in
-            let more : turns c_shorter.next.seat c < turns c_shorter.next.seat b = turns_cut c c_shorter.next c_shorter.rest b c_shorter.is in
-            let more' : turns f.seat c < turns f.seat b = subst (λ (x : Entry). turns x.seat c < turns x.seat b) next more in
-            let same' : turns f.seat b ≡ turns f.seat c = ap (λ s. turns s b) (sym seat_is) ∙ apart.0 in
-            absurd (omega arith)
+        | inr shorter ↦ absurd (none_between c f d b e a at_f at_e (sym apart.0 ∙ ap (λ s. turns s b) seat_is) shorter)
       ]
 
   -- two fronts of the chain whose last cell has one name are one

@@ -1,7 +1,7 @@
 -- The rule at the opening, after a split and after a join; the parts that are dealt out.
-use Rattle.camp_row.proofs.Words.{◌≡◌, ℕ, zero, suc, ◌+◌, ◌-◌, ◌*◌, ◌<◌, ◌≤◌, inl, inr, List, [], ◌∷◌, ◌++◌, replicate, cond, ◌==◌, sym, refl, ap, ◌∙◌, subst, arith, set, slice_index, sum_by, All, map, take, drop, length-replicate, sum_by-cons, sum_by_push, sum_by-append, All-cons, All-nil, All-map, All-take, All-drop, All-append, All-weaker, cases_eq, range_with_len, some, some-injective, some-ne-none, get_elem?, Splits, Joins, at_set, at_snoc, set_else, Knowledge, Part, parts_of, fresh, all_fresh, parent_word, place_word, Holds, Knows, IsRuled, first_apart, without_first, joined, spent}
+use Rattle.camp_row.proofs.Words.{◌≡◌, ℕ, zero, suc, ◌+◌, ◌-◌, ◌*◌, ◌<◌, ◌≤◌, inl, inr, List, [], ◌∷◌, ◌++◌, replicate, cond, ◌==◌, sym, refl, ap, ◌∙◌, subst, arith, set, slice_index, sum_by, All, map, take, drop, length-replicate, sum_by-cons, sum_by_push, sum_by-append, All-cons, All-nil, All-map, All-take, All-drop, All-append, All-weaker, cases_eq, range_with_len, some, some-injective, some-ne-none, get_elem?, Splits, Joins, at_set, at_snoc, set_else, Knowledge, Part, parts_of, fresh, all_fresh, parent_word, place_word, Holds, Knows, IsRuled, first_apart, without_first, joined, spent, known}
 use Rattle.camp_row.proofs.Fronts.{front_nil, no_cut}
-use Rattle.camp_row.proofs.Ruling.{Ruled, sum_set, parts_of-cons, parts_of-self, parts_of-other}
+use Rattle.camp_row.proofs.Ruling.{Ruled, with_views, sum_set, parts_of-cons, parts_of-self, parts_of-other}
 
 parts_of-cut : (number : ℕ) (ps : List Part) → parts_of number (drop 1 ps) + parts_of number (take 1 ps) ≡ parts_of number ps
 parts_of-cut number [] = refl
@@ -11,27 +11,22 @@ parts_of-cut number (p ∷ ps) = let one = parts_of-cons number p [] in let all 
 pub splits : (seats per_seat id : ℕ) (v : Knowledge) → Splits (Ruled seats per_seat) id v (without_first v) (first_apart v)
 splits seats per_seat id v s ruled at =
     let K : Part → Type 0 = Knows seats per_seat s.words ruled.chain in
-    let left : List Knowledge = set s.views id (without_first v) in record {
-      chain = ruled.chain;
-      sized = ruled.sized;
-      head = ruled.head;
-      linked = ruled.linked;
-      fits = ruled.fits;
-      one_each = λ n.
-          let f : Knowledge → ℕ = λ u. parts_of n u.parts in
-          let a : sum_by f left + f v ≡ sum_by f s.views + f (without_first v) = sum_set f s.views id v (without_first v) at in
-          let b : sum_by f (left ++ first_apart v ∷ []) ≡ sum_by f left + f (first_apart v) = sum_by_push f left (first_apart v) in
-          let c : f (without_first v) + f (first_apart v) ≡ f v = parts_of-cut n v.parts in
-          let one : sum_by f s.views ≤ 1 = ruled.one_each n in
-          omega arith;
-      known = λ j u here. elim (at_snoc left (first_apart v) u j here) [
-        | inl old ↦ elim (at_set s.views id j (without_first v) u old) [
-          | inl same ↦ subst (λ (x : Knowledge). All K x.parts) same.1 (All-drop K 1 v.parts (ruled.known id v at))
-          | inr other ↦ ruled.known j u other.1
-        ]
-        | inr new ↦ subst (λ (x : Knowledge). All K x.parts) new (All-take K 1 v.parts (ruled.known id v at))
-      ];
-    }
+    let left : List Knowledge = set s.views id (without_first v) in
+    with_views (left ++ first_apart v ∷ []) ruled
+    (λ n.
+    let f : Knowledge → ℕ = λ u. parts_of n u.parts in
+    let a : sum_by f left + f v ≡ sum_by f s.views + f (without_first v) = sum_set f s.views id v (without_first v) at in
+    let b : sum_by f (left ++ first_apart v ∷ []) ≡ sum_by f left + f (first_apart v) = sum_by_push f left (first_apart v) in
+    let c : f (without_first v) + f (first_apart v) ≡ f v = parts_of-cut n v.parts in
+    let one : sum_by f s.views ≤ 1 = ruled.one_each n in
+    omega arith)
+    (λ j u here. elim (at_snoc left (first_apart v) u j here) [
+      | inl old ↦ elim (at_set s.views id j (without_first v) u old) [
+        | inl same ↦ subst (λ (x : Knowledge). All K x.parts) same.1 (All-drop K 1 v.parts (ruled.known id v at))
+        | inr other ↦ ruled.known j u other.1
+      ]
+      | inr new ↦ subst (λ (x : Knowledge). All K x.parts) new (All-take K 1 v.parts (ruled.known id v at))
+    ])
 
 -- a join of two seats
 pub joins : (seats per_seat id : ℕ) (v : Knowledge) (other : ℕ) (w : Knowledge) → Joins (Ruled seats per_seat) id v other w (joined v w) spent
@@ -39,28 +34,23 @@ joins seats per_seat id v other w s ruled at ne there =
     let K : Part → Type 0 = Knows seats per_seat s.words ruled.chain in
     let both : Knowledge = joined v w in
     let left : List Knowledge = set s.views id both in
-    let there' : get_elem? s.views other ≡ some w = sym (set_else s.views id other both ne) ∙ there in record {
-      chain = ruled.chain;
-      sized = ruled.sized;
-      head = ruled.head;
-      linked = ruled.linked;
-      fits = ruled.fits;
-      one_each = λ n.
-          let f : Knowledge → ℕ = λ u. parts_of n u.parts in
-          let a : sum_by f left + f v ≡ sum_by f s.views + f both = sum_set f s.views id v both at in
-          let b : sum_by f (set left other spent) + f w ≡ sum_by f left + f spent = sum_set f left other w spent there in
-          let c : f both ≡ f w + f v = sum_by-append (λ (part : Part). cond (part.number == n) 1 0) w.parts v.parts in
-          let d : f spent ≡ 0 = refl in
-          let one : sum_by f s.views ≤ 1 = ruled.one_each n in
-          omega arith;
-      known = λ j u here. elim (at_set left other j spent u here) [
-        | inl same ↦ subst (λ (x : Knowledge). All K x.parts) same.1 (All-nil K)
-        | inr old ↦ elim (at_set s.views id j both u old.1) [
-          | inl same ↦ subst (λ (x : Knowledge). All K x.parts) same.1 (All-append K w.parts v.parts (ruled.known other w there') (ruled.known id v at))
-          | inr unchanged ↦ ruled.known j u unchanged.1
-        ]
-      ];
-    }
+    let there' : get_elem? s.views other ≡ some w = sym (set_else s.views id other both ne) ∙ there in
+    with_views (set left other spent) ruled
+    (λ n.
+    let f : Knowledge → ℕ = λ u. parts_of n u.parts in
+    let a : sum_by f left + f v ≡ sum_by f s.views + f both = sum_set f s.views id v both at in
+    let b : sum_by f (set left other spent) + f w ≡ sum_by f left + f spent = sum_set f left other w spent there in
+    let c : f both ≡ f w + f v = sum_by-append (λ (part : Part). cond (part.number == n) 1 0) w.parts v.parts in
+    let d : f spent ≡ 0 = refl in
+    let one : sum_by f s.views ≤ 1 = ruled.one_each n in
+    omega arith)
+    (λ j u here. elim (at_set left other j spent u here) [
+      | inl same ↦ subst (λ (x : Knowledge). All K x.parts) same.1 (All-nil K)
+      | inr old ↦ elim (at_set s.views id j both u old.1) [
+        | inl same ↦ subst (λ (x : Knowledge). All K x.parts) same.1 (All-append K w.parts v.parts (ruled.known other w there') (ruled.known id v at))
+        | inr unchanged ↦ ruled.known j u unchanged.1
+      ]
+    ])
 
 zero_at : (n i : ℕ) → slice_index (replicate n 0) i ≡ 0
 zero_at zero i = refl

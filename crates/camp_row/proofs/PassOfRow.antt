@@ -1,24 +1,47 @@
 -- A pass over its fields, and the row that it is of.
-use Rattle.camp_row.proofs.Words.{◌≡◌, ◌≢◌, ℕ, ◌+◌, ◌*◌, ◌<◌, ◌≤◌, List, [], ◌∷◌, sym, refl, ap, ◌∙◌, subst, arith, row_fits, TableId, Seat, Knowledge, Next, IsShorter, turns, cell_of, RowId, Known, ComesNext, Part, part_of, known_of, IsSoundPart, part, known, IsPass, id_of, IsRow, PassInside, RowInside}
+use Rattle.camp_row.proofs.Words.{◌≡◌, ℕ, ◌+◌, ◌*◌, ◌<◌, ◌≤◌, List, [], ◌∷◌, sym, refl, ap, ◌∙◌, subst, arith, row_fits, TableId, Seat, Knowledge, Next, IsShorter, turns, cell_of, RowId, Known, ComesNext, Part, part_of, known_of, IsSoundPart, part, known, IsPass, id_of, IsRow, PassInside, RowInside, ◌%◌, ◌++◌, mod-mul-add, Allows, Splits, head_word, finds, Looked, Sees, Walked, first_apart, without_first, Entry}
 use Rattle.std.proofs.Math.Nat.{mul-le-mul_left}
 use Rattle.camp_row.proofs.Drafting.{next_cell, HasRoom}
+use Rattle.camp_row.proofs.Dealing.{splits}
+pub use Rattle.camp_row.proofs.Fronts.{cut_longer, cut_pushed, front_nil, front_refl, fronts_meet, next_is, no_cut, shorter_front}
+use Rattle.camp_row.proofs.Loading.{looks, walks}
+use Rattle.camp_row.proofs.Ruling.{Owes, Ruled, allows, only, allows_one}
 
 -- the pass is to this row
 pub record IsOf (pass : PassInside) (row : RowInside) : Type 0 where
   pub table : pass.seat.table_id ≡ row.table.shared.table_id
   pub seats : (part pass).seats ≡ row.seats
   pub per_seat : (part pass).per_seat ≡ row.per_seat
+  pub words : row.table.shared.table_id.words ≡ 1 + 2 * (row.per_seat * row.seats)
+  pub few : row.per_seat * row.seats ≤ 4194304
 
-pub is_of : (pass : PassInside) (row : RowInside) (k : Known) (r : RowId) → known pass ≡ k → id_of row ≡ r → k.row ≡ r → IsOf pass row
-is_of pass row k r pass_is row_is same =
-    let e : (known pass).row ≡ id_of row = ap (λ (x : Known). x.row) pass_is ∙ (same ∙ sym row_is) in record {
-      table = ap (λ (x : RowId). x.table) e;
-      seats = ap (λ (x : RowId). x.seats) e;
-      per_seat = ap (λ (x : RowId). x.per_seat) e;
-    }
+-- the cell is the next one of the pass's seat, for which there is room
+pub record AtOwn (pass : PassInside) (row : RowInside) (cell : ℕ) : Type 0 where
+  pub of : IsOf pass row
+  pub own : cell ≡ next_cell (part pass)
+  pub below : cell < row.per_seat * row.seats
+  pub room : HasRoom (part pass)
 
-pub row_words : (row : RowInside) (r : RowId) → IsRow row → id_of row ≡ r → row.table.shared.table_id.words ≡ 1 + 2 * (r.per_seat * r.seats)
-row_words row r is same = is.words ∙ ap (λ (x : RowId). 1 + 2 * (x.per_seat * x.seats)) same
+module _ (pass : PassInside) (row : RowInside) {k : Known} {r : RowId} (is : IsRow row) (pass_is : known pass ≡ k) (row_is : id_of row ≡ r) (same : k.row ≡ r) where
+  pub is_of : IsOf pass row
+  is_of =
+      let e : (known pass).row ≡ id_of row = ap (λ (x : Known). x.row) pass_is ∙ (same ∙ sym row_is) in
+      let few : row.per_seat * row.seats ≤ row.per_seat * 64 = mul-le-mul_left row.per_seat is.seats.1 in
+      let within = is.per_seat.1 in record {
+        table = ap (λ (x : RowId). x.table) e;
+        seats = ap (λ (x : RowId). x.seats) e;
+        per_seat = ap (λ (x : RowId). x.per_seat) e;
+        words = is.words;
+        few = omega arith;
+      }
+
+  pub at_own : {cell : ℕ} → turns k.number k.seen < r.per_seat → cell ≡ turns k.number k.seen * r.seats + k.number → cell < r.per_seat * r.seats → AtOwn pass row cell
+  at_own {cell} room cell_is below = record {
+    of = is_of;
+    own = cell_is ∙ (ap (λ (x : RowId). turns k.number k.seen * x.seats + k.number) (sym same) ∙ ap (λ (x : Known). turns x.number x.seen * x.row.seats + x.number) (sym pass_is));
+    below = subst (λ (x : RowId). cell < x.per_seat * x.seats) (sym row_is) below;
+    room = subst (λ (x : Known). turns x.number x.seen < x.row.per_seat) (sym pass_is) (subst (λ (x : RowId). turns k.number k.seen < x.per_seat) (sym same) room);
+  }
 
 -- the part is the pass's own
 pub part_is : (pass : PassInside) (q : Part) → pass.seat.me.0.parts ≡ q ∷ [] → part pass ≡ q
@@ -30,56 +53,86 @@ at_part pass q is = subst (IsPass pass) (sym (part_is pass q is.alone)) is
 pub known_at : (table : TableId) (parts : List Part) (q : Part) → parts ≡ q ∷ [] → known_of table (part_of parts) ≡ known_of table q
 known_at table parts q alone = ap (λ ps. known_of table (part_of ps)) alone
 
--- a pass whose seat still has the same part
-pub same_part : (pass : PassInside) (seat : Seat (Unit {0}) Knowledge) → seat.me.1 ≡ pass.seat.me.1 → seat.me.0.parts ≡ pass.seat.me.0.parts → IsPass pass (part pass)
-    → IsPass (record pass { seat = seat }) (part (record pass { seat = seat }))
-same_part pass seat slots parts is = at_part (record pass { seat = seat }) (part pass) (record {
-  alone = parts ∙ is.alone;
-  no_slot = slots ∙ is.no_slot;
+-- a pass that found the chain
+pub found_pass : (pass : PassInside) (seat : Seat (Unit {0}) Knowledge) (found : ℕ) (chain : List Entry) → seat.me.0.parts ≡ finds chain (part pass) ∷ [] → seat.me.1 ≡ [] → Sees found chain (part pass)
+    → IsPass pass (part pass) → IsPass (record pass { seat = seat; head = found }) (part (record pass { seat = seat; head = found }))
+found_pass pass seat found chain alone slots sees is = at_part (record pass { seat = seat; head = found }) (finds chain (part pass)) (record {
+  alone = alone;
+  no_slot = slots;
   number = is.number;
   turn = is.turn;
   last = is.last;
-  head = is.head;
+  head = sees.named;
   number_below = is.number_below;
   turn_within = is.turn_within;
-  sound = is.sound;
+  sound = sees.sound;
 })
 
-module _ (pass : PassInside) (k : Known) (r : RowId) (pass_is : known pass ≡ k) (same : k.row ≡ r) where
-  pub own_at : (cell : ℕ) → cell ≡ turns k.number k.seen * r.seats + k.number → cell ≡ next_cell (part pass)
-  own_at cell is =
-      is ∙ (ap (λ (x : RowId). turns k.number k.seen * x.seats + k.number) (sym same) ∙ ap (λ (x : Known). turns x.number x.seen * x.row.seats + x.number) (sym pass_is))
+-- the chain that was found before
+pub sees_still : (part : Part) {found : ℕ} → found ≡ head_word part.seats part.ahead → IsSoundPart part → Sees found part.ahead part
+sees_still part named sound = record { named = named; grows = front_refl part.ahead; sound = sound }
 
-  pub room_at : turns k.number k.seen < r.per_seat → HasRoom (part pass)
-  room_at room =
-      subst (λ (x : Known). turns x.number x.seen < x.row.per_seat) (sym pass_is) (subst (λ (x : RowId). turns k.number k.seen < x.per_seat) (sym same) room)
+-- a cell that has an entry of the chain is in the row
+pub record Held (pass : PassInside) (row : RowInside) (before : List Entry) (entry : Entry) (cell : ℕ) : Type 0 where
+  pub of : IsOf pass row
+  pub is : cell ≡ cell_of (part pass).seats before entry
+  pub below : cell < row.per_seat * row.seats
+  pub seat_is : cell % row.seats ≡ entry.seat
+  pub seat_below : entry.seat < (part pass).seats
 
--- the cell of an entry of the chain is in the row
-pub cell_below : (seats per_seat turn seat : ℕ) → turn < per_seat → seat < seats → turn * seats + seat < per_seat * seats
-cell_below seats per_seat turn seat room below = let row = row_fits turn seats per_seat seats room (omega arith) in omega arith
-
-pub few_cells : (seats per_seat : ℕ) → seats ≤ 64 → per_seat ≤ 65536 → per_seat * seats ≤ 4194304
-few_cells seats per_seat s n = let a : per_seat * seats ≤ per_seat * 64 = mul-le-mul_left per_seat s in omega arith
+pub held : {pass : PassInside} {row : RowInside} {before : List Entry} {e : Entry} (later : List Entry) {cell : ℕ} → IsOf pass row → IsSoundPart (part pass) → before ++ e ∷ later ≡ (part pass).ahead
+    → cell ≡ cell_of (part pass).seats before e → Held pass row before e cell
+held {pass} {row} {before} {e} later {cell} of sound cut is =
+    let fits = sound.fits before e later cut in
+    let below : e.seat < row.seats = subst (λ s. e.seat < s) of.seats fits.0 in
+    let room : turns e.seat before < row.per_seat = subst (λ s. turns e.seat before < s) of.per_seat fits.1 in
+    let cell_is : cell ≡ turns e.seat before * row.seats + e.seat = is ∙ ap (λ s. turns e.seat before * s + e.seat) of.seats in
+    let in_row = row_fits (turns e.seat before) row.seats row.per_seat row.seats room (omega arith) in record {
+      of = of;
+      is = is;
+      below = omega arith;
+      seat_is = ap (λ x. x % row.seats) cell_is ∙ mod-mul-add (turns e.seat before) row.seats e.seat below;
+      seat_below = fits.0;
+    }
 
 -- the next entry, as the pass's part sees it
-pub record NextIs (row : RowInside) (part : Part) (next : Next) : Type 0 where
-  pub shorter : IsShorter part.seen part.ahead
+pub record NextIs (pass : PassInside) (row : RowInside) (next : Next) : Type 0 where
+  pub shorter : IsShorter (part pass).seen (part pass).ahead
   pub entry : shorter.next ≡ next.entry
-  pub cell : next.cell ≡ cell_of part.seats part.seen next.entry
-  pub in_row : next.cell < row.per_seat * row.seats
-  pub other : next.entry.seat ≢ part.number
+  pub held : Held pass row (part pass).seen next.entry next.cell
 
-pub next_of : (pass : PassInside) (row : RowInside) (k : Known) (next : Next) → IsSoundPart (part pass) → IsOf pass row → known pass ≡ k → ComesNext k next → NextIs row (part pass) next
-next_of pass row k next sound of same comes =
+pub next_of : {pass : PassInside} {row : RowInside} {k : Known} {next : Next} → IsOf pass row → known pass ≡ k → IsSoundPart (part pass) → ComesNext k next → NextIs pass row next
+next_of {pass} {next = next} of same sound comes =
     let n : ComesNext (known pass) next = subst (λ x. ComesNext x next) (sym same) comes in
-    let fits = sound.fits (part pass).seen next.entry n.later n.is in
-    let p : Part = part pass in
-    let seat_below : next.entry.seat < row.seats = subst (λ s. next.entry.seat < s) of.seats fits.0 in
-    let room : turns next.entry.seat p.seen < row.per_seat = subst (λ s. turns next.entry.seat p.seen < s) of.per_seat fits.1 in
-    let cell_is : next.cell ≡ turns next.entry.seat p.seen * row.seats + next.entry.seat = n.cell ∙ ap (λ s. turns next.entry.seat p.seen * s + next.entry.seat) of.seats in record {
-      shorter = record { next = next.entry; rest = n.later; is = n.is };
-      entry = refl;
-      cell = n.cell;
-      in_row = subst (λ x. x < row.per_seat * row.seats) (sym cell_is) (cell_below row.seats row.per_seat (turns next.entry.seat p.seen) next.entry.seat room seat_below);
-      other = n.other;
-    }
+    record { shorter = record { next = next.entry; rest = n.later; is = n.is }; entry = refl; held = held n.later of sound n.is n.cell }
+
+-- what the table asks of a step of a seat
+abbrev pub MaySplit : RowInside → Seat (Unit {0}) Knowledge → Type 0
+MaySplit row seat =
+    let shared = row.table.shared in
+    let view = seat.me.0 in
+    (seat.table_id ≡ shared.table_id) × (0 < shared.table_id.words) × Splits (Ruled shared.key.seats shared.key.per_seat) seat.id view (without_first view) (first_apart view)
+
+abbrev pub MayStep : RowInside → Seat (Unit {0}) Knowledge → ℕ → (ℕ → ℕ) → (ℕ → List Part → List Part → Type 0) → Type 0
+MayStep row seat i f then =
+    let shared = row.table.shared in
+    (seat.table_id ≡ shared.table_id) × (i < shared.table_id.words) × Allows (Ruled shared.key.seats shared.key.per_seat) shared.table_id.slots seat.id seat.me i f (λ n m. (m.1 ≡ seat.me.1) × then n seat.me.0.parts m.0.parts)
+
+module _ (row : RowInside) (seat : Seat (Unit {0}) Knowledge) (table : seat.table_id ≡ row.table.shared.table_id) where
+  pub splits_in : IsRow row → MaySplit row seat
+  splits_in is = let w = is.words in let shared = row.table.shared in (table, omega arith, splits shared.key.seats shared.key.per_seat seat.id seat.me.0)
+
+  pub looks_in : IsRow row → MayStep row seat 0 (λ n. n) Looked
+  looks_in is =
+      let w = is.words in
+      let shared = row.table.shared in
+      (table, omega arith, allows shared.key.seats shared.key.per_seat shared.table_id.slots seat.id seat.me 0 (λ n. n) (λ found w. Looked found seat.me.0.parts w.parts) (looks shared.key.seats shared.key.per_seat seat.id seat.me.0))
+
+  pub steps_in : {i : ℕ} (f : ℕ → ℕ) (then : ℕ → List Part → List Part → Type 0) {p : Part} → i < row.table.shared.table_id.words → seat.me.0.parts ≡ p ∷ []
+      → Owes row.table.shared.key.seats row.table.shared.key.per_seat seat.id (only p) i f (λ n w. then n (p ∷ []) w.parts) → MayStep row seat i f then
+  steps_in {i} f then {p} below alone owes =
+      let shared = row.table.shared in
+      (table, below, allows_one shared.key.seats shared.key.per_seat shared.table_id.slots seat.id seat.me i f then p alone owes)
+
+  pub walks_in : (i : ℕ) {p : Part} → i < row.table.shared.table_id.words → seat.me.0.parts ≡ p ∷ [] → MayStep row seat i (λ n. n) (Walked i)
+  walks_in i {p} below alone = steps_in (λ n. n) (Walked i) below alone (walks row.table.shared.key.seats row.table.shared.key.per_seat seat.id p i)

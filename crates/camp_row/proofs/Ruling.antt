@@ -86,6 +86,12 @@ module _ (seats per_seat : ℕ) (words : List ℕ) (views : List Knowledge) (rul
     ];
   }
 
+-- the rule where no word changes, over other views
+pub with_views : {seats per_seat : ℕ} {words : List ℕ} {views : List Knowledge} (others : List Knowledge) (ruled : IsRuled seats per_seat words views)
+    → ((number : ℕ) → sum_by (λ (view : Knowledge). parts_of number view.parts) others ≤ 1)
+    → ((seat : ℕ) (view : Knowledge) → get_elem? others seat ≡ some view → All (Knows seats per_seat words ruled.chain) view.parts) → IsRuled seats per_seat words others
+with_views others ruled one_each known = record { chain = ruled.chain; sized = ruled.sized; head = ruled.head; linked = ruled.linked; fits = ruled.fits; one_each = one_each; known = known }
+
 -- the words of cells, when one word changes
 pub word_same : (words : List ℕ) (i : ℕ) → set words i (slice_index words i) ≡ words
 word_same words i = set-get_or words i 0

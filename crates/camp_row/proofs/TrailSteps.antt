@@ -1,8 +1,7 @@
 -- A trail, popped and pushed.
-use Rattle.camp_row.proofs.Words.{◌≡◌, ◌≢◌, ℕ, ◌+◌, ◌-◌, ◌*◌, ◌%◌, ◌<◌, List, [], ◌∷◌, ◌++◌, length, sym, refl, ap, ◌∙◌, subst, inl, inr, arith, length-append, same_from_push, append-nil, append_assoc, length_push, mod-mul-add, TableId, Entry, PassInside, RowInside, IsFront, turns, cell_of, head_word, Known, ComesNext, Leads, cells_back, Part, known_of, IsSoundPart, part, known}
-use Rattle.camp_row.proofs.Fronts.{no_cut, cut_pushed, cut_longer}
+use Rattle.camp_row.proofs.Words.{◌≡◌, ◌≢◌, ℕ, ◌+◌, ◌-◌, ◌%◌, ◌<◌, List, [], ◌∷◌, ◌++◌, length, sym, refl, ap, ◌∙◌, subst, inl, inr, arith, length-append, same_from_push, append-nil, append_assoc, length_push, TableId, Entry, PassInside, RowInside, IsFront, cell_of, head_word, Known, ComesNext, Leads, Reads, cells_back, Part, known_of, IsSoundPart, part, known, IsPass, place_word}
 use Rattle.camp_row.proofs.Cells.{next_is_others, head_word-push, same_front, last_cases}
-use Rattle.camp_row.proofs.PassOfRow.{IsOf, cell_below}
+pub use Rattle.camp_row.proofs.PassOfRow.{Held, IsOf, cut_longer, cut_pushed, found_pass, held, is_of, no_cut, sees_still, walks_in}
 
 pub trail_none : (seats : ℕ) (before left : List Entry) → cells_back seats before left ≡ [] → left ≡ []
 trail_none seats before [] e = refl
@@ -23,51 +22,42 @@ popped seats before (x ∷ left) rest cell e =
     record { entry = x; later = left; is = refl; cell_is = parts.1; rest_is = parts.0 }
 
 -- the entry on top of a trail, as the pass's part sees it
-pub record OnTop (row : RowInside) (part : Part) (rest : List ℕ) (cell : ℕ) : Type 0 where
+pub record OnTop (pass : PassInside) (row : RowInside) (rest : List ℕ) (cell : ℕ) : Type 0 where
   pub entry : Entry
   pub later : List Entry
-  pub cut : part.seen ++ entry ∷ later ≡ part.ahead
-  pub cell_is : cell ≡ cell_of part.seats part.seen entry
-  pub rest_is : rest ≡ cells_back part.seats (part.seen ++ entry ∷ []) later
-  pub in_row : cell < row.per_seat * row.seats
-  pub seat_is : cell % row.seats ≡ entry.seat
-  pub seat_below : entry.seat < part.seats
-  pub other : entry.seat ≢ part.number
+  pub cut : (part pass).seen ++ entry ∷ later ≡ (part pass).ahead
+  pub rest_is : rest ≡ cells_back (part pass).seats ((part pass).seen ++ entry ∷ []) later
+  pub held : Held pass row (part pass).seen entry cell
+  pub other : entry.seat ≢ (part pass).number
 
-module _ (pass : PassInside) (row : RowInside) (k : Known) (pass_is : known pass ≡ k) (of : IsOf pass row) (sound : IsSoundPart (part pass)) (rest : List ℕ) (cell : ℕ) where
-  pub on_top : Leads k k.seen (rest ++ cell ∷ []) → OnTop row (part pass) rest cell
-  on_top leads =
+module _ {pass : PassInside} {row : RowInside} {k : Known} {rest : List ℕ} {cell : ℕ} (pass_is : known pass ≡ k) where
+  pub on_top : {trail items : List ℕ} → IsOf pass row → IsSoundPart (part pass) → items ≡ trail → items ≡ rest ++ cell ∷ [] → Leads k k.seen trail → OnTop pass row rest cell
+  on_top of sound trail_is items_are leads =
       let p : Part = part pass in
-      let l : Leads (known pass) p.seen (rest ++ cell ∷ []) = subst (λ (x : Known). Leads x x.seen (rest ++ cell ∷ [])) (sym pass_is) leads in
+      let l = subst (λ (x : Known). Leads x x.seen (rest ++ cell ∷ [])) (sym pass_is) (subst (Leads k k.seen) (sym trail_is ∙ items_are) leads) in
       let top = popped p.seats p.seen l.left rest cell l.cells in
-      let e : Entry = top.entry in
-      let cut : p.seen ++ e ∷ top.later ≡ p.ahead = ap (λ xs. p.seen ++ xs) (sym top.is) ∙ l.is in
-      let fits = sound.fits p.seen e top.later cut in
-      let below : e.seat < row.seats = subst (λ s. e.seat < s) of.seats fits.0 in
-      let room : turns e.seat p.seen < row.per_seat = subst (λ s. turns e.seat p.seen < s) of.per_seat fits.1 in
-      let cell_is : cell ≡ turns e.seat p.seen * row.seats + e.seat = top.cell_is ∙ ap (λ s. turns e.seat p.seen * s + e.seat) of.seats in record {
-        entry = e;
+      let cut : p.seen ++ top.entry ∷ top.later ≡ p.ahead = ap (λ xs. p.seen ++ xs) (sym top.is) ∙ l.is in record {
+        entry = top.entry;
         later = top.later;
         cut = cut;
-        cell_is = top.cell_is;
         rest_is = top.rest_is;
-        in_row = subst (λ x. x < row.per_seat * row.seats) (sym cell_is) (cell_below row.seats row.per_seat (turns e.seat p.seen) e.seat room below);
-        seat_is = ap (λ x. x % row.seats) cell_is ∙ mod-mul-add (turns e.seat p.seen) row.seats e.seat below;
-        seat_below = fits.0;
-        other = next_is_others p.number p.seen e top.later p.ahead cut sound.own_seen;
+        held = held top.later of sound cut top.cell_is;
+        other = next_is_others p.number p.seen top.entry top.later p.ahead cut sound.own_seen;
       }
 
-  module _ (e : Entry) (top : OnTop row (part pass) rest cell) (e_is : e ≡ top.entry) where
-    pub comes_next : ComesNext k (record { entry = e; cell = cell })
-    comes_next =
-        subst (λ x. ComesNext x (record { entry = e; cell = cell })) pass_is
-        (subst (λ (x : Entry). ComesNext (known pass) (record { entry = x; cell = cell })) (sym e_is) (record { later = top.later; is = top.cut; cell = top.cell_is; other = top.other; seat_below = top.seat_below }))
-
-    pub leads_on : Leads k (k.seen ++ e ∷ []) rest
-    leads_on =
-        subst (λ (x : Known). Leads x (x.seen ++ e ∷ []) rest) pass_is
-        (subst (λ (x : Entry). Leads (known pass) ((part pass).seen ++ x ∷ []) rest) (sym e_is)
-        (record { left = top.later; is = cut_pushed (part pass).seen top.later top.entry ∙ top.cut; cells = top.rest_is }))
+  -- the entry comes next, once its place was read, and the rest of the trail leads on from it
+  pub comes_next : OnTop pass row rest cell → {word found : ℕ} → Reads word found (part pass) → word ≡ place_word cell
+      → let e : Entry = record { seat = cell % row.seats; place = found } in ComesNext k (record { entry = e; cell = cell }) × Leads k (k.seen ++ e ∷ []) rest
+  comes_next top {word} {found} reads word_is =
+      let p : Part = part pass in
+      let e : Entry = record { seat = cell % row.seats; place = found } in
+      let place : found ≡ top.entry.place = (reads p.seen top.entry top.later top.cut).1 (word_is ∙ ap place_word top.held.is) in
+      let e_is : top.entry ≡ e = (λ i. record { seat = sym top.held.seat_is i; place = sym place i }) in
+      subst (λ (x : Known). ComesNext x (record { entry = e; cell = cell }) × Leads x (x.seen ++ e ∷ []) rest) pass_is
+      (subst (λ (x : Entry). ComesNext (known pass) (record { entry = x; cell = cell }) × Leads (known pass) (p.seen ++ x ∷ []) rest) e_is (
+        record { later = top.later; is = top.cut; cell = top.held.is; other = top.other; seat_below = top.held.seat_below },
+        record { left = top.later; is = cut_pushed p.seen top.later top.entry ∙ top.cut; cells = top.rest_is },
+      ))
 
 -- a walk that has come to a front of the chain, with the cells behind it on the stack
 pub record Climbs (part : Part) (word : ℕ) (stack : List ℕ) : Type 0 where
@@ -91,48 +81,38 @@ length-cells_back seats before [] = refl
 length-cells_back seats before (e ∷ left) = let more = length_push (cells_back seats (before ++ e ∷ []) left) (cell_of seats before e) in let rest = length-cells_back seats (before ++ e ∷ []) left in omega arith
 
 -- the cell that the walk has come to, while it is not at what was seen
-pub record Above (part : Part) (word : ℕ) (stack : List ℕ) : Type 0 where
+pub record Above (pass : PassInside) (row : RowInside) (word : ℕ) (stack : List ℕ) : Type 0 where
   pub mid : List Entry
   pub entry : Entry
   pub rest : List Entry
-  pub cut : (part.seen ++ mid) ++ entry ∷ rest ≡ part.ahead
-  pub word_is : word ≡ cell_of part.seats (part.seen ++ mid) entry + 1
-  pub cells : stack ≡ cells_back part.seats ((part.seen ++ mid) ++ entry ∷ []) rest
-  pub few : length stack < length part.ahead
-  pub cell_few : cell_of part.seats (part.seen ++ mid) entry < part.per_seat * part.seats
+  pub cut : ((part pass).seen ++ mid) ++ entry ∷ rest ≡ (part pass).ahead
+  pub some_cell : 0 < word
+  pub held : Held pass row ((part pass).seen ++ mid) entry (word - 1)
+  pub cells : stack ≡ cells_back (part pass).seats (((part pass).seen ++ mid) ++ entry ∷ []) rest
+  pub few : length stack < length (part pass).ahead
+
+pub above : {pass : PassInside} {row : RowInside} {word : ℕ} {stack : List ℕ} → IsOf pass row → IsPass pass (part pass) → Climbs (part pass) word stack → word ≢ pass.last → Above pass row word stack
+above {pass} {row} {word} {stack} of is climbs differs =
+    let p : Part = part pass in
+    elim (last_cases climbs.mid) [
+      | inl none ↦ absurd (differs (climbs.named ∙ (ap (head_word p.seats) (ap (λ m. p.seen ++ m) none ∙ append-nil p.seen) ∙ sym is.last)))
+      | inr some ↦
+          let before : List Entry = p.seen ++ some.before in
+          let split : before ++ some.last ∷ [] ≡ p.seen ++ climbs.mid = append_assoc p.seen some.before (some.last ∷ []) ∙ ap (λ m. p.seen ++ m) some.is in
+          let cut : before ++ some.last ∷ climbs.rest ≡ p.ahead = cut_longer before some.last [] (p.seen ++ climbs.mid) climbs.rest p.ahead split climbs.split in
+          let cells : stack ≡ cells_back p.seats (before ++ some.last ∷ []) climbs.rest = climbs.cells ∙ ap (λ b. cells_back p.seats b climbs.rest) (sym split) in
+          let long : length (before ++ some.last ∷ climbs.rest) ≡ length p.ahead = ap length cut in
+          let parts = length-append before (some.last ∷ climbs.rest) in
+          let stack_long : length stack ≡ length climbs.rest = ap length cells ∙ length-cells_back p.seats (before ++ some.last ∷ []) climbs.rest in
+          let word_is : word ≡ cell_of p.seats before some.last + 1 = climbs.named ∙ (ap (head_word p.seats) (sym split) ∙ head_word-push p.seats before some.last) in
+          record { mid = some.before; entry = some.last; rest = climbs.rest; cut = cut; some_cell = omega arith; held = held climbs.rest of is.sound cut (omega arith); cells = cells; few = omega arith }
+    ]
+
+pub climbs_on : {pass : PassInside} {row : RowInside} {word found : ℕ} {stack : List ℕ} (a : Above pass row word stack) → found ≡ head_word (part pass).seats ((part pass).seen ++ a.mid)
+    → Climbs (part pass) found (stack ++ (word - 1) ∷ [])
+climbs_on a found_is = record { mid = a.mid; rest = a.entry ∷ a.rest; split = a.cut; named = found_is; cells = λ k. a.cells k ++ a.held.is k ∷ [] }
 
 module _ (p : Part) (word : ℕ) (stack : List ℕ) (sound : IsSoundPart p) (climbs : Climbs p word stack) where
-  pub above : word ≢ head_word p.seats p.seen → Above p word stack
-  above differs = elim (last_cases climbs.mid) [
-    | inl none ↦ absurd (differs (climbs.named ∙ ap (head_word p.seats) (ap (λ m. p.seen ++ m) none ∙ append-nil p.seen)))
-    | inr some ↦
-        let split : (p.seen ++ some.before) ++ some.last ∷ [] ≡ p.seen ++ climbs.mid = append_assoc p.seen some.before (some.last ∷ []) ∙ ap (λ m. p.seen ++ m) some.is in
-        let cut : (p.seen ++ some.before) ++ some.last ∷ climbs.rest ≡ p.ahead = cut_longer (p.seen ++ some.before) some.last [] (p.seen ++ climbs.mid) climbs.rest p.ahead split climbs.split in
-        let cells : stack ≡ cells_back p.seats ((p.seen ++ some.before) ++ some.last ∷ []) climbs.rest = climbs.cells ∙ ap (λ b. cells_back p.seats b climbs.rest) (sym split) in
-        let long : length ((p.seen ++ some.before) ++ some.last ∷ climbs.rest) ≡ length p.ahead = ap length cut in
-        let parts = length-append (p.seen ++ some.before) (some.last ∷ climbs.rest) in
-        let stack_long : length stack ≡ length climbs.rest = ap length cells ∙ length-cells_back p.seats ((p.seen ++ some.before) ++ some.last ∷ []) climbs.rest in
-        let fits = sound.fits (p.seen ++ some.before) some.last climbs.rest cut in record {
-          mid = some.before;
-          entry = some.last;
-          rest = climbs.rest;
-          cut = cut;
-          word_is = climbs.named ∙ (ap (head_word p.seats) (sym split) ∙ head_word-push p.seats (p.seen ++ some.before) some.last);
-          cells = cells;
-          few = omega arith;
-          cell_few = cell_below p.seats p.per_seat (turns some.last.seat (p.seen ++ some.before)) some.last.seat fits.1 fits.0;
-        }
-  ]
-
-  pub climbs_on : (a : Above p word stack) (found : ℕ) → found ≡ head_word p.seats (p.seen ++ a.mid) → Climbs p found (stack ++ (word - 1) ∷ [])
-  climbs_on a found found_is = record {
-    mid = a.mid;
-    rest = a.entry ∷ a.rest;
-    split = a.cut;
-    named = found_is;
-    cells = let w = a.word_is in let cell : word - 1 ≡ cell_of p.seats (p.seen ++ a.mid) a.entry = omega arith in (λ k. a.cells k ++ cell k ∷ []);
-  }
-
   pub climbs_last : word ≡ head_word p.seats p.seen → (table : TableId) → Leads (known_of table p) p.seen stack
   climbs_last word_is table =
       let front : IsFront (p.seen ++ climbs.mid) p.ahead = record { rest = climbs.rest; is = climbs.split } in

@@ -1,13 +1,8 @@
 -- A reader comes to the script that is defined.
-use Rattle.camp_script.proofs.Common.{◌≡◌, ℕ, ◌+◌, Bool, true, false, not, ◌&&◌, ◌||◌, ◌==◌, nat_le, cond, List, [], ◌∷◌, ◌++◌, length, codes, refl, sym, ap, ◌∙◌, Option, None, Some, Result, Ok, Err, arith, length-append, cond-false, nat_tests, Edit, Primitive, Hunk, is_writing, Call, Command, Nothing, Ask, BeginEdit, BeginGroup, BeginSection, command_of, words_of, OpenEdit, OpenRecord, Progress, start, after_change, obey, heed, read_from, LineFault}
+use Rattle.camp_script.proofs.Common.{◌≡◌, ℕ, ◌+◌, Bool, true, false, not, ◌&&◌, ◌||◌, ◌==◌, nat_le, cond, List, [], ◌∷◌, ◌++◌, length, codes, refl, sym, ap, ◌∙◌, Option, None, Some, Result, Ok, Err, arith, length-append, cond-false, nat_tests, Edit, Primitive, Hunk, is_writing, Call, Command, Nothing, Ask, BeginEdit, BeginGroup, BeginSection, command_of, words_of, OpenEdit, OpenRecord, Progress, start, after_change, obey, heed, read_from, LineFault, bytes_eq, if◌then◌else◌, GroupLine, NoChange, WholeChange, EditChange, EndGroup, group_line_of, grown, ended, edit_of, group_of, after_body_line, after_entry, with_change, ◌>>=◌, in_turn, NumberedLine, Entry, Item, numbered, up_to, pieces, begins_with, begins_edit, begins_group, words_on, ends_body, entries_of, entry_words, ends_group, items_of, first_section, clients_of, is_full, with_asked, after_item, after_client, script_of_lines}
 use Rattle.std.specs.List.{list_any}
-use Rattle.std.specs.Prelude.{bytes_eq, if◌then◌else◌}
 use Rattle.camp_call.specs.declared.calls.Call.TheVariants as call
-use Rattle.camp_script.specs.Changes.{GroupLine, NoChange, WholeChange, EditChange, EndGroup, group_line_of, grown, ended, edit_of, group_of, after_body_line, after_entry, with_change}
 use Rattle.camp_script.specs.Faults.{fault_at}
-use Rattle.camp_script.specs.Pieces.{NumberedLine, Entry, Item, numbered, up_to, pieces, begins_with, begins_edit, begins_group, words_on, ends_body, entries_of, entry_words, ends_group, items_of, first_section, clients_of}
-use Rattle.camp_script.specs.Reading.{is_full, with_asked, after_item, after_client, script_of_lines}
-use Rattle.camp_script.specs.Words.{◌>>=◌, in_turn}
 use Rattle.camp_script.specs.declared.faults.FaultKind.TheVariants.{BadGroup, EditNotEnded, GroupNotEnded, TooManyClients, TooManyCommands}
 use Rattle.camp_script.proofs.Holding.{Holds}
 use Rattle.camp_script.proofs.RecordLines.{some_change}

@@ -1,10 +1,7 @@
 -- What a line asks for is what its first words begin, and it can be done.
-use Rattle.camp_script.proofs.Common.{◌≡◌, ℕ, Bool, true, false, ◌&&◌, ◌||◌, ◌==◌, ◌<◌, ◌≤◌, nat_le, List, [], ◌∷◌, length, drop, slice_index, codes, refl, sym, ap, subst, ◌∙◌, Result, Ok, ⊎_elim, arith, nat_tests, cases_Bool, both_ways, and_parts, IsTrue, bytes_eq, list_all, is_between, is_name, is_path, Primitive, Add, Remove, Call, IsScriptCall, IsChange, IsListed, AreNames, begins_with, begins_edit, begins_group, LineFault}
+use Rattle.camp_script.proofs.Common.{◌≡◌, ℕ, Bool, true, false, ◌&&◌, ◌||◌, ◌==◌, ◌<◌, ◌≤◌, nat_le, List, [], ◌∷◌, length, drop, slice_index, codes, refl, sym, ap, subst, ◌∙◌, Result, Ok, ⊎_elim, arith, nat_tests, cases_Bool, both_ways, and_parts, IsTrue, bytes_eq, list_all, is_between, is_name, is_path, Primitive, Add, Remove, Call, IsScriptCall, IsChange, IsListed, AreNames, begins_with, begins_edit, begins_group, LineFault, GroupLine, NoChange, WholeChange, EditChange, EndGroup, whole_change, edit_change, change_of, group_line_of, Command, Nothing, Ask, BeginEdit, BeginGroup, BeginSection, branch_line, whole_record, edit_record, record_of, record_line, listed, pull_line, obliterate_line, branch_at, question, command, command_of, ◌>>=◌, no_words, one_word, two_words, name_at, names_at, path_at, number_at, value_of, is_line_number}
 use Rattle.std.proofs.lemmas.Slice.Eq.{bytes_eq-Decides}
 use Rattle.camp_call.specs.declared.calls.Call.TheVariants as call
-use Rattle.camp_script.specs.Changes.{GroupLine, NoChange, WholeChange, EditChange, EndGroup, whole_change, edit_change, change_of, group_line_of}
-use Rattle.camp_script.specs.Commands.{Command, Nothing, Ask, BeginEdit, BeginGroup, BeginSection, branch_line, whole_record, edit_record, record_of, record_line, listed, pull_line, obliterate_line, branch_at, question, command, command_of}
-use Rattle.camp_script.specs.Words.{◌>>=◌, no_words, one_word, two_words, name_at, names_at, path_at, number_at, value_of, is_line_number}
 use Rattle.camp_script.proofs.Holding.{Holds, fails, bind, either, behind}
 
 -- ---- words that are names, paths and numbers

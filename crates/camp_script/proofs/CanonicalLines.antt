@@ -1,8 +1,6 @@
 -- Lines of words, cut into lines and words again.
-use Rattle.std.proofs.Common.{◌≡◌, ℕ, Bool, true, false, not, ◌&&◌, ◌==◌, nat_lt, cond, List, [], ◌∷◌, ◌++◌, length, filter, ap, ◌∙◌, refl, append_assoc, arith}
-use Rattle.camp_script.proofs.Common.{cond-true, cond-false, false≢true, and_parts, not-true, nat_tests, line_text}
+use Rattle.camp_script.proofs.Common.{cond-true, cond-false, false≢true, and_parts, not-true, nat_tests, line_text, ◌≡◌, ℕ, Bool, true, false, not, ◌&&◌, ◌==◌, nat_lt, cond, List, [], ◌∷◌, ◌++◌, length, filter, ap, ◌∙◌, refl, append_assoc, arith, lines_of, words_of, is_blank, without_empty_last}
 use Rattle.std.specs.List.{list_all, slice_split, onto_first, join_with_byte, AllByRecursion}
-use Rattle.camp_script.specs.Lines.{lines_of, words_of, is_blank, without_empty_last}
 
 -- two tests that both pass
 pub both : (a b : Bool) → a ≡ true → b ≡ true → (a && b) ≡ true

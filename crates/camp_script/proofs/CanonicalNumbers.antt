@@ -1,8 +1,7 @@
 -- The decimal digits of the number of a line.
-use Rattle.camp_script.proofs.Common.{◌≡◌, ℕ, ◌+◌, ◌-◌, ◌*◌, ◌^◌, ◌<◌, ◌≤◌, Bool, true, nat_lt, List, length, arith, rules, nat_tests, list_all, decimal, is_between, value_of, is_line_number}
+use Rattle.camp_script.proofs.Common.{◌≡◌, ℕ, ◌+◌, ◌-◌, ◌*◌, ◌^◌, ◌<◌, ◌≤◌, Bool, true, nat_lt, List, length, arith, rules, nat_tests, list_all, decimal, is_between, value_of, is_line_number, fold}
 use Rattle.std.proofs.lemmas.Fmt.{digits_decimal, digits_value-decimal, length-decimal-le, decimal_nonempty}
 use Rattle.std.proofs.lemmas.Str.Parse.{IsNumeralModel, numerals_by_fold}
-use Rattle.std.specs.Prelude.{fold}
 use Rattle.camp_script.proofs.CanonicalLines.{both, all_weaker, is_word, is_word_byte}
 
 abbrev are_digits : List ℕ → Bool

@@ -1,10 +1,7 @@
 -- The first words of a line say all that the line asks for, where it lists other names.
-use Rattle.camp_script.proofs.Common.{◌≡◌, true, false, ◌==◌, ℕ, List, [], ◌∷◌, ◌++◌, length, slice_index, take, refl, sym, ap, subst, ◌∙◌, cond-true, cond-false, GivesFaultFirst, GroupLine, change_of, group_line_of, Progress, OpenRecord, LineFault, ScriptFault}
-use Rattle.std.specs.Prelude.{bytes_eq, codes, Result}
+use Rattle.camp_script.proofs.Common.{◌≡◌, true, false, ◌==◌, ℕ, List, [], ◌∷◌, ◌++◌, length, slice_index, take, refl, sym, ap, subst, ◌∙◌, cond-true, cond-false, GivesFaultFirst, GroupLine, change_of, group_line_of, Progress, OpenRecord, LineFault, ScriptFault, heeded, bytes_eq, codes, Result, Command, command, short_command, pull_line, obliterate_line, record_line, question}
 use Rattle.std.proofs.Math.Seq.{take-append_seam}
-use Rattle.camp_script.specs.Commands.{Command, command, short_command, pull_line, obliterate_line, record_line, question}
 use Rattle.camp_script.specs.Inside.Asking.{Asks}
-use Rattle.camp_script.specs.Inside.Steps.{heeded}
 use Rattle.camp_script.specs.declared.commands.Asked.{Asked}
 
 pub six_are_enough : (line : ℕ) (word : List ℕ) (words : List (List ℕ)) → short_command line word (take 6 words) ≡ short_command line word words

@@ -1,11 +1,9 @@
 -- Texts of histories that grow word by word and call by call.
-use Rattle.camp_script.proofs.Common.{◌≡◌, ℕ, ◌+◌, ◌-◌, ◌<◌, List, [], ◌∷◌, ◌++◌, length, get_or, take, drop, map, refl, sym, ap, subst, ◌∙◌, append_assoc, append-nil, arith, Result, flat_map-append, flat_map-cons, All, flat_map, join_with_byte, Call, entry_text, entries_text, spaced, HasText, line_text}
+use Rattle.camp_script.proofs.Common.{◌≡◌, ℕ, ◌+◌, ◌-◌, ◌<◌, List, [], ◌∷◌, ◌++◌, length, get_or, take, drop, map, refl, sym, ap, subst, ◌∙◌, append_assoc, append-nil, arith, Result, flat_map-append, flat_map-cons, All, flat_map, join_with_byte, Call, entry_text, entries_text, spaced, HasText, line_text, All-tail, HaveTexts, client_text, clients_text}
 use Rattle.std.proofs.lemmas.List.{get_or-map, length-map, length-take, take_rest}
-use Rattle.std.proofs.lemmas.List.Elements.{All-tail}
 use Rattle.std.specs.Borrow.{Bor}
 use Rattle.camp_object.specs.declared.faults.Fault.{Fault}
 use Rattle.camp_call.specs.declared.replies.Reply.{Reply}
-use Rattle.camp_script.specs.Outputs.{HaveTexts, client_text, clients_text}
 
 pub spaced-map : (words : List (Bor (List ℕ))) → flat_map (λ (word : Bor (List ℕ)). 32 ∷ word.now) words ≡ spaced (map (λ word. word.now) words)
 spaced-map [] = refl

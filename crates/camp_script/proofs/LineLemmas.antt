@@ -1,11 +1,8 @@
 -- The lines of bytes, each with the LF behind it, are those of a script.
-use Rattle.std.proofs.Common.{◌≡◌, ℕ, suc, ◌-◌, ◌<◌, Bool, true, false, cond, ◌==◌, List, [], ◌∷◌, length, take, drop, map, refl, sym, ap, ◌∙◌, arith, ⊎_elim, slice_index}
+use Rattle.camp_script.proofs.Common.{slice_split-cons_yes, slice_split-cons_no, length-slice_split, ◌≡◌, ℕ, suc, ◌-◌, ◌<◌, Bool, true, false, cond, ◌==◌, List, [], ◌∷◌, length, take, drop, map, refl, sym, ap, ◌∙◌, arith, ⊎_elim, slice_index, cases_Bool, lines_of, without_empty_last, without_end}
 use Rattle.std.specs.List.{slice_split, onto_first}
-use Rattle.std.proofs.lemmas.Bool.{cases_Bool}
-use Rattle.std.proofs.lemmas.List.Splits.{slice_split-cons_yes, slice_split-cons_no, length-slice_split}
 use Rattle.bstr.specs.Text.{line_len, lines_of as ended_lines}
 use Rattle.bstr.proofs.lemmas.LineLemmas.{lines-nil, lines-step}
-use Rattle.camp_script.specs.Lines.{lines_of, without_empty_last, without_end}
 
 -- ---- how lines grow at their front
 

@@ -1,7 +1,5 @@
 -- Names that are read word by word.
-use Rattle.std.proofs.Common.{◌≡◌, ◌≢◌, ℕ, List, [], ◌∷◌, ◌++◌, refl, sym, ap, subst, ◌∙◌, append_assoc, append-nil, Result, Ok, Err}
-use Rattle.camp_script.proofs.Common.{◌>>=◌, name_at, names_at, LineFault, ScriptFault, Line, Memory, Write}
-use Rattle.camp_script.specs.Gives.{IsFaultFirst, IsFaultOf}
+use Rattle.camp_script.proofs.Common.{◌>>=◌, name_at, names_at, LineFault, ScriptFault, Line, Memory, Write, ◌≡◌, ◌≢◌, ℕ, List, [], ◌∷◌, ◌++◌, refl, sym, ap, subst, ◌∙◌, append_assoc, append-nil, Result, Ok, Err, IsFaultFirst, IsFaultOf}
 
 -- reading the words comes to the names that are read, and then those of the rest
 abbrev pub NamesFrom : ℕ → List (List ℕ) → List (List ℕ) → List (List ℕ) → Type 0

@@ -1,12 +1,8 @@
 -- Texts that grow part by part.
-use Rattle.std.proofs.Common.{◌≡◌, ℕ, ◌+◌, ◌-◌, ◌<◌, ◌≤◌, List, [], ◌∷◌, ◌++◌, length, take, drop, codes, refl, sym, ap, ◌∙◌, append_assoc, append-nil, take-append-drop, None, Some, Result, Ok, Err, arith}
-use Rattle.camp_script.proofs.Common.{take_more, take_rest, take_all, flat_map-append, flat_map-cons, decimal, Extends}
+use Rattle.camp_script.proofs.Common.{take_more, take_rest, take_all, flat_map-append, flat_map-cons, decimal, Extends, ◌≡◌, ℕ, ◌+◌, ◌-◌, ◌<◌, ◌≤◌, List, [], ◌∷◌, ◌++◌, length, take, drop, codes, refl, sym, ap, ◌∙◌, append_assoc, append-nil, take-append-drop, None, Some, Result, Ok, Err, arith, Files, entries, len, len-entries, line_text, tree_text, file_text}
 use Rattle.std.proofs.lemmas.Option.{slice_get-get_or, slice_get_within, get_or_from_slice_get, none-some}
 use Rattle.std.specs.List.{flat_map, slice_get}
 use Rattle.std.specs.Result.{IsErr}
-use Rattle.std.specs.FinMap.{entries, len, len-entries}
-use Rattle.camp_base.specs.Trees.{Files}
-use Rattle.camp_script.specs.Texts.{line_text, tree_text, file_text}
 
 -- what was there stays in front
 pub kept : {E : Type 0} (old bytes more now new : List ℕ) (result : Result (Unit {0}) E) → IsErr result → now ≡ old ++ more → new ≡ now → Extends old bytes result new

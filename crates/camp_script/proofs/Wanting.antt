@@ -1,9 +1,5 @@
 -- Where memory may be wanted as a script is read.
-use Rattle.std.proofs.Common.{◌≡◌, ℕ, ◌+◌, ◌⊎◌, Bool, true, false, cond, List, [], ◌∷◌, refl, sym, ap, subst, ◌∙◌, Result, Ok, Err, inl, inr}
-use Rattle.camp_script.proofs.Common.{Command, Nothing, command, command_of, IsFaultFirst, HasNoFault, numbered, Progress, start, LineFault, ScriptFault, Memory}
-use Rattle.camp_script.specs.Lines.{lines_of, words_of, is_skipped}
-use Rattle.camp_script.specs.Wanting.{ScriptMayWant, first_command}
-use Rattle.camp_script.specs.Inside.Steps.{after_line, obeyed, SaysSomething}
+use Rattle.camp_script.proofs.Common.{Command, Nothing, command, command_of, IsFaultFirst, HasNoFault, numbered, Progress, start, LineFault, ScriptFault, Memory, ◌≡◌, ℕ, ◌+◌, ◌⊎◌, Bool, true, false, cond, List, [], ◌∷◌, refl, sym, ap, subst, ◌∙◌, Result, Ok, Err, inl, inr, lines_of, words_of, is_skipped, ScriptMayWant, first_command, after_line, obeyed, SaysSomething}
 
 -- what lines ask for first, the first of them of a number
 abbrev first_from : ℕ → List (List ℕ) → Result Command LineFault

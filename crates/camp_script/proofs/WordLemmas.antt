@@ -1,12 +1,7 @@
 -- The words of a line, taken one by one from its front.
-use Rattle.std.proofs.Common.{◌≡◌, ℕ, suc, ◌+◌, ◌-◌, ◌<◌, ◌≤◌, Bool, true, false, cond, not, List, [], ◌∷◌, length, get_or, take, drop, refl, sym, ap, ◌∙◌, arith, ⊎_elim, length-take, length-drop, get_or-drop, add-zero, Option, unwrap_or, ltb}
 use Rattle.std.specs.List.{slice_split, position, position_or_len, filter}
-use Rattle.std.proofs.lemmas.Bool.{cases_Bool, cases_lt, cond-true, cond-false, lt-ltb, le-ltb, not-true, not-false, both_ways}
 use Rattle.std.proofs.lemmas.List.{drop_all, drop_more, take_all, take_rest, nil_from_length}
-use Rattle.std.proofs.lemmas.List.Elements.{All-from_get_or}
-use Rattle.std.proofs.lemmas.List.Sums.{prefix_len-le-length, prefix_len_passes, prefix_len_stops}
-use Rattle.std.proofs.lemmas.List.Splits.{slice_split_first, slice_split_none, slice_split-cons_yes}
-use Rattle.camp_script.proofs.Common.{is_blank, words_of}
+use Rattle.camp_script.proofs.Common.{is_blank, words_of, ◌≡◌, ℕ, suc, ◌+◌, ◌-◌, ◌<◌, ◌≤◌, Bool, true, false, cond, not, List, [], ◌∷◌, length, get_or, take, drop, refl, sym, ap, ◌∙◌, arith, ⊎_elim, length-take, length-drop, get_or-drop, add-zero, Option, unwrap_or, ltb, cases_Bool, cases_lt, cond-true, cond-false, lt-ltb, le-ltb, not-true, not-false, both_ways, All-from_get_or, prefix_len-le-length, prefix_len_passes, prefix_len_stops, slice_split_first, slice_split_none, slice_split-cons_yes}
 
 -- the first place that passes, or the end
 pub position-at_end : (p : ℕ → Bool) (bytes : List ℕ) → unwrap_or (position p bytes) (length bytes) ≡ position_or_len p bytes

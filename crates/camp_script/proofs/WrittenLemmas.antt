@@ -1,7 +1,6 @@
 -- The canonical text of calls that grows part by part.
-use Rattle.camp_script.proofs.Common.{◌≡◌, ℕ, ◌+◌, ◌<◌, List, [], ◌∷◌, ◌++◌, codes, get_or, length, take, refl, sym, ap, subst, ◌∙◌, append_assoc, append-nil, Result, Ok, Err, flat_map-append, take_more, flat_map-cons, decimal, flat_map, AllByRecursion, Primitive, Add, Remove, Hunk, Call, call_text, change_text, change_body, record_text, section_text, spaced, line_text, Extends}
+use Rattle.camp_script.proofs.Common.{◌≡◌, ℕ, ◌+◌, ◌<◌, List, [], ◌∷◌, ◌++◌, codes, get_or, length, take, refl, sym, ap, subst, ◌∙◌, append_assoc, append-nil, Result, Ok, Err, flat_map-append, take_more, flat_map-cons, decimal, flat_map, AllByRecursion, Primitive, Add, Remove, Hunk, Call, call_text, change_text, change_body, record_text, section_text, spaced, line_text, Extends, CanStand, calls_of, kept_text}
 use Rattle.camp_script.specs.Inside.Written.{changes_text, group_text}
-use Rattle.camp_script.specs.Keeping.{CanStand, calls_of, kept_text}
 use Rattle.camp_script.proofs.HistoryLemmas.{joined, line_done}
 
 spaced-append : (names words : List (List ℕ)) → spaced (names ++ words) ≡ spaced names ++ spaced words

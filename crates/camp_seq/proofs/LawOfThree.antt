@@ -2,8 +2,7 @@
 use Rattle.camp_seq.proofs.Words.{List, [], ◌∷◌, All, All-head, All-tail, InRange, Swap, SwapAnywhere, Named, Reaches, here, further, HasRoom, LawOfThree, ◌++◌, length, drop_at, refl, subst, All-drop}
 use Rattle.camp_prim.specs.Laws.{SixOrders}
 use Rattle.camp_prim.proofs.ThreeAnywhere.{six_from_behind, six_from_before}
-use Rattle.camp_seq.proofs.ExchangeSteps.{at_front, exchanges_behind}
-use Rattle.camp_seq.proofs.RoomSteps.{reaches_through}
+use Rattle.camp_seq.proofs.RoomSteps.{reaches_through, at_front, exchanges_behind}
 
 -- two neighbours of a list that one with room reaches are in range
 two_in_range : (s before : List Named) (p q : Named) (after : List Named) → HasRoom s → Reaches s (before ++ p ∷ q ∷ after) → InRange p.prim × InRange q.prim

@@ -1,8 +1,7 @@
 -- What comes to the front of a list with room comes to the front of each list that is one exchange from it.
 use Rattle.camp_seq.proofs.Words.{◌≡◌, ◌≢◌, ◌⊎◌, List, [], ◌∷◌, ◌++◌, refl, sym, ap, ◌∙◌, subst, inl, inr, label_of, key_of, Label, Swap, Named, own_inverse, swap_unique, Exchanges, Fronts, Reaches, HasRoom, IsLeast, Norm, NormalForm, length, length-append, arith}
-use Rattle.camp_seq.proofs.ExchangeSteps.{at_front, exchanges_behind, exchanges_back}
 use Rattle.camp_seq.proofs.LawOfThree.{law_of_three}
-use Rattle.camp_seq.proofs.RoomSteps.{reaches_behind, front_reached, room_after, room_before, room_behind, room_exchanged, kept_by_swaps}
+use Rattle.camp_seq.proofs.RoomSteps.{reaches_behind, front_reached, room_after, room_before, room_behind, room_exchanged, kept_by_swaps, at_front, exchanges_behind, exchanges_back}
 
 -- equal, or one exchange apart
 abbrev pub Near : List Named → List Named → Type 0

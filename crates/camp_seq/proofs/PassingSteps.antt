@@ -1,7 +1,7 @@
 -- Steps of passing, from one neighbour to the next, and passing that stops.
 use Rattle.camp_seq.proofs.Words.{◌≡◌, ℕ, zero, suc, ◌+◌, ◌<◌, ◌≤◌, Bool, true, false, List, [], ◌∷◌, ◌++◌, length, take, drop, get_or, refl, sym, ap, ◌∙◌, subst, arith, append_assoc, take_more, take-append-drop, then_some, FindsPair, Swap, Named, swap_unique, own_inverse, Precedes, IsHeld, ComesUpTo, Passes, PassesAll}
 use Rattle.camp_seq.proofs.ListResults.{one_pass, one_pass_of_all}
-use Rattle.camp_seq.proofs.ListSteps.{DoneFrom, at_last, whole}
+pub use Rattle.camp_seq.proofs.ListSteps.{DoneFrom, all_done, at_last, at_next, drop_next, one_more_done, take_next, turned, whole}
 
 pub passes_push : (p : Named) (s s' : List Named) (r q q' r' : Named) → Passes p s s' r → Swap r q q' r' → Passes p (s ++ q ∷ []) (s' ++ q' ∷ []) r'
 passes_push p [] s' r q q' r' m w =

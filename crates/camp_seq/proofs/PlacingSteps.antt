@@ -1,12 +1,10 @@
 -- An element that is swapped to its place, from one neighbour to the next.
 use Rattle.camp_seq.proofs.Words.{◌≡◌, ◌≢◌, ℕ, ◌+◌, ◌-◌, ◌<◌, List, [], ◌∷◌, ◌++◌, length, take, drop, get_or, set, refl, sym, ap, ◌∙◌, subst, inl, inr, arith, append_assoc, length_push, length-set, length-take-le, take_at, drop_at, drop_all, drop_more, take_more, take_more_set, drop-set-lt, take-append-drop, take-take, Less, label_of, label_cmp, Swap, Named, own_inverse, swap_unique, ◌~◌, backwards, through, Precedes, IsHeld, ComesUpTo, InOrder, Follows, StartsAfter, StandsAt, StaysAt, Placed, HasRoom, ◌⊎◌, Label, not_below, not_above, not_below_both, IsLeast, Norm, Passes, Fronts, Reaches, further, here}
-use Rattle.camp_seq.proofs.ListSteps.{turned}
 use Rattle.camp_seq.proofs.ListEquivalence.{before, behind, passed}
-use Rattle.camp_seq.proofs.RoomSteps.{room_before, room_of_equivalent, kept_by_swaps, reaches_behind, front_reached, room_after, room_behind}
+use Rattle.camp_seq.proofs.RoomSteps.{room_before, room_of_equivalent, kept_by_swaps, reaches_behind, front_reached, room_after, room_behind, at_front}
 use Rattle.camp_seq.proofs.NormalForms.{exchanged_front, normal_form}
 use Rattle.camp_seq.proofs.LawOfThree.{law_of_three}
-use Rattle.camp_seq.proofs.PassingSteps.{precedes_back}
-use Rattle.camp_seq.proofs.ExchangeSteps.{at_front}
+use Rattle.camp_seq.proofs.PassingSteps.{precedes_back, turned}
 
 -- what comes to the front of a list with room comes to the front of each equivalent list
 front_of_equivalent : (s t : List Named) → s ~ t → HasRoom s → (label : Label) (y : Named) (u : List Named) → Fronts label s y u → (v : List Named) × Fronts label t y v

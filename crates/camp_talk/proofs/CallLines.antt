@@ -1,12 +1,6 @@
 -- The call of a command, in its bytes.
-use Rattle.camp_talk.proofs.Words.{◌≡◌, ℕ, zero, suc, ◌+◌, ◌-◌, ◌≤◌, Bool, true, false, cond, ◌==◌, List, [], ◌∷◌, length, drop, codes, onto_first, position_or_len, is_blank, lines_of, words_of, begins_with, script_of, script_of_lines, lines-feed, lines-other, first_of}
-use Rattle.std.proofs.Common.{refl, sym, ap, ◌∙◌, arith, ⊎_elim, length-drop}
-use Rattle.std.proofs.lemmas.Bool.{cases_Bool}
-use Rattle.std.proofs.lemmas.List.{drop-drop}
-use Rattle.std.proofs.lemmas.List.Sums.{prefix_len-le-length}
-use Rattle.std.proofs.Math.Seq.{drop-nil}
+use Rattle.camp_talk.proofs.Words.{◌≡◌, ℕ, zero, suc, ◌+◌, ◌-◌, ◌≤◌, Bool, true, false, cond, ◌==◌, List, [], ◌∷◌, length, drop, codes, onto_first, position_or_len, is_blank, lines_of, words_of, begins_with, script_of, script_of_lines, lines-feed, lines-other, first_of, call_line, call_lines, script_in, refl, sym, ap, ◌∙◌, arith, ⊎_elim, length-drop, cases_Bool, drop-drop, prefix_len-le-length, drop-nil}
 use Rattle.camp_script.specs.Behind.{behind_blanks, behind_word}
-use Rattle.camp_talk.specs.Cutting.{call_line, call_lines, script_in}
 
 -- ---- the call of a line is its back
 

@@ -1,10 +1,7 @@
 -- The first line of a text that is counted.
-use Rattle.std.proofs.Common.{◌≡◌, ◌≢◌, ◌<◌, ◌^◌, ℕ, true, not, ◌==◌, nat_lt, List, [], ◌∷◌, ◌++◌, length, ap, ◌∙◌, refl, ne_eqb}
-use Rattle.camp_talk.proofs.Words.{All-head, All-tail, is_blank, lines_of}
+use Rattle.camp_talk.proofs.Words.{All-head, All-tail, is_blank, lines_of, ◌≡◌, ◌≢◌, ◌<◌, ◌^◌, ℕ, true, not, ◌==◌, nat_lt, List, [], ◌∷◌, ◌++◌, length, ap, ◌∙◌, refl, ne_eqb, and_parts, All, list_all}
 use Rattle.std.proofs.lemmas.List.Folds.{list_all-append}
 use Rattle.std.specs.Fmt.{decimal}
-use Rattle.std.proofs.lemmas.Bool.{and_parts}
-use Rattle.std.specs.List.{All, list_all}
 use Rattle.camp_script.proofs.CanonicalLines.{all_weaker, both, first_line, is_one_line, is_word_byte}
 use Rattle.camp_script.proofs.CanonicalNumbers.{decimal_is_word}
 use Rattle.camp_talk.specs.Laws.{CountsAreTold}

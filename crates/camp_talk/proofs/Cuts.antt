@@ -1,7 +1,5 @@
 -- Lines, and what a body and a group take of them.
-use Rattle.camp_talk.proofs.Words.{◌≡◌, ◌≢◌, ℕ, Bool, true, false, cond, List, [], ◌∷◌, ◌++◌, length, drop, not, refl, sym, ap, ◌∙◌, append_assoc, append-nil, ne_eqb, All, flat_map, onto_first, drop-append_seam, All-head, All-tail, lines_of, words_of, lines-feed, lines-other, IsLine, ended, with_last}
-use Rattle.camp_script.specs.Pieces.{Piece, begins_edit, pieces, up_to}
-use Rattle.camp_talk.specs.Cutting.{body_of, ends_body, ends_group, entries_of, entry_lines, group_of}
+use Rattle.camp_talk.proofs.Words.{◌≡◌, ◌≢◌, ℕ, Bool, true, false, cond, List, [], ◌∷◌, ◌++◌, length, drop, not, refl, sym, ap, ◌∙◌, append_assoc, append-nil, ne_eqb, All, flat_map, onto_first, drop-append_seam, All-head, All-tail, lines_of, words_of, lines-feed, lines-other, IsLine, ended, with_last, body_of, ends_body, ends_group, entries_of, entry_lines, group_of, Piece, begins_edit, pieces, up_to}
 
 -- ---- the lines of bytes
 

@@ -1,11 +1,10 @@
 -- A command that was read is one: by its first line, and what that takes with it.
-use Rattle.camp_talk.proofs.Words.{◌≡◌, ℕ, Bool, true, false, List, [], ◌∷◌, ◌++◌, length, map, Option, Result, Ok, Err, refl, sym, ap, subst, ◌∙◌, arith, Call, lines_of, script_of_lines, LineFault, Ends, ReadsHeld, ReadsLine, ReadsLines, ReadsPart, ended, last_part, with_last}
+use Rattle.camp_talk.proofs.Words.{◌≡◌, ℕ, Bool, true, false, List, [], ◌∷◌, ◌++◌, length, map, Option, Result, Ok, Err, refl, sym, ap, subst, ◌∙◌, arith, Call, lines_of, script_of_lines, LineFault, Ends, ReadsHeld, ReadsLine, ReadsLines, ReadsPart, ended, last_part, with_last, TakesAll, as_read, call_line, script_in, taken, taken_at, taken_by}
 use Rattle.camp_script.specs.declared.faults.FaultKind.{FaultKind}
 use Rattle.camp_script.specs.declared.faults.FaultKind.TheVariants.{UnknownCommand, WrongNumberOfWords, BadName}
 use Rattle.camp_script.specs.declared.faults.FaultKind.TheVariants.{BadPath, BadNumber, BadLine, BadEdit}
 use Rattle.camp_script.specs.declared.faults.FaultKind.TheVariants.{EditNotEnded, TooManyClients, TooManyCommands}
 use Rattle.camp_script.specs.declared.faults.FaultKind.TheVariants.{BadGroup, GroupNotEnded}
-use Rattle.camp_talk.specs.Cutting.{TakesAll, as_read, call_line, script_in, taken, taken_at, taken_by}
 use Rattle.camp_talk.proofs.Cuts.{EndsWithLine, ends_with_line}
 use Rattle.camp_talk.proofs.Parts.{behind, ends_behind, lines_are_read, lines_held, none_left}
 

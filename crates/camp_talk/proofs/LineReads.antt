@@ -1,12 +1,7 @@
 -- A line is read, part by part, and as much of it is held as is read.
-use Rattle.camp_talk.proofs.Words.{◌≡◌, ◌≢◌, ℕ, zero, suc, ◌+◌, ◌-◌, ◌<◌, ◌≤◌, min, Bool, true, false, cond, ◌==◌, nat_lt, List, [], ◌∷◌, ◌++◌, length, take, drop, position_or_len, Consumes, Consumes-trans, drop-append_seam, take-append_seam, All-append, All-cons, All-nil, as_read, Seen}
-use Rattle.std.proofs.Common.{Option, refl, sym, ap, subst, ◌∙◌, append_assoc, append-nil, arith, take_all, take-take, length-append, length-take-le, eqb-true, eq-eqb, true≢false, zero-le}
+use Rattle.camp_talk.proofs.Words.{◌≡◌, ◌≢◌, ℕ, zero, suc, ◌+◌, ◌-◌, ◌<◌, ◌≤◌, min, Bool, true, false, cond, ◌==◌, nat_lt, List, [], ◌∷◌, ◌++◌, length, take, drop, position_or_len, Consumes, Consumes-trans, drop-append_seam, take-append_seam, All-append, All-cons, All-nil, as_read, Seen, Option, refl, sym, ap, subst, ◌∙◌, append_assoc, append-nil, arith, take_all, take-take, length-append, length-take-le, eqb-true, eq-eqb, true≢false, zero-le, take_more, passes_at_first, Ends, EndsAt, IsLine, ReadsLine, Takes, feed_of, ended, seen_of, slice_set, not}
 use Rattle.std.proofs.lemmas.Bool.Decides.{nat_tests}
-use Rattle.std.proofs.lemmas.List.{take_more}
-use Rattle.std.proofs.lemmas.List.Sums.{passes_at_first}
-use Rattle.std.specs.Prelude.{slice_set, not}
 use Rattle.camp_talk.proofs.Parts.{ends_behind}
-use Rattle.camp_talk.specs.Inside.Parts.{Ends, EndsAt, IsLine, ReadsLine, Takes, feed_of, ended, seen_of}
 use Rattle.camp_talk.specs.declared.lines.Seen.TheVariants as seen
 
 is_less : (a b : ℕ) → nat_lt a b ≡ true → a < b
@@ -126,7 +121,7 @@ module _ (a b : Option (List ℕ)) where
 
 module _ (a b c : Option (List ℕ)) (room : ℕ) (old mid new : List ℕ) where
   -- a part of a line behind a part
-  pub taken_behind : (left : ℕ) (met : Seen) → Takes a b room seen.Part old mid → left ≡ room - (length mid - length old)
+  taken_behind : (left : ℕ) (met : Seen) → Takes a b room seen.Part old mid → left ≡ room - (length mid - length old)
       → Takes b c left met mid new → Takes a c room met old new
   taken_behind left met first is then = record {
     line = first.line ++ then.line;
@@ -149,6 +144,12 @@ module _ (a b c : Option (List ℕ)) (room : ℕ) (old mid new : List ℕ) where
       at seen.Part ends = tt
       at seen.Line ends = tt
       at seen.End ends = ends_behind a b c (first.line ++ []) first.consumes ends
+
+  -- where so much of the room is left
+  pub taken_on : (start len : ℕ) {told met : Seen} → start ≡ length old → len ≡ length mid → Takes a b room seen.Part old mid → told ≡ met
+      → Takes b c (room - (len - start)) told mid new → Takes a c room met old new
+  taken_on start len {told} {met} starts ends first is then =
+      taken_behind (room - (len - start)) met first (omega arith) (subst (λ (seen : Seen). Takes b c (room - (len - start)) seen mid new) is then)
 
 -- ---- a line that is too long is cut
 

@@ -1,11 +1,9 @@
 -- Commands that are loaded, one behind another.
-use Rattle.camp_talk.proofs.Words.{◌≡◌, ◌⊎◌, inl, inr, ℕ, ◌+◌, Bool, true, false, List, [], ◌∷◌, ◌++◌, Option, Result, Ok, Err, refl, sym, ap, subst, ◌∙◌, append-nil, true≢false, flat_map, Consumes, Consumes-nil, Consumes-trans, flat_map-append, All-append, All-cons, All-nil, Call, reply_text, LineFault, Answers, Standing, Tells, TellsWant, asked_by, IsCommand, IsLeft, Entries, Exchange, Asked}
+use Rattle.camp_talk.proofs.Words.{◌≡◌, ◌⊎◌, inl, inr, ℕ, ◌+◌, Bool, true, false, List, [], ◌∷◌, ◌++◌, Option, Result, Ok, Err, refl, sym, ap, subst, ◌∙◌, append-nil, true≢false, flat_map, Consumes, Consumes-nil, Consumes-trans, flat_map-append, All-append, All-cons, All-nil, Call, reply_text, LineFault, Answers, Standing, Tells, TellsWant, asked_by, IsCommand, IsLeft, Entries, Exchange, Asked, DoesOne, Hears, LoadsOne, Done, Fails, TellsSuccess, tells_failure}
 use Rattle.camp_call.specs.declared.replies.Reply.{Reply}
 use Rattle.camp_call.specs.declared.replies.Reply.TheVariants as reply
 use Rattle.camp_object.specs.Asking.{Ask, alone_at}
 use Rattle.camp_repo.specs.Objects.{repository}
-use Rattle.camp_talk.specs.Inside.Hearing.{DoesOne, Hears, LoadsOne}
-use Rattle.camp_talk.specs.Loads.{Done, Fails, TellsSuccess, tells_failure}
 use Rattle.camp_talk.specs.declared.questions.Asked.TheVariants as asked
 use Rattle.camp_talk.proofs.Turns.{one_more}
 
@@ -39,16 +37,16 @@ failure_keeps before command text after answers fails =
 
 -- ---- one command
 
-module _ (a b : Option (List ℕ)) (before after : Standing) (text : List ℕ) where
-  pub one_done : (whole : Bool) → Hears a b before whole text after → TellsSuccess text → LoadsOne a b before (Ok whole) after
-  one_done true hears well = record {
+module _ {a b : Option (List ℕ)} {before after : Standing} {text : List ℕ} where
+  done : (whole : Bool) → Hears a b before whole text after → TellsSuccess text → LoadsOne a b before (Ok whole) after
+  done true hears well = record {
     said = record { command = hears.command; answer = text };
     is = hears.reads.1;
     answers = hears.answers;
     well = well;
     reads = hears.reads.0;
   }
-  one_done false hears well = record {
+  done false hears well = record {
     said = record { command = hears.command; answer = text };
     is = hears.reads.1;
     after = after;
@@ -64,9 +62,13 @@ module _ (a b : Option (List ℕ)) (before after : Standing) (text : List ℕ) w
   is_read true hears = (hears.reads.0, inl hears.reads.1)
   is_read false hears = (hears.reads.0, inr hears.reads.1)
 
-  pub one_fails : (whole : Bool) (line : ℕ) → Hears a b before whole text after → tells_failure text ≡ true
+  pub one_done : {said : List ℕ} {whole : Bool} → Hears a b before whole said after → said ≡ text → TellsSuccess text → LoadsOne a b before (Ok whole) after
+  one_done {whole = whole} hears is well = done whole (subst (λ (text : List ℕ). Hears a b before whole text after) is hears) well
+
+  pub one_fails : {said : List ℕ} {whole : Bool} {line : ℕ} → Hears a b before whole said after → said ≡ text → tells_failure text ≡ true
       → line ≡ before.lines + 1 → Fails a b before line text after.history
-  one_fails whole line hears failure at =
+  one_fails {whole = whole} told is failure at =
+      let hears = subst (λ (text : List ℕ). Hears a b before whole text after) is told in
       let read = is_read whole hears in (
       record {
         command = hears.command;

@@ -1,10 +1,5 @@
 -- What is read of a command, part behind part.
-use Rattle.camp_talk.proofs.Words.{◌≡◌, ◌≢◌, ℕ, ◌-◌, Bool, true, false, cond, nat_lt, List, [], ◌∷◌, ◌++◌, length, map, take, drop, codes, All, Consumes, Consumes-nil, Consumes-trans, drop-append_seam, take-append_seam, flat_map-append, lines_of, words_of, begins_edit, begins_with, Part, More, Whole, Cut}
-use Rattle.std.proofs.Common.{Option, None, Some, refl, sym, ap, subst, ◌∙◌, append_assoc, append-nil, arith, length-append}
-use Rattle.std.proofs.lemmas.List.{map-append}
-use Rattle.std.proofs.lemmas.List.Elements.{All-append, All-cons, All-drop, All-head, All-nil, All-tail, All-take}
-use Rattle.camp_talk.specs.Cutting.{as_read, body_of, ends_body, entries_of, group_of, lines_in}
-use Rattle.camp_talk.specs.Inside.Parts.{Ends, IsLine, ReadsLine, ReadsLines, ReadsPart, Uses, ended, entry_part, with_last}
+use Rattle.camp_talk.proofs.Words.{◌≡◌, ◌≢◌, ℕ, ◌-◌, Bool, true, false, cond, nat_lt, List, [], ◌∷◌, ◌++◌, length, map, take, drop, codes, All, Consumes, Consumes-nil, Consumes-trans, drop-append_seam, take-append_seam, flat_map-append, lines_of, words_of, begins_edit, begins_with, Part, More, Whole, Cut, as_read, body_of, ends_body, entries_of, group_of, lines_in, Option, None, Some, refl, sym, ap, subst, ◌∙◌, append_assoc, append-nil, arith, length-append, map-append, All-append, All-cons, All-drop, All-head, All-nil, All-tail, All-take, Ends, IsLine, ReadsLine, ReadsLines, ReadsPart, Uses, ended, entry_part, with_last}
 use Rattle.camp_talk.proofs.Cuts.{body_ends, body_goes, body_left, entry_alone, entry_with, group_ends, group_goes, group_left, lines_read, with_last-append}
 
 -- ---- lines as they are read
@@ -92,7 +87,7 @@ module _ (a b c : Option (List ℕ)) (old mid new : List ℕ) where
 
   -- a part behind lines with which the taking goes on
   module _ (take : List (List ℕ) → List (List ℕ)) where
-    pub part_behind : (part : Part) → ReadsPart a b take More old mid → ReadsPart b c take part mid new
+    part_behind : (part : Part) → ReadsPart a b take More old mid → ReadsPart b c take part mid new
         → ReadsPart a c take part old new
     part_behind More (lines, first, goes) (more, then, on) = (
       lines ++ more,
@@ -113,6 +108,9 @@ module _ (a b c : Option (List ℕ)) (old mid new : List ℕ) where
           ∙ sym (with_last-append lines more last),
       ends_behind a b c (ended first.whole ++ first.left) first.consumes end,
     )
+
+    pub part_on : {told part : Part} → ReadsPart a b take More old mid → told ≡ part → ReadsPart b c take told mid new → ReadsPart a c take part old new
+    part_on {told} {part} first is then = part_behind part first (subst (λ (p : Part). ReadsPart b c take p mid new) is then)
 
 -- nothing is read yet
 pub no_lines : (a : Option (List ℕ)) (old : List ℕ) → ReadsLines a a old old [] []

@@ -1,11 +1,10 @@
 -- What questions are told.
-use Rattle.camp_talk.proofs.Words.{◌≡◌, ℕ, List, Result, Ok, Err, Vec, IfOk, subst, reply_text}
+use Rattle.camp_talk.proofs.Words.{◌≡◌, ℕ, List, Result, Ok, Err, Vec, IfOk, subst, reply_text, IsTold}
 use Rattle.camp_call.specs.declared.replies.Refusal.{Refusal}
 use Rattle.camp_call.specs.declared.replies.Reply.TheVariants as reply
 use Rattle.camp_questions.specs.Answers.{AnswerOf, Tells}
 use Rattle.camp_questions.specs.declared.faults.Unanswered.{Unanswered}
 use Rattle.camp_questions.specs.declared.faults.Unanswered.TheVariants as fault
-use Rattle.camp_talk.specs.Told.{IsTold}
 
 module _ {A Z E : Type 0} (text_of : A → List ℕ) (ComesTo : AnswerOf A → Type 0) where
   -- an answer is told by its text

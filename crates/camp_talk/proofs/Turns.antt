@@ -1,10 +1,5 @@
 -- Turns of a conversation, one behind another.
-use Rattle.std.proofs.Common.{◌≡◌, ◌⊎◌, inl, inr, ℕ, ◌+◌, Bool, true, false, List, [], ◌∷◌, ◌++◌, length, Option, Result, Ok, Err, Vec, IfOk, OnErr}
-use Rattle.camp_talk.proofs.Words.{refl, sym, ap, subst, ◌∙◌, append-nil, flat_map, flat_map-append, Gives, lines_of, LineFault, ScriptFault, Answers, Standing, Tells, TellsWant, asked_by, IsCommand, IsLeft, Entries, said_text, Asked}
-use Rattle.std.specs.Io.KnownBytes.{Appends, Consumes}
-use Rattle.std.proofs.KnownBytes.{Appends-nil, Appends-trans, Consumes-nil, Consumes-trans, Keeps-refl}
-use Rattle.camp_talk.specs.Inside.Parts.{ReadsCommand}
-use Rattle.camp_talk.specs.Talks.{AppendsSome, EndsSo, Exchange, Follow, Holds, Stops, Turns}
+use Rattle.camp_talk.proofs.Words.{refl, sym, ap, subst, ◌∙◌, append-nil, flat_map, flat_map-append, Gives, lines_of, LineFault, ScriptFault, Answers, Standing, Tells, TellsWant, asked_by, IsCommand, IsLeft, Entries, said_text, Asked, ◌≡◌, ◌⊎◌, inl, inr, ℕ, ◌+◌, Bool, true, false, List, [], ◌∷◌, ◌++◌, length, Option, Result, Ok, Err, Vec, IfOk, OnErr, ReadsCommand, Appends, Consumes, Appends-nil, Appends-trans, Consumes-nil, Consumes-trans, Keeps-refl, AppendsSome, EndsSo, Exchange, Follow, Holds, Stops, Turns}
 use Rattle.camp_talk.specs.declared.faults.TalkFault.{TalkFault}
 use Rattle.camp_talk.specs.declared.faults.TalkFault.TheVariants.{Memory, Read, Write}
 

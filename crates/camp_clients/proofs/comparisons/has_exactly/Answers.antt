@@ -1,6 +1,5 @@
-use Rattle.std.proofs.Common.{◌≡◌, ◌<◌, length, arith, subst, below_more, refl, replicate}
 use Rattle.std.proofs.lemmas.List.{length-set}
-use Rattle.camp_clients.proofs.Words.{told, own_at, done_at, lists_of, section_of}
+use Rattle.camp_clients.proofs.Words.{told, own_at, done_at, lists_of, section_of, ◌≡◌, ◌<◌, length, arith, subst, below_more, refl, replicate}
 use Rattle.camp_clients.proofs.Comparing.{found_none, found_more, differs_no_more, exact_where_none_left, none_left, zeros, each_more}
 use Rattle.camp_clients.proofs.Vectors.{length-lists_of}
 use Rattle.camp_clients.proofs.comparisons.has_exactly.Goals as goal

@@ -1,6 +1,5 @@
 use Rattle.camp_clients.proofs.Words.{◌≡◌, sym, ◌∙◌, subst, refl, IsFront, own, IsSeatOf, history_of, sight_of, IsMet, front_front, front_self}
-use Rattle.camp_clients.proofs.Gathering.{zip_push, all_first, all_rest, ok_holds}
-use Rattle.camp_clients.proofs.Meeting.{met_still}
+use Rattle.camp_clients.proofs.Meeting.{met_still, zip_push, all_first, all_rest, ok_holds}
 use Rattle.camp_clients.proofs.heads.meets_each.Goals as goal
 
 pub loop-client-preserved : goal.loop-client-preserved

@@ -1,7 +1,5 @@
-use Rattle.camp_clients.proofs.Words.{◌≡◌, ℕ, ◌<◌, [], length, refl, sym, ◌∙◌, ap, subst, arith, IsFront, IsLegal, own, Asks, IsSeatOf, history_of, sight_of, lists_of, section_of, Section}
-use Rattle.camp_clients.specs.Meeting.{Ran, IsMet, HasMet, caller_of}
-use Rattle.camp_clients.proofs.Gathering.{zip_all, zip_length}
-use Rattle.camp_clients.proofs.Meeting.{can_begin, clients_hold, none_other, shared_run}
+use Rattle.camp_clients.proofs.Words.{◌≡◌, ℕ, ◌<◌, [], length, refl, sym, ◌∙◌, ap, subst, arith, IsFront, own, Asks, IsSeatOf, history_of, sight_of, lists_of, section_of, Section, Ran, IsMet, HasMet, caller_of}
+use Rattle.camp_clients.proofs.Meeting.{can_begin, clients_hold, none_other, shared_run, zip_all, zip_length}
 use Rattle.camp_clients.proofs.Vectors.{lists_map, section_at, length-lists_of}
 use Rattle.camp_clients.proofs.heads.over_head.Goals as goal
 

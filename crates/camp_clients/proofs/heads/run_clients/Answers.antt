@@ -1,6 +1,5 @@
 use Rattle.camp_clients.proofs.Words.{sym, ◌∙◌, sight_of, Ran, lists_of}
-use Rattle.camp_clients.proofs.Gathering.{ok_map, gathered_alone}
-use Rattle.camp_clients.proofs.Meeting.{zip_granted}
+use Rattle.camp_clients.proofs.Meeting.{zip_granted, ok_map, gathered_alone}
 use Rattle.camp_clients.proofs.heads.run_clients.Goals as goal
 
 pub returns : goal.returns

@@ -1,4 +1,4 @@
-use Rattle.camp_questions.proofs.Words.{List, ◌∙◌, refl, sym, ap, subst, get, Catch, LeadsTo, AreAnnotated, annotated, names_of_lines}
+use Rattle.camp_questions.proofs.Words.{List, ◌∙◌, refl, sym, ap, subst, get, Catch, LeadsTo, AreAnnotated, annotated, names_of_lines, IsErrAnd, Result, Some, ℕ, ◌≡◌, Files, Tells, Annotated, Unanswered, Memory, Contents, catches_of}
 use Rattle.camp_questions.specs.declared.annotations.Annotated.TheVariants.{File}
 use Rattle.camp_questions.proofs.Answering.{are_annotated, memory_told}
 use Rattle.camp_questions.proofs.annotations.annotate.Goals as goal
@@ -12,23 +12,17 @@ pub names_of_lines-requires : goal.names_of_lines-requires
 names_of_lines-requires c =
     (c.tree.result.now, subst (λ l. LeadsTo l c.tree.result.now) (sym c.catches.ensures.value) c.tree.ensures.exact)
 
+refused : (state : Contents) (branch path : List ℕ) {catches : List Catch} (tree : Files) (result : Result Annotated Unanswered) → catches_of state.branches branch ≡ Some catches → LeadsTo catches tree
+    → IsErrAnd result (λ why. why ≡ Memory) → Tells (AreAnnotated state branch path) result
+refused state branch path {catches} tree result found leads is =
+    let told = annotated (get tree path) (names_of_lines path catches) in
+    memory_told (AreAnnotated state branch path) result told is (are_annotated state branch path catches tree told found leads refl)
+
 pub returns-in_err-names : goal.returns-in_err-names
-returns-in_err-names c =
-    let branch : List Catch = c.in_ok-branch.branch.now in
-    let told = annotated (get c.tree.result.now c.args.path.now) (names_of_lines c.args.path.now branch) in
-    record {
-      exact = memory_told (AreAnnotated c.args.state.now c.args.branch.now c.args.path.now) c.from_residual-in_err-names.result told c.from_residual-in_err-names.ensures.1
-          (are_annotated c.args.state.now c.args.branch.now c.args.path.now branch c.tree.result.now told c.in_ok-branch.ensures c.tree.ensures.exact refl);
-    }
+returns-in_err-names c = record { exact = refused c.args.state.now c.args.branch.now c.args.path.now c.tree.result.now c.from_residual-in_err-names.result c.in_ok-branch.ensures c.tree.ensures.exact c.from_residual-in_err-names.ensures.1 }
 
 pub returns-in_err-lines : goal.returns-in_err-lines
-returns-in_err-lines c =
-    let branch : List Catch = c.in_ok-branch.branch.now in
-    let told = annotated (get c.tree.result.now c.args.path.now) (names_of_lines c.args.path.now branch) in
-    record {
-      exact = memory_told (AreAnnotated c.args.state.now c.args.branch.now c.args.path.now) c.from_residual-in_err-lines.result told c.from_residual-in_err-lines.ensures.1
-          (are_annotated c.args.state.now c.args.branch.now c.args.path.now branch c.tree.result.now told c.in_ok-branch.ensures c.tree.ensures.exact refl);
-    }
+returns-in_err-lines c = record { exact = refused c.args.state.now c.args.branch.now c.args.path.now c.tree.result.now c.from_residual-in_err-lines.result c.in_ok-branch.ensures c.tree.ensures.exact c.from_residual-in_err-lines.ensures.1 }
 
 pub returns : goal.returns
 returns c =

@@ -1,5 +1,4 @@
-use Rattle.camp_questions.proofs.Words.{◌≡◌, ◌∙◌, List, map, refl, subst, slice_cmp, nat_cmp, map_of, Catch, name_of, names_in, ComeToFront, StickOn}
-use Rattle.camp_catch.specs.Arranging.{Arrange, ArrangeSticks}
+use Rattle.camp_questions.proofs.Words.{◌≡◌, ◌∙◌, List, map, refl, subst, slice_cmp, nat_cmp, map_of, Catch, name_of, names_in, ComeToFront, StickOn, Arrange, ArrangeSticks}
 use Rattle.camp_questions.proofs.BranchGrowths.{to_front}
 use Rattle.camp_questions.proofs.Growing.{all_grown, fewer_to_come, one_grown}
 use Rattle.camp_questions.proofs.dependencies.grown_to_front.Goals as goal

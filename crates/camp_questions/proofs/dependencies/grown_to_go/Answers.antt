@@ -1,5 +1,4 @@
-use Rattle.camp_questions.proofs.Words.{List, map, subst, Err, slice_cmp, nat_cmp, map_of, Catch, name_of, names_in, AreHeldIn, CanGo}
-use Rattle.camp_branch.specs.Obliterating.{ObliterateGives}
+use Rattle.camp_questions.proofs.Words.{List, map, subst, Err, slice_cmp, nat_cmp, map_of, Catch, name_of, names_in, AreHeldIn, CanGo, ObliterateGives}
 use Rattle.camp_questions.proofs.BranchGrowths.{to_go}
 use Rattle.camp_questions.proofs.Growing.{all_grown, fewer_to_come, one_grown}
 use Rattle.camp_questions.proofs.dependencies.grown_to_go.Goals as goal

@@ -1,36 +1,20 @@
-use Rattle.camp_questions.proofs.Words.{List, map, Catch, name_of, names_in}
-use Rattle.camp_questions.specs.Dependencies.{AreNeeded, ComeToFront, Needs, StickOn}
-use Rattle.camp_questions.proofs.Answering.{are_related, memory_told}
+use Rattle.camp_questions.proofs.Words.{List, map, Catch, name_of, names_in, ComeToFront, Needs, StickOn}
+use Rattle.camp_questions.proofs.Answering.{are_related, related_refused}
 use Rattle.camp_questions.proofs.BranchGrowths.{needs_are_determined, to_front}
 use Rattle.camp_questions.proofs.Growing.{grown_in_order}
 use Rattle.camp_questions.proofs.dependencies.needs.Goals as goal
 
 pub returns-in_err-named : goal.returns-in_err-named
 returns-in_err-named c =
-    let branch : List Catch = c.in_ok-branch.branch.now in
-    let one = needs_are_determined branch c.args.names.now in
-    record {
-      exact = memory_told (AreNeeded c.args.state.now c.args.branch.now c.args.names.now) c.from_residual-in_err-named.result one.0 c.from_residual-in_err-named.ensures.1
-          (are_related Needs c.args.state.now c.args.branch.now c.args.names.now branch one.0 c.in_ok-branch.ensures one.1);
-    }
+    record { exact = related_refused Needs c.from_residual-in_err-named.result (needs_are_determined c.in_ok-branch.branch.now c.args.names.now) c.in_ok-branch.ensures c.from_residual-in_err-named.ensures.1 }
 
 pub returns-in_err-needed : goal.returns-in_err-needed
 returns-in_err-needed c =
-    let branch : List Catch = c.in_ok-branch.branch.now in
-    let one = needs_are_determined branch c.args.names.now in
-    record {
-      exact = memory_told (AreNeeded c.args.state.now c.args.branch.now c.args.names.now) c.from_residual-in_err-needed.result one.0 c.from_residual-in_err-needed.ensures.1
-          (are_related Needs c.args.state.now c.args.branch.now c.args.names.now branch one.0 c.in_ok-branch.ensures one.1);
-    }
+    record { exact = related_refused Needs c.from_residual-in_err-needed.result (needs_are_determined c.in_ok-branch.branch.now c.args.names.now) c.in_ok-branch.ensures c.from_residual-in_err-needed.ensures.1 }
 
 pub returns-in_err-in_order : goal.returns-in_err-in_order
 returns-in_err-in_order c =
-    let branch : List Catch = c.in_ok-branch.branch.now in
-    let one = needs_are_determined branch c.args.names.now in
-    record {
-      exact = memory_told (AreNeeded c.args.state.now c.args.branch.now c.args.names.now) c.from_residual-in_err-in_order.result one.0 c.from_residual-in_err-in_order.ensures.1
-          (are_related Needs c.args.state.now c.args.branch.now c.args.names.now branch one.0 c.in_ok-branch.ensures one.1);
-    }
+    record { exact = related_refused Needs c.from_residual-in_err-in_order.result (needs_are_determined c.in_ok-branch.branch.now c.args.names.now) c.in_ok-branch.ensures c.from_residual-in_err-in_order.ensures.1 }
 
 pub returns : goal.returns
 returns c =

@@ -1,6 +1,5 @@
-use Rattle.camp_questions.proofs.Words.{arith, drop, length, ◌≤◌, slice_cmp, nat_cmp, map_of, is_among}
+use Rattle.camp_questions.proofs.Words.{arith, drop, length, ◌≤◌, slice_cmp, nat_cmp, map_of, is_among, all_filled, none_filled, one_listed}
 use Rattle.std.proofs.Math.ListN.{drop_of_length-le}
-use Rattle.camp_repo.proofs.NameSteps.{all_filled, none_filled, one_listed}
 use Rattle.camp_questions.proofs.dependencies.set_of.Goals as goal
 
 pub loop-name-init : goal.loop-name-init

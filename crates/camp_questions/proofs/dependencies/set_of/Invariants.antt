@@ -1,5 +1,4 @@
-use Rattle.camp_questions.proofs.Words.{drop, slice_cmp, nat_cmp, map_of, is_among}
-use Rattle.camp_repo.proofs.NameSteps.{IsFilled}
+use Rattle.camp_questions.proofs.Words.{drop, slice_cmp, nat_cmp, map_of, is_among, IsFilled}
 use Rattle.camp_questions.proofs.dependencies.set_of.Given as goal
 
 abbrev pub invariant-loop-name : goal.invariant-loop-name

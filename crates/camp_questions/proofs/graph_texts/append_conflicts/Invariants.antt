@@ -1,5 +1,4 @@
-use Rattle.camp_questions.proofs.Words.{◌≡◌, ◌++◌, take, string_bytes, flat_map}
-use Rattle.camp_questions.specs.GraphTexts.{conflict_text}
+use Rattle.camp_questions.proofs.Words.{◌≡◌, ◌++◌, take, string_bytes, flat_map, conflict_text}
 use Rattle.camp_questions.proofs.graph_texts.append_conflicts.Given as goal
 
 abbrev pub invariant-loop-pair : goal.invariant-loop-pair

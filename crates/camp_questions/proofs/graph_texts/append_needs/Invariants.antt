@@ -1,6 +1,4 @@
-use Rattle.camp_questions.proofs.Words.{◌≡◌, ◌++◌, take, string_bytes, flat_map}
-use Rattle.std.specs.Prelude.{codes}
-use Rattle.camp_questions.specs.GraphTexts.{arrow_text}
+use Rattle.camp_questions.proofs.Words.{◌≡◌, ◌++◌, take, string_bytes, flat_map, arrow_text, codes}
 use Rattle.camp_questions.proofs.graph_texts.append_needs.Given as goal
 
 abbrev pub invariant-loop-on : goal.invariant-loop-on

@@ -1,5 +1,4 @@
-use Rattle.camp_questions.proofs.Words.{◌≡◌, ◌++◌, take, string_bytes, flat_map}
-use Rattle.camp_questions.specs.GraphTexts.{node_text}
+use Rattle.camp_questions.proofs.Words.{◌≡◌, ◌++◌, take, string_bytes, flat_map, node_text}
 use Rattle.camp_questions.proofs.graph_texts.append_nodes.Given as goal
 
 abbrev pub invariant-loop-node : goal.invariant-loop-node

@@ -1,39 +1,22 @@
-use Rattle.camp_questions.proofs.Words.{List, ◌∙◌, ap, map, subst, Catch, IsGraphOf, node_of, NeedEach, needing}
+use Rattle.camp_questions.proofs.Words.{List, ◌∙◌, ap, map, subst, Catch, IsGraphOf, node_of, NeedEach, needing, IsErrAnd, Result, Some, ℕ, ◌≡◌, Tells, Unanswered, Memory, Drawn, Contents, catches_of}
 use Rattle.camp_questions.proofs.Answering.{memory_told}
 use Rattle.camp_questions.proofs.GraphSteps.{drawn_in, graph_of_nodes, is_drawn, is_graph_of}
 use Rattle.camp_questions.proofs.graphs.graph.Goals as goal
 
+refused : (state : Contents) (branch : List ℕ) {catches : List Catch} (result : Result Drawn Unanswered) → catches_of state.branches branch ≡ Some catches → IsErrAnd result (λ why. why ≡ Memory) → Tells (IsGraphOf state branch) result
+refused state branch {catches} result found is = memory_told (IsGraphOf state branch) result (drawn_in catches) is (is_graph_of state branch catches (drawn_in catches) found (is_drawn catches))
+
 pub returns-in_err-names : goal.returns-in_err-names
-returns-in_err-names c =
-    let branch : List Catch = c.in_ok-branch.branch.now in
-    record {
-      exact = memory_told (IsGraphOf c.args.state.now c.args.branch.now) c.from_residual-in_err-names.result (drawn_in branch) c.from_residual-in_err-names.ensures.1
-          (is_graph_of c.args.state.now c.args.branch.now branch (drawn_in branch) c.in_ok-branch.ensures (is_drawn branch));
-    }
+returns-in_err-names c = record { exact = refused c.args.state.now c.args.branch.now c.from_residual-in_err-names.result c.in_ok-branch.ensures c.from_residual-in_err-names.ensures.1 }
 
 pub returns-in_err-all : goal.returns-in_err-all
-returns-in_err-all c =
-    let branch : List Catch = c.in_ok-branch.branch.now in
-    record {
-      exact = memory_told (IsGraphOf c.args.state.now c.args.branch.now) c.from_residual-in_err-all.result (drawn_in branch) c.from_residual-in_err-all.ensures.1
-          (is_graph_of c.args.state.now c.args.branch.now branch (drawn_in branch) c.in_ok-branch.ensures (is_drawn branch));
-    }
+returns-in_err-all c = record { exact = refused c.args.state.now c.args.branch.now c.from_residual-in_err-all.result c.in_ok-branch.ensures c.from_residual-in_err-all.ensures.1 }
 
 pub returns-in_err-patches : goal.returns-in_err-patches
-returns-in_err-patches c =
-    let branch : List Catch = c.in_ok-branch.branch.now in
-    record {
-      exact = memory_told (IsGraphOf c.args.state.now c.args.branch.now) c.from_residual-in_err-patches.result (drawn_in branch) c.from_residual-in_err-patches.ensures.1
-          (is_graph_of c.args.state.now c.args.branch.now branch (drawn_in branch) c.in_ok-branch.ensures (is_drawn branch));
-    }
+returns-in_err-patches c = record { exact = refused c.args.state.now c.args.branch.now c.from_residual-in_err-patches.result c.in_ok-branch.ensures c.from_residual-in_err-patches.ensures.1 }
 
 pub returns-in_err-pairs : goal.returns-in_err-pairs
-returns-in_err-pairs c =
-    let branch : List Catch = c.in_ok-branch.branch.now in
-    record {
-      exact = memory_told (IsGraphOf c.args.state.now c.args.branch.now) c.from_residual-in_err-pairs.result (drawn_in branch) c.from_residual-in_err-pairs.ensures.1
-          (is_graph_of c.args.state.now c.args.branch.now branch (drawn_in branch) c.in_ok-branch.ensures (is_drawn branch));
-    }
+returns-in_err-pairs c = record { exact = refused c.args.state.now c.args.branch.now c.from_residual-in_err-pairs.result c.in_ok-branch.ensures c.from_residual-in_err-pairs.ensures.1 }
 
 pub returns : goal.returns
 returns c =

@@ -1,5 +1,4 @@
-use Rattle.camp_script.proofs.Common.{ap, ◌∙◌, ◌++◌, ◌∷◌, [], decimal, spaced}
-use Rattle.camp_script.specs.HistoryTexts.{call_words}
+use Rattle.camp_script.proofs.Common.{ap, ◌∙◌, ◌++◌, ◌∷◌, [], decimal, spaced, call_words}
 use Rattle.camp_script.proofs.HistoryLemmas.{entry_done}
 use Rattle.camp_script.proofs.histories.extend_by_entry.Goals as goal
 

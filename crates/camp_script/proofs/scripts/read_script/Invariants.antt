@@ -1,5 +1,4 @@
-use Rattle.camp_script.proofs.Common.{◌≡◌, ◌+◌, ◌≤◌, length, map, lines_of, without_end, read_from}
-use Rattle.camp_script.specs.Reading.{script_of}
+use Rattle.camp_script.proofs.Common.{◌≡◌, ◌+◌, ◌≤◌, length, map, lines_of, without_end, read_from, script_of}
 use Rattle.camp_script.proofs.Wanting.{IsBegun}
 use Rattle.camp_script.proofs.scripts.read_script.Given as goal
 

@@ -1,4 +1,4 @@
-use Rattle.camp_script.proofs.Common.{◌≡◌, ◌∷◌, ◌++◌, take, AreNames, spaced}
+use Rattle.camp_script.proofs.Common.{◌≡◌, ◌++◌, take, AreNames, spaced}
 use Rattle.camp_script.proofs.spaces.extend_by_named.Given as goal
 
 abbrev pub invariant-loop-name : goal.invariant-loop-name

@@ -1,7 +1,4 @@
-use Rattle.std.proofs.Common.{◌≡◌, ◌+◌, ◌-◌, ◌∷◌, List, true, false, drop, ap, sym, subst, ◌∙◌, arith}
-use Rattle.std.proofs.lemmas.List.{drop_more, take_rest}
-use Rattle.camp_prim.specs.declared.named.Named.{Named}
-use Rattle.camp_seq.specs.Chains.{StaysBefore}
+use Rattle.camp_seq.proofs.Words.{◌≡◌, ◌+◌, ◌-◌, ◌∷◌, List, true, false, drop, ap, sym, subst, ◌∙◌, arith, StaysBefore, drop_more, take_rest, Named}
 use Rattle.camp_seq.proofs.OwnOrders.{no_chain}
 use Rattle.camp_seq.proofs.chains.is_chain.Goals as goal
 

@@ -1,5 +1,4 @@
-use Rattle.std.proofs.Common.{drop}
-use Rattle.camp_seq.specs.Chains.{Chain}
+use Rattle.camp_seq.proofs.Words.{drop, Chain}
 use Rattle.camp_seq.proofs.chains.is_chain.Given as goal
 
 abbrev pub invariant-loop-at : goal.invariant-loop-at

@@ -1,6 +1,5 @@
 use Rattle.camp_seq.proofs.Words.{◌≡◌, ◌+◌, ◌-◌, List, drop, set, refl, sym, ap, subst, ◌∙◌, arith, set-get_or, Named, Precedes, ComesUpTo}
-use Rattle.camp_seq.proofs.ListSteps.{all_done, one_more_done}
-use Rattle.camp_seq.proofs.PassingSteps.{comes_up_to}
+use Rattle.camp_seq.proofs.PassingSteps.{comes_up_to, all_done, one_more_done}
 use Rattle.camp_seq.proofs.passes.come_forward.Goals as goal
 
 pub returns-then-not-pass_one : goal.returns-then-not-pass_one

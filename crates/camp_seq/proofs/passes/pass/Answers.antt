@@ -1,6 +1,5 @@
 use Rattle.camp_seq.proofs.Words.{List, subst, arith, take_more_set, Named, Passes}
-use Rattle.camp_seq.proofs.ListSteps.{at_next, drop_next, take_next, whole}
-use Rattle.camp_seq.proofs.PassingSteps.{passes_push, passes_stop}
+use Rattle.camp_seq.proofs.PassingSteps.{passes_push, passes_stop, at_next, drop_next, take_next, whole}
 use Rattle.camp_seq.proofs.passes.pass.Goals as goal
 
 pub returns-then-not-pass_one : goal.returns-then-not-pass_one

@@ -1,6 +1,5 @@
 use Rattle.camp_seq.proofs.Words.{◌+◌, ◌-◌, drop, refl, arith, PassesAll}
-use Rattle.camp_seq.proofs.ListSteps.{all_done, one_more_done}
-use Rattle.camp_seq.proofs.PassingSteps.{stops_all}
+use Rattle.camp_seq.proofs.PassingSteps.{stops_all, all_done, one_more_done}
 use Rattle.camp_seq.proofs.passes.pass_all.Goals as goal
 
 pub returns-then-not-pass : goal.returns-then-not-pass

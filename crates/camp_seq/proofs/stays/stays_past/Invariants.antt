@@ -1,5 +1,4 @@
-use Rattle.std.proofs.Common.{drop}
-use Rattle.camp_seq.specs.Passing.{Passes}
+use Rattle.camp_seq.proofs.Words.{drop, Passes}
 use Rattle.camp_seq.proofs.stays.stays_past.Given as goal
 
 abbrev pub invariant-loop-at : goal.invariant-loop-at

@@ -1,5 +1,4 @@
-use Rattle.camp_talk.proofs.Words.{◌≡◌, ◌-◌, ℕ, List, length, take, drop, ap, subst, ◌∙◌, Gives, lines_of, script_of, script_in}
-use Rattle.std.proofs.lemmas.List.{take_rest}
+use Rattle.camp_talk.proofs.Words.{◌≡◌, ◌-◌, ℕ, List, length, take, drop, ap, subst, ◌∙◌, Gives, lines_of, script_of, script_in, take_rest}
 use Rattle.camp_talk.proofs.CallLines.{script_behind}
 use Rattle.camp_talk.proofs.asking.read_script_in.Goals as goal
 

@@ -1,5 +1,5 @@
-use Rattle.camp_talk.proofs.Words.{rules, subst, body_of, ReadsPart, Uses, Part, More, Whole, Cut}
-use Rattle.camp_talk.proofs.Parts.{none_read, part_behind, part_uses}
+use Rattle.camp_talk.proofs.Words.{rules, body_of, Uses}
+use Rattle.camp_talk.proofs.Parts.{none_read, part_on, part_uses}
 use Rattle.camp_talk.proofs.commands.read_body.Goals as goal
 
 pub loop-init : goal.loop-init
@@ -12,19 +12,10 @@ returns-in_err-read_body_line-clause-uses g c =
     search (rules, uses)
 
 pub returns-in-Whole-clause-part : goal.returns-in-Whole-clause-part
-returns-in-Whole-clause-part g c =
-    part_behind _ (g.R.Read.remaining c.loop.reader) _ _ c.loop.text.items _ body_of Whole c.loop.invariant
-    (subst (λ (part : Part). ReadsPart (g.R.Read.remaining c.loop.reader) (g.R.Read.remaining c.read_body_line.new.reader) body_of part c.loop.text.items c.read_body_line.new.text.items) c.in-Whole.is
-    c.in_ok-read_body_line.ensures.part)
+returns-in-Whole-clause-part g c = part_on _ (g.R.Read.remaining c.loop.reader) _ _ c.loop.text.items _ body_of c.loop.invariant c.in-Whole.is c.in_ok-read_body_line.ensures.part
 
 pub returns-in-Cut-clause-part : goal.returns-in-Cut-clause-part
-returns-in-Cut-clause-part g c =
-    part_behind _ (g.R.Read.remaining c.loop.reader) _ _ c.loop.text.items _ body_of Cut c.loop.invariant
-    (subst (λ (part : Part). ReadsPart (g.R.Read.remaining c.loop.reader) (g.R.Read.remaining c.read_body_line.new.reader) body_of part c.loop.text.items c.read_body_line.new.text.items) c.in-Cut.is
-    c.in_ok-read_body_line.ensures.part)
+returns-in-Cut-clause-part g c = part_on _ (g.R.Read.remaining c.loop.reader) _ _ c.loop.text.items _ body_of c.loop.invariant c.in-Cut.is c.in_ok-read_body_line.ensures.part
 
 pub loop-preserved : goal.loop-preserved
-loop-preserved g c =
-    part_behind _ (g.R.Read.remaining c.loop.reader) _ _ c.loop.text.items _ body_of More c.loop.invariant
-    (subst (λ (part : Part). ReadsPart (g.R.Read.remaining c.loop.reader) (g.R.Read.remaining c.read_body_line.new.reader) body_of part c.loop.text.items c.read_body_line.new.text.items) c.in-More.is
-    c.in_ok-read_body_line.ensures.part)
+loop-preserved g c = part_on _ (g.R.Read.remaining c.loop.reader) _ _ c.loop.text.items _ body_of c.loop.invariant c.in-More.is c.in_ok-read_body_line.ensures.part

@@ -1,7 +1,5 @@
-use Rattle.std.proofs.Common.{◌≡◌, ◌-◌, length, take, ap, subst, arith, rules, length-append, length-take}
-use Rattle.camp_talk.proofs.Words.{Takes, Uses, Seen, Consumes-nil}
-use Rattle.camp_talk.specs.declared.lines.Seen.TheVariants.{Part, Line, End}
-use Rattle.camp_talk.proofs.LineReads.{none_taken, taken_behind}
+use Rattle.camp_talk.proofs.Words.{Uses, Consumes-nil, ◌≡◌, length, take, ap, arith, rules, length-append, length-take}
+use Rattle.camp_talk.proofs.LineReads.{none_taken, taken_on}
 use Rattle.camp_talk.proofs.Parts.{uses_behind}
 use Rattle.camp_talk.proofs.lines.read_front.Goals as goal
 
@@ -24,33 +22,15 @@ returns-in_err-read_some-clause-uses g c =
 
 pub returns-in-Line-clause-front : goal.returns-in-Line-clause-front
 returns-in-Line-clause-front g c =
-    let b = g.R.Read.remaining c.loop.reader in
-    let d = g.R.Read.remaining c.read_some.new.reader in
-    let mid = c.loop.text.items in
-    let new = c.read_some.new.text.items in
-    let start : c.len-start.result ≡ length c.args.text.now.items = search rules in
-    let len : c.len.result ≡ length mid = search rules in
-    taken_behind _ b d 1_048_577 c.args.text.now.items mid new (1_048_577 - (c.len.result - c.len-start.result)) Line c.loop.invariant (omega (arith, start, len))
-    (subst (λ (seen : Seen). Takes b d (1_048_577 - (c.len.result - c.len-start.result)) seen mid new) c.in-Line.is c.in_ok-read_some.ensures.some)
+    taken_on _ (g.R.Read.remaining c.loop.reader) _ 1_048_577 c.args.text.now.items c.loop.text.items _ c.len-start.result c.len.result (search rules) (search rules)
+    c.loop.invariant c.in-Line.is c.in_ok-read_some.ensures.some
 
 pub returns-in-End-clause-front : goal.returns-in-End-clause-front
 returns-in-End-clause-front g c =
-    let b = g.R.Read.remaining c.loop.reader in
-    let d = g.R.Read.remaining c.read_some.new.reader in
-    let mid = c.loop.text.items in
-    let new = c.read_some.new.text.items in
-    let start : c.len-start.result ≡ length c.args.text.now.items = search rules in
-    let len : c.len.result ≡ length mid = search rules in
-    taken_behind _ b d 1_048_577 c.args.text.now.items mid new (1_048_577 - (c.len.result - c.len-start.result)) End c.loop.invariant (omega (arith, start, len))
-    (subst (λ (seen : Seen). Takes b d (1_048_577 - (c.len.result - c.len-start.result)) seen mid new) c.in-End.is c.in_ok-read_some.ensures.some)
+    taken_on _ (g.R.Read.remaining c.loop.reader) _ 1_048_577 c.args.text.now.items c.loop.text.items _ c.len-start.result c.len.result (search rules) (search rules)
+    c.loop.invariant c.in-End.is c.in_ok-read_some.ensures.some
 
 pub loop-preserved : goal.loop-preserved
 loop-preserved g c =
-    let b = g.R.Read.remaining c.loop.reader in
-    let d = g.R.Read.remaining c.read_some.new.reader in
-    let mid = c.loop.text.items in
-    let new = c.read_some.new.text.items in
-    let start : c.len-start.result ≡ length c.args.text.now.items = search rules in
-    let len : c.len.result ≡ length mid = search rules in
-    taken_behind _ b d 1_048_577 c.args.text.now.items mid new (1_048_577 - (c.len.result - c.len-start.result)) Part c.loop.invariant (omega (arith, start, len))
-    (subst (λ (seen : Seen). Takes b d (1_048_577 - (c.len.result - c.len-start.result)) seen mid new) c.in-Part.is c.in_ok-read_some.ensures.some)
+    taken_on _ (g.R.Read.remaining c.loop.reader) _ 1_048_577 c.args.text.now.items c.loop.text.items _ c.len-start.result c.len.result (search rules) (search rules)
+    c.loop.invariant c.in-Part.is c.in_ok-read_some.ensures.some

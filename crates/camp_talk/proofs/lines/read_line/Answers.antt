@@ -1,5 +1,4 @@
-use Rattle.camp_talk.proofs.Words.{◌≡◌, ◌++◌, Bool, length, take, drop, subst, rules, as_read}
-use Rattle.camp_talk.specs.Inside.Parts.{Takes, last_seen}
+use Rattle.camp_talk.proofs.Words.{◌≡◌, ◌++◌, Bool, length, take, drop, subst, rules, as_read, Takes, last_seen}
 use Rattle.camp_talk.proofs.LineReads.{last_line, whole_line}
 use Rattle.camp_talk.proofs.lines.read_line.Goals as goal
 

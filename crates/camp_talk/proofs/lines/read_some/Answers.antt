@@ -1,6 +1,5 @@
-use Rattle.camp_talk.proofs.Words.{◌≡◌, ◌∙◌, ◌==◌, ◌+◌, ◌++◌, ◌≤◌, [], min, length, take, sym, ap, subst, arith, position_or_len, Consumes, Takes, feed_of, seen_of, Seen}
+use Rattle.camp_talk.proofs.Words.{◌≡◌, ◌∙◌, ◌==◌, ◌+◌, ◌++◌, ◌≤◌, [], min, length, take, sym, ap, subst, arith, position_or_len, Consumes, Takes, feed_of, seen_of, Seen, Consumes-nil, Consumes-kept}
 use Rattle.std.specs.Io.BufRead.{FillKeeps}
-use Rattle.std.proofs.KnownBytes.{Consumes-nil, Consumes-kept}
 use Rattle.std.proofs.BufReadLemmas.{Consumes_shown}
 use Rattle.camp_talk.proofs.LineReads.{none_taken, shown_taken, taken_within}
 use Rattle.camp_talk.proofs.lines.read_some.Goals as goal

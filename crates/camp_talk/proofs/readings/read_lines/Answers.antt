@@ -1,5 +1,4 @@
-use Rattle.camp_talk.proofs.Words.{rules, ◌≡◌, Bool, List, [], ℕ, Ok, Err, sym, subst, Call, lines_of, script_in, ReadsHeld, ReadsLine, Uses}
-use Rattle.camp_script.specs.Gives.{IsFaultOf}
+use Rattle.camp_talk.proofs.Words.{rules, ◌≡◌, Bool, List, [], ℕ, Ok, Err, sym, subst, Call, lines_of, script_in, ReadsHeld, ReadsLine, Uses, IsFaultOf}
 use Rattle.camp_talk.proofs.Firsts.{first_alone, first_left, first_with}
 use Rattle.camp_talk.proofs.Parts.{uses_behind}
 use Rattle.camp_talk.proofs.readings.read_lines.Goals as goal

@@ -1,6 +1,4 @@
-use Rattle.camp_talk.proofs.Words.{◌≡◌, ◌+◌, ℕ, List, length, ap, subst, ◌∙◌, arith, Gives, lines_of, Standing, as_read}
-use Rattle.std.proofs.lemmas.List.{length-map}
-use Rattle.camp_talk.specs.Asking.{asked_of}
+use Rattle.camp_talk.proofs.Words.{◌≡◌, ◌+◌, ℕ, List, length, ap, subst, ◌∙◌, arith, Gives, lines_of, Standing, as_read, length-map, asked_of}
 use Rattle.camp_talk.proofs.Turns.{answered}
 use Rattle.camp_talk.proofs.talks.hear.Goals as goal
 

@@ -1,5 +1,4 @@
-use Rattle.camp_talk.proofs.Words.{◌≡◌, take, flat_map}
-use Rattle.camp_script.specs.Texts.{name_text}
+use Rattle.camp_talk.proofs.Words.{◌≡◌, take, flat_map, name_text}
 use Rattle.camp_talk.proofs.told_names.name_lines.Given as goal
 
 abbrev pub invariant-loop-name : goal.invariant-loop-name

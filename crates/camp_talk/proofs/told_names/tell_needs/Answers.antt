@@ -1,5 +1,4 @@
-use Rattle.camp_talk.proofs.Words.{codes, names_told}
-use Rattle.camp_questions.specs.Dependencies.{AreNeeded}
+use Rattle.camp_talk.proofs.Words.{codes, names_told, AreNeeded}
 use Rattle.camp_talk.proofs.ToldLemmas.{answer_told, refusal_told}
 use Rattle.camp_talk.proofs.told_names.tell_needs.Goals as goal
 

@@ -1,5 +1,4 @@
-use Rattle.camp_talk.proofs.Words.{◌≡◌, take, flat_map}
-use Rattle.camp_talk.specs.Told.{catch_line}
+use Rattle.camp_talk.proofs.Words.{◌≡◌, take, flat_map, catch_line}
 use Rattle.camp_talk.proofs.told_patches.catch_lines.Given as goal
 
 abbrev pub invariant-loop-catch : goal.invariant-loop-catch

@@ -1,7 +1,5 @@
-use Rattle.camp_history.proofs.Words.{Answer, history_of, caller_at, DecidesAt}
-use Rattle.camp_object.proofs.Asks.{ask_answered}
-use Rattle.camp_history.proofs.Seeing.{history_front}
-use Rattle.camp_history.proofs.Asked.{adds_nothing}
+use Rattle.camp_history.proofs.Words.{Answer, history_of, caller_at, DecidesAt, ask_answered}
+use Rattle.camp_history.proofs.Asked.{adds_nothing, history_front}
 use Rattle.camp_history.proofs.heads.Head.ask_question.Goals as goal
 
 pub returns-clause-asks : goal.returns-clause-asks

@@ -1,6 +1,5 @@
 use Rattle.camp_history.proofs.Words.{◌≡◌, ℕ, ◌<◌, List, Some, Ok, length, map, ap, sym, ◌∙◌, subst, arith, own, Next, Ask, asked, history_of, caller_at, Mark, DecidesAt, Publishes}
-use Rattle.camp_history.proofs.Seeing.{history_more}
-use Rattle.camp_history.proofs.Asked.{decided_next, decided_accepted, ask_published, seat_published, attempts_nothing}
+use Rattle.camp_history.proofs.Asked.{decided_next, decided_accepted, ask_published, seat_published, attempts_nothing, history_more}
 use Rattle.camp_history.proofs.heads.Head.attempt.Given.{Over}
 use Rattle.camp_history.proofs.heads.Head.attempt.Goals as goal
 

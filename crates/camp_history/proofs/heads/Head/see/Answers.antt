@@ -1,14 +1,4 @@
-use Rattle.std.proofs.Common.{◌≡◌, [], Some, ℕ, ◌<◌, ◌∷◌, ◌++◌, All, length, refl, sym, ◌∙◌, ap, map, subst, arith}
-use Rattle.std.proofs.lemmas.List.{length-map}
-use Rattle.std.proofs.lemmas.List.Elements.{All-same}
-use Rattle.boxcar.specs.Table.{Shows}
-use Rattle.camp_object.specs.Histories.{replay}
-use Rattle.camp_object.specs.Deciding.{Decides}
-use Rattle.camp_object.specs.declared.objects.Decided.TheVariants.{Next}
-use Rattle.camp_object.proofs.Replays.{count-replay, replay_accepted, some_is_some}
-use Rattle.camp_history.specs.Seats.{asked}
-use Rattle.camp_history.specs.Inside.Steps.{entry_of}
-use Rattle.camp_history.specs.declared.marks.Mark.{Mark}
+use Rattle.camp_history.proofs.Words.{◌≡◌, [], Some, ℕ, ◌<◌, ◌∷◌, ◌++◌, All, length, refl, sym, ◌∙◌, ap, map, subst, arith, replay, asked, entry_of, Mark, length-map, All-same, Shows, Decides, Next, count-replay, replay_accepted, some_is_some}
 use Rattle.camp_history.proofs.Seeing.{entries_more, history_more, begins_more, all_more, few_marks}
 use Rattle.camp_history.proofs.heads.Head.see.Given.{Over}
 use Rattle.camp_history.proofs.heads.Head.see.Goals as goal

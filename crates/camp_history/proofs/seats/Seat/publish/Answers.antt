@@ -1,12 +1,5 @@
-use Rattle.std.proofs.Common.{◌≡◌, [], Some, ℕ, ◌<◌, ◌∷◌, ◌++◌, All, length, refl, sym, ◌∙◌, ap, map, arith}
-use Rattle.camp_object.specs.Histories.{replay, own}
-use Rattle.camp_row.specs.Chains.{turns}
-use Rattle.camp_row.specs.Known.{Known, Won, drafted, with_draft}
-use Rattle.camp_history.specs.Seats.{asked, history_of}
-use Rattle.camp_history.specs.Inside.Steps.{entry_of}
-use Rattle.camp_history.specs.declared.marks.Mark.{Mark}
-use Rattle.camp_history.proofs.Marked.{length-own}
-use Rattle.camp_history.proofs.Seeing.{entries_more, history_more, begins_more, all_more}
+use Rattle.camp_history.proofs.Words.{◌≡◌, [], Some, ℕ, ◌<◌, ◌∷◌, ◌++◌, All, length, refl, sym, ◌∙◌, ap, map, arith, replay, own, turns, Known, Won, drafted, with_draft, asked, history_of, entry_of, Mark}
+use Rattle.camp_history.proofs.Seeing.{entries_more, history_more, begins_more, all_more, length-own}
 use Rattle.camp_history.proofs.seats.Seat.publish.Given.{Over}
 use Rattle.camp_history.proofs.seats.Seat.publish.Goals as goal
 

@@ -1,5 +1,4 @@
-use Rattle.camp_prim.proofs.Words.{sym, subst, Applies}
-use Rattle.camp_base.specs.Answers.{Answers}
+use Rattle.camp_prim.proofs.Words.{sym, subst, Applies, Answers}
 use Rattle.camp_prim.proofs.primitives.Primitive.apply.Goals as goal
 
 pub returns-in-Add : goal.returns-in-Add

@@ -1,41 +1,24 @@
 use Rattle.camp_row.proofs.Words.{arith, ◌≡◌, ◌+◌, ◌∷◌, [], ◌++◌, sym, ap, ◌∙◌, length, Entry, own, cell_of, Known, Part, known_of, part, known, place_word, Advanced}
-use Rattle.camp_row.proofs.Fronts.{next_is, cut_pushed}
 use Rattle.camp_row.proofs.Cells.{own_of_next, head_word-push}
-use Rattle.camp_row.proofs.Ruling.{allows_one}
+use Rattle.camp_row.proofs.PassOfRow.{is_of, next_of, at_part, known_at, steps_in, next_is, cut_pushed}
 use Rattle.camp_row.proofs.Loading.{advances}
-use Rattle.camp_row.proofs.PassOfRow.{is_of, next_of, at_part, known_at, few_cells}
 use Rattle.camp_row.proofs.rows.Row.advance.Goals as goal
 
 pub place_word-requires : goal.place_word-requires
-place_word-requires c =
-    let of = is_of c.pass.inside c.self.inside c.args.pass.now c.args.self.now c.pass.view_is c.self.view_is c.requires.row in
-    let n = next_of c.pass.inside c.self.inside c.args.pass.now c.args.next c.pass.invariant.sound of c.pass.view_is c.requires.next in
-    let inside = n.in_row in
-    let few = few_cells c.self.inside.seats c.self.inside.per_seat c.self.invariant.seats.1 c.self.invariant.per_seat.1 in
-    omega arith
+place_word-requires c = let n = next_of (is_of c.pass.inside c.self.inside c.self.invariant c.pass.view_is c.self.view_is c.requires.row) c.pass.view_is c.pass.invariant.sound c.requires.next in omega arith
 
 pub load-requires : goal.load-requires
 load-requires c =
-    let of = is_of c.pass.inside c.self.inside c.args.pass.now c.args.self.now c.pass.view_is c.self.view_is c.requires.row in
-    let n = next_of c.pass.inside c.self.inside c.args.pass.now c.args.next c.pass.invariant.sound of c.pass.view_is c.requires.next in
-    let shared = c.self.inside.table.shared in
-    let seat = c.pass.inside.seat in
-    let word = c.place_word.result in
-    let word_is : word ≡ place_word c.args.next.cell = c.place_word.ensures in
-    let cell_is : word ≡ place_word (cell_of (part c.pass.inside).seats (part c.pass.inside).seen n.shorter.next) =
-    word_is ∙ ap place_word (n.cell ∙ ap (λ (e : Entry). cell_of (part c.pass.inside).seats (part c.pass.inside).seen e) (sym n.entry)) in
-    let inside = n.in_row in
-    let words = c.self.invariant.words in (
-      of.table,
-      omega arith,
-      allows_one shared.key.seats shared.key.per_seat shared.table_id.slots seat.id seat.me word (λ n. n) Advanced (part c.pass.inside) c.pass.invariant.alone
-          (advances shared.key.seats shared.key.per_seat seat.id (part c.pass.inside) word n.shorter cell_is),
-    )
+    let n = next_of (is_of c.pass.inside c.self.inside c.self.invariant c.pass.view_is c.self.view_is c.requires.row) c.pass.view_is c.pass.invariant.sound c.requires.next in
+    let p : Part = part c.pass.inside in
+    let word_is : c.place_word.result ≡ place_word c.args.next.cell = c.place_word.ensures in
+    let cell_is : c.place_word.result ≡ place_word (cell_of p.seats p.seen n.shorter.next) = word_is ∙ ap place_word (n.held.is ∙ ap (λ (e : Entry). cell_of p.seats p.seen e) (sym n.entry)) in
+    steps_in c.self.inside c.pass.inside.seat n.held.of.table (λ n. n) Advanced (omega arith) c.pass.invariant.alone
+    (advances c.self.inside.table.shared.key.seats c.self.inside.table.shared.key.per_seat c.pass.inside.seat.id p c.place_word.result n.shorter cell_is)
 
 pub invariant_of-pass : goal.invariant_of-pass
 invariant_of-pass c =
-    let of = is_of c.pass.inside c.self.inside c.args.pass.now c.args.self.now c.pass.view_is c.self.view_is c.requires.row in
-    let n = next_of c.pass.inside c.self.inside c.args.pass.now c.args.next c.pass.invariant.sound of c.pass.view_is c.requires.next in
+    let n = next_of (is_of c.pass.inside c.self.inside c.self.invariant c.pass.view_is c.self.view_is c.requires.row) c.pass.view_is c.pass.invariant.sound c.requires.next in
     let p : Part = part c.pass.inside in
     let step : Advanced c.load.result c.pass.inside.seat.me.0.parts c.load.new.seat.me.0.parts = c.load.ensures.2.1 in
     let e : Entry = step.next.next in
@@ -48,7 +31,7 @@ invariant_of-pass c =
       no_slot = c.load.ensures.2.0 ∙ was.no_slot;
       number = was.number;
       turn = was.turn ∙ ap length (sym own_is);
-      last = ap (λ k. k + 1) (n.cell ∙ ap (cell_of p.seats p.seen) (sym e_is)) ∙ sym (head_word-push p.seats p.seen e);
+      last = ap (λ k. k + 1) (n.held.is ∙ ap (cell_of p.seats p.seen) (sym e_is)) ∙ sym (head_word-push p.seats p.seen e);
       head = was.head;
       number_below = was.number_below;
       turn_within = was.turn_within;
@@ -58,8 +41,7 @@ invariant_of-pass c =
 pub returns : goal.returns
 returns c = record {
   exact =
-      let of = is_of c.pass.inside c.self.inside c.args.pass.now c.args.self.now c.pass.view_is c.self.view_is c.requires.row in
-      let n = next_of c.pass.inside c.self.inside c.args.pass.now c.args.next c.pass.invariant.sound of c.pass.view_is c.requires.next in
+      let n = next_of (is_of c.pass.inside c.self.inside c.self.invariant c.pass.view_is c.self.view_is c.requires.row) c.pass.view_is c.pass.invariant.sound c.requires.next in
       let p : Part = part c.pass.inside in
       let step : Advanced c.load.result c.pass.inside.seat.me.0.parts c.load.new.seat.me.0.parts = c.load.ensures.2.1 in
       let e_is : step.next.next ≡ c.args.next.entry = next_is p.seen step.next.next n.shorter.next step.next.rest n.shorter.rest p.ahead step.next.is n.shorter.is ∙ n.entry in

@@ -1,4 +1,4 @@
-use Rattle.camp_row.proofs.Words.{◌≡◌, ◌+◌, ◌≤◌, length, take, Leads}
+use Rattle.camp_row.proofs.Words.{◌≡◌, ◌+◌, length, take, Leads}
 use Rattle.camp_row.proofs.rows.Row.advance_by.Given as goal
 
 abbrev pub invariant-loop : goal.invariant-loop

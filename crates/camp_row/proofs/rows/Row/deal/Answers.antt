@@ -1,19 +1,11 @@
-use Rattle.camp_row.proofs.Words.{arith, ◌≡◌, ◌<◌, ◌+◌, ◌*◌, ◌∷◌, [], ◌++◌, refl, sym, ap, subst, ◌∙◌, zero-add, RowId, newcomer, part_of, known_of, fresh}
+use Rattle.camp_row.proofs.Words.{arith, ◌≡◌, ◌<◌, ◌∷◌, [], ◌++◌, refl, sym, ap, subst, ◌∙◌, zero-add, RowId, newcomer, part_of, known_of, fresh}
 use Rattle.std.proofs.lemmas.List.FromFn.{map-range_with_len_more}
-use Rattle.camp_row.proofs.Fronts.{front_nil, no_cut}
-use Rattle.camp_row.proofs.Dealing.{splits, first_left}
-use Rattle.camp_row.proofs.PassOfRow.{at_part}
+use Rattle.camp_row.proofs.Dealing.{first_left}
+use Rattle.camp_row.proofs.PassOfRow.{at_part, splits_in, front_nil, no_cut}
 use Rattle.camp_row.proofs.rows.Row.deal.Goals as goal
 
 pub split_seat-seat-requires : goal.split_seat-seat-requires
-split_seat-seat-requires c =
-    let shared = c.self.inside.table.shared in
-    let words : shared.table_id.words ≡ 1 + 2 * (c.self.inside.per_seat * c.self.inside.seats) = c.self.invariant.words in
-    let some_words : 0 < shared.table_id.words = omega arith in (
-      c.loop-number.invariant.table ∙ ap (λ (r : RowId). r.table) (sym c.self.view_is),
-      some_words,
-      splits shared.key.seats shared.key.per_seat c.loop-number.all.id c.loop-number.all.me.0,
-    )
+split_seat-seat-requires c = splits_in c.self.inside c.loop-number.all (c.loop-number.invariant.table ∙ ap (λ (r : RowId). r.table) (sym c.self.view_is)) c.self.invariant
 
 pub invariant_of-push : goal.invariant_of-push
 invariant_of-push c =

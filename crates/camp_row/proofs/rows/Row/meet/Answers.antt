@@ -1,53 +1,29 @@
-use Rattle.camp_row.proofs.Words.{subst, arith, ◌≡◌, ◌<◌, ◌∷◌, [], ◌++◌, sym, ap, ◌∙◌, take, drop, IsFront, Known, FindsChain, part_of, known_of, part, Looked}
-use Rattle.camp_row.proofs.Ruling.{allows}
-use Rattle.camp_row.proofs.Loading.{looks}
-use Rattle.camp_row.proofs.Dealing.{splits, joins}
-use Rattle.camp_row.proofs.Meeting.{met, found_pass, finds_known, one_begins}
-use Rattle.camp_row.proofs.PassOfRow.{is_of, row_words}
+use Rattle.camp_row.proofs.Words.{subst, arith, ◌≡◌, sym, ap, ◌∙◌, take, drop, IsFront, Known, FindsChain, part_of, known_of}
+use Rattle.camp_row.proofs.Dealing.{joins}
+use Rattle.camp_row.proofs.Meeting.{met, finds_known, one_begins}
+use Rattle.camp_row.proofs.PassOfRow.{is_of, found_pass, splits_in, looks_in}
 use Rattle.camp_row.proofs.rows.Row.meet.Goals as goal
 
 pub join_seat-requires : goal.join_seat-requires
 join_seat-requires c =
-    let of_a = is_of c.a.inside c.self.inside c.args.a.now c.args.self.now c.a.view_is c.self.view_is c.requires.0 in
-    let of_b = is_of c.b.inside c.self.inside c.args.b c.args.self.now c.b.view_is c.self.view_is c.requires.1 in
-    let shared = c.self.inside.table.shared in
-    let words = row_words c.self.inside c.args.self.now c.self.invariant c.self.view_is in
-    let some_words : 0 < shared.table_id.words = omega arith in (
-      of_a.table,
-      of_b.table,
-      c.b.invariant.no_slot,
-      some_words,
-      joins shared.key.seats shared.key.per_seat c.a.inside.seat.id c.a.inside.seat.me.0 c.b.inside.seat.id c.b.inside.seat.me.0,
-    )
+    let of_a = is_of c.a.inside c.self.inside c.self.invariant c.a.view_is c.self.view_is c.requires.0 in
+    let of_b = is_of c.b.inside c.self.inside c.self.invariant c.b.view_is c.self.view_is c.requires.1 in
+    let key = c.self.inside.table.shared.key in
+    (of_a.table, of_b.table, c.b.invariant.no_slot, omega arith, joins key.seats key.per_seat c.a.inside.seat.id c.a.inside.seat.me.0 c.b.inside.seat.id c.b.inside.seat.me.0)
 
 pub load-head-requires : goal.load-head-requires
 load-head-requires c =
-    let of_a = is_of c.a.inside c.self.inside c.args.a.now c.args.self.now c.a.view_is c.self.view_is c.requires.0 in
-    let shared = c.self.inside.table.shared in
-    let seat = c.join_seat.new.seat in
-    let words = row_words c.self.inside c.args.self.now c.self.invariant c.self.view_is in
-    let some_words : 0 < shared.table_id.words = omega arith in (
-      c.join_seat.ensures.0 ∙ of_a.table,
-      some_words,
-      allows shared.key.seats shared.key.per_seat shared.table_id.slots seat.id seat.me 0 (λ n. n) (λ found w. Looked found seat.me.0.parts w.parts) (looks shared.key.seats shared.key.per_seat seat.id seat.me.0),
-    )
+    let of_a = is_of c.a.inside c.self.inside c.self.invariant c.a.view_is c.self.view_is c.requires.0 in
+    looks_in c.self.inside c.join_seat.new.seat (c.join_seat.ensures.0 ∙ of_a.table) c.self.invariant
 
 pub split_seat-seat-requires : goal.split_seat-seat-requires
 split_seat-seat-requires c =
-    let of_a = is_of c.a.inside c.self.inside c.args.a.now c.args.self.now c.a.view_is c.self.view_is c.requires.0 in
-    let shared = c.self.inside.table.shared in
-    let seat = c.load-head.new.seat in
-    let words = row_words c.self.inside c.args.self.now c.self.invariant c.self.view_is in
-    let some_words : 0 < shared.table_id.words = omega arith in (
-      c.load-head.ensures.0 ∙ (c.join_seat.ensures.0 ∙ of_a.table),
-      some_words,
-      splits shared.key.seats shared.key.per_seat seat.id seat.me.0,
-    )
+    let of_a = is_of c.a.inside c.self.inside c.self.invariant c.a.view_is c.self.view_is c.requires.0 in
+    splits_in c.self.inside c.load-head.new.seat (c.load-head.ensures.0 ∙ (c.join_seat.ensures.0 ∙ of_a.table)) c.self.invariant
 
 pub invariant_of-a : goal.invariant_of-a
 invariant_of-a c =
-    let both : c.join_seat.new.seat.me.0.parts ≡ part c.b.inside ∷ part c.a.inside ∷ [] = ap (λ m. m.0.parts) c.join_seat.ensures.2 ∙ (λ k. c.b.invariant.alone k ++ c.a.invariant.alone k) in
-    let m = met c.load-head.result (part c.b.inside) (part c.a.inside) c.join_seat.new.seat.me.0.parts c.load-head.new.seat.me.0.parts both c.load-head.ensures.2.1 in
+    let m = met (ap (λ m. m.0.parts) c.join_seat.ensures.2) c.b.invariant c.a.invariant c.load-head.ensures.2.1 in
     let split = c.split_seat-seat.ensures in
     found_pass c.a.inside c.split_seat-seat.new.seat c.load-head.result m.chain
     (ap (λ s. s.0.parts) split.2 ∙ ap (drop 1) m.is)
@@ -56,20 +32,15 @@ invariant_of-a c =
 
 pub invariant_of-result : goal.invariant_of-result
 invariant_of-result c =
-    let both : c.join_seat.new.seat.me.0.parts ≡ part c.b.inside ∷ part c.a.inside ∷ [] = ap (λ m. m.0.parts) c.join_seat.ensures.2 ∙ (λ k. c.b.invariant.alone k ++ c.a.invariant.alone k) in
-    let m = met c.load-head.result (part c.b.inside) (part c.a.inside) c.join_seat.new.seat.me.0.parts c.load-head.new.seat.me.0.parts both c.load-head.ensures.2.1 in
+    let m = met (ap (λ m. m.0.parts) c.join_seat.ensures.2) c.b.invariant c.a.invariant c.load-head.ensures.2.1 in
     let split = c.split_seat-seat.ensures in
-    found_pass c.b.inside c.split_seat-seat.result c.load-head.result m.chain
-    (ap (λ s. s.0.parts) split.4 ∙ ap (take 1) m.is)
-    (ap (λ s. s.1) split.4)
-    m.b_sees c.b.invariant
+    found_pass c.b.inside c.split_seat-seat.result c.load-head.result m.chain (ap (λ s. s.0.parts) split.4 ∙ ap (take 1) m.is) (ap (λ s. s.1) split.4) m.b_sees c.b.invariant
 
 pub returns-clause-b : goal.returns-clause-b
 returns-clause-b c =
-    let of_a = is_of c.a.inside c.self.inside c.args.a.now c.args.self.now c.a.view_is c.self.view_is c.requires.0 in
-    let of_b = is_of c.b.inside c.self.inside c.args.b c.args.self.now c.b.view_is c.self.view_is c.requires.1 in
-    let both : c.join_seat.new.seat.me.0.parts ≡ part c.b.inside ∷ part c.a.inside ∷ [] = ap (λ m. m.0.parts) c.join_seat.ensures.2 ∙ (λ k. c.b.invariant.alone k ++ c.a.invariant.alone k) in
-    let m = met c.load-head.result (part c.b.inside) (part c.a.inside) c.join_seat.new.seat.me.0.parts c.load-head.new.seat.me.0.parts both c.load-head.ensures.2.1 in
+    let of_a = is_of c.a.inside c.self.inside c.self.invariant c.a.view_is c.self.view_is c.requires.0 in
+    let of_b = is_of c.b.inside c.self.inside c.self.invariant c.b.view_is c.self.view_is c.requires.1 in
+    let m = met (ap (λ m. m.0.parts) c.join_seat.ensures.2) c.b.invariant c.a.invariant c.load-head.ensures.2.1 in
     let split = c.split_seat-seat.ensures in
     let table : c.split_seat-seat.result.table_id ≡ c.b.inside.seat.table_id = split.3 ∙ (c.load-head.ensures.0 ∙ (c.join_seat.ensures.0 ∙ (of_a.table ∙ sym of_b.table))) in
     subst (λ k. FindsChain k (known_of c.split_seat-seat.result.table_id (part_of c.split_seat-seat.result.me.0.parts))) c.b.view_is
@@ -77,14 +48,12 @@ returns-clause-b c =
 
 pub returns-clause-one_begins : goal.returns-clause-one_begins
 returns-clause-one_begins c =
-    let both : c.join_seat.new.seat.me.0.parts ≡ part c.b.inside ∷ part c.a.inside ∷ [] = ap (λ m. m.0.parts) c.join_seat.ensures.2 ∙ (λ k. c.b.invariant.alone k ++ c.a.invariant.alone k) in
-    let m = met c.load-head.result (part c.b.inside) (part c.a.inside) c.join_seat.new.seat.me.0.parts c.load-head.new.seat.me.0.parts both c.load-head.ensures.2.1 in
+    let m = met (ap (λ m. m.0.parts) c.join_seat.ensures.2) c.b.invariant c.a.invariant c.load-head.ensures.2.1 in
     one_begins c.args.a.now c.args.b m.chain
     (subst (λ (k : Known). IsFront k.seen m.chain) c.a.view_is m.a_sees.sound.front)
     (subst (λ (k : Known). IsFront k.seen m.chain) c.b.view_is m.b_sees.sound.front)
 
 pub returns-clause-apart : goal.returns-clause-apart
 returns-clause-apart c =
-    let both : c.join_seat.new.seat.me.0.parts ≡ part c.b.inside ∷ part c.a.inside ∷ [] = ap (λ m. m.0.parts) c.join_seat.ensures.2 ∙ (λ k. c.b.invariant.alone k ++ c.a.invariant.alone k) in
-    let m = met c.load-head.result (part c.b.inside) (part c.a.inside) c.join_seat.new.seat.me.0.parts c.load-head.new.seat.me.0.parts both c.load-head.ensures.2.1 in
+    let m = met (ap (λ m. m.0.parts) c.join_seat.ensures.2) c.b.invariant c.a.invariant c.load-head.ensures.2.1 in
     λ same. m.apart (ap (λ (x : Known). x.number) c.a.view_is ∙ (same ∙ sym (ap (λ (x : Known). x.number) c.b.view_is)))

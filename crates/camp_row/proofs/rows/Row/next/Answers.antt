@@ -1,8 +1,5 @@
-use Rattle.camp_row.proofs.Words.{arith, ◌≡◌, ◌<◌, ◌%◌, [], ◌++◌, sym, ap, subst, ◌∙◌, length, vec_len, MatchOption, Option, nil_from_length, append-nil, false≢true, Next, ComesNext, Leads, cells_back, place_word, Walked, part}
-use Rattle.camp_row.proofs.Ruling.{allows_one}
-use Rattle.camp_row.proofs.Loading.{walks}
-use Rattle.camp_row.proofs.PassOfRow.{is_of, few_cells}
-use Rattle.camp_row.proofs.TrailSteps.{trail_none, on_top, comes_next, leads_on}
+use Rattle.camp_row.proofs.Words.{arith, ◌≡◌, ◌<◌, [], ◌++◌, sym, ap, subst, ◌∙◌, length, vec_len, MatchOption, Option, nil_from_length, append-nil, false≢true, Next, ComesNext, cells_back, place_word}
+use Rattle.camp_row.proofs.TrailSteps.{trail_none, on_top, comes_next, is_of, walks_in}
 use Rattle.camp_row.proofs.rows.Row.next.Goals as goal
 
 pub returns-in_err-cell-clause-next : goal.returns-in_err-cell-clause-next
@@ -17,45 +14,25 @@ returns-in_err-cell-clause-next c =
 
 pub place_word-requires : goal.place_word-requires
 place_word-requires c =
-    let of = is_of c.pass.inside c.self.inside c.args.pass.now c.args.self.now c.pass.view_is c.self.view_is c.requires.row in
-    let leads = subst (Leads c.args.pass.now c.args.pass.now.seen) (sym c.trail.view_is ∙ c.in_ok-cell.ensures.items) c.requires.leads in
-    let top = on_top c.pass.inside c.self.inside c.args.pass.now c.pass.view_is of c.pass.invariant.sound c.pop.new.self.items c.in_ok-cell.cell leads in
-    let inside = top.in_row in
-    let few = few_cells c.self.inside.seats c.self.inside.per_seat c.self.invariant.seats.1 c.self.invariant.per_seat.1 in
+    let of = is_of c.pass.inside c.self.inside c.self.invariant c.pass.view_is c.self.view_is c.requires.row in
+    let top = on_top c.pass.view_is of c.pass.invariant.sound c.trail.view_is c.in_ok-cell.ensures.items c.requires.leads in
     omega arith
 
 pub load-place-requires : goal.load-place-requires
 load-place-requires c =
-    let of = is_of c.pass.inside c.self.inside c.args.pass.now c.args.self.now c.pass.view_is c.self.view_is c.requires.row in
-    let leads = subst (Leads c.args.pass.now c.args.pass.now.seen) (sym c.trail.view_is ∙ c.in_ok-cell.ensures.items) c.requires.leads in
-    let top = on_top c.pass.inside c.self.inside c.args.pass.now c.pass.view_is of c.pass.invariant.sound c.pop.new.self.items c.in_ok-cell.cell leads in
-    let shared = c.self.inside.table.shared in
-    let seat = c.pass.inside.seat in
-    let word = c.place_word.result in
-    let word_is : word ≡ place_word c.in_ok-cell.cell = c.place_word.ensures in
-    let inside = top.in_row in
-    let words = c.self.invariant.words in (
-      of.table,
-      omega arith,
-      allows_one shared.key.seats shared.key.per_seat shared.table_id.slots seat.id seat.me word (λ n. n) (Walked word) (part c.pass.inside) c.pass.invariant.alone (walks shared.key.seats shared.key.per_seat seat.id (part c.pass.inside) word),
-    )
+    let of = is_of c.pass.inside c.self.inside c.self.invariant c.pass.view_is c.self.view_is c.requires.row in
+    let top = on_top c.pass.view_is of c.pass.invariant.sound c.trail.view_is c.in_ok-cell.ensures.items c.requires.leads in
+    let word_is : c.place_word.result ≡ place_word c.in_ok-cell.cell = c.place_word.ensures in
+    walks_in c.self.inside c.pass.inside.seat top.held.of.table c.place_word.result (omega arith) c.pass.invariant.alone
 
 pub returns-clause-next : goal.returns-clause-next
 returns-clause-next c =
-    let of = is_of c.pass.inside c.self.inside c.args.pass.now c.args.self.now c.pass.view_is c.self.view_is c.requires.row in
-    let leads = subst (Leads c.args.pass.now c.args.pass.now.seen) (sym c.trail.view_is ∙ c.in_ok-cell.ensures.items) c.requires.leads in
-    let top = on_top c.pass.inside c.self.inside c.args.pass.now c.pass.view_is of c.pass.invariant.sound c.pop.new.self.items c.in_ok-cell.cell leads in
-    let place : c.load-place.result ≡ top.entry.place =
-    (c.load-place.ensures.2.1.1 (part c.pass.inside).seen top.entry top.later top.cut).1 (c.place_word.ensures ∙ ap place_word top.cell_is) in
-    comes_next c.pass.inside c.self.inside c.args.pass.now c.pass.view_is of c.pass.invariant.sound c.pop.new.self.items c.in_ok-cell.cell (record { seat = c.in_ok-cell.cell % c.self.inside.seats; place = c.load-place.result }) top
-    (λ k. record { seat = top.seat_is k; place = place k })
+    let of = is_of c.pass.inside c.self.inside c.self.invariant c.pass.view_is c.self.view_is c.requires.row in
+    let top = on_top c.pass.view_is of c.pass.invariant.sound c.trail.view_is c.in_ok-cell.ensures.items c.requires.leads in
+    (comes_next c.pass.view_is top c.load-place.ensures.2.1.1 c.place_word.ensures).0
 
 pub returns-clause-leads : goal.returns-clause-leads
 returns-clause-leads c =
-    let of = is_of c.pass.inside c.self.inside c.args.pass.now c.args.self.now c.pass.view_is c.self.view_is c.requires.row in
-    let leads = subst (Leads c.args.pass.now c.args.pass.now.seen) (sym c.trail.view_is ∙ c.in_ok-cell.ensures.items) c.requires.leads in
-    let top = on_top c.pass.inside c.self.inside c.args.pass.now c.pass.view_is of c.pass.invariant.sound c.pop.new.self.items c.in_ok-cell.cell leads in
-    let place : c.load-place.result ≡ top.entry.place =
-    (c.load-place.ensures.2.1.1 (part c.pass.inside).seen top.entry top.later top.cut).1 (c.place_word.ensures ∙ ap place_word top.cell_is) in
-    leads_on c.pass.inside c.self.inside c.args.pass.now c.pass.view_is of c.pass.invariant.sound c.pop.new.self.items c.in_ok-cell.cell (record { seat = c.in_ok-cell.cell % c.self.inside.seats; place = c.load-place.result }) top
-    (λ k. record { seat = top.seat_is k; place = place k })
+    let of = is_of c.pass.inside c.self.inside c.self.invariant c.pass.view_is c.self.view_is c.requires.row in
+    let top = on_top c.pass.view_is of c.pass.invariant.sound c.trail.view_is c.in_ok-cell.ensures.items c.requires.leads in
+    (comes_next c.pass.view_is top c.load-place.ensures.2.1.1 c.place_word.ensures).1

@@ -1,5 +1,4 @@
-use Rattle.camp_script.proofs.Common.{subst, sym, rules, ended, GivesFaultFirst}
-use Rattle.camp_script.specs.Inside.ReadingFields.{open_record_of, edit_so_far}
+use Rattle.camp_script.proofs.Common.{subst, sym, rules, ended, GivesFaultFirst, open_record_of, edit_so_far}
 use Rattle.camp_script.proofs.RecordLines.{end_goes_on, end_fails}
 use Rattle.camp_script.proofs.readings.Reading.end_edit.Goals as goal
 

@@ -1,6 +1,5 @@
-use Rattle.camp_script.proofs.Common.{sym, ap, ◌∙◌}
+use Rattle.camp_script.proofs.Common.{sym, ap, ◌∙◌, open_record_of, progress_of}
 use Rattle.std.specs.Option.{option_map}
-use Rattle.camp_script.specs.Inside.ReadingFields.{open_record_of, progress_of}
 use Rattle.camp_script.proofs.RecordLines.{in_record, no_record}
 use Rattle.camp_script.proofs.readings.Reading.read_line.Goals as goal
 
