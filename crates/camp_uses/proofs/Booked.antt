@@ -1,12 +1,5 @@
 -- What an answer says of a book that one caller has alone.
-use Rattle.std.proofs.Common.{◌≡◌, ℕ, List, [], ◌∷◌, ◌++◌, Result, Ok, Err, refl, sym, ◌∙◌, subst}
-use Rattle.camp_call.specs.declared.calls.Call.{Call}
-use Rattle.camp_call.specs.declared.replies.Reply.{Reply}
-use Rattle.camp_call.specs.declared.replies.Reply.TheVariants.{Done, Refused, Tree, Conflicts, Names}
-use Rattle.camp_object.specs.Asking.{Says, alone_at}
-use Rattle.camp_object.specs.declared.faults.Fault.{Fault}
-use Rattle.camp_object.specs.declared.faults.Fault.TheVariants.{Memory, Busy, Full}
-use Rattle.camp_repo.specs.Objects.{repository}
+use Rattle.camp_uses.proofs.Words.{◌≡◌, ℕ, List, [], ◌∷◌, ◌++◌, Result, Ok, Err, refl, subst, Call, Reply, Done, Refused, Tree, Conflicts, Names, Says, alone_at, Fault, Memory, Busy, Full, repository}
 use Rattle.camp_uses.specs.Asked.{Leaves}
 
 pub left : (seat : ℕ) (old new : List (ℕ × Call)) (call : Call) (answer : Result Reply Fault) → Says repository (alone_at seat) old call answer new → Leaves seat old call answer new

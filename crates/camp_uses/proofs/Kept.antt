@@ -1,23 +1,8 @@
 -- A book that is kept as a text and read again.
-use Rattle.std.proofs.Common.{◌≡◌, ◌≤◌, ℕ, List, [], ◌∷◌, length, Result, Ok, sym, ◌∙◌, ap}
-use Rattle.std.specs.List.{AllByRecursion}
-use Rattle.camp_object.specs.Histories.{IsLegal, replay}
-use Rattle.camp_object.specs.declared.faults.Fault.{Fault}
+use Rattle.camp_uses.proofs.Words.{◌≡◌, ◌≤◌, ℕ, List, [], ◌∷◌, length, Result, Ok, sym, ◌∙◌, ap, AllByRecursion, IsLegal, replay, Fault, Call, Reply, OneByOne, repository, initial, KeptLeadsBack, at_seat_0, history_from, CanStand, calls_of, kept_text, script_of}
 use Rattle.camp_object.proofs.Replays.{state_of_legal}
-use Rattle.camp_call.specs.declared.calls.Call.{Call}
-use Rattle.camp_call.specs.declared.replies.Reply.{Reply}
-use Rattle.camp_clients.specs.Runs.{OneByOne}
-use Rattle.camp_repo.specs.Objects.{repository}
-use Rattle.camp_repo.specs.States.{initial}
-use Rattle.camp_run.specs.Keeping.{KeptLeadsBack, at_seat_0}
 use Rattle.camp_run.specs.Laws.{OneByOneIsSerial}
-use Rattle.camp_run.specs.Serial.{history_from}
-use Rattle.camp_script.specs.Keeping.{CanStand, calls_of, kept_text}
-use Rattle.camp_script.specs.Reading.{script_of}
-use Rattle.camp_script.specs.declared.faults.LineFault.{LineFault}
-
-same_script : (one two : List (List Call)) (read : Result (List (List Call)) LineFault) → read ≡ Ok one → read ≡ Ok two → one ≡ two
-same_script one two read first second = cc
+use Rattle.camp_uses.proofs.ReadBack.{same_script}
 
 -- what comes back has the calls of what was kept, in their order, and its state
 pub comes_back : KeptLeadsBack → OneByOneIsSerial → (kept : List (ℕ × Call)) (text : List ℕ) (script sections : List (List Call)) (answers : List (List (Result Reply Fault))) (again : List (ℕ × Call))

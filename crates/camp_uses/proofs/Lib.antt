@@ -6,3 +6,4 @@ pub mod Questioned
 pub mod ReadBack
 pub mod Shared
 pub mod Turned
+pub mod Words

@@ -1,29 +1,20 @@
 -- What is done to a tree leads to one tree.
-use Rattle.std.proofs.Common.{◌≡◌, ℕ, List, [], ◌∷◌, refl, sym, ◌∙◌, subst, Option, None, Some, IsSome, Result, Ok, Err}
+use Rattle.camp_uses.proofs.Words.{◌≡◌, ℕ, List, [], ◌∷◌, refl, sym, ◌∙◌, subst, Option, None, Some, IsSome, Result, Ok, Err, OnOk, same_Some, Answers, AnswersByTrial, Files, Lines, Adds, Removes, Applies, Leads, Primitive, CleanMerge}
 use Rattle.std.specs.FinMap.{get, insert}
-use Rattle.std.specs.Result.{OnOk}
-use Rattle.std.proofs.lemmas.Option.{same_Some}
-use Rattle.camp_base.specs.Answers.{Answers, AnswersByTrial}
-use Rattle.camp_base.specs.Trees.{Files, Lines, Adds, Removes}
 use Rattle.camp_base.specs.declared.faults.Apply.{Apply}
 use Rattle.camp_base.specs.declared.faults.Apply.TheVariants.{DoesNotApply, Memory}
 use Rattle.camp_prim.specs.Applied.{AppliedIsApplies, InverseLeadsBack}
-use Rattle.camp_prim.specs.Effect.{Applies, Leads}
 use Rattle.camp_prim.specs.declared.named.Named.{Named}
-use Rattle.camp_prim.specs.declared.primitives.Primitive.{Primitive}
 use Rattle.camp_prim.specs.declared.primitives.Primitive.TheVariants.{Add, Remove}
 use Rattle.camp_seq.specs.Laws as lists
 use Rattle.camp_seq.specs.Laws.{MergeCloses}
-use Rattle.camp_seq.specs.Merging.{CleanMerge}
 use Rattle.camp_seq.specs.Running.{AppliesAll, inverse_all}
 
 pub applies_once : AppliedIsApplies → (p : Primitive) (old a b : Files) → Applies p old a → Applies p old b → a ≡ b
 applies_once is p old a b x y = same_Some a b (sym ((is p old a).1 x) ∙ (is p old b).1 y)
 
 pub leads_once : AppliedIsApplies → (p q : Primitive) (old a b : Files) → Leads p q old a → Leads p q old b → a ≡ b
-leads_once is p q old a b x y =
-    let between = applies_once is p old x.between y.between x.first y.first in
-    applies_once is q y.between a b (subst (λ tree. Applies q tree a) between x.second) y.second
+leads_once is p q old a b x y = applies_once is q y.between a b (subst (λ tree. Applies q tree a) (applies_once is p old x.between y.between x.first y.first) x.second) y.second
 
 pub runs_once : AppliedIsApplies → (s : List Named) (old a b : Files) → AppliesAll s old a → AppliesAll s old b → a ≡ b
 runs_once is [] old a b x y = x ∙ sym y

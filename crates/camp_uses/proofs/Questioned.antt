@@ -1,35 +1,24 @@
 -- What was answered to a question, and what comes of a call that goes by it.
-use Rattle.std.proofs.Common.{◌≡◌, ◌≢◌, ◌<◌, ◌⊎◌, inl, inr, ℕ, Bool, true, false, true≢false, not, ◌||◌, ◌&&◌, List, [], ◌∷◌, ◌++◌, map, length, Option, None, Some, MatchOption, Result, Ok, Err, IsErrAnd, bytes_eq, refl, sym, ap, ◌∙◌, subst, arith}
+use Rattle.camp_uses.proofs.Words.{◌≡◌, ◌≢◌, ◌<◌, ◌||◌, ◌⊎◌, inl, inr, ℕ, Bool, true, false, not, ◌&&◌, List, [], ◌∷◌, ◌++◌, map, length, Option, None, Some, MatchOption, Result, Ok, Err, IsErrAnd, bytes_eq, refl, sym, ap, ◌∙◌, subst, arith, same_Some, Catch, has_patch, is_among, name_of, names_of, other_names}
+use Rattle.camp_uses.proofs.Words.{Outcome, Reply, Next, Answer, AcceptedCallsHaveEffect, Has, Contents, catches_of, Decision, becomes, first_lacked, is_empty, is_full_with, pull_wanted, refused, refused_if, step, wanted, with_patches, IsShown, Patch, patch_in, GoesWithHeld, HasThem, IsRefusal, MayRefuse, MayRefuseFor, PullsWithNeeds}
 use Rattle.std.specs.Option.{option_map_or}
-use Rattle.std.proofs.lemmas.Option.{same_Some}
 use Rattle.std.proofs.lemmas.List.Folds.{list_any-append}
-use Rattle.camp_catch.specs.declared.catches.Catch.{Catch}
-use Rattle.camp_branch.specs.Branches.{has_patch, is_among, name_of, names_of}
-use Rattle.camp_branch.specs.Obliterating.{other_names}
-use Rattle.camp_branch.specs.Pulling.{Outcome}
 use Rattle.camp_branch.specs.declared.faults.Blocked.TheVariants as blocked
 use Rattle.camp_branch.proofs.Names.{same_name}
 use Rattle.camp_branch.proofs.NamesKept.{among_kept, among_once}
 use Rattle.camp_call.specs.declared.calls.Call.TheVariants as call
-use Rattle.camp_call.specs.declared.replies.Reply.{Reply}
 use Rattle.camp_call.specs.declared.replies.Reply.TheVariants as reply
 use Rattle.camp_call.specs.declared.replies.Refusal.{Refusal}
 use Rattle.camp_call.specs.declared.replies.Refusal.TheVariants.{NoBranch, NoPatch, NothingToDo, SameBranch, TooLarge}
-use Rattle.camp_object.specs.declared.objects.Decided.TheVariants.{Next, Answer}
 use Rattle.camp_repo.specs.Lawful.{IsLawfulState}
-use Rattle.camp_repo.specs.Laws.{AcceptedCallsHaveEffect, Has}
 use Rattle.camp_repo.specs.Outcomes.{pulled}
-use Rattle.camp_repo.specs.States.{Contents, catches_of}
-use Rattle.camp_repo.specs.Steps.{Decision, becomes, first_lacked, is_empty, is_full_with, pull_wanted, refused, refused_if, step, wanted, with_patches}
 use Rattle.camp_questions.specs.Answers.{AnswerOf, OfBranch, OfPatches, Tells}
 use Rattle.camp_questions.specs.Dependencies.{AreHeldBy, AreNeeded, HeldBy, Needs}
 use Rattle.camp_questions.specs.Laws.{HeldCanGo, NeedsComeFirst}
-use Rattle.camp_questions.specs.Showing.{IsShown, Patch, patch_in}
 use Rattle.camp_questions.specs.declared.faults.Unanswered.{Unanswered}
 use Rattle.camp_questions.specs.declared.faults.Unanswered.TheVariants.{Refused, Memory}
 use Rattle.camp_questions.proofs.BranchGrowths.{none_lacked}
 use Rattle.camp_questions.proofs.Growths.{in_order_there}
-use Rattle.camp_uses.specs.Questioned.{GoesWithHeld, HasThem, IsRefusal, MayRefuse, MayRefuseFor, PullsWithNeeds}
 
 -- a question for patches of a branch
 abbrev Asks : {A : Type 0} → Contents → List ℕ → List (List ℕ) → (List Catch → AnswerOf A → Type 0) → AnswerOf A → Type 0

@@ -1,14 +1,9 @@
 -- A record that is written and read again.
-use Rattle.std.proofs.Common.{◌≡◌, ◌≤◌, ℕ, List, [], ◌∷◌, ◌++◌, append-nil, Result, Ok, refl, sym, ap, ◌∙◌, subst, arith}
+use Rattle.camp_uses.proofs.Words.{◌≡◌, ℕ, List, [], ◌∷◌, ◌++◌, append-nil, Result, Ok, sym, ap, ◌∙◌, subst, arith, Call, Primitive, ReadsBack, call_text, CanStand, script_of, LineFault}
 use Rattle.camp_call.specs.declared.calls.Call.TheVariants as call
-use Rattle.camp_call.specs.declared.calls.Call.{Call}
-use Rattle.camp_prim.specs.declared.primitives.Primitive.{Primitive}
-use Rattle.camp_script.specs.Canonical.{IsScriptCall, ReadsBack, call_text}
-use Rattle.camp_script.specs.Keeping.{CanStand}
-use Rattle.camp_script.specs.Reading.{script_of}
-use Rattle.camp_script.specs.declared.faults.LineFault.{LineFault}
 
-same_script : (one two : List (List Call)) (read : Result (List (List Call)) LineFault) → read ≡ Ok one → read ≡ Ok two → one ≡ two
+-- what is read of a text is one script
+pub same_script : (one two : List (List Call)) (read : Result (List (List Call)) LineFault) → read ≡ Ok one → read ≡ Ok two → one ≡ two
 same_script one two read first second = cc
 
 pub record_reads_back : ReadsBack → (branch name : List ℕ) (changes : List Primitive) (text : List ℕ) (script : List (List Call)) → CanStand (call.Record branch name changes) → text ≡ call_text (call.Record branch name changes) → script_of text ≡ Ok script → script ≡ (call.Record branch name changes ∷ []) ∷ []

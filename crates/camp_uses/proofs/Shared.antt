@@ -1,22 +1,6 @@
 -- What the answers of a head say to callers.
-use Rattle.std.proofs.Common.{◌≡◌, ℕ, List, [], ◌∷◌, ◌++◌, Option, None, Some, Result, Ok, Err, refl, sym, ap, ◌∙◌, subst}
-use Rattle.std.proofs.lemmas.Option.{same_Some}
-use Rattle.camp_base.specs.Trees.{Files}
-use Rattle.camp_branch.specs.Branches.{LeadsTo}
-use Rattle.camp_catch.specs.declared.catches.Catch.{Catch}
-use Rattle.camp_call.specs.declared.calls.Call.{Call}
+use Rattle.camp_uses.proofs.Words.{◌≡◌, ℕ, List, Option, None, Some, Result, Ok, Err, refl, subst, Files, LeadsTo, Catch, Call, Reply, Done, Refused, Tree, Conflicts, Names, Caller, Says, IsAnswered, own, Fault, Memory, Busy, Full, Next, Answer, Has, HistoriesTellTrees, repository, Contents, catches_of, Decision, step}
 use Rattle.camp_call.specs.declared.calls.Call.TheVariants as call
-use Rattle.camp_call.specs.declared.replies.Reply.{Reply}
-use Rattle.camp_call.specs.declared.replies.Reply.TheVariants.{Done, Refused, Tree, Conflicts, Names}
-use Rattle.camp_object.specs.Asking.{Caller, Says}
-use Rattle.camp_object.specs.Histories.{IsAnswered, own}
-use Rattle.camp_object.specs.declared.faults.Fault.{Fault}
-use Rattle.camp_object.specs.declared.faults.Fault.TheVariants.{Memory, Busy, Full}
-use Rattle.camp_object.specs.declared.objects.Decided.TheVariants.{Next, Answer}
-use Rattle.camp_repo.specs.Laws.{Has, HistoriesTellTrees}
-use Rattle.camp_repo.specs.Objects.{repository}
-use Rattle.camp_repo.specs.States.{Contents, catches_of}
-use Rattle.camp_repo.specs.Steps.{Decision, step}
 use Rattle.camp_uses.specs.Shared.{Grows, HoldsTree}
 
 -- the calls of a caller, by what it was answered

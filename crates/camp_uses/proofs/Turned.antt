@@ -1,12 +1,8 @@
 -- What becomes of catches that fit a tree.
-use Rattle.std.proofs.Common.{◌≡◌, List, Option, None, Some, Result, Ok, Err, IfOk, IfSome}
-use Rattle.camp_base.specs.Answers.{FindsPair}
-use Rattle.camp_base.specs.Trees.{Files}
+use Rattle.camp_uses.proofs.Words.{List, Option, None, Some, Result, Ok, Err, IfOk, IfSome, FindsPair, Files, MergeLists, Catch}
 use Rattle.camp_catch.specs.Catches.{Fits, FitsAll}
 use Rattle.camp_catch.specs.Commuting.{CommuteCatch}
 use Rattle.camp_catch.specs.Laws.{CommuteKeepsEffects, ListsKeepEffects}
-use Rattle.camp_catch.specs.MergingLists.{MergeLists}
-use Rattle.camp_catch.specs.declared.catches.Catch.{Catch}
 
 -- a pair that two catches commute to fits where the two fit
 pub turned : {E : Type 0} → CommuteKeepsEffects → (j k : Catch) (result : Result (Option (Catch × Catch)) E) → IfOk result (FindsPair (CommuteCatch j k)) → IfOk result (λ found. IfSome found (λ both. (old between new : Files) → Fits j old between → Fits k between new → (other : Files) × Fits both.0 old other × Fits both.1 other new))

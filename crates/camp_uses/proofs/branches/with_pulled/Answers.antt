@@ -1,6 +1,4 @@
-use Rattle.std.proofs.Common.{Ok}
-use Rattle.camp_branch.specs.Fields.{names_in}
-use Rattle.camp_branch.specs.Pulling.{PullGives}
+use Rattle.camp_uses.proofs.Words.{Ok, names_in, PullGives}
 use Rattle.camp_uses.proofs.branches.with_pulled.Goals as goal
 
 pub returns-in-Ok-clause-names : goal.returns-in-Ok-clause-names

@@ -1,11 +1,7 @@
-use Rattle.std.proofs.Common.{Ok}
-use Rattle.camp_branch.specs.Fields.{names_in}
-use Rattle.camp_branch.specs.Obliterating.{ObliterateGives}
+use Rattle.camp_uses.proofs.Words.{Ok, names_in, ObliterateGives}
 use Rattle.camp_uses.proofs.branches.without.Goals as goal
 
 pub returns-in-Ok : goal.returns-in-Ok
-returns-in-Ok c = record {
-  names =
-      let gives : ObliterateGives c.args.branch.now (names_in c.args.names.now) (Ok c.in-Ok.left) = rw c.in-Ok.is at c.in_ok-left.ensures.exact in
-      c.obliterates_keep_lawful.ensures.law.names _ _ _ gives c.catches-lawful.ensures.lawful;
-}
+returns-in-Ok c =
+    let gives : ObliterateGives c.args.branch.now (names_in c.args.names.now) (Ok c.in-Ok.left) = rw c.in-Ok.is at c.in_ok-left.ensures.exact in
+    record { names = c.obliterates_keep_lawful.ensures.law.names _ _ _ gives c.catches-lawful.ensures.lawful }

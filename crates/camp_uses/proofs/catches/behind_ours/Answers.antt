@@ -1,6 +1,4 @@
-use Rattle.std.proofs.Common.{List}
-use Rattle.camp_catch.specs.MergingLists.{MergeLists}
-use Rattle.camp_catch.specs.declared.catches.Catch.{Catch}
+use Rattle.camp_uses.proofs.Words.{List, MergeLists, Catch}
 use Rattle.camp_uses.proofs.Turned.{behind}
 use Rattle.camp_uses.proofs.catches.behind_ours.Goals as goal
 

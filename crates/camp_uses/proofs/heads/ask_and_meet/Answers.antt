@@ -1,9 +1,7 @@
-use Rattle.std.proofs.Common.{OnOk, sym, subst}
-use Rattle.camp_object.specs.Histories.{IsFront}
+use Rattle.camp_uses.proofs.Words.{OnOk, sym, subst, IsFront}
 use Rattle.camp_history.specs.Seats.{history_of}
 use Rattle.camp_uses.proofs.heads.ask_and_meet.Goals as goal
 
--- src/heads.rt:46:1
 pub returns-clause-one_history : goal.returns-clause-one_history
 returns-clause-one_history c =
     let met = c.meet-first.ensures.meets in

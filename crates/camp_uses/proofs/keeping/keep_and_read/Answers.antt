@@ -1,10 +1,4 @@
-use Rattle.std.proofs.Common.{◌≡◌, ◌++◌, ap, subst, ◌∙◌}
-use Rattle.std.specs.List.{AllByRecursion}
-use Rattle.camp_clients.specs.Runs.{lists_of}
-use Rattle.camp_object.specs.Histories.{replay}
-use Rattle.camp_repo.specs.Objects.{repository}
-use Rattle.camp_run.specs.Keeping.{at_seat_0}
-use Rattle.camp_script.specs.Keeping.{CanStand, calls_of, kept_text}
+use Rattle.camp_uses.proofs.Words.{◌≡◌, ◌++◌, ap, subst, ◌∙◌, AllByRecursion, lists_of, replay, repository, at_seat_0, CanStand, calls_of, kept_text}
 use Rattle.camp_uses.proofs.Kept.{comes_back}
 use Rattle.camp_uses.proofs.keeping.keep_and_read.Goals as goal
 

@@ -1,5 +1,4 @@
-use Rattle.std.proofs.Common.{subst}
-use Rattle.camp_prim.specs.Effect.{Applies}
+use Rattle.camp_uses.proofs.Words.{subst, Applies}
 use Rattle.camp_uses.proofs.patches.after.Goals as goal
 
 pub returns : goal.returns

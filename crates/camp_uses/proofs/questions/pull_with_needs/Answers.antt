@@ -1,7 +1,5 @@
-use Rattle.std.proofs.Common.{◌≡◌, Some}
+use Rattle.camp_uses.proofs.Words.{◌≡◌, Some, Answer, Next, step}
 use Rattle.camp_call.specs.declared.calls.Call.TheVariants as call
-use Rattle.camp_object.specs.declared.objects.Decided.TheVariants.{Answer, Next}
-use Rattle.camp_repo.specs.Steps.{step}
 use Rattle.camp_uses.proofs.Questioned.{pull_brings, pull_refused, pull_told}
 use Rattle.camp_uses.proofs.questions.pull_with_needs.Goals as goal
 

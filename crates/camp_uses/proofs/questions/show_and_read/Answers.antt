@@ -1,12 +1,9 @@
-use Rattle.std.proofs.Common.{List, ◌++◌, ap, ◌∙◌}
+use Rattle.camp_uses.proofs.Words.{◌++◌, ap, ◌∙◌, Patch, call_text}
 use Rattle.camp_call.specs.declared.calls.Call.TheVariants as call
-use Rattle.camp_questions.specs.Showing.{Patch}
-use Rattle.camp_script.specs.Canonical.{call_text}
 use Rattle.camp_uses.proofs.Questioned.{shown_is}
 use Rattle.camp_uses.proofs.ReadBack.{shown_reads_back}
 use Rattle.camp_uses.proofs.questions.show_and_read.Goals as goal
 
--- src/questions.rt:65:1
 pub returns : goal.returns
 returns c = record {
   same =
