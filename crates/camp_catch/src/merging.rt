@@ -110,11 +110,7 @@ fn plain_and_conflictor(
 }
 
 /// Whether a patch is in conflict with what a conflictor is, as seen from before its effect.
-pub(crate) fn conflicts_with(
-    alloc: Global,
-    a: &Named,
-    k: &Conflictor,
-) -> Result<bool, AllocError>
+pub(crate) fn conflicts_with(alloc: Global, a: &Named, k: &Conflictor) -> Result<bool, AllocError>
     ensures { IfOk result (TellsPlainConflict a.now k.now) }
 {
     let own = bare(alloc, a)?;
