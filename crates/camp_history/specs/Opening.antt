@@ -6,12 +6,28 @@ use Rattle.camp_history.specs.Seats.{HeadId, Seated, calls_per_seat, unseen, IsS
 use Rattle.camp_history.specs.declared.faults.HeadFault.{HeadFault}
 use Rattle.camp_history.specs.declared.faults.HeadFault.TheVariants.{BadSize, Memory}
 
+-- seats of a head
+abbrev pub most_seats : ℕ
+most_seats = 64
+
+-- calls of a seat
+abbrev pub most_calls : ℕ
+most_calls = 65_536
+
+-- tries of a call
+abbrev pub most_tries : ℕ
+most_tries = 1_000
+
+-- places between two versions
+abbrev pub farthest_version : ℕ
+farthest_version = 4_096
+
 -- the numbers that a head can be made of
 pub record IsInRange (seats per_seat tries every : ℕ) : Type 0 where
-  pub some_seats : (1 ≤ seats) × (seats ≤ 64)
-  pub some_calls : (1 ≤ per_seat) × (per_seat ≤ 65536)
-  pub some_tries : (1 ≤ tries) × (tries ≤ 1000)
-  pub versions : every ≤ 4096
+  pub some_seats : (1 ≤ seats) × (seats ≤ most_seats)
+  pub some_calls : (1 ≤ per_seat) × (per_seat ≤ most_calls)
+  pub some_tries : (1 ≤ tries) × (tries ≤ most_tries)
+  pub versions : every ≤ farthest_version
 
 -- the seat of a number, which has seen nothing
 abbrev pub seat_at : {Call : Type 0} → HeadId → ℕ → Seated Call
