@@ -1,18 +1,14 @@
 -- What a new head is.
 use Rattle.std.specs.Prelude.{◌≡◌, ℕ, ◌≤◌, List, map, All, Result, Ok, Err}
 use Rattle.std.specs.List.{range_with_len}
-use Rattle.camp_row.specs.Known.{newcomer}
+use Rattle.camp_row.specs.Known.{most_cells, most_seats, newcomer}
 use Rattle.camp_history.specs.Seats.{HeadId, Seated, calls_per_seat, unseen, IsSeatOf}
 use Rattle.camp_history.specs.declared.faults.HeadFault.{HeadFault}
 use Rattle.camp_history.specs.declared.faults.HeadFault.TheVariants.{BadSize, Memory}
 
--- seats of a head
-abbrev pub most_seats : ℕ
-most_seats = 64
-
--- calls of a seat
+-- accepted calls of a seat: each has a cell of its own
 abbrev pub most_calls : ℕ
-most_calls = 65_536
+most_calls = most_cells
 
 -- tries of a call
 abbrev pub most_tries : ℕ
