@@ -10,10 +10,11 @@ use crate::plays::split_word;
 use crate::replays::Counts;
 use crate::runs::append_again;
 use crate::schedules::{
-    counts_over_head, counts_over_lock, output_of_each, output_over_head, run_drawn,
+    counts_of_drawn, counts_over_head, counts_over_lock, output_of_each, output_over_head,
 };
 use crate::scripts::{append_clients, append_race};
 use crate::wants::Wants;
+use bstr::ByteSlice;
 use std::alloc::Global;
 use std::sync::Wait;
 use std::thread::Threads;
@@ -21,23 +22,14 @@ use std::thread::Threads;
 /// What is done with the script of a block.
 #[derive(Clone, Copy)]
 enum Task {
-    /// It is run in one thread, over a lock and over a head: all write the same.
     Each,
-    /// It is run over a lock, and the answers are counted.
     Locked,
-    /// It is run over a head.
     Output,
-    /// The answers over a head are counted.
     Counts,
-    /// How many of them are accepted is left to the schedule.
     Open,
-    /// Every order of the turns of two clients.
     Orders,
-    /// Runs of other scripts, drawn by lot.
     Drawn,
-    /// It is read by readers that fail.
     Reads,
-    /// What it comes to is written by writers that fail.
     Writes,
 }
 
@@ -108,14 +100,8 @@ impl Block {
         let (word, rest) = split_word(line);
         match find(&WORDS, word) {
             Some(Word::Wait) => self.delays.push(rest),
-            Some(Word::Clients) => {
-                let (clients, records) = two_numbers(rest)?;
-                Ok(append_clients(&mut self.script, clients, records)?)
-            }
-            Some(Word::Race) => {
-                let (clients, records) = two_numbers(rest)?;
-                Ok(append_race(&mut self.script, clients, records)?)
-            }
+            Some(Word::Clients) => Ok(append_clients(&mut self.script, numbers_of(rest)?)?),
+            Some(Word::Race) => Ok(append_race(&mut self.script, numbers_of(rest)?)?),
             None => append_line(&mut self.script, line),
         }
     }
@@ -126,85 +112,77 @@ impl Block {
         rt: &R,
         alloc: Global,
         task: Task,
-        numbers: &[u8],
+        numbers: [u32; 2],
     ) -> Result<Vec<u8>, PlayFault> {
+        let script = &self.script;
         match task {
-            Task::Each => output_of_each(rt, alloc, &self.script),
-            Task::Locked => counts_text(alloc, counts_over_lock(rt, alloc, &self.script)),
-            Task::Output => self.output(rt, alloc, number(numbers)?),
-            Task::Counts => counts_text(alloc, self.counts(rt, alloc, number(numbers)?)),
-            Task::Open => open_text(alloc, self.counts(rt, alloc, number(numbers)?)),
-            Task::Orders => play_script(rt, alloc, &self.script, number(numbers)?),
-            Task::Drawn => drawn_text(alloc, run_drawn(rt, alloc, number(numbers)?)),
-            Task::Reads => self.ends(rt, alloc, Side::Reads, numbers),
-            Task::Writes => self.ends(rt, alloc, Side::Writes, numbers),
+            Task::Each => output_of_each(rt, alloc, script),
+            Task::Output => self.kept(output_over_head(
+                rt,
+                alloc,
+                script,
+                numbers[0],
+                &self.delays,
+            )),
+            Task::Orders => play_script(rt, alloc, script, numbers[0]),
+            Task::Reads => play_ends(rt, alloc, script, Side::Reads, numbers),
+            Task::Writes => play_ends(rt, alloc, script, Side::Writes, numbers),
+            _ => counts_text(alloc, task, self.counts(rt, alloc, task, numbers[0])),
         }
-    }
-
-    fn output<R: Threads + Wait + Sync>(
-        &self,
-        rt: &R,
-        alloc: Global,
-        tries: u32,
-    ) -> Result<Vec<u8>, PlayFault> {
-        let told = output_over_head(rt, alloc, &self.script, tries, &self.delays)?;
-        self.expect_kept()?;
-        Ok(told)
     }
 
     fn counts<R: Threads + Wait + Sync>(
         &self,
         rt: &R,
         alloc: Global,
-        tries: u32,
+        task: Task,
+        number: u32,
     ) -> Result<Counts, PlayFault> {
-        let counts = counts_over_head(rt, alloc, &self.script, tries, &self.delays)?;
-        self.expect_kept()?;
-        Ok(counts)
+        match task {
+            Task::Locked => counts_over_lock(rt, alloc, &self.script),
+            Task::Drawn => counts_of_drawn(rt, alloc, number),
+            _ => self.kept(counts_over_head(rt, alloc, &self.script, number, &self.delays)),
+        }
     }
 
-    fn ends<R: Threads + Wait + Sync>(
-        &self,
-        rt: &R,
-        alloc: Global,
-        side: Side,
-        numbers: &[u8],
-    ) -> Result<Vec<u8>, PlayFault> {
-        play_ends(rt, alloc, &self.script, side, two_numbers(numbers)?)
-    }
-
-    fn expect_kept(&self) -> Result<(), PlayFault> {
+    /// What a run came to, where each seat came through its gates.
+    fn kept<T: Drop>(&self, told: Result<T, PlayFault>) -> Result<T, PlayFault> {
         if self.delays.are_kept() {
-            Ok(())
+            told
         } else {
             Err(PlayFault::Wrong("a seat gave up"))
         }
     }
 }
 
-fn two_numbers(words: &[u8]) -> Result<(u32, u32), PlayFault> {
-    let (first, second) = split_word(words);
-    Ok((number(first)?, number(second)?))
+/// Up to two numbers, and 0 in place of one that is missing.
+fn numbers_of(words: &[u8]) -> Result<[u32; 2], PlayFault> {
+    let mut numbers = [0; 2];
+    for (at, word) in numbers.iter_mut().zip(words.fields()) {
+        *at = number(word)?;
+    }
+    Ok(numbers)
 }
 
-fn counts_text(alloc: Global, counts: Result<Counts, PlayFault>) -> Result<Vec<u8>, PlayFault> {
-    let counts = counts?;
-    let (accepted, refused, busy) = (counts.accepted, counts.refused, counts.busy);
-    let text = format!(in alloc; "accepted {accepted} refused {refused} busy {busy}\n")?;
+fn counts_text(
+    alloc: Global,
+    task: Task,
+    counts: Result<Counts, PlayFault>,
+) -> Result<Vec<u8>, PlayFault> {
+    let Counts {
+        accepted,
+        refused,
+        busy,
+    } = counts?;
+    let text = match task {
+        Task::Drawn => String::from_str(alloc, "each replay agrees\n")?,
+        Task::Open => {
+            let answers = accepted.saturating_add(refused).saturating_add(busy);
+            format!(in alloc; "{answers} answers, as they may be\n")?
+        }
+        _ => format!(in alloc; "accepted {accepted} refused {refused} busy {busy}\n")?,
+    };
     Ok(text.into_bytes())
-}
-
-fn open_text(alloc: Global, counts: Result<Counts, PlayFault>) -> Result<Vec<u8>, PlayFault> {
-    let counts = counts?;
-    let told = counts.accepted.saturating_add(counts.refused);
-    let answers = told.saturating_add(counts.busy);
-    let text = format!(in alloc; "{answers} answers, as they may be\n")?;
-    Ok(text.into_bytes())
-}
-
-fn drawn_text(alloc: Global, drawn: Result<(), PlayFault>) -> Result<Vec<u8>, PlayFault> {
-    drawn?;
-    Ok(Vec::from_slice(alloc, b"each replay agrees\n")?)
 }
 
 /// Plays a block, again where that wanted memory, and appends what it gives.
@@ -248,5 +226,5 @@ fn play_once<R: Threads + Wait + Sync>(
     };
     let mut block = Block::new(alloc);
     block.read(rest)?;
-    block.run(rt, alloc, task, numbers)
+    block.run(rt, alloc, task, numbers_of(numbers)?)
 }

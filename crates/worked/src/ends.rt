@@ -1,4 +1,4 @@
-//! Readers and writers that serve a few bytes a call, are interrupted, and fail, at each of the runs.
+//! Readers and writers that serve a few bytes a call, are interrupted, and fail at each of their calls.
 use crate::faults::PlayFault;
 use crate::runs::{WAYS, Way, run_way};
 use crate::schedules::output_of;
@@ -9,51 +9,31 @@ use std::io::{ErrorKind, Read, Write};
 use std::sync::Wait;
 use std::thread::Threads;
 
-/// How a reader or a writer serves its calls: up to `size` bytes each, and each only after so many that
-/// are interrupted; after the last one that is served it moves nothing, or fails.
-#[derive(Clone, Copy)]
-struct Service {
-    size: usize,
-    interruptions: u32,
-    served: usize,
-    last: Option<ErrorKind>,
-}
-
-impl Service {
-    /// It serves each call.
-    fn ample(size: u32, interruptions: u32) -> Service {
-        Service {
-            size: size as usize,
-            interruptions,
-            served: usize::MAX,
-            last: None,
-        }
-    }
-
-    fn failing(self, served: usize, last: Option<ErrorKind>) -> Service {
-        Service {
-            served,
-            last,
-            ..self
-        }
-    }
-}
-
-/// A service at work: how many calls it has served, and how often the next one is still interrupted.
+/// How a reader or a writer answers its calls: so many are served, with up to `size` bytes each, and each
+/// only after so many that are interrupted. Behind them it moves nothing, or fails.
 #[derive(Clone, Copy)]
 struct Calls {
-    service: Service,
-    count: usize,
+    size: usize,
+    times: u32,
+    served: usize,
+    last: Option<ErrorKind>,
+    /// How often the next call is still interrupted.
     interruptions: u32,
 }
 
 impl Calls {
-    fn new(service: Service) -> Calls {
+    fn new(size: u32, times: u32, served: usize, last: Option<ErrorKind>) -> Calls {
         Calls {
-            service,
-            count: 0,
-            interruptions: service.interruptions,
+            size: size as usize,
+            times,
+            served,
+            last,
+            interruptions: times,
         }
+    }
+
+    fn ample() -> Calls {
+        Calls::new(u32::MAX, 0, usize::MAX, None)
     }
 
     /// How many of so many bytes the next call moves.
@@ -62,15 +42,15 @@ impl Calls {
             self.interruptions -= 1;
             return Err(ErrorKind::Interrupted.into());
         }
-        self.interruptions = self.service.interruptions;
-        if self.count >= self.service.served {
-            return match self.service.last {
-                Some(kind) => Err(kind.into()),
-                None => Ok(0),
-            };
+        self.interruptions = self.times;
+        if self.served > 0 {
+            self.served -= 1;
+            return Ok(self.size.min(bytes));
         }
-        self.count += 1;
-        Ok(self.service.size.min(bytes))
+        match self.last {
+            Some(kind) => Err(kind.into()),
+            None => Ok(0),
+        }
     }
 }
 
@@ -114,64 +94,6 @@ impl<'a> Write for Writer<'a> {
     }
 }
 
-/// A script that is run one way, and its answers.
-#[derive(Clone, Copy)]
-struct Run<'a> {
-    way: Way,
-    script: &'a [u8],
-    answers: &'a [u8],
-}
-
-/// What a run has to come to, and how many bytes of the answers it has to write.
-#[derive(Clone, Copy)]
-struct End {
-    result: Result<(), RunFault>,
-    written: usize,
-}
-
-impl<'a> Run<'a> {
-    /// It is answered.
-    fn end(self) -> End {
-        End {
-            result: Ok(()),
-            written: self.answers.len(),
-        }
-    }
-}
-
-/// Runs a script with such a service on one side, up to this end. How many of its calls were served.
-fn expect_end<R: Threads + Wait + Sync>(
-    rt: &R,
-    alloc: Global,
-    run: Run<'_>,
-    side: Side,
-    service: Service,
-    end: End,
-) -> Result<usize, PlayFault> {
-    let (reads, writes) = side.services(service);
-    let mut reader = Reader {
-        rest: run.script,
-        calls: Calls::new(reads),
-    };
-    let mut writer = Writer {
-        rest: run.answers,
-        took_others: false,
-        calls: Calls::new(writes),
-    };
-    let result = run_way(rt, alloc, run.way, false, &mut reader, &mut writer);
-    if result == Err(RunFault::Memory) {
-        return Err(PlayFault::Memory);
-    }
-    let written = run.answers.len().saturating_sub(writer.rest.len());
-    if result != end.result || written != end.written || writer.took_others {
-        return Err(PlayFault::Wrong("another end"));
-    }
-    match side {
-        Side::Reads => Ok(reader.calls.count),
-        Side::Writes => Ok(writer.calls.count),
-    }
-}
-
 /// Which side of a run fails.
 #[derive(Clone, Copy)]
 pub(crate) enum Side {
@@ -190,123 +112,161 @@ const WRITER_FAILS: [Option<ErrorKind>; 3] = [
     Some(ErrorKind::OutOfMemory),
 ];
 
-impl Side {
-    /// The reader and the writer of a run, of which one is such a service.
-    fn services(self, service: Service) -> (Service, Service) {
-        let ample = Service::ample(u32::MAX, 0);
-        match self {
-            Side::Reads => (service, ample),
-            Side::Writes => (ample, service),
-        }
-    }
+/// A script and its answers, and a side that fails: it moves up to so many bytes a call, and is
+/// interrupted so many times before each.
+#[derive(Clone, Copy)]
+struct Plan<'a> {
+    script: &'a [u8],
+    answers: &'a [u8],
+    side: Side,
+    size: u32,
+    times: u32,
+}
 
-    /// How many bytes are moved on this side.
-    fn bytes(self, run: Run<'_>) -> usize {
-        match self {
-            Side::Reads => run.script.len(),
-            Side::Writes => run.answers.len(),
-        }
-    }
+/// What a run came to, and how many bytes of the answers it wrote.
+#[derive(Clone, Copy, PartialEq, Eq)]
+struct End {
+    result: Result<(), RunFault>,
+    written: usize,
+}
 
+impl<'a> Plan<'a> {
     fn fails(self) -> &'static [Option<ErrorKind>] {
-        match self {
+        match self.side {
             Side::Reads => &READER_FAILS,
             Side::Writes => &WRITER_FAILS,
         }
     }
 
-    /// Nothing is written where a read fails, and a front of the answers where a write does.
-    fn end(self, moved: usize) -> End {
-        match self {
-            Side::Reads => End {
-                result: Err(RunFault::Read),
-                written: 0,
-            },
-            Side::Writes => End {
-                result: Err(RunFault::Write),
-                written: moved,
-            },
+    /// Runs the script one way, where so many calls are served.
+    fn end<R: Threads + Wait + Sync>(
+        self,
+        rt: &R,
+        alloc: Global,
+        way: Way,
+        served: usize,
+        last: Option<ErrorKind>,
+    ) -> Result<End, PlayFault> {
+        let failing = Calls::new(self.size, self.times, served, last);
+        let (reads, writes) = match self.side {
+            Side::Reads => (failing, Calls::ample()),
+            Side::Writes => (Calls::ample(), failing),
+        };
+        let mut reader = Reader {
+            rest: self.script,
+            calls: reads,
+        };
+        let mut writer = Writer {
+            rest: self.answers,
+            took_others: false,
+            calls: writes,
+        };
+        let result = run_way(rt, alloc, way, false, &mut reader, &mut writer);
+        if result == Err(RunFault::Memory) {
+            return Err(PlayFault::Memory);
+        }
+        if writer.took_others || result.is_ok() && !reader.rest.is_empty() {
+            return Err(PlayFault::Wrong("other bytes"));
+        }
+        Ok(End {
+            result,
+            written: self.answers.len().saturating_sub(writer.rest.len()),
+        })
+    }
+}
+
+/// What runs come to, told where it is not what the one before came to.
+#[derive(Drop)]
+struct Told {
+    text: Vec<u8>,
+    last: Option<End>,
+}
+
+impl Told {
+    fn note(&mut self, end: End) -> io::Result<()> {
+        if self.last == Some(end) {
+            return Ok(());
+        }
+        self.last = Some(end);
+        let written = end.written;
+        match end.result {
+            Ok(()) => writeln!(self.text, "answered in {written} bytes"),
+            Err(fault) => writeln!(self.text, "{fault} behind {written} bytes"),
         }
     }
+
+    fn is_answered(&self) -> bool {
+        matches!(self.last, Some(End { result: Ok(()), .. }))
+    }
 }
 
-/// Fails at each call of one side in turn, and behind the last. How many calls there are.
-fn fail_each<R: Threads + Wait + Sync>(
-    rt: &R,
-    alloc: Global,
-    run: Run<'_>,
-    side: Side,
-    service: Service,
-) -> Result<usize, PlayFault> {
-    let count = expect_end(rt, alloc, run, side, service, run.end())?;
-    if count.saturating_mul(service.size) < side.bytes(run) {
-        return Err(PlayFault::Wrong("too few calls"));
-    }
-    for call in 0..count {
-        fail_at(rt, alloc, run, side, service, call)?;
-    }
-    let behind = service.failing(count, Some(ErrorKind::BrokenPipe));
-    expect_end(rt, alloc, run, side, behind, run.end())?;
-    Ok(count)
-}
-
-/// Fails at one call.
-fn fail_at<R: Threads + Wait + Sync>(
-    rt: &R,
-    alloc: Global,
-    run: Run<'_>,
-    side: Side,
-    service: Service,
-    call: usize,
-) -> Result<(), PlayFault> {
-    let end = side.end(call.saturating_mul(service.size));
-    for last in side.fails() {
-        expect_end(rt, alloc, run, side, service.failing(call, *last), end)?;
-    }
-    Ok(())
-}
-
-/// Fails so each way; there are as many calls each time.
-fn fail_each_way<R: Threads + Wait + Sync>(
-    rt: &R,
-    alloc: Global,
-    run: Run<'_>,
-    side: Side,
-    service: Service,
-) -> Result<usize, PlayFault> {
-    let count = fail_each(rt, alloc, run, side, service)?;
-    for (_, way) in &WAYS {
-        let run = Run { way: *way, ..run };
-        if fail_each(rt, alloc, run, side, service)? != count {
-            return Err(PlayFault::Wrong("another number of calls"));
-        }
-    }
-    Ok(count)
-}
-
-/// The answers to a script, where each call of one side can fail.
+/// The answers to a script, and what runs come to of which none, one, two and so on of the calls on a side
+/// are served, up to those that are answered.
 pub(crate) fn play_ends<R: Threads + Wait + Sync>(
     rt: &R,
     alloc: Global,
     script: &[u8],
     side: Side,
-    numbers: (u32, u32),
+    numbers: [u32; 2],
 ) -> Result<Vec<u8>, PlayFault> {
     let mut text = output_of(rt, alloc, Way::Book, script, false)?;
-    let run = Run {
-        way: Way::Book,
+    let [size, times] = numbers;
+    let plan = Plan {
         script,
         answers: &text,
+        side,
+        size,
+        times,
     };
-    let service = Service::ample(numbers.0, numbers.1);
-    let count = fail_each_way(rt, alloc, run, side, service)?;
-    append_count(&mut text, side, count)?;
+    let told = ends_of(rt, alloc, plan)?;
+    text.extend_from_slice(&told)?;
     Ok(text)
 }
 
-fn append_count(text: &mut Vec<u8>, side: Side, count: usize) -> io::Result<()> {
-    match side {
-        Side::Reads => writeln!(text, "each read can fail"),
-        Side::Writes => writeln!(text, "{count} writes, each of which can fail"),
+fn ends_of<R: Threads + Wait + Sync>(
+    rt: &R,
+    alloc: Global,
+    plan: Plan<'_>,
+) -> Result<Vec<u8>, PlayFault> {
+    let mut told = Told {
+        text: Vec::new(alloc),
+        last: None,
+    };
+    for served in 0..MOST_CALLS {
+        end_each_way(rt, alloc, plan, served, &mut told)?;
+        if told.is_answered() {
+            break;
+        }
     }
+    Ok(told.text)
+}
+
+const MOST_CALLS: usize = 1_000;
+
+fn end_each_way<R: Threads + Wait + Sync>(
+    rt: &R,
+    alloc: Global,
+    plan: Plan<'_>,
+    served: usize,
+    told: &mut Told,
+) -> Result<(), PlayFault> {
+    for (_, way) in &WAYS {
+        end_one_way(rt, alloc, plan, *way, served, told)?;
+    }
+    Ok(())
+}
+
+fn end_one_way<R: Threads + Wait + Sync>(
+    rt: &R,
+    alloc: Global,
+    plan: Plan<'_>,
+    way: Way,
+    served: usize,
+    told: &mut Told,
+) -> Result<(), PlayFault> {
+    for last in plan.fails() {
+        let end = plan.end(rt, alloc, way, served, *last)?;
+        told.note(end)?;
+    }
+    Ok(())
 }

@@ -95,7 +95,8 @@ impl Delays {
         true
     }
 
-    fn tell(&self, moment: Moment) {
+    fn tell(&self, kind: Kind, seat: u32, number: u32) {
+        let moment = Moment { kind, seat, number };
         for delay in &self.all {
             if delay.until == moment {
                 delay.has_come.store(1, Ordering::SeqCst);
@@ -111,27 +112,15 @@ impl Delays {
 
 impl Gate for Delays {
     fn before(&self, seat: u32, call: u32) {
-        self.tell(Moment {
-            kind: Kind::Before,
-            seat,
-            number: call,
-        });
+        self.tell(Kind::Before, seat, call);
     }
 
     fn exchange(&self, seat: u32, lost: u32) {
-        self.tell(Moment {
-            kind: Kind::Exchange,
-            seat,
-            number: lost,
-        });
+        self.tell(Kind::Exchange, seat, lost);
     }
 
     fn after(&self, seat: u32, call: u32) {
-        self.tell(Moment {
-            kind: Kind::After,
-            seat,
-            number: call,
-        });
+        self.tell(Kind::After, seat, call);
     }
 }
 

@@ -5,21 +5,22 @@ use camp_clients::{Answers, MAX_SECTIONS, has_exactly};
 use camp_repo::{Call, Decided, Fault, Reply, State};
 use std::alloc::Global;
 
-/// What a run came to.
-#[derive(Clone, Copy)]
-pub(crate) struct Outcome<'a> {
-    pub(crate) answers: &'a [Answers<State>],
-    pub(crate) history: &'a [(u32, Call)],
-    /// After how many lost exchanges a call is given up, if any is.
-    pub(crate) tries: Option<u32>,
-}
-
 /// How many calls were answered in which way.
 #[derive(Clone, Copy)]
 pub(crate) struct Counts {
     pub(crate) accepted: usize,
     pub(crate) refused: usize,
     pub(crate) busy: usize,
+}
+
+impl Counts {
+    pub(crate) fn none() -> Counts {
+        Counts {
+            accepted: 0,
+            refused: 0,
+            busy: 0,
+        }
+    }
 }
 
 /// What a call comes to in a state.
@@ -58,7 +59,7 @@ fn push_next(states: &mut Vec<State>, call: &Call) -> Result<(), PlayFault> {
 #[derive(Clone, Copy)]
 struct Hearing<'a> {
     states: &'a [State],
-    tries: Option<u32>,
+    tries: u32,
     front: usize,
     counts: Counts,
 }
@@ -114,7 +115,7 @@ impl<'a> Hearing<'a> {
 
     /// The front lies as many calls further as exchanges were lost.
     fn hear_busy(&mut self, lost: u32) -> Result<(), PlayFault> {
-        if self.tries != Some(lost) {
+        if lost != self.tries {
             return Err(PlayFault::Wrong("busy after another number of tries"));
         }
         self.front = self.front.saturating_add(lost as usize);
@@ -133,39 +134,38 @@ fn is_answer(state: &State, call: &Call, reply: &Reply) -> Result<bool, PlayFaul
 
 /// Replays the history, and finds for each answer a front of it at which the answer is true: those of
 /// a section do not get shorter, and those of a client begin with the opening's last. The history has
-/// just the calls that the answers tell, at their positions.
+/// just the calls that the answers tell, at their positions. A call is given up after so many tries.
 pub(crate) fn replay(
     alloc: Global,
     sections: &[Vec<Call>],
-    outcome: Outcome<'_>,
+    answers: &[Answers<State>],
+    history: &[(u32, Call)],
+    tries: u32,
 ) -> Result<Counts, PlayFault> {
-    if sections.len() > MAX_SECTIONS || outcome.answers.len() != sections.len() {
+    if sections.len() > MAX_SECTIONS || answers.len() != sections.len() {
         return Err(PlayFault::Wrong("another number of sections"));
     }
-    if !has_exactly::<State>(outcome.history, sections, outcome.answers) {
+    if !has_exactly::<State>(history, sections, answers) {
         return Err(PlayFault::Wrong("answers of another history"));
     }
-    let states = states_of(alloc, outcome.history)?;
-    replay_over(&states, sections, outcome)
+    let states = states_of(alloc, history)?;
+    let hearing = Hearing {
+        states: &states,
+        tries,
+        front: 0,
+        counts: Counts::none(),
+    };
+    hear_sections(hearing, sections, answers)
 }
 
-fn replay_over(
-    states: &[State],
+fn hear_sections(
+    hearing: Hearing<'_>,
     sections: &[Vec<Call>],
-    outcome: Outcome<'_>,
+    answers: &[Answers<State>],
 ) -> Result<Counts, PlayFault> {
-    let mut hearing = Hearing {
-        states,
-        tries: outcome.tries,
-        front: 0,
-        counts: Counts {
-            accepted: 0,
-            refused: 0,
-            busy: 0,
-        },
-    };
+    let mut hearing = hearing;
     let mut opened = 0;
-    for (seat, (calls, answers)) in sections.iter().zip(outcome.answers).enumerate() {
+    for (seat, (calls, answers)) in sections.iter().zip(answers).enumerate() {
         hearing.front = opened;
         hearing.hear_all(calls, answers)?;
         if seat == 0 {

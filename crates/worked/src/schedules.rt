@@ -3,12 +3,13 @@ ghost use Rattle.std.specs.Prelude.{◌≤◌, All, IsTrue, count_by};
 ghost use Rattle.camp_repo.specs.Objects.{repository};
 
 use crate::faults::PlayFault;
-use crate::replays::{Counts, Outcome, replay};
+use crate::gates::Delays;
+use crate::replays::{Counts, replay};
 use crate::runs::{Way, run_way};
 use crate::scripts::{Lots, append_drawn};
 use camp_clients::{locked, shared};
 use camp_repo::{Call, State};
-use camp_run::{Gate, NoGate, run_head};
+use camp_run::{Gate, run_head};
 use camp_script::read_script;
 use std::alloc::Global;
 use std::sync::Wait;
@@ -104,32 +105,28 @@ fn lock<R: Threads + Wait + Sync>(
         return Err(BAD_SECTIONS);
     }
     let run = locked::<R, State>(rt, alloc, sections)?;
-    let outcome = Outcome {
-        answers: &run.answers,
-        history: run.book.history(),
-        tries: None,
-    };
-    replay(alloc, sections, outcome)
+    // Over a lock no call is busy.
+    replay(alloc, sections, &run.answers, run.book.history(), 0)
 }
 
-/// How the calls of a script are answered over a head with a gate, where the replay agrees.
-pub(crate) fn counts_over_head<R: Threads + Wait + Sync, G: Gate + Sync>(
+/// How the calls of a script are answered over a head with gates, where the replay agrees.
+pub(crate) fn counts_over_head<R: Threads + Wait + Sync>(
     rt: &R,
     alloc: Global,
     script: &[u8],
     tries: u32,
-    gate: &G,
+    delays: &Delays,
 ) -> Result<Counts, PlayFault> {
     let script = read_script(alloc, script)?;
-    share(rt, alloc, script.sections(), tries, gate)
+    share(rt, alloc, script.sections(), tries, delays)
 }
 
-fn share<R: Threads + Wait + Sync, G: Gate + Sync>(
+fn share<R: Threads + Wait + Sync>(
     rt: &R,
     alloc: Global,
     sections: &[Vec<Call>],
     tries: u32,
-    gate: &G,
+    delays: &Delays,
 ) -> Result<Counts, PlayFault> {
     if tries == 0 || tries > 1_000 {
         return Err(BAD_TRIES);
@@ -137,13 +134,8 @@ fn share<R: Threads + Wait + Sync, G: Gate + Sync>(
     if sections.is_empty() || sections.len() > 64 || !has_room(sections) {
         return Err(BAD_SECTIONS);
     }
-    let run = shared::<R, State, G>(rt, alloc, sections, tries, 64, gate)?;
-    let outcome = Outcome {
-        answers: &run.answers,
-        history: &run.history,
-        tries: Some(tries),
-    };
-    replay(alloc, sections, outcome)
+    let run = shared::<R, State, Delays>(rt, alloc, sections, tries, 64, delays)?;
+    replay(alloc, sections, &run.answers, &run.history, tries)
 }
 
 /// Whether no section has more calls than a seat may.
@@ -153,18 +145,20 @@ fn has_room(sections: &[Vec<Call>]) -> bool
     sections.iter().all(|calls| calls.len() <= 65_536)
 }
 
-/// Runs of scripts that are drawn by lot, with 1, 3 and 100 tries in turn, each replayed.
-pub(crate) fn run_drawn<R: Threads + Wait + Sync>(
+/// Runs of scripts that are drawn by lot, with 1, 3 and 100 tries in turn, each replayed. The counts of the
+/// last one.
+pub(crate) fn counts_of_drawn<R: Threads + Wait + Sync>(
     rt: &R,
     alloc: Global,
     runs: u32,
-) -> Result<(), PlayFault> {
+) -> Result<Counts, PlayFault> {
     let mut lots = Lots::new();
+    let mut counts = Counts::none();
     for number in 0..runs {
         let tries = [1, 3, 100][number as usize % 3];
-        draw(rt, alloc, &mut lots, tries)?;
+        counts = draw(rt, alloc, &mut lots, tries)?;
     }
-    Ok(())
+    Ok(counts)
 }
 
 fn draw<R: Threads + Wait + Sync>(
@@ -175,5 +169,5 @@ fn draw<R: Threads + Wait + Sync>(
 ) -> Result<Counts, PlayFault> {
     let mut script = Vec::new(alloc);
     append_drawn(&mut script, lots)?;
-    counts_over_head(rt, alloc, &script, tries, &NoGate)
+    counts_over_head(rt, alloc, &script, tries, &Delays::new(alloc))
 }

@@ -6,7 +6,8 @@ use std::io::Write;
 
 /// Appends a script whose opening makes a branch for each client, and whose clients record so many
 /// added files each, on their own branches. No two names and no two paths are equal.
-pub(crate) fn append_clients(script: &mut Vec<u8>, clients: u32, records: u32) -> io::Result<()> {
+pub(crate) fn append_clients(script: &mut Vec<u8>, numbers: [u32; 2]) -> io::Result<()> {
+    let [clients, records] = numbers;
     append_opening(script, clients)?;
     for client in 1..=clients {
         append_client(script, client, records)?;
@@ -34,7 +35,8 @@ fn append_client(script: &mut Vec<u8>, client: u32, records: u32) -> io::Result<
 
 /// Appends clients that record so many added files each, all on one branch. Every second name is one
 /// that each client takes, and the others are its own.
-pub(crate) fn append_race(script: &mut Vec<u8>, clients: u32, records: u32) -> io::Result<()> {
+pub(crate) fn append_race(script: &mut Vec<u8>, numbers: [u32; 2]) -> io::Result<()> {
+    let [clients, records] = numbers;
     for client in 1..=clients {
         append_racer(script, client, records)?;
     }
