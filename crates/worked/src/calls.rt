@@ -3,7 +3,9 @@ use crate::results::{Outcome, word};
 use crate::splits::split;
 use crate::tables::Table;
 use crate::wants::Wants;
-use crate::{bases, bytes, catch_lists, catches, contexts, lists, primitives, sets, shares, trees};
+use crate::{
+    bases, bytes, catch_lists, catches, clients, contexts, lists, primitives, sets, shares, trees,
+};
 use camp_notation::NotationError;
 
 /// A line that is a call. Its arguments may name what stands in the table.
@@ -80,6 +82,13 @@ fn answer_on_catch_lists(line: CallLine<'_>, wants: &mut Wants) -> Outcome {
 
 fn answer_on_shares(line: CallLine<'_>, wants: &mut Wants) -> Outcome {
     match shares::ShareCall::of(line.name) {
+        Some(call) => call.ask(line, wants),
+        None => answer_on_clients(line, wants),
+    }
+}
+
+fn answer_on_clients(line: CallLine<'_>, wants: &mut Wants) -> Outcome {
+    match clients::ClientCall::of(line.name) {
         Some(call) => call.ask(line, wants),
         None => word(line.table, "no such call"),
     }

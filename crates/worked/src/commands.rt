@@ -97,7 +97,7 @@ fn append_first(text: &mut Vec<u8>, line: &[u8], time: u32) -> Result<(), AllocE
 }
 
 /// A line of a body, or `repeat COUNT LINE`, which stands for so many.
-fn append_line(text: &mut Vec<u8>, line: &[u8]) -> Result<(), PlayFault> {
+pub(crate) fn append_line(text: &mut Vec<u8>, line: &[u8]) -> Result<(), PlayFault> {
     let (count, line) = match line.strip_prefix(b"repeat ") {
         Some(rest) => number_before(rest)?,
         None => (1, line),

@@ -2,15 +2,15 @@ ghost use Rattle.std.specs.Prelude.{◌≤◌, ◌<◌, length};
 
 use bstr::ByteSlice;
 
-/// How many lines the first entry of a table has. A run goes on up to an empty line, a command with a
-/// body up to its end; any other entry is one line.
+/// How many lines the first entry of a table has. A run and a schedule go on up to an empty line, a command
+/// with a body up to its end; any other entry is one line.
 pub(crate) fn entry_len(lines: &[&[u8]]) -> usize
     requires { 0 < length lines.now }
     ensures some { 0 < result }
     ensures within { result ≤ length lines.now }
 {
     let first = lines[0];
-    if first.starts_with(b"run ") {
+    if is_run(first) {
         return len_before(lines, b"");
     }
     if !is_command(first) {
@@ -24,6 +24,14 @@ pub(crate) fn entry_len(lines: &[&[u8]]) -> usize
         1
     }
 }
+
+/// Whether a line begins a run or a schedule.
+pub(crate) fn is_run(line: &[u8]) -> bool {
+    line.starts_with(b"run ") || line == SCHEDULE
+}
+
+/// The line that begins a schedule.
+pub(crate) const SCHEDULE: &[u8] = b"schedule";
 
 /// Whether a line begins a command: with the number of a seat, or with the word that repeats it.
 pub(crate) fn is_command(line: &[u8]) -> bool {

@@ -1,8 +1,10 @@
+use camp_clients::LockFault;
 use camp_head::HeadFault;
 use camp_object::Fault;
 use camp_run::RunFault;
 use camp_script::{LineFault, ScriptFault};
 use std::alloc::{AllocError, AllocFailed};
+use std::io;
 use thiserror::Error;
 
 /// Why a command has no answer.
@@ -26,6 +28,13 @@ impl From<AllocError> for PlayFault {
 
 impl<T: Drop> From<AllocFailed<T>> for PlayFault {
     fn from(_error: AllocFailed<T>) -> PlayFault {
+        PlayFault::Memory
+    }
+}
+
+/// A text in memory is not written where memory is wanted.
+impl From<io::Error> for PlayFault {
+    fn from(_error: io::Error) -> PlayFault {
         PlayFault::Memory
     }
 }
@@ -66,6 +75,15 @@ impl From<Fault> for PlayFault {
         match fault {
             Fault::Memory => PlayFault::Memory,
             _ => PlayFault::Wrong("busy or full"),
+        }
+    }
+}
+
+impl From<LockFault> for PlayFault {
+    fn from(fault: LockFault) -> PlayFault {
+        match fault {
+            LockFault::Memory => PlayFault::Memory,
+            LockFault::Foreign => PlayFault::Wrong("foreign call"),
         }
     }
 }

@@ -18,6 +18,7 @@
 //! | `hand-on SEAT` | the seat hands on what it has seen |
 //! | `run book`, `run locked`, `run head` | the script below, up to an empty line |
 //! | `run locked ranked`, `run head ranked` | the same, whatever the order of its clients |
+//! | `schedule` | what the block below, up to an empty line, says of a script, its threads and their gates |
 //!
 //! The notation is that of `camp_notation`. A call that wants memory is made again, where its arguments
 //! are as they were. The exit status tells what was wanted: 0 where nothing was, 3 where one line wanted
@@ -31,26 +32,36 @@
 
 mod arguments;
 mod bases;
+mod batons;
+mod blocks;
 mod books;
 mod bytes;
 mod calls;
 mod catch_lists;
 mod catches;
+mod clients;
 mod commands;
 mod contexts;
+mod ends;
 mod entries;
 mod faults;
+mod gates;
 mod heads;
 mod lines;
 mod lists;
 mod numbers;
+mod orders;
 mod places;
+mod players;
 mod plays;
 mod primitives;
 mod ranks;
+mod replays;
 mod results;
 mod runs;
 mod same;
+mod schedules;
+mod scripts;
 mod seatings;
 mod sets;
 mod shares;

@@ -1,6 +1,7 @@
+use crate::blocks::play_block;
 use crate::calls::find;
 use crate::commands::{command_of, number};
-use crate::entries::is_command;
+use crate::entries::{SCHEDULE, is_command, is_run};
 use crate::faults::PlayFault;
 use crate::runs::{append_again, joined, run, run_of};
 use crate::seatings::Seating;
@@ -42,15 +43,15 @@ const WORDS: [(&[u8], Word); 7] = [
     (b"hand-on", Word::HandOn),
 ];
 
-/// Whether an entry is none of a table of values: it begins with one of these words or with `run`, or is a
-/// command.
+/// Whether an entry is none of a table of values: it begins with one of these words, or is a run, a schedule
+/// or a command.
 pub(crate) fn is_play(line: &[u8]) -> bool {
     let (word, _) = split_word(line);
-    find(&WORDS, word).is_some() || word == b"run".as_slice() || is_command(line)
+    find(&WORDS, word).is_some() || is_run(line) || is_command(line)
 }
 
 /// The first word of a line, and what stands behind it.
-fn split_word(line: &[u8]) -> (&[u8], &[u8]) {
+pub(crate) fn split_word(line: &[u8]) -> (&[u8], &[u8]) {
     match line.split_once_str(b" ") {
         Some((word, rest)) => (word, rest),
         None => (line, b""),
@@ -94,6 +95,9 @@ impl Stage {
         };
         if let Some(how) = run_of(first) {
             return run(rt, alloc, how, rest, text, wants);
+        }
+        if *first == SCHEDULE {
+            return play_block(rt, alloc, rest, text, wants);
         }
         if is_command(first) {
             return self.ask(rt, alloc, entry, text, wants);

@@ -4,6 +4,7 @@ use crate::ranks::ranked;
 use crate::wants::Wants;
 use camp_run::{NoGate, RunFault, run_book, run_head, run_locked};
 use std::alloc::{AllocError, Global};
+use std::io::{Read, Write};
 use std::sync::Wait;
 use std::thread::Threads;
 
@@ -15,7 +16,7 @@ pub(crate) struct Manner {
 }
 
 #[derive(Clone, Copy)]
-enum Way {
+pub(crate) enum Way {
     /// In one thread.
     Book,
     /// In threads over a lock.
@@ -42,7 +43,7 @@ fn way_of(line: &[u8]) -> Option<Way> {
     find(&WAYS, line)
 }
 
-const WAYS: [(&[u8], Way); 3] = [
+pub(crate) const WAYS: [(&[u8], Way); 3] = [
     (b"run book", Way::Book),
     (b"run locked", Way::Locked),
     (b"run head", Way::Head),
@@ -81,11 +82,22 @@ fn run_once<R: Threads + Wait + Sync>(
 ) -> Result<(), RunFault> {
     let mut reader = script;
     // A history has the order of the threads.
-    let history = !how.is_ranked;
-    match how.way {
-        Way::Book => run_book(alloc, &mut reader, written, history),
-        Way::Locked => run_locked(rt, alloc, &mut reader, written, history),
-        Way::Head => run_head(rt, alloc, &mut reader, written, history, 100, &NoGate),
+    run_way(rt, alloc, how.way, !how.is_ranked, &mut reader, written)
+}
+
+/// Runs a script one way.
+pub(crate) fn run_way<T: Threads + Wait + Sync, R: Read, W: Write>(
+    rt: &T,
+    alloc: Global,
+    way: Way,
+    history: bool,
+    reader: &mut R,
+    writer: &mut W,
+) -> Result<(), RunFault> {
+    match way {
+        Way::Book => run_book(alloc, reader, writer, history),
+        Way::Locked => run_locked(rt, alloc, reader, writer, history),
+        Way::Head => run_head(rt, alloc, reader, writer, history, 100, &NoGate),
     }
 }
 

@@ -1,6 +1,9 @@
 //! Gates at which seats wait for each other.
-use crate::blocks::number;
-use anyhow::{Result, bail, ensure};
+use crate::calls::find;
+use crate::commands::number;
+use crate::faults::PlayFault;
+use crate::plays::split_word;
+use bstr::ByteSlice;
 use camp_run::Gate;
 use std::alloc::Global;
 use std::sync::atomic::{AtomicU64, Ordering};
@@ -16,6 +19,12 @@ enum Kind {
     After,
 }
 
+const KINDS: [(&[u8], Kind); 3] = [
+    (b"before", Kind::Before),
+    (b"exchange", Kind::Exchange),
+    (b"after", Kind::After),
+];
+
 /// What a gate is told: of a call by its number, of an exchange by how many its call has lost.
 #[derive(Clone, Copy, PartialEq, Eq)]
 struct Moment {
@@ -26,7 +35,7 @@ struct Moment {
 
 /// At a moment a seat waits until another one has come.
 #[derive(Drop)]
-pub(crate) struct Delay {
+struct Delay {
     at: Moment,
     until: Moment,
     has_come: AtomicU64,
@@ -63,25 +72,36 @@ impl Delays {
         }
     }
 
-    pub(crate) fn push(&mut self, delay: Delay) -> Result<()> {
+    /// One more, by words such as `before 1 0 until after 2 0`.
+    pub(crate) fn push(&mut self, words: &[u8]) -> Result<(), PlayFault> {
+        let (at, until) = moments_of(words)?;
+        let delay = Delay {
+            at,
+            until,
+            has_come: AtomicU64::new(0),
+            has_passed: AtomicU64::new(0),
+            gave_up: AtomicU64::new(0),
+        };
         Ok(self.all.push(delay)?)
     }
 
     /// Whether each delay came about, and no seat gave up.
     pub(crate) fn are_kept(&self) -> bool {
-        self.all.iter().all(|delay| delay.is_kept())
+        for delay in &self.all {
+            if !delay.is_kept() {
+                return false;
+            }
+        }
+        true
     }
 
-    fn tell(&self, moment: Moment) {
+    fn tell(&self, kind: Kind, seat: u32, number: u32) {
+        let moment = Moment { kind, seat, number };
         for delay in &self.all {
             if delay.until == moment {
                 delay.has_come.store(1, Ordering::SeqCst);
             }
         }
-        self.wait_at(moment);
-    }
-
-    fn wait_at(&self, moment: Moment) {
         for delay in &self.all {
             if delay.at == moment {
                 delay.wait();
@@ -92,67 +112,31 @@ impl Delays {
 
 impl Gate for Delays {
     fn before(&self, seat: u32, call: u32) {
-        self.tell(Moment {
-            kind: Kind::Before,
-            seat,
-            number: call,
-        });
+        self.tell(Kind::Before, seat, call);
     }
 
     fn exchange(&self, seat: u32, lost: u32) {
-        self.tell(Moment {
-            kind: Kind::Exchange,
-            seat,
-            number: lost,
-        });
+        self.tell(Kind::Exchange, seat, lost);
     }
 
     fn after(&self, seat: u32, call: u32) {
-        self.tell(Moment {
-            kind: Kind::After,
-            seat,
-            number: call,
-        });
+        self.tell(Kind::After, seat, call);
     }
 }
 
-/// Words such as `before 1 0 until after 2 0`.
-pub(crate) fn read_delay(words: &[&[u8]]) -> Result<Delay> {
-    let [
-        at,
-        at_seat,
-        at_number,
-        word,
-        until,
-        until_seat,
-        until_number,
-    ] = words
-    else {
-        bail!("wait MOMENT SEAT NUMBER until MOMENT SEAT NUMBER");
-    };
-    ensure!(*word == b"until".as_slice(), "wait .. until ..");
-    Ok(Delay {
-        at: read_moment(at, at_seat, at_number)?,
-        until: read_moment(until, until_seat, until_number)?,
-        has_come: AtomicU64::new(0),
-        has_passed: AtomicU64::new(0),
-        gave_up: AtomicU64::new(0),
-    })
+const NO_DELAY: PlayFault = PlayFault::Wrong("wait MOMENT SEAT NUMBER until MOMENT SEAT NUMBER");
+
+fn moments_of(words: &[u8]) -> Result<(Moment, Moment), PlayFault> {
+    let (at, until) = words.split_once_str(b" until ").ok_or(NO_DELAY)?;
+    Ok((moment_of(at)?, moment_of(until)?))
 }
 
-fn read_moment(kind: &[u8], seat: &[u8], index: &[u8]) -> Result<Moment> {
+fn moment_of(words: &[u8]) -> Result<Moment, PlayFault> {
+    let (kind, rest) = split_word(words);
+    let (seat, count) = split_word(rest);
     Ok(Moment {
-        kind: read_kind(kind)?,
+        kind: find(&KINDS, kind).ok_or(NO_DELAY)?,
         seat: number(seat)?,
-        number: number(index)?,
+        number: number(count)?,
     })
-}
-
-fn read_kind(word: &[u8]) -> Result<Kind> {
-    match word {
-        b"before" => Ok(Kind::Before),
-        b"exchange" => Ok(Kind::Exchange),
-        b"after" => Ok(Kind::After),
-        _ => bail!("before, exchange or after"),
-    }
 }

@@ -1,13 +1,13 @@
 //! Scripts that are written here.
 ghost use Rattle.std.specs.Prelude.{◌<◌};
 
-use anyhow::Result;
-use std::alloc::Global;
+use std::io;
 use std::io::Write;
 
 /// Appends a script whose opening makes a branch for each client, and whose clients record so many
 /// added files each, on their own branches. No two names and no two paths are equal.
-pub(crate) fn append_clients(script: &mut Vec<u8>, clients: u32, records: u32) -> Result<()> {
+pub(crate) fn append_clients(script: &mut Vec<u8>, numbers: [u32; 2]) -> io::Result<()> {
+    let [clients, records] = numbers;
     append_opening(script, clients)?;
     for client in 1..=clients {
         append_client(script, client, records)?;
@@ -15,14 +15,14 @@ pub(crate) fn append_clients(script: &mut Vec<u8>, clients: u32, records: u32) -
     Ok(())
 }
 
-fn append_opening(script: &mut Vec<u8>, clients: u32) -> Result<()> {
+fn append_opening(script: &mut Vec<u8>, clients: u32) -> io::Result<()> {
     for client in 1..=clients {
         writeln!(script, "branch c{client} main")?;
     }
     Ok(())
 }
 
-fn append_client(script: &mut Vec<u8>, client: u32, records: u32) -> Result<()> {
+fn append_client(script: &mut Vec<u8>, client: u32, records: u32) -> io::Result<()> {
     writeln!(script, "client")?;
     for record in 1..=records {
         writeln!(
@@ -35,14 +35,15 @@ fn append_client(script: &mut Vec<u8>, client: u32, records: u32) -> Result<()> 
 
 /// Appends clients that record so many added files each, all on one branch. Every second name is one
 /// that each client takes, and the others are its own.
-pub(crate) fn append_race(script: &mut Vec<u8>, clients: u32, records: u32) -> Result<()> {
+pub(crate) fn append_race(script: &mut Vec<u8>, numbers: [u32; 2]) -> io::Result<()> {
+    let [clients, records] = numbers;
     for client in 1..=clients {
         append_racer(script, client, records)?;
     }
     Ok(())
 }
 
-fn append_racer(script: &mut Vec<u8>, client: u32, records: u32) -> Result<()> {
+fn append_racer(script: &mut Vec<u8>, client: u32, records: u32) -> io::Result<()> {
     writeln!(script, "client")?;
     for record in 1..=records {
         let owner = if record % 2 == 0 { 0 } else { client };
@@ -77,21 +78,20 @@ impl Lots {
     }
 }
 
-/// An opening of up to 8 calls, and 2 to 63 clients of up to 19 calls.
-pub(crate) fn drawn_script(alloc: Global, lots: &mut Lots) -> Result<Vec<u8>> {
-    let mut script = Vec::new(alloc);
+/// Appends an opening of up to 8 calls, and 2 to 63 clients of up to 19 calls.
+pub(crate) fn append_drawn(script: &mut Vec<u8>, lots: &mut Lots) -> io::Result<()> {
     let clients = 2 + lots.below(62);
-    append_drawn(&mut script, lots, 9)?;
+    append_calls(script, lots, 9)?;
     for _ in 0..clients {
         writeln!(script, "client")?;
-        append_drawn(&mut script, lots, 20)?;
+        append_calls(script, lots, 20)?;
     }
-    Ok(script)
+    Ok(())
 }
 
 /// Appends less than `most` calls: one in five asks for the names of the patches, and the others record
 /// patches of few names.
-fn append_drawn(script: &mut Vec<u8>, lots: &mut Lots, most: u32) -> Result<()>
+fn append_calls(script: &mut Vec<u8>, lots: &mut Lots, most: u32) -> io::Result<()>
     requires { 0 < most }
 {
     for _ in 0..lots.below(most) {

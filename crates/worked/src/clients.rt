@@ -1,0 +1,156 @@
+//! Clients of another object than the repository: numbers, each of which is inserted once. And the words of
+//! the faults of runs.
+use crate::arguments::{End, Four, Three};
+use crate::calls::{Asked, CallLine, ask, find};
+use crate::numbers::Numbers;
+use crate::results::{Outcome, none, yes_or_no};
+use crate::tables::Table;
+use crate::wants::Wants;
+use NumberCall::{Insert, Show};
+use camp_clients::{LockFault, has_exactly, serial};
+use camp_head::HeadFault;
+use camp_object::{Fault, NumberCall, NumberReply};
+use camp_run::RunFault;
+use camp_script::ScriptFault;
+use std::alloc::{AllocError, Global};
+
+/// The calls on clients, and on the words of faults.
+#[derive(Clone, Copy)]
+pub(crate) enum ClientCall {
+    Serial,
+    HasExactly,
+    FaultWords,
+}
+
+const CALLS: [(&[u8], ClientCall); 3] = [
+    (b"serial", ClientCall::Serial),
+    (b"has_exactly", ClientCall::HasExactly),
+    (b"run_faults", ClientCall::FaultWords),
+];
+
+impl ClientCall {
+    /// The call of a name.
+    pub(crate) fn of(name: &[u8]) -> Option<ClientCall> {
+        find(&CALLS, name)
+    }
+
+    /// Reads the arguments of a line, and makes the call.
+    pub(crate) fn ask(self, asked: CallLine<'_>, wants: &mut Wants) -> Outcome {
+        match self {
+            ClientCall::Serial => ask(asked, wants, Serial),
+            ClientCall::HasExactly => ask(asked, wants, HasExactly),
+            ClientCall::FaultWords => ask(asked, wants, FaultWords),
+        }
+    }
+}
+
+/// The answers to three sections one after the other, each of which inserts numbers; the last one then asks
+/// for them.
+#[derive(Clone, Copy)]
+pub(crate) struct Serial;
+
+impl Asked for Serial {
+    type On = Three<Numbers, Numbers, Numbers>;
+
+    fn answer(self, table: &Table, on: &Three<Numbers, Numbers, Numbers>) -> Outcome {
+        let lists = [&on.first, &on.rest.first, &on.rest.rest.first];
+        let sections = sections_of(table.alloc(), lists)?;
+        answers_text(table, &sections)
+    }
+}
+
+/// Whether a history, in which seat 0 inserts 5 and then seat 1 inserts 3, has exactly what two sections
+/// tell: each inserts a number, and is told its position, or with 0 that it is there.
+#[derive(Clone, Copy)]
+pub(crate) struct HasExactly;
+
+impl Asked for HasExactly {
+    type On = Four<u32, u32, u32, u32>;
+
+    fn answer(self, table: &Table, on: &Four<u32, u32, u32, u32>) -> Outcome {
+        let (first, second) = (on.first, on.rest.first);
+        let (told, other) = (on.rest.rest.first, on.rest.rest.rest.first);
+        let fits = fits(table.alloc(), [first, second], [told, other])?;
+        yes_or_no(table, fits)
+    }
+}
+
+/// The words of every fault of a run, of a section over a lock, of a head, of a call and of a script.
+#[derive(Clone, Copy)]
+pub(crate) struct FaultWords;
+
+impl Asked for FaultWords {
+    type On = End;
+
+    fn answer(self, table: &Table, _on: &End) -> Outcome {
+        fault_words(table)
+    }
+}
+
+fn sections_of(alloc: Global, lists: [&Numbers; 3]) -> Result<Vec<Vec<NumberCall>>, AllocError> {
+    let mut sections = Vec::with_capacity(alloc, 3)?;
+    for list in lists {
+        sections.push(inserts(alloc, list)?)?;
+    }
+    if let Some(calls) = sections.last_mut() {
+        calls.push(Show)?;
+    }
+    Ok(sections)
+}
+
+fn inserts(alloc: Global, list: &Numbers) -> Result<Vec<NumberCall>, AllocError> {
+    let mut calls = Vec::new(alloc);
+    for number in list.iter() {
+        calls.push(Insert(number.0))?;
+    }
+    Ok(calls)
+}
+
+fn answers_text(table: &Table, sections: &[Vec<NumberCall>]) -> Outcome {
+    if sections.len() > 64 {
+        return none(table);
+    }
+    let run = serial::<camp_object::Numbers>(table.alloc(), sections)?;
+    let answers = &run.answers;
+    Ok(format!(in table.alloc(); "{answers:?}")?)
+}
+
+fn fits(alloc: Global, numbers: [u32; 2], told: [u32; 2]) -> Result<bool, AllocError> {
+    let history = [(0, Insert(5)), (1, Insert(3))];
+    let [first, second] = numbers;
+    let sections = vec![in alloc;
+        vec![in alloc; Insert(first)]?,
+        vec![in alloc; Insert(second)]?,
+    ]?;
+    let [first, second] = told;
+    let answers = vec![in alloc;
+        vec![in alloc; reply(first)]?,
+        vec![in alloc; reply(second)]?,
+    ]?;
+    Ok(has_exactly::<camp_object::Numbers>(&history, &sections, &answers))
+}
+
+fn reply(at: u32) -> Result<NumberReply, Fault> {
+    match at {
+        0 => Ok(NumberReply::Present),
+        at => Ok(NumberReply::Done(at as u64)),
+    }
+}
+
+fn fault_words(table: &Table) -> Outcome {
+    let (foreign, read, write) = (RunFault::Foreign, RunFault::Read, RunFault::Write);
+    let (lock, head, script) = (LockFault::Foreign, HeadFault::BadSize, ScriptFault::Write);
+    let (busy, full) = (Fault::Busy { lost: 3 }, Fault::Full);
+    let mut words = format!(in table.alloc();
+        "{foreign}, {read}, {write}; {lock}; {head}; {busy}, {full}; {script}"
+    )?;
+    words.push_str("; ")?;
+    words.push_str(&memory_words(table.alloc())?)?;
+    Ok(words)
+}
+
+fn memory_words(alloc: Global) -> Result<String, AllocError> {
+    let (run, lock, head) = (RunFault::Memory, LockFault::Memory, HeadFault::Memory);
+    let (call, script) = (Fault::Memory, ScriptFault::Memory);
+    format!(in alloc; "{run}, {lock}, {head}, {call}, {script}")
+}

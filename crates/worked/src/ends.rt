@@ -1,0 +1,272 @@
+//! Readers and writers that serve a few bytes a call, are interrupted, and fail at each of their calls.
+use crate::faults::PlayFault;
+use crate::runs::{WAYS, Way, run_way};
+use crate::schedules::output_of;
+use camp_run::RunFault;
+use std::alloc::Global;
+use std::io;
+use std::io::{ErrorKind, Read, Write};
+use std::sync::Wait;
+use std::thread::Threads;
+
+/// How a reader or a writer answers its calls: so many are served, with up to `size` bytes each, and each
+/// only after so many that are interrupted. Behind them it moves nothing, or fails.
+#[derive(Clone, Copy)]
+struct Calls {
+    size: usize,
+    times: u32,
+    served: usize,
+    last: Option<ErrorKind>,
+    /// How often the next call is still interrupted.
+    interruptions: u32,
+}
+
+impl Calls {
+    fn new(size: u32, times: u32, served: usize, last: Option<ErrorKind>) -> Calls {
+        Calls {
+            size: size as usize,
+            times,
+            served,
+            last,
+            interruptions: times,
+        }
+    }
+
+    fn ample() -> Calls {
+        Calls::new(u32::MAX, 0, usize::MAX, None)
+    }
+
+    /// How many of so many bytes the next call moves.
+    fn next(&mut self, bytes: usize) -> io::Result<usize> {
+        if self.interruptions > 0 {
+            self.interruptions -= 1;
+            return Err(ErrorKind::Interrupted.into());
+        }
+        self.interruptions = self.times;
+        if self.served > 0 {
+            self.served -= 1;
+            return Ok(self.size.min(bytes));
+        }
+        match self.last {
+            Some(kind) => Err(kind.into()),
+            None => Ok(0),
+        }
+    }
+}
+
+/// Gives these bytes.
+#[derive(Drop)]
+struct Reader<'a> {
+    rest: &'a [u8],
+    calls: Calls,
+}
+
+impl<'a> Read for Reader<'a> {
+    fn read(&mut self, buffer: &mut [u8]) -> io::Result<usize> {
+        let count = self.calls.next(buffer.len().min(self.rest.len()))?;
+        let count = count.min(buffer.len()).min(self.rest.len());
+        buffer[..count].copy_from_slice(&self.rest[..count]);
+        self.rest = &self.rest[count..];
+        Ok(count)
+    }
+}
+
+/// Is to take these bytes.
+#[derive(Drop)]
+struct Writer<'a> {
+    rest: &'a [u8],
+    took_others: bool,
+    calls: Calls,
+}
+
+impl<'a> Write for Writer<'a> {
+    fn write(&mut self, bytes: &[u8]) -> io::Result<usize> {
+        let count = self.calls.next(bytes.len())?.min(bytes.len());
+        match self.rest.strip_prefix(&bytes[..count]) {
+            Some(rest) => self.rest = rest,
+            None => self.took_others = true,
+        }
+        Ok(count)
+    }
+
+    fn flush(&mut self) -> io::Result<()> {
+        Ok(())
+    }
+}
+
+/// Which side of a run fails.
+#[derive(Clone, Copy)]
+pub(crate) enum Side {
+    Reads,
+    Writes,
+}
+
+const READER_FAILS: [Option<ErrorKind>; 2] = [
+    Some(ErrorKind::BrokenPipe),
+    Some(ErrorKind::TimedOut),
+];
+
+const WRITER_FAILS: [Option<ErrorKind>; 3] = [
+    None,
+    Some(ErrorKind::BrokenPipe),
+    Some(ErrorKind::OutOfMemory),
+];
+
+/// A script and its answers, and a side that fails: it moves up to so many bytes a call, and is
+/// interrupted so many times before each.
+#[derive(Clone, Copy)]
+struct Plan<'a> {
+    script: &'a [u8],
+    answers: &'a [u8],
+    side: Side,
+    size: u32,
+    times: u32,
+}
+
+/// What a run came to, and how many bytes of the answers it wrote.
+#[derive(Clone, Copy, PartialEq, Eq)]
+struct End {
+    result: Result<(), RunFault>,
+    written: usize,
+}
+
+impl<'a> Plan<'a> {
+    fn fails(self) -> &'static [Option<ErrorKind>] {
+        match self.side {
+            Side::Reads => &READER_FAILS,
+            Side::Writes => &WRITER_FAILS,
+        }
+    }
+
+    /// Runs the script one way, where so many calls are served.
+    fn end<R: Threads + Wait + Sync>(
+        self,
+        rt: &R,
+        alloc: Global,
+        way: Way,
+        served: usize,
+        last: Option<ErrorKind>,
+    ) -> Result<End, PlayFault> {
+        let failing = Calls::new(self.size, self.times, served, last);
+        let (reads, writes) = match self.side {
+            Side::Reads => (failing, Calls::ample()),
+            Side::Writes => (Calls::ample(), failing),
+        };
+        let mut reader = Reader {
+            rest: self.script,
+            calls: reads,
+        };
+        let mut writer = Writer {
+            rest: self.answers,
+            took_others: false,
+            calls: writes,
+        };
+        let result = run_way(rt, alloc, way, false, &mut reader, &mut writer);
+        if result == Err(RunFault::Memory) {
+            return Err(PlayFault::Memory);
+        }
+        if writer.took_others || result.is_ok() && !reader.rest.is_empty() {
+            return Err(PlayFault::Wrong("other bytes"));
+        }
+        Ok(End {
+            result,
+            written: self.answers.len().saturating_sub(writer.rest.len()),
+        })
+    }
+}
+
+/// What runs come to, told where it is not what the one before came to.
+#[derive(Drop)]
+struct Told {
+    text: Vec<u8>,
+    last: Option<End>,
+}
+
+impl Told {
+    fn note(&mut self, end: End) -> io::Result<()> {
+        if self.last == Some(end) {
+            return Ok(());
+        }
+        self.last = Some(end);
+        let written = end.written;
+        match end.result {
+            Ok(()) => writeln!(self.text, "answered in {written} bytes"),
+            Err(fault) => writeln!(self.text, "{fault} behind {written} bytes"),
+        }
+    }
+
+    fn is_answered(&self) -> bool {
+        matches!(self.last, Some(End { result: Ok(()), .. }))
+    }
+}
+
+/// The answers to a script, and what runs come to of which none, one, two and so on of the calls on a side
+/// are served, up to those that are answered.
+pub(crate) fn play_ends<R: Threads + Wait + Sync>(
+    rt: &R,
+    alloc: Global,
+    script: &[u8],
+    side: Side,
+    numbers: [u32; 2],
+) -> Result<Vec<u8>, PlayFault> {
+    let mut text = output_of(rt, alloc, Way::Book, script, false)?;
+    let [size, times] = numbers;
+    let plan = Plan {
+        script,
+        answers: &text,
+        side,
+        size,
+        times,
+    };
+    let told = ends_of(rt, alloc, plan)?;
+    text.extend_from_slice(&told)?;
+    Ok(text)
+}
+
+fn ends_of<R: Threads + Wait + Sync>(
+    rt: &R,
+    alloc: Global,
+    plan: Plan<'_>,
+) -> Result<Vec<u8>, PlayFault> {
+    let mut told = Told {
+        text: Vec::new(alloc),
+        last: None,
+    };
+    for served in 0..MOST_CALLS {
+        end_each_way(rt, alloc, plan, served, &mut told)?;
+        if told.is_answered() {
+            break;
+        }
+    }
+    Ok(told.text)
+}
+
+const MOST_CALLS: usize = 1_000;
+
+fn end_each_way<R: Threads + Wait + Sync>(
+    rt: &R,
+    alloc: Global,
+    plan: Plan<'_>,
+    served: usize,
+    told: &mut Told,
+) -> Result<(), PlayFault> {
+    for (_, way) in &WAYS {
+        end_one_way(rt, alloc, plan, *way, served, told)?;
+    }
+    Ok(())
+}
+
+fn end_one_way<R: Threads + Wait + Sync>(
+    rt: &R,
+    alloc: Global,
+    plan: Plan<'_>,
+    way: Way,
+    served: usize,
+    told: &mut Told,
+) -> Result<(), PlayFault> {
+    for last in plan.fails() {
+        let end = plan.end(rt, alloc, way, served, *last)?;
+        told.note(end)?;
+    }
+    Ok(())
+}
