@@ -14,7 +14,7 @@ use camp_share::Shared;
 impl<State: Object> Head<State> {
     ghost use Rattle.camp_history.specs.Kept.{IsKeptBy};
     ghost use Rattle.camp_history.specs.Seats.{IsSeatOf, history_of, caller_at, seats_of};
-    ghost use Rattle.camp_history.specs.Inside.Steps.{Attempts};
+    ghost use Rattle.camp_history.specs.Inside.Steps.{Attempts, Decision};
 
     /// Asks a kept call at a seat. It takes part in the history if it is accepted.
     pub fn ask(&self, seat: &mut Seat<State>, kept: Kept<State>) -> Result<State::Reply, Fault>
@@ -63,7 +63,7 @@ impl<State: Object> Head<State> {
         ensures asks { Ask State.object (caller_at self.now seat.old) (history_of seat.old) call.now result (history_of seat.new) }
     {
         self.catch_up(seat)?;
-        match seat.decide(call)? {
+        match self.decide(seat, call)? {
             Decided::Answer(reply) => Ok(reply),
             Decided::Next(_) => unreachable!(),
         }
@@ -107,19 +107,35 @@ impl<State: Object> Head<State> {
         ensures attempts { Attempts State.object self.now seat.old call.now.value result seat.new }
     {
         seat.is_whole();
-        let next = match seat.decide(self.calls.value(call))? {
+        let state = match self.decide(seat, self.calls.value(call))? {
             Decided::Answer(reply) => return Ok(Some(reply)),
-            Decided::Next(next) => next,
+            Decided::Next(state) => state,
         };
-        if seat.accepted() == self.row.per_seat() {
-            return Err(Fault::Full);
-        }
-        let state = Shared::new(*seat.marks.allocator(), next)?;
         let made = self.version_for(seat, call, &state)?;
         if !seat.publish(&self.row, call, state, gate, lost)? {
             return Ok(None);
         }
         self.put(seat, made);
         Ok(Some(State::done(seat.position())))
+    }
+
+    /// What the object decides about a call at what was seen. It is accepted only if there is room for it.
+    fn decide(
+        &self,
+        seat: &Seat<State>,
+        call: &State::Call,
+    ) -> Result<Decided<Shared<State>, State::Reply>, Fault>
+        requires { IsSeatOf self.now seat.now }
+        ensures { Decision State.object self.now seat.now call.now result }
+    {
+        seat.is_whole();
+        let next = match seat.decide(call)? {
+            Decided::Answer(reply) => return Ok(Decided::Answer(reply)),
+            Decided::Next(next) => next,
+        };
+        if seat.accepted() == self.row.per_seat() {
+            return Err(Fault::Full);
+        }
+        Ok(Decided::Next(Shared::new(*seat.marks.allocator(), next)?))
     }
 }

@@ -1,6 +1,9 @@
 //! How a seat moves along the row.
 ghost use Rattle.std.specs.Prelude.{◌≡◌, ◌<◌, ◌+◌, ◌++◌, [], ◌∷◌, length, slice_get, All, Some, IfOk, OnOk, OnErr, MatchOption, MatchResult, MatchBool};
 ghost use Rattle.boxcar.specs.Table.{Shows};
+ghost use Rattle.camp_object.specs.declared.faults.Fault.TheVariants.{Memory};
+ghost use Rattle.camp_row.specs.Chains.{turns};
+ghost use Rattle.camp_row.specs.Known.{Won, Lost, with_draft};
 
 use crate::gates::Gate;
 use crate::heads::Head;
@@ -8,9 +11,20 @@ use crate::marks::Mark;
 use crate::seats::Seat;
 use boxcar::Pushed;
 use camp_object::{Decided, Fault, Object};
-use camp_row::{Next, Row, Trail};
+use camp_row::{Next, Pass, Row, Trail};
 use camp_share::Shared;
 use std::alloc::AllocError;
+
+/// Drafts the next cell, with a call's place, and exchanges.
+fn exchange<G: Gate>(row: &Row, pass: &mut Pass, place: usize, gate: &G, lost: u32) -> bool
+    requires row { pass.old.row ≡ row.now }
+    requires room { turns pass.old.number pass.old.seen < row.now.per_seat }
+    ensures { MatchBool result (Won (with_draft pass.old place) pass.new) (Lost (with_draft pass.old place) pass.new) }
+{
+    row.draft(pass, place);
+    gate.exchange(pass.number(), lost);
+    row.publish(pass)
+}
 
 impl<State: Object> Seat<State> {
     ghost use Rattle.camp_object.specs.Histories.{replay, IsLegal, own};
@@ -104,7 +118,7 @@ impl<State: Object> Seat<State> {
         self.state.decide(call)
     }
 
-    /// Drafts the call's cell and exchanges. All that grows does so before.
+    /// Publishes a call. All that has to grow does so before the exchange.
     pub(crate) fn publish<G: Gate>(
         &mut self,
         row: &Row,
@@ -112,17 +126,15 @@ impl<State: Object> Seat<State> {
         next: Shared<State>,
         gate: &G,
         lost: u32,
-    ) -> Result<bool, AllocError>
+    ) -> Result<bool, Fault>
         requires row { self.old.known.row ≡ row.now }
         requires room { length (own self.old.known.number (history_of self.old)) < row.now.per_seat }
         requires next { replay State.object (history_of self.old ++ (self.old.known.number, call.now.value) ∷ []) ≡ Some next }
-        ensures { MatchResult result (λ won. MatchBool won (Publishes self.old call.now self.new) (FindsMore self.old self.new)) (λ _. self.new ≡ self.old) }
+        ensures { MatchResult result (λ won. MatchBool won (Publishes self.old call.now self.new) (FindsMore self.old self.new)) (λ fault. (fault ≡ Memory) × (self.new ≡ self.old)) }
     {
         self.marks.reserve(1)?;
         let number = self.pass.number();
-        row.draft(&mut self.pass, call.index());
-        gate.exchange(number, lost);
-        if !row.publish(&mut self.pass) {
+        if !exchange(row, &mut self.pass, call.index(), gate, lost) {
             return Ok(false);
         }
         self.marks.push_reserved(Mark {

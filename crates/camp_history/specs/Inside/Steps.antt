@@ -6,6 +6,7 @@ use Rattle.camp_object.specs.Deciding.{Decides}
 use Rattle.camp_object.specs.Asking.{Ask}
 use Rattle.camp_object.specs.declared.faults.Fault.{Fault}
 use Rattle.camp_object.specs.declared.objects.Decided.{Decided}
+use Rattle.camp_object.specs.declared.objects.Decided.TheVariants.{Next, Answer}
 use Rattle.camp_row.specs.Chains.{IsShorter}
 use Rattle.camp_row.specs.declared.entries.Entry.{Entry}
 use Rattle.boxcar.specs.Table.{Where}
@@ -26,6 +27,18 @@ pub record DecidesAt {State Call Reply : Type 0} (object : Sequential State Call
   pub state : State
   pub replays : replay object history ≡ Some state
   pub decides : Decides object state call decided
+
+-- what a head decides about a call, at what a seat has seen: the state after it, if it is accepted and there is room
+-- for it, and else an answer
+abbrev pub Decision : {State Call Reply : Type 0} → Sequential State Call Reply → HeadId → Seated Call → Call
+    → Result (Decided State Reply) Fault → Type 0
+Decision object head seat call (Ok (Next next)) =
+    (length (own seat.known.number (history_of seat)) < head.row.per_seat)
+    × DecidesAt object (history_of seat) call (Next next)
+Decision object head seat call (Ok (Answer reply)) =
+    Ask object (caller_at head seat) (history_of seat) call (Ok reply) (history_of seat)
+Decision object head seat call (Err fault) =
+    Ask object (caller_at head seat) (history_of seat) call (Err fault) (history_of seat)
 
 -- a seat sees the entry that comes next
 pub record SeesNext {Call : Type 0} (old : Seated Call) (entry : Entry) (new : Seated Call) : Type 0 where

@@ -4,48 +4,19 @@ use Rattle.camp_history.proofs.heads.Head.attempt.Given.{Over}
 use Rattle.camp_history.proofs.heads.Head.attempt.Goals as goal
 
 pub version_for-requires-clause-next : goal.version_for-requires-clause-next
-version_for-requires-clause-next g c =
-    let decided : DecidesAt g.State.Object.object (history_of c.args.seat.now) c.value.result.now (Next c.in-Next.next) = rw c.in-Next.is at c.in_ok-reply.ensures in
-    let here : DecidesAt g.State.Object.object (history_of c.args.seat.now) c.args.call.now.value (Next c.in-Next.next) = rw c.value.ensures at decided in
-    decided_next g.State.Object.object (history_of c.args.seat.now) c.args.seat.now.known.number c.args.call.now.value c.in-Next.next here ∙ ap Some (sym c.in_ok-state.ensures.exact)
+version_for-requires-clause-next g c = ?
 
 pub publish-requires-clause-next : goal.publish-requires-clause-next
-publish-requires-clause-next g c =
-    let decided : DecidesAt g.State.Object.object (history_of c.args.seat.now) c.value.result.now (Next c.in-Next.next) = rw c.in-Next.is at c.in_ok-reply.ensures in
-    let here : DecidesAt g.State.Object.object (history_of c.args.seat.now) c.args.call.now.value (Next c.in-Next.next) = rw c.value.ensures at decided in
-    decided_next g.State.Object.object (history_of c.args.seat.now) c.args.seat.now.known.number c.args.call.now.value c.in-Next.next here ∙ ap Some (sym c.in_ok-state.ensures.exact)
+publish-requires-clause-next g c = ?
 
 pub returns-in_err-publish-clause-attempts : goal.returns-in_err-publish-clause-attempts
-returns-in_err-publish-clause-attempts g c =
-    attempts_nothing g.State.Object.object c.args.self.now c.args.seat.now c.publish.new.self c.args.call.now.value c.from_residual-in_err-publish.result c.from_residual-in_err-publish.ensures.1 c.is_whole.ensures.legal c.in_err-publish.ensures
+returns-in_err-publish-clause-attempts g c = ?
 
 pub put-requires-clause-seat : goal.put-requires-clause-seat
-put-requires-clause-seat g c =
-    let publishes : Publishes c.args.seat.now c.args.call.now c.publish.new.self = rw c.if-not-branch.false at c.in_ok-publish.ensures in
-    seat_published c.args.self.now c.args.seat.now c.publish.new.self c.args.call.now c.requires.seat c.requires.call publishes
+put-requires-clause-seat g c = ?
 
 pub put-requires-clause-made : goal.put-requires-clause-made
-put-requires-clause-made g c =
-    let seat = c.args.seat.now in
-    let publishes : Publishes seat c.args.call.now c.publish.new.self = rw c.if-not-branch.false at c.in_ok-publish.ensures in
-    let mark : Mark g.row.State-Call.Denot = record { seat = seat.known.number; call = c.args.call.now } in
-    rw (history_more seat.marks c.publish.new.self.marks mark publishes.marks) c.in_ok-made.ensures
+put-requires-clause-made g c = ?
 
 pub returns-clause-attempts : goal.returns-clause-attempts
-returns-clause-attempts g c =
-    let decided : DecidesAt g.State.Object.object (history_of c.args.seat.now) c.value.result.now (Next c.in-Next.next) = rw c.in-Next.is at c.in_ok-reply.ensures in
-    let here : DecidesAt g.State.Object.object (history_of c.args.seat.now) c.args.call.now.value (Next c.in-Next.next) = rw c.value.ensures at decided in
-    let own_head : c.args.seat.now.known.row.per_seat ≡ c.args.self.now.row.per_seat = ap (λ row. row.per_seat) c.requires.seat.row in
-    let per_seat : c.per_seat.result ≡ c.args.self.now.row.per_seat = c.per_seat.ensures.per_seat ∙ ap (λ head. head.row.per_seat) c.self.view_is in
-    let accepted : c.accepted.result ≡ length (own c.args.seat.now.known.number (history_of c.args.seat.now)) = c.accepted.ensures.accepted in
-    let within = c.accepted.ensures.within in
-    let other = c.if-accepted-per_seat.false in
-    let room : length (own c.args.seat.now.known.number (history_of c.args.seat.now)) < c.args.self.now.row.per_seat = omega arith in
-    let publishes : Publishes c.args.seat.now c.args.call.now c.publish.new.self = rw c.if-not-branch.false at c.in_ok-publish.ensures in
-    let marks : c.put.new.seat.marks ≡ c.publish.new.self.marks = c.put.ensures.marks in
-    let position : c.position.result ≡ length (history_of c.publish.new.self) = c.position.ensures.exact ∙ ap (λ marks. length (map asked marks)) marks in
-    let Asks : List (Mark g.row.State-Call.Denot) → Type 0 = λ marks. Ask g.State.Object.object (caller_at c.args.self.now c.args.seat.now) (history_of c.args.seat.now) c.args.call.now.value (Ok c.done.result) (map asked marks) in
-    subst Asks (sym marks) (
-    ask_published g.State.Object.object g.met.State.Object.lawful c.args.self.now c.args.seat.now c.publish.new.self c.args.call.now c.position.result c.done.result
-    (decided_accepted g.State.Object.object (history_of c.args.seat.now) c.args.call.now.value c.in-Next.next here) room publishes position c.done.ensures
-    )
+returns-clause-attempts g c = let h = c.in-Next in ?

@@ -3,23 +3,14 @@ use Rattle.camp_history.proofs.Seeing.{entries_more, history_more, begins_more, 
 use Rattle.camp_history.proofs.seats.Seat.publish.Given.{Over}
 use Rattle.camp_history.proofs.seats.Seat.publish.Goals as goal
 
-pub draft-requires-clause-room : goal.draft-requires-clause-room
-draft-requires-clause-room g c =
+pub exchange-requires-clause-room : goal.exchange-requires-clause-room
+exchange-requires-clause-room g c =
     let here : turns c.self.inside.pass.number c.self.inside.pass.seen ≡ length (own c.args.self.now.known.number (history_of c.args.self.now)) =
     ap (turns c.self.inside.pass.number) (sym c.self.invariant.places)
     ∙ sym (length-own c.self.inside.pass.number c.self.inside.marks.items)
     ∙ ap (λ seat. length (own seat.known.number (history_of seat))) c.self.view_is
     in
     rw here c.requires.room
-
-pub publish-requires-clause-room : goal.publish-requires-clause-room
-publish-requires-clause-room g c =
-    let here : turns c.self.inside.pass.number c.self.inside.pass.seen ≡ length (own c.args.self.now.known.number (history_of c.args.self.now)) =
-    ap (turns c.self.inside.pass.number) (sym c.self.invariant.places)
-    ∙ sym (length-own c.self.inside.pass.number c.self.inside.marks.items)
-    ∙ ap (λ seat. length (own seat.known.number (history_of seat))) c.self.view_is
-    in
-    rw (c.draft.ensures.exact, here) c.requires.room
 
 -- the mark that is pushed
 pushed : (g : Over) (c : goal.After-drop-self-inside g) → Mark g.row.State-Call.Denot
@@ -42,12 +33,11 @@ abbrev won : Known → Known
 won known = record known { seen = known.seen ++ drafted known ∷ []; ahead = known.seen ++ drafted known ∷ []; parent = 0; place = 0 }
 
 -- the pass won
-passed : (g : Over) (c : goal.After-drop-self-inside g) → c.publish.new.pass ≡ won (with_draft c.self.inside.pass c.args.call.now.index)
+passed : (g : Over) (c : goal.After-drop-self-inside g) → c.exchange.new.pass ≡ won (with_draft c.self.inside.pass c.args.call.now.index)
 passed g c =
-    let published : Won c.draft.new.pass c.publish.new.pass = c.if-not-publish.ensures.exact in
-    let draft : c.draft.new.pass ≡ with_draft c.self.inside.pass c.index.result = c.draft.ensures.exact in
+    let won_over : Won (with_draft c.self.inside.pass c.index.result) c.exchange.new.pass = c.if-not-exchange.ensures in
     let index : c.index.result ≡ c.args.call.now.index = c.index.ensures in
-    published.is ∙ ap won draft ∙ ap (λ place. won (with_draft c.self.inside.pass place)) index
+    won_over.is ∙ ap (λ place. won (with_draft c.self.inside.pass place)) index
 
 pub invariant_of-self-2 : goal.invariant_of-self-2
 unfolding pushed
