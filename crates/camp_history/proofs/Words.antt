@@ -6,7 +6,7 @@ pub use Rattle.std.proofs.lemmas.Option.{get_or_from_slice_get, same_Some, slice
 pub use Rattle.std.specs.List.{range_with_len, splice}
 pub use Rattle.boxcar.specs.Table.{Shelves, Shows, Where}
 pub use Rattle.camp_history.specs.Inside.SeatFields.{seated}
-pub use Rattle.camp_history.specs.Inside.Steps.{Attempts, DecidesAt, FindsMore, LosesOne, Publishes, SeesMore, SeesNext, entries_of, entry_of}
+pub use Rattle.camp_history.specs.Inside.Steps.{Attempts, DecidesAt, Decision, FindsMore, LosesOne, Publishes, SeesMore, SeesNext, entries_of, entry_of}
 pub use Rattle.camp_history.specs.Seats.{HeadId, IsSeatOf, Seated, asked, caller_at, history_of, unseen}
 pub use Rattle.camp_history.specs.Versions.{Adopts, GoesOn, IsIn, IsMade, ids, list_of, made_of, news}
 pub use Rattle.camp_history.specs.declared.marks.Mark.{Mark}

@@ -63,9 +63,10 @@ impl<State: Object> Head<State> {
         ensures asks { Ask State.object (caller_at self.now seat.old) (history_of seat.old) call.now result (history_of seat.new) }
     {
         self.catch_up(seat)?;
-        match self.decide(seat, call)? {
-            Decided::Answer(reply) => Ok(reply),
-            Decided::Next(_) => unreachable!(),
+        match self.decide(seat, call) {
+            Ok(Decided::Answer(reply)) => Ok(reply),
+            Ok(Decided::Next(_)) => unreachable!(),
+            Err(fault) => Err(fault),
         }
     }
 
