@@ -63,7 +63,7 @@ impl<State: Object> Head<State> {
         ensures asks { Ask State.object (caller_at self.now seat.old) (history_of seat.old) call.now result (history_of seat.new) }
     {
         self.catch_up(seat)?;
-        match self.decide(seat, call) {
+        match self.decision(seat, call) {
             Ok(Decided::Answer(reply)) => Ok(reply),
             Ok(Decided::Next(_)) => unreachable!(),
             Err(fault) => Err(fault),
@@ -108,7 +108,7 @@ impl<State: Object> Head<State> {
         ensures attempts { Attempts State.object self.now seat.old call.now.value result seat.new }
     {
         seat.is_whole();
-        let state = match self.decide(seat, self.calls.value(call))? {
+        let state = match self.decision(seat, self.calls.value(call))? {
             Decided::Answer(reply) => return Ok(Some(reply)),
             Decided::Next(state) => state,
         };
@@ -121,7 +121,7 @@ impl<State: Object> Head<State> {
     }
 
     /// What the object decides about a call at what was seen. It is accepted only if there is room for it.
-    fn decide(
+    fn decision(
         &self,
         seat: &Seat<State>,
         call: &State::Call,

@@ -16,7 +16,7 @@ use camp_share::Shared;
 use std::alloc::AllocError;
 
 /// Drafts the next cell, with a call's place, and exchanges.
-fn exchange<G: Gate>(row: &Row, pass: &mut Pass, place: usize, gate: &G, lost: u32) -> bool
+fn exchange_cell<G: Gate>(row: &Row, pass: &mut Pass, place: usize, gate: &G, lost: u32) -> bool
     requires row { pass.old.row ≡ row.now }
     requires room { turns pass.old.number pass.old.seen < row.now.per_seat }
     ensures { MatchBool result (Won (with_draft pass.old place) pass.new) (Lost (with_draft pass.old place) pass.new) }
@@ -134,7 +134,7 @@ impl<State: Object> Seat<State> {
     {
         self.marks.reserve(1)?;
         let number = self.pass.number();
-        if !exchange(row, &mut self.pass, call.index(), gate, lost) {
+        if !exchange_cell(row, &mut self.pass, call.index(), gate, lost) {
             return Ok(false);
         }
         self.marks.push_reserved(Mark {

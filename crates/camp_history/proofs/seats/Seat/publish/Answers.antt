@@ -3,8 +3,8 @@ use Rattle.camp_history.proofs.Seeing.{entries_more, history_more, begins_more, 
 use Rattle.camp_history.proofs.seats.Seat.publish.Given.{Over}
 use Rattle.camp_history.proofs.seats.Seat.publish.Goals as goal
 
-pub exchange-requires-clause-room : goal.exchange-requires-clause-room
-exchange-requires-clause-room g c =
+pub exchange_cell-requires-clause-room : goal.exchange_cell-requires-clause-room
+exchange_cell-requires-clause-room g c =
     let here : turns c.self.inside.pass.number c.self.inside.pass.seen ≡ length (own c.args.self.now.known.number (history_of c.args.self.now)) =
     ap (turns c.self.inside.pass.number) (sym c.self.invariant.places)
     ∙ sym (length-own c.self.inside.pass.number c.self.inside.marks.items)
@@ -33,9 +33,9 @@ abbrev won : Known → Known
 won known = record known { seen = known.seen ++ drafted known ∷ []; ahead = known.seen ++ drafted known ∷ []; parent = 0; place = 0 }
 
 -- the pass won
-passed : (g : Over) (c : goal.After-drop-self-inside g) → c.exchange.new.pass ≡ won (with_draft c.self.inside.pass c.args.call.now.index)
+passed : (g : Over) (c : goal.After-drop-self-inside g) → c.exchange_cell.new.pass ≡ won (with_draft c.self.inside.pass c.args.call.now.index)
 passed g c =
-    let won_over : Won (with_draft c.self.inside.pass c.index.result) c.exchange.new.pass = c.if-not-exchange.ensures in
+    let won_over : Won (with_draft c.self.inside.pass c.index.result) c.exchange_cell.new.pass = c.if-not-exchange_cell.ensures in
     let index : c.index.result ≡ c.args.call.now.index = c.index.ensures in
     won_over.is ∙ ap (λ place. won (with_draft c.self.inside.pass place)) index
 
