@@ -1,5 +1,5 @@
 -- Limits that several crates speak of.
-use Rattle.std.specs.Prelude.{ℕ}
+use Rattle.std.specs.Prelude.{ℕ, ◌^◌}
 
 -- changes in a patch; it has one at least
 abbrev pub most_changes : ℕ
@@ -16,3 +16,7 @@ longest_path = 200
 -- bytes of a line
 abbrev pub longest_line : ℕ
 longest_line = 4_096
+
+-- the line of a hunk and its old and new lines, counted together
+abbrev pub greatest_reach : ℕ
+greatest_reach = 2 ^ 30

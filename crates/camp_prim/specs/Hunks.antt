@@ -1,5 +1,6 @@
 -- Hunks as plain data.
-use Rattle.std.specs.Prelude.{ℕ, ◌+◌, ◌^◌, ◌≤◌, List, length}
+use Rattle.std.specs.Prelude.{ℕ, ◌+◌, ◌≤◌, List, length}
+use Rattle.camp_base.specs.Limits.{greatest_reach}
 use Rattle.camp_base.specs.Trees.{Lines}
 
 -- at a line of the file of a path, counted from 1, new lines in place of old ones
@@ -14,4 +15,4 @@ pub record Edit : Type 0 where
 pub record IsInRange (hunk : Edit) : Type 0 where
   pub counted : 1 ≤ hunk.line
   pub changes : 1 ≤ length hunk.old + length hunk.new
-  pub within : hunk.line + length hunk.old + length hunk.new ≤ 2 ^ 30
+  pub within : hunk.line + length hunk.old + length hunk.new ≤ greatest_reach

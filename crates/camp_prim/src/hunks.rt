@@ -1,4 +1,5 @@
-ghost use Rattle.std.specs.Prelude.{◌≡◌, ◌+◌, ◌^◌, ◌≤◌, ◌↔◌, IfOk, IsTrue, MatchOption};
+ghost use Rattle.std.specs.Prelude.{◌≡◌, ◌+◌, ◌≤◌, ◌↔◌, IfOk, IsTrue, MatchOption};
+ghost use Rattle.camp_base.specs.Limits.{greatest_reach};
 ghost use Rattle.camp_prim.specs.Effect.{flipped};
 ghost use Rattle.camp_prim.specs.Hunks.{Edit, IsInRange};
 ghost use Rattle.camp_prim.specs.Swaps.{at_line};
@@ -152,7 +153,7 @@ fn are_same(lines: &[Line], others: &[Line]) -> bool
 }
 
 fn is_in_range(line: u32, old: usize, new: usize) -> bool
-    ensures { IsTrue result ↔ ((1 ≤ line) × (1 ≤ old + new) × (line + old + new ≤ 2 ^ 30)) }
+    ensures { IsTrue result ↔ ((1 ≤ line) × (1 ≤ old + new) × (line + old + new ≤ greatest_reach)) }
 {
     if line == 0 || (old == 0 && new == 0) {
         return false;

@@ -1,5 +1,6 @@
-ghost use Rattle.std.specs.Prelude.{◌≡◌, ◌+◌, ◌^◌, ◌≤◌, ◌<◌, ◌↔◌, IfOk, IfErr, IfSome, IsTrue, MatchOption, length, option_map};
+ghost use Rattle.std.specs.Prelude.{◌≡◌, ◌+◌, ◌≤◌, ◌<◌, ◌↔◌, IfOk, IfErr, IfSome, IsTrue, MatchOption, length, option_map};
 ghost use Rattle.camp_base.specs.Answers.{Finds, FindsPair};
+ghost use Rattle.camp_base.specs.Limits.{greatest_reach};
 ghost use Rattle.camp_prim.specs.Effect.{InRange};
 ghost use Rattle.camp_prim.specs.Hunks.{IsInRange};
 ghost use Rattle.camp_prim.specs.Laws.{CommuteIsExchange, SwapIsUnique, SwapLaws};
@@ -97,7 +98,7 @@ fn hunk_targets(h: &Hunk, k: &Hunk) -> Option<Targets>
 /// The line to which the lower hunk comes where it stands behind what a hunk at line `upper` leaves,
 /// and is to stand as far behind what that takes. None where it can't pass it, or leaves the range.
 fn line_below(upper: u32, takes: usize, leaves: usize, lower: &Hunk) -> Option<u32>
-    requires { upper + takes + leaves ≤ 2 ^ 30 }
+    requires { upper + takes + leaves ≤ greatest_reach }
     ensures { Finds (ComesTo upper takes leaves lower.now) result }
 {
     let gap = gap_between(upper as usize + leaves, lower.line() as usize)?;

@@ -1,9 +1,9 @@
 -- The changes of a record: the bodies of edits, and the lines of groups.
-use Rattle.std.specs.Prelude.{ℕ, ◌+◌, ◌^◌, ◌&&◌, ◌==◌, nat_le, nat_lt, if◌then◌else◌}
+use Rattle.std.specs.Prelude.{ℕ, ◌+◌, ◌&&◌, ◌==◌, nat_le, nat_lt, if◌then◌else◌}
 use Rattle.std.specs.Prelude.{List, [], ◌∷◌, ◌++◌, length, Result, Ok, bytes_eq, codes}
 use Rattle.std.specs.List.{list_any}
 use Rattle.camp_base.specs.Bytes.{is_line}
-use Rattle.camp_base.specs.Limits.{most_changes}
+use Rattle.camp_base.specs.Limits.{greatest_reach, most_changes}
 use Rattle.camp_prim.specs.Hunks.{Edit}
 use Rattle.camp_prim.specs.declared.primitives.Primitive.{Primitive}
 use Rattle.camp_prim.specs.declared.primitives.Primitive.TheVariants.{Add, Remove, Hunk}
@@ -41,7 +41,7 @@ grown line edit (sign ∷ bytes) =
 abbrev pub ended : ℕ → Edit → Result Edit LineFault
 ended line edit =
     if length edit.old + length edit.new == 0 then fault_at line BadEdit
-    else (if nat_lt (2 ^ 30) (edit.line + length edit.old + length edit.new) then fault_at line BadNumber
+    else (if nat_lt greatest_reach (edit.line + length edit.old + length edit.new) then fault_at line BadNumber
     else Ok edit)
 
 -- an edit behind a line of its body

@@ -1,7 +1,8 @@
 //! Lines of groups and of bodies.
-ghost use Rattle.std.specs.Prelude.{◌≡◌, ◌≢◌, ◌≤◌, ◌<◌, ◌+◌, ◌^◌, ◌∷◌, [], if◌then◌else◌, false, IfErr, IfOk, Ok, Some, length, map, nat_lt};
+ghost use Rattle.std.specs.Prelude.{◌≡◌, ◌≢◌, ◌≤◌, ◌<◌, ◌+◌, ◌∷◌, [], if◌then◌else◌, false, IfErr, IfOk, Ok, Some, length, map, nat_lt};
 ghost use Rattle.std.specs.Option.{option_map};
 ghost use Rattle.camp_base.specs.Bytes.{is_line};
+ghost use Rattle.camp_base.specs.Limits.{greatest_reach};
 ghost use Rattle.camp_prim.specs.Hunks.{IsInRange};
 ghost use Rattle.camp_script.specs.declared.faults.FaultKind.TheVariants as kind;
 ghost use Rattle.camp_script.specs.Faults.{fault_at};
@@ -288,7 +289,7 @@ fn test_body(number: u64, edit: &OpenEdit) -> Result<(), ScriptFault>
 
 // Whether the line of an edit and the numbers of its old and new lines add up to too much.
 fn reaches_too_far(line: u32, old: usize, new: usize) -> bool
-    ensures { result ≡ nat_lt (2 ^ 30) (line + old + new) }
+    ensures { result ≡ nat_lt greatest_reach (line + old + new) }
 {
     if old > MAX_REACH || new > MAX_REACH {
         return true;

@@ -1,6 +1,7 @@
 -- When every list that swaps of neighbours make of a list is in range.
 use Rattle.std.specs.Prelude.{◌^◌, ◌≤◌, List, [], ◌∷◌}
 use Rattle.std.specs.List.{All}
+use Rattle.camp_base.specs.Limits.{greatest_reach}
 use Rattle.camp_prim.specs.Effect.{InRange}
 use Rattle.camp_prim.specs.Laws.{SixOrders}
 use Rattle.camp_prim.specs.Swaps.{SwapAnywhere, Swap}
@@ -34,4 +35,4 @@ NormalForm = (s t : List Named) → HasRoom s → s ~ t → (u : List Named) →
 
 -- a list of primitives in range whose reach is in range has room
 abbrev pub ReachGivesRoom : Type 0
-ReachGivesRoom = (s : List Named) → All (λ p. InRange p.prim) s → reach_of s ≤ 2 ^ 30 → HasRoom s
+ReachGivesRoom = (s : List Named) → All (λ p. InRange p.prim) s → reach_of s ≤ greatest_reach → HasRoom s

@@ -1,4 +1,5 @@
-ghost use Rattle.std.specs.Prelude.{◌≡◌, ◌^◌, ◌≤◌, ◌↔◌, IsTrue};
+ghost use Rattle.std.specs.Prelude.{◌≡◌, ◌≤◌, ◌↔◌, IsTrue};
+ghost use Rattle.camp_base.specs.Limits.{greatest_reach};
 ghost use Rattle.camp_prim.specs.Effect.{InRange};
 ghost use Rattle.camp_seq.specs.Room.{HasRoom, ReachGivesRoom};
 ghost use Rattle.camp_seq.specs.Shapes.{line_of, sides_of, reach_of};
@@ -18,7 +19,7 @@ pub fn reach_gives_room()
 /// Whether a list has room for sure: the greatest line of its hunks and the numbers of all their
 /// lines add up to 2^30 at most. Other lists may have room too.
 pub fn has_room(s: &Seq) -> bool
-    ensures exact { IsTrue result ↔ (reach_of s.now ≤ 2 ^ 30) }
+    ensures exact { IsTrue result ↔ (reach_of s.now ≤ greatest_reach) }
     ensures room { IsTrue result → HasRoom s.now }
 {
     surely_has_room(&s.items)
@@ -28,7 +29,7 @@ pub fn has_room(s: &Seq) -> bool
 /// the range of one hunk. Where they are, no swaps of neighbours bring a hunk out of range; where
 /// they are not, that may still be so. It takes one look at each element.
 pub(crate) fn surely_has_room(items: &[Named]) -> bool
-    ensures exact { IsTrue result ↔ (reach_of items.now ≤ 2 ^ 30) }
+    ensures exact { IsTrue result ↔ (reach_of items.now ≤ greatest_reach) }
     ensures room { IsTrue result → HasRoom items.now }
 {
     let mut greatest = 0;
