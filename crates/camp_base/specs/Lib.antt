@@ -3,4 +3,5 @@ pub mod Bytes
 pub mod Inside
 pub mod Limits
 pub mod Made
+pub mod Signs
 pub mod Trees

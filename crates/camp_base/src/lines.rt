@@ -5,6 +5,7 @@ ghost use Rattle.std.specs.Cmp.Lexicographic.{pointwise};
 ghost use Rattle.std.proofs.Common.{rules};
 ghost use Rattle.camp_base.specs.Bytes.{is_line};
 ghost use Rattle.camp_base.specs.Made.{Makes};
+ghost use Rattle.camp_base.specs.Signs.{newline};
 ghost use Rattle.camp_base.specs.declared.faults.BaseFault.TheVariants as fault;
 
 use crate::{BaseFault, MAX_LINE_LENGTH};
@@ -74,7 +75,7 @@ fn is_line(bytes: &[u8]) -> bool
 }
 
 fn is_without_end(bytes: &[u8]) -> bool
-    ensures { result ≡ list_all (λ byte. not (byte == 10)) bytes.now }
+    ensures { result ≡ list_all (λ byte. not (byte == newline)) bytes.now }
 {
     bytes.iter().all(|byte| *byte != b'\n')
 }

@@ -6,7 +6,8 @@ ghost use Rattle.std.specs.Cmp.Rules.{comparing};
 ghost use Rattle.std.specs.Cmp.Lexicographic.{slice_cmp, pointwise};
 ghost use Rattle.std.specs.FinMap.{nat_cmp-IsAntisymmetric, slice_cmp-IsAntisymmetric};
 ghost use Rattle.std.proofs.Common.{rules};
-ghost use Rattle.camp_base.specs.Bytes.{is_graphic, is_path, is_path_part, path_parts};
+ghost use Rattle.camp_base.specs.Bytes.{is_path, is_path_part, path_parts};
+ghost use Rattle.camp_base.specs.Signs.{is_graphic};
 ghost use Rattle.camp_base.specs.Made.{Makes};
 ghost use Rattle.camp_base.specs.declared.faults.BaseFault.TheVariants as fault;
 

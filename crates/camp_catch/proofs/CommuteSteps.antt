@@ -1,7 +1,8 @@
 -- What the bodies of commuting know at their answers.
+use Rattle.camp_prim.proofs.SwapLaws.{own_inverse, square}
 use Rattle.camp_seq.proofs.GatherSteps.{length-passes}
 use Rattle.camp_catch.specs.Inside.Pairs.{JoinsBehindEffects}
-use Rattle.camp_catch.proofs.Words.{Bool, IfOk, List, None, Option, Result, Some, [], ap, arith, eqb-true, inl, inr, length, refl, sym, true, ◌==◌, ◌∙◌, ◌∷◌, ◌≡◌, ◌≤◌, nil_from_length, IfOk-weaker, empty_of_len, get, get-empty, len, remove, FindsPair, key_cmp, Key, Named, PassesAll, ContextedPatch, ContextedPatches, bare, context_key, patch_key, CommuteConflictors, CommutePlainConflictor, ConflictDissolves, OneOfSeveralConflicts, OnlyConflictGoes, PlainLeavesTheSet, PlainPastConflictor, TwoConflictorsApart, Catch, Conflictor}
+use Rattle.camp_catch.proofs.Words.{Bool, IfOk, List, None, Option, Result, Some, [], ap, arith, eqb-true, inl, inr, length, refl, sym, true, ◌==◌, ◌∙◌, ◌∷◌, ◌≡◌, ◌≤◌, nil_from_length, IfOk-weaker, empty_of_len, get, get-empty, len, remove, FindsPair, inverse_of, key_cmp, Key, Named, Passes, PassesAll, ContextedPatch, ContextedPatches, bare, context_key, patch_key, CommuteConflictors, CommutePlainConflictor, ConflictDissolves, OneOfSeveralConflicts, OnlyConflictGoes, PlainLeavesTheSet, PlainPastConflictor, TwoConflictorsApart, Catch, Conflictor}
 use Rattle.camp_catch.proofs.CommuteCases.{its_only, lacks_its_only, not_none, only_is_one}
 
 -- what one relation finds, another finds that has the same results
@@ -91,3 +92,10 @@ no_context x a is = is ∙ ap (λ (y : ContextedPatch). bare y.patch) (sym is)
 -- a list whose length tests as 0
 pub is_nothing : (s items : List Named) (test : Bool) → test ≡ (length items == 0) → test ≡ true → items ≡ s → s ≡ []
 is_nothing s items test is counts same = sym same ∙ nil_from_length items (eqb-true _ _ (sym is ∙ counts))
+
+-- a list before what a primitive becomes, turned back, is what that makes of it behind the primitive turned back
+pub comes_before_from : (x : Named) (r r' : List Named) (x' : Named) → Passes x r r' x' → PassesAll r (inverse_of x' ∷ []) (inverse_of x ∷ []) r'
+comes_before_from x [] r' x' w = (ap (λ y. inverse_of y ∷ []) (sym w.1), w.0)
+comes_before_from x (q ∷ s) r' x' w =
+    let swapped = own_inverse (inverse_of x) w.0 q (inverse_of w.1) (square x q w.0 w.1 w.3) in
+    (inverse_of w.1 ∷ [], w.0, w.2, comes_before_from w.1 s w.2 x' w.4, (inverse_of x, w.0, [], swapped, (refl, refl), refl), w.5)

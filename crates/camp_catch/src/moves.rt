@@ -33,7 +33,7 @@ pub(crate) fn come_before(
 fn exchange(alloc: Global, j: &mut Shared<Catch>, k: &mut Shared<Catch>) -> Result<bool, AllocError>
     ensures exact { IfOk result (λ done. Changes CommutesInPlace (j.old, k.old) done (j.new, k.new)) }
 {
-    if commute_as_they_are(j, k) {
+    if commute_as_they_are(j, k)? {
         return Ok(true);
     }
     let commuted = commute(alloc, j, k)?;

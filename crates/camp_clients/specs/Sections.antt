@@ -1,5 +1,9 @@
 -- Sections of calls: how the fronts of their answers follow one another.
-use Rattle.std.specs.Prelude.{◌≡◌, List, [], ◌∷◌}
+use Rattle.std.specs.Prelude.{◌≡◌, ℕ, List, [], ◌∷◌}
+
+-- sections of a run: an opening, and one for each client
+abbrev pub most_sections : ℕ
+most_sections = 64
 
 -- from front to front: each answer has a front of the history, which is what it says after the front before it
 abbrev pub Section : {Front Call Answer : Type 0} → (Front → Call → Answer → Front → Type 0)

@@ -4,6 +4,7 @@ ghost use Rattle.camp_clients.specs.Answers.{told};
 ghost use Rattle.camp_clients.specs.Comparing.{Differs, Matches, left_from};
 ghost use Rattle.camp_clients.specs.Positions.{done_at};
 ghost use Rattle.camp_clients.specs.Runs.{IsExactly, lists_of};
+ghost use Rattle.camp_clients.specs.Sections.{most_sections};
 
 use camp_object::{Fault, Object};
 
@@ -17,7 +18,7 @@ pub fn has_exactly<State: Object>(
     sections: &[Vec<State::Call>],
     answers: &[Vec<Result<State::Reply, Fault>>],
 ) -> bool
-    requires few { length sections.now ≤ 64 }
+    requires few { length sections.now ≤ most_sections }
     requires as_many { length answers.now ≡ length sections.now }
     ensures exact { IsTrue result ↔
         IsExactly (told State.object) (lists_of sections.now) (lists_of answers.now) history.now }

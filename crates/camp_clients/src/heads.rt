@@ -2,13 +2,13 @@ ghost use Rattle.std.specs.Prelude.{◌≡◌, ◌⊎◌, ℕ, true, [], ◌∷�
 ghost use Rattle.std.specs.List.{All, AllZip};
 ghost use Rattle.std.specs.Thread.{IsSync};
 ghost use Rattle.camp_object.specs.Histories.{IsFront, IsLegal, own};
-ghost use Rattle.camp_history.specs.Opening.{IsInRange, IsOpened};
+ghost use Rattle.camp_history.specs.Opening.{farthest_version, most_calls, IsInRange, IsOpened};
 ghost use Rattle.camp_history.specs.Seats.{IsSeatOf, calls_per_seat, history_of, caller_at, number_of, seats_of};
 ghost use Rattle.camp_clients.specs.Answers.{Asks};
 ghost use Rattle.camp_clients.specs.Clients.{sight_of, IsReady};
 ghost use Rattle.camp_clients.specs.Meeting.{AreNew, IsMet, HasMet, Ran};
 ghost use Rattle.camp_clients.specs.Runs.{HasShared, IsShared, TellsShared, lists_of};
-ghost use Rattle.camp_clients.specs.Sections.{Section};
+ghost use Rattle.camp_clients.specs.Sections.{most_sections, Section};
 
 use crate::sections::{Answers, ask_all, gather};
 use camp_history::{Gate, Head, HeadDesk, Seat};
@@ -234,9 +234,9 @@ fn answers_of<Seat: Drop, Reply: Drop>(
 
 /// The largest number of calls of one section that write, and at least 1.
 fn most_writing<State: Object>(sections: &[Vec<State::Call>]) -> u32
-    requires { All (λ calls. count_by State.object.is_writing calls.items ≤ 65536) sections.now }
+    requires { All (λ calls. count_by State.object.is_writing calls.items ≤ most_calls) sections.now }
     ensures room { All (λ calls. count_by State.object.is_writing calls.items ≤ result) sections.now }
-    ensures range { (0 < result) × (result ≤ 65536) }
+    ensures range { (0 < result) × (result ≤ most_calls) }
 {
     let mut most = 1;
     for calls in sections {
@@ -247,7 +247,7 @@ fn most_writing<State: Object>(sections: &[Vec<State::Call>]) -> u32
 
 /// How many calls of a section write.
 fn writing<State: Object>(calls: &[State::Call]) -> u32
-    requires { count_by State.object.is_writing calls.now ≤ 65536 }
+    requires { count_by State.object.is_writing calls.now ≤ most_calls }
     ensures { result ≡ count_by State.object.is_writing calls.now }
 {
     let mut count = 0;
@@ -291,10 +291,10 @@ pub fn shared<R: Threads + Wait + Sync, State: Object + Send + Sync, G: Gate + S
 where
     State::Call: Send + Sync,
     State::Reply: Send,
-    requires sections { (0 < length sections.now) × (length sections.now ≤ 64) }
-    requires writing { All (λ calls. count_by State.object.is_writing calls.items ≤ 65536) sections.now }
+    requires sections { (0 < length sections.now) × (length sections.now ≤ most_sections) }
+    requires writing { All (λ calls. count_by State.object.is_writing calls.items ≤ most_calls) sections.now }
     requires tries { (0 < tries) × (tries ≤ 1000) }
-    requires every { every ≤ 4096 }
+    requires every { every ≤ farthest_version }
     ensures shared { IfOk result (λ run.
         IsShared State.object tries (lists_of sections.now) (lists_of run.answers.items) run.history.items) }
 {
@@ -313,10 +313,10 @@ pub fn shared_answers<R: Threads + Wait + Sync, State: Object + Send + Sync, G: 
 where
     State::Call: Send + Sync,
     State::Reply: Send,
-    requires sections { (0 < length sections.now) × (length sections.now ≤ 64) }
-    requires writing { All (λ calls. count_by State.object.is_writing calls.items ≤ 65536) sections.now }
+    requires sections { (0 < length sections.now) × (length sections.now ≤ most_sections) }
+    requires writing { All (λ calls. count_by State.object.is_writing calls.items ≤ most_calls) sections.now }
     requires tries { (0 < tries) × (tries ≤ 1000) }
-    requires every { every ≤ 4096 }
+    requires every { every ≤ farthest_version }
     ensures shared { IfOk result (λ answers.
         HasShared State.object tries (lists_of sections.now) (lists_of answers.items)) }
 {
@@ -337,10 +337,10 @@ fn over_new_head<R: Threads + Wait + Sync, State: Object + Send + Sync, G: Gate 
 where
     State::Call: Send + Sync,
     State::Reply: Send,
-    requires sections { (0 < length sections.now) × (length sections.now ≤ 64) }
-    requires writing { All (λ calls. count_by State.object.is_writing calls.items ≤ 65536) sections.now }
+    requires sections { (0 < length sections.now) × (length sections.now ≤ most_sections) }
+    requires writing { All (λ calls. count_by State.object.is_writing calls.items ≤ most_calls) sections.now }
     requires tries { (0 < tries) × (tries ≤ 1000) }
-    requires every { every ≤ 4096 }
+    requires every { every ≤ farthest_version }
     ensures { IfOk result (λ run. TellsShared State.object tries (lists_of sections.now) wants_history
         (lists_of run.answers.items) run.history.items) }
 {

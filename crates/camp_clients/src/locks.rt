@@ -3,6 +3,7 @@ ghost use Rattle.std.specs.List.{AllZip};
 ghost use Rattle.std.specs.Thread.{IsSync};
 ghost use Rattle.camp_clients.specs.Answers.{HasMemory};
 ghost use Rattle.camp_clients.specs.Runs.{IsLocked, SaysSomewhere, lists_of, section_of};
+ghost use Rattle.camp_clients.specs.Sections.{most_sections};
 
 use crate::comparisons::has_exactly;
 use crate::faults::LockFault;
@@ -24,7 +25,7 @@ pub fn locked<R: Threads + Wait + Sync, State: Object + Send>(
 where
     State::Call: Send + Sync,
     State::Reply: Send,
-    requires { (0 < length sections.now) × (length sections.now ≤ 64) }
+    requires { (0 < length sections.now) × (length sections.now ≤ most_sections) }
     ensures locked { IfOk result (λ run.
         IsLocked State.object (lists_of sections.now) (lists_of run.answers.items) run.book) }
 {
@@ -51,7 +52,7 @@ fn in_threads<R: Threads + Wait + Sync, State: Object + Send>(
 where
     State::Call: Send + Sync,
     State::Reply: Send,
-    requires { (0 < length sections.now) × (length sections.now ≤ 64) }
+    requires { (0 < length sections.now) × (length sections.now ≤ most_sections) }
     ensures as_many { IfOk result (λ made. length made.items + 1 ≡ length sections.now) }
     ensures each { IfOk result (λ made. (k : ℕ) (d : _) → k < length made.items →
         IfOk (slice_index_or made.items k d) (λ answers.
@@ -62,7 +63,7 @@ where
         alloc,
         sections.len() - 1,
         &|k: usize| -> Result<Answers<State>, AllocError>
-            requires { IsSync R.row × (k + 1 < length sections.now) × (length sections.now ≤ 64) }
+            requires { IsSync R.row × (k + 1 < length sections.now) × (length sections.now ≤ most_sections) }
             ensures { IfOk result (λ answers.
                 AllZip (SaysSomewhere State.object) (section_of (lists_of sections.entry.now) (k + 1)) answers.items) }
         { ask_locked::<R, State>(rt, alloc, lock, k as u32 + 1, &sections[k + 1]) },

@@ -1,7 +1,7 @@
 ghost use Rattle.std.specs.Prelude.{◌≤◌, [], length, IfOk};
 ghost use Rattle.camp_clients.specs.Answers.{SaysAlone};
 ghost use Rattle.camp_clients.specs.Runs.{OneByOne, lists_of};
-ghost use Rattle.camp_clients.specs.Sections.{Section};
+ghost use Rattle.camp_clients.specs.Sections.{most_sections, Section};
 
 use crate::sections::{Answers, ask_all};
 use camp_object::{Book, BookDesk, Desk, Object};
@@ -19,7 +19,7 @@ pub fn serial<State: Object>(
     alloc: Global,
     sections: &[Vec<State::Call>],
 ) -> Result<BookRun<State>, AllocError>
-    requires { length sections.now ≤ 64 }
+    requires { length sections.now ≤ most_sections }
     ensures serial { IfOk result (λ run.
         OneByOne State.object 0 [] (lists_of sections.now) (lists_of run.answers.items) run.book) }
 {

@@ -1,5 +1,5 @@
 -- What stays as it is where a primitive passes it as it is.
-use Rattle.camp_ctx.proofs.Words.{◌≡◌, ◌∙◌, ℕ, suc, ◌<◌, ◌≤◌, length, Some, None, Bool, true, false, cond, List, [], ◌∷◌, ◌++◌, map, refl, sym, ap, subst, inl, inr, arith, slice_get, entries, get-entries, len, len-entries, find, eq_by_cmp, inverse_of, label_of, key_of, key_cmp, Swap, Key, Label, Named, inverse_of-inverse_of, Norm, Splits, Parts, Passes, passes_row, chain_is_ordered, Adds}
+use Rattle.camp_ctx.proofs.Words.{◌≡◌, ◌∙◌, ℕ, suc, ◌<◌, ◌≤◌, length, Some, None, Bool, true, false, cond, List, [], ◌∷◌, ◌++◌, map, refl, sym, ap, subst, inl, inr, arith, slice_get, entries, get-entries, len, len-entries, find, eq_by_cmp, inverse_of, label_of, key_of, key_cmp, Swap, Key, Label, Named, inverse_of-inverse_of, Norm, Splits, Parts, Passes, passes_row, chain_is_ordered, Adds, PassesBy}
 use Rattle.camp_ctx.proofs.Words.{commute, MergesBehindCommon, common_labels, has_label, Conflict, ChangesAt, ContextedPatches, EachMember, ContextedPatch, whole}
 use Rattle.camp_ctx.specs.Inside.Apart.{NoCleanMerge}
 use Rattle.camp_ctx.proofs.CommonLabels.{IsIn, in_from_fronts, in_from_has}
@@ -14,11 +14,14 @@ has_other_labels a (q ∷ s) s' a' w l same (inl is) =
 has_other_labels a (q ∷ s) s' a' w l same (inr among) =
     has_other_labels w.1 s _ a' w.4 l (same ∙ ap key_of (sym w.3.anywhere.first)) among
 
--- what passes by a contexted patch in normal order, where all stay as they are, is added to it so
-pub stays_put : (a : Named) (x : ContextedPatch) → Passes a x.context x.context a → Norm x.context x.context → Swap a x.patch x.patch a → Adds a x x
-stays_put a x passes own swap =
-    commute (λ y w. has_other_labels a x.context x.context a passes (label_of (inverse_of a)) refl (in_from_fronts _ x.context _ _ w.front))
-    (record { a' = a; a'' = a; passed = x.context; past_context = passes; past_patch = swap; context = own })
+-- a primitive passes by a contexted patch in normal order, where all stay as they are
+pub passes_as_it_is : (a : Named) (x : ContextedPatch) → Passes a x.context x.context a → Norm x.context x.context → Swap a x.patch x.patch a → PassesBy a x x
+passes_as_it_is a x passes own swap =
+    record { a' = a; a'' = a; passed = x.context; past_context = passes; past_patch = swap; context = own }
+
+-- then it is added to it so
+pub stays_put : (a : Named) (x : ContextedPatch) → Passes a x.context x.context a → PassesBy a x x → Adds a x x
+stays_put a x passes = commute (λ y w. has_other_labels a x.context x.context a passes (label_of (inverse_of a)) refl (in_from_fronts _ x.context _ _ w.front))
 
 -- what changes each element of entries to itself changes each value to itself
 same_at_each : (Change : ContextedPatch → ContextedPatch → Type 0) (es : List (Key × ContextedPatch)) → ((k : ℕ) → k < length es → ChangesAt Change (slice_get (map (λ e. e.1) es) k) (slice_get (map (λ e. e.1) es) k)) → (key : Key) → ChangesAt Change (find key_cmp key es) (find key_cmp key es)

@@ -1,7 +1,7 @@
 //! What stays as it is behind a primitive.
 ghost use Rattle.std.specs.Prelude.{IsTrue, slice_get};
 ghost use Rattle.std.specs.FinMap as map;
-ghost use Rattle.camp_ctx.specs.Adding.{Adds};
+ghost use Rattle.camp_ctx.specs.Adding.{Adds, PassesBy};
 ghost use Rattle.camp_ctx.specs.Contexts.{ChangesAt, EachMember};
 
 use crate::{Contexted, ContextedSet};
@@ -9,10 +9,11 @@ use camp_prim::{Named, stay};
 use camp_seq::{is_own_order, stays_past};
 
 impl Contexted {
-    /// Whether the contexted patch is as it was where `a` is added. Where it says no, it may still be.
-    /// It takes no memory.
+    /// Whether the contexted patch is as it was where `a` is added, and `a` passes by it. Where it says
+    /// no, it may still be. It takes no memory.
     pub fn stays_behind(&self, a: &Named) -> bool
         ensures sound { IsTrue result → Adds a.now self.now self.now }
+        ensures passes { IsTrue result → PassesBy a.now self.now self.now }
     {
         let context = self.context().items();
         if !stays_past(a, context) {

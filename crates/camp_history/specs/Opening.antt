@@ -1,17 +1,29 @@
 -- What a new head is.
 use Rattle.std.specs.Prelude.{◌≡◌, ℕ, ◌≤◌, List, map, All, Result, Ok, Err}
 use Rattle.std.specs.List.{range_with_len}
-use Rattle.camp_row.specs.Known.{newcomer}
+use Rattle.camp_row.specs.Known.{most_cells, most_seats, newcomer}
 use Rattle.camp_history.specs.Seats.{HeadId, Seated, calls_per_seat, unseen, IsSeatOf}
 use Rattle.camp_history.specs.declared.faults.HeadFault.{HeadFault}
 use Rattle.camp_history.specs.declared.faults.HeadFault.TheVariants.{BadSize, Memory}
 
+-- accepted calls of a seat: each has a cell of its own
+abbrev pub most_calls : ℕ
+most_calls = most_cells
+
+-- tries of a call
+abbrev pub most_tries : ℕ
+most_tries = 1_000
+
+-- places between two versions
+abbrev pub farthest_version : ℕ
+farthest_version = 4_096
+
 -- the numbers that a head can be made of
 pub record IsInRange (seats per_seat tries every : ℕ) : Type 0 where
-  pub some_seats : (1 ≤ seats) × (seats ≤ 64)
-  pub some_calls : (1 ≤ per_seat) × (per_seat ≤ 65536)
-  pub some_tries : (1 ≤ tries) × (tries ≤ 1000)
-  pub versions : every ≤ 4096
+  pub some_seats : (1 ≤ seats) × (seats ≤ most_seats)
+  pub some_calls : (1 ≤ per_seat) × (per_seat ≤ most_calls)
+  pub some_tries : (1 ≤ tries) × (tries ≤ most_tries)
+  pub versions : every ≤ farthest_version
 
 -- the seat of a number, which has seen nothing
 abbrev pub seat_at : {Call : Type 0} → HeadId → ℕ → Seated Call

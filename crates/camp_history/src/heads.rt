@@ -2,6 +2,7 @@ ghost use Rattle.std.specs.Prelude.{◌≡◌, ◌≤◌, ◌↔◌, [], map, Al
 ghost use Rattle.camp_history.specs.Opening.{IsInRange};
 ghost use Rattle.camp_history.specs.Seats.{unseen};
 ghost use Rattle.camp_object.specs.declared.faults.Fault.TheVariants.{Memory};
+ghost use Rattle.camp_row.specs.Known.{most_cells, most_seats};
 
 use crate::faults::HeadFault;
 use crate::kept::{Kept, Place};
@@ -49,7 +50,7 @@ fn is_in_range(seats: u32, per_seat: u32, tries: u32, every: u32) -> bool
 
 /// A slot for each position up to `seats * per_seat` that is a multiple of `every`; none for 0.
 fn slot_count(seats: u32, per_seat: u32, every: u32) -> usize
-    requires { (seats ≤ 64) × (per_seat ≤ 65536) }
+    requires { (seats ≤ most_seats) × (per_seat ≤ most_cells) }
 {
     let most = seats as usize * per_seat as usize;
     most.checked_div(every as usize).unwrap_or(0)

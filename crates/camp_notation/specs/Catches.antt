@@ -1,5 +1,5 @@
 -- Catches and lists of them as text.
-use Rattle.std.specs.Prelude.{ℕ, List, [], ◌∷◌, ◌++◌, codes}
+use Rattle.std.specs.Prelude.{ℕ, List, ◌++◌, codes}
 use Rattle.camp_prim.specs.declared.named.Named.{Named}
 use Rattle.camp_catch.specs.declared.catches.Catch.{Catch}
 use Rattle.camp_catch.specs.declared.catches.Catch.TheVariants.{Plain}
@@ -10,11 +10,11 @@ use Rattle.camp_notation.specs.Contexts.{contexted_text, set_text}
 
 -- a plain catch as [PATCH], a conflictor as (EFFECT, SET, IDENTITY)
 abbrev pub catch_text : List Named → Catch → List ℕ
-catch_text known (Plain a) = 91 ∷ named_text known a ++ 93 ∷ []
+catch_text known (Plain a) = codes "[" ++ named_text known a ++ codes "]"
 catch_text known (Catch.Conflictor k) =
-    40 ∷ list_text known k.effect ++ codes ", " ++ set_text known k.conflicts ++ codes ", "
-    ++ contexted_text known k.identity ++ 41 ∷ []
+    codes "(" ++ list_text known k.effect ++ codes ", " ++ set_text known k.conflicts ++ codes ", "
+    ++ contexted_text known k.identity ++ codes ")"
 
 -- the catches in a row, between brackets
 abbrev pub catches_text : List Named → List Catch → List ℕ
-catches_text known list = 91 ∷ row (catch_text known) list ++ 93 ∷ []
+catches_text known list = codes "[" ++ row (catch_text known) list ++ codes "]"

@@ -1,5 +1,5 @@
 -- Contexted patches and sets of them as text.
-use Rattle.std.specs.Prelude.{ℕ, List, [], ◌∷◌, ◌++◌}
+use Rattle.std.specs.Prelude.{ℕ, List, [], ◌∷◌, ◌++◌, codes}
 use Rattle.std.specs.FinMap.{values}
 use Rattle.camp_prim.specs.declared.named.Named.{Named}
 use Rattle.camp_ctx.specs.Contexts.{ContextedPatch, ContextedPatches}
@@ -15,8 +15,8 @@ context_text known (p ∷ q ∷ s) = list_text known (p ∷ q ∷ s)
 
 -- CONTEXT:PATCH
 abbrev pub contexted_text : List Named → ContextedPatch → List ℕ
-contexted_text known x = context_text known x.context ++ 58 ∷ named_text known x.patch
+contexted_text known x = context_text known x.context ++ codes ":" ++ named_text known x.patch
 
 -- the members in the order of their labels, in a row, between braces
 abbrev pub set_text : List Named → ContextedPatches → List ℕ
-set_text known xs = 123 ∷ row (contexted_text known) (values xs) ++ 125 ∷ []
+set_text known xs = codes "{" ++ row (contexted_text known) (values xs) ++ codes "}"

@@ -1,5 +1,5 @@
 -- Labels and labelled primitives as text.
-use Rattle.std.specs.Prelude.{ℕ, Bool, false, Option, Some, None, ◌==◌, if◌then◌else◌, List, [], ◌∷◌, ◌++◌, codes}
+use Rattle.std.specs.Prelude.{ℕ, Bool, false, Option, Some, None, ◌==◌, if◌then◌else◌, List, [], ◌++◌, codes}
 use Rattle.std.specs.List.{find}
 use Rattle.std.specs.Ordering.{is_eq}
 use Rattle.std.specs.Fmt.{decimal}
@@ -14,11 +14,11 @@ use Rattle.camp_notation.specs.Words.{word_text, lines_text}
 
 -- `.PLACE`, and nothing for the first place
 abbrev pub place_text : ℕ → List ℕ
-place_text place = if place == 1 then [] else 46 ∷ decimal place
+place_text place = if place == 1 then [] else codes "." ++ decimal place
 
 -- `^` for an inverse
 abbrev pub sign_text : Bool → List ℕ
-sign_text inverse = if inverse then 94 ∷ [] else []
+sign_text inverse = if inverse then codes "^" else []
 
 -- NAME.PLACE^
 abbrev pub label_text : Label → List ℕ
@@ -27,7 +27,7 @@ label_text label = label.name ++ place_text label.place ++ sign_text label.inver
 -- PATH LINE [OLD, ..] -> [NEW, ..]
 abbrev pub hunk_text : Edit → List ℕ
 hunk_text hunk =
-    word_text hunk.path ++ 32 ∷ decimal hunk.line ++ 32 ∷ lines_text hunk.old
+    word_text hunk.path ++ codes " " ++ decimal hunk.line ++ codes " " ++ lines_text hunk.old
     ++ codes " -> " ++ lines_text hunk.new
 
 -- add PATH; remove PATH; or a hunk
@@ -38,7 +38,7 @@ change_text (Hunk hunk) = hunk_text hunk
 
 -- LABEL CHANGE
 abbrev pub whole_text : Named → List ℕ
-whole_text p = label_text (label_of p) ++ 32 ∷ change_text p.prim
+whole_text p = label_text (label_of p) ++ codes " " ++ change_text p.prim
 
 -- the primitive that a label alone stands for: the first of those that are known with that label
 abbrev pub first_with : Label → List Named → Option Named

@@ -1,13 +1,13 @@
 -- Trees as text.
-use Rattle.std.specs.Prelude.{ℕ, List, [], ◌∷◌, ◌++◌}
+use Rattle.std.specs.Prelude.{ℕ, List, ◌++◌, codes}
 use Rattle.std.specs.FinMap.{entries}
 use Rattle.camp_base.specs.Trees.{Lines, Files}
 use Rattle.camp_notation.specs.Words.{word_text, row, lines_text}
 
 -- PATH: [LINE, ..]
 abbrev pub file_text : List ℕ × Lines → List ℕ
-file_text file = word_text file.0 ++ 58 ∷ 32 ∷ lines_text file.1
+file_text file = word_text file.0 ++ codes ": " ++ lines_text file.1
 
 -- the files in the order of the bytes of their paths, in a row, between braces
 abbrev pub tree_text : Files → List ℕ
-tree_text tree = 123 ∷ row file_text (entries tree) ++ 125 ∷ []
+tree_text tree = codes "{" ++ row file_text (entries tree) ++ codes "}"

@@ -1,12 +1,13 @@
 -- Bytes as words of the notation, and words in a row.
-use Rattle.std.specs.Prelude.{ℕ, zero, suc, ◌+◌, ◌/◌, ◌%◌, Bool, not, ◌&&◌, ◌||◌, ◌==◌, nat_lt, if◌then◌else◌}
+use Rattle.std.specs.Prelude.{ℕ, zero, suc, ◌+◌, ◌-◌, ◌/◌, ◌%◌, Bool, not, ◌&&◌, ◌||◌, ◌==◌, nat_lt, if◌then◌else◌}
 use Rattle.std.specs.Prelude.{List, [], ◌∷◌, ◌++◌, length, codes}
 use Rattle.std.specs.List.{list_all, flat_map}
-use Rattle.camp_base.specs.Bytes.{is_between}
+use Rattle.camp_base.specs.Signs.{quote, hyphen, digit_zero, digit_nine, backslash, underscore, small_a}
+use Rattle.camp_base.specs.Signs.{is_between, is_capital_letter, is_printing, is_small_letter}
 
--- whether a byte stands in a word as it is: a letter, a digit, or one of `-`, `.`, `/` and `_`
+-- whether a byte stands in a word as it is: a letter, a digit, or one of `-`, `.`, `/` (which stand before the digits) and `_`
 abbrev pub is_plain_byte : ℕ → Bool
-is_plain_byte byte = is_between 45 57 byte || (is_between 65 90 byte || (is_between 97 122 byte || byte == 95))
+is_plain_byte byte = is_between hyphen digit_nine byte || (is_capital_letter byte || (is_small_letter byte || byte == underscore))
 
 -- whether bytes are a word without quotes: one such byte or more, and no other
 abbrev pub is_plain : List ℕ → Bool
@@ -14,29 +15,29 @@ is_plain bytes = not (length bytes == 0) && list_all is_plain_byte bytes
 
 -- a digit of base 16: `0` to `9`, `a` to `f`
 abbrev pub hex_digit : ℕ → ℕ
-hex_digit n = if nat_lt n 10 then 48 + n else 87 + n
+hex_digit n = if nat_lt n 10 then digit_zero + n else small_a + (n - 10)
 
 -- a byte between quotes: `"` and `\` behind a `\`; a byte that does not print as `\x` and two digits
 abbrev pub quoted_byte : ℕ → List ℕ
 quoted_byte byte =
-    if byte == 34 || byte == 92 then 92 ∷ byte ∷ []
-    else if is_between 32 126 byte then byte ∷ []
-    else 92 ∷ 120 ∷ hex_digit (byte / 16) ∷ hex_digit (byte % 16) ∷ []
+    if byte == quote || byte == backslash then backslash ∷ byte ∷ []
+    else if is_printing byte then byte ∷ []
+    else codes "\\x" ++ hex_digit (byte / 16) ∷ hex_digit (byte % 16) ∷ []
 
 -- bytes as a word: as they are, or between quotes
 abbrev pub word_text : List ℕ → List ℕ
-word_text bytes = if is_plain bytes then bytes else 34 ∷ flat_map quoted_byte bytes ++ 34 ∷ []
+word_text bytes = if is_plain bytes then bytes else codes "\"" ++ flat_map quoted_byte bytes ++ codes "\""
 
 -- what stands before an item of a row: nothing before the first, a comma and a blank before each other one
 abbrev pub separator : ℕ → List ℕ
 separator zero = []
-separator (suc at) = 44 ∷ 32 ∷ []
+separator (suc at) = codes ", "
 
 -- items in a row, a comma and a blank between each two
 abbrev pub row : {X : Type 0} → (X → List ℕ) → List X → List ℕ
 row text [] = []
-row text (x ∷ xs) = text x ++ flat_map (λ y. 44 ∷ 32 ∷ text y) xs
+row text (x ∷ xs) = text x ++ flat_map (λ y. codes ", " ++ text y) xs
 
 -- lines in a row, between brackets
 abbrev pub lines_text : List (List ℕ) → List ℕ
-lines_text lines = 91 ∷ row word_text lines ++ 93 ∷ []
+lines_text lines = codes "[" ++ row word_text lines ++ codes "]"

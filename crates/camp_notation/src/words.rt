@@ -1,4 +1,4 @@
-ghost use Rattle.std.specs.Prelude.{◌≡◌, ◌∷◌, [], ◌++◌, ◌<◌, ◌/◌, ◌%◌, IsTrue, IfOk, OnOk, string_bytes};
+ghost use Rattle.std.specs.Prelude.{◌≡◌, ◌∷◌, [], ◌++◌, ◌<◌, ◌/◌, ◌%◌, IsTrue, IfOk, OnOk, codes, string_bytes};
 ghost use Rattle.std.specs.List.{list_all, flat_map};
 ghost use Rattle.camp_notation.specs.Words.{hex_digit, is_plain, is_plain_byte, lines_text, quoted_byte, separator, word_text};
 
@@ -68,7 +68,7 @@ fn append_plain(text: &mut String, bytes: &[u8]) -> Result<(), AllocError>
 }
 
 fn append_quoted(text: &mut String, bytes: &[u8]) -> Result<(), AllocError>
-    ensures { OnOk result (string_bytes text.new ≡ string_bytes text.old ++ 34 ∷ flat_map quoted_byte bytes.now ++ 34 ∷ []) }
+    ensures { OnOk result (string_bytes text.new ≡ string_bytes text.old ++ codes "\"" ++ flat_map quoted_byte bytes.now ++ codes "\"") }
 {
     text.push('"')?;
     for byte in bytes {
@@ -89,7 +89,7 @@ fn append_quoted_byte(text: &mut String, byte: u8) -> Result<(), AllocError>
 }
 
 fn append_hex(text: &mut String, byte: u8) -> Result<(), AllocError>
-    ensures { OnOk result (string_bytes text.new ≡ string_bytes text.old ++ 92 ∷ 120 ∷ hex_digit (byte / 16) ∷ hex_digit (byte % 16) ∷ []) }
+    ensures { OnOk result (string_bytes text.new ≡ string_bytes text.old ++ codes "\\x" ++ hex_digit (byte / 16) ∷ hex_digit (byte % 16) ∷ []) }
 {
     text.push_str("\\x")?;
     text.push(hex_digit(byte / 16))?;

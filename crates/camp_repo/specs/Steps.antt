@@ -71,15 +71,27 @@ step_branch state new from =
     refused_if (nat_le most_branches (length state.branches)) TooLarge (
     accepted state (state.branches ++ (new, catches) ∷ []))))
 
--- whether a side of a hunk has more than the 65,535 lines that a record takes
+-- catches in a branch
+abbrev pub most_catches : ℕ
+most_catches = 4_096
+
+-- lines of a side of a hunk that a record takes
+abbrev pub longest_side : ℕ
+longest_side = 65_535
+
+-- lines of a file that a record leaves
+abbrev pub longest_file : ℕ
+longest_file = 1_000_000
+
+-- whether a side of a hunk is longer than a record takes
 abbrev pub has_long_side : Primitive → Bool
 has_long_side (Add path) = false
 has_long_side (Remove path) = false
-has_long_side (Hunk hunk) = nat_lt 65_535 (length hunk.old) || nat_lt 65_535 (length hunk.new)
+has_long_side (Hunk hunk) = nat_lt longest_side (length hunk.old) || nat_lt longest_side (length hunk.new)
 
--- whether the file of a path has more than the 1,000,000 lines that a record leaves
+-- whether the file of a path is longer than a record leaves
 abbrev pub has_long_file : List ℕ → Files → Bool
-has_long_file path tree = option_map_or (λ lines. nat_lt 1_000_000 (length lines)) (get tree path) false
+has_long_file path tree = option_map_or (λ lines. nat_lt longest_file (length lines)) (get tree path) false
 
 -- what a change leads to: a tree whose file is not too long, or a refusal
 abbrev pub led_to : Primitive → Option Files → Result Files Refusal
@@ -105,11 +117,11 @@ record_leads state branch catches (Err refusal) = refused refusal
 abbrev pub is_patch_sized : List Primitive → Bool
 is_patch_sized changes = nat_le 1 (length changes) && nat_le (length changes) most_changes
 
--- whether a record is too large for a branch: it would have more than 4,096 catches, or a side of a hunk is too long;
+-- whether a record is too large for a branch: it would have too many catches, or a side of a hunk is too long;
 -- or it has not the size of a patch, which no program comes to
 abbrev pub is_too_large : List Catch → List Primitive → Bool
 is_too_large catches changes =
-    nat_lt 4_096 (length catches + length changes) || (list_any has_long_side changes || not (is_patch_sized changes))
+    nat_lt most_catches (length catches + length changes) || (list_any has_long_side changes || not (is_patch_sized changes))
 
 -- a patch is appended to a branch, whole or not at all
 abbrev pub step_record : Contents → List ℕ → List ℕ → List Primitive → Decision
@@ -148,9 +160,9 @@ is_empty (name ∷ names) = false
 abbrev pub catches_named : List (List ℕ) → List Catch → List Catch
 catches_named names catches = filter (λ k. is_among names (name_of k)) catches
 
--- whether a branch would have more than 4,096 catches with those of these names of another
+-- whether a branch would have too many catches with those of these names of another
 abbrev pub is_full_with : List Catch → List Catch → List (List ℕ) → Bool
-is_full_with ours theirs names = nat_lt 4_096 (length ours + length (catches_named names theirs))
+is_full_with ours theirs names = nat_lt most_catches (length ours + length (catches_named names theirs))
 
 -- patches of these names are pulled into a branch
 abbrev pub pull_wanted : Contents → List ℕ → List Catch → List Catch → List (List ℕ) → Decision

@@ -5,6 +5,14 @@ use Rattle.camp_row.specs.declared.entries.Entry.{Entry}
 use Rattle.camp_row.specs.declared.trails.Next.{Next}
 use Rattle.camp_row.specs.Chains.{IsFront, IsShorter, own, cell_of, head_word}
 
+-- seats of a row
+abbrev pub most_seats : ℕ
+most_seats = 64
+
+-- cells of a seat
+abbrev pub most_cells : ℕ
+most_cells = 65_536
+
 -- which row it is, how many seats it has, and how many cells each of them has
 pub record RowId : Type 0 where
   pub table : TableId

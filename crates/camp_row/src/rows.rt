@@ -49,14 +49,14 @@ fn place_word(cell: usize) -> usize
 impl Row {
     ghost use Rattle.camp_row.specs.Chains.{turns};
     ghost use Rattle.camp_row.specs.Inside.Parts.{all_fresh};
-    ghost use Rattle.camp_row.specs.Known.{newcomer, FindsChain, Leads, ComesNext, IsDrafted, with_draft, Won, Lost, OneBegins};
+    ghost use Rattle.camp_row.specs.Known.{most_cells, most_seats, newcomer, FindsChain, Leads, ComesNext, IsDrafted, with_draft, Won, Lost, OneBegins};
 
     /// A row with nothing published, and a pass for each of its seats, in their order. It has
     /// `1 + 2 * seats * per_seat` words of eight bytes, for which it takes twice the memory while
     /// it is made.
     pub fn new(alloc: Global, seats: u32, per_seat: u32) -> Result<(Row, Vec<Pass>), AllocError>
-        requires seats { (0 < seats) × (seats ≤ 64) }
-        requires per_seat { (0 < per_seat) × (per_seat ≤ 65536) }
+        requires seats { (0 < seats) × (seats ≤ most_seats) }
+        requires per_seat { (0 < per_seat) × (per_seat ≤ most_cells) }
         ensures row { IfOk result (λ made. (made.0.seats ≡ seats) × (made.0.per_seat ≡ per_seat)) }
         ensures passes { IfOk result (λ made. made.1.items ≡ map (newcomer made.0) (range_with_len 0 seats)) }
     {
@@ -94,7 +94,7 @@ impl Row {
     /// The number of seats, 1 to 64.
     pub fn seats(&self) -> u32
         ensures seats { result ≡ self.now.seats }
-        ensures range { (0 < result) × (result ≤ 64) }
+        ensures range { (0 < result) × (result ≤ most_seats) }
     {
         self.seats
     }
@@ -102,7 +102,7 @@ impl Row {
     /// How many cells each seat has, 1 to 65,536.
     pub fn per_seat(&self) -> u32
         ensures per_seat { result ≡ self.now.per_seat }
-        ensures range { (0 < result) × (result ≤ 65536) }
+        ensures range { (0 < result) × (result ≤ most_cells) }
     {
         self.per_seat
     }

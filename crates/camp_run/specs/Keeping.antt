@@ -10,6 +10,7 @@ use Rattle.camp_repo.specs.Objects.{repository}
 use Rattle.camp_repo.specs.States.{Contents}
 use Rattle.camp_run.specs.Serial.{IsSerial}
 use Rattle.camp_script.specs.Keeping.{CanStand, calls_of, kept_text}
+use Rattle.camp_script.specs.Sections.{most_writing_calls}
 use Rattle.camp_script.specs.Reading.{script_of}
 
 -- the history with all its calls at seat 0
@@ -31,7 +32,7 @@ pub record LeadsBack (history : List (ℕ × Call)) (state : Contents) : Type 0 
 -- so it is for each history that leads to a state, if it has 65,536 calls at most, and `append_script` wrote its text
 abbrev pub KeptLeadsBack : Type 0
 KeptLeadsBack = (history : List (ℕ × Call)) (state : Contents) → replay repository history ≡ Some state
-    → AllByRecursion CanStand (calls_of history) → length history ≤ 65_536 → LeadsBack history state
+    → AllByRecursion CanStand (calls_of history) → length history ≤ most_writing_calls → LeadsBack history state
 
 -- a history whose calls are all at seat 0 comes back as it was
 abbrev pub SeatZeroStays : Type 0

@@ -12,7 +12,8 @@ pub use Rattle.std.specs.FinMap.{entries, len, len-entries}
 pub use Rattle.std.specs.Fmt.{decimal}
 pub use Rattle.std.specs.List.{All, AllByRecursion, flat_map, join_with_byte, list_all}
 pub use Rattle.std.specs.Prelude.{IfOk, IsTrue, bytes_eq, fold, if◌then◌else◌}
-pub use Rattle.camp_base.specs.Bytes.{is_between, is_graphic, is_line, is_name, is_name_byte, is_path}
+pub use Rattle.camp_base.specs.Bytes.{is_line, is_name, is_name_byte, is_path}
+pub use Rattle.camp_base.specs.Signs.{is_between, is_graphic}
 pub use Rattle.camp_call.specs.Calls.{is_writing}
 pub use Rattle.camp_call.specs.declared.calls.Call.{Call}
 pub use Rattle.camp_prim.specs.Hunks.{Edit, IsInRange}

@@ -2,6 +2,7 @@
 use Rattle.std.specs.Prelude.{ℕ, ◌-◌, Bool, true, ◌==◌, ◌||◌, nat_lt, if◌then◌else◌}
 use Rattle.std.specs.Prelude.{List, [], ◌∷◌, length, take, filter, slice_index}
 use Rattle.std.specs.List.{slice_split}
+use Rattle.camp_base.specs.Signs.{tab, newline, space}
 use Rattle.camp_script.specs.Signs.{number_sign}
 
 -- pieces without the last one, where that is empty
@@ -12,11 +13,11 @@ without_empty_last (piece ∷ pieces) = piece ∷ without_empty_last pieces
 
 -- the lines of a script: what stands between its LF; behind the last LF a line stands only where bytes do
 abbrev pub lines_of : List ℕ → List (List ℕ)
-lines_of bytes = without_empty_last (slice_split (λ byte. byte == 10) bytes)
+lines_of bytes = without_empty_last (slice_split (λ byte. byte == newline) bytes)
 
 -- whether a byte is a space or a tab
 abbrev pub is_blank : ℕ → Bool
-is_blank byte = byte == 32 || byte == 9
+is_blank byte = byte == space || byte == tab
 
 -- the words of a line: what stands between runs of spaces and tabs
 abbrev pub words_of : List ℕ → List (List ℕ)
@@ -29,4 +30,4 @@ is_skipped (word ∷ words) = slice_index word 0 == number_sign
 
 -- bytes without the LF at their end, where they have one
 abbrev pub without_end : List ℕ → List ℕ
-without_end bytes = if slice_index bytes (length bytes - 1) == 10 then take (length bytes - 1) bytes else bytes
+without_end bytes = if slice_index bytes (length bytes - 1) == newline then take (length bytes - 1) bytes else bytes

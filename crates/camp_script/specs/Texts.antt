@@ -3,6 +3,7 @@ use Rattle.std.specs.Prelude.{◌≢◌, ℕ, List, [], ◌∷◌, ◌++◌, len
 use Rattle.std.specs.List.{flat_map, join_with_byte}
 use Rattle.std.specs.Fmt.{decimal}
 use Rattle.std.specs.FinMap.{entries, len}
+use Rattle.camp_base.specs.Signs.{newline, space}
 use Rattle.camp_base.specs.Trees.{Lines, Files}
 use Rattle.camp_object.specs.declared.faults.Fault.{Fault}
 use Rattle.camp_object.specs.declared.faults.Fault.TheVariants.{Memory, Busy, Full}
@@ -16,11 +17,11 @@ use Rattle.camp_script.specs.Signs.{equals_sign}
 
 -- words on a line: one space between them, and LF behind
 abbrev pub line_text : List (List ℕ) → List ℕ
-line_text words = join_with_byte 32 words ++ 10 ∷ []
+line_text words = join_with_byte space words ++ newline ∷ []
 
 -- a line of a file or of a side of a hunk: a sign, the bytes, and LF
 abbrev pub signed_line : ℕ → List ℕ → List ℕ
-signed_line sign bytes = sign ∷ bytes ++ 10 ∷ []
+signed_line sign bytes = sign ∷ bytes ++ newline ∷ []
 
 -- the number of a refusal, and the names that it is about
 abbrev pub refusal_words : Refusal → List (List ℕ)

@@ -2,7 +2,8 @@
 use Rattle.std.specs.Prelude.{ℕ, ◌+◌, ◌*◌, ◌-◌, Bool, ◌&&◌, if◌then◌else◌}
 use Rattle.std.specs.Prelude.{List, [], ◌∷◌, length, fold, Result, Ok, Err}
 use Rattle.std.specs.List.{list_all}
-use Rattle.camp_base.specs.Bytes.{is_between, is_name, is_path}
+use Rattle.camp_base.specs.Bytes.{is_name, is_path}
+use Rattle.camp_base.specs.Signs.{digit_zero, is_between, is_digit}
 use Rattle.camp_script.specs.Faults.{fault_at}
 use Rattle.camp_script.specs.declared.faults.FaultKind.{FaultKind}
 use Rattle.camp_script.specs.declared.faults.FaultKind.TheVariants.{WrongNumberOfWords, BadName, BadPath, BadNumber}
@@ -58,13 +59,17 @@ names_at line (word ∷ words) = name_at line word >>= λ name. names_at line wo
 
 -- the number that decimal digits spell
 abbrev pub value_of : List ℕ → ℕ
-value_of digits = fold (λ value digit. value * 10 + (digit - 48)) 0 digits
+value_of digits = fold (λ value digit. value * 10 + (digit - digit_zero)) 0 digits
 
--- whether a word is the number of a line of a file: 1 to 10 decimal digits, with a value of 1 to 1,073,741,823
+-- the greatest number of a line of a file
+abbrev pub last_line_number : ℕ
+last_line_number = 1_073_741_823
+
+-- whether a word is the number of a line of a file: 1 to 10 decimal digits, with a value from 1 to the greatest
 abbrev pub is_line_number : List ℕ → Bool
 is_line_number word =
     is_between 1 10 (length word)
-    && (list_all (is_between 48 57) word && is_between 1 1_073_741_823 (value_of word))
+    && (list_all is_digit word && is_between 1 last_line_number (value_of word))
 
 -- a word that is the number of a line of a file
 abbrev pub number_at : ℕ → List ℕ → Result ℕ LineFault

@@ -1,7 +1,7 @@
 //! The words of a line as names, paths and numbers.
 ghost use Rattle.std.specs.Prelude.{◌≡◌, ◌≢◌, ◌≤◌, IfErr, IfOk, List, Ok, length, map, ℕ};
 ghost use Rattle.std.specs.List.{list_all};
-ghost use Rattle.camp_base.specs.Bytes.{is_between};
+ghost use Rattle.camp_base.specs.Signs.{is_digit};
 ghost use Rattle.camp_script.specs.Words.{no_words, one_word, two_words, three_words, name_at, names_at, path_at, number_at, value_of, is_line_number};
 ghost use Rattle.camp_script.specs.Gives.{Gives, GivesFaultFirst, IsFaultFirst};
 
@@ -144,7 +144,7 @@ fn is_line_number(word: &[u8]) -> bool
 }
 
 fn has_digits(word: &[u8]) -> bool
-    ensures { result ≡ list_all (is_between 48 57) word.now }
+    ensures { result ≡ list_all is_digit word.now }
 {
     word.iter().all(|byte| matches!(byte, b'0'..=b'9'))
 }

@@ -1,6 +1,6 @@
-ghost use Rattle.std.specs.Prelude.{◌≡◌, ◌+◌, ◌<◌, ◌≤◌, ◌^◌, List, ◌∷◌, [], ◌++◌, length, take, drop, slice_set, IfOk, IfSome, IsTrue, OnOk};
+ghost use Rattle.std.specs.Prelude.{◌≡◌, ◌+◌, ◌*◌, ◌<◌, ◌≤◌, ◌^◌, List, ◌∷◌, [], ◌++◌, length, take, drop, slice_set, IfOk, IfSome, IsTrue, OnOk};
 ghost use Rattle.std.specs.List.{All, insert, remove};
-ghost use Rattle.camp_share.specs.Inside.Parts.{joined, IsPart, offset, IsPlace};
+ghost use Rattle.camp_share.specs.Inside.Parts.{joined, longest_part, IsPart, offset, IsPlace};
 
 use crate::growing::{Growing, MAX_PART_LENGTH, Part, append_copies, first_of};
 use crate::{Share, Shared};
@@ -273,7 +273,7 @@ fn is_within<T>(part: &[T], place: usize, gone: usize, new: usize) -> bool
     requires { place ≤ length part.now }
     ensures within { IsTrue result → place + gone ≤ length part.now }
     ensures some { IsTrue result → 0 < new }
-    ensures few { IsTrue result → new ≤ 32 }
+    ensures few { IsTrue result → new ≤ longest_part }
 {
     let left = part.len() - place;
     if new == 0 || new > MAX_PART_LENGTH || gone > left {
@@ -294,7 +294,7 @@ fn with_end_of<T: Share + Drop>(
     requires within { index < length parts.now }
     requires place { IsPlace parts.now index place }
     requires some { 0 < length items.items }
-    requires few { length items.items ≤ place + 32 }
+    requires few { length items.items ≤ place + longest_part }
     requires fits { length (joined parts.now) < 2 ^ 64 }
     ensures items { IfOk result (λ new. joined new ≡ joined (take index parts.now) ++ items.items ++ drop (offset parts.now index place) (joined parts.now)) }
     ensures parts { IfOk result (λ new. All IsPart new) }
@@ -315,7 +315,7 @@ fn push_as_parts<T: Share + Drop>(
 ) -> Result<(), AllocError>
     requires parts { All IsPart parts.old }
     requires some { 0 < length items.items }
-    requires few { length items.items ≤ 64 }
+    requires few { length items.items ≤ 2 * longest_part }
     ensures items { OnOk result (joined parts.new ≡ joined parts.old ++ items.items) }
     ensures parts { OnOk result (All IsPart parts.new) }
 {

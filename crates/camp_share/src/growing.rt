@@ -12,7 +12,7 @@ use std::mem;
 pub(crate) type Part<T> = Shared<Vec<T>>;
 
 /// The most elements of a part.
-pub(crate) const MAX_PART_LENGTH: usize = 32;
+pub(crate) const MAX_PART_LENGTH: usize = 24;
 
 // A list that grows at its end: parts that are closed, and a last one that still takes elements.
 #[derive(Drop)]
@@ -24,13 +24,13 @@ pub(crate) struct Growing<T> {
 impl<T> Model for Growing<T> {
     ghost use Rattle.std.specs.Prelude.{◌≤◌, List, ◌++◌, length};
     ghost use Rattle.std.specs.List.{All};
-    ghost use Rattle.camp_share.specs.Inside.Parts.{joined, IsPart};
+    ghost use Rattle.camp_share.specs.Inside.Parts.{joined, longest_part, IsPart};
 
     ghost Value = { List T };
 
     ghost view = { λ growing. joined growing.closed.items ++ growing.last.items };
 
-    ghost invariant = { λ growing. All IsPart growing.closed.items × (length growing.last.items ≤ 32) };
+    ghost invariant = { λ growing. All IsPart growing.closed.items × (length growing.last.items ≤ longest_part) };
 }
 
 impl<T> Growing<T> {

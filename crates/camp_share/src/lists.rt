@@ -13,7 +13,7 @@ use crate::{Iter, Share};
 use std::alloc::{AllocError, Global};
 use std::marker::Model;
 
-/// A list in parts of up to 32 elements, which it shares with the lists that it was made from.
+/// A list in parts of up to 24 elements, which it shares with the lists that it was made from.
 #[derive(Drop)]
 pub struct SharedList<T> {
     parts: Growing<Part<T>>,

@@ -18,7 +18,7 @@ pub trait Key: Ord + Share + Drop {
     ghost same: { IsAntisymmetric Self.cmp };
 }
 
-/// A map in the order of its keys, which it shares in parts of up to 32 entries with the maps that
+/// A map in the order of its keys, which it shares in parts of up to 24 entries with the maps that
 /// it was made from.
 #[derive(Drop)]
 pub struct SharedMap<K: Key, V> {

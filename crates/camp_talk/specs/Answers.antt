@@ -23,11 +23,11 @@ pub record Standing : Type 0 where
 
 -- the answer to a command with a fault: its line, and what is wrong with it
 abbrev pub fault_text : ℕ → FaultKind → List ℕ
-fault_text line kind = (codes "fault " ++ decimal line ++ codes " " ++ kind_words kind) ++ 10 ∷ []
+fault_text line kind = (codes "fault " ++ decimal line ++ codes " " ++ kind_words kind) ++ codes "\n"
 
 -- the answer where memory ran out
 abbrev pub memory_text : List ℕ
-memory_text = codes "memory" ++ 10 ∷ []
+memory_text = codes "memory\n"
 
 -- a call is asked where nobody else asks: the text is that of the reply, and this is the history behind it
 pub record Replies (seen : Entries) (call : Call) (text : List ℕ) (now : Entries) : Type 0 where

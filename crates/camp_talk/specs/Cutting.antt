@@ -1,6 +1,8 @@
 -- How the lines of a conversation fall into commands: a first line, and those that it takes with it.
 use Rattle.std.specs.Prelude.{◌≡◌, ℕ, Bool, false, nat_lt, List, [], ◌∷◌, ◌++◌, length, map, take, drop, Result, Ok, Err, bytes_eq, codes, if◌then◌else◌}
 use Rattle.std.specs.List.{flat_map}
+use Rattle.camp_base.specs.Limits.{longest_line}
+use Rattle.camp_base.specs.Signs.{newline}
 use Rattle.camp_call.specs.declared.calls.Call.{Call}
 use Rattle.camp_script.specs.Behind.{behind_word}
 use Rattle.camp_script.specs.Lines.{lines_of, words_of}
@@ -10,11 +12,17 @@ use Rattle.camp_script.specs.declared.faults.FaultKind.{FaultKind}
 use Rattle.camp_script.specs.declared.faults.FaultKind.TheVariants.{EditNotEnded, GroupNotEnded}
 use Rattle.camp_script.specs.declared.faults.LineFault.{LineFault}
 
--- a line as it is read. One of more than 1,048,576 bytes is too long: its first 4,098 bytes are read, with `?` in place of
--- the second. So it begins no command; in a body it has the fault of a line that is too long; and a comment stays one.
+-- bytes of a line that is read whole
+abbrev pub longest_read : ℕ
+longest_read = 1_048_576
+
+-- a line as it is read. A longer one than that is too long: its first byte is read, `?` in place of the second, and then
+-- as many bytes as a line of a file has at most. So it begins no command; in a body it has the fault of a line that is
+-- too long; and a comment stays one.
 abbrev pub as_read : List ℕ → List ℕ
 as_read [] = []
-as_read (first ∷ rest) = first ∷ (if nat_lt (length rest) 1_048_576 then rest else 63 ∷ take 4_096 (drop 1 rest))
+as_read (first ∷ rest) =
+    first ∷ (if nat_lt (length rest) longest_read then rest else codes "?" ++ take longest_line (drop 1 rest))
 
 -- the lines of bytes, as they are read
 abbrev pub lines_in : List ℕ → List (List ℕ)
@@ -79,7 +87,7 @@ pub record IsCommand (bytes : List ℕ) : Type 0 where
   pub rest : List (List ℕ)
   pub lines : lines_in bytes ≡ first ∷ rest
   pub front : List ℕ
-  pub ended : bytes ≡ front ++ 10 ∷ []
+  pub ended : bytes ≡ front ++ newline ∷ []
   pub takes : (others : List (List ℕ)) → taken first (rest ++ others) ≡ rest
 
 -- a first line takes all that is left

@@ -6,7 +6,7 @@ use Rattle.camp_talk.specs.declared.questions.Topic.TheVariants as topic
 
 -- lines, each with its LF
 abbrev pub page : List (List ℕ) → List ℕ
-page lines = flat_map (λ line. line ++ 10 ∷ []) lines
+page lines = flat_map (λ line. line ++ codes "\n") lines
 
 -- the commands, in the order in which they are told
 abbrev pub commands : List Topic

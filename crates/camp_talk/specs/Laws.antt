@@ -2,11 +2,12 @@
 use Rattle.std.specs.Prelude.{◌≡◌, ◌≢◌, ◌<◌, ◌^◌, ℕ, List, ◌∷◌, ◌++◌, length}
 use Rattle.std.specs.Fmt.{decimal}
 use Rattle.std.specs.List.{All}
+use Rattle.camp_base.specs.Signs.{newline, space}
 use Rattle.camp_script.specs.Lines.{lines_of}
 use Rattle.camp_talk.specs.Told.{counted}
 
 -- the first line of a counted text has the word and says how many lines follow, and these are the lines of the text
 abbrev pub CountsAreTold : Type 0
 CountsAreTold =
-    (word text : List ℕ) → All (λ byte. byte ≢ 10) word → length (lines_of text) < 2 ^ 64 →
-    lines_of (counted word text) ≡ (word ++ 32 ∷ decimal (length (lines_of text))) ∷ lines_of text
+    (word text : List ℕ) → All (λ byte. byte ≢ newline) word → length (lines_of text) < 2 ^ 64 →
+    lines_of (counted word text) ≡ (word ++ space ∷ decimal (length (lines_of text))) ∷ lines_of text

@@ -2,6 +2,7 @@
 use Rattle.std.specs.Prelude.{◌≡◌, ℕ, List, [], ◌∷◌, ◌++◌, length, Option, None, Some, Ok, Err, codes}
 use Rattle.std.specs.List.{flat_map, zip}
 use Rattle.std.specs.Fmt.{decimal}
+use Rattle.camp_base.specs.Signs.{newline, space}
 use Rattle.camp_catch.specs.declared.catches.Catch.{Catch}
 use Rattle.camp_call.specs.declared.replies.Reply.TheVariants.{Refused}
 use Rattle.camp_notation.specs.Catches.{catch_text}
@@ -34,7 +35,7 @@ use Rattle.camp_talk.specs.declared.questions.Topic.{Topic}
 
 -- a text behind the word of its command and the number of its lines
 abbrev pub counted : List ℕ → List ℕ → List ℕ
-counted word text = word ++ 32 ∷ decimal (length (lines_of text)) ++ 10 ∷ text
+counted word text = word ++ space ∷ decimal (length (lines_of text)) ++ newline ∷ text
 
 -- what is told of what a question comes to: its answer, or its refusal, as a call is told one
 abbrev pub told : {A : Type 0} → (A → List ℕ) → AnswerOf A → List ℕ
@@ -57,16 +58,16 @@ graph_told graph = counted (codes "graph") (graph_text graph)
 
 -- NAME =LINE: a line of a file behind the name of the patch that put it there
 abbrev pub annotated_line : List ℕ × List ℕ → List ℕ
-annotated_line pair = pair.1 ++ 32 ∷ signed_line equals_sign pair.0
+annotated_line pair = pair.1 ++ space ∷ signed_line equals_sign pair.0
 
 -- the lines of a file with their names, or that there is no file
 abbrev pub annotated_told : Annotated → List ℕ
 annotated_told (File lines names) = counted (codes "annotate") (flat_map annotated_line (zip lines names))
-annotated_told NoFile = codes "no file" ++ 10 ∷ []
+annotated_told NoFile = codes "no file\n"
 
 -- a catch in the notation of patches, on a line: each of its primitives as a whole
 abbrev pub catch_line : Catch → List ℕ
-catch_line catch = catch_text [] catch ++ 10 ∷ []
+catch_line catch = catch_text [] catch ++ newline ∷ []
 
 -- a patch: its catches, and then its changes, as a script has those of a group
 abbrev pub patch_told : Patch → List ℕ

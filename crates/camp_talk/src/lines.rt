@@ -1,6 +1,7 @@
 //! The lines of a reader, behind one another.
 ghost use Rattle.std.specs.Prelude.{◌≡◌, ◌==◌, ◌+◌, ◌-◌, ◌<◌, ◌≤◌, ◌++◌, length, take, drop, IfOk, IfErr};
 ghost use Rattle.std.specs.List.{position_or_len};
+ghost use Rattle.camp_base.specs.Signs.{newline};
 ghost use Rattle.camp_talk.specs.Cutting.{as_read};
 ghost use Rattle.camp_talk.specs.Inside.Parts.{IsReading, ReadsLine, Takes, Uses, feed_of, last_seen, seen_of};
 
@@ -105,7 +106,7 @@ fn hold(text: &mut Vec<u8>, bytes: &[u8]) -> Result<(), TalkFault>
 
 // How many bytes stand before the first LF, or how many there are.
 fn line_len(shown: &[u8]) -> usize
-    ensures place { result ≡ position_or_len (λ byte. byte == 10) shown.now }
+    ensures place { result ≡ position_or_len (λ byte. byte == newline) shown.now }
     ensures within { result ≤ length shown.now }
 {
     shown

@@ -3,6 +3,7 @@ ghost use Rattle.std.specs.Prelude.{◌≡◌, ◌≤◌, length, IfOk};
 ghost use Rattle.camp_object.specs.Histories.{replay};
 ghost use Rattle.camp_repo.specs.Objects.{repository};
 ghost use Rattle.camp_run.specs.Keeping.{at_seat_0};
+ghost use Rattle.camp_script.specs.Sections.{most_writing_calls};
 
 use camp_clients::serial;
 use camp_repo::{Book, State};
@@ -12,7 +13,7 @@ use std::alloc::{AllocError, Global};
 
 /// The book that comes back when a book is written as a script, and the script is read and asked.
 pub fn keep_and_read(alloc: Global, book: &Book<State>) -> Result<Book<State>, AllocError>
-    requires { length book.now ≤ 65536 }
+    requires { length book.now ≤ most_writing_calls }
     ensures history { IfOk result (λ again. again ≡ at_seat_0 book.now) }
     ensures state { IfOk result (λ again. replay repository again ≡ replay repository book.now) }
 {

@@ -9,7 +9,7 @@ use std::alloc::{AllocError, Global};
 
 /// The text of the reply to an accepted call.
 pub fn done(alloc: Global, at: u64) -> Result<Vec<u8>, AllocError>
-    ensures exact { IfOk result (λ text. text.items ≡ codes "ok " ++ decimal at ++ 10 ∷ []) }
+    ensures exact { IfOk result (λ text. text.items ≡ codes "ok " ++ decimal at ++ codes "\n") }
 {
     let mut text = Vec::new(alloc);
     append_reply(&mut text, &Ok(Reply::Done(at)))?;

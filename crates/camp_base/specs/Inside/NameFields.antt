@@ -1,11 +1,12 @@
 -- How a name lies in its buffer.
 use Rattle.std.specs.Prelude.{◌≡◌, ℕ, ◌-◌, IsTrue, List, ◌++◌, length, take, replicate}
 use Rattle.camp_base.specs.Bytes.{is_name}
+use Rattle.camp_base.specs.Limits.{longest_name}
 use Rattle.camp_base.specs.declared.names.Name.TheInside.{Inside}
 
 -- the buffer of a name: its bytes, and zeros behind them
 abbrev pub padded : List ℕ → Inside
-padded bytes = record { buffer = bytes ++ replicate (40 - length bytes) 0; len = length bytes }
+padded bytes = record { buffer = bytes ++ replicate (longest_name - length bytes) 0; len = length bytes }
 
 -- the bytes are a name, and the rest of the buffer is zeros
 pub record IsPadded (name : Inside) : Type 0 where

@@ -1,6 +1,6 @@
 -- A row over its fields.
 use Rattle.std.specs.Prelude.{◌≡◌, ◌+◌, ◌*◌, ◌<◌, ◌≤◌}
-use Rattle.camp_row.specs.Known.{RowId}
+use Rattle.camp_row.specs.Known.{RowId, most_cells, most_seats}
 use Rattle.camp_row.specs.declared.rows.Row.TheInside.{Inside}
 
 abbrev pub id_of : Inside → RowId
@@ -12,5 +12,5 @@ pub record IsRow (row : Inside) : Type 0 where
   pub slots : row.table.shared.table_id.slots ≡ 0
   pub key_seats : row.table.shared.key.seats ≡ row.seats
   pub key_per_seat : row.table.shared.key.per_seat ≡ row.per_seat
-  pub seats : (0 < row.seats) × (row.seats ≤ 64)
-  pub per_seat : (0 < row.per_seat) × (row.per_seat ≤ 65536)
+  pub seats : (0 < row.seats) × (row.seats ≤ most_seats)
+  pub per_seat : (0 < row.per_seat) × (row.per_seat ≤ most_cells)

@@ -3,14 +3,18 @@ use Rattle.std.specs.Prelude.{ℕ, ◌+◌, ◌<◌, ◌≤◌, List, length, ta
 use Rattle.std.specs.List.{flat_map}
 use Rattle.std.specs.declared.vec.Vec.{Vec}
 
+-- elements of the longest part
+abbrev pub longest_part : ℕ
+longest_part = 24
+
 module _ {X Z : Type 0} where
   -- the elements of parts, one part after the other
   abbrev pub joined : List (Vec X Z) → List X
   joined parts = flat_map (λ part. part.items) parts
 
-  -- a part has 1 to 32 elements
+  -- a part has an element, and no more than the longest part
   abbrev pub IsPart : Vec X Z → Type 0
-  IsPart part = (0 < length part.items) × (length part.items ≤ 32)
+  IsPart part = (0 < length part.items) × (length part.items ≤ longest_part)
 
   -- how many elements stand before a place of a part
   abbrev pub offset : List (Vec X Z) → ℕ → ℕ → ℕ

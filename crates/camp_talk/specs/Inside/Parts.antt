@@ -2,6 +2,7 @@
 use Rattle.std.specs.Prelude.{◌≡◌, ◌≢◌, ◌⊎◌, ◌==◌, nat_lt, if◌then◌else◌, ℕ, Bool, true, false, List, [], ◌∷◌, ◌++◌, map, take, Option, OnSome}
 use Rattle.std.specs.List.{All, flat_map}
 use Rattle.std.specs.Io.KnownBytes.{Consumes, IsAtEnd}
+use Rattle.camp_base.specs.Signs.{newline}
 use Rattle.camp_script.specs.Lines.{lines_of}
 use Rattle.camp_talk.specs.Cutting.{IsCommand, IsLeft, as_read, lines_in}
 use Rattle.camp_talk.specs.declared.commands.Part.{Part}
@@ -13,11 +14,11 @@ use Rattle.camp_talk.specs.declared.lines.Seen.TheVariants as seen
 
 -- a line has no LF in it
 abbrev pub IsLine : List ℕ → Type 0
-IsLine line = All (λ byte. byte ≢ 10) line
+IsLine line = All (λ byte. byte ≢ newline) line
 
 -- lines, each with its LF
 abbrev pub ended : List (List ℕ) → List ℕ
-ended lines = flat_map (λ line. line ++ 10 ∷ []) lines
+ended lines = flat_map (λ line. line ++ newline ∷ []) lines
 
 -- lines, and what stands behind the last LF, if anything does
 abbrev pub with_last : List (List ℕ) → List ℕ → List (List ℕ)
@@ -45,7 +46,7 @@ last_seen false = seen.End
 
 -- the LF of a line, where it is seen
 abbrev pub feed_of : Seen → List ℕ
-feed_of seen.Line = 10 ∷ []
+feed_of seen.Line = newline ∷ []
 feed_of other = []
 
 module _ (remaining rest : Option (List ℕ)) where

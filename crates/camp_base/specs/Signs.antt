@@ -1,0 +1,74 @@
+-- Bytes by the names of their signs in ASCII.
+use Rattle.std.specs.Prelude.{ℕ, Bool, ◌&&◌, nat_le}
+
+-- a tab
+abbrev pub tab : ℕ
+tab = 9
+
+-- LF, which ends a line
+abbrev pub newline : ℕ
+newline = 10
+
+-- a space
+abbrev pub space : ℕ
+space = 32
+
+-- `"`
+abbrev pub quote : ℕ
+quote = 34
+
+-- `-`
+abbrev pub hyphen : ℕ
+hyphen = 45
+
+-- `.`
+abbrev pub dot : ℕ
+dot = 46
+
+-- `/`
+abbrev pub slash : ℕ
+slash = 47
+
+-- `0`, and behind it the other digits
+abbrev pub digit_zero : ℕ
+digit_zero = 48
+
+-- `9`
+abbrev pub digit_nine : ℕ
+digit_nine = 57
+
+-- `\`
+abbrev pub backslash : ℕ
+backslash = 92
+
+-- `_`
+abbrev pub underscore : ℕ
+underscore = 95
+
+-- `a`, and behind it the other small letters
+abbrev pub small_a : ℕ
+small_a = 97
+
+-- whether a byte lies from low to high
+abbrev pub is_between : ℕ → ℕ → ℕ → Bool
+is_between low high byte = nat_le low byte && nat_le byte high
+
+-- whether a byte is a decimal digit
+abbrev pub is_digit : ℕ → Bool
+is_digit byte = is_between digit_zero digit_nine byte
+
+-- whether a byte is one of `A` to `Z`
+abbrev pub is_capital_letter : ℕ → Bool
+is_capital_letter byte = is_between 65 90 byte
+
+-- whether a byte is one of `a` to `z`
+abbrev pub is_small_letter : ℕ → Bool
+is_small_letter byte = is_between small_a 122 byte
+
+-- whether a byte is a printing character of ASCII, and no space: `!` to `~`
+abbrev pub is_graphic : ℕ → Bool
+is_graphic byte = is_between 33 126 byte
+
+-- whether a byte is such a character, or a space
+abbrev pub is_printing : ℕ → Bool
+is_printing byte = is_between space 126 byte
