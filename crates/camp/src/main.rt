@@ -5,6 +5,7 @@
 #![tactic(auto)]
 
 ghost use Rattle.std.specs.Prelude.{IfOk, ◌≤◌};
+ghost use Rattle.camp_options.specs.Options.{most_tries};
 
 mod runs;
 mod stops;
@@ -31,7 +32,7 @@ fn main(rt: HostRuntime) -> ExitCode {
 
 // What the command line asks for.
 fn asked<R: Env + AllocGlobal>(rt: &R) -> Result<Options, WordsFault>
-    ensures { IfOk result (λ options. (1 ≤ options.tries) × (options.tries ≤ 1000)) }
+    ensures { IfOk result (λ options. (1 ≤ options.tries) × (options.tries ≤ most_tries)) }
 {
     let words = command_line(rt)?;
     Ok(options(rt.alloc(), words.as_slice())?)

@@ -1,5 +1,6 @@
 ghost use Rattle.std.specs.Prelude.{◌≡◌, ◌≤◌, false, true};
 ghost use Rattle.camp_clients.specs.Runs.{IsShared};
+ghost use Rattle.camp_clients.specs.Sections.{most_tries};
 ghost use Rattle.camp_repo.specs.Objects.{repository};
 ghost use Rattle.camp_run.specs.Runs.{Runs};
 ghost use Rattle.camp_run.specs.Serial.{IsSerial};
@@ -19,7 +20,7 @@ pub(crate) fn run<T: Threads + Wait + Sync, R: Read, W: Write>(
     reader: &mut R,
     writer: &mut W,
 ) -> Result<(), RunFault>
-    requires { (1 ≤ asked.now.tries) × (asked.now.tries ≤ 1000) }
+    requires { (1 ≤ asked.now.tries) × (asked.now.tries ≤ most_tries) }
     ensures serial { asked.now.serial ≡ true → Runs IsSerial asked.now.history
         (R.remaining reader.old) (R.remaining reader.new) (W.contents writer.old) result (W.contents writer.new) }
     ensures shared { asked.now.serial ≡ false → Runs (IsShared repository asked.now.tries) asked.now.history

@@ -1,5 +1,6 @@
 ghost use Rattle.std.specs.Prelude.{◌≡◌, ◌≤◌, ◌++◌, ℕ, List, [], false, length, take, drop, IfOk};
 ghost use Rattle.std.specs.FinMap.{empty as no_files};
+ghost use Rattle.camp_base.specs.Limits.{most_changes};
 ghost use Rattle.camp_base.specs.Trees.{Files};
 ghost use Rattle.camp_branch.specs.Agreeing.{Agree};
 ghost use Rattle.camp_branch.specs.Branches.{IsLawfulBranch, LeadsTo, has_patch, names_of, recorded};
@@ -126,7 +127,7 @@ impl Branch {
     ) -> Result<Branch, AllocError>
         requires is_new { has_patch self.now name.now ≡ false }
         requires some { 1 ≤ length changes.now }
-        requires few { length changes.now ≤ 64 }
+        requires few { length changes.now ≤ most_changes }
         requires leads { (old : Files) → LeadsTo self.now old → AppliesEach changes.now old tree }
         ensures exact { IfOk result (λ branch. branch ≡ self.now ++ recorded name.now 1 changes.now) }
     {
@@ -265,7 +266,7 @@ fn with_recorded(
     name: &Name,
     changes: &[Primitive],
 ) -> Result<SharedList<Shared<Catch>>, AllocError>
-    requires { length changes.now ≤ 64 }
+    requires { length changes.now ≤ most_changes }
     ensures { IfOk result (λ list. list ≡ catches.now ++ recorded name.now 1 changes.now) }
 {
     let alloc = catches.allocator();

@@ -8,7 +8,7 @@ ghost use Rattle.camp_clients.specs.Answers.{Asks};
 ghost use Rattle.camp_clients.specs.Clients.{sight_of, IsReady};
 ghost use Rattle.camp_clients.specs.Meeting.{AreNew, IsMet, HasMet, Ran};
 ghost use Rattle.camp_clients.specs.Runs.{HasShared, IsShared, TellsShared, lists_of};
-ghost use Rattle.camp_clients.specs.Sections.{most_sections, Section};
+ghost use Rattle.camp_clients.specs.Sections.{most_sections, most_tries, Section};
 
 use crate::sections::{Answers, ask_all, gather};
 use camp_history::{Gate, Head, HeadDesk, Seat};
@@ -293,7 +293,7 @@ where
     State::Reply: Send,
     requires sections { (0 < length sections.now) × (length sections.now ≤ most_sections) }
     requires writing { All (λ calls. count_by State.object.is_writing calls.items ≤ most_calls) sections.now }
-    requires tries { (0 < tries) × (tries ≤ 1000) }
+    requires tries { (0 < tries) × (tries ≤ most_tries) }
     requires every { every ≤ farthest_version }
     ensures shared { IfOk result (λ run.
         IsShared State.object tries (lists_of sections.now) (lists_of run.answers.items) run.history.items) }
@@ -315,7 +315,7 @@ where
     State::Reply: Send,
     requires sections { (0 < length sections.now) × (length sections.now ≤ most_sections) }
     requires writing { All (λ calls. count_by State.object.is_writing calls.items ≤ most_calls) sections.now }
-    requires tries { (0 < tries) × (tries ≤ 1000) }
+    requires tries { (0 < tries) × (tries ≤ most_tries) }
     requires every { every ≤ farthest_version }
     ensures shared { IfOk result (λ answers.
         HasShared State.object tries (lists_of sections.now) (lists_of answers.items)) }
@@ -339,7 +339,7 @@ where
     State::Reply: Send,
     requires sections { (0 < length sections.now) × (length sections.now ≤ most_sections) }
     requires writing { All (λ calls. count_by State.object.is_writing calls.items ≤ most_calls) sections.now }
-    requires tries { (0 < tries) × (tries ≤ 1000) }
+    requires tries { (0 < tries) × (tries ≤ most_tries) }
     requires every { every ≤ farthest_version }
     ensures { IfOk result (λ run. TellsShared State.object tries (lists_of sections.now) wants_history
         (lists_of run.answers.items) run.history.items) }

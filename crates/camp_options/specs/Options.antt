@@ -14,13 +14,17 @@ flag name = record (new_rule name) {
   parser = Some parser.Bool;
 }
 
--- the option `--tries N`, N from 1 to 1,000 and 100 by default
+-- tries of a call
+abbrev pub most_tries : ℕ
+most_tries = 1_000
+
+-- the option `--tries N`, N from 1 to the most, and 100 by default
 abbrev pub tries : Rule
 tries = record (new_rule (codes "tries")) {
   long = Some (codes "tries");
   action = Some Set;
   value_names = 1;
-  parser = Some (parser.Signed (pos 1) (pos 1000));
+  parser = Some (parser.Signed (pos 1) (pos most_tries));
   defaults = codes "100" ∷ [];
 }
 

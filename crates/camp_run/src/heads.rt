@@ -1,6 +1,7 @@
 //! Runs in threads over a head.
 ghost use Rattle.std.specs.Prelude.{◌<◌, ◌≤◌, IfOk, IfErr};
 ghost use Rattle.camp_clients.specs.Runs.{IsShared};
+ghost use Rattle.camp_clients.specs.Sections.{most_tries};
 ghost use Rattle.camp_repo.specs.Objects.{repository};
 ghost use Rattle.camp_run.specs.Runs.{HasNoOutput, HasOutput, IsNotForeign, Runs};
 
@@ -31,7 +32,7 @@ pub fn run_head<T: Threads + Wait + Sync, R: Read, W: Write, G: Gate + Sync>(
     tries: u32,
     gate: &G,
 ) -> Result<(), RunFault>
-    requires { (0 < tries) × (tries ≤ 1000) }
+    requires { (0 < tries) × (tries ≤ most_tries) }
     ensures runs { Runs (IsShared repository tries) history
         (R.remaining reader.old) (R.remaining reader.new) (W.contents writer.old) result (W.contents writer.new) }
     ensures not_foreign { IfErr result IsNotForeign }
@@ -48,7 +49,7 @@ fn head_output<T: Threads + Wait + Sync, R: Read, G: Gate + Sync>(
     tries: u32,
     gate: &G,
 ) -> Result<Vec<u8>, RunFault>
-    requires { (0 < tries) × (tries ≤ 1000) }
+    requires { (0 < tries) × (tries ≤ most_tries) }
     ensures text { IfOk result (λ text.
         HasOutput (IsShared repository tries) history (R.remaining reader.old) (R.remaining reader.new) text.items) }
     ensures fault { IfErr result (HasNoOutput (R.remaining reader.old) (R.remaining reader.new)) }
