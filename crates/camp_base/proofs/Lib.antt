@@ -1,3 +1,4 @@
 mod LineLemmas
+mod NameLemmas
 mod TreeLemmas
 pub mod Words

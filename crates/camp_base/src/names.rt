@@ -8,6 +8,7 @@ ghost use Rattle.std.specs.Cmp.Lexicographic.{slice_cmp, pointwise};
 ghost use Rattle.std.specs.FinMap.{nat_cmp-IsAntisymmetric, slice_cmp-IsAntisymmetric};
 ghost use Rattle.std.proofs.Common.{rules};
 ghost use Rattle.camp_base.specs.Bytes.{is_name, is_name_byte};
+ghost use Rattle.camp_base.specs.Inside.NameFields.{spelt};
 
 use crate::bytes::order;
 use crate::{BaseFault, MAX_NAME_LENGTH};
@@ -87,6 +88,17 @@ impl Name {
     {
         &self.buffer[..self.len as usize]
     }
+
+    // The number that the first eight bytes spell: where those of two names differ, they order them.
+    fn head(&self) -> u64
+        ensures value { result ≡ spelt 8 0 self.now }
+        ensures form { IsTrue (is_name self.now) }
+    {
+        let bytes = &self.buffer;
+        u64::from_be_bytes([
+            bytes[0], bytes[1], bytes[2], bytes[3], bytes[4], bytes[5], bytes[6], bytes[7],
+        ])
+    }
 }
 
 fn is_name(bytes: &[u8]) -> bool
@@ -155,6 +167,10 @@ impl Ord for Name {
     ghost matches_eq = { Prim.search (comparing, rules) };
 
     fn cmp(&self, other: &Name) -> Ordering {
+        let (head, other_head) = (self.head(), other.head());
+        if head != other_head {
+            return head.cmp(&other_head);
+        }
         order(self.bytes(), other.bytes())
     }
 }

@@ -1,8 +1,18 @@
 -- The size of a patch, as a test and as a fact.
-use Rattle.camp_repo.proofs.Words.{◌≡◌, ◌+◌, true, false, Bool, not, ◌&&◌, ◌||◌, List, length, nat_le, nat_lt, refl, list_any, Primitive, Catch}
+use Rattle.camp_repo.proofs.Words.{◌≡◌, ℕ, ◌≤◌, ◌+◌, ◌∙◌, true, false, Bool, not, ◌&&◌, ◌||◌, List, [], length, drop, Option, nat_le, nat_lt, refl, sym, ap, subst, arith, list_any, option_map_or, Files, Primitive, Catch, Agree, AreLacked, is_among, name_of, path_of, has_long_file, is_full_with}
+use Rattle.std.specs.Prelude.{◌-◌}
 use Rattle.std.proofs.lemmas.Bool.{leb-true}
+use Rattle.std.proofs.lemmas.Bool.Decides.{nat_tests}
+use Rattle.std.proofs.lemmas.List.{length-drop}
+use Rattle.std.proofs.lemmas.List.Sums.{count_by-le-length, length-filter}
+use Rattle.camp_base.specs.Trees.{Lines}
+use Rattle.camp_prim.proofs.Maps.{get_inserted, get_removed}
+use Rattle.camp_prim.specs.Effect.{Applies}
+use Rattle.camp_prim.specs.Hunks.{Edit}
+use Rattle.camp_prim.specs.declared.primitives.Primitive.TheVariants.{Add, Hunk, Remove}
+use Rattle.camp_repo.proofs.NameSteps.{named_behind}
 use Rattle.camp_call.specs.Patches.{IsPatchSized}
-use Rattle.camp_repo.specs.Steps.{has_long_side, is_patch_sized, is_too_large}
+use Rattle.camp_repo.specs.Steps.{has_long_side, is_patch_sized, is_too_large, longest_file, most_catches}
 
 -- what passes both tests
 both : (a b : Bool) → a && b ≡ true → (a ≡ true) × (b ≡ true)
@@ -24,3 +34,21 @@ sized_of catches changes small =
     let sized = last_holds (nat_lt 4_096 (length catches + length changes)) (list_any has_long_side changes) (is_patch_sized changes) small in
     let ends = both (nat_le 1 (length changes)) (nat_le (length changes) 64) sized in
     (leb-true 1 (length changes) ends.0, leb-true (length changes) 64 ends.1)
+
+abbrev is_long : Option Lines → Bool
+is_long found = option_map_or (λ lines. nat_lt longest_file (length lines)) found false
+
+-- a file that is added is not too long, and one that is removed is gone
+pub short_or_gone : (change : Primitive) (old tree : Files) → ((edit : Edit) → change ≡ Hunk edit → ⊥) → Applies change old tree → false ≡ has_long_file (path_of change) tree
+short_or_gone (Add path) old tree never adds = sym (ap (has_long_file path) adds.becomes ∙ ap is_long (get_inserted old path []))
+short_or_gone (Remove path) old tree never removes = sym (ap (has_long_file path) removes.becomes ∙ ap is_long (get_removed old path))
+short_or_gone (Hunk edit) old tree never applies = absurd (never edit refl)
+
+-- a branch has room for what another one has behind fronts that agree, and so for those of some names
+pub has_room : (ours theirs : List Catch) (long : ℕ) (names : List (List ℕ)) → Agree theirs ours long → AreLacked ours names → length ours + (length theirs - long) ≤ most_catches → false ≡ is_full_with ours theirs names
+has_room ours theirs long names agree lacked room =
+    let behind = drop long theirs in
+    let named = ap length (named_behind theirs ours long names agree lacked) ∙ length-filter (λ k. is_among names (name_of k)) behind in
+    let few = count_by-le-length (λ k. is_among names (name_of k)) behind in
+    let rest = length-drop long theirs in
+    grind (arith, nat_tests)

@@ -121,8 +121,12 @@ pub(crate) fn is_full_with(
     requires lacked { AreLacked ours.now (names_in names.now) }
     ensures { result ≡ is_full_with ours.now theirs.now (names_in names.now) }
 {
+    let len = ours.catches().len();
+    if len.saturating_add(theirs.catches().len() - long) <= MAX_CATCHES {
+        return false;
+    }
     let more = count_of(ours, theirs, names, long);
-    ours.catches().len().saturating_add(more) > MAX_CATCHES
+    len.saturating_add(more) > MAX_CATCHES
 }
 
 /// How many catches of a branch have names that the other one lacks.

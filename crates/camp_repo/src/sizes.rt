@@ -1,6 +1,9 @@
 ghost use Rattle.std.specs.Prelude.{◌≡◌, IfOk};
 ghost use Rattle.std.specs.List.{list_any};
 ghost use Rattle.camp_call.specs.Patches.{IsPatchSized};
+ghost use Rattle.camp_base.specs.Trees.{Files};
+ghost use Rattle.camp_prim.specs.Effect.{Applies};
+ghost use Rattle.camp_prim.specs.Swaps.{path_of};
 ghost use Rattle.camp_repo.specs.Steps.{changed, has_long_file, has_long_side, is_too_large};
 
 use crate::{Branch, MAX_CATCHES, MAX_FILE_LINES, MAX_SIDE_LINES, Refusal};
@@ -47,11 +50,22 @@ pub(crate) fn changed(
             Err(Apply::DoesNotApply) => return Ok(Err(Refusal::DoesNotApply)),
             Err(Apply::Memory) => return Err(AllocError),
         }
-        if has_long_file(change.path(), &next) {
+        if leaves_long_file(change, &next) {
             return Ok(Err(Refusal::TooLarge));
         }
     }
     Ok(Ok(next))
+}
+
+/// Whether a file is too long where a change has led to this tree: only a hunk can make it so.
+fn leaves_long_file(change: &Primitive, tree: &Tree) -> bool
+    requires led { (old : Files) × Applies change.now old tree.now }
+    ensures { result ≡ has_long_file (path_of change.now) tree.now }
+{
+    let Primitive::Hunk(hunk) = change else {
+        return false;
+    };
+    has_long_file(hunk.path(), tree)
 }
 
 fn has_long_file(path: &Path, tree: &Tree) -> bool

@@ -1,6 +1,6 @@
 -- What edits at a place do to a sorted list of entries, and to the map that it stands for.
-use Rattle.camp_share.proofs.Words.{◌≡◌, ℕ, zero, suc, Bool, true, false, cond, not, ◌&&◌, T, List, [], ◌∷◌, ◌++◌, get_or, set, sym, ◌<◌, ◌≤◌, arith, ap, subst, ◌∙◌, refl, length, None, Some, append-nil, insert, remove, Ordering, is_lt, is_eq, eq_by_cmp, ordering_reverse, Less, Equal, Greater, IsTotalOrder, tied_itself, tied_back, alike_right, eq_by_cmp_equiv, from_sorted, entries_sorted}
-use Rattle.camp_share.proofs.Words.{IsAntisymmetric, same_map, same_entries_map, entries-from_sorted, entries-insert, get-from_sorted, get-remove, get-retain_keys, get_tied, len-entries, empty_of_len, find, put, is_sorted, below_all, where_key, is_sorted-put, is_sorted-where_key, find-where_key, IsAt, WouldBeAt}
+use Rattle.camp_share.proofs.Words.{◌≡◌, ℕ, zero, suc, Bool, true, false, cond, not, ◌&&◌, T, List, [], ◌∷◌, get_or, set, sym, ◌<◌, ◌≤◌, arith, ap, subst, ◌∙◌, refl, length, None, Some, insert, remove, Ordering, is_lt, is_eq, eq_by_cmp, ordering_reverse, Less, Equal, Greater, IsTotalOrder, tied_itself, tied_back, alike_right, eq_by_cmp_equiv, from_sorted}
+use Rattle.camp_share.proofs.Words.{IsAntisymmetric, same_map, same_entries_map, entries-from_sorted, entries-insert, get-from_sorted, get-remove, get_tied, len-entries, empty_of_len, find, put, is_sorted, below_all, where_key, is_sorted-put, is_sorted-where_key, find-where_key, IsAt, WouldBeAt}
 use Rattle.std.specs.FinMap as map
 
 pub first : (a b : Bool) → T (a && b) → T a
@@ -133,23 +133,6 @@ module _ {K : Type 0} (R : K → K → Ordering) (o : IsTotalOrder R) where
         ∙ ap (cond (eq_by_cmp R q k) None) (sym (get-from_sorted R es q sorted))
         ∙ sym (get-remove o (from_sorted es) k q) in
         rw became (order, same_map o same _ _ gets)
-
-    -- once every entry is looked at
-    pub retained_whole : (p : K → Bool) (kept rest all after : List (K × X)) → after ≡ kept → rest ≡ [] → kept ++ where_key R p rest ≡ all → after ≡ all
-    retained_whole p kept rest all after is none whole =
-        is ∙ sym (append-nil kept) ∙ ap (λ es. kept ++ where_key R p es) (sym none) ∙ whole
-
-    pub map_retained : IsAntisymmetric R → (m : map.FinMap R X) (p : K → Bool) → T (is_sorted R (where_key R p (map.entries m))) × (from_sorted {R = R} (where_key R p (map.entries m)) ≡ map.retain_keys m p)
-    map_retained same m p =
-        let sorted = entries_sorted m in
-        let order = is_sorted-where_key R p (map.entries m) sorted in
-        let respects : (q x : K) → R q x ≡ Equal → p x ≡ p q = λ q x t. ap p (sym (same q x t)) in
-        let is : from_sorted {R = R} (map.entries m) ≡ m = same_entries_map _ _ (entries-from_sorted R (map.entries m) sorted) in
-        let gets : (q : K) → map.get (from_sorted {R = R} (where_key R p (map.entries m))) q ≡ map.get (map.retain_keys m p) q = λ q.
-        get-from_sorted R _ q order ∙ find-where_key R p q (respects q) (map.entries m)
-        ∙ ap (λ v. cond (p q) v None) (sym (get-from_sorted R (map.entries m) q sorted) ∙ ap (λ n. map.get n q) is)
-        ∙ sym (get-retain_keys m p q (respects q)) in
-        (order, same_map o same _ _ gets)
 
     missing_at : (m : map.FinMap R X) (k q : K) → map.get m k ≡ None → (tied : Bool) → eq_by_cmp R q k ≡ tied → map.get m q ≡ cond (eq_by_cmp R q k) None (map.get m q)
     missing_at m k q none true e = rw e (get_tied o m k q (tied_back o q k (is_equal (R q k) (subst T (sym e) tt))) ∙ none)

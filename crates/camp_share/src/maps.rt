@@ -155,20 +155,6 @@ impl<K: Key, V: Share + Drop> SharedMap<K, V> {
             }
         }
     }
-
-    /// The map of the entries whose keys another map has too. It looks at each entry once.
-    pub fn intersection<W>(&self, others: &SharedMap<K, W>) -> Result<SharedMap<K, V>, AllocError>
-        ensures exact { IfOk result (λ new. map_of K.cmp new ≡ map.retain_keys (map_of K.cmp self.now) (map.contains_key (map_of K.cmp others.now))) }
-    {
-        let mut kept = Vec::new(self.allocator());
-        for entry in self.iter() {
-            if others.contains_key(&entry.0) {
-                kept.push(entry.share()?)?;
-            }
-        }
-        let entries = SharedList::from_items(self.allocator(), &kept)?;
-        Ok(SharedMap { entries })
-    }
 }
 
 impl<K: Key, V: Drop> Share for SharedMap<K, V> {

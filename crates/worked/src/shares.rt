@@ -21,7 +21,6 @@ pub(crate) enum ShareCall {
     MapShared,
     Entry(OfEntry),
     MapWithout,
-    MapIntersection,
 }
 
 const CALLS: [(&[u8], ShareCall); 13] = [
@@ -40,7 +39,6 @@ const CALLS: [(&[u8], ShareCall); 13] = [
         ShareCall::Entry(OfEntry::InsertedIfAbsent),
     ),
     (b"map_without", ShareCall::MapWithout),
-    (b"map_intersection", ShareCall::MapIntersection),
 ];
 
 impl ShareCall {
@@ -59,7 +57,6 @@ impl ShareCall {
             ShareCall::MapShared => ask(asked, wants, MapShared),
             ShareCall::Entry(call) => ask(asked, wants, call),
             ShareCall::MapWithout => ask(asked, wants, MapWithout),
-            ShareCall::MapIntersection => ask(asked, wants, MapIntersection),
         }
     }
 }
@@ -184,18 +181,6 @@ impl Asked for MapWithout {
 
     fn answer(self, table: &Table, on: &Two<Places, Name>) -> Outcome {
         made(table, on.first.without(&on.rest.first))
-    }
-}
-
-/// The entries of a map whose names another one has.
-#[derive(Clone, Copy)]
-pub(crate) struct MapIntersection;
-
-impl Asked for MapIntersection {
-    type On = Two<Places, Places>;
-
-    fn answer(self, table: &Table, on: &Two<Places, Places>) -> Outcome {
-        made(table, on.first.intersection(&on.rest.first))
     }
 }
 

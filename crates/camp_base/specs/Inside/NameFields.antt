@@ -1,5 +1,5 @@
 -- How a name lies in its buffer.
-use Rattle.std.specs.Prelude.{◌≡◌, ℕ, ◌-◌, IsTrue, List, ◌++◌, length, take, replicate}
+use Rattle.std.specs.Prelude.{◌≡◌, ℕ, zero, suc, ◌+◌, ◌-◌, ◌*◌, IsTrue, List, [], ◌∷◌, ◌++◌, length, take, replicate}
 use Rattle.camp_base.specs.Bytes.{is_name}
 use Rattle.camp_base.specs.Limits.{longest_name}
 use Rattle.camp_base.specs.declared.names.Name.TheInside.{Inside}
@@ -12,3 +12,9 @@ padded bytes = record { buffer = bytes ++ replicate (longest_name - length bytes
 pub record IsPadded (name : Inside) : Type 0 where
   pub form : IsTrue (is_name (take name.len name.buffer))
   pub padding : padded (take name.len name.buffer) ≡ name
+
+-- the number that so many bytes spell behind a number, the first of them the greatest digit: zeros where there are no more
+abbrev pub spelt : ℕ → ℕ → List ℕ → ℕ
+spelt zero sum bytes = sum
+spelt (suc n) sum [] = spelt n (sum * 256) []
+spelt (suc n) sum (byte ∷ bytes) = spelt n (sum * 256 + byte) bytes

@@ -1,5 +1,5 @@
-use Rattle.std.proofs.Common.{◌++◌, drop, Vec, ap, ◌∙◌, arith, append_assoc}
-use Rattle.camp_share.proofs.PartLemmas.{rest_past, rest_cut, rest_length, length_told}
+use Rattle.std.proofs.Common.{◌++◌, ap, ◌∙◌, arith}
+use Rattle.camp_share.proofs.PartLemmas.{rest_past, rest_length, length_told}
 use Rattle.camp_share.proofs.growing.Growing.push_rest.Goals as goal
 
 pub loop-part-preserved-then-left-len : goal.loop-part-preserved-then-left-len

@@ -1,5 +1,4 @@
 use Rattle.camp_share.proofs.Words.{T, ap, sym, subst, refl, ◌∙◌, insert, is_sorted}
-use Rattle.std.specs.FinMap as map
 use Rattle.camp_share.proofs.Entries.{present}
 use Rattle.camp_share.proofs.MapLemmas.{get_is, insertion, missing}
 use Rattle.camp_share.proofs.maps.MapBuilder.insert_if_absent.Goals as goal
