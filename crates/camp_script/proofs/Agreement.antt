@@ -5,7 +5,6 @@ use Rattle.camp_call.specs.declared.calls.Call.TheVariants as call
 use Rattle.camp_script.specs.Faults.{fault_at}
 use Rattle.camp_script.specs.declared.faults.FaultKind.TheVariants.{BadGroup, EditNotEnded, GroupNotEnded, TooManyClients, TooManyCommands}
 use Rattle.camp_script.proofs.Holding.{Holds}
-use Rattle.camp_script.proofs.RecordLines.{some_change}
 use Rattle.camp_script.proofs.Asked.{Fits, is_edit, is_group, is_section, fits, FitsGroup, is_edit_change, is_end, fits_group}
 
 -- ---- where a reader stands, and what the rest of the lines means there
@@ -85,6 +84,12 @@ behind_step (Ok x) f g h = refl
 behind_step (Err fault) f g h = refl
 
 -- ---- a body
+
+-- one more change is one at least
+some_change : (changes : List Primitive) (change : Primitive) → (length (changes ++ change ∷ []) == 0) ≡ false
+some_change changes change =
+    let long : length (changes ++ change ∷ []) ≡ length changes + 1 = length-append changes (change ∷ []) in
+    ap (λ n. n == 0) long ∙ grind (arith, nat_tests)
 
 module _ (n : ℕ) (bytes : List ℕ) (lines : List (List ℕ)) (next : Agrees (n + 1) lines) (closed : List (List Call)) (calls : List Call) (branch name : List ℕ) (opened : ℕ) where
   -- behind the line `end`

@@ -22,12 +22,11 @@ pub use Rattle.camp_prim.specs.declared.primitives.Primitive.TheVariants.{Add, H
 pub use Rattle.camp_script.specs.Canonical.{AreLines, AreNames, IsChange, IsListed, IsScriptCall, call_text, change_body, change_text, record_text, section_text}
 pub use Rattle.camp_script.specs.Changes.{EditChange, EndGroup, GroupLine, NoChange, WholeChange, after_body_line, after_entry, change_of, edit_change, edit_of, ended, group_line_of, group_of, grown, side_at, whole_change, with_change, with_new, with_old}
 pub use Rattle.camp_script.specs.Commands.{Ask, BeginEdit, BeginGroup, BeginSection, Command, Nothing, branch_at, branch_line, command, command_of, edit_record, listed, obliterate_line, pull_line, question, record_line, record_of, short_command, whole_record}
-pub use Rattle.camp_script.specs.Gives.{GivesFaultFirst, HasNoFault, IsFaultFirst, IsFaultOf}
+pub use Rattle.camp_script.specs.Gives.{HasNoFault, IsFaultFirst, IsFaultOf}
 pub use Rattle.camp_script.specs.HistoryTexts.{call_words, entries_text, entry_text, listed_words}
 pub use Rattle.camp_script.specs.Inside.Progress.{OpenEdit, OpenRecord, Progress, after_call, after_change, after_head, after_record, finished, not_ended, record_at, start, with_call, with_edit, with_one_more, with_open_edit, with_record}
-pub use Rattle.camp_script.specs.Inside.ReadingFields.{edit_so_far, open_record_of, progress_of}
 pub use Rattle.camp_script.specs.Inside.Spaces.{spaced}
-pub use Rattle.camp_script.specs.Inside.Steps.{SaysSomething, after_body, after_line, after_record_line, heed, heeded, obey, obeyed, read_from}
+pub use Rattle.camp_script.specs.Inside.Steps.{SaysSomething, after_body, after_line, after_record_line, heed, obey, obeyed, read_from}
 pub use Rattle.camp_script.specs.Keeping.{CanStand, calls_of, kept_text}
 pub use Rattle.camp_script.specs.Lines.{is_blank, is_skipped, lines_of, without_empty_last, without_end, words_of}
 pub use Rattle.camp_script.specs.Outputs.{HaveTexts, answers_text, client_text, clients_text}

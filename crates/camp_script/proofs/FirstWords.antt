@@ -1,5 +1,5 @@
 -- The first words of a line say all that the line asks for, where it lists other names.
-use Rattle.camp_script.proofs.Common.{◌≡◌, true, false, ◌==◌, ℕ, List, [], ◌∷◌, ◌++◌, length, slice_index, take, refl, sym, ap, subst, ◌∙◌, cond-true, cond-false, GivesFaultFirst, GroupLine, change_of, group_line_of, Progress, OpenRecord, LineFault, ScriptFault, heeded, bytes_eq, codes, Result, Command, command, short_command, pull_line, obliterate_line, record_line, question}
+use Rattle.camp_script.proofs.Common.{◌≡◌, true, false, ℕ, List, [], ◌∷◌, ◌++◌, length, take, refl, sym, ap, subst, ◌∙◌, cond-true, cond-false, change_of, Progress, LineFault, ScriptFault, bytes_eq, codes, Result, Command, command, short_command, pull_line, obliterate_line, record_line, question}
 use Rattle.std.proofs.Math.Seq.{take-append_seam}
 use Rattle.camp_script.specs.Inside.Asking.{Asks}
 use Rattle.camp_script.specs.declared.commands.Asked.{Asked}
@@ -40,14 +40,6 @@ module _ (line : ℕ) (progress : Progress) (word : List ℕ) (result : Result A
 
   pub questions : (words : List (List ℕ)) → bytes_eq word (codes "branch") ≡ false → bytes_eq word (codes "record") ≡ false → bytes_eq word (codes "client") ≡ false → IsAsked (question line word words) → IsAsked (short_command line word words)
   questions words a b c given = subst IsAsked (sym (cond-false _ _ _ a ∙ cond-false _ _ _ b ∙ cond-false _ _ _ c)) given
-
--- a line of a group, by its first words
-pub group_words : (line count : ℕ) (progress : Progress) (begun : OpenRecord) (word : List ℕ) (words all bytes : List (List ℕ)) (result : Result Progress ScriptFault)
-    → bytes ≡ word ∷ all → (slice_index word 0 == 35) ≡ false → words ≡ take 6 all
-    → GivesFaultFirst result (heeded line progress begun (change_of line count word words)) → GivesFaultFirst result (heeded line progress begun (group_line_of line count bytes))
-group_words line count progress begun word words all bytes result is says first given =
-    subst (λ (said : Result GroupLine LineFault). GivesFaultFirst result (heeded line progress begun said))
-    (ap (change_of line count word) first ∙ six_are_enough_in_group line count word all ∙ sym (cond-false _ _ _ says) ∙ ap (group_line_of line count) (sym is)) given
 
 -- as many as six, at the front
 pub front_of_six : (words rest all : List (List ℕ)) → length words ≡ 6 → words ++ rest ≡ all → words ≡ take 6 all

@@ -9,7 +9,6 @@ pub mod HistoryLemmas
 pub mod Holding
 pub mod LineLemmas
 pub mod NameLemmas
-pub mod RecordLines
 pub mod TextLemmas
 pub mod Wanting
 pub mod WordLemmas

@@ -60,10 +60,3 @@ wants_now number reading bytes rest script fault begun given says is = elim begu
       (subst (λ (p : Progress). SaysSomething p.open_record bytes) h.0 (says is))
       (subst (λ (p : Progress). HasNoFault (after_line (number + 1) p.open_record p bytes)) h.0 (subst (λ f. IsFaultFirst f (after_line (number + 1) reading.open_record reading bytes)) is given)))
 ]
-
--- memory is wanted behind the last line
-pub wants_at_end : (number : ℕ) (reading : Progress) (script : List ℕ) → IsBegun number reading [] (lines_of script) → ScriptMayWant script
-wants_at_end number reading script begun = elim begun [
-  | inl h ↦ h
-  | inr h ↦ subst HasNoFault (sym h.1) tt
-]

@@ -31,3 +31,9 @@ IsFaultFirst Write reading = ⊥
 abbrev pub GivesFaultFirst : {A : Type 0} → Result A ScriptFault → Result A LineFault → Type 0
 GivesFaultFirst (Ok value) reading = reading ≡ Ok value
 GivesFaultFirst (Err fault) reading = IsFaultFirst fault reading
+
+-- a reader that changes in place advances as reading says: it is just what reading comes to, or its answer is the fault,
+-- unless memory ran out for the line
+abbrev pub Advances : {A : Type 0} → Result (Unit {0}) ScriptFault → A → Result A LineFault → Type 0
+Advances (Ok done) new reading = reading ≡ Ok new
+Advances (Err fault) new reading = IsFaultFirst fault reading

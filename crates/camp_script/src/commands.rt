@@ -1,6 +1,6 @@
 //! Lines outside groups and bodies.
 ghost use Rattle.std.specs.Prelude.{◌≡◌, ◌≢◌, ◌≤◌, ◌∷◌, [], false, IfErr, IfOk, map};
-ghost use Rattle.camp_script.specs.Gives.{GivesFaultFirst};
+ghost use Rattle.camp_script.specs.Gives.{Advances, GivesFaultFirst};
 ghost use Rattle.camp_script.specs.Inside.Files.{change_at};
 ghost use Rattle.camp_script.specs.Lines.{is_skipped, words_of};
 ghost use Rattle.camp_script.specs.Commands as command;
@@ -39,37 +39,37 @@ pub(crate) enum Asked {
 
 impl Reading {
     /// A line outside groups and bodies.
-    pub(crate) fn read_words(self, number: u64, line: &[u8]) -> Result<Reading, ScriptFault>
-        ensures given { GivesFaultFirst result (obeyed number self (command_of number (words_of line.now))) }
+    pub(crate) fn read_words(&mut self, number: u64, line: &[u8]) -> Result<(), ScriptFault>
+        ensures given { Advances result self.new (obeyed number self.old (command_of number (words_of line.now))) }
         ensures memory { IfErr result (λ fault. fault ≡ ScriptFault.Memory → is_skipped (words_of line.now) ≡ false) }
     {
         let mut words = Words::new(line);
         let Some(word) = words.next() else {
-            return Ok(self);
+            return Ok(());
         };
         if is_comment(word) {
-            return Ok(self);
+            return Ok(());
         }
         self.read_command(number, word, words)
     }
 
     // A command: its first word, and those behind it.
     fn read_command(
-        self,
+        &mut self,
         number: u64,
         word: &[u8],
         words: Words<'_>,
-    ) -> Result<Reading, ScriptFault>
-        ensures { GivesFaultFirst result (obeyed number self (command number word.now words.entry)) }
+    ) -> Result<(), ScriptFault>
+        ensures { Advances result self.new (obeyed number self.old (command number word.now words.entry)) }
     {
         let asked = self.asked_by(number, word, words)?;
         self.obey(number, asked)
     }
 
     // Does what a line asks for.
-    fn obey(self, number: u64, asked: Asked) -> Result<Reading, ScriptFault>
+    fn obey(&mut self, number: u64, asked: Asked) -> Result<(), ScriptFault>
         requires { IsCounted asked }
-        ensures { GivesFaultFirst result (obey number self (command_asked asked)) }
+        ensures { Advances result self.new (obey number self.old (command_asked asked)) }
     {
         match asked {
             Asked::Call(call) => self.follow(number, call),
@@ -84,31 +84,32 @@ impl Reading {
         }
     }
 
-    fn begin_group(self, number: u64, branch: Name, name: Name) -> Result<Reading, ScriptFault>
-        ensures { GivesFaultFirst result (obey number self (command.BeginGroup branch name)) }
+    fn begin_group(&mut self, number: u64, branch: Name, name: Name) -> Result<(), ScriptFault>
+        ensures { Advances result self.new (obey number self.old (command.BeginGroup branch name)) }
     {
         self.test_room(number)?;
         let changes = Vec::new(self.allocator());
-        Ok(self.with_record(OpenRecord {
+        self.with_record(OpenRecord {
             branch,
             name,
             opened: number,
             grouped: true,
             changes,
             open_edit: None,
-        }))
+        });
+        Ok(())
     }
 
     fn begin_edit(
-        self,
+        &mut self,
         number: u64,
         branch: Name,
         name: Name,
         path: Path,
         line: u32,
-    ) -> Result<Reading, ScriptFault>
+    ) -> Result<(), ScriptFault>
         requires { 1 ≤ line }
-        ensures { GivesFaultFirst result (obey number self (command.BeginEdit branch name path line)) }
+        ensures { Advances result self.new (obey number self.old (command.BeginEdit branch name path line)) }
     {
         self.test_room(number)?;
         let alloc = self.allocator();
@@ -119,14 +120,15 @@ impl Reading {
             old: Vec::new(alloc),
             new: Vec::new(alloc),
         });
-        Ok(self.with_record(OpenRecord {
+        self.with_record(OpenRecord {
             branch,
             name,
             opened: number,
             grouped: false,
             changes: Vec::new(alloc),
             open_edit,
-        }))
+        });
+        Ok(())
     }
 
     // What a command asks for: its first word, and those behind it.

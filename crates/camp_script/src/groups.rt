@@ -6,7 +6,7 @@ ghost use Rattle.camp_base.specs.Limits.{greatest_reach};
 ghost use Rattle.camp_prim.specs.Hunks.{IsInRange};
 ghost use Rattle.camp_script.specs.declared.faults.FaultKind.TheVariants as kind;
 ghost use Rattle.camp_script.specs.Faults.{fault_at};
-ghost use Rattle.camp_script.specs.Gives.{GivesFaultFirst, IsFaultFirst};
+ghost use Rattle.camp_script.specs.Gives.{Advances, GivesFaultFirst, IsFaultFirst};
 ghost use Rattle.camp_script.specs.Inside.Files.{change_at};
 ghost use Rattle.camp_script.specs.Inside.ReadingFields.{open_record_of, open_edit_of, edit_so_far, IsOpen, HasRoomFor};
 ghost use Rattle.camp_script.specs.Lines.{is_skipped, words_of};
@@ -39,13 +39,13 @@ pub(crate) enum Told {
 impl Reading {
     /// A line of a record whose changes follow.
     pub(crate) fn read_record_line(
-        self,
+        &mut self,
         number: u64,
         line: &[u8],
         mut begun: OpenRecord,
-    ) -> Result<Reading, ScriptFault>
-        requires { IsOpen self.calls begun }
-        ensures given { GivesFaultFirst result (after_record_line number self (open_record_of begun) (option_map open_edit_of begun.open_edit) line.now) }
+    ) -> Result<(), ScriptFault>
+        requires { IsOpen self.old.calls begun }
+        ensures given { Advances result self.new (after_record_line number self.old (open_record_of begun) (option_map open_edit_of begun.open_edit) line.now) }
         ensures memory { IfErr result (λ fault. fault ≡ ScriptFault.Memory → SaysSomethingIn (option_map open_edit_of begun.open_edit) line.now) }
     {
         match begun.open_edit.take() {
@@ -56,21 +56,23 @@ impl Reading {
 
     // A line of a group, outside bodies.
     fn read_group_words(
-        self,
+        &mut self,
         number: u64,
         line: &[u8],
         begun: OpenRecord,
-    ) -> Result<Reading, ScriptFault>
-        requires { IsOpen self.calls begun }
-        ensures given { GivesFaultFirst result (heeded number self (open_record_of begun) (group_line_of number (length begun.changes.items) (words_of line.now))) }
+    ) -> Result<(), ScriptFault>
+        requires { IsOpen self.old.calls begun }
+        ensures given { Advances result self.new (heeded number self.old (open_record_of begun) (group_line_of number (length begun.changes.items) (words_of line.now))) }
         ensures memory { IfErr result (λ fault. fault ≡ ScriptFault.Memory → is_skipped (words_of line.now) ≡ false) }
     {
         let mut words = Words::new(line);
         let Some(word) = words.next() else {
-            return Ok(self.with_record(begun));
+            self.with_record(begun);
+            return Ok(());
         };
         if is_comment(word) {
-            return Ok(self.with_record(begun));
+            self.with_record(begun);
+            return Ok(());
         }
         let words = first_words(words);
         self.read_change(number, begun, word, words.as_slice())
@@ -78,49 +80,53 @@ impl Reading {
 
     // What a line of a group asks for: its first word, and those behind it.
     fn read_change(
-        self,
+        &mut self,
         number: u64,
         begun: OpenRecord,
         word: &[u8],
         words: &[&[u8]],
-    ) -> Result<Reading, ScriptFault>
-        requires { IsOpen self.calls begun }
-        ensures { GivesFaultFirst result (heeded number self (open_record_of begun) (change_of number (length begun.changes.items) word.now (map (λ word. word.now) words.now))) }
+    ) -> Result<(), ScriptFault>
+        requires { IsOpen self.old.calls begun }
+        ensures { Advances result self.new (heeded number self.old (open_record_of begun) (change_of number (length begun.changes.items) word.now (map (λ word. word.now) words.now))) }
     {
         let told = self.told_by(number, &begun, word, words)?;
         self.heed(number, begun, told)
     }
 
     // Does what a line of a group tells.
-    fn heed(self, number: u64, begun: OpenRecord, told: Told) -> Result<Reading, ScriptFault>
-        requires open { IsOpen self.calls begun }
+    fn heed(&mut self, number: u64, begun: OpenRecord, told: Told) -> Result<(), ScriptFault>
+        requires open { IsOpen self.old.calls begun }
         requires room { HasRoomToAdd (length begun.changes.items) told }
-        ensures { GivesFaultFirst result (heed number self (open_record_of begun) (line_told told)) }
+        ensures { Advances result self.new (heed number self.old (open_record_of begun) (line_told told)) }
     {
         match told {
             Told::Change(change) => self.add_change(begun, change),
-            Told::Edit { path, line } => Ok(self.open_edit(number, begun, path, line)),
+            Told::Edit { path, line } => {
+                self.open_edit(number, begun, path, line);
+                Ok(())
+            }
             Told::Done => self.end_record(number, begun),
         }
     }
 
     // A change of a whole file in a group.
-    fn add_change(self, mut begun: OpenRecord, change: Primitive) -> Result<Reading, ScriptFault>
-        requires open { IsOpen self.calls begun }
+    fn add_change(&mut self, mut begun: OpenRecord, change: Primitive) -> Result<(), ScriptFault>
+        requires open { IsOpen self.old.calls begun }
         requires room { length begun.changes.items < 64 }
-        ensures { GivesFaultFirst result (Ok (with_record self (with_one_more (open_record_of begun) change))) }
+        ensures { Advances result self.new (Ok (with_record self.old (with_one_more (open_record_of begun) change))) }
     {
         begun.changes.push(change)?;
         begun.open_edit = None;
-        Ok(self.with_record(begun))
+        self.with_record(begun);
+        Ok(())
     }
 
     // The head of an edit in a group.
-    fn open_edit(self, number: u64, mut begun: OpenRecord, path: Path, line: u32) -> Reading
-        requires open { IsOpen self.calls begun }
+    fn open_edit(&mut self, number: u64, mut begun: OpenRecord, path: Path, line: u32)
+        requires open { IsOpen self.old.calls begun }
         requires room { length begun.changes.items < 64 }
         requires counted { 1 ≤ line }
-        ensures { result ≡ with_record self (with_edit (open_record_of begun) path line number) }
+        ensures { self.new ≡ with_record self.old (with_edit (open_record_of begun) path line number) }
     {
         let alloc = self.allocator();
         begun.open_edit = Some(OpenEdit {
@@ -197,34 +203,35 @@ impl Reading {
 
     // A line of the body of an edit.
     fn read_body_line(
-        self,
+        &mut self,
         number: u64,
         line: &[u8],
         mut begun: OpenRecord,
         mut edit: OpenEdit,
-    ) -> Result<Reading, ScriptFault>
-        requires open { IsOpen self.calls begun }
+    ) -> Result<(), ScriptFault>
+        requires open { IsOpen self.old.calls begun }
         requires room { HasRoomFor begun.changes.items (Some edit) }
-        ensures { GivesFaultFirst result (after_body number self (open_record_of begun) (open_edit_of edit) line.now) }
+        ensures { Advances result self.new (after_body number self.old (open_record_of begun) (open_edit_of edit) line.now) }
     {
         if line == b"end".as_slice() {
             return self.end_edit(number, begun, edit);
         }
         grow(self.allocator(), number, line, &mut edit)?;
         begun.open_edit = Some(edit);
-        Ok(self.with_record(begun))
+        self.with_record(begun);
+        Ok(())
     }
 
     // The line `end`.
     fn end_edit(
-        self,
+        &mut self,
         number: u64,
         begun: OpenRecord,
         edit: OpenEdit,
-    ) -> Result<Reading, ScriptFault>
-        requires open { IsOpen self.calls begun }
+    ) -> Result<(), ScriptFault>
+        requires open { IsOpen self.old.calls begun }
         requires room { HasRoomFor begun.changes.items (Some edit) }
-        ensures { GivesFaultFirst result (after_end number self (open_record_of begun) (open_edit_of edit)) }
+        ensures { Advances result self.new (after_end number self.old (open_record_of begun) (open_edit_of edit)) }
     {
         let change = close(self.allocator(), number, edit)?;
         self.end_change(number, begun, change)
@@ -232,19 +239,20 @@ impl Reading {
 
     // The last line of a change: a group goes on, and a change that stands alone ends its record.
     fn end_change(
-        self,
+        &mut self,
         number: u64,
         mut begun: OpenRecord,
         change: Primitive,
-    ) -> Result<Reading, ScriptFault>
-        requires open { IsOpen self.calls begun }
+    ) -> Result<(), ScriptFault>
+        requires open { IsOpen self.old.calls begun }
         requires room { length begun.changes.items < 64 }
-        ensures { GivesFaultFirst result (after_change number self (open_record_of begun) change) }
+        ensures { Advances result self.new (after_change number self.old (open_record_of begun) change) }
     {
         begun.changes.push(change)?;
         begun.open_edit = None;
         if begun.grouped {
-            return Ok(self.with_record(begun));
+            self.with_record(begun);
+            return Ok(());
         }
         self.end_record(number, begun)
     }

@@ -1,7 +1,7 @@
 //! How far a script is read, and what the pieces of lines do to it.
 ghost use Rattle.std.specs.Prelude.{◌≡◌, false, true, IfErr, IfOk, Ok};
 ghost use Rattle.camp_call.specs.Calls.{is_writing};
-ghost use Rattle.camp_script.specs.Gives.{GivesFaultFirst};
+ghost use Rattle.camp_script.specs.Gives.{Advances, GivesFaultFirst};
 ghost use Rattle.camp_script.specs.Reading.{is_full};
 ghost use Rattle.camp_script.specs.Inside.Progress.{start, with_call, with_record, after_call, after_client, after_record, finished};
 ghost use Rattle.camp_script.specs.declared.faults.FaultKind.TheVariants as kind;
@@ -59,9 +59,9 @@ impl Reading {
     }
 
     /// Reads the line of a number, counted from 1.
-    pub(crate) fn read_line(mut self, number: u64, line: &[u8]) -> Result<Reading, ScriptFault>
-        ensures given { GivesFaultFirst result (after_line number self.open_record self line.now) }
-        ensures memory { IfErr result (λ fault. fault ≡ ScriptFault.Memory → SaysSomething self.open_record line.now) }
+    pub(crate) fn read_line(&mut self, number: u64, line: &[u8]) -> Result<(), ScriptFault>
+        ensures given { Advances result self.new (after_line number self.old.open_record self.old line.now) }
+        ensures memory { IfErr result (λ fault. fault ≡ ScriptFault.Memory → SaysSomething self.old.open_record line.now) }
     {
         match self.open_record.take() {
             None => self.read_words(number, line),
@@ -97,9 +97,9 @@ impl Reading {
         Ok(())
     }
 
-    pub(crate) fn with_call(mut self, call: Call) -> Result<Reading, ScriptFault>
-        requires { is_writing call ≡ true → MayGrow self.calls }
-        ensures { GivesFaultFirst result (Ok (with_call self call)) }
+    pub(crate) fn with_call(&mut self, call: Call) -> Result<(), ScriptFault>
+        requires { is_writing call ≡ true → MayGrow self.old.calls }
+        ensures { Advances result self.new (Ok (with_call self.old call)) }
     {
         let writing = call.is_writing();
         self.calls.push(call)?;
@@ -107,21 +107,20 @@ impl Reading {
             self.writes += 1;
         }
         self.open_record = None;
-        Ok(self)
+        Ok(())
     }
 
-    pub(crate) fn with_record(mut self, begun: OpenRecord) -> Reading
-        requires { IsOpen self.calls begun }
-        ensures { result ≡ with_record self (open_record_of begun) }
+    pub(crate) fn with_record(&mut self, begun: OpenRecord)
+        requires { IsOpen self.old.calls begun }
+        ensures { self.new ≡ with_record self.old (open_record_of begun) }
     {
         self.open_record = Some(begun);
-        self
     }
 
     /// The last line of a record.
-    pub(crate) fn end_record(self, number: u64, begun: OpenRecord) -> Result<Reading, ScriptFault>
-        requires { IsOpen self.calls begun }
-        ensures { GivesFaultFirst result (after_record number self (open_record_of begun)) }
+    pub(crate) fn end_record(&mut self, number: u64, begun: OpenRecord) -> Result<(), ScriptFault>
+        requires { IsOpen self.old.calls begun }
+        ensures { Advances result self.new (after_record number self.old (open_record_of begun)) }
     {
         let OpenRecord {
             branch,
@@ -140,8 +139,8 @@ impl Reading {
     }
 
     /// A call that a line holds whole.
-    pub(crate) fn follow(self, number: u64, call: Call) -> Result<Reading, ScriptFault>
-        ensures { GivesFaultFirst result (after_call number self call) }
+    pub(crate) fn follow(&mut self, number: u64, call: Call) -> Result<(), ScriptFault>
+        ensures { Advances result self.new (after_call number self.old call) }
     {
         if call.is_writing() {
             self.test_room(number)?;
@@ -150,17 +149,17 @@ impl Reading {
     }
 
     /// The line of a client: the next section begins.
-    pub(crate) fn next_section(mut self, number: u64) -> Result<Reading, ScriptFault>
-        ensures { GivesFaultFirst result (after_client number self) }
+    pub(crate) fn next_section(&mut self, number: u64) -> Result<(), ScriptFault>
+        ensures { Advances result self.new (after_client number self.old) }
     {
         if self.closed.len() >= MAX_SECTIONS - 1 {
             return Err(at_line(number, FaultKind::TooManyClients));
         }
         let alloc = self.allocator();
         let calls = mem::replace(&mut self.calls, Vec::new(alloc));
-        self.closed.push(calls)?;
         self.writes = 0;
         let _ = self.open_record.take();
-        Ok(self)
+        self.closed.push(calls)?;
+        Ok(())
     }
 }

@@ -67,7 +67,7 @@ pub fn read_script(alloc: Global, bytes: &[u8]) -> Result<Script, ScriptFault>
     let mut number = 0;
     for line in bytes.lines_with_terminator() {
         number += 1;
-        reading = reading.read_line(number, without_end(line))?;
+        reading.read_line(number, without_end(line))?;
     }
     reading.finish()
 }
