@@ -233,7 +233,7 @@ impl Reading {
     {
         let branch = name_at(number, branch)?;
         let name = name_at(number, name)?;
-        let path = path_at(self.allocator(), number, path)?;
+        let path = self.path_again(number, path)?;
         let line = number_at(number, line)?;
         self.test_room(number)?;
         Ok(Asked::Edit {

@@ -1,7 +1,8 @@
 //! How far a script is read, and what the pieces of lines do to it.
-ghost use Rattle.std.specs.Prelude.{◌≡◌, false, true, IfErr, IfOk, Ok};
+ghost use Rattle.std.specs.Prelude.{◌≡◌, ◌≢◌, false, true, IfErr, IfOk, Ok};
 ghost use Rattle.camp_call.specs.Calls.{is_writing};
-ghost use Rattle.camp_script.specs.Gives.{Advances, GivesFaultFirst};
+ghost use Rattle.camp_script.specs.Words.{path_at};
+ghost use Rattle.camp_script.specs.Gives.{IsFaultFirst, Advances, GivesFaultFirst};
 ghost use Rattle.camp_script.specs.Reading.{is_full};
 ghost use Rattle.camp_script.specs.Inside.Progress.{start, with_call, with_record, after_call, after_client, after_record, finished};
 ghost use Rattle.camp_script.specs.declared.faults.FaultKind.TheVariants as kind;
@@ -11,9 +12,11 @@ ghost use Rattle.camp_script.specs.Inside.ReadingFields.{open_record_of};
 use crate::faults::{FaultKind, ScriptFault, at_line};
 use crate::records::OpenRecord;
 use crate::scripts::Script;
+use crate::words::path_at;
 use crate::{MAX_SECTIONS, MAX_WRITES};
+use camp_base::Path;
 use camp_call::{Call, Changes};
-use std::alloc::Global;
+use std::alloc::{AllocError, Global};
 use std::marker::Model;
 use std::mem;
 
@@ -56,6 +59,35 @@ impl Reading {
 
     pub(crate) fn allocator(&self) -> Global {
         *self.calls.allocator()
+    }
+
+    /// A word as a path, as `path_at` reads it. Where the call before ends with a change at the same
+    /// path, it shares its bytes.
+    pub(crate) fn path_again(
+        &self,
+        number: u64,
+        word: &[u8],
+    ) -> Result<Result<Path, AllocError>, ScriptFault>
+        ensures passed { IfOk result (λ _. path_at number word.now ≡ Ok word.now) }
+        ensures made { IfOk result (λ made. IfOk made (λ path. path ≡ word.now)) }
+        ensures fault { IfErr result (λ fault. IsFaultFirst fault (path_at number word.now)) }
+        ensures told { IfErr result (λ fault. fault ≢ ScriptFault.Memory) }
+    {
+        match self.last_path() {
+            Some(path) if path.bytes() == word => Ok(path.try_clone()),
+            _ => path_at(self.allocator(), number, word),
+        }
+    }
+
+    // The path of the last change of the call before.
+    fn last_path(&self) -> Option<&Path> {
+        let Some(Call::Record { changes, .. }) = self.calls.last() else {
+            return None;
+        };
+        let Some(change) = changes.prims().last() else {
+            return None;
+        };
+        Some(change.path())
     }
 
     /// Reads the line of a number, counted from 1.
