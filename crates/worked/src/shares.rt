@@ -23,7 +23,7 @@ pub(crate) enum ShareCall {
     MapWithout,
 }
 
-const CALLS: [(&[u8], ShareCall); 13] = [
+const CALLS: [(&[u8], ShareCall); 12] = [
     (b"list_to_vec", ShareCall::List(OfList::ToVec)),
     (b"list_shared", ShareCall::List(OfList::Shared)),
     (b"list_pushed", ShareCall::Number(OfNumber::Pushed)),
