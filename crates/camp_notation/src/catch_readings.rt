@@ -1,4 +1,4 @@
-ghost use Rattle.std.specs.Prelude.{◌≡◌, IfOk, OnOk};
+ghost use Rattle.std.specs.Prelude.{◌≡◌, IfOk};
 ghost use Rattle.camp_notation.specs.Catches.{catch_text, catches_text};
 
 use crate::context_readings::{read_member, read_members};
@@ -17,28 +17,10 @@ use std::alloc::Global;
 pub fn read_catch(alloc: Global, known: &[Named], text: &[u8]) -> Result<Catch, NotationError>
     ensures text { IfOk result (λ j. text.now ≡ catch_text known.now j) }
 {
-    let mut cursor = Cursor::new(text);
-    let j = read_catch_there(alloc, known, &mut cursor)?;
-    expect_text(alloc, known, &j, &cursor, text)?;
+    let mut cursor = Cursor::new(alloc, known, text);
+    let j = read_catch_there(&mut cursor)?;
+    cursor.expect_written(text, catch_text(alloc, known, &j))?;
     Ok(j)
-}
-
-/// Whether a catch has a text, and else `WrittenOtherwise`.
-fn expect_text(
-    alloc: Global,
-    known: &[Named],
-    j: &Catch,
-    cursor: &Cursor,
-    text: &[u8],
-) -> Result<(), NotationError>
-    ensures { OnOk result (text.now ≡ catch_text known.now j.now) }
-{
-    cursor.expect_end()?;
-    let written = catch_text(alloc, known, j)?;
-    if written.as_bytes() != text {
-        return Err(NotationError::WrittenOtherwise);
-    }
-    Ok(())
 }
 
 /// The list of catches of a text.
@@ -49,117 +31,67 @@ pub fn read_catches(
 ) -> Result<Vec<Shared<Catch>>, NotationError>
     ensures text { IfOk result (λ list. text.now ≡ catches_text known.now list.items) }
 {
-    let mut cursor = Cursor::new(text);
-    let list = read_row_of_catches(alloc, known, &mut cursor)?;
-    expect_texts(alloc, known, &list, &cursor, text)?;
+    let mut cursor = Cursor::new(alloc, known, text);
+    let list = read_row_of_catches(&mut cursor)?;
+    cursor.expect_written(text, catches_text(alloc, known, &list))?;
     Ok(list)
 }
 
-fn expect_texts(
-    alloc: Global,
-    known: &[Named],
-    list: &[Shared<Catch>],
-    cursor: &Cursor,
-    text: &[u8],
-) -> Result<(), NotationError>
-    ensures { OnOk result (text.now ≡ catches_text known.now list.now) }
-{
-    cursor.expect_end()?;
-    if catches_text(alloc, known, list)?.as_bytes() != text {
-        return Err(NotationError::WrittenOtherwise);
-    }
-    Ok(())
-}
-
-fn read_row_of_catches(
-    alloc: Global,
-    known: &[Named],
-    cursor: &mut Cursor,
-) -> Result<Vec<Shared<Catch>>, NotationError> {
-    let mut list = Vec::new(alloc);
-    let read = read_row(&mut list, SQUARE, alloc, known, cursor);
-    kept(list, read)
+fn read_row_of_catches(cursor: &mut Cursor) -> Result<Vec<Shared<Catch>>, NotationError> {
+    read_row(Vec::new(cursor.alloc), SQUARE, cursor)
 }
 
 impl Row for Vec<Shared<Catch>> {
-    fn read_next(
-        &mut self,
-        alloc: Global,
-        known: &[Named],
-        cursor: &mut Cursor,
-    ) -> Result<(), NotationError> {
-        let j = read_shared(alloc, known, cursor)?;
+    fn read_next(&mut self, cursor: &mut Cursor) -> Result<(), NotationError> {
+        let j = read_shared(cursor)?;
         Ok(self.push(j)?)
     }
 }
 
-fn read_shared(
-    alloc: Global,
-    known: &[Named],
-    cursor: &mut Cursor,
-) -> Result<Shared<Catch>, NotationError> {
-    let j = read_catch_there(alloc, known, cursor)?;
-    Ok(Shared::new(alloc, j)?)
+fn read_shared(cursor: &mut Cursor) -> Result<Shared<Catch>, NotationError> {
+    let j = read_catch_there(cursor)?;
+    Ok(Shared::new(cursor.alloc, j)?)
 }
 
-fn read_catch_there(
-    alloc: Global,
-    known: &[Named],
-    cursor: &mut Cursor,
-) -> Result<Catch, NotationError> {
+fn read_catch_there(cursor: &mut Cursor) -> Result<Catch, NotationError> {
     if cursor.take(b"(") {
-        read_conflictor(alloc, known, cursor)
+        read_conflictor(cursor)
     } else {
-        read_plain(alloc, known, cursor)
+        read_plain(cursor)
     }
 }
 
-fn read_plain(alloc: Global, known: &[Named], cursor: &mut Cursor) -> Result<Catch, NotationError> {
+fn read_plain(cursor: &mut Cursor) -> Result<Catch, NotationError> {
     cursor.expect(b"[", '[')?;
-    let a = read_item(alloc, known, cursor)?;
+    let a = read_item(cursor)?;
     let closed = cursor.expect(b"]", ']');
     Ok(Catch::Plain(kept(a, closed)?))
 }
 
 // What stands behind the round bracket of a conflictor.
-fn read_conflictor(
-    alloc: Global,
-    known: &[Named],
-    cursor: &mut Cursor,
-) -> Result<Catch, NotationError> {
-    let effect = read_items(alloc, known, cursor)?;
-    read_behind_effect(alloc, known, cursor, effect)
+fn read_conflictor(cursor: &mut Cursor) -> Result<Catch, NotationError> {
+    let effect = read_items(cursor)?;
+    read_behind_effect(cursor, effect)
 }
 
-fn read_behind_effect(
-    alloc: Global,
-    known: &[Named],
-    cursor: &mut Cursor,
-    effect: Seq,
-) -> Result<Catch, NotationError> {
-    match read_conflicts(alloc, known, cursor) {
-        Ok(conflicts) => read_identity(alloc, known, cursor, effect, conflicts),
+fn read_behind_effect(cursor: &mut Cursor, effect: Seq) -> Result<Catch, NotationError> {
+    match read_conflicts(cursor) {
+        Ok(conflicts) => read_identity(cursor, effect, conflicts),
         Err(why) => Err(why),
     }
 }
 
-fn read_conflicts(
-    alloc: Global,
-    known: &[Named],
-    cursor: &mut Cursor,
-) -> Result<ContextedSet, NotationError> {
+fn read_conflicts(cursor: &mut Cursor) -> Result<ContextedSet, NotationError> {
     cursor.expect(b", ", ',')?;
-    read_members(alloc, known, cursor)
+    read_members(cursor)
 }
 
 fn read_identity(
-    alloc: Global,
-    known: &[Named],
     cursor: &mut Cursor,
     effect: Seq,
     conflicts: ContextedSet,
 ) -> Result<Catch, NotationError> {
-    match read_last_member(alloc, known, cursor) {
+    match read_last_member(cursor) {
         Ok(identity) => Ok(Catch::Conflictor(Conflictor {
             effect,
             conflicts,
@@ -169,13 +101,9 @@ fn read_identity(
     }
 }
 
-fn read_last_member(
-    alloc: Global,
-    known: &[Named],
-    cursor: &mut Cursor,
-) -> Result<Contexted, NotationError> {
+fn read_last_member(cursor: &mut Cursor) -> Result<Contexted, NotationError> {
     cursor.expect(b", ", ',')?;
-    let identity = read_member(alloc, known, cursor)?;
+    let identity = read_member(cursor)?;
     let closed = cursor.expect(b")", ')');
     kept(identity, closed)
 }

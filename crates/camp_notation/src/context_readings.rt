@@ -1,4 +1,4 @@
-ghost use Rattle.std.specs.Prelude.{◌≡◌, IfOk, OnOk};
+ghost use Rattle.std.specs.Prelude.{◌≡◌, IfOk};
 ghost use Rattle.camp_notation.specs.Contexts.{contexted_text, set_text};
 
 use crate::cursors::Cursor;
@@ -18,26 +18,10 @@ pub fn read_contexted(
 ) -> Result<Contexted, NotationError>
     ensures text { IfOk result (λ x. text.now ≡ contexted_text known.now x) }
 {
-    let mut cursor = Cursor::new(text);
-    let x = read_member(alloc, known, &mut cursor)?;
-    expect_contexted(alloc, known, &x, &cursor, text)?;
+    let mut cursor = Cursor::new(alloc, known, text);
+    let x = read_member(&mut cursor)?;
+    cursor.expect_written(text, contexted_text(alloc, known, &x))?;
     Ok(x)
-}
-
-fn expect_contexted(
-    alloc: Global,
-    known: &[Named],
-    x: &Contexted,
-    cursor: &Cursor,
-    text: &[u8],
-) -> Result<(), NotationError>
-    ensures { OnOk result (text.now ≡ contexted_text known.now x.now) }
-{
-    cursor.expect_end()?;
-    if contexted_text(alloc, known, x)?.as_bytes() != text {
-        return Err(NotationError::WrittenOtherwise);
-    }
-    Ok(())
 }
 
 /// The set of a text. Members in another order than that of their labels, and a label that stands
@@ -45,46 +29,19 @@ fn expect_contexted(
 pub fn read_set(alloc: Global, known: &[Named], text: &[u8]) -> Result<ContextedSet, NotationError>
     ensures text { IfOk result (λ xs. text.now ≡ set_text known.now xs) }
 {
-    let mut cursor = Cursor::new(text);
-    let xs = read_members(alloc, known, &mut cursor)?;
-    expect_set(alloc, known, &xs, &cursor, text)?;
+    let mut cursor = Cursor::new(alloc, known, text);
+    let xs = read_members(&mut cursor)?;
+    cursor.expect_written(text, set_text(alloc, known, &xs))?;
     Ok(xs)
 }
 
-fn expect_set(
-    alloc: Global,
-    known: &[Named],
-    xs: &ContextedSet,
-    cursor: &Cursor,
-    text: &[u8],
-) -> Result<(), NotationError>
-    ensures { OnOk result (text.now ≡ set_text known.now xs.now) }
-{
-    cursor.expect_end()?;
-    if set_text(alloc, known, xs)?.as_bytes() != text {
-        return Err(NotationError::WrittenOtherwise);
-    }
-    Ok(())
-}
-
-pub(crate) fn read_members(
-    alloc: Global,
-    known: &[Named],
-    cursor: &mut Cursor,
-) -> Result<ContextedSet, NotationError> {
-    let mut xs = ContextedSet::empty(alloc);
-    let read = read_row(&mut xs, CURLY, alloc, known, cursor);
-    kept(xs, read)
+pub(crate) fn read_members(cursor: &mut Cursor) -> Result<ContextedSet, NotationError> {
+    read_row(ContextedSet::empty(cursor.alloc), CURLY, cursor)
 }
 
 impl Row for ContextedSet {
-    fn read_next(
-        &mut self,
-        alloc: Global,
-        known: &[Named],
-        cursor: &mut Cursor,
-    ) -> Result<(), NotationError> {
-        let x = read_member(alloc, known, cursor)?;
+    fn read_next(&mut self, cursor: &mut Cursor) -> Result<(), NotationError> {
+        let x = read_member(cursor)?;
         insert(self, &x)
     }
 }
@@ -94,33 +51,29 @@ fn insert(xs: &mut ContextedSet, x: &Contexted) -> Result<(), NotationError> {
     Ok(())
 }
 
-pub(crate) fn read_member(
-    alloc: Global,
-    known: &[Named],
-    cursor: &mut Cursor,
-) -> Result<Contexted, NotationError> {
-    let context = read_context(alloc, known, cursor)?;
-    match read_patch(alloc, known, cursor) {
-        Ok(patch) => Ok(Contexted::new(alloc, context, patch)?),
+pub(crate) fn read_member(cursor: &mut Cursor) -> Result<Contexted, NotationError> {
+    let context = read_context(cursor)?;
+    match read_patch(cursor) {
+        Ok(patch) => Ok(Contexted::new(cursor.alloc, context, patch)?),
         Err(why) => Err(why),
     }
 }
 
-fn read_patch(alloc: Global, known: &[Named], cursor: &mut Cursor) -> Result<Named, NotationError> {
+fn read_patch(cursor: &mut Cursor) -> Result<Named, NotationError> {
     cursor.expect(b":", ':')?;
-    read_item(alloc, known, cursor)
+    read_item(cursor)
 }
 
 // Nothing before a colon, a list between brackets, or one primitive.
-fn read_context(alloc: Global, known: &[Named], cursor: &mut Cursor) -> Result<Seq, NotationError> {
+fn read_context(cursor: &mut Cursor) -> Result<Seq, NotationError> {
     if cursor.stands_at(b"[") {
-        return read_items(alloc, known, cursor);
+        return read_items(cursor);
     }
     if cursor.stands_at(b":") {
-        return Ok(Seq::empty(alloc));
+        return Ok(Seq::empty(cursor.alloc));
     }
-    let p = read_item(alloc, known, cursor)?;
-    list_of(alloc, p)
+    let p = read_item(cursor)?;
+    list_of(cursor.alloc, p)
 }
 
 fn list_of(alloc: Global, p: Named) -> Result<Seq, NotationError> {

@@ -1,13 +1,16 @@
-ghost use Rattle.std.specs.Prelude.{◌≤◌, ◌<◌, length, IfOk};
+ghost use Rattle.std.specs.Prelude.{◌≡◌, ◌≤◌, ◌<◌, length, IfOk, IsOkAnd, OnOk, string_bytes};
 
 use crate::NotationError;
 use crate::words::is_plain_byte;
-use std::alloc::Global;
+use camp_prim::Named;
+use std::alloc::{AllocError, Global};
 use std::str;
 
-/// A text that is read from left to right.
+/// A text that is read from left to right, in which a label may stand for a known primitive.
 #[derive(Drop)]
 pub(crate) struct Cursor<'a> {
+    pub(crate) alloc: Global,
+    pub(crate) known: &'a [Named],
     rest: &'a [u8],
 }
 
@@ -20,8 +23,12 @@ enum Run {
 }
 
 impl<'a> Cursor<'a> {
-    pub(crate) fn new(text: &'a [u8]) -> Cursor<'a> {
-        Cursor { rest: text }
+    pub(crate) fn new(alloc: Global, known: &'a [Named], text: &'a [u8]) -> Cursor<'a> {
+        Cursor {
+            alloc,
+            known,
+            rest: text,
+        }
     }
 
     /// How many bytes are left: a row has no more items.
@@ -83,16 +90,32 @@ impl<'a> Cursor<'a> {
         }
     }
 
+    /// `Ok` only where what was written is the text, byte for byte. That nothing is left is tested
+    /// first, so that a rest has its own error.
+    pub(crate) fn expect_written(
+        &self,
+        text: &[u8],
+        written: Result<String, AllocError>,
+    ) -> Result<(), NotationError>
+        ensures { OnOk result (IsOkAnd written (λ words. string_bytes words ≡ text.now)) }
+    {
+        self.expect_end()?;
+        if written?.as_bytes() != text {
+            return Err(NotationError::WrittenOtherwise);
+        }
+        Ok(())
+    }
+
     /// The bytes of a word, with quotes or without.
-    pub(crate) fn word(&mut self, alloc: Global) -> Result<Vec<u8>, NotationError> {
+    pub(crate) fn word(&mut self) -> Result<Vec<u8>, NotationError> {
         if self.take(b"\"") {
-            return self.quoted(alloc);
+            return self.quoted();
         }
         let bytes = self.run(Run::Plain);
         if bytes.is_empty() {
             return Err(NotationError::NoWord);
         }
-        Ok(Vec::from_slice(alloc, bytes)?)
+        Ok(Vec::from_slice(self.alloc, bytes)?)
     }
 
     /// The bytes that may be of a name.
@@ -119,8 +142,8 @@ impl<'a> Cursor<'a> {
     }
 
     // What stands between quotes, behind the first of them.
-    fn quoted(&mut self, alloc: Global) -> Result<Vec<u8>, NotationError> {
-        let mut bytes = Vec::new(alloc);
+    fn quoted(&mut self) -> Result<Vec<u8>, NotationError> {
+        let mut bytes = Vec::new(self.alloc);
         for _ in 0..self.len() {
             match self.next()? {
                 b'"' => return Ok(bytes),

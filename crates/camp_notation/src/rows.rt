@@ -1,17 +1,10 @@
 use crate::NotationError;
 use crate::cursors::Cursor;
-use camp_prim::Named;
-use std::alloc::Global;
 
 /// What is read item by item.
 pub(crate) trait Row {
-    /// Reads one more item, in which a label may stand for a known primitive.
-    fn read_next(
-        &mut self,
-        alloc: Global,
-        known: &[Named],
-        cursor: &mut Cursor,
-    ) -> Result<(), NotationError>;
+    /// Reads one more item.
+    fn read_next(&mut self, cursor: &mut Cursor) -> Result<(), NotationError>;
 }
 
 /// What stands before the items of a row, and behind them.
@@ -31,12 +24,20 @@ pub(crate) const CURLY: Brackets = Brackets {
     close: '}',
 };
 
-/// Reads the items of a row: between brackets, with a comma and a blank between two.
-pub(crate) fn read_row<R: Row>(
+/// A row with the items that are read: between brackets, with a comma and a blank between two.
+pub(crate) fn read_row<R: Row + Drop>(
+    row: R,
+    brackets: Brackets,
+    cursor: &mut Cursor,
+) -> Result<R, NotationError> {
+    let mut row = row;
+    let read = read_into(&mut row, brackets, cursor);
+    kept(row, read)
+}
+
+fn read_into<R: Row>(
     row: &mut R,
     brackets: Brackets,
-    alloc: Global,
-    known: &[Named],
     cursor: &mut Cursor,
 ) -> Result<(), NotationError> {
     cursor.expect_sign(brackets.open)?;
@@ -44,7 +45,7 @@ pub(crate) fn read_row<R: Row>(
         return Ok(());
     }
     for _ in 0..cursor.len() {
-        row.read_next(alloc, known, cursor)?;
+        row.read_next(cursor)?;
         if cursor.take_sign(brackets.close) {
             return Ok(());
         }

@@ -1,8 +1,10 @@
 -- What a reader answers: what the definitions say, unless memory ran out.
-use Rattle.std.specs.Prelude.{◌≡◌, Result, Ok, Err}
+use Rattle.std.specs.Prelude.{◌≡◌, ◌≢◌, ℕ, List, Result, Ok, Err, IfOk}
+use Rattle.std.specs.declared.alloc.AllocError.{AllocError}
 use Rattle.camp_script.specs.declared.faults.LineFault.{LineFault}
 use Rattle.camp_script.specs.declared.faults.ScriptFault.{ScriptFault}
 use Rattle.camp_script.specs.declared.faults.ScriptFault.TheVariants.{Line, Memory, Write}
+use Rattle.camp_script.specs.Words.{path_at}
 
 -- a fault of a line is the one that reading comes to; a want of memory says nothing; `Write` never comes, since nothing
 -- is written
@@ -21,19 +23,26 @@ abbrev pub HasNoFault : {A : Type 0} → Result A LineFault → Type 0
 HasNoFault (Ok value) = Unit {0}
 HasNoFault (Err fault) = ⊥
 
--- a fault of a line is the one that reading it comes to; memory runs out only for a line without a fault
+-- a fault of a line is the one that reading it comes to; memory runs out only for a line without a fault; `Write` never comes
 abbrev pub IsFaultFirst : {A : Type 0} → ScriptFault → Result A LineFault → Type 0
 IsFaultFirst (Line fault) reading = reading ≡ Err fault
 IsFaultFirst Memory reading = HasNoFault reading
 IsFaultFirst Write reading = ⊥
 
--- an answer to a line is what reading it comes to: just its value, or its fault, unless memory ran out for it
+-- as `Gives`, but memory runs out only where reading comes to no fault
 abbrev pub GivesFaultFirst : {A : Type 0} → Result A ScriptFault → Result A LineFault → Type 0
 GivesFaultFirst (Ok value) reading = reading ≡ Ok value
 GivesFaultFirst (Err fault) reading = IsFaultFirst fault reading
 
--- a reader that changes in place advances as reading says: it is just what reading comes to, or its answer is the fault,
--- unless memory ran out for the line
+-- a step that changes the reader in place: behind `Ok` the reader is just what reading comes to; a fault is the one that
+-- reading comes to, and memory runs out only where it comes to none; behind a fault nothing is said of the reader, which
+-- is dropped
 abbrev pub Advances : {A : Type 0} → Result (Unit {0}) ScriptFault → A → Result A LineFault → Type 0
 Advances (Ok done) new reading = reading ≡ Ok new
 Advances (Err fault) new reading = IsFaultFirst fault reading
+
+-- for a word that is a path the answer is `Ok`, with the path or the want of memory inside; for any other word it is the
+-- fault: so memory is never wanted outside, and the tests behind this one may come first
+abbrev pub GivesPath : Result (Result (List ℕ) AllocError) ScriptFault → ℕ → List ℕ → Type 0
+GivesPath (Ok made) line word = (path_at line word ≡ Ok word) × IfOk made (λ path. path ≡ word)
+GivesPath (Err fault) line word = IsFaultFirst fault (path_at line word) × (fault ≢ Memory)

@@ -1,8 +1,7 @@
 //! How far a script is read, and what the pieces of lines do to it.
-ghost use Rattle.std.specs.Prelude.{◌≡◌, ◌≢◌, false, true, IfErr, IfOk, Ok};
+ghost use Rattle.std.specs.Prelude.{◌≡◌, false, true, IfErr, IfOk, Ok};
 ghost use Rattle.camp_call.specs.Calls.{is_writing};
-ghost use Rattle.camp_script.specs.Words.{path_at};
-ghost use Rattle.camp_script.specs.Gives.{IsFaultFirst, Advances, GivesFaultFirst};
+ghost use Rattle.camp_script.specs.Gives.{Advances, GivesFaultFirst, GivesPath};
 ghost use Rattle.camp_script.specs.Reading.{is_full};
 ghost use Rattle.camp_script.specs.Inside.Progress.{start, with_call, with_record, after_call, after_client, after_record, finished};
 ghost use Rattle.camp_script.specs.declared.faults.FaultKind.TheVariants as kind;
@@ -68,10 +67,7 @@ impl Reading {
         number: u64,
         word: &[u8],
     ) -> Result<Result<Path, AllocError>, ScriptFault>
-        ensures passed { IfOk result (λ _. path_at number word.now ≡ Ok word.now) }
-        ensures made { IfOk result (λ made. IfOk made (λ path. path ≡ word.now)) }
-        ensures fault { IfErr result (λ fault. IsFaultFirst fault (path_at number word.now)) }
-        ensures told { IfErr result (λ fault. fault ≢ ScriptFault.Memory) }
+        ensures { GivesPath result number word.now }
     {
         match self.last_path() {
             Some(path) if path.bytes() == word => Ok(path.try_clone()),

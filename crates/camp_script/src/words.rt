@@ -2,8 +2,8 @@
 ghost use Rattle.std.specs.Prelude.{◌≡◌, ◌≢◌, ◌≤◌, IfErr, IfOk, List, Ok, length, map, ℕ};
 ghost use Rattle.std.specs.List.{list_all};
 ghost use Rattle.camp_base.specs.Signs.{is_digit};
-ghost use Rattle.camp_script.specs.Words.{no_words, one_word, two_words, three_words, name_at, names_at, path_at, number_at, value_of, is_line_number};
-ghost use Rattle.camp_script.specs.Gives.{Gives, GivesFaultFirst, IsFaultFirst};
+ghost use Rattle.camp_script.specs.Words.{no_words, one_word, two_words, three_words, name_at, names_at, number_at, value_of, is_line_number};
+ghost use Rattle.camp_script.specs.Gives.{Gives, GivesFaultFirst, GivesPath, IsFaultFirst};
 
 use crate::faults::{FaultKind, ScriptFault, at_line};
 use crate::lines::Words;
@@ -109,10 +109,7 @@ pub fn path_at(
     number: u64,
     word: &[u8],
 ) -> Result<Result<Path, AllocError>, ScriptFault>
-    ensures passed { IfOk result (λ _. path_at number word.now ≡ Ok word.now) }
-    ensures made { IfOk result (λ made. IfOk made (λ path. path ≡ word.now)) }
-    ensures fault { IfErr result (λ fault. IsFaultFirst fault (path_at number word.now)) }
-    ensures told { IfErr result (λ fault. fault ≢ ScriptFault.Memory) }
+    ensures exact { GivesPath result number word.now }
 {
     match Path::new(alloc, word) {
         Ok(path) => Ok(Ok(path)),
