@@ -1,7 +1,7 @@
 //! Blocks of lines below the word `schedule`: how a script is run, where its seats wait for each other, and
 //! the script.
 use crate::calls::find;
-use crate::commands::{append_line, number};
+use crate::commands::{append_line, read_numbers};
 use crate::ends::{Side, play_ends};
 use crate::faults::PlayFault;
 use crate::gates::Delays;
@@ -158,9 +158,7 @@ impl Block {
 /// Up to two numbers, and 0 in place of one that is missing.
 fn numbers_of(words: &[u8]) -> Result<[u32; 2], PlayFault> {
     let mut numbers = [0; 2];
-    for (at, word) in numbers.iter_mut().zip(words.fields()) {
-        *at = number(word)?;
-    }
+    read_numbers(words, &mut numbers)?;
     Ok(numbers)
 }
 
@@ -175,14 +173,14 @@ fn counts_text(
         busy,
     } = counts?;
     let text = match task {
-        Task::Drawn => String::from_str(alloc, "each replay agrees\n")?,
+        Task::Drawn => String::from_str(alloc, "each replay agrees\n"),
         Task::Open => {
             let answers = accepted.saturating_add(refused).saturating_add(busy);
-            format!(in alloc; "{answers} answers, as they may be\n")?
+            format!(in alloc; "{answers} answers, as they may be\n")
         }
-        _ => format!(in alloc; "accepted {accepted} refused {refused} busy {busy}\n")?,
+        _ => format!(in alloc; "accepted {accepted} refused {refused} busy {busy}\n"),
     };
-    Ok(text.into_bytes())
+    Ok(text?.into_bytes())
 }
 
 /// Plays a block, again where that wanted memory, and appends what it gives.

@@ -3,7 +3,7 @@
 use crate::arguments::{End, Four, Three};
 use crate::calls::{Asked, CallLine, ask, find};
 use crate::numbers::Numbers;
-use crate::results::{Outcome, none, yes_or_no};
+use crate::results::{Outcome, joined, none, yes_or_no};
 use crate::tables::Table;
 use crate::wants::Wants;
 use NumberCall::{Insert, Show};
@@ -141,12 +141,11 @@ fn fault_words(table: &Table) -> Outcome {
     let (foreign, read, write) = (RunFault::Foreign, RunFault::Read, RunFault::Write);
     let (lock, head, script) = (LockFault::Foreign, HeadFault::BadSize, ScriptFault::Write);
     let (busy, full) = (Fault::Busy { lost: 3 }, Fault::Full);
-    let mut words = format!(in table.alloc();
+    let memory = memory_words(table.alloc())?;
+    let words = format!(in table.alloc();
         "{foreign}, {read}, {write}; {lock}; {head}; {busy}, {full}; {script}"
     )?;
-    words.push_str("; ")?;
-    words.push_str(&memory_words(table.alloc())?)?;
-    Ok(words)
+    joined(words, "; ", &memory)
 }
 
 fn memory_words(alloc: Global) -> Result<String, AllocError> {

@@ -54,6 +54,14 @@ pub(crate) fn number(word: &[u8]) -> Result<u32, PlayFault> {
     }
 }
 
+/// The numbers that words tell, as many as there is room for; one that is missing stays as it is.
+pub(crate) fn read_numbers(words: &[u8], numbers: &mut [u32]) -> Result<(), PlayFault> {
+    for (at, word) in numbers.iter_mut().zip(words.fields()) {
+        *at = number(word)?;
+    }
+    Ok(())
+}
+
 impl<'a> Command<'a> {
     /// The call of the command. Each `%` of its first line stands for how often it was asked.
     pub(crate) fn call(self, alloc: Global, time: u32) -> Result<Call, PlayFault> {

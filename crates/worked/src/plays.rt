@@ -1,6 +1,6 @@
 use crate::blocks::play_block;
 use crate::calls::find;
-use crate::commands::{command_of, number};
+use crate::commands::{command_of, number, read_numbers};
 use crate::entries::{SCHEDULE, is_command, is_run};
 use crate::faults::PlayFault;
 use crate::runs::{append_again, joined, run, run_of};
@@ -239,16 +239,11 @@ impl Stage {
 
 const NO_LINE: PlayFault = PlayFault::Wrong("no such line");
 
+/// The sizes of a head, and 0 in place of one that is missing.
 fn sizes_of(words: &[u8]) -> Result<[u32; 4], PlayFault> {
-    let (seats, rest) = words.split_once_str(b" ").ok_or(NO_LINE)?;
-    let (per_seat, rest) = rest.split_once_str(b" ").ok_or(NO_LINE)?;
-    let (tries, every) = rest.split_once_str(b" ").ok_or(NO_LINE)?;
-    Ok([
-        number(seats)?,
-        number(per_seat)?,
-        number(tries)?,
-        number(every)?,
-    ])
+    let mut sizes = [0; 4];
+    read_numbers(words, &mut sizes)?;
+    Ok(sizes)
 }
 
 fn echo_again(alloc: Global, entry: &[&[u8]], wants: &mut Wants) -> Result<Vec<u8>, AllocError> {

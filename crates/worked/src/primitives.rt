@@ -246,15 +246,14 @@ fn apply_primitive(table: &Table, p: &Named, before: &Tree) -> Outcome {
 /// The two as they stand after an exchange; both as they were where they can't change places.
 fn exchanged(table: &Table, p: &Named, q: &Named) -> Outcome {
     match p.try_clone() {
-        Ok(first) => exchanged_with(table, first, q),
+        Ok(mut first) => exchanged_with(table, &mut first, q),
         Err(_) => Err(NotationError::Memory),
     }
 }
 
-fn exchanged_with(table: &Table, first: Named, q: &Named) -> Outcome {
-    let mut first = first;
+fn exchanged_with(table: &Table, first: &mut Named, q: &Named) -> Outcome {
     match q.try_clone() {
-        Ok(mut second) => exchanged_here(table, &mut first, &mut second),
+        Ok(mut second) => exchanged_here(table, first, &mut second),
         Err(_) => Err(NotationError::Memory),
     }
 }
