@@ -76,7 +76,7 @@ with_zeros (byte ∷ bytes) count (suc i) = with_zeros bytes count i
 are_name_bytes : (bytes : List ℕ) → IsTrue (is_name bytes) → AreNameBytes bytes
 are_name_bytes bytes form = grind (arith, nat_tests)
 
--- names by the numbers that their first eight bytes spell
+-- names are in the order of the numbers that their first eight bytes spell, where these are different
 pub in_order_by_heads : (name other : List ℕ) (head other_head : ℕ) → IsTrue (is_name name) → IsTrue (is_name other) → head ≡ spelt 8 0 name → other_head ≡ spelt 8 0 other → head ≢ other_head → nat_cmp head other_head ≡ slice_cmp nat_cmp name other
 in_order_by_heads name other head other_head form other_form is other_is differ =
     subst (λ h. h ≢ other_head → nat_cmp h other_head ≡ slice_cmp nat_cmp name other) (sym is)

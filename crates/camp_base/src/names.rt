@@ -89,7 +89,8 @@ impl Name {
         &self.buffer[..self.len as usize]
     }
 
-    // The number that the first eight bytes spell: where those of two names differ, they order them.
+    // The number that the first eight bytes spell, zeros behind a shorter name. No byte of a name is zero, so where two names
+    // have different numbers, these order them.
     fn head(&self) -> u64
         ensures value { result ≡ spelt 8 0 self.now }
         ensures form { IsTrue (is_name self.now) }

@@ -2,6 +2,8 @@
 pub use Rattle.std.proofs.Common.{Err, IfOk, IsSome, List, MatchOption, None, Ok, Option, Result, Some, [], add-one, add-zero, ap, append_assoc, arith, below_more, cond, count_by, drop, eq-eqb, false, get_or, inl, inr, is_some, length, map, min, refl, replicate, subst, suc, sym, take, true, zero, zero-add, ℕ, ◌++◌, ◌+◌, ◌<◌, ◌==◌, ◌∙◌, ◌∷◌, ◌≡◌, ◌≤◌, ◌⊎◌}
 pub use Rattle.std.proofs.lemmas.Bool.{cases_lt}
 pub use Rattle.std.proofs.lemmas.Bool.Decides.{eqb_tells}
+-- goals that `search` fails at and `grind` proves have `grind` as their answer where the search takes long
+pub use Rattle.std.proofs.lemmas.Grind.{common_steps}
 pub use Rattle.std.proofs.lemmas.List.{append-nil, append_cancel_left, length-append, length-map, length-take-le, take_more}
 pub use Rattle.std.proofs.lemmas.List.Elements.{All-cons, All-nil, All-same, All-weaker}
 pub use Rattle.std.specs.List.{All, AllByRecursion, AllZip, range_with_len, remove}

@@ -1,4 +1,4 @@
--- How a name lies in its buffer.
+-- How a name lies in its buffer, and the number that its first bytes spell.
 use Rattle.std.specs.Prelude.{◌≡◌, ℕ, zero, suc, ◌+◌, ◌-◌, ◌*◌, IsTrue, List, [], ◌∷◌, ◌++◌, length, take, replicate}
 use Rattle.camp_base.specs.Bytes.{is_name}
 use Rattle.camp_base.specs.Limits.{longest_name}
@@ -13,7 +13,8 @@ pub record IsPadded (name : Inside) : Type 0 where
   pub form : IsTrue (is_name (take name.len name.buffer))
   pub padding : padded (take name.len name.buffer) ≡ name
 
--- the number that so many bytes spell behind a number, the first of them the greatest digit: zeros where there are no more
+-- a number continued by so many digits of base 256: the next bytes, the first the most significant, and zeros where the list
+-- has ended; `spelt 8 0 name` is the number that a name's first eight bytes spell
 abbrev pub spelt : ℕ → ℕ → List ℕ → ℕ
 spelt zero sum bytes = sum
 spelt (suc n) sum [] = spelt n (sum * 256) []

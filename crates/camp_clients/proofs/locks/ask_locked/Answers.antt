@@ -1,4 +1,4 @@
-use Rattle.camp_clients.proofs.Words.{SaysSomewhere}
+use Rattle.camp_clients.proofs.Words.{SaysSomewhere, arith, common_steps}
 use Rattle.camp_clients.proofs.Gathering.{zip_more}
 use Rattle.camp_clients.proofs.locks.ask_locked.Goals as goal
 
@@ -8,3 +8,6 @@ loop-call-preserved g c =
     rw (c.in_ok-push.ensures.items, kept.0)
     (zip_more (SaysSomewhere g.State.Object.object) c.args.calls.now c.loop-call.call-index c.call-item.result c.loop-call-test.true c.call-item.is
     c.loop-call.answers.items c.ask_once.result c.loop-call.invariant (c.ask_once.ensures kept.1))
+
+pub returns : goal.returns
+returns g c = grind (arith, common_steps)

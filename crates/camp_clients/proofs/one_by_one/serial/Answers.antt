@@ -1,4 +1,4 @@
-use Rattle.camp_clients.proofs.Words.{[], take, zero-add, arith, length-take-le, lists_of}
+use Rattle.camp_clients.proofs.Words.{[], take, zero-add, arith, length-take-le, lists_of, common_steps}
 use Rattle.camp_clients.proofs.Fronts.{one_by_one_push}
 use Rattle.camp_clients.proofs.Vectors.{lists_more, lists_push, length-lists_of}
 use Rattle.camp_clients.proofs.one_by_one.serial.Goals as goal
@@ -13,3 +13,6 @@ loop-seat-preserved g c =
     (one_by_one_push g.State.Object.object 0 [] (lists_of (take c.loop-seat.seat c.args.sections.now)) (lists_of c.loop-seat.answers.items) c.loop-seat.book
     c.index-sections-seat.result.items c.in_ok-at_seat.field-0.items c.at_seat.new.book c.loop-seat.invariant
     (rw (zero-add, length-lists_of, length-take-le c.loop-seat.seat c.args.sections.now (omega arith), ← c.deref.ensures.value) c.in_ok-at_seat.ensures))
+
+pub returns : goal.returns
+returns g c = grind (arith, common_steps)

@@ -1,4 +1,4 @@
-use Rattle.camp_clients.proofs.Words.{◌∙◌, front_front}
+use Rattle.camp_clients.proofs.Words.{◌∙◌, front_front, arith, common_steps}
 use Rattle.camp_clients.proofs.Fronts.{section_grows, section_more, room_more}
 use Rattle.camp_clients.proofs.sections.ask_all.Goals as goal
 
@@ -29,3 +29,6 @@ loop-call-preserved g c =
 
 pub returns-clause-grows : goal.returns-clause-grows
 returns-clause-grows g c = section_grows g.State.Object.object _ _ _ _ _ c.loop-call.invariant.section
+
+pub returns-clause-section : goal.returns-clause-section
+returns-clause-section g c = grind (arith, common_steps)

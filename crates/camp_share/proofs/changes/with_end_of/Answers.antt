@@ -1,4 +1,4 @@
-use Rattle.camp_share.proofs.Words.{sym, ap, subst, ◌∙◌, arith, Vec, take, All, All-append, All-drop, joined, IsPart}
+use Rattle.camp_share.proofs.Words.{sym, ap, subst, ◌∙◌, arith, Vec, take, All, All-append, All-drop, joined, IsPart, common_steps}
 use Rattle.camp_share.proofs.PartLemmas.{parts_fewer, length_grown, joined_between, pushed_behind}
 use Rattle.camp_share.proofs.changes.with_end_of.Goals as goal
 
@@ -15,3 +15,21 @@ returns-clause-items g c =
 pub returns-clause-parts : goal.returns-clause-parts
 returns-clause-parts g c =
     subst (All IsPart) (sym c.in_ok-push_rest.ensures) (All-append IsPart _ _ c.in_ok-push_as_parts.ensures.parts (All-drop IsPart _ _ c.requires.parts))
+
+pub offset_bounds-deref-place : goal.offset_bounds-deref-place
+offset_bounds-deref-place c = grind (arith, common_steps)
+
+pub slice_bounds-append_copies-count : goal.slice_bounds-append_copies-count
+slice_bounds-append_copies-count c = grind (arith, common_steps)
+
+pub slice_bounds-append_copies-start : goal.slice_bounds-append_copies-start
+slice_bounds-append_copies-start c = grind (arith, common_steps)
+
+pub push_as_parts-requires-clause-parts : goal.push_as_parts-requires-clause-parts
+push_as_parts-requires-clause-parts c κs = grind (arith, common_steps)
+
+pub push_as_parts-requires-clause-some : goal.push_as_parts-requires-clause-some
+push_as_parts-requires-clause-some c = grind (arith, common_steps)
+
+pub push_as_parts-requires-clause-few : goal.push_as_parts-requires-clause-few
+push_as_parts-requires-clause-few c = grind (arith, common_steps)

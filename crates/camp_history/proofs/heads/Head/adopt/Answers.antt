@@ -1,4 +1,4 @@
-use Rattle.camp_history.proofs.Words.{◌≡◌, sym, ◌∙◌, subst, GoesOn, SeesMore}
+use Rattle.camp_history.proofs.Words.{◌≡◌, sym, ◌∙◌, subst, GoesOn, SeesMore, arith, elements}
 use Rattle.camp_history.proofs.Versioned.{adopting_more}
 use Rattle.camp_history.proofs.heads.Head.adopt.Goals as goal
 
@@ -12,3 +12,6 @@ returns-clause-more g c =
     in
     let counted : SeesMore old c.count_version.new.self = subst (SeesMore old) (sym c.count_version.ensures) more in
     rw (← c.longest.ensures.same) counted
+
+pub returns-clause-of : goal.returns-clause-of
+returns-clause-of g c = grind (arith, elements)

@@ -1,4 +1,4 @@
-use Rattle.camp_history.proofs.Words.{◌≡◌, ℕ, ◌<◌, length, Option, None, Some, Result, Ok, Err, ap, ◌∙◌, subst, own, history_of, SeesMore, LosesOne, Attempts}
+use Rattle.camp_history.proofs.Words.{◌≡◌, ℕ, ◌<◌, length, Option, None, Some, Result, Ok, Err, ap, ◌∙◌, subst, own, history_of, SeesMore, LosesOne, Attempts, arith, common_steps}
 use Rattle.camp_history.proofs.Asked.{ask_later, finds_sees, loses_again, sees_more_more}
 use Rattle.camp_history.proofs.heads.Head.ask_writing.Given.{Over}
 use Rattle.camp_history.proofs.heads.Head.ask_writing.Goals as goal
@@ -37,3 +37,15 @@ loop-lost-preserved g c =
       loses = loses_again object head c.args.call.now.value c.loop-lost.lost start old lost new past.loses one follows.more (follows.whole ∙ follows.ahead);
       room = λ _. rw (← mine) one.has_room;
     }
+
+pub returns-in_err-catch_up-clause-asks : goal.returns-in_err-catch_up-clause-asks
+returns-in_err-catch_up-clause-asks g c = grind (arith, common_steps)
+
+pub loop-lost-init : goal.loop-lost-init
+loop-lost-init g c = grind (arith, common_steps)
+
+pub returns-in_err-follow-in-Ok-None-clause-asks : goal.returns-in_err-follow-in-Ok-None-clause-asks
+returns-in_err-follow-in-Ok-None-clause-asks g c = grind (arith, common_steps)
+
+pub returns-clause-asks : goal.returns-clause-asks
+returns-clause-asks g c = grind (arith, common_steps)

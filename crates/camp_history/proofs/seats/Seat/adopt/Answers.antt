@@ -1,4 +1,4 @@
-use Rattle.camp_history.proofs.Words.{length-map, IsFront, replay, front_self, Leads, asked, news, GoesOn, Adopts, seated, entry_of, ◌≡◌, ◌≤◌, ◌+◌, ◌++◌, Some, sym, ◌∙◌, ap, map, length, subst, arith, IsOk, is_ok, slice_range, vec_len, vec_capacity, if◌then◌else◌}
+use Rattle.camp_history.proofs.Words.{length-map, IsFront, replay, front_self, Leads, asked, news, GoesOn, Adopts, seated, entry_of, ◌≡◌, ◌≤◌, ◌+◌, ◌++◌, Some, sym, ◌∙◌, ap, map, length, subst, arith, IsOk, is_ok, slice_range, vec_len, vec_capacity, if◌then◌else◌, common_steps}
 use Rattle.camp_history.proofs.Versioned.{news_are, news_within, appended, adopts, adopted_places, adopted_below, adopted_asks}
 use Rattle.camp_history.proofs.seats.Seat.adopt.Given.{Over}
 use Rattle.camp_history.proofs.seats.Seat.adopt.Goals.{After-len-4, After-append-room}
@@ -64,3 +64,6 @@ returns-clause-ok g c =
     let adopts = adopts (seated c.self.inside) version c.append-room.new.self.items c.advance_by.new.pass c.len-4.result (goes g before) grows (count g before) c.advance_by.ensures.seen in
     let was = subst (λ seat. Adopts seat version (record { known = c.advance_by.new.pass; marks = c.append-room.new.self.items; front = version })) c.self.view_is adopts in
     subst (λ front. Adopts c.args.self.now version (record { known = c.advance_by.new.pass; marks = c.append-room.new.self.items; front = front })) (sym front) was
+
+pub copied-requires-clause-range : goal.copied-requires-clause-range
+copied-requires-clause-range g c = grind (arith, common_steps)

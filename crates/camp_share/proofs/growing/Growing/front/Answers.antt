@@ -1,4 +1,4 @@
-use Rattle.camp_share.proofs.Words.{◌++◌, take, Vec, ap, ◌∙◌, arith, joined}
+use Rattle.camp_share.proofs.Words.{◌++◌, take, Vec, ap, ◌∙◌, arith, joined, common_steps}
 use Rattle.camp_share.proofs.PartLemmas.{front_cut, front_whole, length_told}
 use Rattle.camp_share.proofs.growing.Growing.front.Goals as goal
 
@@ -16,3 +16,15 @@ returns g c =
     ∙ ap (λ xs. joined (take c.loop-part.part-index c.deref-part-items.result.now) ++ xs) c.in_ok-last-2.ensures
     ∙ front_whole _ c.self.inside.last.items c.loop-part.part-index c.args.count c.loop-part.left c.loop-part.invariant.left (omega arith)
     ∙ ap (λ ps. take c.args.count (joined ps ++ c.self.inside.last.items)) c.deref-part-items.ensures.value ∙ ap (take c.args.count) c.self.view_is
+
+pub invariant_of-result : goal.invariant_of-result
+invariant_of-result c = grind (arith, common_steps)
+
+pub loop-part-preserved : goal.loop-part-preserved
+loop-part-preserved c = grind (arith, common_steps)
+
+pub first_of-requires-2 : goal.first_of-requires-2
+first_of-requires-2 c = grind (arith, common_steps)
+
+pub invariant_of-result-2 : goal.invariant_of-result-2
+invariant_of-result-2 c = grind (arith, common_steps)
