@@ -1,5 +1,5 @@
 -- Lemmas on the answers to a call at a seat.
-use Rattle.camp_history.proofs.Words.{length-append, append-nil, append_assoc, map-append, All-same, Where, Shows, Sequential, IsLawfulObject, Decides, Next, Answer, Fault, Memory, front_self, HeadId, Seated, asked, history_of, IsSeatOf, caller_at, Mark, ◌≡◌, ◌≢◌, ℕ, suc, ◌+◌, ◌<◌, ◌≤◌, true, false, List, [], ◌∷◌, ◌++◌, length, map, All, Option, None, Some, Result, Ok, Err, IsErrAnd, refl, sym, ◌∙◌, ap, subst, arith, add-one, IsFront, replay, IsLegal, IsAccepted, own, Caller, Ask, AddsNothing, Loses, IsNotBusy, replay_accepted, accepted_at, some_is_some, ask_done, ask_memory, ask_since, loses_more, never_busy_among_own, entry_of, entries_of, DecidesAt, SeesMore, FindsMore, Publishes, LosesOne, Attempts}
+use Rattle.camp_history.proofs.Words.{length-append, append-nil, append_assoc, map-append, All-same, Where, Shows, Sequential, IsLawfulObject, Next, Fault, Memory, front_self, HeadId, Seated, asked, history_of, IsSeatOf, caller_at, Mark, ◌≡◌, ℕ, suc, ◌+◌, ◌<◌, false, List, [], ◌∷◌, ◌++◌, length, map, All, Option, Some, Result, Ok, Err, IsErrAnd, refl, sym, ◌∙◌, ap, subst, arith, add-one, IsFront, replay, IsLegal, IsAccepted, own, Caller, Ask, AddsNothing, Loses, IsNotBusy, replay_accepted, accepted_at, ask_done, ask_memory, ask_since, loses_more, never_busy_among_own, entry_of, entries_of, DecidesAt, SeesMore, FindsMore, Publishes, LosesOne, Attempts}
 pub use Rattle.camp_history.proofs.Seeing.{all_more, history_front, history_more, sees_more_more, sees_more_self}
 
 -- a seat that sees more adds nothing of its own

@@ -1,5 +1,5 @@
 -- Lemmas on two seats that have seen parts of one chain.
-use Rattle.camp_history.proofs.Words.{IsFront, IsSound, Entry, Seated, asked, history_of, Mark, entry_of, entries_of, ◌≡◌, ℕ, zero, suc, ◌+◌, ◌<◌, ◌≤◌, List, [], ◌∷◌, ◌++◌, length, map, All, Option, None, Some, option_map, slice_get, refl, sym, ◌∙◌, ap, subst, arith, slice_get-map, slice_get_within, get_or_from_slice_get, same_Some}
+use Rattle.camp_history.proofs.Words.{IsFront, IsSound, Entry, Seated, asked, Mark, entry_of, entries_of, ◌≡◌, ℕ, zero, suc, ◌<◌, ◌≤◌, List, [], ◌∷◌, ◌++◌, length, map, All, Some, option_map, slice_get, refl, sym, ◌∙◌, ap, subst, arith, slice_get-map, slice_get_within, get_or_from_slice_get, same_Some}
 use Rattle.camp_row.specs.Chains as chain
 
 pub all_at : {X : Type 0} (P : X → Type 0) (list : List X) (i : ℕ) (x : X) → slice_get list i ≡ Some x → All P list → P x

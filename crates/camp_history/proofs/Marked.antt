@@ -1,5 +1,5 @@
 -- Lemmas on the marks of a seat.
-use Rattle.camp_history.proofs.Words.{map-append, own, turns, asked, entry_of, Mark, ◌≡◌, ℕ, ◌+◌, ◌<◌, Bool, true, false, List, [], ◌∷◌, ◌++◌, length, map, filter, cond, suc, refl, sym, ◌∙◌, ap, arith, ◌==◌, if◌then◌else◌}
+use Rattle.camp_history.proofs.Words.{map-append, own, turns, asked, entry_of, Mark, ◌≡◌, ℕ, true, false, List, [], ◌∷◌, ◌++◌, length, map, filter, cond, suc, refl, ap, ◌==◌, if◌then◌else◌}
 
 -- a seat has as many calls as it has entries
 pub length-own : {Call : Type 0} (seat : ℕ) (marks : List (Mark Call)) → length (own seat (map asked marks)) ≡ turns seat (map entry_of marks)

@@ -1,5 +1,5 @@
 -- Lemmas on seats that meet.
-use Rattle.camp_history.proofs.Words.{IsFront, own, Fault, Memory, Seated, asked, history_of, entry_of, entries_of, SeesMore, ◌≡◌, ℕ, zero, suc, ◌+◌, ◌≤◌, ◌⊎◌, inl, inr, List, [], ◌∷◌, ◌++◌, length, map, Result, Ok, Err, OnOk, IfErr, refl, sym, ◌∙◌, ap, subst, arith, length-map, length-append, append-nil, nil_from_length, own-append, front_front, front_shorter, length-front, FindsChain}
+use Rattle.camp_history.proofs.Words.{IsFront, own, Fault, Memory, Seated, asked, history_of, entry_of, entries_of, SeesMore, ◌≡◌, ℕ, zero, suc, ◌≤◌, ◌⊎◌, inl, inr, List, [], ◌++◌, length, map, Result, OnOk, IfErr, sym, ◌∙◌, ap, subst, arith, length-map, length-append, append-nil, nil_from_length, own-append, front_front, front_shorter, FindsChain}
 use Rattle.camp_row.specs.Chains as chain
 use Rattle.camp_history.specs.Meeting.{Meets}
 use Rattle.camp_history.proofs.Seeing.{history_front, length-own}

@@ -1,5 +1,5 @@
 -- Lemmas on versions: how they are tied to a store, and how one goes on from what a seat has seen.
-use Rattle.camp_history.proofs.Words.{splice, same_Some, Sequential, IsFront, replay, own, Known, Leads, IsSound, Entry, HeadId, Seated, asked, history_of, IsSeatOf, ids, IsIn, news, list_of, made_of, GoesOn, Adopts, Mark, entry_of, entries_of, SeesMore, ◌≡◌, ℕ, zero, suc, ◌+◌, ◌-◌, ◌<◌, ◌≤◌, List, [], ◌∷◌, ◌++◌, length, map, take, drop, slice_get, slice_range, slice_index_or, All, Result, Ok, Err, OnOk, OnErr, IsOk, is_ok, if◌then◌else◌, Option, None, Some, IfSome, refl, sym, ◌∙◌, ap, subst, arith, append-nil, append_assoc, length-append, length-map, map-append, take-append-drop, take_all, take_more, take_rest, drop_all, take_at, drop_at, drop-drop, drop-map, All-append, All-drop, All-push, All-same, All-weaker, Shelves, Where, Shows}
+use Rattle.camp_history.proofs.Words.{splice, same_Some, IsFront, own, Known, Leads, IsSound, Entry, HeadId, Seated, asked, history_of, IsSeatOf, ids, IsIn, news, list_of, made_of, GoesOn, Adopts, Mark, entry_of, entries_of, SeesMore, ◌≡◌, ℕ, zero, suc, ◌+◌, ◌-◌, ◌<◌, ◌≤◌, List, [], ◌∷◌, ◌++◌, length, map, take, drop, slice_get, slice_range, slice_index_or, All, Result, Ok, Err, OnOk, OnErr, IsOk, is_ok, if◌then◌else◌, Option, None, Some, IfSome, refl, sym, ◌∙◌, ap, subst, arith, append-nil, append_assoc, length-append, length-map, map-append, take-append-drop, take_all, take_more, take_rest, drop_all, take_at, drop_at, drop-drop, drop-map, All-append, All-drop, All-push, All-same, All-weaker, Shelves, Where, Shows}
 use Rattle.std.proofs.lemmas.Bool.{false≢true}
 use Rattle.boxcar.specs.Slot.{Named}
 use Rattle.camp_row.specs.Chains as chain

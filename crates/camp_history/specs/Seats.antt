@@ -1,9 +1,8 @@
 -- What contracts see of a head and of its seats.
-use Rattle.std.specs.Prelude.{◌≡◌, ℕ, false, List, [], map, All, ◌<◌}
+use Rattle.std.specs.Prelude.{◌≡◌, ℕ, false, List, [], map, All}
 use Rattle.boxcar.specs.Table.{Shelves, Shows}
 use Rattle.camp_object.specs.Asking.{Caller}
 use Rattle.camp_row.specs.Known.{RowId, Known}
-use Rattle.camp_row.specs.declared.entries.Entry.{Entry}
 use Rattle.camp_history.specs.declared.marks.Mark.{Mark}
 
 -- which head it is: its row of words, its store of calls, and how many exchanges a call loses at most

@@ -1,5 +1,5 @@
 -- When every list that swaps of neighbours make of a list is in range.
-use Rattle.std.specs.Prelude.{◌^◌, ◌≤◌, List, [], ◌∷◌}
+use Rattle.std.specs.Prelude.{◌≤◌, List, [], ◌∷◌}
 use Rattle.std.specs.List.{All}
 use Rattle.camp_base.specs.Limits.{greatest_reach}
 use Rattle.camp_prim.specs.Effect.{InRange}

@@ -1,10 +1,9 @@
 -- How a seat lies in its fields.
-use Rattle.std.specs.Prelude.{◌≡◌, ℕ, ◌<◌, List, map, All, Some}
+use Rattle.std.specs.Prelude.{◌≡◌, ◌<◌, map, All, Some}
 use Rattle.camp_object.specs.Objects.{Sequential}
 use Rattle.camp_object.specs.Histories.{IsFront, replay}
 use Rattle.camp_history.specs.Inside.Steps.{entry_of}
 use Rattle.camp_history.specs.Seats.{Seated, asked}
-use Rattle.camp_history.specs.declared.marks.Mark.{Mark}
 use Rattle.camp_history.specs.declared.seats.Seat.TheInside.{Inside}
 
 abbrev pub seated : {State Call Reply : Type 0} → Inside State Call Reply → Seated Call

@@ -1,4 +1,4 @@
-use Rattle.camp_history.proofs.Words.{◌≡◌, [], ◌∷◌, ◌++◌, map, All, sym, ap, ◌∙◌, append_assoc, All-rest, unseen}
+use Rattle.camp_history.proofs.Words.{◌≡◌, [], ◌∷◌, ◌++◌, map, sym, ap, ◌∙◌, append_assoc, All-rest, unseen}
 use Rattle.camp_history.proofs.Marked.{map_more}
 use Rattle.camp_history.proofs.heads.seats_of.Goals as goal
 

@@ -1,4 +1,4 @@
-use Rattle.camp_seq.proofs.Words.{◌≡◌, List, Err, ◌∙◌, subst, arith, AnswersByTrial, Named, AppliesAll, here}
+use Rattle.camp_seq.proofs.Words.{◌≡◌, List, Err, ◌∙◌, subst, arith, AnswersByTrial, Named, AppliesAll}
 use Rattle.std.proofs.lemmas.Result.{err_from_is_err_and}
 use Rattle.camp_seq.proofs.ListRuns.{run_stops}
 use Rattle.camp_seq.proofs.runs.apply_all.Goals as goal

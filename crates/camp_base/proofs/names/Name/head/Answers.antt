@@ -1,4 +1,4 @@
-use Rattle.camp_base.proofs.Words.{◌≡◌, ◌∙◌}
+use Rattle.camp_base.proofs.Words.{◌∙◌}
 use Rattle.camp_base.proofs.NameLemmas.{head_spelt}
 use Rattle.camp_base.proofs.names.Name.head.Goals as goal
 

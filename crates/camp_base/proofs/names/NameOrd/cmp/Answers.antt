@@ -1,4 +1,4 @@
-use Rattle.camp_base.proofs.Words.{◌≡◌, ◌∙◌}
+use Rattle.camp_base.proofs.Words.{◌∙◌}
 use Rattle.camp_base.proofs.NameLemmas.{in_order_by_heads}
 use Rattle.camp_base.proofs.names.NameOrd.cmp.Goals as goal
 

@@ -1,4 +1,4 @@
-use Rattle.camp_history.proofs.Words.{◌≡◌, sym, ◌∙◌, subst, GoesOn, SeesMore, arith, elements}
+use Rattle.camp_history.proofs.Words.{sym, subst, GoesOn, SeesMore, arith, elements}
 use Rattle.camp_history.proofs.Versioned.{adopting_more}
 use Rattle.camp_history.proofs.heads.Head.adopt.Goals as goal
 

@@ -1,6 +1,5 @@
-use Rattle.camp_history.proofs.Words.{◌≡◌, ℕ, ◌<◌, length, Option, None, Some, Result, Ok, Err, ap, ◌∙◌, subst, own, history_of, SeesMore, LosesOne, Attempts, arith, common_steps}
+use Rattle.camp_history.proofs.Words.{◌≡◌, Some, Ok, Err, ap, ◌∙◌, own, history_of, SeesMore, LosesOne, Attempts, arith, common_steps}
 use Rattle.camp_history.proofs.Asked.{ask_later, finds_sees, loses_again, sees_more_more}
-use Rattle.camp_history.proofs.heads.Head.ask_writing.Given.{Over}
 use Rattle.camp_history.proofs.heads.Head.ask_writing.Goals as goal
 
 pub returns-in-Ok-Some-clause-asks : goal.returns-in-Ok-Some-clause-asks

@@ -1,4 +1,4 @@
-use Rattle.camp_history.proofs.Words.{ℕ, ◌<◌, length, IsLegal, own, Loses, IsSeatOf, history_of, SeesMore}
+use Rattle.camp_history.proofs.Words.{◌<◌, length, IsLegal, own, Loses, IsSeatOf, history_of, SeesMore}
 use Rattle.camp_history.proofs.heads.Head.ask_writing.Given as goal
 
 abbrev pub invariant-loop-lost : goal.invariant-loop-lost

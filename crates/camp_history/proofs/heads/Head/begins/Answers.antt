@@ -1,4 +1,4 @@
-use Rattle.camp_history.proofs.Words.{◌≡◌, refl, sym, ◌∙◌, ◌+◌, length, drop, arith, ap, All-rest, Shows, asked}
+use Rattle.camp_history.proofs.Words.{◌≡◌, refl, sym, ◌∙◌, length, arith, ap, All-rest, Shows, asked}
 use Rattle.camp_history.proofs.Versioned.{begins_step, drop_step}
 use Rattle.camp_history.proofs.heads.Head.begins.Goals as goal
 

@@ -1,5 +1,4 @@
-use Rattle.camp_history.proofs.Words.{length-map, Shows, asked, history_of, entry_of, entries_of, ◌≡◌, ℕ, ◌<◌, ◌≤◌, length, Some, slice_get, below_more, refl, sym, ◌∙◌, ap, arith}
-use Rattle.camp_row.specs.Chains as chain
+use Rattle.camp_history.proofs.Words.{length-map, Shows, asked, history_of, ◌≡◌, slice_get, below_more, sym, ap, arith}
 use Rattle.camp_history.proofs.Compared.{all_at, front_by_places, seen_entry, same_asked}
 use Rattle.camp_history.proofs.heads.Head.compare.Goals as goal
 

@@ -1,4 +1,4 @@
-use Rattle.camp_history.proofs.Words.{◌≡◌, [], ◌∷◌, ◌++◌, sym, ◌∙◌, ap, SeesNext}
+use Rattle.camp_history.proofs.Words.{[], ◌∷◌, ◌++◌, sym, ◌∙◌, ap, SeesNext}
 use Rattle.camp_history.proofs.Seeing.{entries_more, leads_on, sees_more_more, sees_next_more}
 use Rattle.camp_history.proofs.heads.Head.follow.Goals as goal
 

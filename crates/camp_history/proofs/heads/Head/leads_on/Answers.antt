@@ -1,4 +1,4 @@
-use Rattle.camp_history.proofs.Words.{◌≡◌, ◌≢◌, ◌<◌, ◌≤◌, ◌+◌, [], ◌∷◌, ◌++◌, sym, ◌∙◌, ap, subst, length, map, take, drop, All, List, arith, All-same, All-push, Entry, news, entry_of, Mark}
+use Rattle.camp_history.proofs.Words.{◌≡◌, ◌≢◌, ◌<◌, ◌+◌, [], ◌∷◌, ◌++◌, sym, ◌∙◌, subst, length, map, take, All, List, arith, All-same, All-push, news, entry_of, Mark}
 use Rattle.camp_row.specs.Chains as chain
 use Rattle.camp_history.proofs.Versioned.{drop_step, take_step, all_taken, one_more_comes}
 use Rattle.camp_history.proofs.heads.Head.leads_on.Goals as goal

@@ -1,4 +1,4 @@
-use Rattle.camp_history.proofs.Words.{◌≡◌, [], All, map, refl, ◌∙◌, ap, arith, All-map, All-same, HeadId, unseen, IsSeatOf, newcomer, range_with_len}
+use Rattle.camp_history.proofs.Words.{◌≡◌, [], map, refl, ◌∙◌, ap, arith, All-map, All-same, HeadId, unseen, IsSeatOf, newcomer, range_with_len}
 use Rattle.std.proofs.lemmas.Simd.{map-map}
 use Rattle.camp_history.proofs.heads.Head.new.Given.{Over}
 use Rattle.camp_history.proofs.heads.Head.new.Goals as goal

@@ -1,4 +1,4 @@
-use Rattle.camp_history.proofs.Words.{◌≡◌, ◌++◌, [], sym, ◌∙◌, ap, map, refl, subst, IsFront, front_self, asked, history_of, IsMade}
+use Rattle.camp_history.proofs.Words.{◌≡◌, sym, ◌∙◌, ap, map, subst, IsFront, front_self, asked, history_of, IsMade}
 use Rattle.camp_history.proofs.Versioned.{all_in}
 use Rattle.camp_history.proofs.heads.Head.put.Goals as goal
 

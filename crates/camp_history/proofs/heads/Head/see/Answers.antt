@@ -1,4 +1,4 @@
-use Rattle.camp_history.proofs.Words.{◌≡◌, [], Some, ℕ, ◌<◌, ◌∷◌, ◌++◌, All, length, refl, sym, ◌∙◌, ap, map, subst, arith, replay, asked, entry_of, Mark, length-map, All-same, Shows, Decides, Next, count-replay, replay_accepted, some_is_some}
+use Rattle.camp_history.proofs.Words.{◌≡◌, [], Some, ◌<◌, ◌∷◌, ◌++◌, All, refl, sym, ◌∙◌, ap, map, subst, replay, asked, entry_of, Mark, All-same, Shows, Decides, Next, replay_accepted, some_is_some}
 use Rattle.camp_history.proofs.Seeing.{entries_more, history_more, begins_more, all_more, few_marks}
 use Rattle.camp_history.proofs.heads.Head.see.Given.{Over}
 use Rattle.camp_history.proofs.heads.Head.see.Goals as goal

@@ -1,4 +1,4 @@
-use Rattle.camp_history.proofs.Words.{◌≡◌, IfSome, All, Shows, IsIn}
+use Rattle.camp_history.proofs.Words.{All, Shows, IsIn}
 use Rattle.camp_history.proofs.Versioned.{all_shown, some_weaker}
 use Rattle.camp_history.proofs.heads.Head.version_at.Goals as goal
 

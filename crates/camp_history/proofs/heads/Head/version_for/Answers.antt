@@ -1,4 +1,4 @@
-use Rattle.camp_history.proofs.Words.{◌≡◌, ◌∙◌, All, All-same, Shows, made_of}
+use Rattle.camp_history.proofs.Words.{◌∙◌, All-same, Shows, made_of}
 use Rattle.camp_history.proofs.Versioned.{made_stored}
 use Rattle.camp_history.proofs.heads.Head.version_for.Goals as goal
 

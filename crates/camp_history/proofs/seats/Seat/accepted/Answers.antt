@@ -1,4 +1,4 @@
-use Rattle.camp_history.proofs.Words.{◌≡◌, length, sym, ap, ◌∙◌, turns}
+use Rattle.camp_history.proofs.Words.{sym, ap, ◌∙◌, turns}
 use Rattle.camp_history.proofs.Marked.{length-own}
 use Rattle.camp_history.proofs.seats.Seat.accepted.Goals as goal
 

@@ -1,4 +1,4 @@
-use Rattle.camp_history.proofs.Words.{◌<◌, map, All-map, asked}
+use Rattle.camp_history.proofs.Words.{◌<◌, All-map, asked}
 use Rattle.camp_history.proofs.seats.Seat.number.Goals as goal
 
 pub returns-clause-seats_below : goal.returns-clause-seats_below

@@ -1,4 +1,4 @@
-use Rattle.camp_history.proofs.Words.{◌≡◌, [], Some, ℕ, ◌<◌, ◌∷◌, ◌++◌, All, length, refl, sym, ◌∙◌, ap, map, arith, replay, own, turns, Known, Won, drafted, with_draft, asked, history_of, entry_of, Mark}
+use Rattle.camp_history.proofs.Words.{◌≡◌, [], ◌<◌, ◌∷◌, ◌++◌, length, refl, sym, ◌∙◌, ap, map, replay, own, turns, Known, Won, drafted, with_draft, asked, history_of, entry_of, Mark}
 use Rattle.camp_history.proofs.Seeing.{entries_more, history_more, begins_more, all_more, length-own}
 use Rattle.camp_history.proofs.seats.Seat.publish.Given.{Over}
 use Rattle.camp_history.proofs.seats.Seat.publish.Goals as goal
