@@ -6,6 +6,7 @@ pub use Rattle.std.proofs.lemmas.Bool.Decides.{eqb_tells}
 pub use Rattle.std.proofs.lemmas.Grind.{common_steps}
 pub use Rattle.std.proofs.lemmas.List.{append-nil, append_cancel_left, length-append, length-map, length-take-le, take_more}
 pub use Rattle.std.proofs.lemmas.List.Elements.{All-cons, All-nil, All-same, All-weaker}
+pub use Rattle.std.proofs.lemmas.Result.{IfOk-weaker}
 pub use Rattle.std.specs.List.{All, AllByRecursion, AllZip, range_with_len, remove}
 pub use Rattle.std.specs.Prelude.{OnOk, Vec, is_err, vec_items}
 pub use Rattle.camp_clients.specs.Answers.{Asks, GoesOn, HasMemory, IsDone, IsOvertaken, SaysAlone, SaysAmongThreads, StepsAlone, told}

@@ -85,6 +85,31 @@ fn stays(met: usize, earlier: u64, now: u64) -> bool
     met == 0 || earlier == now
 }
 
+/// A seat that met so many clients meets one more, and then knows what that has seen. It has to have seen all
+/// of it before, unless the client is the first.
+fn meets_client<State: Object>(
+    head: &Head<State>,
+    known: Seat<State>,
+    client: Client<Seat<State>, State::Reply>,
+    met: usize,
+) -> Result<(Seat<State>, Client<Seat<State>, State::Reply>), AllocError>
+    requires { IsSeatOf head.now known × IsSeatOf head.now client.seat }
+    ensures seat { IfOk result (λ made. IsSeatOf head.now made.0) }
+    ensures number { IfOk result (λ made. number_of made.0 ≡ number_of known) }
+    ensures grows { IfOk result (λ made. IsFront (history_of known) (history_of made.0)) }
+    ensures own { IfOk result (λ made. own (number_of known) (history_of made.0) ≡ own (number_of known) (history_of known)) }
+    ensures stays { IfOk result (λ made. (met ≡ 0) ⊎ (length (history_of known) ≡ length (history_of made.0))) }
+    ensures client { IfOk result (λ made. IsMet (sight_of head.now) (history_of made.0) client made.1) }
+{
+    let Client { seat, answers } = client;
+    let earlier = known.position();
+    let (known, seat, answer) = head.meet(known, seat);
+    if answer.is_err() || !stays(met, earlier, known.position()) {
+        return Err(AllocError);
+    }
+    Ok((known, Client { seat, answers }))
+}
+
 /// A seat meets each client, and then knows what they have seen. Where no client's thread runs any more,
 /// it finds the whole history at the first.
 fn meets_each<State: Object>(
@@ -105,17 +130,9 @@ fn meets_each<State: Object>(
     let mut all = Vec::with_capacity(alloc, clients.len())?;
     let mut known = opener;
     for client in clients {
-        let Client { seat, answers } = client;
-        let earlier = known.position();
-        let (other, seat, met) = head.meet(known, seat);
+        let (other, client) = meets_client::<State>(head, known, client, all.len())?;
         known = other;
-        if met.is_err() {
-            return Err(AllocError);
-        }
-        if !stays(all.len(), earlier, known.position()) {
-            return Err(AllocError);
-        }
-        all.push(Client { seat, answers })?;
+        all.push(client)?;
     }
     Ok((known, all))
 }
@@ -389,7 +406,23 @@ where
     let clients = run_clients::<R, State, G>(rt, alloc, head, gate, sections, clients)?;
     let (opener, clients) = meets_each::<State>(alloc, head, opener, clients)?;
     let _number = opener.number();
-    let history = history_if::<State>(alloc, head, &opener, wants_history)?;
+    run_of::<State>(alloc, head, &opener, opening, clients, wants_history)
+}
+
+/// The answers to all sections, and what a seat has seen, if it is wanted.
+fn run_of<State: Object>(
+    alloc: Global,
+    head: &Head<State>,
+    seat: &Seat<State>,
+    opening: Answers<State>,
+    clients: Vec<Client<Seat<State>, State::Reply>>,
+    wants_history: bool,
+) -> Result<HeadRun<State>, AllocError>
+    requires { IsSeatOf head.now seat.now }
+    ensures { IfOk result (λ run. (run.answers.items ≡ opening ∷ map (λ client. client.answers) clients.items)
+        × (wants_history ≡ true → run.history.items ≡ history_of seat.now)) }
+{
+    let history = history_if::<State>(alloc, head, seat, wants_history)?;
     let answers = answers_of(alloc, opening, clients)?;
     Ok(HeadRun { answers, history })
 }

@@ -66,6 +66,15 @@ impl<State: Object> Seat<State> {
         Ok(Version { marks, state })
     }
 
+    /// The marks that a version has behind those of the seat.
+    fn news_of(&self, version: &Version<State>) -> Result<Vec<Mark<State::Call>>, AllocError>
+        requires { GoesOn self.now version.now }
+        ensures { IfOk result (λ marks. marks.items ≡ news self.now version.now) }
+    {
+        let marks = version.marks.copied(self.marks.len(), version.marks.len())?;
+        marks.to_vec()
+    }
+
     /// Takes a version over, with all that it has behind what was seen.
     fn adopt(
         &mut self,
@@ -80,17 +89,13 @@ impl<State: Object> Seat<State> {
         ensures err { OnErr result (self.new ≡ self.old) }
         ensures leads { Leads self.new.known self.new.known.seen trail.new }
     {
-        let front = version.marks.share()?;
-        let state = version.state.share()?;
-        let mut news = version
-            .marks
-            .copied(self.marks.len(), version.marks.len())?
-            .to_vec()?;
+        let mut news = self.news_of(version)?;
+        let taken = version.share()?;
         self.marks.reserve(news.len())?;
         row.advance_by(&mut self.pass, trail, news.len());
         let _room = self.marks.append(&mut news);
-        self.front = front;
-        self.state = state;
+        self.front = taken.marks;
+        self.state = taken.state;
         Ok(())
     }
 

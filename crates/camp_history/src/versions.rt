@@ -7,7 +7,7 @@ use crate::marks::Mark;
 use boxcar::slot::{OnceSlot, SlotRule};
 use boxcar::tag::{Names, Tag};
 use camp_object::Object;
-use camp_share::{Shared, SharedList};
+use camp_share::{Share, Shared, SharedList};
 use std::alloc::{AllocError, Global};
 use std::marker::Model;
 
@@ -30,6 +30,15 @@ impl<State: Object> Model for Version<State> {
     ghost view = { λ version. version.marks };
 
     ghost invariant = { λ version. replay State.object (map asked version.marks) ≡ Some version.state };
+}
+
+impl<State: Object> Share for Version<State> {
+    /// The version once more: its list and its state have one more owner each.
+    fn share(&self) -> Result<Version<State>, AllocError> {
+        let marks = self.marks.share()?;
+        let state = self.state.share()?;
+        Ok(Version { marks, state })
+    }
 }
 
 /// A version that was made before its call was accepted, and its list once more, for its seat.

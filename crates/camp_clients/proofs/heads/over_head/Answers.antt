@@ -1,4 +1,4 @@
-use Rattle.camp_clients.proofs.Words.{◌≡◌, ℕ, ◌<◌, [], length, refl, sym, ◌∙◌, ap, subst, arith, IsFront, own, Asks, IsSeatOf, history_of, sight_of, lists_of, section_of, Section, Ran, IsMet, HasMet, caller_of}
+use Rattle.camp_clients.proofs.Words.{◌≡◌, ℕ, ◌<◌, [], length, refl, sym, ◌∙◌, ap, subst, arith, IfOk-weaker, IsFront, own, Asks, IsSeatOf, history_of, sight_of, lists_of, section_of, Section, Ran, IsMet, HasMet, caller_of}
 use Rattle.camp_clients.proofs.Meeting.{can_begin, clients_hold, none_other, shared_run, zip_all, zip_length}
 use Rattle.camp_clients.proofs.Vectors.{lists_map, section_at, length-lists_of}
 use Rattle.camp_clients.proofs.heads.over_head.Goals as goal
@@ -58,8 +58,4 @@ returns g c =
     let no_other = none_other _ _ _ _ seats refl c.number-number.ensures.seats_below in
     let run = shared_run object sight tries per_seat sections opened history opening.items l3 (record { seat = opener; answers = opening })
     (omega (arith, long, c.requires.as_many, length-lists_of c.args.sections.now)) holds ran front same legal no_other in
-    record {
-      history = history;
-      shared = rw (c.in_ok-answers.ensures, lists_map) run;
-      tells = λ wanted. c.in_ok-history.ensures wanted;
-    }
+    IfOk-weaker c.run_of.result _ _ (λ made is. record { history = history; shared = rw (is.0, lists_map) run; tells = is.1 }) c.run_of.ensures
