@@ -15,16 +15,16 @@ returns-clause-items g c =
     c.with_end_of.ensures.items
 
 pub at-requires : goal.at-requires
-at-requires c = grind (arith, common_steps)
+at-requires g c = grind (arith, common_steps)
 
 pub first_of-requires : goal.first_of-requires
-first_of-requires c = grind (arith, common_steps)
+first_of-requires g c = grind (arith, common_steps)
 
 pub overflow_add-place : goal.overflow_add-place
-overflow_add-place c = grind (arith, common_steps)
+overflow_add-place g c = grind (arith, common_steps)
 
 pub with_end_of-requires-clause-within : goal.with_end_of-requires-clause-within
-with_end_of-requires-clause-within c = grind (arith, common_steps)
+with_end_of-requires-clause-within g c = grind (arith, common_steps)
 
 pub with_end_of-requires-clause-few : goal.with_end_of-requires-clause-few
-with_end_of-requires-clause-few c = grind (arith, common_steps)
+with_end_of-requires-clause-few g c = grind (arith, common_steps)

@@ -21,10 +21,10 @@ returns-clause-items g c =
     ∙ ap (λ n. take n (joined parts) ++ new ++ drop (n + gone) (joined parts)) c.behind_with_room-index.ensures.same
 
 pub is_within-requires : goal.is_within-requires
-is_within-requires c = grind (arith, common_steps)
+is_within-requires g c = grind (arith, common_steps)
 
 pub with_end_of-requires-clause-place : goal.with_end_of-requires-clause-place
-with_end_of-requires-clause-place c = grind (arith, common_steps)
+with_end_of-requires-clause-place g c = grind (arith, common_steps)
 
 pub with_end_of-requires-clause-some : goal.with_end_of-requires-clause-some
-with_end_of-requires-clause-some c = grind (arith, common_steps)
+with_end_of-requires-clause-some g c = grind (arith, common_steps)

@@ -17,19 +17,19 @@ returns-clause-parts g c =
     subst (All IsPart) (sym c.in_ok-push_rest.ensures) (All-append IsPart _ _ c.in_ok-push_as_parts.ensures.parts (All-drop IsPart _ _ c.requires.parts))
 
 pub offset_bounds-deref-place : goal.offset_bounds-deref-place
-offset_bounds-deref-place c = grind (arith, common_steps)
+offset_bounds-deref-place g c = grind (arith, common_steps)
 
 pub slice_bounds-append_copies-count : goal.slice_bounds-append_copies-count
-slice_bounds-append_copies-count c = grind (arith, common_steps)
+slice_bounds-append_copies-count g c = grind (arith, common_steps)
 
 pub slice_bounds-append_copies-start : goal.slice_bounds-append_copies-start
-slice_bounds-append_copies-start c = grind (arith, common_steps)
+slice_bounds-append_copies-start g c = grind (arith, common_steps)
 
 pub push_as_parts-requires-clause-parts : goal.push_as_parts-requires-clause-parts
-push_as_parts-requires-clause-parts c κs = grind (arith, common_steps)
+push_as_parts-requires-clause-parts g c κs = grind (arith, common_steps)
 
 pub push_as_parts-requires-clause-some : goal.push_as_parts-requires-clause-some
-push_as_parts-requires-clause-some c = grind (arith, common_steps)
+push_as_parts-requires-clause-some g c = grind (arith, common_steps)
 
 pub push_as_parts-requires-clause-few : goal.push_as_parts-requires-clause-few
-push_as_parts-requires-clause-few c = grind (arith, common_steps)
+push_as_parts-requires-clause-few g c = grind (arith, common_steps)

@@ -19,16 +19,16 @@ returns-clause-items g c =
     ∙ ap (λ xs. xs ++ drop (offset c.args.parts.now c.args.index c.args.place) (joined c.args.parts.now)) c.self.view_is
 
 pub at-part-requires : goal.at-part-requires
-at-part-requires c = grind (arith, common_steps)
+at-part-requires g c = grind (arith, common_steps)
 
 pub offset_bounds-deref-place : goal.offset_bounds-deref-place
-offset_bounds-deref-place c = grind (arith, common_steps)
+offset_bounds-deref-place g c = grind (arith, common_steps)
 
 pub slice_bounds-push_items-count : goal.slice_bounds-push_items-count
-slice_bounds-push_items-count c = grind (arith, common_steps)
+slice_bounds-push_items-count g c = grind (arith, common_steps)
 
 pub slice_bounds-push_items-start : goal.slice_bounds-push_items-start
-slice_bounds-push_items-start c = grind (arith, common_steps)
+slice_bounds-push_items-start g c = grind (arith, common_steps)
 
 pub returns-clause-within : goal.returns-clause-within
-returns-clause-within c = grind (arith, common_steps)
+returns-clause-within g c = grind (arith, common_steps)

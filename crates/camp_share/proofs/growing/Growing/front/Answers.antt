@@ -18,13 +18,13 @@ returns g c =
     ∙ ap (λ ps. take c.args.count (joined ps ++ c.self.inside.last.items)) c.deref-part-items.ensures.value ∙ ap (take c.args.count) c.self.view_is
 
 pub invariant_of-result : goal.invariant_of-result
-invariant_of-result c = grind (arith, common_steps)
+invariant_of-result g c = grind (arith, common_steps)
 
 pub loop-part-preserved : goal.loop-part-preserved
-loop-part-preserved c = grind (arith, common_steps)
+loop-part-preserved g c = grind (arith, common_steps)
 
 pub first_of-requires-2 : goal.first_of-requires-2
-first_of-requires-2 c = grind (arith, common_steps)
+first_of-requires-2 g c = grind (arith, common_steps)
 
 pub invariant_of-result-2 : goal.invariant_of-result-2
-invariant_of-result-2 c = grind (arith, common_steps)
+invariant_of-result-2 g c = grind (arith, common_steps)

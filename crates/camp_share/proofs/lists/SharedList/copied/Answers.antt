@@ -10,4 +10,4 @@ returns g c = record {
 }
 
 pub invariant_of-result : goal.invariant_of-result
-invariant_of-result c = grind (arith, common_steps)
+invariant_of-result g c = grind (arith, common_steps)
