@@ -35,7 +35,7 @@ pub struct Branch {
 impl Model for Branch {
     ghost use Rattle.std.specs.Prelude.{List};
     ghost use Rattle.std.specs.Coded.{codes};
-    ghost use Rattle.camp_ctx.specs.declared.sets.ContextedSet.{the_code as code_of_sets};
+    ghost use Rattle.camp_ctx.specs.declared.sets.CtxSet.{the_code as code_of_sets};
     ghost use Rattle.camp_catch.specs.declared.catches.Catch.{Catch};
 
     ghost Value = { List Catch };

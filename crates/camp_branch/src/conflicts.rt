@@ -5,7 +5,7 @@ ghost use Rattle.camp_branch.specs.Inside.Collecting.{names_within, pair_of, pai
 
 use camp_base::Name;
 use camp_catch::Catch;
-use camp_ctx::ContextedSet;
+use camp_ctx::CtxSet;
 use camp_share::{Shared, SharedList};
 use std::alloc::AllocError;
 use std::cmp::Ordering;
@@ -44,7 +44,7 @@ fn collect_from(catch: &Catch, pairs: &mut Vec<(Name, Name)>) -> Result<(), Allo
 
 fn pair_with_each(
     name: &Name,
-    set: &ContextedSet,
+    set: &CtxSet,
     pairs: &mut Vec<(Name, Name)>,
 ) -> Result<(), AllocError>
     ensures { OnOk result (pairs.new.items ≡ pairs.old.items ++ flat_map (pair_of name.now) (names_within set.now)) }

@@ -2,7 +2,7 @@ ghost use Rattle.std.specs.Prelude.{◌≡◌, ◌↔◌, IfOk, IsTrue};
 ghost use Rattle.camp_catch.specs.Catches.{catch_key, effect_of};
 
 use camp_base::Name;
-use camp_ctx::{Contexted, ContextedSet};
+use camp_ctx::{Contexted, CtxSet};
 use camp_prim::{Key, Named};
 use camp_seq::Seq;
 use camp_share::Share;
@@ -21,7 +21,7 @@ pub enum Catch {
 #[derive(Drop)]
 pub struct Conflictor {
     pub effect: Seq,
-    pub conflicts: ContextedSet,
+    pub conflicts: CtxSet,
     pub identity: Contexted,
 }
 

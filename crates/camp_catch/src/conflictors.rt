@@ -12,7 +12,7 @@ use crate::seen::{
 };
 use crate::values::is_undone;
 use crate::{Catch, Conflictor};
-use camp_ctx::{Contexted, ContextedSet, join};
+use camp_ctx::{Contexted, CtxSet, join};
 use camp_prim::{Key, Label, Named};
 use camp_seq::{Seq, ordered, past_all, split};
 use std::alloc::{AllocError, Global};
@@ -130,7 +130,7 @@ fn joins_behind_effects(
     alloc: Global,
     j: &Conflictor,
     k: &Conflictor,
-    others: &ContextedSet,
+    others: &CtxSet,
 ) -> Result<Option<(Catch, Catch)>, AllocError>
     ensures { IfOk result (FindsPair (JoinsBehindEffects j.now k.now others.now)) }
 {
@@ -148,7 +148,7 @@ fn effects_pass(
     alloc: Global,
     r: &Seq,
     s: &Seq,
-    ys: &ContextedSet,
+    ys: &CtxSet,
 ) -> Result<Option<(Seq, Seq)>, AllocError>
     ensures { IfOk result (FindsPair (EffectsPass r.now s.now ys.now)) }
 {
@@ -165,7 +165,7 @@ fn effects_pass(
 }
 
 /// What a list undoes of a set, and the rest.
-fn parted(alloc: Global, r: &Seq, ys: &ContextedSet) -> Result<Option<(Seq, Seq)>, AllocError>
+fn parted(alloc: Global, r: &Seq, ys: &CtxSet) -> Result<Option<(Seq, Seq)>, AllocError>
     ensures { IfOk result (FindsPair (Splits (labels_undone r.now ys.now) r.now)) }
 {
     let labels = labels_undone(alloc, r.items(), ys)?;
@@ -183,7 +183,7 @@ fn joined(alloc: Global, common: &Seq, s: Seq) -> Result<Seq, AllocError>
 }
 
 /// The labels of the inverses in a list whose absolute labels stand in a set.
-fn labels_undone(alloc: Global, r: &[Named], ys: &ContextedSet) -> Result<Vec<Label>, AllocError>
+fn labels_undone(alloc: Global, r: &[Named], ys: &CtxSet) -> Result<Vec<Label>, AllocError>
     ensures { IfOk result (λ labels. labels.items ≡ labels_undone r.now ys.now) }
 {
     r.iter()

@@ -20,7 +20,7 @@ pub(crate) struct Gaining {
 
 impl Model for Gaining {
     ghost use Rattle.std.specs.Coded.{codes};
-    ghost use Rattle.camp_ctx.specs.declared.sets.ContextedSet.{the_code as code_of_sets};
+    ghost use Rattle.camp_ctx.specs.declared.sets.CtxSet.{the_code as code_of_sets};
     ghost use Rattle.camp_catch.specs.Inside.InPlace.{with_gained};
     ghost use Rattle.camp_catch.specs.declared.catches.Catch.{Catch};
 

@@ -10,7 +10,7 @@ ghost use Rattle.camp_catch.specs.Inside.Seen.{JoinedBefore, LeavesSet, TakesBac
 
 use crate::Conflictor;
 use crate::values::{alone, bare, bare_alone, inverse, undone};
-use camp_ctx::{Contexted, ContextedSet, join};
+use camp_ctx::{Contexted, CtxSet, join};
 use camp_prim::{Key, Named};
 use camp_seq::{Seq, invert_all, norm, ordered};
 use std::alloc::{AllocError, Global};
@@ -21,7 +21,7 @@ fn set_before(a: &Named, s: &Seq, k: &Conflictor, i: Contexted) -> Result<Confli
     ensures { IfOk result (Becomes (Norm s.now) (Adds a.now) (λ old new. new ≡ i) k.now) }
 {
     let effect = norm(s)?;
-    let conflicts = ContextedSet::add_one(a, &k.conflicts)?;
+    let conflicts = CtxSet::add_one(a, &k.conflicts)?;
     Ok(Conflictor {
         effect,
         conflicts,
@@ -66,11 +66,11 @@ pub(crate) fn others_before(
     r: &Seq,
     s: Seq,
     k: &Conflictor,
-    others: &ContextedSet,
+    others: &CtxSet,
 ) -> Result<Conflictor, AllocError>
     ensures { IfOk result (Becomes (λ t. t ≡ s) (AddsAll r.now) (AddsAll r.now) (with_conflicts others.now k.now)) }
 {
-    let conflicts = ContextedSet::add(r, others)?;
+    let conflicts = CtxSet::add(r, others)?;
     let identity = Contexted::add(r, &k.identity)?;
     Ok(Conflictor {
         effect: s,
@@ -99,7 +99,7 @@ pub(crate) fn all_pass_before(
     let Some(identity) = moved else {
         return Ok(None);
     };
-    let conflicts = ContextedSet::add(r, &k.conflicts)?;
+    let conflicts = CtxSet::add(r, &k.conflicts)?;
     Ok(Some(Conflictor {
         effect: s,
         conflicts,

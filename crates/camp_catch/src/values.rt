@@ -3,7 +3,7 @@ ghost use Rattle.std.specs.FinMap.{contains_key};
 ghost use Rattle.camp_prim.specs.Effect.{inverse_of};
 ghost use Rattle.camp_ctx.specs.Contexts.{bare, context_key, only, patch_key};
 
-use camp_ctx::{Contexted, ContextedSet, join};
+use camp_ctx::{Contexted, CtxSet, join};
 use camp_prim::Named;
 use camp_seq::Seq;
 use std::alloc::{AllocError, Global};
@@ -41,14 +41,14 @@ pub(crate) fn bare(alloc: Global, p: &Named) -> Result<Contexted, AllocError>
 }
 
 /// `{x}`
-pub(crate) fn alone(alloc: Global, x: &Contexted) -> Result<ContextedSet, AllocError>
+pub(crate) fn alone(alloc: Global, x: &Contexted) -> Result<CtxSet, AllocError>
     ensures { IfOk result (λ set. set ≡ only x.now) }
 {
-    ContextedSet::empty(alloc).insert(x)
+    CtxSet::empty(alloc).insert(x)
 }
 
 /// `{:p}`
-pub(crate) fn bare_alone(alloc: Global, p: &Named) -> Result<ContextedSet, AllocError>
+pub(crate) fn bare_alone(alloc: Global, p: &Named) -> Result<CtxSet, AllocError>
     ensures { IfOk result (λ set. set ≡ only (bare p.now)) }
 {
     let own = bare(alloc, p)?;
@@ -86,7 +86,7 @@ pub(crate) fn has_key(s: &[Named], x: &Contexted) -> bool
 }
 
 /// Whether an element is an inverse whose absolute label stands in a set.
-pub(crate) fn is_undone(p: &Named, ys: &ContextedSet) -> bool
+pub(crate) fn is_undone(p: &Named, ys: &CtxSet) -> bool
     ensures { result ≡ (p.now.inverse && contains_key ys.now (patch_key p.now)) }
 {
     p.inverse && ys.get(&p.label().key()).is_some()

@@ -18,4 +18,4 @@ pub use laws::{
     adding_always_gives, adding_and_passing_keep_valid, adding_the_empty_list_changes_nothing,
     conflict_is_symmetric, results_in_context_are_determined,
 };
-pub use sets::ContextedSet;
+pub use sets::CtxSet;

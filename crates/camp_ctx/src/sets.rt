@@ -14,12 +14,12 @@ use std::slice;
 
 /// A set of contexted patches with different absolute labels.
 #[derive(Drop)]
-pub struct ContextedSet {
+pub struct CtxSet {
     alloc: Global,
     members: SharedMap<MemberKey, Contexted>,
 }
 
-impl Model for ContextedSet {
+impl Model for CtxSet {
     ghost use Rattle.std.specs.FinMap as map;
     ghost use Rattle.camp_prim.specs.Labels.{coded_key, key_cmp};
     ghost use Rattle.camp_share.specs.Maps.{map_of};
@@ -35,12 +35,12 @@ impl Model for ContextedSet {
     ghost invariant = { λ set. AreKeyed (map_of key_cmp set.members) };
 }
 
-impl ContextedSet {
+impl CtxSet {
     /// The set without a member. It takes no memory.
-    pub fn empty(alloc: Global) -> ContextedSet
+    pub fn empty(alloc: Global) -> CtxSet
         ensures exact { result ≡ map.empty }
     {
-        ContextedSet {
+        CtxSet {
             alloc,
             members: SharedMap::new(alloc),
         }
@@ -64,19 +64,19 @@ impl ContextedSet {
     }
 
     /// The set with a member too. A member with its label that is there stays.
-    pub fn insert(&self, member: &Contexted) -> Result<ContextedSet, AllocError>
+    pub fn insert(&self, member: &Contexted) -> Result<CtxSet, AllocError>
         ensures exact { IfOk result (λ set. set ≡ with_member self.now member.now) }
     {
         let key = MemberKey::new(member.key());
         let members = self.members.inserted_if_absent(key, member.try_clone()?)?;
-        Ok(ContextedSet {
+        Ok(CtxSet {
             alloc: self.alloc,
             members,
         })
     }
 
     /// The set with these members too, one after the other. It is made once for all of them.
-    pub fn insert_all(&self, more: &[Contexted]) -> Result<ContextedSet, AllocError>
+    pub fn insert_all(&self, more: &[Contexted]) -> Result<CtxSet, AllocError>
         ensures exact { IfOk result (λ set. set ≡ fold with_member self.now more.now) }
     {
         let mut members = MapBuilder::from_map(&self.members)?;
@@ -84,18 +84,18 @@ impl ContextedSet {
             let key = MemberKey::new(member.key());
             members.insert_if_absent(key, member.try_clone()?)?;
         }
-        Ok(ContextedSet {
+        Ok(CtxSet {
             alloc: self.alloc,
             members: members.into_map()?,
         })
     }
 
     /// The set without the member of a label.
-    pub fn without(&self, key: &Key) -> Result<ContextedSet, AllocError>
+    pub fn without(&self, key: &Key) -> Result<CtxSet, AllocError>
         ensures exact { IfOk result (λ set. set ≡ map.remove self.now key.now) }
     {
         let members = self.members.without(&MemberKey::new(*key))?;
-        Ok(ContextedSet {
+        Ok(CtxSet {
             alloc: self.alloc,
             members,
         })
@@ -126,7 +126,7 @@ impl ContextedSet {
     }
 
     /// What is seen behind a list, as it is seen before the list: the list is added to every member.
-    pub fn add(r: &Seq, set: &ContextedSet) -> Result<ContextedSet, AllocError>
+    pub fn add(r: &Seq, set: &CtxSet) -> Result<CtxSet, AllocError>
         ensures exact { IfOk result (λ sum. EachMember (AddsAll r.now) set.now sum) }
     {
         if r.items().is_empty() {
@@ -139,33 +139,33 @@ impl ContextedSet {
                 members = members.inserted(*key, sum)?;
             }
         }
-        Ok(ContextedSet {
+        Ok(CtxSet {
             alloc: set.alloc,
             members,
         })
     }
 
     /// The same with a primitive in place of a list.
-    pub fn add_one(a: &Named, set: &ContextedSet) -> Result<ContextedSet, AllocError>
+    pub fn add_one(a: &Named, set: &CtxSet) -> Result<CtxSet, AllocError>
         ensures exact { IfOk result (λ sum. EachMember (Adds a.now) set.now sum) }
     {
         let list = join(set.alloc, slice::from_ref(a), &[])?;
-        let sum = ContextedSet::add(&list, set)?;
+        let sum = CtxSet::add(&list, set)?;
         Ok(sum)
     }
 
-    pub fn try_clone(&self) -> Result<ContextedSet, AllocError>
+    pub fn try_clone(&self) -> Result<CtxSet, AllocError>
         ensures exact { IfOk result (λ copy. copy ≡ self.now) }
     {
         let members = self.members.share()?;
-        Ok(ContextedSet {
+        Ok(CtxSet {
             alloc: self.alloc,
             members,
         })
     }
 
     /// Whether the two sets have the same members. It takes no memory.
-    pub fn is_same(&self, other: &ContextedSet) -> bool
+    pub fn is_same(&self, other: &CtxSet) -> bool
         ensures exact { IsTrue result ↔ (self.now ≡ other.now) }
     {
         if self.len() != other.len() {
@@ -180,7 +180,7 @@ impl ContextedSet {
     }
 }
 
-fn have_same_member(a: &ContextedSet, b: &ContextedSet, index: usize) -> bool
+fn have_same_member(a: &CtxSet, b: &CtxSet, index: usize) -> bool
     ensures { IsTrue result ↔ (slice_get (map.values a.now) index ≡ slice_get (map.values b.now) index) }
 {
     match (a.at(index), b.at(index)) {

@@ -4,7 +4,7 @@ ghost use Rattle.std.specs.FinMap as map;
 ghost use Rattle.camp_ctx.specs.Adding.{Adds, PassesBy};
 ghost use Rattle.camp_ctx.specs.Contexts.{ChangesAt, EachMember};
 
-use crate::{Contexted, ContextedSet};
+use crate::{Contexted, CtxSet};
 use camp_prim::{Named, stay};
 use camp_seq::{is_own_order, stays_past};
 
@@ -26,7 +26,7 @@ impl Contexted {
     }
 }
 
-impl ContextedSet {
+impl CtxSet {
     /// Whether each member is as it was where `a` is added. Where it says no, they may still be. It
     /// takes no memory.
     pub fn stays_behind(&self, a: &Named) -> bool
@@ -42,7 +42,7 @@ impl ContextedSet {
 }
 
 /// Whether the member at a place, if there is one, is as it was where `a` is added.
-fn member_stays(set: &ContextedSet, index: usize, a: &Named) -> bool
+fn member_stays(set: &CtxSet, index: usize, a: &Named) -> bool
     ensures { IsTrue result → ChangesAt (Adds a.now)
         (slice_get (map.values set.now) index) (slice_get (map.values set.now) index) }
 {

@@ -7,7 +7,7 @@ use crate::readings::{read_item, read_items};
 use crate::rows::{Row, SQUARE, kept, read_row};
 use crate::{NotationError, catch_text, catches_text};
 use camp_catch::{Catch, Conflictor};
-use camp_ctx::{Contexted, ContextedSet};
+use camp_ctx::{Contexted, CtxSet};
 use camp_prim::Named;
 use camp_seq::Seq;
 use camp_share::Shared;
@@ -81,7 +81,7 @@ fn read_behind_effect(cursor: &mut Cursor, effect: Seq) -> Result<Catch, Notatio
     }
 }
 
-fn read_conflicts(cursor: &mut Cursor) -> Result<ContextedSet, NotationError> {
+fn read_conflicts(cursor: &mut Cursor) -> Result<CtxSet, NotationError> {
     cursor.expect(b", ", ',')?;
     read_members(cursor)
 }
@@ -89,7 +89,7 @@ fn read_conflicts(cursor: &mut Cursor) -> Result<ContextedSet, NotationError> {
 fn read_identity(
     cursor: &mut Cursor,
     effect: Seq,
-    conflicts: ContextedSet,
+    conflicts: CtxSet,
 ) -> Result<Catch, NotationError> {
     match read_last_member(cursor) {
         Ok(identity) => Ok(Catch::Conflictor(Conflictor {

@@ -5,7 +5,7 @@ use crate::cursors::Cursor;
 use crate::readings::{read_item, read_items};
 use crate::rows::{CURLY, Row, kept, read_row};
 use crate::{NotationError, contexted_text, set_text};
-use camp_ctx::{Contexted, ContextedSet};
+use camp_ctx::{Contexted, CtxSet};
 use camp_prim::Named;
 use camp_seq::Seq;
 use std::alloc::Global;
@@ -26,7 +26,7 @@ pub fn read_contexted(
 
 /// The set of a text. Members in another order than that of their labels, and a label that stands
 /// there twice, are refused as written otherwise.
-pub fn read_set(alloc: Global, known: &[Named], text: &[u8]) -> Result<ContextedSet, NotationError>
+pub fn read_set(alloc: Global, known: &[Named], text: &[u8]) -> Result<CtxSet, NotationError>
     ensures text { IfOk result (λ xs. text.now ≡ set_text known.now xs) }
 {
     let mut cursor = Cursor::new(alloc, known, text);
@@ -35,18 +35,18 @@ pub fn read_set(alloc: Global, known: &[Named], text: &[u8]) -> Result<Contexted
     Ok(xs)
 }
 
-pub(crate) fn read_members(cursor: &mut Cursor) -> Result<ContextedSet, NotationError> {
-    read_row(ContextedSet::empty(cursor.alloc), CURLY, cursor)
+pub(crate) fn read_members(cursor: &mut Cursor) -> Result<CtxSet, NotationError> {
+    read_row(CtxSet::empty(cursor.alloc), CURLY, cursor)
 }
 
-impl Row for ContextedSet {
+impl Row for CtxSet {
     fn read_next(&mut self, cursor: &mut Cursor) -> Result<(), NotationError> {
         let x = read_member(cursor)?;
         insert(self, &x)
     }
 }
 
-fn insert(xs: &mut ContextedSet, x: &Contexted) -> Result<(), NotationError> {
+fn insert(xs: &mut CtxSet, x: &Contexted) -> Result<(), NotationError> {
     *xs = xs.insert(x)?;
     Ok(())
 }

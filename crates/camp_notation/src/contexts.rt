@@ -6,7 +6,7 @@ ghost use Rattle.camp_notation.specs.Words.{row};
 use crate::lists::append_list;
 use crate::patches::append_named;
 use crate::words::append_separator;
-use camp_ctx::{Contexted, ContextedSet};
+use camp_ctx::{Contexted, CtxSet};
 use camp_prim::Named;
 use std::alloc::{AllocError, Global};
 
@@ -21,7 +21,7 @@ pub fn contexted_text(alloc: Global, known: &[Named], x: &Contexted) -> Result<S
 }
 
 /// A set of contexted patches in the order of their labels, as `{:p, p:q}`.
-pub fn set_text(alloc: Global, known: &[Named], xs: &ContextedSet) -> Result<String, AllocError>
+pub fn set_text(alloc: Global, known: &[Named], xs: &CtxSet) -> Result<String, AllocError>
     ensures exact { IfOk result (λ text. string_bytes text ≡ set_text known.now xs.now) }
 {
     let mut text = String::new(alloc);
@@ -51,11 +51,7 @@ fn append_context(text: &mut String, known: &[Named], context: &[Named]) -> Resu
     }
 }
 
-pub(crate) fn append_set(
-    text: &mut String,
-    known: &[Named],
-    xs: &ContextedSet,
-) -> Result<(), AllocError>
+pub(crate) fn append_set(text: &mut String, known: &[Named], xs: &CtxSet) -> Result<(), AllocError>
     ensures { OnOk result (string_bytes text.new ≡ string_bytes text.old ++ set_text known.now xs.now) }
 {
     text.push('{')?;
@@ -63,7 +59,7 @@ pub(crate) fn append_set(
     text.push('}')
 }
 
-fn append_members(text: &mut String, known: &[Named], xs: &ContextedSet) -> Result<(), AllocError>
+fn append_members(text: &mut String, known: &[Named], xs: &CtxSet) -> Result<(), AllocError>
     ensures { OnOk result
         (string_bytes text.new ≡ string_bytes text.old ++ row (contexted_text known.now) (values xs.now)) }
 {

@@ -23,7 +23,7 @@ pub struct Shown {
 
 impl Model for Shown {
     ghost use Rattle.std.specs.Coded.{codes};
-    ghost use Rattle.camp_ctx.specs.declared.sets.ContextedSet.{the_code as code_of_sets};
+    ghost use Rattle.camp_ctx.specs.declared.sets.CtxSet.{the_code as code_of_sets};
     ghost use Rattle.camp_questions.specs.Showing.{Patch};
 
     ghost Value = { Patch };

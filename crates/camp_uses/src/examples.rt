@@ -1,7 +1,7 @@
 //! The callers that stand in the READMEs of the crates, in their words.
 
 use camp_base::{Apply, Line, Path, Tree};
-use camp_ctx::{Contexted, ContextedSet, conflict};
+use camp_ctx::{Contexted, CtxSet, conflict};
 use camp_notation::{NotationError, list_text, read_list};
 use camp_prim::{Named, commute};
 use camp_seq::{Seq, apply_all, clean_merge, norm};
@@ -60,7 +60,7 @@ pub fn meets(
     if let Some(passed) = Contexted::past(list, x)? {
         return conflict(&passed, other);
     }
-    let set = ContextedSet::empty(alloc).insert(x)?.insert(&seen)?;
+    let set = CtxSet::empty(alloc).insert(x)?.insert(&seen)?;
     Ok(set.len() == 1 && conflict(&seen, other)?)
 }
 

@@ -3,7 +3,7 @@ use crate::places::{Places, places_text, read_places};
 use crate::tables::Table;
 use camp_base::{Name, Path, Tree};
 use camp_catch::Catch;
-use camp_ctx::{Contexted, ContextedSet};
+use camp_ctx::{Contexted, CtxSet};
 use camp_notation::{
     NotationError, catch_text, catches_text, contexted_text, label_text, lines_text, list_text,
     named_text, read_catch, read_catches, read_contexted, read_label, read_lines, read_list,
@@ -217,8 +217,8 @@ impl Argument for Contexted {
     }
 }
 
-impl Argument for ContextedSet {
-    fn read(table: &Table, text: &[u8]) -> Result<ContextedSet, NotationError> {
+impl Argument for CtxSet {
+    fn read(table: &Table, text: &[u8]) -> Result<CtxSet, NotationError> {
         read_set(table.alloc(), table.known(), text)
     }
 

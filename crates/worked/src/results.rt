@@ -3,7 +3,7 @@ use crate::places::{Places, places_text};
 use crate::tables::Table;
 use camp_base::{Apply, BaseFault, Tree};
 use camp_catch::Catch;
-use camp_ctx::{Contexted, ContextedSet};
+use camp_ctx::{Contexted, CtxSet};
 use camp_notation::{
     NotationError, catch_text, catches_text, contexted_text, label_text, list_text, named_text,
     read_catch, read_catches, read_contexted, read_set, set_text, tree_text,
@@ -52,7 +52,7 @@ impl Shown for Contexted {
     }
 }
 
-impl Shown for ContextedSet {
+impl Shown for CtxSet {
     fn shown(&self, table: &Table) -> Outcome {
         let text = set_text(table.alloc(), table.known(), self)?;
         match read_set(table.alloc(), table.known(), text.as_bytes()) {

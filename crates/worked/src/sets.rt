@@ -3,7 +3,7 @@ use crate::calls::{Asked, CallLine, ask, find};
 use crate::results::{Outcome, Shown, found, made, yes_or_no};
 use crate::tables::Table;
 use crate::wants::Wants;
-use camp_ctx::{Contexted, ContextedSet};
+use camp_ctx::{Contexted, CtxSet};
 use camp_prim::{Label, Named};
 use camp_seq::Seq;
 
@@ -63,9 +63,9 @@ pub(crate) enum OfSet {
 }
 
 impl Asked for OfSet {
-    type On = One<ContextedSet>;
+    type On = One<CtxSet>;
 
-    fn answer(self, table: &Table, on: &One<ContextedSet>) -> Outcome {
+    fn answer(self, table: &Table, on: &One<CtxSet>) -> Outcome {
         let set = &on.first;
         match self {
             OfSet::Read => set.shown(table),
@@ -84,9 +84,9 @@ pub(crate) enum OfLabel {
 }
 
 impl Asked for OfLabel {
-    type On = Two<ContextedSet, Label>;
+    type On = Two<CtxSet, Label>;
 
-    fn answer(self, table: &Table, on: &Two<ContextedSet, Label>) -> Outcome {
+    fn answer(self, table: &Table, on: &Two<CtxSet, Label>) -> Outcome {
         let (set, label) = (&on.first, &on.rest.first);
         match self {
             OfLabel::Member => found(table, set.get(&label.key())),
@@ -100,9 +100,9 @@ impl Asked for OfLabel {
 pub(crate) struct AreSame;
 
 impl Asked for AreSame {
-    type On = Two<ContextedSet, ContextedSet>;
+    type On = Two<CtxSet, CtxSet>;
 
-    fn answer(self, table: &Table, on: &Two<ContextedSet, ContextedSet>) -> Outcome {
+    fn answer(self, table: &Table, on: &Two<CtxSet, CtxSet>) -> Outcome {
         yes_or_no(table, on.first.is_same(&on.rest.first))
     }
 }
@@ -112,9 +112,9 @@ impl Asked for AreSame {
 pub(crate) struct Insert;
 
 impl Asked for Insert {
-    type On = Two<ContextedSet, Contexted>;
+    type On = Two<CtxSet, Contexted>;
 
-    fn answer(self, table: &Table, on: &Two<ContextedSet, Contexted>) -> Outcome {
+    fn answer(self, table: &Table, on: &Two<CtxSet, Contexted>) -> Outcome {
         made(table, on.first.insert(&on.rest.first))
     }
 }
@@ -124,9 +124,9 @@ impl Asked for Insert {
 pub(crate) struct MemberAt;
 
 impl Asked for MemberAt {
-    type On = Two<ContextedSet, u32>;
+    type On = Two<CtxSet, u32>;
 
-    fn answer(self, table: &Table, on: &Two<ContextedSet, u32>) -> Outcome {
+    fn answer(self, table: &Table, on: &Two<CtxSet, u32>) -> Outcome {
         found(table, on.first.at(on.rest.first as usize))
     }
 }
@@ -136,10 +136,10 @@ impl Asked for MemberAt {
 pub(crate) struct AddOne;
 
 impl Asked for AddOne {
-    type On = Two<Named, ContextedSet>;
+    type On = Two<Named, CtxSet>;
 
-    fn answer(self, table: &Table, on: &Two<Named, ContextedSet>) -> Outcome {
-        made(table, ContextedSet::add_one(&on.first, &on.rest.first))
+    fn answer(self, table: &Table, on: &Two<Named, CtxSet>) -> Outcome {
+        made(table, CtxSet::add_one(&on.first, &on.rest.first))
     }
 }
 
@@ -148,14 +148,14 @@ impl Asked for AddOne {
 pub(crate) struct Add;
 
 impl Asked for Add {
-    type On = Two<Seq, ContextedSet>;
+    type On = Two<Seq, CtxSet>;
 
-    fn answer(self, table: &Table, on: &Two<Seq, ContextedSet>) -> Outcome {
-        made(table, ContextedSet::add(&on.first, &on.rest.first))
+    fn answer(self, table: &Table, on: &Two<Seq, CtxSet>) -> Outcome {
+        made(table, CtxSet::add(&on.first, &on.rest.first))
     }
 }
 
-fn member_count(table: &Table, set: &ContextedSet) -> Outcome {
+fn member_count(table: &Table, set: &CtxSet) -> Outcome {
     let count = set.len();
     Ok(format!(in table.alloc(); "{count}")?)
 }

@@ -1,7 +1,7 @@
 use Rattle.camp_ctx.proofs.Words.{ap, subst, ◌∙◌, key_cmp, map_of, AddsAll, AreKeyed, EachMember}
 use Rattle.camp_ctx.proofs.SetSteps.{nothing_added, entry_at, one_more_added, none_missing, all_added, keyed_sum}
-use Rattle.camp_ctx.proofs.sets.ContextedSet.add.Goals.{in-Some+in_ok-sum+in_ok-members, in_default}
-use Rattle.camp_ctx.proofs.sets.ContextedSet.add.Goals as goal
+use Rattle.camp_ctx.proofs.sets.CtxSet.add.Goals.{in-Some+in_ok-sum+in_ok-members, in_default}
+use Rattle.camp_ctx.proofs.sets.CtxSet.add.Goals as goal
 
 pub loop-index-init : goal.loop-index-init
 loop-index-init c = nothing_added c.args.r.now _ c.new-members.ensures.exact

@@ -1,6 +1,6 @@
 use Rattle.camp_ctx.proofs.Words.{sym, subst, take, ◌∙◌, AreKeyed}
 use Rattle.camp_ctx.proofs.SetSteps.{keyed_with_all}
-use Rattle.camp_ctx.proofs.sets.ContextedSet.insert_all.Goals as goal
+use Rattle.camp_ctx.proofs.sets.CtxSet.insert_all.Goals as goal
 
 pub invariant_of-result : goal.invariant_of-result
 invariant_of-result c =

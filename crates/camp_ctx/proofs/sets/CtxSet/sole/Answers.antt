@@ -1,6 +1,6 @@
 use Rattle.camp_ctx.proofs.Words.{◌≡◌, ap, sym, ◌∙◌, None, Some, MatchOption, len, slice_get, ContextedPatch, only}
 use Rattle.camp_ctx.proofs.SetSteps.{members_of, len-only, is_only, none_only}
-use Rattle.camp_ctx.proofs.sets.ContextedSet.sole.Goals as goal
+use Rattle.camp_ctx.proofs.sets.CtxSet.sole.Goals as goal
 
 pub returns-then-len-ne1 : goal.returns-then-len-ne1
 returns-then-len-ne1 c = record { exact = λ x is. c.if-len-ne1.true (c.len.ensures.value ∙ ap len is ∙ len-only x) }

@@ -1,6 +1,6 @@
 use Rattle.camp_ctx.proofs.Words.{ℕ, ◌<◌, slice_get, Adds, ChangesAt}
 use Rattle.camp_ctx.proofs.SetSteps.{members_of}
-use Rattle.camp_ctx.proofs.sets.ContextedSet.stays_behind.Given as goal
+use Rattle.camp_ctx.proofs.sets.CtxSet.stays_behind.Given as goal
 
 abbrev pub invariant-loop-index : goal.invariant-loop-index
 invariant-loop-index l =

@@ -1,5 +1,5 @@
 use Rattle.camp_ctx.proofs.Words.{take, entries, get, find, key_cmp, Key, map_of, AddsAll, ChangesAt}
-use Rattle.camp_ctx.proofs.sets.ContextedSet.add.Given as goal
+use Rattle.camp_ctx.proofs.sets.CtxSet.add.Given as goal
 
 abbrev pub invariant-loop-index : goal.invariant-loop-index
 invariant-loop-index l =

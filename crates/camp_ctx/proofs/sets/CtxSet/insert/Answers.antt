@@ -1,6 +1,6 @@
 use Rattle.camp_ctx.proofs.Words.{sym, ap, ◌∙◌, subst, AreKeyed, context_key}
 use Rattle.camp_ctx.proofs.SetSteps.{keyed_with}
-use Rattle.camp_ctx.proofs.sets.ContextedSet.insert.Goals as goal
+use Rattle.camp_ctx.proofs.sets.CtxSet.insert.Goals as goal
 
 pub invariant_of-result : goal.invariant_of-result
 invariant_of-result c =

@@ -1,6 +1,6 @@
 use Rattle.camp_ctx.proofs.Words.{◌≡◌, refl, arith, length}
 use Rattle.camp_ctx.proofs.SetSteps.{members_of, count_of_members, same_members, same_by_index}
-use Rattle.camp_ctx.proofs.sets.ContextedSet.is_same.Goals as goal
+use Rattle.camp_ctx.proofs.sets.CtxSet.is_same.Goals as goal
 
 pub returns : goal.returns
 returns c =
