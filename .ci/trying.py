@@ -46,12 +46,18 @@ def build(crate, program, words=(), given="stdin"):
 
 
 def taken(path, program):
-    """Copies a program, where it is whole: its input is laid beside it when it is run."""
+    """Copies a program once it runs: until then it may still be being written."""
+    if not any(runs(it, path) for it in glob.glob("/proc/[0-9]*/maps")):
+        return False
+    shutil.copy(path, program)
+    return True
+
+
+def runs(maps, path):
+    """Whether a process has the file as its code. It may be started by a loader, so its own name does not tell."""
     try:
-        if not os.access(path, os.X_OK) or not os.path.exists(f"{os.path.dirname(path)}/stdin"):
-            return False
-        shutil.copy(path, program)
-        return True
+        with open(maps, encoding="utf-8", errors="replace") as it:
+            return any("x" in line.split()[1] and line.rstrip().endswith(path) for line in it)
     except OSError:
         return False
 
