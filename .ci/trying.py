@@ -1,5 +1,5 @@
-"""What .ci/refusals, .ci/sharing, .ci/turns and .ci/locked share: a program that is built without proofs, the tables
-of crates/worked, and the scripts of .ci/cases."""
+"""What .ci/refusals, .ci/sharing, .ci/turns, .ci/locked and play share: a program that is built without proofs, the
+tables of crates/worked, and the scripts of .ci/cases."""
 
 import glob
 import os
@@ -26,19 +26,25 @@ def refusing(folder):
     return program
 
 
-def build(crate, program, words=(), given="stdin"):
+def build(crate, program, words=(), given="stdin", told=None):
     """Builds the program of a crate without proofs, as `rt try` with these words does, and leaves it in a file. `rt try` keeps
-    none, so the one that it runs is copied while it runs: what it is given has to keep it busy for a while."""
+    none, so the one that it runs is copied while it runs: what it is given has to keep it busy for a while. `told` is called
+    with the seconds that it takes, again and again."""
+    started = time.time()
     with tempfile.TemporaryDirectory(prefix="trying-") as folder, tempfile.TemporaryFile() as log:
         with open(f"{crate}/{given}", "rb") as given:
             ran = subprocess.Popen(["rt", "try", *words], cwd=crate, env={**os.environ, "TMPDIR": folder}, stdin=given, stdout=log, stderr=log, start_new_session=True)
         found = False
-        while not found and ran.poll() is None:
-            time.sleep(0.05)
-            found = any(taken(it, program) for it in glob.glob(f"{folder}/*/*/program"))
-        if ran.poll() is None:
-            os.killpg(ran.pid, signal.SIGTERM)
-            ran.wait()
+        try:
+            while not found and ran.poll() is None:
+                time.sleep(0.05)
+                found = any(taken(it, program) for it in glob.glob(f"{folder}/*/*/program"))
+                if told:
+                    told(time.time() - started)
+        finally:
+            if ran.poll() is None:
+                os.killpg(ran.pid, signal.SIGTERM)
+                ran.wait()
         if not found:
             log.seek(0)
             sys.stderr.write(log.read().decode(errors="replace")[-4000:])
