@@ -1,3 +1,4 @@
+//! Values: the arguments of a call, each read from its text and written again.
 use crate::numbers::{Numbers, numbers_text, read_number, read_numbers};
 use crate::places::{Places, places_text, read_places};
 use crate::tables::Table;

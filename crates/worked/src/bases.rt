@@ -1,3 +1,4 @@
+//! Values: the calls on names, paths, lines and faults.
 use crate::arguments::{End, One, Two};
 use crate::calls::{Asked, CallLine, ask, find};
 use crate::results::{Outcome, fault, order};

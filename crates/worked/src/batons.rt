@@ -1,3 +1,4 @@
+//! Schedules: clients that take turns in an order that is told before.
 use camp_run::Gate;
 use std::sync::atomic::{AtomicU64, Ordering};
 use std::thread;

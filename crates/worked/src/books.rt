@@ -1,3 +1,4 @@
+//! Books and heads: a book that is asked commands.
 use crate::commands::Command;
 use crate::faults::PlayFault;
 use crate::same::is_same_state;

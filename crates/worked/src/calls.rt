@@ -1,3 +1,4 @@
+//! Values: the calls, looked for among those on one kind of value after the other.
 use crate::arguments::Arguments;
 use crate::results::{Outcome, word};
 use crate::splits::split;

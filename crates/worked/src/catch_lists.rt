@@ -1,3 +1,4 @@
+//! Values: the calls on lists of catches.
 use crate::arguments::{One, Then, Two};
 use crate::calls::{Asked, CallLine, ask, find};
 use crate::results::{Outcome, catch_list_text, joined, key_text};

@@ -1,3 +1,4 @@
+//! Values: the calls on catches.
 use crate::arguments::{One, Two};
 use crate::calls::{Asked, CallLine, ask, find};
 use crate::results::{Outcome, Shown, both, key_text, made, yes_or_no};

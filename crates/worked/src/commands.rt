@@ -1,3 +1,4 @@
+//! Books and heads: a command of a table, with its seat and how often it is asked.
 use crate::faults::PlayFault;
 use bstr::ByteSlice;
 use camp_base::Name;

@@ -1,3 +1,4 @@
+//! Values: the calls on contexted patches.
 use crate::arguments::{One, Two};
 use crate::calls::{Asked, CallLine, ask, find};
 use crate::results::{Outcome, Shown, both, found_one, key_text, made, yes_or_no};

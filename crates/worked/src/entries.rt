@@ -1,3 +1,4 @@
+//! Tables: how many lines an entry has.
 ghost use Rattle.std.specs.Prelude.{◌≤◌, ◌<◌, length};
 
 use bstr::ByteSlice;

@@ -1,3 +1,4 @@
+//! Books and heads: why a command has no answer.
 use camp_clients::LockFault;
 use camp_head::HeadFault;
 use camp_object::Fault;

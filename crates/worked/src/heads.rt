@@ -1,3 +1,4 @@
+//! Books and heads: a head that is asked commands at its seats.
 use crate::books::{Answer, append_history_again, call_again, pass_over};
 use crate::commands::Command;
 use crate::faults::PlayFault;

@@ -1,3 +1,4 @@
+//! Tables: each entry with its result below it.
 use crate::calls;
 use crate::calls::CallLine;
 use crate::entries::entry_len;

@@ -1,3 +1,4 @@
+//! Values: the calls on lists of primitives.
 use crate::arguments::{One, Then, Two};
 use crate::calls::{Asked, CallLine, ask, find};
 use crate::results::{Outcome, Shown, both, changed, made, word, yes_or_no};

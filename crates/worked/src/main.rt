@@ -25,9 +25,9 @@
 //! memory, 4 where the input was not read or a line not printed, and 5 where more lines than one wanted
 //! memory.
 //!
-//! `worked N M` makes so many allocations first that the M-th of the whole run is number N behind them:
-//! where it is run with its M-th allocation refused, the number says which one that is. `worked M` tells
-//! behind the lines how many allocations are made before one is refused, M at most.
+//! `worked N M` makes M - N extra allocations before the table, so the run's M-th allocation is the
+//! table's N-th: built so that its M-th allocation is refused, N chooses which one of the table is.
+//! `worked M` tells behind the lines how many more allocations are made before one is refused, M at most.
 #![tactic(auto)]
 
 mod arguments;

@@ -1,3 +1,4 @@
+//! Books and heads: what an entry that is no call asks, of a book, a head, a run or a schedule.
 use crate::blocks::play_block;
 use crate::calls::find;
 use crate::commands::{command_of, number, read_numbers};

@@ -1,3 +1,4 @@
+//! Values: the calls on primitives.
 use crate::arguments::{Four, One, Two};
 use crate::calls::{Asked, CallLine, ask, find};
 use crate::catches::Commuted;

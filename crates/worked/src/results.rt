@@ -1,3 +1,4 @@
+//! Values: how results are shown, and read back.
 use crate::numbers::{Numbers, numbers_text};
 use crate::places::{Places, places_text};
 use crate::tables::Table;

@@ -1,3 +1,4 @@
+//! Books and heads: scripts that are run in one thread, over a lock or over a head.
 use crate::calls::find;
 use crate::faults::PlayFault;
 use crate::ranks::ranked;

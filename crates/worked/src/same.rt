@@ -1,3 +1,4 @@
+//! Schedules: whether replies and states are the same.
 use camp_base::Name;
 use camp_repo::{Branch, Call, Reply, State};
 
@@ -13,19 +14,6 @@ pub(crate) fn is_same_reply(reply: &Reply, other: &Reply) -> bool {
         (Reply::Names(names), Reply::Names(other)) => names.is_same(other),
         _ => false,
     }
-}
-
-/// Whether a history has so many calls, and they are the first ones of another.
-pub(crate) fn is_same_history(history: &[(u32, Call)], other: &[(u32, Call)], count: u64) -> bool {
-    if history.len() as u64 != count || history.len() > other.len() {
-        return false;
-    }
-    for ((seat, call), (other_seat, other)) in history.iter().zip(other.iter()) {
-        if *seat != *other_seat || !call.is_same(other) {
-            return false;
-        }
-    }
-    true
 }
 
 /// Whether two states have the same count and the same branches, of those that these calls make.

@@ -1,3 +1,4 @@
+//! Books and heads: a head with its seats, in any order.
 ghost use Rattle.std.specs.Prelude.{◌<◌, All, IfOk, IfSome, length};
 ghost use Rattle.camp_history.specs.Seats.{IsSeatOf};
 

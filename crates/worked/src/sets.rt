@@ -1,3 +1,4 @@
+//! Values: the calls on sets of contexted patches.
 use crate::arguments::{One, Two};
 use crate::calls::{Asked, CallLine, ask, find};
 use crate::results::{Outcome, Shown, found, made, yes_or_no};

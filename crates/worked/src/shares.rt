@@ -1,3 +1,4 @@
+//! Values: the calls on shared lists and maps.
 ghost use Rattle.std.specs.Prelude.{◌≤◌, ◌<◌, IsTrue, length};
 
 use crate::arguments::{Four, One, Three, Two};

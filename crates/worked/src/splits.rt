@@ -1,3 +1,4 @@
+//! Values: the text of arguments, cut at its commas.
 ghost use Rattle.std.specs.Prelude.{◌≤◌, length};
 
 use std::alloc::{AllocError, Global};

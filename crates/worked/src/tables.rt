@@ -1,3 +1,4 @@
+//! Tables: what the lines of a table have told so far.
 use bstr::ByteSlice;
 use camp_notation::{NotationError, read_list, read_named, read_tree};
 use camp_prim::Named;

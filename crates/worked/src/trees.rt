@@ -1,3 +1,4 @@
+//! Values: the calls on trees.
 use crate::arguments::{Five, One, Two};
 use crate::calls::{Asked, CallLine, ask, find};
 use crate::results::{Outcome, changed, made, none, yes_or_no};

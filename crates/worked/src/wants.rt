@@ -1,3 +1,4 @@
+//! Refused memory: which lines wanted it, and which allocation is refused.
 use std::alloc::{AllocError, Global};
 use std::env::{Env, FillError};
 use std::io::{ErrorKind, Write};
@@ -85,8 +86,8 @@ fn allocate_each(alloc: Global, count: u32) -> Result<(), AllocError> {
     Ok(())
 }
 
-/// Makes an allocation, and lets it go. Behind the lines of a table it stands for itself: where it is
-/// refused, none of theirs was.
+/// One allocation after the last line. If this one is refused, the refused number lies beyond the
+/// table: all allocations of the table were tried.
 pub(crate) fn allocate(alloc: Global) -> Result<(), AllocError> {
     Box::new(alloc, 0)?;
     Ok(())
