@@ -1,4 +1,4 @@
-ghost use Rattle.std.specs.Prelude.{◌≡◌, ◌-◌, ◌^◌, ◌<◌, ◌++◌, [], ◌∷◌, List, None, Some, length, codes, slice_get, IfOk, IfSome, MatchOption};
+ghost use Rattle.std.specs.Prelude.{◌≡◌, ◌-◌, ◌^◌, ◌<◌, ◌++◌, [], ◌∷◌, List, None, Some, length, map, codes, slice_get, IfOk, IfSome, MatchOption};
 ghost use Rattle.std.specs.List.{list_any};
 ghost use Rattle.camp_branch.specs.Branches.{has_patch};
 ghost use Rattle.camp_catch.specs.declared.catches.Catch.{Catch};
@@ -65,6 +65,13 @@ impl State {
         ensures lawful { IsLawfulState self.now }
     {
         self.count
+    }
+
+    /// The names of the branches, in order of creation.
+    pub fn names(&self) -> &[Name]
+        ensures exact { result.now ≡ map (λ branch. branch.0) self.now.branches }
+    {
+        self.names.as_slice()
     }
 
     /// The branch of a name.
