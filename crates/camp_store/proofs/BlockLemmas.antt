@@ -1,0 +1,206 @@
+-- What files of blocks stand for.
+use Rattle.std.proofs.Common.{◌≡◌, ◌≢◌, ◌⊎◌, inl, inr, ℕ, ◌<◌, ◌-◌, List, [], ◌∷◌, ◌++◌, length, drop, Vec, refl, sym, ◌∙◌, ap, subst, arith, append_assoc, length-append}
+use Rattle.std.proofs.lemmas.List.{append-nil, length-map, map-append}
+use Rattle.std.specs.declared.alloc.Global.{Global}
+use Rattle.camp_store.specs.Blocks.{AllFit, AreBlocks, IsBlock, IsEnd, Stands, blocks, body, chain, closed_gate, digest_behind, first_digest, head, open_gate}
+use Rattle.camp_store.specs.Logs.{Keeps, texts_of}
+use Rattle.camp_store.specs.Readings.{DamageIsNoStore, IsDamaged, IsReading}
+use Rattle.camp_store.specs.declared.readings.Reading.{Reading}
+use Rattle.camp_store.proofs.HeadLemmas.{body_once, length-head}
+
+abbrev Texts : Type 0
+Texts = List (List ℕ)
+
+pub chain-append : (before : List ℕ) (ts us : Texts) → chain before (ts ++ us) ≡ chain (chain before ts) us
+chain-append before [] us = refl
+chain-append before (t ∷ ts) us = chain-append (digest_behind before t) ts us
+
+pub blocks-append : (before : List ℕ) (ts us : Texts) → blocks before (ts ++ us) ≡ blocks before ts ++ blocks (chain before ts) us
+blocks-append before [] us = refl
+blocks-append before (t ∷ ts) us =
+    ap (λ (l : List ℕ). open_gate ∷ body before t ++ l) (blocks-append (digest_behind before t) ts us)
+    ∙ ap (λ (l : List ℕ). open_gate ∷ l) (sym (append_assoc (body before t) (blocks (digest_behind before t) ts) (blocks (chain before (t ∷ ts)) us)))
+
+pub fit-append : (ts us : Texts) → AllFit ts → AllFit us → AllFit (ts ++ us)
+fit-append [] us these those = those
+fit-append (t ∷ ts) us these those = (these.0, fit-append ts us these.1 those)
+
+pub are-append : (before : List ℕ) (ts us : Texts) (front more : List ℕ) → AreBlocks before ts front → AreBlocks (chain before ts) us more
+    → AreBlocks before (ts ++ us) (front ++ more)
+are-append before [] us front more none those = subst (λ (l : List ℕ). AreBlocks before us (l ++ more)) (sym none) those
+are-append before (t ∷ ts) us front more these those =
+    let block = these.1 in (
+      these.0 ++ more,
+      record {
+        gate = block.gate;
+        counts = block.counts;
+        fits = block.fits;
+        split = ap (λ (l : List ℕ). l ++ more) block.split ∙ ap (λ (l : List ℕ). block.gate ∷ l) (append_assoc (body before t) these.0 more);
+      },
+      are-append (digest_behind before t) ts us these.0 more these.2 those,
+    )
+
+pub are_written : (before : List ℕ) (ts : Texts) → AllFit ts → AreBlocks before ts (blocks before ts)
+are_written before [] fit = refl
+are_written before (t ∷ ts) fit = (
+  blocks (digest_behind before t) ts,
+  record { gate = open_gate; counts = λ closed. omega (arith, closed); fits = fit.0; split = refl },
+  are_written (digest_behind before t) ts fit.1,
+)
+
+-- what is written, behind any gate that counts
+pub gate_any : (before : List ℕ) (ts : Texts) (gate : ℕ) → 0 < length ts → AllFit ts → gate ≢ closed_gate
+    → AreBlocks before ts (gate ∷ drop 1 (blocks before ts))
+gate_any before [] gate some fit counts = absurd (omega (arith, some))
+gate_any before (t ∷ ts) gate some fit counts = (
+  blocks (digest_behind before t) ts,
+  record { gate = gate; counts = counts; fits = fit.0; split = refl },
+  are_written (digest_behind before t) ts fit.1,
+)
+
+-- one block more, as it is written
+pub block_pushed : (before : List ℕ) (ts : Texts) (text bytes : List ℕ) → bytes ≡ ((blocks before ts ++ open_gate ∷ []) ++ head (chain before ts) text) ++ text
+    → bytes ≡ blocks before (ts ++ text ∷ [])
+block_pushed before ts text bytes is =
+    is
+    ∙ append_assoc (blocks before ts ++ open_gate ∷ []) (head (chain before ts) text) text
+    ∙ append_assoc (blocks before ts) (open_gate ∷ []) (body (chain before ts) text)
+    ∙ sym (blocks-append before ts (text ∷ []) ∙ ap (λ (l : List ℕ). blocks before ts ++ l) (append-nil (open_gate ∷ body (chain before ts) text)))
+
+pub texts_of-push : (vs : List (Vec ℕ Global)) (v : Vec ℕ Global) → texts_of (vs ++ v ∷ []) ≡ texts_of vs ++ v.items ∷ []
+texts_of-push vs v = map-append (λ text. text.items) vs (v ∷ [])
+
+-- one block
+pub one_block : (before text rest bytes : List ℕ) → IsBlock before text rest bytes → (front : List ℕ) × (bytes ≡ front ++ rest) × AreBlocks before (text ∷ []) front
+one_block before text rest bytes block = (
+  block.gate ∷ body before text,
+  block.split,
+  ([], record { gate = block.gate; counts = block.counts; fits = block.fits; split = sym (append-nil (block.gate ∷ body before text)) }, refl),
+)
+
+-- blocks that were read, and what is behind them
+pub record ReadSoFar (bytes : List ℕ) (texts : List (Vec ℕ Global)) (digest rest : List ℕ) : Type 0 where
+  pub front : List ℕ
+  pub split : bytes ≡ front ++ rest
+  pub are : AreBlocks first_digest (texts_of texts) front
+  pub digest_is : digest ≡ chain first_digest (texts_of texts)
+
+pub read_nothing : (bytes : List ℕ) → ReadSoFar bytes [] first_digest bytes
+read_nothing bytes = record { front = []; split = refl; are = refl; digest_is = refl }
+
+-- one block more, as it is read
+pub read_on : (bytes : List ℕ) (vs : List (Vec ℕ Global)) (digest rest : List ℕ) → ReadSoFar bytes vs digest rest → (v : Vec ℕ Global) (behind : List ℕ)
+    → IsBlock digest v.items behind rest → ReadSoFar bytes (vs ++ v ∷ []) (digest_behind digest v.items) behind
+read_on bytes vs digest rest so_far v behind block =
+    let one = one_block (chain first_digest (texts_of vs)) v.items behind rest (subst (λ (d : List ℕ). IsBlock d v.items behind rest) so_far.digest_is block) in
+    record {
+      front = so_far.front ++ one.0;
+      split = so_far.split ∙ ap (λ (l : List ℕ). so_far.front ++ l) one.1 ∙ sym (append_assoc so_far.front one.0 behind);
+      are = subst (λ (ts : Texts). AreBlocks first_digest ts (so_far.front ++ one.0)) (sym (texts_of-push vs v)) (are-append first_digest (texts_of vs) (v.items ∷ []) so_far.front one.0 so_far.are one.2);
+      digest_is = ap (λ (d : List ℕ). digest_behind d v.items) so_far.digest_is ∙ sym (chain-append first_digest (texts_of vs) (v.items ∷ [])) ∙ ap (λ (ts : Texts). chain first_digest ts) (sym (texts_of-push vs v));
+    }
+
+pub shorter : (before text behind rest : List ℕ) → IsBlock before text behind rest → length behind < length rest
+shorter before text behind rest block = omega (arith, ap length block.split, length-append (body before text) behind)
+
+pub stands_closed : (texts : Texts) (front behind : List ℕ) → AreBlocks first_digest texts front → Stands texts (front ++ closed_gate ∷ behind)
+stands_closed texts front behind are = record { front = front; end = closed_gate ∷ behind; split = refl; are = are; ends = inl refl }
+
+pub stands_short : (texts : Texts) (front : List ℕ) (end : List ℕ) → AreBlocks first_digest texts front → length end < 2 → Stands texts (front ++ end)
+stands_short texts front end are short = record { front = front; end = end; split = refl; are = are; ends = go end short }
+  where
+    go : (e : List ℕ) → length e < 2 → IsEnd e
+    go [] le = tt
+    go (gate ∷ []) le = inr refl
+    go (gate ∷ more ∷ rest) le = absurd (omega (arith, le))
+
+-- where a block begins is no end
+pub block_is_no_end : (before text rest bytes : List ℕ) → IsBlock before text rest bytes → IsEnd bytes → ⊥
+block_is_no_end before text rest bytes block ends = elim (subst IsEnd block.split ends) [
+  | inl closed ↦ block.counts closed
+  | inr none ↦ absurd (omega (arith, ap length none, length-append (body before text) rest, length-append (head before text) text, length-head before text))
+]
+
+pub block_once : (before t u r s bytes : List ℕ) → IsBlock before t r bytes → IsBlock before u s bytes → (t ≡ u) × (r ≡ s)
+block_once before t u r s bytes one other =
+    body_once before t u r s one.fits other.fits (ap (λ (l : List ℕ). drop 1 l) (sym one.split ∙ other.split))
+
+block_more : (before t r more bytes : List ℕ) → IsBlock before t r bytes → IsBlock before t (r ++ more) (bytes ++ more)
+block_more before t r more bytes block = record {
+  gate = block.gate;
+  counts = block.counts;
+  fits = block.fits;
+  split = ap (λ (l : List ℕ). l ++ more) block.split ∙ ap (λ (l : List ℕ). block.gate ∷ l) (append_assoc (body before t) r more);
+}
+
+-- behind blocks of a file that stands for texts there is an end, or a block
+pub goes_on : (before : List ℕ) (ts all : Texts) (front rest whole end : List ℕ) → AreBlocks before ts front → AreBlocks before all whole → IsEnd end
+    → front ++ rest ≡ whole ++ end → IsEnd rest ⊎ ((text behind : List ℕ) × IsBlock (chain before ts) text behind rest)
+goes_on before [] [] front rest whole end none none' ends is =
+    inl (subst IsEnd (sym (ap (λ (l : List ℕ). l ++ rest) (sym none) ∙ is ∙ ap (λ (l : List ℕ). l ++ end) none')) ends)
+goes_on before [] (u ∷ us) front rest whole end none these ends is =
+    inr (u, these.0 ++ end, subst (λ (l : List ℕ). IsBlock before u (these.0 ++ end) l) (sym (ap (λ (l : List ℕ). l ++ rest) (sym none) ∙ is)) (block_more before u these.0 end whole these.1))
+goes_on before (t ∷ ts) [] front rest whole end these none ends is =
+    let block : IsBlock before t (these.0 ++ rest) (front ++ rest) = block_more before t these.0 rest front these.1 in
+    absurd (block_is_no_end before t (these.0 ++ rest) (front ++ rest) block (subst IsEnd (sym (is ∙ ap (λ (l : List ℕ). l ++ end) none)) ends))
+goes_on before (t ∷ ts) (u ∷ us) front rest whole end these those ends is =
+    let block : IsBlock before t (these.0 ++ rest) (front ++ rest) = block_more before t these.0 rest front these.1 in
+    let other : IsBlock before u (those.0 ++ end) (front ++ rest) = subst (λ (l : List ℕ). IsBlock before u (those.0 ++ end) l) (sym is) (block_more before u those.0 end whole those.1) in
+    let same = block_once before t u (these.0 ++ rest) (those.0 ++ end) (front ++ rest) block other in
+    goes_on (digest_behind before t) ts us these.0 rest those.0 end these.2 (subst (λ (v : List ℕ). AreBlocks (digest_behind before v) us those.0) (sym same.0) those.2) ends same.1
+
+split_once : (before : List ℕ) (ts us : Texts) (front whole end end' : List ℕ) → AreBlocks before ts front → AreBlocks before us whole → IsEnd end → IsEnd end'
+    → front ++ end ≡ whole ++ end' → ts ≡ us
+split_once before [] [] front whole end end' a b e e' is = refl
+split_once before [] (u ∷ us) front whole end end' a b e e' is =
+    let block : IsBlock before u (b.0 ++ end') (whole ++ end') = block_more before u b.0 end' whole b.1 in
+    absurd (block_is_no_end before u (b.0 ++ end') (whole ++ end') block (subst IsEnd (sym (ap (λ (l : List ℕ). l ++ end) a) ∙ is) e))
+split_once before (t ∷ ts) [] front whole end end' a b e e' is =
+    let block : IsBlock before t (a.0 ++ end) (front ++ end) = block_more before t a.0 end front a.1 in
+    absurd (block_is_no_end before t (a.0 ++ end) (front ++ end) block (subst IsEnd (sym (is ∙ ap (λ (l : List ℕ). l ++ end') b)) e'))
+split_once before (t ∷ ts) (u ∷ us) front whole end end' a b e e' is =
+    let block : IsBlock before t (a.0 ++ end) (front ++ end) = block_more before t a.0 end front a.1 in
+    let other : IsBlock before u (b.0 ++ end') (front ++ end) = subst (λ (l : List ℕ). IsBlock before u (b.0 ++ end') l) (sym is) (block_more before u b.0 end' whole b.1) in
+    let same = block_once before t u (a.0 ++ end) (b.0 ++ end') (front ++ end) block other in
+    let others : ts ≡ us = split_once (digest_behind before t) ts us a.0 b.0 end end' a.2 (subst (λ (v : List ℕ). AreBlocks (digest_behind before v) us b.0) (sym same.0) b.2) e e' same.1 in
+    (λ i. same.0 i ∷ others i)
+
+-- a file stands for one list of texts at most
+pub stands_once : (ts us : Texts) (file : List ℕ) → Stands ts file → Stands us file → ts ≡ us
+stands_once ts us file one other =
+    split_once first_digest ts us one.front other.front one.end other.end one.are other.are one.ends other.ends (sym one.split ∙ other.split)
+
+-- where neither an end nor a block stands, the file is damaged
+pub is_damaged : (bytes : List ℕ) (vs : List (Vec ℕ Global)) (digest rest : List ℕ) → ReadSoFar bytes vs digest rest → (IsEnd rest → ⊥)
+    → ((text behind : List ℕ) → IsBlock digest text behind rest → ⊥) → (count : ℕ) → count ≡ length vs → IsDamaged count (length bytes - length rest) bytes
+is_damaged bytes vs digest rest so_far no_end no_block count is = record {
+  texts = texts_of vs;
+  front = so_far.front;
+  rest = rest;
+  split = so_far.split;
+  are = so_far.are;
+  count_is = is ∙ sym (length-map vs (λ text. text.items));
+  at_is = omega (arith, ap length so_far.split, length-append so_far.front rest);
+  no_end = no_end;
+  no_block = λ text behind block. no_block text behind (subst (λ (d : List ℕ). IsBlock d text behind rest) (sym so_far.digest_is) block);
+}
+
+pub damage_is_no_store : DamageIsNoStore
+damage_is_no_store count at file damaged texts stands =
+    elim (goes_on first_digest damaged.texts texts damaged.front damaged.rest stands.front stands.end damaged.are stands.are stands.ends (sym damaged.split ∙ stands.split)) [
+      | inl ends ↦ damaged.no_end ends
+      | inr block ↦ damaged.no_block block.0 block.1 block.2
+    ]
+
+pub length-texts_of : (vs : List (Vec ℕ Global)) → length (texts_of vs) ≡ length vs
+length-texts_of vs = length-map vs (λ text. text.items)
+
+-- whatever a crash leaves of a log stands for its texts
+pub kept_stands : {D : Type 0} (seen : D → List ℕ) (may_leave : D → List ℕ → Type 0) (texts : Texts) (disk : D) (k : ℕ) (digest : List ℕ)
+    → Keeps seen may_leave texts disk k digest → (c : List ℕ) → may_leave disk c → Stands texts c
+kept_stands seen may_leave texts disk k digest keeps c now =
+    subst (Stands texts) (sym (keeps.durable c now ∙ keeps.file)) (stands_closed texts keeps.front keeps.behind keeps.are)
+
+-- a file that was read stands for its texts
+pub reading_stands : (file : List ℕ) (reading : Reading) → IsReading file reading → Stands (texts_of reading.texts.items) file
+reading_stands file reading is = record { front = is.front; end = is.end; split = is.split; are = is.are; ends = is.ends }

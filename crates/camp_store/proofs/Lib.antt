@@ -1,0 +1,5 @@
+mod Batches
+pub mod BlockLemmas
+mod Endings
+pub mod HeadLemmas
+mod Overwriting

@@ -1,0 +1,7 @@
+use Rattle.std.proofs.Common.{IfErr, sym, ◌∙◌, subst}
+use Rattle.camp_store.specs.Readings.{IsDamage}
+use Rattle.camp_store.proofs.readings.read.Goals as goal
+
+pub returns-clause-damaged : goal.returns-clause-damaged
+returns-clause-damaged g c clean =
+    subst (λ file. IfErr c.decode.result (λ why. IsDamage why file)) (c.deref.ensures.value ∙ c.in_ok-bytes.ensures.bytes clean) c.decode.ensures.damaged

@@ -1,0 +1,4 @@
+pub mod Blocks
+pub mod Logs
+pub mod Moments
+pub mod Readings

@@ -1,0 +1,58 @@
+-- A log: texts that are kept in a file.
+use Rattle.std.specs.Prelude.{◌≡◌, ◌⊎◌, ◌<◌, ℕ, Bool, false, not, List, [], ◌∷◌, ◌++◌, length, map, Vec}
+use Rattle.std.specs.declared.alloc.Global.{Global}
+use Rattle.sqlite_disk.specs.Disk.{Only}
+use Rattle.camp_store.specs.Blocks.{AllFit, AreBlocks, Stands, blocks, chain, closed_gate, first_digest}
+use Rattle.camp_store.specs.declared.faults.StoreFault.{StoreFault}
+use Rattle.camp_store.specs.declared.faults.StoreFault.TheVariants.{Damaged, Disk, Memory, TooLong}
+use Rattle.camp_store.specs.declared.logs.Log.{Log}
+
+-- texts as a caller holds them
+abbrev pub texts_of : List (Vec ℕ Global) → List (List ℕ)
+texts_of texts = map (λ text. text.items) texts
+
+-- the file is blocks of these texts, a closed gate and anything behind it, all of it on the disk; and this is known of
+-- it: how long the blocks are, and what their digests come to
+pub record Keeps {D : Type 0} (seen : D → List ℕ) (may_leave : D → List ℕ → Type 0) (texts : List (List ℕ)) (disk : D)
+    (length_known : ℕ) (digest_known : List ℕ) : Type 0 where
+  pub front : List ℕ
+  pub behind : List ℕ
+  pub file : seen disk ≡ front ++ closed_gate ∷ behind
+  pub are : AreBlocks first_digest texts front
+  pub length_is : length_known ≡ length front
+  pub digest_is : digest_known ≡ chain first_digest texts
+  pub durable : Only (seen disk) (may_leave disk)
+
+-- the file stands for the texts, with all of the new ones or without any
+abbrev pub IsBeforeOrAfter : List (List ℕ) → List (List ℕ) → List ℕ → Type 0
+IsBeforeOrAfter texts new file = Stands texts file ⊎ Stands (texts ++ new) file
+
+-- these bytes are the blocks of some texts, behind those that have come to a digest, and a closed gate
+pub record IsBatch (before : List ℕ) (texts : List (List ℕ)) (bytes : List ℕ) : Type 0 where
+  pub some : 0 < length texts
+  pub fit : AllFit texts
+  pub are : bytes ≡ blocks before texts ++ closed_gate ∷ []
+
+-- the disk of a log
+abbrev pub disk_of : {D : Type 0} → Log D → D
+disk_of log = log.disk
+
+-- no batch has failed to be kept
+abbrev pub may_go_on : {D : Type 0} → Log D → Bool
+may_go_on log = not log.has_failed
+
+-- an open log keeps these texts
+abbrev pub KeepsTexts : {D : Type 0} → (D → List ℕ) → (D → List ℕ → Type 0) → List (List ℕ) → Log D → Type 0
+KeepsTexts seen may_leave texts log = Keeps seen may_leave texts log.disk log.length log.digest
+
+-- a text is refused before anything is asked of the disk
+abbrev pub IsRefused : StoreFault → Type 0
+IsRefused Memory = Unit {0}
+IsRefused TooLong = Unit {0}
+IsRefused other = ⊥
+
+-- what a batch that is not acknowledged leaves: the log as it was; or, where the disk has failed, one that does not go on
+abbrev pub LeavesAfter : {D : Type 0} → StoreFault → Log D → Log D → Type 0
+LeavesAfter (Disk error) old new = may_go_on new ≡ false
+LeavesAfter (Damaged texts at) old new = ⊥
+LeavesAfter other old new = new ≡ old

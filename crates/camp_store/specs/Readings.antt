@@ -1,0 +1,40 @@
+-- What is read of a file.
+use Rattle.std.specs.Prelude.{◌≡◌, List, ℕ, ◌++◌, length}
+use Rattle.camp_store.specs.Blocks.{AreBlocks, IsBlock, IsEnd, Stands, chain, first_digest, is_closed}
+use Rattle.camp_store.specs.Logs.{texts_of}
+use Rattle.camp_store.specs.declared.faults.StoreFault.{StoreFault}
+use Rattle.camp_store.specs.declared.faults.StoreFault.TheVariants.{Damaged}
+use Rattle.camp_store.specs.declared.readings.Reading.{Reading}
+
+-- the file is the blocks of the texts that were read, and an end; and the rest of what was read is so
+pub record IsReading (file : List ℕ) (reading : Reading) : Type 0 where
+  pub front : List ℕ
+  pub end : List ℕ
+  pub split : file ≡ front ++ end
+  pub are : AreBlocks first_digest (texts_of reading.texts.items) front
+  pub ends : IsEnd end
+  pub length_is : reading.length ≡ length front
+  pub behind_is : reading.behind ≡ length end
+  pub digest_is : reading.digest ≡ chain first_digest (texts_of reading.texts.items)
+  pub closed_is : reading.is_closed ≡ is_closed end
+
+-- behind so many texts, at this byte, stands neither a block nor an end
+pub record IsDamaged (count at : ℕ) (file : List ℕ) : Type 0 where
+  pub texts : List (List ℕ)
+  pub front : List ℕ
+  pub rest : List ℕ
+  pub split : file ≡ front ++ rest
+  pub are : AreBlocks first_digest texts front
+  pub count_is : count ≡ length texts
+  pub at_is : at ≡ length front
+  pub no_end : ¬ (IsEnd rest)
+  pub no_block : (text behind : List ℕ) → ¬ (IsBlock (chain first_digest texts) text behind rest)
+
+-- a file that is told to be damaged is so
+abbrev pub IsDamage : StoreFault → List ℕ → Type 0
+IsDamage (Damaged count at) file = IsDamaged count at file
+IsDamage other file = Unit {0}
+
+-- a damaged file stands for no texts
+abbrev pub DamageIsNoStore : Type 0
+DamageIsNoStore = (count at : ℕ) (file : List ℕ) → IsDamaged count at file → (texts : List (List ℕ)) → ¬ (Stands texts file)

@@ -1,0 +1,163 @@
+//! Blocks, written and read. A block is a gate, the head of a text, and the text.
+ghost use Rattle.std.specs.Prelude.{◌≡◌, ◌≢◌, ◌↔◌, ◌++◌, [], ◌∷◌, List, ℕ, Some, length, IfOk, IfErr, IsTrue, MatchOption};
+ghost use Rattle.camp_store.specs.Blocks.{AllFit, Fits, IsBlock, IsEnd, blocks, body, chain, closed_gate, digest_behind, head, is_closed};
+ghost use Rattle.camp_store.specs.Logs.{IsRefused, texts_of};
+
+use crate::StoreFault;
+use hex::FromHex;
+use sha2::{Digest as _, Sha256};
+use std::alloc::{AllocError, Global};
+
+/// What a chain of texts has come to.
+pub type Digest = [u8; 32];
+
+/// The gate of a block that counts.
+pub(crate) const OPEN: u8 = b'=';
+
+/// The gate at which a file ends.
+pub(crate) const CLOSED: u8 = b'~';
+
+/// How long a head is: 8 digits, a blank, 16 digits, and the end of the line.
+pub(crate) const HEAD: usize = 26;
+
+/// The digest of a text behind those that have come to a digest.
+pub(crate) fn digest_behind(before: &Digest, text: &[u8]) -> Digest
+    ensures { result ≡ digest_behind before.now text.now }
+{
+    let mut hasher = Sha256::new();
+    hasher.update(before.as_slice());
+    hasher.update(text);
+    hasher.finalize()
+}
+
+/// The head of a text, by its length and its digest.
+fn head(alloc: Global, size: u32, digest: &Digest) -> Result<Vec<u8>, AllocError>
+    ensures { IfOk result (λ line. (before text : List ℕ) → length text ≡ size → digest.now ≡ digest_behind before text
+        → line.items ≡ head before text) }
+{
+    let mut line = Vec::with_capacity(alloc, HEAD)?;
+    line.extend_from_slice(hex::encode(alloc, size.to_be_bytes())?.as_bytes())?;
+    line.push(b' ')?;
+    line.extend_from_slice(hex::encode(alloc, &digest[..8])?.as_bytes())?;
+    line.push(b'\n')?;
+    Ok(line)
+}
+
+/// The length that the head of a text tells.
+fn told_size(line: &[u8]) -> Option<u32>
+    requires { length line.now ≡ 26 }
+    ensures { (before text : List ℕ) → Fits text → line.now ≡ head before text → result ≡ Some (length text) }
+{
+    match <[u8; 4] as FromHex>::from_hex(&line[..8]) {
+        Ok(bytes) => Some(u32::from_be_bytes(bytes)),
+        Err(_) => None,
+    }
+}
+
+/// The blocks of texts and a closed gate, and what the digests come to.
+pub(crate) fn encode(
+    alloc: Global,
+    before: &Digest,
+    texts: &[Vec<u8>],
+) -> Result<(Vec<u8>, Digest), StoreFault>
+    ensures bytes { IfOk result (λ r. r.0.items ≡ blocks before.now (texts_of texts.now) ++ closed_gate ∷ []) }
+    ensures digest { IfOk result (λ r. r.1 ≡ chain before.now (texts_of texts.now)) }
+    ensures fit { IfOk result (λ r. AllFit (texts_of texts.now)) }
+    ensures refused { IfErr result (λ why. IsRefused why) }
+{
+    let mut bytes = Vec::new(alloc);
+    let mut digest = *before;
+    for text in texts {
+        let Ok(size) = u32::try_from(text.len()) else {
+            return Err(StoreFault::TooLong);
+        };
+        digest = digest_behind(&digest, text);
+        bytes.push(OPEN)?;
+        bytes.extend_from_slice(&head(alloc, size, &digest)?)?;
+        bytes.extend_from_slice(text)?;
+    }
+    bytes.push(CLOSED)?;
+    Ok((bytes, digest))
+}
+
+/// A text that stands in front of other bytes, behind its head.
+#[derive(Clone, Copy)]
+pub(crate) struct Block<'a> {
+    pub(crate) text: &'a [u8],
+    pub(crate) digest: Digest,
+    pub(crate) rest: &'a [u8],
+}
+
+/// The text whose head stands in front, with its head, if one does.
+fn first_body<'a>(
+    alloc: Global,
+    before: &Digest,
+    bytes: &'a [u8],
+) -> Result<Option<Block<'a>>, AllocError>
+    ensures { IfOk result (λ found. MatchOption found
+        ((text rest : List ℕ) → Fits text → bytes.now ≢ body before.now text ++ rest)
+        (λ block. (bytes.now ≡ body before.now block.text.now ++ block.rest.now) × Fits block.text.now
+        × (block.digest ≡ digest_behind before.now block.text.now))) }
+{
+    if bytes.len() < HEAD {
+        return Ok(None);
+    }
+    let (found, behind) = bytes.split_at(HEAD);
+    let size = match told_size(found) {
+        Some(size) => size,
+        None => return Ok(None),
+    };
+    if behind.len() < size as usize {
+        return Ok(None);
+    }
+    let (text, rest) = behind.split_at(size as usize);
+    let digest = digest_behind(before, text);
+    let line = head(alloc, size, &digest)?;
+    if found != line.as_slice() {
+        return Ok(None);
+    }
+    Ok(Some(Block { text, digest, rest }))
+}
+
+/// The block that stands in front, if one does.
+pub(crate) fn first_block<'a>(
+    alloc: Global,
+    before: &Digest,
+    bytes: &'a [u8],
+) -> Result<Option<Block<'a>>, AllocError>
+    ensures { IfOk result (λ found. MatchOption found
+        ((text rest : List ℕ) → ¬ (IsBlock before.now text rest bytes.now))
+        (λ block. IsBlock before.now block.text.now block.rest.now bytes.now
+        × (block.digest ≡ digest_behind before.now block.text.now))) }
+{
+    let [gate, behind @ ..] = bytes else {
+        return Ok(None);
+    };
+    if *gate == CLOSED {
+        return Ok(None);
+    }
+    match first_body(alloc, before, behind)? {
+        Some(block) => Ok(Some(block)),
+        None => Ok(None),
+    }
+}
+
+/// Whether no block can begin here.
+pub(crate) fn is_end(bytes: &[u8]) -> bool
+    ensures { IsTrue result ↔ IsEnd bytes.now }
+{
+    match bytes {
+        [] | [_] => true,
+        [gate, ..] => *gate == CLOSED,
+    }
+}
+
+/// Whether a closed gate stands in front.
+pub(crate) fn is_closed(bytes: &[u8]) -> bool
+    ensures { result ≡ is_closed bytes.now }
+{
+    match bytes {
+        [] => false,
+        [sign, ..] => *sign == CLOSED,
+    }
+}

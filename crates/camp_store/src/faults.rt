@@ -1,0 +1,49 @@
+ghost use Rattle.std.specs.Prelude.{◌≡◌};
+ghost use Rattle.camp_store.specs.declared.faults.StoreFault.TheVariants as fault;
+
+use std::alloc::{AllocError, AllocFailed};
+use std::io;
+use thiserror::Error;
+
+/// Why texts are not read, or not kept.
+#[derive(Clone, Copy, Debug, Error)]
+pub enum StoreFault {
+    #[error("out of memory")]
+    Memory,
+    /// What the disk answered.
+    #[error("{0}")]
+    Disk(io::Error),
+    /// A text has 2^32 bytes or more.
+    #[error("a text is too long")]
+    TooLong,
+    /// No whole block stands at a byte, behind so many texts, where one has begun.
+    #[error("the text behind {texts} others is damaged, at byte {at}")]
+    Damaged { texts: usize, at: usize },
+    /// A batch was not kept before, or a sync has failed: the file has to be opened again.
+    #[error("the file has failed before")]
+    Failed,
+}
+
+impl From<AllocError> for StoreFault {
+    ghost from_gives = { λ _ result. result ≡ fault.Memory };
+
+    fn from(_error: AllocError) -> StoreFault {
+        StoreFault::Memory
+    }
+}
+
+impl<T: Drop> From<AllocFailed<T>> for StoreFault {
+    ghost from_gives = { λ _ result. result ≡ fault.Memory };
+
+    fn from(_error: AllocFailed<T>) -> StoreFault {
+        StoreFault::Memory
+    }
+}
+
+impl From<io::Error> for StoreFault {
+    ghost from_gives = { λ error result. result ≡ fault.Disk error };
+
+    fn from(error: io::Error) -> StoreFault {
+        StoreFault::Disk(error)
+    }
+}

@@ -1,0 +1,18 @@
+//! Texts that are kept in a file: those of a batch all at once, and on the disk before they are acknowledged.
+#![tactic(auto)]
+
+mod blocks;
+mod disks;
+mod faults;
+mod laws;
+mod logs;
+mod readings;
+
+pub use blocks::Digest;
+pub use faults::StoreFault;
+pub use laws::{
+    batches_are_kept_at_each_moment, damaged_files_stand_for_nothing, files_stand_for_one_list,
+};
+pub use logs::Log;
+pub use readings::{Reading, decode, read};
+pub use sqlite_disk::Disk;

@@ -1,0 +1,125 @@
+ghost use Rattle.std.specs.Prelude.{◌≡◌, ◌<◌, ◌+◌, ◌-◌, ◌^◌, ◌++◌, List, ℕ, Err, false, length, IfOk, IfErr, IsTrue, OnOk};
+ghost use Rattle.sqlite_disk.specs.Disk.{Only};
+ghost use Rattle.camp_store.specs.Blocks.{Stands, chain};
+ghost use Rattle.camp_store.specs.Logs.{IsBatch, IsBeforeOrAfter, Keeps, texts_of};
+ghost use Rattle.camp_store.specs.declared.faults.StoreFault.TheVariants as fault;
+ghost use Rattle.camp_store.specs.Readings.{IsReading};
+
+use crate::blocks::{CLOSED, Digest, OPEN, encode};
+use crate::disks::settle;
+use crate::{Disk, Reading, StoreFault};
+use std::alloc::Global;
+use std::io;
+
+/// A file of texts that is open, to which more are added.
+#[derive(Drop)]
+pub struct Log<D: Disk> {
+    disk: D,
+    length: usize,
+    digest: Digest,
+    has_failed: bool,
+}
+
+// Closes the gate behind the texts that were read, where it does not stand closed.
+fn close<D: Disk>(disk: &mut D, reading: &Reading) -> Result<(), StoreFault>
+    ensures keeps { OnOk result (IsReading (D.Disk.seen disk.old) reading.now → Only (D.Disk.seen disk.old) (D.Disk.may_leave disk.old)
+        → Keeps D.Disk.seen D.Disk.may_leave (texts_of reading.now.texts.items) disk.new reading.now.length reading.now.digest) }
+    ensures crash { IsReading (D.Disk.seen disk.old) reading.now → Only (D.Disk.seen disk.old) (D.Disk.may_leave disk.old)
+        → (c : List ℕ) → D.Disk.may_leave disk.new c → Stands (texts_of reading.now.texts.items) c }
+    ensures clean { D.Disk.is_clean disk.new ≡ D.Disk.is_clean disk.old }
+{
+    if reading.is_closed {
+        return Ok(());
+    }
+    if !disk.may_be_used() {
+        return Err(StoreFault::Failed);
+    }
+    settle(disk, reading.length, &[CLOSED])?;
+    Ok(())
+}
+
+impl<D: Disk> Log<D> {
+    ghost use Rattle.camp_store.specs.Logs.{KeepsTexts, LeavesAfter, disk_of, may_go_on};
+
+    /// Goes on with a file that was read. It writes no more than a closed gate behind the texts, where none stands.
+    pub fn open(mut disk: D, reading: &Reading) -> Result<Log<D>, (StoreFault, D)>
+        ensures keeps { IfOk result (λ log. IsReading (D.Disk.seen disk) reading.now → Only (D.Disk.seen disk) (D.Disk.may_leave disk)
+            → KeepsTexts D.Disk.seen D.Disk.may_leave (texts_of reading.now.texts.items) log) }
+        // A crash leaves the same texts.
+        ensures crash { IfErr result (λ e. IsReading (D.Disk.seen disk) reading.now → Only (D.Disk.seen disk) (D.Disk.may_leave disk)
+            → (c : List ℕ) → D.Disk.may_leave e.1 c → Stands (texts_of reading.now.texts.items) c) }
+        ensures clean { IfOk result (λ log. D.Disk.is_clean (disk_of log) ≡ D.Disk.is_clean disk) }
+        ensures clean_err { IfErr result (λ e. D.Disk.is_clean e.1 ≡ D.Disk.is_clean disk) }
+    {
+        match close(&mut disk, reading) {
+            Ok(()) => Ok(Log {
+                disk,
+                length: reading.length,
+                digest: reading.digest,
+                has_failed: false,
+            }),
+            Err(fault) => Err((fault, disk)),
+        }
+    }
+
+    pub fn disk(&self) -> &D
+        ensures { result.now ≡ disk_of self.now }
+    {
+        &self.disk
+    }
+
+    /// Adds texts, all at once. At `Ok` they are acknowledged: from then on each crash leaves a file that has
+    /// them. Where memory runs out or a text is too long nothing has changed; after another `Err` nothing more is
+    /// kept here, and the file has to be opened again.
+    pub fn put(&mut self, alloc: Global, texts: &[Vec<u8>]) -> Result<(), StoreFault>
+        ensures acknowledged { (old : List (List ℕ)) → KeepsTexts D.Disk.seen D.Disk.may_leave old self.old
+            → OnOk result (KeepsTexts D.Disk.seen D.Disk.may_leave (old ++ texts_of texts.now) self.new) }
+        // A crash leaves the texts from before the call, with all of the new ones or none.
+        ensures crash { (old : List (List ℕ)) → KeepsTexts D.Disk.seen D.Disk.may_leave old self.old
+            → (c : List ℕ) → D.Disk.may_leave (disk_of self.new) c → IsBeforeOrAfter old (texts_of texts.now) c }
+        ensures clean { D.Disk.is_clean (disk_of self.new) ≡ D.Disk.is_clean (disk_of self.old) }
+        ensures fault { IfErr result (λ why. LeavesAfter why self.old self.new) }
+        ensures stopped { may_go_on self.old ≡ false → (result ≡ Err fault.Failed) × (self.new ≡ self.old) }
+    {
+        if self.has_failed || !self.disk.may_be_used() {
+            return Err(StoreFault::Failed);
+        }
+        if texts.is_empty() {
+            return Ok(());
+        }
+        let (bytes, digest) = encode(alloc, &self.digest, texts)?;
+        let Some(grown) = self.length.checked_add(bytes.len()) else {
+            return Err(StoreFault::TooLong);
+        };
+        match write_batch(&mut self.disk, self.length, &bytes) {
+            Ok(()) => {
+                self.length = grown - 1;
+                self.digest = digest;
+                Ok(())
+            }
+            Err(error) => {
+                self.has_failed = true;
+                Err(StoreFault::Disk(error))
+            }
+        }
+    }
+}
+
+// Puts the blocks of a batch behind the closed gate at a byte. They are on the disk before the first gate opens, so
+// that they count all at once.
+fn write_batch<D: Disk>(disk: &mut D, at: usize, bytes: &[u8]) -> io::Result<()>
+    requires usable { IsTrue (D.Disk.is_usable disk.old) }
+    requires some { 1 < length bytes.now }
+    requires room { at + length bytes.now < 2 ^ 64 }
+    ensures acknowledged { (old new : List (List ℕ)) (digest : List ℕ) → IsBatch digest new bytes.now
+        → Keeps D.Disk.seen D.Disk.may_leave old disk.old at digest
+        → OnOk result (Keeps D.Disk.seen D.Disk.may_leave (old ++ new) disk.new (at + length bytes.now - 1) (chain digest new)) }
+    ensures crash { (old new : List (List ℕ)) (digest : List ℕ) → IsBatch digest new bytes.now
+        → Keeps D.Disk.seen D.Disk.may_leave old disk.old at digest
+        → (c : List ℕ) → D.Disk.may_leave disk.new c → IsBeforeOrAfter old new c }
+    ensures clean { D.Disk.is_clean disk.new ≡ D.Disk.is_clean disk.old }
+{
+    settle(disk, at + 1, &bytes[1..])?;
+    settle(disk, at, &[OPEN])?;
+    Ok(())
+}
