@@ -1,6 +1,6 @@
 -- Lemmas on clients that meet the opening's seat, before and after their threads.
-use Rattle.camp_clients.proofs.Words.{◌≡◌, ◌⊎◌, ℕ, ◌+◌, ◌<◌, suc, zero, IfOk, List, [], ◌∷◌, ◌++◌, length, get_or, map, Option, None, Some, MatchOption, append_assoc, Result, Ok, Err, refl, sym, ◌∙◌, ap, subst, add-one, inl, inr, arith, All, AllZip, IsFront, IsAnswered, IsLegal, own, Sequential, Fault, Memory, Busy, Full, Asks, SaysAmongThreads, IsDone, told, Sight, AreNew, HasMet, IsMet, Ran, caller_of, own_at, done_at, HasFronts, IsShared, OwnDone, section_of, Section, front_front, front_whole, own-append}
-use Rattle.std.proofs.lemmas.List.{length-append, length-map, get_or-map}
+use Rattle.camp_clients.proofs.Words.{◌≡◌, ◌⊎◌, ℕ, ◌+◌, ◌<◌, suc, zero, IfOk, List, [], ◌∷◌, ◌++◌, length, get_or, map, Option, None, Some, MatchOption, append_assoc, Result, Ok, Err, refl, sym, ◌∙◌, ap, subst, add-one, inl, inr, arith, All, AllZip, IsFront, IsAnswered, IsLegal, own, Sequential, Fault, Memory, Busy, Full, Asks, SaysAmongThreads, IsDone, told, Sight, AreNew, HasMet, IsSeen, IsMet, Ran, caller_of, own_at, done_at, HasFronts, IsShared, OwnDone, section_of, Section, front_front, front_whole, own-append}
+use Rattle.std.proofs.lemmas.List.{append-nil, length-append, length-map, get_or-map, nil_from_length}
 use Rattle.camp_clients.proofs.Fronts.{section_grows, section_map, section_own_at, says, own_at_front, own_at_none}
 pub use Rattle.camp_clients.proofs.Gathering.{all_first, all_rest, gathered_alone, ok_holds, ok_map, zip_all, zip_at, zip_length, zip_push}
 use Rattle.camp_clients.proofs.Histories.{append_nil_right}
@@ -135,6 +135,41 @@ met_still sight h more count from to grows is_from is_to before after is_count (
 met_still sight h more count from to grows is_from is_to [] [] is_count (inl none) met = tt
 met_still sight h more count from to grows is_from is_to (b ∷ before) [] is_count (inl none) met = absurd met
 met_still sight h more count from to grows is_from is_to before (a ∷ after) is_count (inl none) met = absurd (omega (arith, is_count, none))
+
+-- where the history grows, it begins with what was seen still
+pub seen_still : {Client Call Answer : Type 0} (sight : Sight Client Call Answer) (h more : List (ℕ × Call)) → IsFront h more
+    → (before after : List Client) → AllZip (IsSeen sight h) before after → AllZip (IsSeen sight more) before after
+seen_still sight h more grows before after seen =
+    zip_map (IsSeen sight h) (IsSeen sight more) (λ b a is. record { is_seat = is.is_seat; number = is.number; answers = is.answers; seen = is.seen; known = front_front is.known grows }) before after seen
+
+-- a client that meets the seat once more, and sees no further call of its own, has none in the history beyond those
+-- that it had seen
+module _ {Client Call Answer : Type 0} (sight : Sight Client Call Answer) (history : List (ℕ × Call)) where
+  met_again : (before mid after : Client) → IsSeen sight history before mid → HasMet sight history mid after → IsMet sight history before after
+  met_again before mid after first last =
+      let number = sight.number before in
+      let stays : own number (sight.seen after) ≡ own number (sight.seen before) =
+      subst (λ n. own n (sight.seen after) ≡ own n (sight.seen mid)) first.number last.own_stays ∙ ap (own number) first.seen in
+      let whole : own number (sight.seen after) ≡ own number history ++ own number last.knows.rest =
+      ap (own number) (sym last.knows.makes) ∙ own-append number history last.knows.rest in
+      let part : own number history ≡ own number (sight.seen before) ++ own number first.known.rest =
+      ap (own number) (sym first.known.makes) ∙ own-append number (sight.seen before) first.known.rest in
+      let one = ap length (sym stays ∙ whole) in
+      let other = ap length part in
+      let none : own number first.known.rest ≡ [] = nil_from_length (own number first.known.rest)
+      (omega (arith, one, other, length-append (own number history) (own number last.knows.rest), length-append (own number (sight.seen before)) (own number first.known.rest))) in
+      record {
+        is_seat = last.is_seat;
+        number = last.number ∙ first.number;
+        answers = last.answers ∙ first.answers;
+        known = first.known;
+        own_known = part ∙ ap (λ rest. own number (sight.seen before) ++ rest) none ∙ append-nil (own number (sight.seen before));
+      }
+
+  pub all_met_again : (before mid after : List Client) → AllZip (IsSeen sight history) before mid → AllZip (HasMet sight history) mid after → AllZip (IsMet sight history) before after
+  all_met_again before mid after first last =
+      zip_map (Then (IsSeen sight history) (HasMet sight history)) (IsMet sight history) (λ b a both. met_again b both.0 a both.1 both.2) before after
+      (zip_then (IsSeen sight history) (HasMet sight history) before mid after first last)
 
 -- the results of calls that were granted
 module _ {X Y E : Type 0} (R : X → Y → Type 0) where

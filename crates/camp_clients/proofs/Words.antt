@@ -13,7 +13,7 @@ pub use Rattle.camp_clients.specs.Answers.{Asks, GoesOn, HasMemory, IsDone, IsOv
 pub use Rattle.camp_clients.specs.Clients.{sight_of}
 pub use Rattle.camp_clients.specs.Comparing.{Differs, IsFound, Matches, left_from}
 pub use Rattle.camp_clients.specs.Gathering.{Gathers}
-pub use Rattle.camp_clients.specs.Meeting.{AreNew, HasMet, IsMet, Ran, Sight, caller_of}
+pub use Rattle.camp_clients.specs.Meeting.{AreNew, HasMet, IsMet, IsSeen, Ran, Sight, caller_of}
 pub use Rattle.camp_clients.specs.Positions.{done_at, own_at, where_done}
 pub use Rattle.camp_clients.specs.Runs.{HasFronts, HasOpening, InTurn, IsExactly, IsShared, OneByOne, OwnDone, SaysSomewhere, lists_of, section_of}
 pub use Rattle.camp_clients.specs.Sections.{Section}

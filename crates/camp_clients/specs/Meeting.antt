@@ -31,12 +31,19 @@ module _ {Client Call Answer : Type 0} (sight : Sight Client Call Answer) where
     pub own_stays : own (sight.number before) (sight.seen after) ≡ own (sight.number before) (sight.seen before)
     pub knows : IsFront known (sight.seen after)
 
-  -- a client was met: the history begins with what it has seen and has no further call of it, and it stays as it was
-  pub record IsMet (history : List (ℕ × Call)) (before after : Client) : Type 0 where
+  -- a client was met, and stays as it was: the history begins with what it has seen
+  pub record IsSeen (history : List (ℕ × Call)) (before after : Client) : Type 0 where
     pub is_seat : sight.is_seat after
     pub number : sight.number after ≡ sight.number before
     pub answers : sight.answers after ≡ sight.answers before
     pub seen : sight.seen after ≡ sight.seen before
+    pub known : IsFront (sight.seen before) history
+
+  -- all of a client is known: the history begins with what it had seen, and has no further call of it
+  pub record IsMet (history : List (ℕ × Call)) (before after : Client) : Type 0 where
+    pub is_seat : sight.is_seat after
+    pub number : sight.number after ≡ sight.number before
+    pub answers : sight.answers after ≡ sight.answers before
     pub known : IsFront (sight.seen before) history
     pub own_known : own (sight.number before) history ≡ own (sight.number before) (sight.seen before)
 

@@ -6,12 +6,12 @@ ghost use Rattle.camp_history.specs.Opening.{farthest_version, most_calls, IsInR
 ghost use Rattle.camp_history.specs.Seats.{IsSeatOf, calls_per_seat, history_of, caller_at, number_of, seats_of};
 ghost use Rattle.camp_clients.specs.Answers.{Asks};
 ghost use Rattle.camp_clients.specs.Clients.{sight_of, IsReady};
-ghost use Rattle.camp_clients.specs.Meeting.{AreNew, IsMet, HasMet, Ran};
+ghost use Rattle.camp_clients.specs.Meeting.{AreNew, IsMet, IsSeen, HasMet, Ran};
 ghost use Rattle.camp_clients.specs.Runs.{HasShared, IsShared, TellsShared, lists_of};
 ghost use Rattle.camp_clients.specs.Sections.{most_sections, most_tries, Section};
 
 use crate::sections::{Answers, ask_all, gather};
-use camp_history::{Gate, Head, HeadDesk, Seat};
+use camp_history::{Gate, Head, HeadDesk, HeadFault, Seat};
 use camp_object::{Fault, Object};
 use std::alloc::{AllocError, Global};
 use std::sync::Wait;
@@ -85,34 +85,73 @@ fn stays(met: usize, earlier: u64, now: u64) -> bool
     met == 0 || earlier == now
 }
 
-/// A seat that met so many clients meets one more, and then knows what that has seen. It has to have seen all
-/// of it before, unless the client is the first.
+/// A seat that met so many clients meets one more, and then knows what that has seen. Tells too whether it
+/// had seen all of it before, which the first client need not be asked.
 fn meets_client<State: Object>(
     head: &Head<State>,
     known: Seat<State>,
     client: Client<Seat<State>, State::Reply>,
     met: usize,
-) -> Result<(Seat<State>, Client<Seat<State>, State::Reply>), AllocError>
+) -> Result<(Seat<State>, Client<Seat<State>, State::Reply>, bool), AllocError>
     requires { IsSeatOf head.now known × IsSeatOf head.now client.seat }
     ensures seat { IfOk result (λ made. IsSeatOf head.now made.0) }
     ensures number { IfOk result (λ made. number_of made.0 ≡ number_of known) }
     ensures grows { IfOk result (λ made. IsFront (history_of known) (history_of made.0)) }
     ensures own { IfOk result (λ made. own (number_of known) (history_of made.0) ≡ own (number_of known) (history_of known)) }
-    ensures stays { IfOk result (λ made. (met ≡ 0) ⊎ (length (history_of known) ≡ length (history_of made.0))) }
-    ensures client { IfOk result (λ made. IsMet (sight_of head.now) (history_of made.0) client made.1) }
+    ensures stays { IfOk result (λ made. IsTrue made.2 → (met ≡ 0) ⊎ (length (history_of known) ≡ length (history_of made.0))) }
+    ensures client { IfOk result (λ made. IsSeen (sight_of head.now) (history_of made.0) client made.1) }
+    ensures met { IfOk result (λ made. IsMet (sight_of head.now) (history_of made.0) client made.1) }
 {
     let Client { seat, answers } = client;
     let earlier = known.position();
     let (known, seat, answer) = head.meet(known, seat);
-    if answer.is_err() || !stays(met, earlier, known.position()) {
+    if answer.is_err() {
         return Err(AllocError);
     }
-    Ok((known, Client { seat, answers }))
+    let stays = stays(met, earlier, known.position());
+    Ok((known, Client { seat, answers }, stays))
 }
 
-/// A seat meets each client, and then knows what they have seen. Where no client's thread runs any more,
-/// it finds the whole history at the first.
+fn both(one: bool, other: bool) -> bool
+    ensures { IsTrue result → IsTrue one × IsTrue other }
+{
+    one && other
+}
+
+/// A seat meets each client, and then knows what they have seen. Tells too whether it saw nothing new at
+/// the later ones, so that it knew at each of them all that it knows now.
 fn meets_each<State: Object>(
+    alloc: Global,
+    head: &Head<State>,
+    opener: Seat<State>,
+    clients: Vec<Client<Seat<State>, State::Reply>>,
+) -> Result<(Seat<State>, Vec<Client<Seat<State>, State::Reply>>, bool), AllocError>
+    requires opener { IsSeatOf head.now opener }
+    requires clients { All (λ client. IsSeatOf head.now client.seat) clients.items }
+    ensures seat { IfOk result (λ met. IsSeatOf head.now met.0) }
+    ensures number { IfOk result (λ met. number_of met.0 ≡ number_of opener) }
+    ensures grows { IfOk result (λ met. IsFront (history_of opener) (history_of met.0)) }
+    ensures own { IfOk result (λ met. own (number_of opener) (history_of met.0) ≡ own (number_of opener) (history_of opener)) }
+    ensures clients { IfOk result (λ met. AllZip
+        (IsSeen (sight_of head.now) (history_of met.0)) clients.items met.1.items) }
+    ensures stays { IfOk result (λ met. IsTrue met.2 → AllZip
+        (IsMet (sight_of head.now) (history_of met.0)) clients.items met.1.items) }
+{
+    let mut all = Vec::with_capacity(alloc, clients.len())?;
+    let mut known = opener;
+    let mut stays = true;
+    for client in clients {
+        let (other, client, same) = meets_client::<State>(head, known, client, all.len())?;
+        known = other;
+        stays = both(stays, same);
+        all.push(client)?;
+    }
+    Ok((known, all, stays))
+}
+
+/// A seat meets each client, and then each client meets the seat. Where no client's thread runs any more,
+/// the seat finds the whole history at the first client; then nobody has to meet it once more.
+fn meet_all<State: Object>(
     alloc: Global,
     head: &Head<State>,
     opener: Seat<State>,
@@ -127,14 +166,12 @@ fn meets_each<State: Object>(
     ensures clients { IfOk result (λ met. AllZip
         (IsMet (sight_of head.now) (history_of met.0)) clients.items met.1.items) }
 {
-    let mut all = Vec::with_capacity(alloc, clients.len())?;
-    let mut known = opener;
-    for client in clients {
-        let (other, client) = meets_client::<State>(head, known, client, all.len())?;
-        known = other;
-        all.push(client)?;
+    let (opener, clients, stays) = meets_each::<State>(alloc, head, opener, clients)?;
+    if stays {
+        return Ok((opener, clients));
     }
-    Ok((known, all))
+    let (clients, opener) = each_meets::<State>(alloc, head, clients, opener)?;
+    Ok((opener, clients))
 }
 
 /// Asks a section of calls at a seat of a head, with a gate round each.
@@ -289,7 +326,8 @@ fn open<State: Object>(
 {
     match Head::new(alloc, seats, per_seat, tries, every) {
         Ok(made) => Ok(made),
-        Err(_) => Err(AllocError),
+        Err(HeadFault::Memory) => Err(AllocError),
+        Err(HeadFault::BadSize) => unreachable!(),
     }
 }
 
@@ -404,7 +442,7 @@ where
     let opening = at_seat::<R, State, G>(rt, alloc, head, &mut opener, gate, &sections[0])?;
     let (clients, opener) = each_meets::<State>(alloc, head, clients, opener)?;
     let clients = run_clients::<R, State, G>(rt, alloc, head, gate, sections, clients)?;
-    let (opener, clients) = meets_each::<State>(alloc, head, opener, clients)?;
+    let (opener, clients) = meet_all::<State>(alloc, head, opener, clients)?;
     let _number = opener.number();
     run_of::<State>(alloc, head, &opener, opening, clients, wants_history)
 }

@@ -1,5 +1,5 @@
-use Rattle.camp_clients.proofs.Words.{◌≡◌, sym, ap, ◌∙◌, subst, refl, IsFront, own, IsSeatOf, history_of, sight_of, IsMet, front_front, front_self}
-use Rattle.camp_clients.proofs.Meeting.{met_still, zip_push, all_first, all_rest}
+use Rattle.camp_clients.proofs.Words.{◌≡◌, sym, ap, ◌∙◌, subst, refl, IsFront, own, IsSeatOf, history_of, sight_of, IsMet, IsSeen, front_front, front_self}
+use Rattle.camp_clients.proofs.Meeting.{met_still, seen_still, zip_push, all_first, all_rest}
 use Rattle.camp_clients.proofs.heads.meets_each.Goals as goal
 
 pub loop-client-preserved : goal.loop-client-preserved
@@ -14,10 +14,14 @@ loop-client-preserved g c =
       own_stays = subst (λ n. own n now ≡ own n (history_of c.loop-client.known)) inv.number m.own ∙ inv.own_stays;
       left = all_rest (λ client. IsSeatOf c.args.head.now client.seat) c.loop-client.client-iterator.rest.items c.in-Some.client _ c.in-Some.ensures.steps.0 inv.left;
       clients = rw c.in_ok-push.ensures.items
+          (zip_push (IsSeen (sight_of c.args.head.now) now) c.loop-client.yielded c.loop-client.all.items c.in-Some.client _
+          (seen_still (sight_of c.args.head.now) (history_of c.loop-client.known) now m.grows c.loop-client.yielded c.loop-client.all.items inv.clients)
+          m.client);
+      stays = λ yes. rw c.in_ok-push.ensures.items
           (zip_push (IsMet (sight_of c.args.head.now) now) c.loop-client.yielded c.loop-client.all.items c.in-Some.client _
           (met_still (sight_of c.args.head.now) (history_of c.loop-client.known) now c.len-in-loop-client.result _ _ m.grows
-          refl refl c.loop-client.yielded c.loop-client.all.items (c.len-in-loop-client.ensures ∙ c.loop-client.all.ok.0) m.stays inv.clients)
-          m.client);
+          refl refl c.loop-client.yielded c.loop-client.all.items (c.len-in-loop-client.ensures ∙ c.loop-client.all.ok.0) (m.stays (c.both.ensures yes).1) (inv.stays (c.both.ensures yes).0))
+          m.met);
     }
 
 pub meets_client-requires : goal.meets_client-requires
@@ -37,4 +41,5 @@ loop-client-init g c =
       own_stays = ap (λ seat. own first.known.number (history_of seat)) opener;
       left = rw c.into_iter-client-iterator.ensures.into_iter_gives.0 c.requires.clients;
       clients = rw c.in_ok-all.ensures.items tt;
+      stays = λ yes. rw c.in_ok-all.ensures.items tt;
     }

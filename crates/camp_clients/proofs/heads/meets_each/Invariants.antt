@@ -1,4 +1,4 @@
-use Rattle.camp_clients.proofs.Words.{◌≡◌, All, AllZip, IsFront, own, IsSeatOf, history_of, sight_of, IsMet}
+use Rattle.camp_clients.proofs.Words.{◌≡◌, All, AllZip, IsTrue, IsFront, own, IsSeatOf, history_of, sight_of, IsMet, IsSeen}
 use Rattle.camp_clients.proofs.heads.meets_each.Given as goal
 
 abbrev pub invariant-loop-client : goal.invariant-loop-client
@@ -8,5 +8,6 @@ invariant-loop-client g l = record {
   grows : IsFront (history_of l.fn.opener) (history_of l.known);
   own_stays : own (l.fn.opener.known.number) (history_of l.known) ≡ own (l.fn.opener.known.number) (history_of l.fn.opener);
   left : All (λ client. IsSeatOf l.head client.seat) l.client-iterator.rest.items;
-  clients : AllZip (IsMet (sight_of l.head) (history_of l.known)) l.yielded l.all.items;
+  clients : AllZip (IsSeen (sight_of l.head) (history_of l.known)) l.yielded l.all.items;
+  stays : IsTrue l.stays → AllZip (IsMet (sight_of l.head) (history_of l.known)) l.yielded l.all.items;
 }
