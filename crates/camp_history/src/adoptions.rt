@@ -213,7 +213,9 @@ impl<State: Object> Head<State> {
 
     /// The longest version that a seat handed on, of those beyond one position and not beyond another.
     fn longest_handed_on(&self, seen: u64, reach: u64) -> Option<&Version<State>>
-        ensures { IfSome result (λ version. All (λ mark. Shows self.now.store mark.call) version.now) }
+        ensures beyond { IfSome result (λ version. seen < length version.now) }
+        ensures within { IfSome result (λ version. length version.now ≤ reach) }
+        ensures stored { IfSome result (λ version. All (λ mark. Shows self.now.store mark.call) version.now) }
     {
         let mut longest = None;
         let mut most = seen;

@@ -1,4 +1,4 @@
-ghost use Rattle.std.specs.Prelude.{◌≡◌, ◌≤◌, ◌↔◌, [], map, All, IfOk, IfErr, IsOk, IsTrue};
+ghost use Rattle.std.specs.Prelude.{◌≡◌, ◌==◌, ◌≤◌, ◌↔◌, ◌*◌, ◌/◌, if◌then◌else◌, [], map, All, IfOk, IfErr, IsOk, IsTrue};
 ghost use Rattle.camp_history.specs.Opening.{IsInRange};
 ghost use Rattle.camp_history.specs.Seats.{unseen};
 ghost use Rattle.camp_object.specs.declared.faults.Fault.TheVariants.{Memory};
@@ -51,13 +51,16 @@ fn is_in_range(seats: u32, per_seat: u32, tries: u32, every: u32) -> bool
 /// A slot for each position up to `seats * per_seat` that is a multiple of `every`; none for 0.
 fn slot_count(seats: u32, per_seat: u32, every: u32) -> usize
     requires { (seats ≤ most_seats) × (per_seat ≤ most_cells) }
+    ensures { result ≡ (if every == 0 then 0 else (seats * per_seat) / every) }
 {
     let most = seats as usize * per_seat as usize;
     most.checked_div(every as usize).unwrap_or(0)
 }
 
 /// A slot for each seat; none where no versions are kept.
-fn handing_count(seats: u32, every: u32) -> usize {
+fn handing_count(seats: u32, every: u32) -> usize
+    ensures { result ≡ (if every == 0 then 0 else seats) }
+{
     if every == 0 { 0 } else { seats as usize }
 }
 
