@@ -1,4 +1,5 @@
-/// What a caller does between the steps of its calls, to tests mostly. It changes no answer.
+/// What a caller does between the steps of its calls, to tests mostly. It changes no answer. That it is
+/// told of each step, and by which numbers, is only tested.
 pub trait Gate {
     /// Before a call of a seat, by the call's number.
     fn before(&self, seat: u32, call: u32);

@@ -97,7 +97,8 @@ impl<State: Object> Head<State> {
     /// A head for so many seats, each of which has at most `per_seat` accepted calls, and the seats,
     /// numbered from 0. A call that writes gives up after `tries` lost exchanges. The numbers are 1
     /// to 64, 1 to 65,536, 1 to 1,000 and 0 to 4,096. A version is kept for each position that is a
-    /// multiple of `every`; where that is 0, none.
+    /// multiple of `every`; where that is 0, none. Which versions there are changes no answer, and is
+    /// only tested.
     pub fn new(
         alloc: Global,
         seats: u32,

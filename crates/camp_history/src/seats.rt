@@ -58,7 +58,7 @@ impl<State: Object> Seat<State> {
         self.pass.turns()
     }
 
-    /// How many versions it took over. It stays at 4,294,967,295.
+    /// How many versions it took over; that is only tested. It stays at 4,294,967,295.
     pub fn adopted(&self) -> u32 {
         self.adopted
     }
