@@ -20,7 +20,7 @@ loop-client-preserved g c =
       stays = λ yes. rw c.in_ok-push.ensures.items
           (zip_push (IsMet (sight_of c.args.head.now) now) c.loop-client.yielded c.loop-client.all.items c.in-Some.client _
           (met_still (sight_of c.args.head.now) (history_of c.loop-client.known) now c.len-in-loop-client.result _ _ m.grows
-          refl refl c.loop-client.yielded c.loop-client.all.items (c.len-in-loop-client.ensures ∙ c.loop-client.all.ok.0) (m.stays (c.both.ensures yes).1) (inv.stays (c.both.ensures yes).0))
+          refl refl c.loop-client.yielded c.loop-client.all.items (c.len-in-loop-client.ensures ∙ c.loop-client.all.ok.0) (m.stays (c.both-stays.ensures yes).1) (inv.stays (c.both-stays.ensures yes).0))
           m.met);
     }
 

@@ -1,4 +1,5 @@
-use Rattle.camp_clients.proofs.Words.{◌≡◌, All, AllZip, IsTrue, IsFront, own, IsSeatOf, history_of, sight_of, IsMet, IsSeen}
+use Rattle.std.specs.Bool.{IsTrue}
+use Rattle.camp_clients.proofs.Words.{◌≡◌, All, AllZip, IsFront, own, IsSeatOf, history_of, sight_of, IsMet, IsSeen}
 use Rattle.camp_clients.proofs.heads.meets_each.Given as goal
 
 abbrev pub invariant-loop-client : goal.invariant-loop-client

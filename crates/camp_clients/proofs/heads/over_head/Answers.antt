@@ -14,8 +14,8 @@ run_clients-requires-clause-ready g c _ _ k d below =
       none_own = b.none_own;
     }
 
-pub meets_each-requires-clause-clients : goal.meets_each-requires-clause-clients
-meets_each-requires-clause-clients g c =
+pub meet_all-requires-clause-clients : goal.meet_all-requires-clause-clients
+meet_all-requires-clause-clients g c =
     zip_all (Ran g.State.Object.object (sight_of c.args.head.now) (c.args.head.now.tries)
     (c.args.head.now.row.per_seat) (lists_of c.args.sections.now))
     (λ client. IsSeatOf c.args.head.now client.seat) (λ before after ran. ran.is_seat)
