@@ -1,16 +1,15 @@
-ghost use Rattle.std.specs.Prelude.{◌≡◌, ◌↔◌, IfErr, IfOk, IsTrue, MatchOption};
+ghost use Rattle.std.specs.Prelude.{◌≡◌, ◌↔◌, IfOk, IsTrue, MatchOption};
 ghost use Rattle.camp_call.specs.Patches.{IsPatchSized};
 
 use crate::MAX_CHANGES;
 use camp_prim::Primitive;
-use camp_share::{Share, Shared};
 use std::alloc::AllocError;
 use std::marker::Model;
 
-/// The changes of a patch in the order in which they are made: 1 to 64 of them. A copy shares them.
+/// The changes of a patch in the order in which they are made: 1 to 64 of them.
 #[derive(Debug, Drop)]
 pub struct Changes {
-    prims: Shared<Vec<Primitive>>,
+    prims: Vec<Primitive>,
 }
 
 impl Model for Changes {
@@ -26,19 +25,16 @@ impl Model for Changes {
 }
 
 impl Changes {
-    /// The changes of a patch, or `None` for no change and for more than 64.
-    pub fn new(prims: Vec<Primitive>) -> Result<Option<Changes>, AllocError>
-        ensures exact { IfOk result (λ answer. MatchOption answer
+    /// The changes of a patch, or `None` for no change and for more than 64. It takes no memory.
+    pub fn new(prims: Vec<Primitive>) -> Option<Changes>
+        ensures exact { MatchOption result
             (¬ (IsPatchSized prims.items))
-            (λ changes. IsPatchSized prims.items × (changes ≡ prims.items))) }
-        ensures memory { IfErr result (λ error. IsPatchSized prims.items) }
+            (λ changes. IsPatchSized prims.items × (changes ≡ prims.items)) }
     {
         if prims.is_empty() || prims.len() > MAX_CHANGES {
-            return Ok(None);
+            return None;
         }
-        let alloc = *prims.allocator();
-        let prims = Shared::new(alloc, prims)?;
-        Ok(Some(Changes { prims }))
+        Some(Changes { prims })
     }
 
     pub fn prims(&self) -> &[Primitive]
@@ -48,11 +44,14 @@ impl Changes {
         &self.prims
     }
 
-    /// A copy, which shares the changes. It takes no memory: an error is a count of owners that is full.
+    /// A copy, which shares the paths and the lines of the changes: memory is taken for their list alone.
     pub fn try_clone(&self) -> Result<Changes, AllocError>
         ensures exact { IfOk result (λ copy. copy ≡ self.now) }
     {
-        let prims = self.prims.share()?;
+        let mut prims = Vec::with_capacity(*self.prims.allocator(), self.prims.len())?;
+        for prim in &self.prims {
+            prims.push(prim.try_clone()?)?;
+        }
         Ok(Changes { prims })
     }
 

@@ -319,7 +319,7 @@ fn one_change(alloc: Global, change: Primitive) -> Result<Changes, AllocError>
 {
     let mut changes = Vec::new(alloc);
     changes.push(change)?;
-    let Some(changes) = Changes::new(changes)? else {
+    let Some(changes) = Changes::new(changes) else {
         unreachable!();
     };
     Ok(changes)

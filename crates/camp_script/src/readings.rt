@@ -156,7 +156,7 @@ impl Reading {
             changes,
             ..
         } = begun;
-        match Changes::new(changes)? {
+        match Changes::new(changes) {
             None => Err(at_line(number, FaultKind::BadGroup)),
             Some(changes) => self.with_call(Call::Record {
                 branch,

@@ -9,19 +9,19 @@ use camp_prim::Primitive;
 use std::alloc::AllocError;
 
 /// The call that records these changes under a name, or none where they are no change or too many.
-pub fn record(branch: Name, name: Name, prims: Vec<Primitive>) -> Result<Option<Call>, AllocError>
-    ensures exact { IfOk result (λ call. MatchOption call
+pub fn record(branch: Name, name: Name, prims: Vec<Primitive>) -> Option<Call>
+    ensures exact { MatchOption result
         (¬ (IsPatchSized prims.items))
-        (λ call. (call ≡ Call.Record branch name prims.items) × IsCall call × (is_writing call ≡ true))) }
+        (λ call. (call ≡ Call.Record branch name prims.items) × IsCall call × (is_writing call ≡ true)) }
 {
-    let Some(changes) = Changes::new(prims)? else {
-        return Ok(None);
+    let Some(changes) = Changes::new(prims) else {
+        return None;
     };
-    Ok(Some(Call::Record {
+    Some(Call::Record {
         branch,
         name,
         changes,
-    }))
+    })
 }
 
 /// A copy of a call, and whether it asks the same: it does.
