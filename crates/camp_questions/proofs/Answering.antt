@@ -1,5 +1,8 @@
 -- Questions that have an answer.
 use Rattle.camp_questions.proofs.Words.{ExactlyOne, get, Files, Catch, LeadsTo, Contents, catches_of, first_lacked, AreAnnotated, annotated, names_of_lines, ◌≡◌, ℕ, List, [], ◌∷◌, Result, Ok, Err, Some, IsErrAnd, refl, sym, ap, ◌∙◌, OfNames, Annotated, AnswerOf, Tells, IsFound, Unanswered, Refused, Memory}
+use Rattle.std.proofs.Common.{Option}
+use Rattle.camp_base.specs.Trees.{Lines}
+use Rattle.camp_questions.specs.Files.{IsFile}
 use Rattle.camp_questions.specs.Showing.{IsShown, Patch, patch_in}
 
 -- there is the branch, and it has the patches
@@ -26,3 +29,7 @@ are_annotated state branch path catches tree told is leads e = rw is (told, refl
 pub is_shown : (state : Contents) (branch name : List ℕ) (names : List (List ℕ)) (catches : List Catch) (shown : Patch) → names ≡ name ∷ [] → IsFound state branch names catches → shown ≡ patch_in catches name → IsShown state branch name (Ok shown)
 is_shown state branch name names catches shown one found is =
     rw found.is (rw (ap (first_lacked catches) (sym one) ∙ found.has) (ap Ok is))
+
+-- there is the branch, and it has this at a path
+pub is_file : (state : Contents) (branch path : List ℕ) (catches : List Catch) (tree : Files) (lines : Option Lines) → catches_of state.branches branch ≡ Some catches → LeadsTo catches tree → lines ≡ get tree path → IsFile state branch path (Ok lines)
+is_file state branch path catches tree lines found leads is = rw found (lines, refl, (tree, leads, is))

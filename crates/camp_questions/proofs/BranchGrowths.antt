@@ -8,7 +8,7 @@ use Rattle.camp_call.specs.declared.calls.Call.TheVariants as call
 use Rattle.camp_questions.proofs.Growths.{Grow, grew, grows_to_one, in_order_there}
 use Rattle.camp_questions.proofs.Stuck.{sticks_between}
 
-contains_alike : (names others : List (List ℕ)) → AreAlike names others → (n : List ℕ) → Contains names n ↔ Contains others n
+pub contains_alike : (names others : List (List ℕ)) → AreAlike names others → (n : List ℕ) → Contains names n ↔ Contains others n
 contains_alike names others alike n =
     (λ c. (is_among_is others n).1 (sym (alike n) ∙ (is_among_is names n).0 c), λ c. (is_among_is names n).1 (alike n ∙ (is_among_is others n).0 c))
 

@@ -1,4 +1,6 @@
 mod Words
+pub mod AlongEnough
+pub mod AlongSteps
 pub mod AnnotationLaws
 pub mod Answering
 pub mod Arrows

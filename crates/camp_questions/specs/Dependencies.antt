@@ -1,4 +1,4 @@
--- Which patches come along with others that are pulled, and which must go with others that are taken out.
+-- Which patches others need in a branch, and which must go with others that are taken out.
 use Rattle.std.specs.Prelude.{◌≡◌, ℕ, List, [], ◌∷◌, ◌++◌, filter, Ok, Err}
 use Rattle.camp_prim.specs.declared.labels.Key.{Key}
 use Rattle.camp_catch.specs.Arranging.{Arrange, ArrangeSticks}
@@ -59,7 +59,7 @@ OfNames Relates state branch names =
     OfBranch state branch (λ catches.
     OfPatches catches names (λ answer. (related : List (List ℕ)) × (answer ≡ Ok related) × Relates catches names related))
 
--- the names that come along with these where they are pulled from a branch
+-- what these names need in a branch
 abbrev pub AreNeeded : Contents → List ℕ → List (List ℕ) → AnswerOf (List (List ℕ)) → Type 0
 AreNeeded = OfNames Needs
 

@@ -1,4 +1,5 @@
 -- What only functions that stay within the crate say.
+pub mod Alongside
 pub mod Finding
 pub mod Foresight
 pub mod Graphing

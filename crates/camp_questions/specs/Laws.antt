@@ -1,5 +1,5 @@
 -- The laws of questions.
-use Rattle.std.specs.Prelude.{◌≡◌, ◌≢◌, ◌↔◌, ◌≤◌, ℕ, ◌+◌, ◌-◌, true, false, List, [], ◌∷◌, ◌++◌, map, length, None, Some}
+use Rattle.std.specs.Prelude.{◌≡◌, ◌≢◌, ◌↔◌, ◌≤◌, ℕ, ◌+◌, ◌-◌, true, false, List, [], ◌∷◌, ◌++◌, map, length, None, Some, Ok}
 use Rattle.std.specs.Prelude.{Contains}
 use Rattle.std.specs.FinMap.{get}
 use Rattle.std.specs.List.{All, AllByRecursion}
@@ -15,12 +15,13 @@ use Rattle.camp_catch.specs.declared.catches.Catch.TheVariants.{Plain}
 use Rattle.camp_branch.specs.Branches.{IsLawfulBranch as IsLawfulBranch, LeadsTo, has_patch, is_among, names_of, recorded}
 use Rattle.camp_branch.specs.Laws.{ExactlyOne}
 use Rattle.camp_call.specs.declared.calls.Call.TheVariants as call
-use Rattle.camp_call.specs.declared.replies.Refusal.TheVariants.{NothingToDo}
+use Rattle.camp_call.specs.declared.replies.Refusal.TheVariants.{Depends, NoPatch, NothingToDo}
 use Rattle.camp_object.specs.declared.objects.Decided.TheVariants.{Next}
 use Rattle.camp_repo.specs.Lawful.{IsLawfulState}
 use Rattle.camp_repo.specs.Laws.{Has}
 use Rattle.camp_repo.specs.States.{Contents}
 use Rattle.camp_repo.specs.Steps.{first_lacked, refused, step}
+use Rattle.camp_questions.specs.Along.{AreAlong}
 use Rattle.camp_questions.specs.Annotations.{Known, behind_hunk, names_of_lines}
 use Rattle.camp_questions.specs.Dependencies.{AreHeldIn, ComeToFront, HeldBy, Needs, StickOn}
 use Rattle.camp_questions.specs.Differences.{missing_in}
@@ -142,3 +143,10 @@ NeedsAreReached =
     (branch : List Catch) (graph : Drawn) (name : List ℕ) (needed : List (List ℕ)) → IsLawfulBranch branch →
     IsPlain branch → IsGraph branch graph → has_patch branch name ≡ true → Needs branch (name ∷ []) needed →
     (other : List ℕ) → (is_among needed other ≡ true) ↔ IsReached graph name other
+
+-- a pull of what comes along is refused neither for a patch that is not there nor for one that another stands on
+abbrev pub AlongIsEnough : Type 0
+AlongIsEnough =
+    (state : Contents) (from to : List ℕ) (names told : List (List ℕ)) → AreAlong state from to names (Ok told) →
+    ((name : List ℕ) → ¬ (step state (call.Pull from to (Some told)) ≡ refused (NoPatch name)))
+    × ((patch on : List ℕ) → ¬ (step state (call.Pull from to (Some told)) ≡ refused (Depends patch on)))

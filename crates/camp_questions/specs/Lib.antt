@@ -1,7 +1,9 @@
+pub mod Along
 pub mod Annotations
 pub mod Answers
 pub mod Dependencies
 pub mod Differences
+pub mod Files
 pub mod Foresight
 pub mod GraphTexts
 pub mod Graphs

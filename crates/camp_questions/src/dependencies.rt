@@ -14,8 +14,9 @@ use camp_repo::{Branch, Names, State};
 use camp_share::SharedMap;
 use std::alloc::{AllocError, Global};
 
-/// The names that come along with these where they are pulled from a branch: these, and each on which
-/// bringing them to the front of the branch sticks. They are told in the order of the branch.
+/// What these names need in a branch: these, and each on which bringing them to the front of the branch
+/// sticks. They are told in the order of the branch. A pull into another branch may want others, which
+/// `along` tells.
 pub fn needs(state: &State, branch: &Name, names: &[Name]) -> Result<Names, Unanswered>
     ensures exact { Tells (AreNeeded state.now branch.now names.now) result }
 {

@@ -6,8 +6,8 @@ use crate::finding::branch_of;
 use camp_base::Name;
 use camp_repo::{Names, State};
 
-/// The names of the patches that the branch `from` has and `to` lacks, in the order of `from`. These
-/// are what a pull without names would bring.
+/// The names of the patches that the branch `from` has and `to` lacks, in the order of `from`: none,
+/// where the two are one. Where nothing refuses it, a pull without names brings these.
 pub fn missing(state: &State, from: &Name, to: &Name) -> Result<Names, Unanswered>
     ensures exact { Tells (IsMissing state.now from.now to.now) result }
 {

@@ -38,7 +38,7 @@ pub(crate) fn branch_with<'a>(
 }
 
 /// The first of some names of which a branch has no patch.
-fn first_lacked(branch: &Branch, names: &[Name]) -> Option<Name>
+pub(crate) fn first_lacked(branch: &Branch, names: &[Name]) -> Option<Name>
     ensures { result ≡ first_lacked branch.now names.now }
 {
     for name in names {

@@ -2,6 +2,8 @@
 #![tactic(auto)]
 
 mod annotations;
+mod bringing;
+mod contents;
 mod dependencies;
 mod differences;
 mod faults;
@@ -14,6 +16,8 @@ mod showing;
 mod walks;
 
 pub use annotations::{Annotated, annotate};
+pub use bringing::along;
+pub use contents::{branches, file};
 pub use dependencies::{held_by, needs};
 pub use differences::missing;
 pub use faults::Unanswered;
@@ -21,7 +25,8 @@ pub use foresight::{Foreseen, Standing, what_if};
 pub use graph_texts::graph_text;
 pub use graphs::{Node, PatchGraph, graph};
 pub use laws::{
-    arrows_are_direct_needs, held_can_go, held_is_determined, lines_have_names, missing_is_pulled,
-    needs_are_determined, needs_are_least, needs_are_reached, needs_come_first, recorded_is_shown,
+    along_is_enough, arrows_are_direct_needs, held_can_go, held_is_determined, lines_have_names,
+    missing_is_pulled, needs_are_determined, needs_are_least, needs_are_reached, needs_come_first,
+    recorded_is_shown,
 };
 pub use showing::{Shown, show};

@@ -23,3 +23,11 @@ module _ {A Z E : Type 0} (text_of : A → List ℕ) (ComesTo : AnswerOf A → T
     tells = texts;
   }
   refusal_told why (Err error) tells is = tt
+
+  -- the same where it is known what each refusal comes of
+  pub refusal_told_by : (why : Unanswered) (said : Result (Vec ℕ Z) E) → ((refusal : Refusal) → why ≡ fault.Refused refusal → ComesTo (Err refusal))
+      → IfOk said (λ text. (refusal : Refusal) × (why ≡ fault.Refused refusal) × (text.items ≡ reply_text (reply.Refused refusal)))
+      → IfOk said (λ text. IsTold text_of ComesTo text.items)
+  refusal_told_by why (Ok text) each (refusal, is, texts) =
+      record { answer = Err refusal; comes = each refusal is; tells = texts }
+  refusal_told_by why (Err error) each is = tt

@@ -32,6 +32,12 @@ branch_and_names (branch ∷ name ∷ names) =
     name_at 1 branch >>= λ branch. names_at 1 (name ∷ names) >>= λ names. Ok (branch, names)
 branch_and_names others = fault_at 1 WrongNumberOfWords
 
+-- two branches, and a name at least
+abbrev pub branches_and_names : List (List ℕ) → Result (List ℕ × List ℕ × List (List ℕ)) LineFault
+branches_and_names (from ∷ to ∷ name ∷ names) =
+    name_at 1 from >>= λ from. name_at 1 to >>= λ to. names_at 1 (name ∷ names) >>= λ names. Ok (from, to, names)
+branches_and_names others = fault_at 1 WrongNumberOfWords
+
 -- a branch alone
 abbrev pub branch_alone : List (List ℕ) → Result (List ℕ) LineFault
 branch_alone words = one_word 1 words >>= name_at 1
@@ -48,6 +54,13 @@ call_topic word =
     else (if bytes_eq word (codes "names") then Some topic.Names
     else None))))))
 
+-- the question about what there is that a word begins
+abbrev pub file_topic : List ℕ → Option Topic
+file_topic word =
+    if bytes_eq word (codes "file") then Some topic.File
+    else (if bytes_eq word (codes "branches") then Some topic.Branches
+    else None)
+
 -- the question about patches that a word begins
 abbrev pub patch_topic : List ℕ → Option Topic
 patch_topic word =
@@ -57,7 +70,8 @@ patch_topic word =
     else (if bytes_eq word (codes "show") then Some topic.Show
     else (if bytes_eq word (codes "annotate") then Some topic.Annotate
     else (if bytes_eq word (codes "graph") then Some topic.Graph
-    else None)))))
+    else (if bytes_eq word (codes "along") then Some topic.Along
+    else file_topic word))))))
 
 -- any other question that a word begins
 abbrev pub other_topic : List ℕ → Option Topic
@@ -91,8 +105,15 @@ abbrev pub plain_question : List ℕ → List (List ℕ) → Result (Option Ques
 plain_question word words =
     if bytes_eq word (codes "history") then (no_words 1 words >>= λ none. Ok (Some question.History))
     else (if bytes_eq word (codes "keep") then (no_words 1 words >>= λ none. Ok (Some question.Keep))
+    else (if bytes_eq word (codes "branches") then (no_words 1 words >>= λ none. Ok (Some question.Branches))
     else (if bytes_eq word (codes "help") then (help_line words >>= λ topic. Ok (Some (question.Help topic)))
-    else Ok None))
+    else Ok None)))
+
+-- one about a file
+abbrev pub file_question : List ℕ → List (List ℕ) → Result (Option Question) LineFault
+file_question word words =
+    if bytes_eq word (codes "file") then (branch_and_path words >>= λ pair. Ok (Some (question.File pair.0 pair.1)))
+    else plain_question word words
 
 -- one without a list of names
 abbrev pub short_question : List ℕ → List (List ℕ) → Result (Option Question) LineFault
@@ -104,7 +125,7 @@ short_question word words =
     else (if bytes_eq word (codes "annotate")
     then (branch_and_path words >>= λ pair. Ok (Some (question.Annotate pair.0 pair.1)))
     else (if bytes_eq word (codes "graph") then (branch_alone words >>= λ branch. Ok (Some (question.Graph branch)))
-    else plain_question word words)))
+    else file_question word words)))
 
 -- any but `whatif`
 abbrev pub question_of : List ℕ → List (List ℕ) → Result (Option Question) LineFault
@@ -113,7 +134,9 @@ question_of word words =
     then (branch_and_names words >>= λ pair. Ok (Some (question.Needs pair.0 pair.1)))
     else (if bytes_eq word (codes "held")
     then (branch_and_names words >>= λ pair. Ok (Some (question.Held pair.0 pair.1)))
-    else short_question word words)
+    else (if bytes_eq word (codes "along")
+    then (branches_and_names words >>= λ three. Ok (Some (question.Along three.0 three.1 three.2)))
+    else short_question word words))
 
 -- ---- what a command asks
 

@@ -12,8 +12,8 @@ page lines = flat_map (λ line. line ++ codes "\n") lines
 abbrev pub commands : List Topic
 commands =
     topic.Branch ∷ topic.Record ∷ topic.Pull ∷ topic.Obliterate ∷ topic.Tree ∷ topic.Conflicts ∷ topic.Names
-    ∷ topic.Needs ∷ topic.Held ∷ topic.Missing ∷ topic.Show ∷ topic.Annotate ∷ topic.Graph ∷ topic.WhatIf
-    ∷ topic.History ∷ topic.Keep ∷ topic.Help ∷ []
+    ∷ topic.Branches ∷ topic.File ∷ topic.Needs ∷ topic.Held ∷ topic.Missing ∷ topic.Along ∷ topic.Show
+    ∷ topic.Annotate ∷ topic.Graph ∷ topic.WhatIf ∷ topic.History ∷ topic.Keep ∷ topic.Help ∷ []
 
 -- how a command is written, and what it does, in a line for each of its forms
 abbrev pub summary : Topic → List ℕ
@@ -31,9 +31,12 @@ summary topic.Obliterate = page (codes "obliterate BRANCH NAME ..: take patches 
 summary topic.Tree = page (codes "tree BRANCH: the files of a branch" ∷ [])
 summary topic.Conflicts = page (codes "conflicts BRANCH: the pairs of patches of a branch that are in conflict" ∷ [])
 summary topic.Names = page (codes "names BRANCH: the patches of a branch" ∷ [])
-summary topic.Needs = page (codes "needs BRANCH NAME ..: what comes along where these patches are pulled" ∷ [])
+summary topic.Branches = page (codes "branches: the branches, in order of creation" ∷ [])
+summary topic.File = page (codes "file BRANCH PATH: the lines of a file" ∷ [])
+summary topic.Needs = page (codes "needs BRANCH NAME ..: what these patches of a branch need there" ∷ [])
 summary topic.Held = page (codes "held BRANCH NAME ..: what must go where these patches are taken out" ∷ [])
 summary topic.Missing = page (codes "missing FROM TO: the patches that FROM has and TO lacks" ∷ [])
+summary topic.Along = page (codes "along FROM TO NAME ..: what a pull of these patches has to list" ∷ [])
 summary topic.Show = page (codes "show BRANCH NAME: a patch as it stands in a branch" ∷ [])
 summary topic.Annotate = page (codes "annotate BRANCH PATH: the lines of a file, and which patch put each there" ∷ [])
 summary topic.Graph = page (codes "graph BRANCH: how the patches hang together, for Graphviz" ∷ [])
@@ -52,7 +55,9 @@ details topic.Record = page (
 details topic.Obliterate = page (codes "No patch that stays may depend on one that goes: held tells which do." ∷ [])
 details topic.Needs = page (codes "The patches themselves are told, too, all in the order of the branch." ∷ [])
 details topic.Held = page (codes "The patches themselves are told, too, all in the order of the branch." ∷ [])
-details topic.Missing = page (codes "This is what pull FROM TO would bring." ∷ [])
+details topic.Missing = page (codes "Where nothing refuses it, this is what pull FROM TO brings." ∷ [])
+details topic.Along = page (
+    codes "Those that TO lacks, and what they need behind what both have, in the order of FROM." ∷ [])
 details topic.Show = page (
     codes "Its catches, a line for each: [PATCH], or (EFFECT, CONFLICTS, IDENTITY) in a conflict." ∷
     codes "Then what they change, as a script has it." ∷ [])
@@ -74,11 +79,14 @@ example topic.Obliterate = page (codes "obliterate main hello" ∷ [])
 example topic.Tree = page (codes "tree main" ∷ [])
 example topic.Conflicts = page (codes "conflicts main" ∷ [])
 example topic.Names = page (codes "names main" ∷ [])
+example topic.Branches = page (codes "branches" ∷ [])
+example topic.File = page (codes "file main notes" ∷ [])
 example topic.Needs = page (codes "needs main hello" ∷ [])
 example topic.Held = page (codes "held main hello" ∷ [])
 example topic.Missing = page (codes "missing anna main" ∷ [])
 example topic.Show = page (codes "show main hello" ∷ [])
 example topic.Annotate = page (codes "annotate main notes" ∷ [])
+example topic.Along = page (codes "along anna main hello" ∷ [])
 example topic.Graph = page (codes "graph main" ∷ [])
 example topic.WhatIf = page (codes "whatif pull anna main" ∷ [])
 example topic.History = page (codes "history" ∷ [])

@@ -3,14 +3,17 @@ use Rattle.std.specs.Prelude.{◌≡◌, ℕ, List, [], ◌∷◌, ◌++◌, len
 use Rattle.std.specs.List.{flat_map, zip}
 use Rattle.std.specs.Fmt.{decimal}
 use Rattle.camp_base.specs.Signs.{newline, space}
+use Rattle.camp_base.specs.Trees.{Lines}
 use Rattle.camp_catch.specs.declared.catches.Catch.{Catch}
 use Rattle.camp_call.specs.declared.replies.Reply.TheVariants.{Refused}
 use Rattle.camp_notation.specs.Catches.{catch_text}
 use Rattle.camp_object.specs.Histories.{replay}
+use Rattle.camp_questions.specs.Along.{AreAlong}
 use Rattle.camp_questions.specs.Annotations.{AreAnnotated}
 use Rattle.camp_questions.specs.Answers.{AnswerOf}
 use Rattle.camp_questions.specs.Dependencies.{AreHeldBy, AreNeeded}
 use Rattle.camp_questions.specs.Differences.{IsMissing}
+use Rattle.camp_questions.specs.Files.{IsFile, branch_names}
 use Rattle.camp_questions.specs.Foresight.{Foresees}
 use Rattle.camp_questions.specs.GraphTexts.{graph_text}
 use Rattle.camp_questions.specs.Graphs.{Drawn, IsGraphOf}
@@ -52,6 +55,15 @@ pub record IsTold {A : Type 0} (text_of : A → List ℕ) (ComesTo : AnswerOf A 
 abbrev pub names_told : List ℕ → List (List ℕ) → List ℕ
 names_told word names = counted word (flat_map name_text names)
 
+-- that there is no file
+abbrev pub no_file_told : List ℕ
+no_file_told = codes "no file\n"
+
+-- the lines of a file, or that there is none
+abbrev pub file_told : Option Lines → List ℕ
+file_told None = no_file_told
+file_told (Some lines) = counted (codes "file") (flat_map (signed_line equals_sign) lines)
+
 -- a graph in DOT
 abbrev pub graph_told : Drawn → List ℕ
 graph_told graph = counted (codes "graph") (graph_text graph)
@@ -63,7 +75,7 @@ annotated_line pair = pair.1 ++ space ∷ signed_line equals_sign pair.0
 -- the lines of a file with their names, or that there is no file
 abbrev pub annotated_told : Annotated → List ℕ
 annotated_told (File lines names) = counted (codes "annotate") (flat_map annotated_line (zip lines names))
-annotated_told NoFile = codes "no file\n"
+annotated_told NoFile = no_file_told
 
 -- a catch in the notation of patches, on a line: each of its primitives as a whole
 abbrev pub catch_line : Catch → List ℕ
@@ -101,6 +113,11 @@ TellsAt history state (question.Missing from to) text =
 TellsAt history state (question.Show branch name) text = IsTold patch_told (IsShown state branch name) text
 TellsAt history state (question.Annotate branch path) text =
     IsTold annotated_told (AreAnnotated state branch path) text
+TellsAt history state (question.Along from to names) text =
+    IsTold (names_told (codes "along")) (AreAlong state from to names) text
+TellsAt history state (question.File branch path) text = IsTold file_told (IsFile state branch path) text
+TellsAt history state question.Branches text =
+    text ≡ names_told (codes "branches") (branch_names state)
 TellsAt history state (question.Graph branch) text = IsTold graph_told (IsGraphOf state branch) text
 TellsAt history state (question.WhatIf call) text =
     (seen : Foreseen) × Foresees state call seen × (text ≡ foreseen_told seen)

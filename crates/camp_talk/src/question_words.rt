@@ -1,7 +1,7 @@
 //! The words of questions.
 ghost use Rattle.std.specs.Prelude.{◌≡◌, map};
 ghost use Rattle.camp_script.specs.Gives.{Gives};
-ghost use Rattle.camp_talk.specs.Asking.{branch_alone, branch_and_names, branch_and_path, plain_question, question_of, short_question, two_names};
+ghost use Rattle.camp_talk.specs.Asking.{branch_alone, branch_and_names, branch_and_path, branches_and_names, file_question, plain_question, question_of, short_question, two_names};
 
 use crate::questions::Question;
 use crate::topics::help_topic;
@@ -36,6 +36,10 @@ pub(crate) fn read_question(
         let (branch, names) = branch_and_names(alloc, words)?;
         return Ok(Some(Question::Held { branch, names }));
     }
+    if word == b"along".as_slice() {
+        let (from, to, names) = branches_and_names(alloc, words)?;
+        return Ok(Some(Question::Along { from, to, names }));
+    }
     let words = first_words(words);
     short_question(alloc, word, words.as_slice())
 }
@@ -63,6 +67,20 @@ fn short_question(
         let branch = branch_alone(words)?;
         return Ok(Some(Question::Graph(branch)));
     }
+    file_question(alloc, word, words)
+}
+
+fn file_question(
+    alloc: Global,
+    word: &[u8],
+    words: &[&[u8]],
+) -> Result<Option<Question>, ScriptFault>
+    ensures { Gives result (file_question word.now (map (λ word. word.now) words.now)) }
+{
+    if word == b"file".as_slice() {
+        let (branch, path) = branch_and_path(alloc, words)?;
+        return Ok(Some(Question::File { branch, path }));
+    }
     plain_question(word, words)
 }
 
@@ -76,6 +94,10 @@ fn plain_question(word: &[u8], words: &[&[u8]]) -> Result<Option<Question>, Scri
     if word == b"keep".as_slice() {
         no_words(1, words)?;
         return Ok(Some(Question::Keep));
+    }
+    if word == b"branches".as_slice() {
+        no_words(1, words)?;
+        return Ok(Some(Question::Branches));
     }
     if word == b"help".as_slice() {
         let topic = help_topic(words)?;
@@ -96,6 +118,27 @@ fn branch_and_names(alloc: Global, mut words: Words<'_>) -> Result<(Name, Names)
     let branch = name_at(1, branch)?;
     let names = names_at(alloc, 1, words)?;
     Ok((branch, names))
+}
+
+fn branches_and_names(
+    alloc: Global,
+    mut words: Words<'_>,
+) -> Result<(Name, Name, Names), ScriptFault>
+    ensures { Gives result (branches_and_names words.entry) }
+{
+    let Some(from) = words.next() else {
+        return Err(fault(FaultKind::WrongNumberOfWords));
+    };
+    let Some(to) = words.next() else {
+        return Err(fault(FaultKind::WrongNumberOfWords));
+    };
+    let Some(_) = words.again().next() else {
+        return Err(fault(FaultKind::WrongNumberOfWords));
+    };
+    let from = name_at(1, from)?;
+    let to = name_at(1, to)?;
+    let names = names_at(alloc, 1, words)?;
+    Ok((from, to, names))
 }
 
 fn two_names(words: &[&[u8]]) -> Result<(Name, Name), ScriptFault>

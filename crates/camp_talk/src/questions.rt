@@ -5,7 +5,7 @@ use camp_call::{Call, Names};
 /// A question. It changes nothing.
 #[derive(Debug, Drop)]
 pub enum Question {
-    /// What comes along where patches are pulled from a branch.
+    /// What patches need in a branch.
     Needs { branch: Name, names: Names },
     /// What must go where patches are taken out of a branch.
     Held { branch: Name, names: Names },
@@ -15,6 +15,12 @@ pub enum Question {
     Show { branch: Name, name: Name },
     /// Which patch put each line of a file there.
     Annotate { branch: Name, path: Path },
+    /// What a pull of patches from one branch into another has to list.
+    Along { from: Name, to: Name, names: Names },
+    /// The lines of a file.
+    File { branch: Name, path: Path },
+    /// The branches.
+    Branches,
     /// The patches of a branch, what each needs directly, and which are in conflict.
     Graph(Name),
     /// What a call would be answered, and how its branch would stand then.
@@ -43,6 +49,9 @@ pub enum Topic {
     Missing,
     Show,
     Annotate,
+    Along,
+    File,
+    Branches,
     Graph,
     WhatIf,
     History,

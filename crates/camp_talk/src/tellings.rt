@@ -7,8 +7,8 @@ use crate::told_foresight::tell_foreseen;
 use crate::told_graphs::tell_graph;
 use crate::told_help::tell_help;
 use crate::told_histories::{tell_history, tell_kept};
-use crate::told_lines::tell_annotated;
-use crate::told_names::{tell_held, tell_missing, tell_needs};
+use crate::told_lines::{tell_annotated, tell_file};
+use crate::told_names::{tell_along, tell_branches, tell_held, tell_missing, tell_needs};
 use crate::told_patches::tell_shown;
 use camp_repo::{Book, Call, State};
 use std::alloc::{AllocError, Global};
@@ -39,6 +39,11 @@ fn answer_at(
         Question::Missing { from, to } => tell_missing(alloc, state, from, to),
         Question::Show { branch, name } => tell_shown(alloc, state, branch, name),
         Question::Annotate { branch, path } => tell_annotated(alloc, state, branch, path),
+        Question::Along { from, to, names } => {
+            tell_along(alloc, state, from, to, names.as_slice())
+        }
+        Question::File { branch, path } => tell_file(alloc, state, branch, path),
+        Question::Branches => tell_branches(alloc, state),
         Question::Graph(branch) => tell_graph(alloc, state, branch),
         Question::WhatIf(call) => tell_foreseen(alloc, state, call),
         Question::History => tell_history(alloc, history),

@@ -42,7 +42,7 @@ fn all_summaries(alloc: Global) -> Result<Vec<u8>, AllocError>
 }
 
 // The commands, in the order in which they are told.
-fn commands() -> [Topic; 17]
+fn commands() -> [Topic; 20]
     ensures { result ≡ commands }
 {
     [
@@ -53,9 +53,12 @@ fn commands() -> [Topic; 17]
         Topic::Tree,
         Topic::Conflicts,
         Topic::Names,
+        Topic::Branches,
+        Topic::File,
         Topic::Needs,
         Topic::Held,
         Topic::Missing,
+        Topic::Along,
         Topic::Show,
         Topic::Annotate,
         Topic::Graph,
@@ -89,9 +92,12 @@ fn summary(topic: Topic) -> &'static str
             "conflicts BRANCH: the pairs of patches of a branch that are in conflict\n"
         }
         Topic::Names => "names BRANCH: the patches of a branch\n",
-        Topic::Needs => "needs BRANCH NAME ..: what comes along where these patches are pulled\n",
+        Topic::Branches => "branches: the branches, in order of creation\n",
+        Topic::File => "file BRANCH PATH: the lines of a file\n",
+        Topic::Needs => "needs BRANCH NAME ..: what these patches of a branch need there\n",
         Topic::Held => "held BRANCH NAME ..: what must go where these patches are taken out\n",
         Topic::Missing => "missing FROM TO: the patches that FROM has and TO lacks\n",
+        Topic::Along => "along FROM TO NAME ..: what a pull of these patches has to list\n",
         Topic::Show => "show BRANCH NAME: a patch as it stands in a branch\n",
         Topic::Annotate => {
             "annotate BRANCH PATH: the lines of a file, and which patch put each there\n"
@@ -122,7 +128,10 @@ fn details(topic: Topic) -> &'static str
         Topic::Needs | Topic::Held => {
             "The patches themselves are told, too, all in the order of the branch.\n"
         }
-        Topic::Missing => "This is what pull FROM TO would bring.\n",
+        Topic::Along => {
+            "Those that TO lacks, and what they need behind what both have, in the order of FROM.\n"
+        }
+        Topic::Missing => "Where nothing refuses it, this is what pull FROM TO brings.\n",
         Topic::Show => {
             "Its catches, a line for each: [PATCH], or (EFFECT, CONFLICTS, IDENTITY) in a conflict.\n\
             Then what they change, as a script has it.\n"
@@ -151,11 +160,14 @@ fn example(topic: Topic) -> &'static str
         Topic::Tree => "tree main\n",
         Topic::Conflicts => "conflicts main\n",
         Topic::Names => "names main\n",
+        Topic::Branches => "branches\n",
+        Topic::File => "file main notes\n",
         Topic::Needs => "needs main hello\n",
         Topic::Held => "held main hello\n",
         Topic::Missing => "missing anna main\n",
         Topic::Show => "show main hello\n",
         Topic::Annotate => "annotate main notes\n",
+        Topic::Along => "along anna main hello\n",
         Topic::Graph => "graph main\n",
         Topic::WhatIf => "whatif pull anna main\n",
         Topic::History => "history\n",

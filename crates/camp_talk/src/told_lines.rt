@@ -1,12 +1,14 @@
 //! The lines of a file, and the patches that put them there.
-ghost use Rattle.std.specs.Prelude.{◌≡◌, IfOk};
+ghost use Rattle.std.specs.Prelude.{◌≡◌, ◌++◌, IfOk, OnOk};
 ghost use Rattle.std.specs.List.{flat_map, zip};
 ghost use Rattle.camp_questions.specs.Annotations.{AreAnnotated};
-ghost use Rattle.camp_talk.specs.Told.{IsTold, annotated_line, annotated_told};
+ghost use Rattle.camp_questions.specs.Files.{IsFile};
+ghost use Rattle.camp_script.specs.Texts.{signed_line};
+ghost use Rattle.camp_talk.specs.Told.{IsTold, annotated_line, annotated_told, file_told, no_file_told};
 
 use crate::told::{counted, unanswered};
 use camp_base::{Line, Name, Path};
-use camp_questions::{Annotated, annotate};
+use camp_questions::{Annotated, annotate, file};
 use camp_repo::State;
 use camp_share::SharedList;
 use std::alloc::{AllocError, Global};
@@ -35,12 +37,59 @@ fn tell_lines(alloc: Global, annotated: &Annotated) -> Result<Vec<u8>, AllocErro
             let text = annotated_lines(alloc, lines, names)?;
             counted(alloc, "annotate", &text)
         }
-        Annotated::NoFile => {
-            let mut text = Vec::new(alloc);
-            text.extend_from_slice(b"no file\n")?;
-            Ok(text)
-        }
+        Annotated::NoFile => no_file(alloc),
     }
+}
+
+/// That a branch has no such file.
+pub(crate) fn no_file(alloc: Global) -> Result<Vec<u8>, AllocError>
+    ensures { IfOk result (λ text. text.items ≡ no_file_told) }
+{
+    let mut text = Vec::new(alloc);
+    text.extend_from_slice(b"no file\n")?;
+    Ok(text)
+}
+
+/// The lines of a file of a branch.
+pub(crate) fn tell_file(
+    alloc: Global,
+    state: &State,
+    branch: &Name,
+    path: &Path,
+) -> Result<Vec<u8>, AllocError>
+    ensures { IfOk result (λ text. IsTold file_told (IsFile state.now branch.now path.now) text.items) }
+{
+    match file(state, branch, path) {
+        Ok(lines) => file_text(alloc, lines),
+        Err(why) => unanswered(alloc, why),
+    }
+}
+
+fn file_text(alloc: Global, lines: Option<SharedList<Line>>) -> Result<Vec<u8>, AllocError>
+    ensures { IfOk result (λ text. text.items ≡ file_told lines) }
+{
+    let Some(lines) = lines else {
+        return no_file(alloc);
+    };
+    let mut text = Vec::new(alloc);
+    append_lines(&mut text, b'=', &lines)?;
+    counted(alloc, "file", &text)
+}
+
+/// Puts lines behind a text, each behind a sign.
+pub(crate) fn append_lines(
+    text: &mut Vec<u8>,
+    sign: u8,
+    lines: &SharedList<Line>,
+) -> Result<(), AllocError>
+    ensures { OnOk result (text.new.items ≡ text.old.items ++ flat_map (signed_line sign) lines.now) }
+{
+    for line in lines.iter() {
+        text.push(sign)?;
+        text.extend_from_slice(line.bytes())?;
+        text.push(b'\n')?;
+    }
+    Ok(())
 }
 
 fn annotated_lines(

@@ -1,18 +1,20 @@
 //! Questions that are answered with names.
 ghost use Rattle.std.specs.Prelude.{◌≡◌, codes, IfOk};
 ghost use Rattle.std.specs.List.{flat_map};
+ghost use Rattle.camp_questions.specs.Along.{AreAlong};
 ghost use Rattle.camp_questions.specs.Dependencies.{AreHeldBy, AreNeeded};
 ghost use Rattle.camp_questions.specs.Differences.{IsMissing};
+ghost use Rattle.camp_questions.specs.Files.{branch_names};
 ghost use Rattle.camp_script.specs.Texts.{name_text};
 ghost use Rattle.camp_talk.specs.Told.{IsTold, names_told};
 
 use crate::told::{counted, unanswered};
 use camp_base::Name;
-use camp_questions::{held_by, missing, needs};
+use camp_questions::{along, branches, held_by, missing, needs};
 use camp_repo::{Names, State};
 use std::alloc::{AllocError, Global};
 
-/// The names that come along with these.
+/// The names that these need in a branch.
 pub(crate) fn tell_needs(
     alloc: Global,
     state: &State,
@@ -58,6 +60,31 @@ pub(crate) fn tell_missing(
         Ok(lacked) => tell_names(alloc, "missing", &lacked),
         Err(why) => unanswered(alloc, why),
     }
+}
+
+/// The names that a pull of these has to list.
+pub(crate) fn tell_along(
+    alloc: Global,
+    state: &State,
+    from: &Name,
+    to: &Name,
+    names: &[Name],
+) -> Result<Vec<u8>, AllocError>
+    ensures { IfOk result (λ text.
+        IsTold (names_told (codes "along")) (AreAlong state.now from.now to.now names.now) text.items) }
+{
+    match along(state, from, to, names) {
+        Ok(told) => tell_names(alloc, "along", &told),
+        Err(why) => unanswered(alloc, why),
+    }
+}
+
+/// The names of the branches.
+pub(crate) fn tell_branches(alloc: Global, state: &State) -> Result<Vec<u8>, AllocError>
+    ensures { IfOk result (λ text. text.items ≡ names_told (codes "branches") (branch_names state.now)) }
+{
+    let names = branches(alloc, state)?;
+    tell_names(alloc, "branches", &names)
 }
 
 // Names behind the word of their command.

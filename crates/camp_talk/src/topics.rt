@@ -1,7 +1,7 @@
 //! What help is asked for.
 ghost use Rattle.std.specs.Prelude.{◌≡◌, map};
 ghost use Rattle.camp_script.specs.Gives.{Gives};
-ghost use Rattle.camp_talk.specs.Asking.{call_topic, help_line, other_topic, patch_topic, topic_at};
+ghost use Rattle.camp_talk.specs.Asking.{call_topic, file_topic, help_line, other_topic, patch_topic, topic_at};
 
 use crate::question_words::fault;
 use crate::questions::Topic;
@@ -81,6 +81,21 @@ fn patch_topic(word: &[u8]) -> Option<Topic>
     }
     if word == b"graph".as_slice() {
         return Some(Topic::Graph);
+    }
+    if word == b"along".as_slice() {
+        return Some(Topic::Along);
+    }
+    file_topic(word)
+}
+
+fn file_topic(word: &[u8]) -> Option<Topic>
+    ensures { result ≡ file_topic word.now }
+{
+    if word == b"file".as_slice() {
+        return Some(Topic::File);
+    }
+    if word == b"branches".as_slice() {
+        return Some(Topic::Branches);
     }
     None
 }

@@ -1,0 +1,194 @@
+-- A pull of what comes along is not refused for want of a patch.
+use Rattle.camp_questions.proofs.Words.{◌≡◌, ◌≢◌, ◌⊎◌, ℕ, Bool, true, false, true≢false, not, cond, ◌&&◌, ◌||◌, List, [], ◌∷◌, ◌++◌, map, filter, Option, None, Some, Ok, Err, bytes_eq, refl, sym, ap, ◌∙◌, inl, inr, subst, Key, Catch, has_patch, is_among, name_of, name_itself, names_of, same_name, among_kept, among_once, Arrange, AreAlike, Answer, Next, Contents, after, catches_of, first_lacked, is_empty, step, with_catches, AreAmong, AreGrown, ComeToFront, StickOn, in_order}
+use Rattle.std.specs.Prelude.{MatchOption}
+use Rattle.camp_branch.proofs.Names.{filter_image, is_among_is, not_among}
+use Rattle.camp_branch.proofs.Words.{cond-false, cond-true}
+use Rattle.camp_branch.proofs.OutcomesDetermined.{outcomes_are_determined}
+use Rattle.camp_branch.specs.Pulling.{MergesBehind, Outcome, PullGives, WantedNext, common_names}
+use Rattle.camp_branch.specs.declared.faults.Blocked.{Blocked}
+use Rattle.camp_branch.specs.declared.faults.Blocked.TheVariants as blocked
+use Rattle.camp_call.specs.declared.calls.Call.TheVariants as call
+use Rattle.camp_call.specs.declared.replies.Refusal.{Refusal}
+use Rattle.camp_call.specs.declared.replies.Refusal.TheVariants.{Depends, NoBranch, NoPatch, NothingToDo, SameBranch, TooLarge}
+use Rattle.camp_catch.proofs.KeptLabels.{keep_labels}
+use Rattle.camp_catch.proofs.ListResults.{lists_are_unique, lists_succeed_or_stick}
+use Rattle.camp_catch.specs.Laws.{KeysPart, keys_of}
+use Rattle.camp_repo.specs.Outcomes.{pulled}
+use Rattle.camp_repo.specs.Steps.{Decision, becomes, is_full_with, refused, refused_if, wanted}
+use Rattle.camp_questions.proofs.BranchGrowths.{contains_alike, none_lacked, none_lacked_among, to_front}
+use Rattle.camp_questions.proofs.Growths.{all_done, all_own, among_both, in_order_there, same_in_order}
+use Rattle.camp_questions.specs.Along.{AlongOr, AreAlong, ComesAlong, OfTwo}
+use Rattle.camp_questions.specs.Answers.{AnswerOf, OfBranch, OfPatches}
+use Rattle.camp_questions.specs.Laws.{AlongIsEnough}
+
+diverged_not : {A : Type 0} (name patch on : List ℕ) (outcome : Outcome) → outcome ≡ Err (blocked.Diverged name) → outcome ≡ Err (blocked.Depends patch on) → A
+diverged_not name patch on outcome e f = cc
+
+no_merge_not : {A : Type 0} (left right patch on : List ℕ) (outcome : Outcome) → outcome ≡ Err (blocked.NoMerge left right) → outcome ≡ Err (blocked.Depends patch on) → A
+no_merge_not left right patch on outcome e f = cc
+
+comes_not : {A : Type 0} (list : List Catch) (patch on : List ℕ) (outcome : Outcome) → outcome ≡ Ok list → outcome ≡ Err (blocked.Depends patch on) → A
+comes_not list patch on outcome e f = cc
+
+-- no outcome behind the common patches is that one patch stands on another
+merges_not_depend : (common : List (List ℕ)) (from_common chosen to : List Catch) (patch on : List ℕ) (outcome : Outcome) → MergesBehind common from_common chosen to outcome → outcome ≡ Err (blocked.Depends patch on) → ⊥
+merges_not_depend common from_common chosen to patch on outcome (inr (stuck, other, sticks, e)) is = diverged_not stuck.name patch on outcome e is
+merges_not_depend common from_common chosen to patch on outcome (inl (to_common, others, first, inl (align, inl (x, y, merge, e)))) is = comes_not (to ++ x) patch on outcome e is
+merges_not_depend common from_common chosen to patch on outcome (inl (to_common, others, first, inl (align, inr (left, right, sticks, e)))) is = no_merge_not left.name right.name patch on outcome e is
+merges_not_depend common from_common chosen to patch on outcome (inl (to_common, others, first, inr (inl (stuck, sticks, e)))) is = diverged_not stuck.name patch on outcome e is
+merges_not_depend common from_common chosen to patch on outcome (inl (to_common, others, first, inr (inr (aligned, name, align, differs, e)))) is = diverged_not name patch on outcome e is
+
+wanted_not_depend : (names common : List (List ℕ)) (from_common list to : List Catch) (patch on : List ℕ) (outcome : Outcome) → ComeToFront list names → WantedNext names list (λ chosen left. MergesBehind common from_common chosen to) outcome → outcome ≡ Err (blocked.Depends patch on) → ⊥
+wanted_not_depend names common from_common list to patch on outcome front (inl (chosen, left, arranged, merges)) is =
+    merges_not_depend common from_common chosen to patch on outcome merges is
+wanted_not_depend names common from_common list to patch on outcome front (inr (stuck, other, sticks, e)) is =
+    absurd ((lists_succeed_or_stick.arranges names list).1 front (stuck, other, sticks))
+
+-- where names come next behind the common patches, no pull of them is refused since one stands on another
+not_depends : (from to : List Catch) (names : List (List ℕ)) (common behind : List Catch) (patch on : List ℕ) (outcome : Outcome) → Arrange (common_names from to) from common behind → ComeToFront behind names → PullGives from to names outcome → outcome ≡ Err (blocked.Depends patch on) → ⊥
+not_depends from to names common behind patch on outcome arranged front (inl (first, list, also, next)) is =
+    let same = lists_are_unique.arranged (common_names from to) from common first behind list arranged also in
+    wanted_not_depend names (common_names from to) first list to patch on outcome (subst (λ l. ComeToFront l names) same.1 front) next is
+not_depends from to names common behind patch on outcome arranged front (inr (stuck, other, sticks, e)) is = diverged_not stuck.name patch on outcome e is
+
+-- what is arranged by names is what passes their test, and the rest
+abbrev Chosen : List (List ℕ) → List Key → List Key → List Key → Type 0
+Chosen names keys first rest =
+    (first ≡ filter (λ k. is_among names k.name) keys) × (rest ≡ filter (λ k. not (is_among names k.name)) keys)
+
+chosen_by : (names : List (List ℕ)) (keys first rest : List Key) → KeysPart names keys first rest → Chosen names keys first rest
+chosen_by names [] first rest w = w
+chosen_by names (key ∷ keys) first rest (inl w) =
+    let v = w.1 in
+    let e = (is_among_is names key.name).0 w.0 in
+    let more = chosen_by names keys v.0 rest v.1 in
+    (v.2 ∙ ap (λ t. key ∷ t) more.0 ∙ sym (cond-true (is_among names key.name) _ _ e), more.1 ∙ sym (cond-false (not (is_among names key.name)) _ _ (ap not e)))
+chosen_by names (key ∷ keys) first rest (inr w) =
+    let v = w.1 in
+    let e = not_among names key.name w.0 in
+    let more = chosen_by names keys first v.0 v.1 in
+    (more.0 ∙ sym (cond-false (is_among names key.name) _ _ e), v.2 ∙ ap (λ t. key ∷ t) more.1 ∙ sym (cond-true (not (is_among names key.name)) _ _ (ap not e)))
+
+names_at : (list : List Catch) → map name_of list ≡ map (λ (key : Key). key.name) (keys_of list)
+names_at [] = refl
+names_at (k ∷ list) = ap (λ t. name_of k ∷ t) (names_at list)
+
+and_not : (a b : Bool) → (a && not (a && b)) ≡ (a && not b)
+and_not true b = refl
+and_not false b = refl
+
+-- behind the common patches stand those that the other branch lacks
+lacked_behind : (from to common behind : List Catch) → Arrange (common_names from to) from common behind → (n : List ℕ) → is_among (map name_of behind) n ≡ (has_patch from n && not (has_patch to n))
+lacked_behind from to common behind arranged n =
+    let names = common_names from to in
+    let keys = (chosen_by names (keys_of from) (keys_of common) (keys_of behind) (keep_labels.arranged names from common behind arranged)).1 in
+    let are : map name_of behind ≡ filter (λ m. not (is_among names m)) (map name_of from) =
+    names_at behind ∙ ap (map (λ (key : Key). key.name)) keys ∙ sym (filter_image (λ (key : Key). key.name) (λ m. not (is_among names m)) (keys_of from)) ∙ ap (filter (λ m. not (is_among names m))) (sym (names_at from)) in
+    let both : is_among names n ≡ (has_patch from n && has_patch to n) = among_kept (has_patch to) (names_of from) n ∙ ap (λ b. b && has_patch to n) (among_once (map name_of from) n) in
+    ap (λ l. is_among l n) are ∙ among_kept (λ m. not (is_among names m)) (map name_of from) n ∙ ap (λ b. has_patch from n && not b) both ∙ and_not (has_patch from n) (has_patch to n)
+
+both_true : (a b : Bool) → a ≡ true → b ≡ true → (a && b) ≡ true
+both_true true b e f = f
+both_true false b e f = cc
+
+second_true : (a b : Bool) → (a && b) ≡ true → b ≡ true
+second_true true b e = e
+second_true false b e = cc
+
+first_true : (a b : Bool) → (a && b) ≡ true → a ≡ true
+first_true true b e = refl
+first_true false b e = cc
+
+and_true : (a b : Bool) → (a ≡ true → b ≡ true) → (a && b) ≡ a
+and_true true b e = e refl
+and_true false b e = refl
+
+module _ (theirs ours : List Catch) (names told : List (List ℕ)) (none : first_lacked theirs names ≡ None) (along : ComesAlong theirs ours names told) where
+  -- the names that are wanted are of patches that stand there
+  wanted_there : AreAmong (wanted ours names) (map name_of along.1)
+  wanted_there n there =
+      let kept : (is_among names n && not (has_patch ours n)) ≡ true = sym (among_kept (λ m. not (has_patch ours m)) names n) ∙ there in
+      lacked_behind theirs ours along.0 along.1 along.2 n ∙ both_true (has_patch theirs n) (not (has_patch ours n)) (none_lacked_among theirs names none n (first_true (is_among names n) (not (has_patch ours n)) kept)) (second_true (is_among names n) (not (has_patch ours n)) kept)
+
+  -- all that come along do
+  all_there : AreAmong (wanted ours names ++ along.3.0) (map name_of along.1)
+  all_there =
+      all_own (map name_of along.1) (ComeToFront along.1) (StickOn along.1) (to_front along.1) (wanted ours names) along.3.0 wanted_there along.3.1
+
+  -- they are told, and `to` lacks them
+  told_are : AreAlike (wanted ours told) (wanted ours names ++ along.3.0)
+  told_are n =
+      let all = wanted ours names ++ along.3.0 in
+      let lacked : is_among all n ≡ true → (has_patch theirs n && not (has_patch ours n)) ≡ true = λ there. sym (lacked_behind theirs ours along.0 along.1 along.2 n) ∙ all_there n there in
+      let own : AreAmong all (map name_of theirs) = λ m there. first_true (has_patch theirs m) (not (has_patch ours m)) (sym (lacked_behind theirs ours along.0 along.1 along.2 m) ∙ all_there m there) in
+      let ordered : is_among told n ≡ is_among all n = ap (λ l. is_among l n) along.3.2 ∙ sym (same_in_order theirs all own n) in
+      among_kept (λ m. not (has_patch ours m)) told n ∙ ap (λ b. b && not (has_patch ours n)) ordered ∙ and_true (is_among all n) (not (has_patch ours n)) (λ there. second_true (has_patch theirs n) (not (has_patch ours n)) (lacked there))
+
+  -- with the common patches before them they come next
+  come_next : ComeToFront along.1 (wanted ours told)
+  come_next =
+      (to_front along.1).done_alike (wanted ours names ++ along.3.0) (wanted ours told) (λ n. sym (told_are n))
+      (all_done (map name_of along.1) (ComeToFront along.1) (StickOn along.1) (to_front along.1) (wanted ours names) along.3.0 along.3.1)
+
+  none_left : first_lacked theirs told ≡ None
+  none_left =
+      none_lacked theirs told (λ n there. in_order_there theirs (wanted ours names ++ along.3.0) n (ap (λ l. is_among l n) (sym along.3.2) ∙ there))
+
+  pulls_not_depend : (patch on : List ℕ) → pulled theirs ours (wanted ours told) ≡ Err (blocked.Depends patch on) → ⊥
+  pulls_not_depend patch on =
+      not_depends theirs ours (wanted ours told) along.0 along.1 patch on (pulled theirs ours (wanted ours told)) along.2 come_next (outcomes_are_determined.pulls theirs ours (wanted ours told)).1
+
+-- a decision refuses neither for a patch that is not there nor for one that another stands on
+record Goes (decision : Decision) : Type 0 where
+  there : (name : List ℕ) → ¬ (decision ≡ refused (NoPatch name))
+  free : (patch on : List ℕ) → ¬ (decision ≡ refused (Depends patch on))
+
+becomes_goes : (state : Contents) (to : List ℕ) (outcome : Outcome) → ((patch on : List ℕ) → outcome ≡ Err (blocked.Depends patch on) → ⊥) → Goes (becomes state to outcome)
+becomes_goes state to (Ok list) free = record { there = λ name e. cc; free = λ patch on e. cc }
+becomes_goes state to (Err (blocked.Depends patch on)) free = absurd (free patch on refl)
+becomes_goes state to (Err (blocked.Diverged name)) free = record { there = λ n e. cc; free = λ patch on e. cc }
+becomes_goes state to (Err (blocked.NoMerge left right)) free = record { there = λ n e. cc; free = λ patch on e. cc }
+
+full_goes : (b : Bool) (decision : Decision) → Goes decision → Goes (refused_if b TooLarge decision)
+full_goes true decision goes = record { there = λ name e. cc; free = λ patch on e. cc }
+full_goes false decision goes = goes
+
+none_goes : (b : Bool) (decision : Decision) → Goes decision → Goes (refused_if b NothingToDo decision)
+none_goes true decision goes = record { there = λ name e. cc; free = λ patch on e. cc }
+none_goes false decision goes = goes
+
+-- there is a branch of the name, where a question has an answer
+goes_on : {A : Type 0} (o : Option (List Catch)) (branch : List ℕ) (GoesOn : List Catch → AnswerOf A → Type 0) (told : A) → MatchOption o (Ok told ≡ Err (NoBranch branch)) (λ catches. GoesOn catches (Ok told)) → (catches : List Catch) × (o ≡ Some catches) × GoesOn catches (Ok told)
+goes_on None branch GoesOn told w = cc
+goes_on (Some catches) branch GoesOn told w = (catches, refl, w)
+
+has_all : {A : Type 0} (o : Option (List ℕ)) (GoesOn : AnswerOf A → Type 0) (told : A) → MatchOption o (GoesOn (Ok told)) (λ name. Ok told ≡ Err (NoPatch name)) → (o ≡ None) × GoesOn (Ok told)
+has_all None GoesOn told w = (refl, w)
+has_all (Some name) GoesOn told w = cc
+
+differ : (from to : List ℕ) (b : Bool) → bytes_eq from to ≡ b → from ≢ to → b ≡ false
+differ from to true e other = absurd (other (same_name from to e))
+differ from to false e other = refl
+
+same_told : (told other : List (List ℕ)) (answer : AnswerOf (List (List ℕ))) → answer ≡ Ok told → answer ≡ Ok other → other ≡ told
+same_told told other answer e f = cc
+
+goes : (state : Contents) (from to : List ℕ) (names told : List (List ℕ)) (theirs ours : List Catch) → catches_of state.branches from ≡ Some theirs → catches_of state.branches to ≡ Some ours → OfTwo from to (OfPatches theirs names (AlongOr theirs ours names)) (Ok told) → Goes (step state (call.Pull from to (Some told)))
+goes state from to names told theirs ours is_from is_to (inl (same, e)) = cc
+goes state from to names told theirs ours is_from is_to (inr (two, w)) =
+    let v = has_all (first_lacked theirs names) (AlongOr theirs ours names) told w in
+    answered v.1
+  where
+    answered : AlongOr theirs ours names (Ok told) → Goes (step state (call.Pull from to (Some told)))
+    answered (inr (name, e, diverged)) = cc
+    answered (inl (other, e, along)) =
+        let none = (has_all (first_lacked theirs names) (AlongOr theirs ours names) told w).0 in
+        let comes = subst (ComesAlong theirs ours names) (same_told told other (Ok told) refl e) along in
+        rw is_from (rw is_to (rw (differ from to (bytes_eq from to) refl two) (rw (none_left theirs ours names told none comes) (none_goes (is_empty (wanted ours told)) _ (full_goes (is_full_with ours theirs (wanted ours told)) _ (becomes_goes state to (pulled theirs ours (wanted ours told)) (pulls_not_depend theirs ours names told none comes)))))))
+
+pub along_is_enough : AlongIsEnough
+along_is_enough state from to names told w =
+    let a = goes_on (catches_of state.branches from) from (λ theirs. OfBranch state to (λ ours. OfTwo from to (OfPatches theirs names (AlongOr theirs ours names)))) told w in
+    let b = goes_on (catches_of state.branches to) to (λ ours. OfTwo from to (OfPatches a.0 names (AlongOr a.0 ours names))) told a.2 in
+    let done = goes state from to names told a.0 b.0 a.1 b.1 b.2 in
+    (done.there, done.free)

@@ -1,0 +1,32 @@
+use Rattle.camp_questions.proofs.Words.{List, map, refl, slice_cmp, nat_cmp, map_of, Catch, name_of, names_in, ComeToFront, StickOn}
+use Rattle.camp_questions.proofs.BranchGrowths.{to_front}
+use Rattle.camp_questions.proofs.Growing.{all_grown, fewer_to_come, one_grown}
+use Rattle.camp_questions.proofs.bringing.grown_behind.Goals as goal
+
+pub returns-in-Ok : goal.returns-in-Ok
+returns-in-Ok c =
+    let branch : List Catch = c.args.list.now in
+    let grown = names_in c.loop-grown.grown in
+    let front = rw c.in-Ok.is at c.in_ok-arrange.ensures.exact in
+    let first : List Catch = c.in-Ok.field-0.first.items in
+    let rest : List Catch = c.in-Ok.field-0.rest.items in
+    let done : ComeToFront branch grown = (first, rest, front) in
+    all_grown (map name_of branch) (ComeToFront branch) (StickOn branch) (to_front branch) (names_in c.args.names) grown c.loop-grown.invariant done
+
+pub loop-grown-smaller : goal.loop-grown-smaller
+loop-grown-smaller c =
+    let branch : List Catch = c.args.list.now in
+    let grown = names_in c.loop-grown.grown in
+    let on = c.in-Err.stuck.on in
+    let stuck = rw c.in-Err.is at c.in_ok-arrange.ensures.exact in
+    let stops : StickOn branch grown on.name = (c.in-Err.stuck.patch, on, stuck, refl) in
+    fewer_to_come (map name_of branch) (ComeToFront branch) (StickOn branch) (to_front branch) (map_of (slice_cmp nat_cmp) c.loop-grown.grown) (map_of (slice_cmp nat_cmp) c.in_ok-grown-in-Err.grown) on.name stops c.in_ok-grown-in-Err.ensures.exact
+
+pub loop-grown-preserved : goal.loop-grown-preserved
+loop-grown-preserved c =
+    let branch : List Catch = c.args.list.now in
+    let grown = names_in c.loop-grown.grown in
+    let on = c.in-Err.stuck.on in
+    let stuck = rw c.in-Err.is at c.in_ok-arrange.ensures.exact in
+    let stops : StickOn branch grown on.name = (c.in-Err.stuck.patch, on, stuck, refl) in
+    one_grown (map name_of branch) (ComeToFront branch) (StickOn branch) (to_front branch) (names_in c.args.names) (map_of (slice_cmp nat_cmp) c.loop-grown.grown) (map_of (slice_cmp nat_cmp) c.in_ok-grown-in-Err.grown) on.name c.loop-grown.invariant stops c.in_ok-grown-in-Err.ensures.exact

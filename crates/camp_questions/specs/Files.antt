@@ -1,0 +1,21 @@
+-- What a repository and its branches have.
+use Rattle.std.specs.Prelude.{◌≡◌, ℕ, List, map, Option, Ok}
+use Rattle.std.specs.FinMap.{get}
+use Rattle.camp_base.specs.Trees.{Files, Lines}
+use Rattle.camp_catch.specs.declared.catches.Catch.{Catch}
+use Rattle.camp_branch.specs.Branches.{LeadsTo}
+use Rattle.camp_repo.specs.States.{Contents}
+use Rattle.camp_questions.specs.Answers.{AnswerOf, OfBranch}
+
+-- the names of the branches, in order of creation
+abbrev pub branch_names : Contents → List (List ℕ)
+branch_names state = map (λ branch. branch.0) state.branches
+
+-- a branch has this at a path: the lines of its file there, or no file
+abbrev pub HasAt : List Catch → List ℕ → Option Lines → Type 0
+HasAt branch path lines = (tree : Files) × LeadsTo branch tree × (lines ≡ get tree path)
+
+-- the question for the file of a path
+abbrev pub IsFile : Contents → List ℕ → List ℕ → AnswerOf (Option Lines) → Type 0
+IsFile state branch path =
+    OfBranch state branch (λ catches answer. (lines : Option Lines) × (answer ≡ Ok lines) × HasAt catches path lines)

@@ -1,0 +1,82 @@
+//! What comes along with patches on their way from one branch into another.
+ghost use Rattle.std.specs.Prelude.{◌≡◌, ℕ, List, IfOk};
+ghost use Rattle.std.specs.Result.{MatchResult};
+ghost use Rattle.camp_branch.specs.Branches.{is_among};
+ghost use Rattle.camp_branch.specs.Fields.{names_in};
+ghost use Rattle.camp_repo.specs.Steps.{wanted};
+ghost use Rattle.camp_questions.specs.Along.{TellsAlong};
+ghost use Rattle.camp_questions.specs.Inside.Alongside.{DoNotStand, StandBehind};
+ghost use Rattle.camp_questions.specs.Inside.Growing.{GrowsToFront};
+
+use crate::Unanswered;
+use crate::dependencies::{in_order, set_of};
+use crate::finding::{branch_of, first_lacked};
+use camp_base::Name;
+use camp_catch::{Catch, arrange};
+use camp_repo::{Branch, Names, Refusal, State};
+use camp_share::{Shared, SharedMap};
+use std::alloc::{AllocError, Global};
+
+/// The names that a pull of these from one branch into another has to list: those that `to` lacks, and
+/// each on which bringing them behind the patches that both have sticks. They are told in the order
+/// of `from`.
+pub fn along(state: &State, from: &Name, to: &Name, names: &[Name]) -> Result<Names, Unanswered>
+    ensures exact { TellsAlong state.now from.now to.now names.now result }
+{
+    let theirs = branch_of(state, from)?;
+    let ours = branch_of(state, to)?;
+    if from == to {
+        return Err(Unanswered::Refused(Refusal::SameBranch(*to)));
+    }
+    if let Some(name) = first_lacked(theirs, names) {
+        return Err(Unanswered::Refused(Refusal::NoPatch(name)));
+    }
+    let alloc = theirs.catches().allocator();
+    let behind = behind_common(theirs, ours)?;
+    let wanted = wanted(alloc, ours, names)?;
+    let grown = grown_behind(alloc, &behind, wanted)?;
+    Ok(in_order(theirs, &grown)?)
+}
+
+/// The catches of a branch behind those of the patches that both branches have.
+fn behind_common(from: &Branch, to: &Branch) -> Result<Vec<Shared<Catch>>, Unanswered>
+    ensures { MatchResult result (λ behind. StandBehind from.now to.now behind.items) (DoNotStand from.now to.now) }
+{
+    let alloc = from.catches().allocator();
+    let mut names = from.names()?;
+    names.retain(|name| to.has_patch(name));
+    let common = set_of(alloc, &names)?;
+    let catches = from.catches().to_vec()?;
+    match arrange(alloc, &catches, &common)? {
+        Ok(arranged) => Ok(arranged.rest),
+        Err(stuck) => Err(Unanswered::Refused(Refusal::Diverged(stuck.patch.name))),
+    }
+}
+
+/// Those of the names of which a branch has no patch.
+fn wanted(alloc: Global, to: &Branch, names: &[Name]) -> Result<SharedMap<Name, ()>, AllocError>
+    ensures { IfOk result (λ set. (name : List ℕ) → is_among (names_in set) name ≡ is_among (wanted to.now names.now) name) }
+{
+    let mut wanted = Vec::from_slice(alloc, names)?;
+    wanted.retain(|name| !to.has_patch(name));
+    let set = set_of(alloc, &wanted)?;
+    Ok(set)
+}
+
+/// The names, and those that are added until they come to the front of the list. Each that is added
+/// costs an arranging, and one tells that none is left.
+fn grown_behind(
+    alloc: Global,
+    list: &[Shared<Catch>],
+    names: SharedMap<Name, ()>,
+) -> Result<SharedMap<Name, ()>, AllocError>
+    ensures { IfOk result (λ grown. GrowsToFront list.now (names_in names) (names_in grown)) }
+{
+    let mut grown = names;
+    loop {
+        match arrange(alloc, list, &grown)? {
+            Ok(_) => return Ok(grown),
+            Err(stuck) => grown = grown.inserted(stuck.on.name, ())?,
+        }
+    }
+}
