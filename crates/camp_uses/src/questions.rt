@@ -84,7 +84,7 @@ pub fn show_and_read(
 {
     canonical_text_reads_back();
     let shown = show(state, branch, name)?;
-    let Some(call) = record(*to, *name, shown.into_changes())? else {
+    let Some(call) = record(*to, *name, shown.into_changes()) else {
         return Ok(None);
     };
     let mut text = Vec::new(alloc);

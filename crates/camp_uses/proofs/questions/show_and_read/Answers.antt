@@ -8,7 +8,7 @@ pub returns : goal.returns
 returns c = record {
   same =
       let shown = shown_is c.args.state.now c.args.branch.now c.args.name.now c.in_ok-shown.shown c.in_ok-shown.ensures.exact in
-      let recorded = rw c.in-Some.is at c.in_ok-call.ensures.exact in
+      let recorded = c.in-Some.ensures.exact in
       let changes = c.into_changes.ensures.value ∙ ap (λ (patch : Patch). patch.changes) shown.2 in
       let written = c.deref.ensures.value ∙ c.in_ok-append_call.ensures.text ∙ ap (λ t. t ++ call_text c.in-Some.call) c.new-text.ensures.items in (
         shown.0,
