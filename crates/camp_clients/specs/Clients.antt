@@ -15,9 +15,8 @@ sight_of head = record {
   answers = λ client. client.answers.items;
 }
 
--- a client that can begin: its seat is one of the head, there is a section for it, and it has no calls yet
-pub record IsReady {Call Reply : Type 0} (head : HeadId) (sections : ℕ) (client : Client (Seated Call) Reply)
-    : Type 0 where
-  pub is_seat : IsSeatOf head client.seat
-  pub has_section : number_of client.seat < sections
-  pub none_own : own (number_of client.seat) (history_of client.seat) ≡ []
+-- a seat at which a section can begin: it is one of the head, there is a section for it, and it has no calls yet
+pub record IsReady {Call : Type 0} (head : HeadId) (sections : ℕ) (seat : Seated Call) : Type 0 where
+  pub is_seat : IsSeatOf head seat
+  pub has_section : number_of seat < sections
+  pub none_own : own (number_of seat) (history_of seat) ≡ []

@@ -1,5 +1,5 @@
 -- Runs of several sections of calls over one object, section k for seat k.
-use Rattle.std.specs.Prelude.{◌≡◌, ℕ, ◌+◌, ◌<◌, Bool, true, List, [], ◌∷◌, length, map, slice_index_or, Option}
+use Rattle.std.specs.Prelude.{◌≡◌, ℕ, ◌+◌, ◌<◌, List, [], ◌∷◌, length, map, slice_index_or, Option}
 use Rattle.std.specs.Prelude.{Result, Ok, Err, MatchOption, Vec, vec_items}
 use Rattle.std.specs.List.{All, AllZip}
 use Rattle.camp_object.specs.Histories.{IsFront, IsAnswered, IsLegal}
@@ -92,11 +92,3 @@ pub record HasShared {State Call Reply : Type 0} (object : Sequential State Call
     (sections : List (List Call)) (answers : List (List (Result Reply Fault))) : Type 0 where
   pub history : List (ℕ × Call)
   pub shared : IsShared object tries sections answers history
-
--- the answers of a run over a head, and its history, if it is wanted
-pub record TellsShared {State Call Reply : Type 0} (object : Sequential State Call Reply) (tries : ℕ)
-    (sections : List (List Call)) (is_wanted : Bool) (answers : List (List (Result Reply Fault)))
-    (told : List (ℕ × Call)) : Type 0 where
-  pub history : List (ℕ × Call)
-  pub shared : IsShared object tries sections answers history
-  pub tells : is_wanted ≡ true → told ≡ history

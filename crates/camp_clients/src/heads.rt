@@ -7,7 +7,7 @@ ghost use Rattle.camp_history.specs.Seats.{IsSeatOf, calls_per_seat, history_of,
 ghost use Rattle.camp_clients.specs.Answers.{Asks};
 ghost use Rattle.camp_clients.specs.Clients.{sight_of, IsReady};
 ghost use Rattle.camp_clients.specs.Meeting.{AreNew, IsMet, IsSeen, HasMet, Ran};
-ghost use Rattle.camp_clients.specs.Runs.{HasShared, IsShared, TellsShared, lists_of};
+ghost use Rattle.camp_clients.specs.Runs.{HasShared, IsShared, lists_of, section_of};
 ghost use Rattle.camp_clients.specs.Sections.{most_sections, most_tries, Section};
 
 use crate::sections::{Answers, ask_all, gather};
@@ -174,27 +174,6 @@ fn meet_all<State: Object>(
     Ok((opener, clients))
 }
 
-/// Asks a section of calls at a seat of a head, with a gate round each.
-fn at_seat<R: Wait, State: Object, G: Gate>(
-    rt: &R,
-    alloc: Global,
-    head: &Head<State>,
-    seat: &mut Seat<State>,
-    gate: &G,
-    calls: &[State::Call],
-) -> Result<Answers<State>, AllocError>
-    requires seat { IsSeatOf head.now seat.old }
-    requires room { length (own (number_of seat.old) (history_of seat.old)) + count_by State.object.is_writing calls.now
-        ≤ calls_per_seat head.now }
-    ensures seat { IsSeatOf head.now seat.new }
-    ensures number { number_of seat.new ≡ number_of seat.old }
-    ensures section { IfOk result (λ answers. Section (Asks State.object (caller_at head.now seat.old))
-        (history_of seat.old) calls.now answers.items (history_of seat.new)) }
-{
-    let mut desk = HeadDesk::new(rt, head, seat, gate);
-    at_desk(alloc, &mut desk, calls)
-}
-
 /// Asks a section of calls at the desk of a head.
 fn at_desk<'r, 'h, 's, 'g, R: Wait, State: Object, G: Gate>(
     alloc: Global,
@@ -213,61 +192,103 @@ fn at_desk<'r, 'h, 's, 'g, R: Wait, State: Object, G: Gate>(
     ask_all(alloc, desk, calls)
 }
 
-/// A client asks its section, and then hands on what it has seen, if there is memory for that.
-fn run_client<R: Wait, State: Object, G: Gate>(
-    rt: &R,
+/// What is asked over a head: sections of calls, section k at seat k, with a gate round each call.
+#[derive(Drop)]
+struct Run<'a, R: Wait, State: Object, G: Gate> {
+    rt: &'a R,
     alloc: Global,
-    head: &Head<State>,
-    gate: &G,
-    sections: &[Vec<State::Call>],
-    client: Client<Seat<State>, State::Reply>,
-) -> Result<Client<Seat<State>, State::Reply>, AllocError>
-    requires ready { IsReady head.now (length sections.now) client }
-    requires room { All (λ calls. count_by State.object.is_writing calls.items ≤ calls_per_seat head.now) sections.now }
-    ensures { IfOk result (λ ran. Ran State.object (sight_of head.now)
-        (head.now.tries) (calls_per_seat head.now) (lists_of sections.now) client ran) }
-{
-    let Client {
-        mut seat,
-        answers: _,
-    } = client;
-    let calls = &sections[seat.number() as usize];
-    let answers = at_seat::<R, State, G>(rt, alloc, head, &mut seat, gate, calls)?;
-    let _handed = head.hand_on(&seat);
-    Ok(Client { seat, answers })
+    head: &'a Head<State>,
+    gate: &'a G,
+    sections: &'a [Vec<State::Call>],
+    ghost seats: { seats_of head.now ≡ length sections.now },
+    ghost room: { All (λ calls. count_by State.object.is_writing calls.items ≤ calls_per_seat head.now) sections.now },
 }
 
-/// Each client asks its section in a thread of its own.
-fn run_clients<R: Threads + Wait + Sync, State: Object + Send + Sync, G: Gate + Sync>(
-    rt: &R,
-    alloc: Global,
-    head: &Head<State>,
-    gate: &G,
-    sections: &[Vec<State::Call>],
-    clients: Vec<Client<Seat<State>, State::Reply>>,
-) -> Result<Vec<Client<Seat<State>, State::Reply>>, AllocError>
+impl<'a, R: Wait, State: Object, G: Gate> Run<'a, R, State, G> {
+    /// Asks the section of a seat that has no calls yet.
+    fn at_seat(&self, seat: &mut Seat<State>) -> Result<Answers<State>, AllocError>
+        requires ready { IsReady self.now.head.now (length self.now.sections.now) seat.old }
+        ensures seat { IsSeatOf self.now.head.now seat.new }
+        ensures number { number_of seat.new ≡ number_of seat.old }
+        ensures section { IfOk result (λ answers. Section (Asks State.object (caller_at self.now.head.now seat.old))
+            (history_of seat.old) (section_of (lists_of self.now.sections.now) (number_of seat.old)) answers.items (history_of seat.new)) }
+    {
+        let calls = &self.sections[seat.number() as usize];
+        let mut desk = HeadDesk::new(self.rt, self.head, seat, self.gate);
+        at_desk(self.alloc, &mut desk, calls)
+    }
+
+    /// A client asks its section, and then hands on what it has seen, if there is memory for that.
+    fn client(
+        &self,
+        client: Client<Seat<State>, State::Reply>,
+    ) -> Result<Client<Seat<State>, State::Reply>, AllocError>
+        requires { IsReady self.now.head.now (length self.now.sections.now) client.seat }
+        ensures { IfOk result (λ ran. Ran State.object (sight_of self.now.head.now)
+            (self.now.head.now.tries) (calls_per_seat self.now.head.now) (lists_of self.now.sections.now) client ran) }
+    {
+        let Client {
+            mut seat,
+            answers: _,
+        } = client;
+        let answers = self.at_seat(&mut seat)?;
+        let _handed = self.head.hand_on(&seat);
+        Ok(Client { seat, answers })
+    }
+}
+
+impl<'a, R: Threads + Wait + Sync, State: Object + Send + Sync, G: Gate + Sync> Run<'a, R, State, G>
 where
     State::Call: Send + Sync,
     State::Reply: Send,
-    requires ready { All (IsReady head.now (length sections.now)) clients.items }
-    requires room { All (λ calls. count_by State.object.is_writing calls.items ≤ calls_per_seat head.now) sections.now }
-    ensures { IfOk result (λ ran. AllZip (Ran State.object (sight_of head.now)
-        (head.now.tries) (calls_per_seat head.now) (lists_of sections.now)) clients.items ran.items) }
 {
-    let made = thread::map_vec(
-        rt,
-        clients,
-        &|client: Client<Seat<State>, State::Reply>| -> Result<
-            Client<Seat<State>, State::Reply>,
-            AllocError,
-        >
-            requires { IsSync R.row × IsReady head.now (length sections.now) client
-                × All (λ calls. count_by State.object.is_writing calls.items ≤ calls_per_seat head.now) sections.now }
-            ensures { IfOk result (λ ran. Ran State.object (sight_of head.entry.now)
-                (head.entry.now.tries) (calls_per_seat head.entry.now) (lists_of sections.entry.now) client ran) }
-        { run_client::<R, State, G>(rt, alloc, head, gate, sections, client) },
-    )?;
-    gather(Vec::new(alloc), made)
+    /// Each client asks its section in a thread of its own.
+    fn clients(
+        &self,
+        clients: Vec<Client<Seat<State>, State::Reply>>,
+    ) -> Result<Vec<Client<Seat<State>, State::Reply>>, AllocError>
+        requires ready { All (λ client. IsReady self.now.head.now (length self.now.sections.now) client.seat) clients.items }
+        ensures { IfOk result (λ ran. AllZip (Ran State.object (sight_of self.now.head.now)
+            (self.now.head.now.tries) (calls_per_seat self.now.head.now) (lists_of self.now.sections.now)) clients.items ran.items) }
+    {
+        let made = thread::map_vec(
+            self.rt,
+            clients,
+            &|client: Client<Seat<State>, State::Reply>| -> Result<
+                Client<Seat<State>, State::Reply>,
+                AllocError,
+            >
+                requires { IsSync R.row × IsReady self.now.head.now (length self.now.sections.now) client.seat }
+                ensures { IfOk result (λ ran. Ran State.object (sight_of self.entry.now.head.now)
+                    (self.entry.now.head.now.tries) (calls_per_seat self.entry.now.head.now) (lists_of self.entry.now.sections.now) client ran) }
+            { self.client(client) },
+        )?;
+        gather(Vec::new(self.alloc), made)
+    }
+
+    /// The first section is asked alone, and then each further one in a thread of its own. The seat of
+    /// the first has seen the whole history then.
+    fn all(
+        &self,
+        opener: Seat<State>,
+        clients: Vec<Client<Seat<State>, State::Reply>>,
+    ) -> Result<(Seat<State>, Vec<Answers<State>>), AllocError>
+        requires opener { (IsSeatOf self.now.head.now opener) × (number_of opener ≡ 0) × (history_of opener ≡ []) }
+        requires clients { AreNew (sight_of {Reply = State.Reply} self.now.head.now) clients.items }
+        requires as_many { length clients.items + 1 ≡ length self.now.sections.now }
+        ensures seat { IfOk result (λ ran. IsSeatOf self.now.head.now ran.0) }
+        ensures shared { IfOk result (λ ran. IsShared State.object (self.now.head.now.tries) (lists_of self.now.sections.now)
+            (lists_of ran.1.items) (history_of ran.0)) }
+    {
+        let mut opener = opener;
+        let opening = self.at_seat(&mut opener)?;
+        let (clients, opener) = each_meets::<State>(self.alloc, self.head, clients, opener)?;
+        let clients = self.clients(clients)?;
+        let (opener, clients) = meet_all::<State>(self.alloc, self.head, opener, clients)?;
+        let _number = opener.number();
+        let answers = answers_of(self.alloc, opening, clients)?;
+        Ok((opener, answers))
+    }
 }
 
 /// The answers to all sections.
@@ -353,7 +374,14 @@ where
     ensures shared { IfOk result (λ run.
         IsShared State.object tries (lists_of sections.now) (lists_of run.answers.items) run.history.items) }
 {
-    over_new_head::<R, State, G>(rt, alloc, sections, tries, every, gate, true)
+    let run = over_new_head::<R, State, G>(rt, alloc, sections, tries, every, gate)?;
+    let Ok(history) = run.head.history(&run.opener) else {
+        return Err(AllocError);
+    };
+    Ok(HeadRun {
+        answers: run.answers,
+        history,
+    })
 }
 
 /// Asks sections of calls as `shared` does, where the history is not wanted: no call of it is copied.
@@ -375,11 +403,20 @@ where
     ensures shared { IfOk result (λ answers.
         HasShared State.object tries (lists_of sections.now) (lists_of answers.items)) }
 {
-    let run = over_new_head::<R, State, G>(rt, alloc, sections, tries, every, gate, false)?;
+    let run = over_new_head::<R, State, G>(rt, alloc, sections, tries, every, gate)?;
     Ok(run.answers)
 }
 
-/// Asks sections of calls over a new head, with a seat for each. The history is copied if it is wanted.
+/// What is left of a run: the head, the seat of its first section, which has seen the whole history, and
+/// the answers.
+#[derive(Drop)]
+struct Answered<State: Object> {
+    head: Head<State>,
+    opener: Seat<State>,
+    answers: Vec<Answers<State>>,
+}
+
+/// Asks sections of calls over a new head, with a seat for each.
 fn over_new_head<R: Threads + Wait + Sync, State: Object + Send + Sync, G: Gate + Sync>(
     rt: &R,
     alloc: Global,
@@ -387,8 +424,7 @@ fn over_new_head<R: Threads + Wait + Sync, State: Object + Send + Sync, G: Gate 
     tries: u32,
     every: u32,
     gate: &G,
-    wants_history: bool,
-) -> Result<HeadRun<State>, AllocError>
+) -> Result<Answered<State>, AllocError>
 where
     State::Call: Send + Sync,
     State::Reply: Send,
@@ -396,90 +432,25 @@ where
     requires writing { All (λ calls. count_by State.object.is_writing calls.items ≤ most_calls) sections.now }
     requires tries { (0 < tries) × (tries ≤ most_tries) }
     requires every { every ≤ farthest_version }
-    ensures { IfOk result (λ run. TellsShared State.object tries (lists_of sections.now) wants_history
-        (lists_of run.answers.items) run.history.items) }
+    ensures seat { IfOk result (λ run. IsSeatOf run.head run.opener) }
+    ensures shared { IfOk result (λ run. IsShared State.object tries (lists_of sections.now)
+        (lists_of run.answers.items) (history_of run.opener)) }
 {
     let per_seat = most_writing::<State>(sections);
     let (head, mut seats) = open::<State>(alloc, sections.len() as u32, per_seat, tries, every)?;
     let opener = seats.remove(0);
     let clients = new_clients(alloc, seats)?;
-    over_head::<R, State, G>(
+    let run = Run {
         rt,
         alloc,
-        &head,
+        head: &head,
         gate,
         sections,
+    };
+    let (opener, answers) = run.all(opener, clients)?;
+    Ok(Answered {
+        head,
         opener,
-        clients,
-        wants_history,
-    )
-}
-
-/// Asks sections of calls over a head, section k at seat k: the first alone, and then each further
-/// one in a thread of its own.
-fn over_head<R: Threads + Wait + Sync, State: Object + Send + Sync, G: Gate + Sync>(
-    rt: &R,
-    alloc: Global,
-    head: &Head<State>,
-    gate: &G,
-    sections: &[Vec<State::Call>],
-    opener: Seat<State>,
-    clients: Vec<Client<Seat<State>, State::Reply>>,
-    wants_history: bool,
-) -> Result<HeadRun<State>, AllocError>
-where
-    State::Call: Send + Sync,
-    State::Reply: Send,
-    requires opener { (IsSeatOf head.now opener) × (number_of opener ≡ 0) × (history_of opener ≡ []) }
-    requires clients { AreNew (sight_of {Reply = State.Reply} head.now) clients.items }
-    requires as_many { length clients.items + 1 ≡ length sections.now }
-    requires seats { seats_of head.now ≡ length sections.now }
-    requires room { All (λ calls. count_by State.object.is_writing calls.items ≤ calls_per_seat head.now) sections.now }
-    ensures { IfOk result (λ run. TellsShared State.object (head.now.tries) (lists_of sections.now) wants_history
-        (lists_of run.answers.items) run.history.items) }
-{
-    let mut opener = opener;
-    let opening = at_seat::<R, State, G>(rt, alloc, head, &mut opener, gate, &sections[0])?;
-    let (clients, opener) = each_meets::<State>(alloc, head, clients, opener)?;
-    let clients = run_clients::<R, State, G>(rt, alloc, head, gate, sections, clients)?;
-    let (opener, clients) = meet_all::<State>(alloc, head, opener, clients)?;
-    let _number = opener.number();
-    run_of::<State>(alloc, head, &opener, opening, clients, wants_history)
-}
-
-/// The answers to all sections, and what a seat has seen, if it is wanted.
-fn run_of<State: Object>(
-    alloc: Global,
-    head: &Head<State>,
-    seat: &Seat<State>,
-    opening: Answers<State>,
-    clients: Vec<Client<Seat<State>, State::Reply>>,
-    wants_history: bool,
-) -> Result<HeadRun<State>, AllocError>
-    requires { IsSeatOf head.now seat.now }
-    ensures { IfOk result (λ run. (run.answers.items ≡ opening ∷ map (λ client. client.answers) clients.items)
-        × (wants_history ≡ true → run.history.items ≡ history_of seat.now)) }
-{
-    let history = history_if::<State>(alloc, head, seat, wants_history)?;
-    let answers = answers_of(alloc, opening, clients)?;
-    Ok(HeadRun { answers, history })
-}
-
-/// What a seat has seen, if it is wanted.
-fn history_if<State: Object>(
-    alloc: Global,
-    head: &Head<State>,
-    seat: &Seat<State>,
-    is_wanted: bool,
-) -> Result<Vec<(u32, State::Call)>, AllocError>
-    requires { IsSeatOf head.now seat.now }
-    ensures { IfOk result (λ history. is_wanted ≡ true → history.items ≡ history_of seat.now) }
-{
-    if !is_wanted {
-        return Ok(Vec::new(alloc));
-    }
-    match head.history(seat) {
-        Ok(history) => Ok(history),
-        Err(_) => Err(AllocError),
-    }
+        answers,
+    })
 }

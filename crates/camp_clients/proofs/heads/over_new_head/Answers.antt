@@ -6,24 +6,24 @@ use Rattle.camp_clients.proofs.heads.over_new_head.Goals as goal
 pub remove-opener-requires : goal.remove-opener-requires
 remove-opener-requires g c = omega (arith, opened_length _ _ _ _ _ c.in_ok-head.ensures, c.in_ok-head.seats.ok.0)
 
-pub over_head-requires-clause-opener : goal.over_head-requires-clause-opener
-over_head-requires-clause-opener g c _ _ =
+pub all-requires-clause-opener : goal.all-requires-clause-opener
+all-requires-clause-opener g c _ _ =
     let new = opened_seat _ _ _ _ _ c.in_ok-head.ensures 0 c.remove-opener.result (omega (arith, opened_length _ _ _ _ _ c.in_ok-head.ensures)) in
     rw c.remove-opener.ensures.value (new.is_seat, new.number_is, new.unseen)
 
-pub over_head-requires-clause-room : goal.over_head-requires-clause-room
-over_head-requires-clause-room g c _ _ =
+pub invariant_of-run-clause-room : goal.invariant_of-run-clause-room
+invariant_of-run-clause-room g c =
     subst (λ most. All (λ calls. count_by g.State.Object.object.is_writing calls.items ≤ most) c.args.sections.now) (sym c.in_ok-head.ensures.has_calls) c.most_writing-per_seat.ensures.room
 
-pub over_head-requires-clause-clients : goal.over_head-requires-clause-clients
-over_head-requires-clause-clients g c _ _ =
+pub all-requires-clause-clients : goal.all-requires-clause-clients
+all-requires-clause-clients g c _ _ =
     behind_first (λ client. client.seat)
     (λ k seat. IsSeatOf c.in_ok-head.head seat × (seat.known.number ≡ k) × (history_of seat ≡ []))
     c.in_ok-head.seats.items c.remove-opener.new.self.items c.in_ok-clients.clients.items c.remove-opener.ensures.items c.in_ok-clients.ensures
     (λ k d below. let new = opened_seat _ _ _ _ _ c.in_ok-head.ensures k d below in (new.is_seat, new.number_is, new.unseen))
 
-pub over_head-requires-clause-as_many : goal.over_head-requires-clause-as_many
-over_head-requires-clause-as_many g c _ _ = omega (
+pub all-requires-clause-as_many : goal.all-requires-clause-as_many
+all-requires-clause-as_many g c _ _ = omega (
   arith,
   zip_length (λ seat client. client.seat ≡ seat) c.remove-opener.new.self.items c.in_ok-clients.clients.items c.in_ok-clients.ensures,
   c.remove-opener.ensures.len,
