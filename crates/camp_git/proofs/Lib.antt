@@ -1,0 +1,10 @@
+pub mod ChangedTrees
+pub mod Ends
+pub mod FilesInOrder
+pub mod Growing
+pub mod HeldTrees
+pub mod OneLine
+pub mod PatchEnds
+pub mod Streaming
+pub mod TreeSteps
+pub mod Words

@@ -1,0 +1,6 @@
+use Rattle.camp_git.proofs.Growing.{grows_more}
+use Rattle.camp_git.proofs.changes.append_changes.Goals as goal
+
+pub returns : goal.returns
+returns c =
+    grows_more c.args.text.now.items c.append_deletions.new.text.items c.append_modifications.new.text.items _ _ c.in_ok-append_deletions.ensures c.in_ok-append_modifications.ensures

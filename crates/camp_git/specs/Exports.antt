@@ -1,0 +1,76 @@
+-- What an export of a branch says.
+use Rattle.std.specs.Prelude.{◌≡◌, ℕ, ◌+◌, List, [], ◌∷◌, ◌++◌, codes, option_map, take, Option, None, Some, true, ◌⊎◌}
+use Rattle.std.specs.FinMap.{contains_key, get}
+use Rattle.std.specs.List.{flat_map}
+use Rattle.camp_base.specs.Trees.{Files, Lines}
+use Rattle.camp_branch.specs.Branches.{HasPatches, LeadsTo, Patch}
+use Rattle.camp_catch.specs.declared.catches.Catch.{Catch}
+use Rattle.camp_git.specs.FastImport.{Commit, GitTree, Kept, Reads, keep_all, line}
+use Rattle.camp_git.specs.Holding.{CanHold, CannotHold}
+
+-- the content of a file: its lines, LF behind each
+abbrev pub content_of : Lines → List ℕ
+content_of lines = flat_map line lines
+
+-- git has just the files of a tree
+abbrev pub Shows : GitTree → Files → Type 0
+Shows git files = (path : List ℕ) → git path ≡ option_map content_of (get files path)
+
+-- the branch of git that a branch becomes
+abbrev pub reference_of : List ℕ → List ℕ
+reference_of branch = codes "refs/heads/" ++ branch
+
+-- a commit tells a patch up to which a branch has these catches: it is of this branch of git and behind this parent,
+-- its message is the name of the patch and LF, and its tree is the one that the catches lead to, which git can hold
+pub record Tells (reference : List ℕ) (parent : Option ℕ) (upto : List Catch) (name : List ℕ) (commit : Kept) : Type 0 where
+  pub on : commit.reference ≡ reference
+  pub behind : commit.parent ≡ parent
+  pub message : commit.message ≡ line name
+  pub files : Files
+  pub leads : LeadsTo upto files
+  pub held : CanHold files
+  pub tree : Shows commit.tree files
+
+-- commits tell the patches of a branch that stand behind so many of its catches, each commit behind the one before it
+abbrev pub TellEach : List ℕ → List Catch → ℕ → Option ℕ → List Patch → List Kept → Type 0
+TellEach reference branch count parent [] [] = Unit {0}
+TellEach reference branch count parent [] (commit ∷ commits) = ⊥
+TellEach reference branch count parent (patch ∷ patches) [] = ⊥
+TellEach reference branch count parent (patch ∷ patches) (commit ∷ commits) =
+    Tells reference parent (take (count + patch.changes) branch) patch.name commit
+    × TellEach reference branch (count + patch.changes) (Some commit.mark) patches commits
+
+-- a text is an export of a branch: it reads as commits that tell its patches, in their order, one for each
+pub record IsExport (name : List ℕ) (branch : List Catch) (text : List ℕ) : Type 0 where
+  pub patches : List Patch
+  pub has : HasPatches branch patches
+  pub commits : List Commit
+  pub reads : Reads text commits
+  pub tell : TellEach (reference_of name) branch 0 None patches (keep_all [] commits)
+
+-- the tree that catches lead to has a file at this path, and git can't hold it
+pub record IsBad (upto : List Catch) (path : List ℕ) : Type 0 where
+  pub files : Files
+  pub leads : LeadsTo upto files
+  pub stands : contains_key files path ≡ true
+  pub unheld : CannotHold files path
+
+-- git can hold the tree that catches lead to
+pub record IsHeld (upto : List Catch) : Type 0 where
+  pub files : Files
+  pub leads : LeadsTo upto files
+  pub held : CanHold files
+
+-- of the patches of a branch that stand behind so many of its catches, this is the first up to which git can't hold the
+-- tree of the branch, for the file of this path
+abbrev pub IsFirstBad : List Catch → ℕ → List Patch → List ℕ → List ℕ → Type 0
+IsFirstBad branch count [] name path = ⊥
+IsFirstBad branch count (patch ∷ patches) name path =
+    ((patch.name ≡ name) × IsBad (take (count + patch.changes) branch) path)
+    ⊎ (IsHeld (take (count + patch.changes) branch) × IsFirstBad branch (count + patch.changes) patches name path)
+
+-- the same of all patches of a branch
+pub record IsUnheld (branch : List Catch) (name path : List ℕ) : Type 0 where
+  pub patches : List Patch
+  pub has : HasPatches branch patches
+  pub first : IsFirstBad branch 0 patches name path

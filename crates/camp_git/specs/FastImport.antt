@@ -1,0 +1,180 @@
+-- The part of the language of `git fast-import` that an export is written in, as the manual of that command defines it.
+use Rattle.std.specs.Prelude.{◌≡◌, ℕ, Bool, true, false, ◌||◌, ◌==◌, ◌<◌, if◌then◌else◌, List, [], ◌∷◌, ◌++◌, length, codes, bytes_eq, nat_eq, Option, None, Some, is_some}
+use Rattle.std.specs.List.{AllByRecursion, flat_map, list_all, list_any, starts_with}
+use Rattle.std.specs.Fmt.{decimal}
+use Rattle.camp_base.specs.Bytes.{is_path_part, path_parts}
+use Rattle.camp_base.specs.Signs.{backslash, newline, quote, slash}
+
+-- a change to the files of a commit: a file gets this content, a file or a folder goes, or all goes
+pub data FileChange : Type 0 where
+  FileModify : (path content : List ℕ) → FileChange
+  FileDelete : (path : List ℕ) → FileChange
+  FileDeleteAll : FileChange
+
+-- a commit: the branch that it is for, its mark, its message, the mark of the commit that it is from, where one is
+-- told, and its changes
+pub record Commit : Type 0 where
+  pub reference : List ℕ
+  pub mark : ℕ
+  pub message : List ℕ
+  pub from : Option ℕ
+  pub changes : List FileChange
+
+-- a line of a command
+abbrev pub line : List ℕ → List ℕ
+line text = text ++ newline ∷ []
+
+-- data by an exact count of its bytes
+abbrev pub data_text : List ℕ → List ℕ
+data_text bytes = line (codes "data " ++ decimal (length bytes)) ++ line bytes
+
+-- a byte between quotes as C has it: a backslash stands before a quote and before a backslash
+abbrev pub escaped_byte : ℕ → List ℕ
+escaped_byte byte = if byte == quote || byte == backslash then backslash ∷ byte ∷ [] else byte ∷ []
+
+-- bytes between quotes as C has them
+abbrev pub escaped : List ℕ → List ℕ
+escaped bytes = flat_map escaped_byte bytes
+
+-- whether a path begins with a quote
+abbrev pub begins_with_quote : List ℕ → Bool
+begins_with_quote [] = false
+begins_with_quote (byte ∷ bytes) = byte == quote
+
+-- a path: as it is, or, where it begins with a quote, between quotes
+abbrev pub path_text : List ℕ → List ℕ
+path_text path = if begins_with_quote path then quote ∷ escaped path ++ quote ∷ [] else path
+
+-- a change as a command; a file that gets its content is a plain one that can't be run, and its data follow at once
+abbrev pub change_text : FileChange → List ℕ
+change_text (FileModify path content) = line (codes "M 100644 inline " ++ path_text path) ++ data_text content
+change_text (FileDelete path) = line (codes "D " ++ path_text path)
+change_text FileDeleteAll = line (codes "deleteall")
+
+-- the commit that a commit is from, by its mark
+abbrev pub from_text : Option ℕ → List ℕ
+from_text None = []
+from_text (Some mark) = line (codes "from :" ++ decimal mark)
+
+-- a commit as a command, up to its changes: by camp, at the beginning of time
+abbrev pub head_text : Commit → List ℕ
+head_text commit =
+    line (codes "commit " ++ commit.reference) ++ line (codes "mark :" ++ decimal commit.mark)
+    ++ line (codes "committer camp <camp> 0 +0000") ++ data_text commit.message ++ from_text commit.from
+
+-- a commit as a command
+abbrev pub commit_text : Commit → List ℕ
+commit_text commit = head_text commit ++ flat_map change_text commit.changes
+
+-- no byte of a text is LF
+abbrev pub IsOneLine : List ℕ → Type 0
+IsOneLine text = list_any (λ byte. byte == newline) text ≡ false
+
+-- a path that a command can name: none of its parts between slashes is empty, `.` or `..`, and no byte is LF
+abbrev pub CanBeNamed : List ℕ → Type 0
+CanBeNamed path = (list_all is_path_part (path_parts path) ≡ true) × IsOneLine path
+
+-- the path of a change can be named
+abbrev pub HasGoodPath : FileChange → Type 0
+HasGoodPath (FileModify path content) = CanBeNamed path
+HasGoodPath (FileDelete path) = CanBeNamed path
+HasGoodPath FileDeleteAll = Unit {0}
+
+-- a commit that can be written: no mark is 0
+pub record IsGood (commit : Commit) : Type 0 where
+  pub reference : IsOneLine commit.reference
+  pub mark : 0 < commit.mark
+  pub paths : AllByRecursion HasGoodPath commit.changes
+
+-- what git keeps of a tree: the content of each path that is a file
+abbrev pub GitTree : Type 0
+GitTree = List ℕ → Option (List ℕ)
+
+-- the tree without a file
+abbrev pub no_files : GitTree
+no_files path = None
+
+-- whether a path lies in a folder, at any depth
+abbrev pub is_inside : List ℕ → List ℕ → Bool
+is_inside folder path = starts_with nat_eq path (folder ++ slash ∷ [])
+
+-- the tree behind a change. A file takes the place of a folder of its path, and of a file that is a folder of its
+-- path; what is deleted goes with all that lies in it
+abbrev pub changed : GitTree → FileChange → GitTree
+changed tree (FileModify path content) other =
+    if bytes_eq other path then Some content
+    else (if is_inside path other || is_inside other path then None else tree other)
+changed tree (FileDelete path) other = if bytes_eq other path || is_inside path other then None else tree other
+changed tree FileDeleteAll other = None
+
+-- the tree behind changes, one after the other
+abbrev pub changed_by : GitTree → List FileChange → GitTree
+changed_by tree [] = tree
+changed_by tree (change ∷ changes) = changed_by (changed tree change) changes
+
+-- a commit as git keeps it: its branch, its mark, its message, its parent by its mark, and its tree
+pub record Kept : Type 0 where
+  pub reference : List ℕ
+  pub mark : ℕ
+  pub message : List ℕ
+  pub parent : Option ℕ
+  pub tree : GitTree
+
+-- the commit of a mark among those kept, the newest first
+abbrev pub marked : List Kept → ℕ → Option Kept
+marked [] mark = None
+marked (kept ∷ older) mark = if kept.mark == mark then Some kept else marked older mark
+
+-- the newest commit of a branch
+abbrev pub tip_of : List Kept → List ℕ → Option Kept
+tip_of [] reference = None
+tip_of (kept ∷ older) reference = if bytes_eq kept.reference reference then Some kept else tip_of older reference
+
+-- the commit that a commit is from: that of the mark that it tells, and else the newest of its branch
+abbrev pub parent_of : List Kept → Commit → Option ℕ → Option Kept
+parent_of kept commit None = tip_of kept commit.reference
+parent_of kept commit (Some mark) = marked kept mark
+
+-- the tree that a commit begins with, and the mark of its parent
+abbrev pub tree_of : Option Kept → GitTree
+tree_of None = no_files
+tree_of (Some kept) = kept.tree
+
+abbrev pub mark_of : Option Kept → Option ℕ
+mark_of None = None
+mark_of (Some kept) = Some kept.mark
+
+-- a commit as git keeps it, behind those that it has kept
+abbrev pub keep : List Kept → Commit → Kept
+keep kept commit =
+    let parent = parent_of kept commit commit.from in
+    record {
+      reference = commit.reference;
+      mark = commit.mark;
+      message = commit.message;
+      parent = mark_of parent;
+      tree = changed_by (tree_of parent) commit.changes;
+    }
+
+-- what git keeps of commits, one after the other
+abbrev pub keep_all : List Kept → List Commit → List Kept
+keep_all kept [] = []
+keep_all kept (commit ∷ commits) = keep kept commit ∷ keep_all (keep kept commit ∷ kept) commits
+
+-- the mark of the commit that a commit is from, where it tells one, is that of one before it
+abbrev pub IsFromKnown : List Kept → Option ℕ → Type 0
+IsFromKnown kept None = Unit {0}
+IsFromKnown kept (Some mark) = is_some (marked kept mark) ≡ true
+
+-- the same of commits, one after the other
+abbrev pub AreFromKnown : List Kept → List Commit → Type 0
+AreFromKnown kept [] = Unit {0}
+AreFromKnown kept (commit ∷ commits) =
+    IsFromKnown kept commit.from × AreFromKnown (keep kept commit ∷ kept) commits
+
+-- a text reads as these commits: it is their commands, one after the other, and each can be written, and is from one
+-- before it
+pub record Reads (text : List ℕ) (commits : List Commit) : Type 0 where
+  pub is : text ≡ flat_map commit_text commits
+  pub good : AllByRecursion IsGood commits
+  pub known : AreFromKnown [] commits

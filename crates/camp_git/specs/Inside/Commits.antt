@@ -1,0 +1,56 @@
+-- The commit of a patch: where it stands, and its changes, which lie at some paths.
+use Rattle.std.specs.Prelude.{◌≡◌, ℕ, zero, suc, not, ◌&&◌, if◌then◌else◌, List, [], ◌∷◌, ◌++◌, map, Option, None, Some}
+use Rattle.std.specs.Ordering.{nat_cmp}
+use Rattle.std.specs.Cmp.Lexicographic.{slice_cmp}
+use Rattle.std.specs.FinMap.{contains_key, entries, get}
+use Rattle.std.specs.List.{AllByRecursion, flat_map}
+use Rattle.camp_share.specs.Maps.{map_of}
+use Rattle.camp_base.specs.Trees.{Files, Lines}
+use Rattle.camp_git.specs.FastImport.{Commit, FileChange, FileDelete, FileModify, HasGoodPath, IsGood, change_text, commit_text, line}
+use Rattle.camp_git.specs.Exports.{content_of, reference_of}
+use Rattle.camp_git.specs.declared.commits.Place.{Place}
+
+-- the mark that a commit tells as the one that it is from: 0 stands for none
+abbrev pub from_of : ℕ → Option ℕ
+from_of zero = None
+from_of (suc mark) = Some (suc mark)
+
+-- a commit with its changes
+abbrev pub commit_at : Place → List FileChange → Commit
+commit_at place changes = record {
+  reference = reference_of place.branch;
+  mark = place.mark;
+  message = line place.name;
+  from = from_of place.from;
+  changes = changes;
+}
+
+-- the file of a path goes, where one tree has it and the next has not
+abbrev pub deletion_of : Files → Files → List ℕ → List FileChange
+deletion_of old new path =
+    if contains_key old path && not (contains_key new path) then FileDelete path ∷ [] else []
+
+-- a file gets these lines, where there are any
+abbrev pub modified_to : List ℕ → Option Lines → List FileChange
+modified_to path None = []
+modified_to path (Some lines) = FileModify path (content_of lines) ∷ []
+
+-- the file of a path gets the lines that it has in a tree, where it is there
+abbrev pub modification_of : Files → List ℕ → List FileChange
+modification_of new path = modified_to path (get new path)
+
+-- what makes one tree of another that is the same but at some paths: first files go, then others get their lines
+abbrev pub changes_of : Files → Files → List (List ℕ) → List FileChange
+changes_of old new paths = flat_map (deletion_of old new) paths ++ flat_map (modification_of new) paths
+
+-- the paths of a set
+abbrev pub paths_in : List (List ℕ × Unit {0}) → List (List ℕ)
+paths_in set = map (λ entry. entry.0) (entries (map_of (slice_cmp nat_cmp) set))
+
+-- a text grows by changes whose paths can be named
+abbrev pub GrowsBy : List ℕ → List FileChange → List ℕ → Type 0
+GrowsBy old changes new = (new ≡ old ++ flat_map change_text changes) × AllByRecursion HasGoodPath changes
+
+-- a text grows by a commit that can be written
+abbrev pub IsWritten : List ℕ → Commit → List ℕ → Type 0
+IsWritten old commit new = (new ≡ old ++ commit_text commit) × IsGood commit

@@ -1,0 +1,43 @@
+-- Where a path stands among the files of a tree, and which files lie around it.
+use Rattle.std.specs.Prelude.{◌≡◌, ℕ, ◌<◌, ◌≤◌, true, false, List, Some, length, slice_get, take}
+use Rattle.std.specs.Ordering.{nat_cmp}
+use Rattle.std.specs.Cmp.Lexicographic.{slice_cmp}
+use Rattle.std.specs.declared.cmp.Ordering.TheVariants.{Less}
+use Rattle.std.specs.FinMap.{contains_key, entries, len}
+use Rattle.camp_base.specs.Trees.{Files, Lines}
+use Rattle.camp_git.specs.FastImport.{is_inside}
+use Rattle.camp_git.specs.Holding.{has_git_part}
+
+-- the files before a place have paths before these bytes, and the file at the place has not
+pub record IsPlaceOf (tree : Files) (bytes : List ℕ) (place : ℕ) : Type 0 where
+  pub within : place ≤ len tree
+  pub before : (k : ℕ) (file : List ℕ × Lines) → k < place → slice_get (entries tree) k ≡ Some file → slice_cmp nat_cmp file.0 bytes ≡ Less
+  pub here : (file : List ℕ × Lines) → slice_get (entries tree) place ≡ Some file → ¬ (slice_cmp nat_cmp file.0 bytes ≡ Less)
+
+-- the path of a file begins with these bytes
+abbrev pub IsBeginning : Files → List ℕ → Type 0
+IsBeginning tree bytes =
+    (other : List ℕ) × (contains_key tree other ≡ true) × (take (length bytes) other ≡ bytes)
+
+-- a file lies in the folder of a path
+abbrev pub HasInside : Files → List ℕ → Type 0
+HasInside tree path = (other : List ℕ) × (contains_key tree other ≡ true) × (is_inside path other ≡ true)
+
+-- a file is a folder of a path
+abbrev pub IsAround : Files → List ℕ → List ℕ → Type 0
+IsAround tree path file = (contains_key tree file ≡ true) × (is_inside file path ≡ true)
+
+-- no file is
+abbrev pub IsNoneAround : Files → List ℕ → Type 0
+IsNoneAround tree path = (file : List ℕ) → contains_key tree file ≡ true → is_inside file path ≡ false
+
+-- a path has no part `.git`, no file lies in its folder, and it lies in the folder of none
+pub record IsFree (tree : Files) (path : List ℕ) : Type 0 where
+  pub plain : has_git_part path ≡ false
+  pub empty : ¬ (HasInside tree path)
+  pub alone : IsNoneAround tree path
+
+-- the same of a path whose file is new
+abbrev pub IsFreeIfNew : Files → Files → List ℕ → Type 0
+IsFreeIfNew old new path =
+    contains_key old path ≡ false → contains_key new path ≡ true → IsFree new path

@@ -1,0 +1,36 @@
+-- How the stream of a branch grows, commit by commit, and how it ends where git can't hold a tree.
+use Rattle.std.specs.Prelude.{◌≡◌, ℕ, true, List, Result, Ok, Err, Vec}
+use Rattle.std.specs.declared.alloc.Global.{Global}
+use Rattle.std.specs.FinMap.{contains_key}
+use Rattle.camp_base.specs.Trees.{Files}
+use Rattle.camp_catch.specs.declared.catches.Catch.{Catch}
+use Rattle.camp_git.specs.Exports.{IsExport, IsUnheld, Shows}
+use Rattle.camp_git.specs.FastImport.{FileChange, GitTree, changed_by}
+use Rattle.camp_git.specs.Holding.{CanHold, CannotHold}
+use Rattle.camp_git.specs.Inside.Commits.{IsWritten, commit_at}
+use Rattle.camp_git.specs.declared.commits.Place.{Place}
+use Rattle.camp_git.specs.declared.faults.Unexported.{Unexported}
+use Rattle.camp_git.specs.declared.faults.Unexported.TheVariants.{NoBranch, Unheld, Memory, Write}
+
+-- a commit was written whose changes make one tree of another, which git can hold
+abbrev pub AddsCommit : Place → Files → Files → List ℕ → List ℕ → Type 0
+AddsCommit place old new before after =
+    (changes : List FileChange) × IsWritten before (commit_at place changes) after
+    × CanHold new × ((git : GitTree) → Shows git old → Shows (changed_by git changes) new)
+
+-- an end that is good, or that says that git can't hold a tree for this file, or that memory ran out
+abbrev pub EndsIn : {A : Type 0} → (A → Type 0) → List ℕ → Files → Result A Unexported → Type 0
+EndsIn Good name tree (Ok done) = Good done
+EndsIn Good name tree (Err (Unheld patch path)) =
+    (patch ≡ name) × (contains_key tree path ≡ true) × CannotHold tree path
+EndsIn Good name tree (Err Memory) = Unit {0}
+EndsIn Good name tree (Err (NoBranch missing)) = ⊥
+EndsIn Good name tree (Err (Write error)) = ⊥
+
+-- the stream of a branch, or the first patch up to which git can't hold its tree
+abbrev pub Streams : List ℕ → List Catch → Result (Vec ℕ Global) Unexported → Type 0
+Streams name branch (Ok text) = IsExport name branch text.items
+Streams name branch (Err (Unheld patch path)) = IsUnheld branch patch path
+Streams name branch (Err Memory) = Unit {0}
+Streams name branch (Err (NoBranch missing)) = ⊥
+Streams name branch (Err (Write error)) = ⊥

@@ -1,0 +1,5 @@
+pub mod Answers
+pub mod Exports
+pub mod FastImport
+pub mod Holding
+pub mod Inside
