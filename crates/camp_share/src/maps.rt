@@ -1,4 +1,4 @@
-ghost use Rattle.std.specs.Prelude.{◌≡◌, ◌==◌, ◌<◌, if◌then◌else◌, List, None, Some, T as Holds, IfOk, IfErr, OnOk, MatchOption, length, slice_get};
+ghost use Rattle.std.specs.Prelude.{◌≡◌, ◌==◌, ◌<◌, if◌then◌else◌, List, None, Some, T as Holds, IfOk, IfErr, OnErr, OnOk, MatchOption, length, slice_get};
 ghost use Rattle.std.specs.Option.{option_copied};
 ghost use Rattle.std.specs.FinMap as map;
 ghost use Rattle.std.specs.FinMap.{IsAntisymmetric, is_sorted};
@@ -193,9 +193,10 @@ impl<K: Key, V> Model for MapBuilder<K, V> {
 }
 
 impl<K: Key, V: Share + Drop> MapBuilder<K, V> {
-    /// Gives the key this value, where it has none.
+    /// Gives the key this value, where it has none. Where memory is refused, the entries are as they were.
     pub fn insert_if_absent(&mut self, key: K, value: V) -> Result<(), AllocError>
         ensures exact { OnOk result (map_of K.cmp self.new ≡ (if map.contains_key (map_of K.cmp self.old) key then map_of K.cmp self.old else map.insert (map_of K.cmp self.old) key value)) }
+        ensures err { OnErr result (self.new ≡ self.old) }
     {
         match place_in(&self.entries, &key) {
             Ok(_) => Ok(()),
