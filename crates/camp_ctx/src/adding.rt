@@ -7,7 +7,7 @@ ghost use Rattle.camp_seq.specs.NormalOrder.{Norm};
 ghost use Rattle.camp_ctx.specs.Adding.{Adds, AddsAll, Cancels, Keeps, PassesBy, PassesByAll};
 
 use crate::conflicts::has_label;
-use crate::links::linked;
+use crate::fast::linked;
 use crate::{Contexted, join};
 use camp_prim::{Named, commute};
 use camp_seq::{Seq, front, ordered, past};
@@ -37,8 +37,7 @@ impl Contexted {
         if let Some(y) = cancelled {
             return Ok(y);
         }
-        let passed = Contexted::past_one(a, x)?;
-        match passed {
+        match Contexted::past_one(a, x)? {
             Some(y) => Ok(y),
             None => kept(a, x),
         }
@@ -52,8 +51,7 @@ impl Contexted {
         let items = r.items();
         let mut passed = x.try_clone()?;
         for at in (0..items.len()).rev() {
-            let next = Contexted::past_one(&items[at], &passed)?;
-            match next {
+            match Contexted::past_one(&items[at], &passed)? {
                 None => return Ok(None),
                 Some(y) => passed = y,
             }
@@ -66,12 +64,10 @@ impl Contexted {
     pub fn past_one(a: &Named, x: &Contexted) -> Result<Option<Contexted>, AllocError>
         ensures exact { IfOk result (Finds (PassesBy a.now x.now)) }
     {
-        let behind = past(a, x.context())?;
-        let Some((context, a)) = behind else {
+        let Some((context, a)) = past(a, x.context())? else {
             return Ok(None);
         };
-        let swapped = patch_before(&a, x.patch())?;
-        let Some(patch) = swapped else {
+        let Some(patch) = patch_before(&a, x.patch())? else {
             return Ok(None);
         };
         let before = in_order(x.allocator(), context, patch)?;
@@ -83,8 +79,7 @@ impl Contexted {
 fn patch_before(a: &Named, patch: &Named) -> Result<Option<Named>, AllocError>
     ensures { IfOk result (Finds (λ before. (a'' : Named) × Swap a.now patch.now before a'')) }
 {
-    let swapped = commute(a, patch)?;
-    match swapped {
+    match commute(a, patch)? {
         Some((before, _)) => Ok(Some(before)),
         None => Ok(None),
     }
@@ -100,8 +95,7 @@ fn cancelled(a: &Named, x: &Contexted) -> Result<Option<Contexted>, AllocError>
     if !has_label(context.items(), &label) {
         return Ok(None);
     }
-    let found = front(context, &label)?;
-    let Some((first, rest)) = found else {
+    let Some((first, rest)) = front(context, &label)? else {
         return Ok(None);
     };
     if !undoes(first, a) {

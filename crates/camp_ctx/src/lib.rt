@@ -4,12 +4,11 @@
 mod adding;
 mod conflicts;
 mod contexted;
+mod fast;
 mod joins;
 mod keys;
 mod laws;
-mod links;
 mod sets;
-mod stays;
 
 pub use conflicts::{conflict, merge_behind_common};
 pub use contexted::Contexted;

@@ -150,8 +150,7 @@ impl CtxSet {
         ensures exact { IfOk result (λ sum. EachMember (Adds a.now) set.now sum) }
     {
         let list = join(set.alloc, slice::from_ref(a), &[])?;
-        let sum = CtxSet::add(&list, set)?;
-        Ok(sum)
+        Ok(CtxSet::add(&list, set)?)
     }
 
     pub fn try_clone(&self) -> Result<CtxSet, AllocError>

@@ -2,8 +2,8 @@
 #![tactic(auto)]
 
 mod chains;
+mod fast;
 mod fronts;
-mod insertions;
 mod laws;
 mod merges;
 mod normal_forms;
@@ -13,9 +13,9 @@ mod rooms;
 mod runs;
 mod seqs;
 mod splits;
-mod stays;
 
 pub use chains::{can_swap, is_chain};
+pub use fast::{is_own_order, stays_past};
 pub use fronts::front;
 pub use laws::{
     clean_merge_closes, clean_merge_is_equivalent, clean_merge_is_passing_the_inverse,
@@ -24,10 +24,9 @@ pub use laws::{
 };
 pub use merges::{clean_merge, invert_all};
 pub use normal_forms::{normal_order_is_a_normal_form, six_orders_of_three_agree};
-pub use orders::{is_own_order, norm, ordered};
+pub use orders::{norm, ordered};
 pub use passes::{past, past_all};
 pub use rooms::{has_room, reach_gives_room};
 pub use runs::apply_all;
 pub use seqs::Seq;
 pub use splits::split;
-pub use stays::stays_past;

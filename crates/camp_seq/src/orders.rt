@@ -2,18 +2,15 @@ ghost use Rattle.std.specs.Prelude.{List, ◌≡◌, ◌<◌, ◌↔◌, length,
 ghost use Rattle.std.specs.Ordering.{is_lt};
 ghost use Rattle.std.specs.declared.cmp.Ordering.TheVariants.{Less};
 ghost use Rattle.camp_prim.specs.declared.named.Named.{Named};
-ghost use Rattle.camp_prim.specs.Labels.{label_cmp, label_of};
-ghost use Rattle.camp_seq.specs.Inside.Ascending.{Ascends};
-ghost use Rattle.camp_seq.specs.Inside.Insertions.{StartsAfter};
+ghost use Rattle.camp_prim.specs.Labels.{label_cmp};
 ghost use Rattle.camp_seq.specs.Inside.LeastLabels.{is_above, LeastAbove, Settles, StartsAbove};
 ghost use Rattle.camp_seq.specs.Equivalence.{◌~◌};
 ghost use Rattle.camp_seq.specs.NormalOrder.{Norm};
 ghost use Rattle.camp_seq.specs.Room.{HasRoom};
 
 use crate::Seq;
-use crate::chains::is_chain;
+use crate::fast::{is_own_order, order_by_insertion};
 use crate::fronts::bring;
-use crate::insertions::order_by_insertion;
 use crate::rooms::surely_has_room;
 use camp_prim::{Label, Named};
 use std::alloc::AllocError;
@@ -27,8 +24,7 @@ pub fn norm(s: &Seq) -> Result<Seq, AllocError>
     ensures normal_form { IfOk result (λ ordered.
         HasRoom s.now → (t : List Named) → s.now ~ t → Norm t ordered) }
 {
-    let ordered = ordered_copy(s)?;
-    Ok(ordered)
+    ordered_copy(s)
 }
 
 /// The list in normal order, in its place in memory. It takes no memory.
@@ -49,9 +45,9 @@ fn ordered_copy(s: &Seq) -> Result<Seq, AllocError>
 
 /// Puts a list in normal order. It takes no memory.
 ///
-/// A list whose labels ascend, or in which no two neighbours swap, stays as it is. Of the others, a
-/// list whose hunks stay in range in any order is ordered by insertion: n elements take at most
-/// n * (n - 1) exchanges. Another, with hunks near the limit of 2^30, is ordered by selection.
+/// A list that is its own normal order stays as it is. One whose hunks stay in range in any order is
+/// ordered by insertion: n elements take at most n * (n - 1) exchanges. Another, with hunks near the
+/// limit of 2^30, is ordered by selection, as the rule has it.
 pub(crate) fn order(items: &mut [Named])
     ensures { Norm items.old items.new }
 {
@@ -62,40 +58,6 @@ pub(crate) fn order(items: &mut [Named])
         order_by_insertion(items);
     } else {
         order_by_selection(items);
-    }
-}
-
-/// Whether one look at each two neighbours tells that a list is its own normal order. Where it says no,
-/// the list may still be. It takes no memory.
-#[tactic(auto, using(crate::proofs::OwnOrders::ascending_is_ordered, crate::proofs::OwnOrders::chain_is_ordered))]
-pub fn is_own_order(items: &[Named]) -> bool
-    ensures sound { IsTrue result → Norm items.now items.now }
-{
-    if ascends(items) {
-        return true;
-    }
-    is_chain(items)
-}
-
-/// Whether no label is greater than the one behind it.
-fn ascends(items: &[Named]) -> bool
-    ensures { IsTrue result → Ascends items.now }
-{
-    for at in (0..items.len()).rev() {
-        if !starts_after(&items[at].label(), &items[at + 1..]) {
-            return false;
-        }
-    }
-    true
-}
-
-/// Whether the first label of a list is not less than this one, or there is none.
-fn starts_after(label: &Label, s: &[Named]) -> bool
-    ensures { IsTrue result → StartsAfter label.now s.now }
-{
-    match s.first() {
-        None => true,
-        Some(q) => !is_less(&q.label(), label),
     }
 }
 

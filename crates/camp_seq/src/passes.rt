@@ -1,12 +1,11 @@
-ghost use Rattle.std.specs.Prelude.{List, IfOk, IsTrue};
+ghost use Rattle.std.specs.Prelude.{IfOk};
 ghost use Rattle.std.specs.Bool.{then_some};
 ghost use Rattle.camp_base.specs.Answers.{Changes, FindsPair};
-ghost use Rattle.camp_prim.specs.declared.named.Named.{Named};
 ghost use Rattle.camp_seq.specs.Inside.InPlace.{ComesUpTo, PrecedesInPlace, SwapsInPlace};
 ghost use Rattle.camp_seq.specs.Passing.{Passes, PassesAll};
 
 use crate::Seq;
-use crate::chains::can_swap;
+use crate::fast::is_stopped;
 use camp_prim::{Named, exchange};
 use std::alloc::AllocError;
 use std::mem;
@@ -25,16 +24,6 @@ pub fn past(p: &Named, s: &Seq) -> Result<Option<(Seq, Named)>, AllocError>
         return Ok(None);
     }
     Ok(Some((before, behind)))
-}
-
-/// Whether the first element of a list stops what is to pass it.
-fn is_stopped(p: &Named, s: &[Named]) -> bool
-    ensures { IsTrue result → (s' : List Named) (p' : Named) → ¬ (Passes p.now s.now s' p') }
-{
-    match s.first() {
-        None => false,
-        Some(q) => !can_swap(p, q),
-    }
 }
 
 /// `Some((s', r'))` where `r` and then `s` are the same as `s'` and then `r'`: each primitive of

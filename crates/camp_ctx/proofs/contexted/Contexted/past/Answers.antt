@@ -9,5 +9,5 @@ returns-in-None c =
     let i = c.loop-at.at - 1 in
     let e : c.loop-at.at ≡ i + 1 = omega arith in
     let taken = subst (λ n. PassesByAll (drop n r) c.args.x.now c.loop-at.passed) e c.loop-at.invariant in
-    let never = rw c.in-None.is at c.in_ok-next.ensures.exact in
+    let never = rw c.in-None.is at c.in_ok-past_one.ensures.exact in
     record { exact = subst (λ s. GivesNone (PassesByAll s) c.args.x.now) c.items-items.ensures.exact (none_at_step PassesBy one_passing_by r i _ _ _ (omega arith) c.index-items-at.is taken never) }

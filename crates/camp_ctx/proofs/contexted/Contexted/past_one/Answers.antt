@@ -3,17 +3,17 @@ use Rattle.camp_ctx.proofs.contexted.Contexted.past_one.Goals as goal
 
 pub returns-in_default : goal.returns-in_default
 returns-in_default c =
-    let never = rw c.in_default.is at c.in_ok-behind.ensures.exact in
+    let never = rw c.in_default.is at c.in_ok-context.ensures.exact in
     record { exact = not_past_context c.args.a.now c.args.x.now _ c.context.ensures.exact never }
 
-pub returns-in_default-swapped : goal.returns-in_default-swapped
-returns-in_default-swapped c =
-    let past = rw c.in-Some.is at c.in_ok-behind.ensures.exact in
-    let never = rw c.in_default-swapped.is at c.in_ok-swapped.ensures in
+pub returns-in_default-2 : goal.returns-in_default-2
+returns-in_default-2 c =
+    let past = rw c.in-Some.is at c.in_ok-context.ensures.exact in
+    let never = rw c.in_default-2.is at c.in_ok-patch.ensures in
     record { exact = not_past_patch c.args.a.now c.args.x.now _ _ _ c.context.ensures.exact past _ c.patch.ensures.exact never }
 
 pub returns : goal.returns
 returns c =
-    let past = rw c.in-Some.is at c.in_ok-behind.ensures.exact in
-    let swap = rw c.in-Some-swapped.is at c.in_ok-swapped.ensures in
+    let past = rw c.in-Some.is at c.in_ok-context.ensures.exact in
+    let swap = rw c.in-Some-2.is at c.in_ok-patch.ensures in
     record { exact = passes_by_from c.args.a.now c.args.x.now _ _ _ c.context.ensures.exact past _ _ _ _ c.patch.ensures.exact swap.1 c.in_ok-before.ensures.0 c.in_ok-before.ensures.1 }

@@ -1,3 +1,4 @@
+//! A chain is added in one pass.
 ghost use Rattle.std.specs.Prelude.{◌≡◌, ◌≢◌, ◌≤◌, ◌++◌, ◌↔◌, length, drop, IfOk, IsTrue};
 ghost use Rattle.camp_prim.specs.Effect.{inverse_of};
 ghost use Rattle.camp_prim.specs.Labels.{label_of};

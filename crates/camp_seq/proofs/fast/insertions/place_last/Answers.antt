@@ -1,7 +1,7 @@
 use Rattle.camp_seq.proofs.Words.{◌≡◌, length, ◌++◌, set, get_or, sym, ap, ◌∙◌, subst, arith, take_rest, Placed}
 use Rattle.camp_seq.proofs.OrderSteps.{rest_written}
 use Rattle.camp_seq.proofs.PlacingSteps.{only, placed_there}
-use Rattle.camp_seq.proofs.insertions.place_last.Goals as goal
+use Rattle.camp_seq.proofs.fast.insertions.place_last.Goals as goal
 
 pub returns : goal.returns
 returns c =

@@ -1,5 +1,5 @@
 use Rattle.camp_seq.proofs.Words.{take, ◌~◌, InOrder}
-use Rattle.camp_seq.proofs.insertions.order_by_insertion.Given as goal
+use Rattle.camp_seq.proofs.fast.insertions.order_by_insertion.Given as goal
 
 abbrev pub invariant-loop-last : goal.invariant-loop-last
 invariant-loop-last l = record {

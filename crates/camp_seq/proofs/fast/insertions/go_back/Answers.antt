@@ -1,6 +1,6 @@
 use Rattle.camp_seq.proofs.Words.{◌≡◌, get_or, sym, ap, ◌∙◌, arith, get_or_default, label_of, label_cmp, less_from_lt, not_less_where}
 use Rattle.camp_seq.proofs.PlacingSteps.{goes_on, stays_before, never_stuck, stays_last}
-use Rattle.camp_seq.proofs.insertions.go_back.Goals as goal
+use Rattle.camp_seq.proofs.fast.insertions.go_back.Goals as goal
 
 pub loop-at-init : goal.loop-at-init
 loop-at-init c = λ s0 x0 w. w

@@ -1,3 +1,4 @@
+//! The normal order of a list with room, by insertion.
 ghost use Rattle.std.specs.Prelude.{◌+◌, ◌<◌, ◌≤◌, length};
 ghost use Rattle.camp_seq.specs.Inside.Insertions.{GoesBack, Placed, StandsAt, StaysAt};
 ghost use Rattle.camp_seq.specs.NormalOrder.{Norm};

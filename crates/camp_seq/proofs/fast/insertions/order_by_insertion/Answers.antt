@@ -1,6 +1,6 @@
 use Rattle.camp_seq.proofs.Words.{◌≡◌, ◌+◌, List, length, subst, ◌∙◌, arith, length-take-le, take_all, Named, same, InOrder}
 use Rattle.camp_seq.proofs.PlacingSteps.{norm_of_equivalent, placed_more}
-use Rattle.camp_seq.proofs.insertions.order_by_insertion.Goals as goal
+use Rattle.camp_seq.proofs.fast.insertions.order_by_insertion.Goals as goal
 
 pub loop-last-init : goal.loop-last-init
 loop-last-init c = record { same = same; ordered = tt }

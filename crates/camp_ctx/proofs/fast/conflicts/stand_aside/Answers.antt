@@ -1,6 +1,6 @@
 use Rattle.camp_ctx.proofs.Words.{◌∙◌}
 use Rattle.camp_ctx.proofs.Standing.{merge_aside_told}
-use Rattle.camp_ctx.proofs.conflicts.stand_aside.Goals as goal
+use Rattle.camp_ctx.proofs.fast.conflicts.stand_aside.Goals as goal
 
 pub returns : goal.returns
 returns c = λ yes.

@@ -1,6 +1,6 @@
 use Rattle.camp_ctx.proofs.Words.{◌≡◌, ◌+◌, ◌-◌, ◌∷◌, ◌++◌, List, drop, ap, sym, subst, ◌∙◌, arith, drop_more, take_rest, Named, Links}
 use Rattle.camp_ctx.proofs.LinkSteps.{Linked, linked_more}
-use Rattle.camp_ctx.proofs.links.links_from.Goals as goal
+use Rattle.camp_ctx.proofs.fast.links.links_from.Goals as goal
 
 pub loop-at-preserved : goal.loop-at-preserved
 loop-at-preserved c =

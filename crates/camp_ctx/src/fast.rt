@@ -1,0 +1,20 @@
+//! Faster ways to what the rules say. Each says of itself when it goes, and there the rule's result is
+//! its own.
+//!
+//! - A chain is added in one pass. Where the elements of a list, from some place on, neither swap nor
+//!   cancel with what stands behind them, adding them one by one puts each in front and orders nothing.
+//!   So they are joined to the context at once, and the rest is added one by one.
+//! - What a primitive passes as it is, and what is its own normal order then, stays as it is where the
+//!   primitive is added.
+//! - A patch without a context, whose inverse passes the whole of another contexted patch as it is, does
+//!   not conflict with it: the two merge with nothing in common. No list is made of it.
+//! - Two patches without a context and with different labels have nothing in common, and each is its own
+//!   normal order. So they conflict just where the inverse of the one does not swap with the other.
+//! - Two lists with no label in common merge as they stand where each is its own normal order: a split
+//!   takes nothing off. Where their first primitives do not merge, the lists do not, and neither is copied.
+mod conflicts;
+mod links;
+mod stays;
+
+pub(crate) use conflicts::{are_apart, clash, merge_apart, stand_aside};
+pub(crate) use links::linked;

@@ -1,0 +1,94 @@
+//! Conflicts and merges that a look tells.
+ghost use Rattle.std.specs.Prelude.{◌≡◌, ◌↔◌, [], IfOk, IsTrue};
+ghost use Rattle.camp_base.specs.Answers.{FindsPair};
+ghost use Rattle.camp_seq.specs.Merging.{CleanMerge};
+ghost use Rattle.camp_seq.specs.NormalOrder.{Norm};
+ghost use Rattle.camp_ctx.specs.Conflicts.{Conflict, MergesBehindCommon};
+ghost use Rattle.camp_ctx.specs.Contexts.{whole};
+ghost use Rattle.camp_ctx.specs.Inside.Apart.{NoCleanMerge};
+
+use crate::Contexted;
+use crate::conflicts::has_label;
+use camp_prim::{Label, Named};
+use camp_seq::{Seq, can_swap, clean_merge, is_own_order, stays_past};
+use std::alloc::AllocError;
+use std::slice;
+
+/// Whether a look tells that two patches without a context conflict: they have other labels, and don't
+/// merge. Where it says no, they may still do.
+pub(crate) fn clash(x: &Contexted, y: &Contexted) -> Result<bool, AllocError>
+    ensures { IfOk result (λ yes. IsTrue yes → Conflict x.now y.now) }
+{
+    if !has_no_context(x) {
+        return Ok(false);
+    }
+    if !has_no_context(y) {
+        return Ok(false);
+    }
+    let second = slice::from_ref(y.patch());
+    if has_label(second, &x.patch().label()) {
+        return Ok(false);
+    }
+    Ok(stop_each_other(slice::from_ref(x.patch()), second)?)
+}
+
+/// Whether a look tells that a patch without a context merges with a list, and both stay as they are.
+/// Where it says no, they may still do.
+pub(crate) fn stand_aside(x: &Contexted, t: &Seq) -> Result<bool, AllocError>
+    ensures { IfOk result (λ yes. IsTrue yes → MergesBehindCommon (whole x.now) t.now t.now (whole x.now)) }
+{
+    if !has_no_context(x) {
+        return Ok(false);
+    }
+    let patch = x.patch().try_clone()?;
+    let back = patch.invert();
+    if !stays_past(&back, t.items()) {
+        return Ok(false);
+    }
+    Ok(is_own_order(t.items()))
+}
+
+/// Whether two lists have no label in common, and a look tells that they are their own normal orders.
+pub(crate) fn are_apart(common: &[Label], s: &Seq, t: &Seq) -> bool
+    ensures none { IsTrue result → common.now ≡ [] }
+    ensures first { IsTrue result → Norm s.now s.now }
+    ensures second { IsTrue result → Norm t.now t.now }
+{
+    if !common.is_empty() {
+        return false;
+    }
+    if !is_own_order(s.items()) {
+        return false;
+    }
+    is_own_order(t.items())
+}
+
+/// The clean merge of two lists. Neither is copied where their first primitives don't merge.
+pub(crate) fn merge_apart(s: &Seq, t: &Seq) -> Result<Option<(Seq, Seq)>, AllocError>
+    ensures exact { IfOk result (FindsPair (CleanMerge s.now t.now)) }
+{
+    if stop_each_other(s.items(), t.items())? {
+        return Ok(None);
+    }
+    clean_merge(s, t)
+}
+
+/// Whether the first primitives of two lists don't merge.
+fn stop_each_other(s: &[Named], t: &[Named]) -> Result<bool, AllocError>
+    ensures { IfOk result (λ yes. IsTrue yes → NoCleanMerge s.now t.now) }
+{
+    match (s.first(), t.first()) {
+        (Some(p), Some(q)) => {
+            let p = p.try_clone()?;
+            Ok(!can_swap(&p.invert(), q))
+        }
+        _ => Ok(false),
+    }
+}
+
+/// Whether a contexted patch is seen from the state where it stands.
+fn has_no_context(x: &Contexted) -> bool
+    ensures { IsTrue result ↔ (x.now.context ≡ []) }
+{
+    x.context().items().is_empty()
+}
