@@ -145,14 +145,15 @@ module _ (from to : List Catch) (wanted : List (List ℕ)) (m : ℕ) (agree : Ag
 pub agree_none : (from to : List Catch) → Agree from to 0
 agree_none from to = record { within = omega arith; within_too = omega arith; same = refl }
 
+-- a list is in its own order
+pub as_it_is : (list : List Catch) → Align (keys_of list) list list
+as_it_is [] = refl
+as_it_is (k ∷ list) = (k, list, list, inl (refl, refl, refl), as_it_is list, refl)
+
 -- a branch agrees with itself
 pub agree_itself : (list : List Catch) → Agree list list (length list)
 agree_itself list =
     record { within = omega arith; within_too = omega arith; same = subst (λ l. Align (keys_of l) l l) (sym (take-length list)) (as_it_is list) }
-  where
-    as_it_is : (list : List Catch) → Align (keys_of list) list list
-    as_it_is [] = refl
-    as_it_is (k ∷ list) = (k, list, list, inl (refl, refl, refl), as_it_is list, refl)
 
 -- branches that agree still do with more behind them
 pub agree_grown : (from to more other : List Catch) (n : ℕ) → Agree from to n → Agree (from ++ more) (to ++ other) n

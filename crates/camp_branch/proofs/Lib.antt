@@ -1,4 +1,5 @@
 pub mod AgreedFronts
+pub mod BeginAlike
 pub mod BranchFields
 pub mod BranchLabels
 pub mod BranchTrees

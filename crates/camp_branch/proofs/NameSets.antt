@@ -1,5 +1,5 @@
 -- Sets of names, a name more or less at a time.
-use Rattle.camp_branch.proofs.Words.{◌≡◌, ◌<◌, ◌+◌, ℕ, Bool, true, false, not, cond, ◌||◌, ◌&&◌, Option, None, List, ◌∷◌, map, drop, length, get_or, is_some, bytes_eq, refl, sym, ap, ◌∙◌, is_eq-slice_cmp, list_any, nat_cmp, eq_by_cmp, slice_cmp, nat_list_cmp_total, contains_key, contains_key-keys, get, get-remove, insert, remove, keys, Catch, stands_at, is_among, name_of, or_assoc, cond_both, and_right}
+use Rattle.camp_branch.proofs.Words.{◌≡◌, ◌<◌, ◌+◌, ℕ, Bool, true, false, not, cond, ◌||◌, ◌&&◌, Option, None, Some, List, [], ◌∷◌, map, drop, length, get_or, is_some, bytes_eq, refl, sym, ap, ◌∙◌, is_eq-slice_cmp, list_any, nat_cmp, eq_by_cmp, slice_cmp, nat_list_cmp_total, contains_key, contains_key-keys, empty, get, get-empty, get-remove, insert, remove, keys, Catch, stands_at, first_lacked, has_patch, is_among, name_of, or_assoc, cond_both, and_right}
 use Rattle.camp_branch.proofs.BranchFields.{Names, contains_more}
 use Rattle.camp_branch.proofs.Names.{same_name}
 pub use Rattle.std.proofs.Math.Bool.{and-false as and_false, and-true as and_true}
@@ -79,3 +79,36 @@ module _ (names all : Names) (list : List Catch) (i : ℕ) (k d : Catch) (named 
   one_not_held e name =
       let rest = is_among (map name_of (drop (i + 1) list)) name in
       not_held (contains_key all name) (bytes_eq name (name_of k)) rest (contains_key names name) (this_one false e name) ∙ here name
+
+-- of a set, some names are still to come
+abbrev pub IsFilled : Names → List (List ℕ) → (List ℕ → Bool) → Type 0
+IsFilled set rest aim = (name : List ℕ) → (contains_key set name || is_among rest name) ≡ aim name
+
+pub or_none : (b : Bool) → (b || false) ≡ b
+or_none true = refl
+or_none false = refl
+
+pub one_more : (set next : Names) (n : List ℕ) (rest : List (List ℕ)) (aim : List ℕ → Bool) → IsFilled set (n ∷ rest) aim → next ≡ insert set n tt → IsFilled next rest aim
+one_more set next n rest aim inv becomes name =
+    ap (λ m. contains_key m name || is_among rest name) becomes ∙ ap (λ b. b || is_among rest name) (contains_more set n name) ∙ or_assoc (contains_key set name) (bytes_eq name n) (is_among rest name) ∙ inv name
+
+-- the name at a place comes into the set
+pub one_listed : (set next : Names) (names : List (List ℕ)) (i : ℕ) (n d : List ℕ) (aim : List ℕ → Bool) → IsFilled set (drop i names) aim → i < length names → n ≡ get_or names i d → next ≡ insert set n tt → IsFilled next (drop (i + 1) names) aim
+one_listed set next names i n d aim inv within is becomes =
+    one_more set next n (drop (i + 1) names) aim
+    (λ name. ap (λ r. contains_key set name || is_among r name) (sym (stands_at names i d n within is)) ∙ inv name) becomes
+
+-- at first all are still to come
+pub none_filled : (set : Names) (rest : List (List ℕ)) → set ≡ empty → IsFilled set rest (is_among rest)
+none_filled set rest is name =
+    ap (λ b. b || is_among rest name) (ap (λ m. contains_key m name) is ∙ ap is_some (get-empty (slice_cmp nat_cmp) name))
+
+-- in the end the set has all of them
+pub all_filled : (set : Names) (rest : List (List ℕ)) (aim : List ℕ → Bool) → rest ≡ [] → IsFilled set rest aim → (name : List ℕ) → is_among (keys set) name ≡ aim name
+all_filled set rest aim is inv name =
+    sym (has_listed set name) ∙ sym (or_none (contains_key set name)) ∙ ap (λ r. contains_key set name || is_among r name) (sym is) ∙ inv name
+
+-- the name at a place decides which is the first that is lacked
+pub first_from : (catches : List Catch) (names : List (List ℕ)) (i : ℕ) (n d : List ℕ) (b : Bool) → i < length names → n ≡ get_or names i d → has_patch catches n ≡ b → first_lacked catches (drop i names) ≡ cond b (first_lacked catches (drop (i + 1) names)) (Some n)
+first_from catches names i n d b within is has =
+    ap (first_lacked catches) (stands_at names i d n within is) ∙ ap (λ c. cond c (first_lacked catches (drop (i + 1) names)) (Some n)) has

@@ -1,26 +1,41 @@
 -- The stages of a pull, put together.
-use Rattle.camp_branch.proofs.Words.{ℕ, List, ◌++◌, Result, Ok, Err, refl, ap, inl, inr, IfOk, Arrange, Align, keys_of, MergeLists, Catch, DependsIn, DoesNotMerge, Outcome, MergesBehind, PullBy, Blocked, ◌≡◌, DiffersAt}
 use Rattle.std.specs.Result.{MatchResult}
+use Rattle.camp_catch.specs.Making.{ComesTo}
+use Rattle.camp_catch.specs.declared.faults.Unmade.{Unmade}
+use Rattle.camp_catch.proofs.Making.{blocks_too}
+use Rattle.camp_branch.proofs.Words.{ℕ, List, ◌++◌, Result, Ok, Err, refl, ap, inl, inr, Arrange, Align, keys_of, MergeLists, Catch, DependsIn, DivergesFrom, DivergesIn, DoesNotMerge, PullBy, Blocked, ◌≡◌, DiffersAt}
 
 -- what is said of either answer follows from what is said of it before
-pub either_answer : {X F E : Type 0} (P P' : X → Type 0) (Q Q' : F → Type 0) → ((x : X) → P x → P' x) → ((f : F) → Q f → Q' f) → (answer : Result (Result X F) E) → IfOk answer (λ a. MatchResult a P Q) → IfOk answer (λ a. MatchResult a P' Q')
-either_answer P P' Q Q' goes stops (Ok (Ok x)) w = goes x w
-either_answer P P' Q Q' goes stops (Ok (Err f)) w = stops f w
-either_answer P P' Q Q' goes stops (Err e) w = w
+pub either_answer : {X W : Type 0} (P P' : X → Type 0) (Q Q' : W → Type 0) → ((x : X) → P x → P' x) → ((w : W) → Q w → Q' w) → (answer : Result X (Unmade W)) → ComesTo (λ a. MatchResult a P Q) answer → ComesTo (λ a. MatchResult a P' Q') answer
+either_answer P P' Q Q' goes stops (Ok x) w = goes x w
+either_answer P P' Q Q' goes stops (Err why) w = blocks_too why w stops
 
-module _ (common : List (List ℕ)) (from_common chosen to to_common others : List Catch) (front : Arrange common to to_common others) where
-  pub no_merge : Align (keys_of to_common) from_common to_common → (blocked : Blocked) → DoesNotMerge chosen others blocked → MergesBehind common from_common chosen to (Err blocked)
-  no_merge same blocked w = inl (to_common, others, front, inl (same, inr (w.0, w.1, w.2, ap Err w.3)))
+module _ (common : List (List ℕ)) (from to : List Catch) (wanted : List (List ℕ)) where
+  pub theirs_diverge : (blocked : Blocked) → DivergesIn common from blocked → PullBy common from to wanted (Err blocked)
+  theirs_diverge blocked w = inr (w.0, w.1, w.2, ap Err w.3)
 
-  pub merges : Align (keys_of to_common) from_common to_common → (taken : List Catch) → (beside : List Catch) × MergeLists chosen others taken beside → MergesBehind common from_common chosen to (Ok (to ++ taken))
-  merges same taken w = inl (to_common, others, front, inl (same, inl (taken, w.0, w.1, refl)))
+  module _ (from_common behind : List Catch) (theirs : Arrange common from from_common behind) where
+    pub depends : (blocked : Blocked) → DependsIn wanted behind blocked → PullBy common from to wanted (Err blocked)
+    depends blocked w = inl (from_common, behind, theirs, inr (w.0, w.1, w.2, ap Err w.3))
 
-module _ (common : List (List ℕ)) (from to : List Catch) (wanted : List (List ℕ)) (from_common behind : List Catch) (front : Arrange common from from_common behind) where
-  pub depends : (blocked : Blocked) → DependsIn wanted behind blocked → PullBy common from to wanted (Err blocked)
-  depends blocked w = inl (from_common, behind, front, inr (w.0, w.1, w.2, ap Err w.3))
+    module _ (chosen left : List Catch) (choice : Arrange wanted behind chosen left) where
+      pub ours_diverge : (blocked : Blocked) → DivergesIn common to blocked → PullBy common from to wanted (Err blocked)
+      ours_diverge blocked w = inl (from_common, behind, theirs, inl (chosen, left, choice, inr (w.0, w.1, w.2, ap Err w.3)))
 
-  pub goes_behind : (chosen left : List Catch) → Arrange wanted behind chosen left → (outcome : Outcome) → MergesBehind common from_common chosen to outcome → PullBy common from to wanted outcome
-  goes_behind chosen left choice outcome w = inl (from_common, behind, front, inl (chosen, left, choice, w))
+      module _ (to_common others : List Catch) (ours : Arrange common to to_common others) where
+        pub both_diverge : (blocked : Blocked) → DivergesFrom from_common to_common blocked → PullBy common from to wanted (Err blocked)
+        both_diverge blocked (inl w) =
+            inl (from_common, behind, theirs, inl (chosen, left, choice, inl (to_common, others, ours, inr (inl (w.0, w.1, ap Err w.2)))))
+        both_diverge blocked (inr w) =
+            inl (from_common, behind, theirs, inl (chosen, left, choice, inl (to_common, others, ours, inr (inr (w.0, w.1, w.2, w.3, ap Err w.4)))))
+
+        pub no_merge : Align (keys_of to_common) from_common to_common → (blocked : Blocked) → DoesNotMerge chosen others blocked → PullBy common from to wanted (Err blocked)
+        no_merge same blocked w =
+            inl (from_common, behind, theirs, inl (chosen, left, choice, inl (to_common, others, ours, inl (same, inr (w.0, w.1, w.2, ap Err w.3)))))
+
+        pub merges : Align (keys_of to_common) from_common to_common → (taken : List Catch) → (beside : List Catch) × MergeLists chosen others taken beside → PullBy common from to wanted (Ok (to ++ taken))
+        merges same taken w =
+            inl (from_common, behind, theirs, inl (chosen, left, choice, inl (to_common, others, ours, inl (same, inl (taken, w.0, w.1, refl)))))
 
 -- the lists differ, or are the same, as the rests of them
 pub record DiffersOn (list others rest more : List Catch) : Type 0 where

@@ -12,7 +12,7 @@ pub use Rattle.camp_ctx.specs.Contexts.{AreKeyed, ContextedPatch, ContextedPatch
 pub use Rattle.camp_catch.proofs.KeptLabels.{keep_labels}
 pub use Rattle.camp_prim.specs.Effect.{Applies, inverse_of}
 pub use Rattle.std.proofs.Math.Bool.{and-true, and_comm, or-false, or_assoc, or_comm, or_self}
-pub use Rattle.camp_branch.specs.Branches.{AreDistinct, HasPatches, IsLawfulBranch, IsSized, LeadsTo, Patch, each_once, has_patch, is_among, labels_from, labels_of, name_of, names_of, patch_names, recorded}
+pub use Rattle.camp_branch.specs.Branches.{AreDistinct, HasPatches, IsLawfulBranch, IsSized, LeadsTo, Patch, each_once, first_lacked, has_patch, is_among, labels_from, labels_of, name_of, names_of, patch_names, recorded}
 pub use Rattle.camp_branch.specs.Conflicting.{AreConflicts, AreInConflict, ConflictsWith, IsBefore, IsBetween}
 pub use Rattle.std.proofs.lemmas.Bool.{and_from, and_right, cond-false, cond-true, cond_both, false_from_ne_true, false≢true, ne_eqb, or_from, or_left, or_right}
 pub use Rattle.camp_prim.specs.declared.labels.Key.{Key}
@@ -28,7 +28,7 @@ pub use Rattle.camp_catch.proofs.MoveSteps.{names_decide, stands_at}
 pub use Rattle.camp_catch.specs.Arranging.{Align, AlignSticks, Arrange, ArrangeSticks, ArrangesBehind, ComesFirst, IsOf, SticksBehind}
 pub use Rattle.std.proofs.lemmas.List.Folds.{list_any-append}
 pub use Rattle.camp_branch.specs.Inside.Fronts.{front_of}
-pub use Rattle.camp_branch.specs.Inside.Stages.{DependsIn, DoesNotMerge}
+pub use Rattle.camp_branch.specs.Inside.Stages.{DependsIn, DivergesFrom, DivergesIn, DoesNotMerge}
 pub use Rattle.std.proofs.lemmas.Map.Text.{is_eq-slice_cmp}
 pub use Rattle.camp_catch.specs.Catches.{FitsAll, catch_key, effect_of}
 pub use Rattle.camp_catch.specs.Laws.{KeysPart, keys_of}

@@ -1,5 +1,5 @@
 -- Two branches whose fronts hold the same patches in the same state.
-use Rattle.std.specs.Prelude.{ℕ, ◌≤◌, List, length, take}
+use Rattle.std.specs.Prelude.{◌≡◌, ℕ, ◌+◌, ◌≤◌, List, drop, length, take}
 use Rattle.camp_catch.specs.Arranging.{Align}
 use Rattle.camp_catch.specs.Laws.{keys_of}
 use Rattle.camp_catch.specs.declared.catches.Catch.{Catch}
@@ -9,3 +9,13 @@ pub record Agree (from to : List Catch) (n : ℕ) : Type 0 where
   pub within : n ≤ length from
   pub within_too : n ≤ length to
   pub same : Align (keys_of (take n to)) (take n from) (take n to)
+
+-- two lists begin with the same n catches
+pub record BeginAlike (from to : List Catch) (n : ℕ) : Type 0 where
+  pub within : n ≤ length from
+  pub within_too : n ≤ length to
+  pub same : take n from ≡ take n to
+
+-- n is not less than what is known, with as many catches behind it as are the same in both lists
+abbrev pub ReachesAll : List Catch → List Catch → ℕ → ℕ → Type 0
+ReachesAll from to known n = (more : ℕ) → BeginAlike (drop known from) (drop known to) more → known + more ≤ n

@@ -1,5 +1,6 @@
 -- A branch as a list of catches: the patches that it has, and when it is lawful.
-use Rattle.std.specs.Prelude.{◌≡◌, ◌≤◌, ℕ, zero, suc, ◌+◌, Bool, false, not, List, [], ◌∷◌, ◌++◌, map, filter, bytes_eq}
+use Rattle.std.specs.Prelude.{◌≡◌, ◌≤◌, ℕ, zero, suc, ◌+◌, Bool, false, not, if◌then◌else◌, List, [], ◌∷◌, ◌++◌, map, filter, bytes_eq}
+use Rattle.std.specs.Prelude.{Option, None, Some}
 use Rattle.std.specs.List.{AllByRecursion, flat_map, list_any}
 use Rattle.std.specs.FinMap.{empty}
 use Rattle.camp_base.specs.Limits.{most_changes}
@@ -32,6 +33,11 @@ names_of branch = each_once (map name_of branch)
 -- whether a branch has a patch of this name
 abbrev pub has_patch : List Catch → List ℕ → Bool
 has_patch branch name = is_among (map name_of branch) name
+
+-- the first of some names of which a branch has no patch
+abbrev pub first_lacked : List Catch → List (List ℕ) → Option (List ℕ)
+first_lacked branch [] = None
+first_lacked branch (name ∷ names) = if has_patch branch name then first_lacked branch names else Some name
 
 -- a branch leads to this tree: its catches fit one after the other from the empty tree
 abbrev pub LeadsTo : List Catch → Files → Type 0

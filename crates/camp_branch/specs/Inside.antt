@@ -1,4 +1,5 @@
 -- What only functions that stay within the crate say.
+pub mod Alike
 pub mod Collecting
 pub mod Fronts
 pub mod Stages

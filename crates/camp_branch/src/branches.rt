@@ -2,22 +2,23 @@ ghost use Rattle.std.specs.Prelude.{◌≡◌, ◌≤◌, ◌++◌, ℕ, List, [
 ghost use Rattle.std.specs.FinMap.{empty as no_files};
 ghost use Rattle.camp_base.specs.Limits.{most_changes};
 ghost use Rattle.camp_base.specs.Trees.{Files};
-ghost use Rattle.camp_branch.specs.Agreeing.{Agree};
-ghost use Rattle.camp_branch.specs.Branches.{IsLawfulBranch, LeadsTo, has_patch, names_of, recorded};
+ghost use Rattle.camp_catch.specs.Making.{ComesTo};
+ghost use Rattle.camp_branch.specs.Agreeing.{Agree, ReachesAll};
+ghost use Rattle.camp_branch.specs.Branches.{IsLawfulBranch, LeadsTo, first_lacked, has_patch, names_of, recorded};
 ghost use Rattle.camp_branch.specs.Conflicting.{AreConflicts};
 ghost use Rattle.camp_branch.specs.Fields.{has_name, names_in};
 ghost use Rattle.camp_branch.specs.Laws.{AppliesEach, AreLacked};
 ghost use Rattle.camp_branch.specs.Obliterating.{ObliterateGives};
 ghost use Rattle.camp_branch.specs.Pulling.{PullGives};
 
-use crate::agreements::agreed;
 use crate::conflicts::conflicts_of;
 use crate::effects::{tree_after, tree_before};
+use crate::fast::agreed;
 use crate::name_sets::common;
 use crate::pulls::{pull, wanted_next};
-use crate::{Blocked, name_sets};
+use crate::{Blocked, NameSet, name_sets};
 use camp_base::{Name, Tree};
-use camp_catch::Catch;
+use camp_catch::{Catch, Unmade};
 use camp_prim::{Named, Primitive};
 use camp_share::{Share, Shared, SharedList, SharedMap};
 use std::alloc::{AllocError, Global};
@@ -28,7 +29,7 @@ use std::marker::Model;
 #[derive(Drop)]
 pub struct Branch {
     catches: SharedList<Shared<Catch>>,
-    names: SharedMap<Name, ()>,
+    names: NameSet,
     tree: Tree,
 }
 
@@ -97,6 +98,18 @@ impl Branch {
         self.names.contains_key(name)
     }
 
+    /// The first of some names of which the branch has no patch.
+    pub fn first_lacked(&self, names: &[Name]) -> Option<Name>
+        ensures exact { result ≡ first_lacked self.now names.now }
+    {
+        for name in names {
+            if !self.has_patch(name) {
+                return Some(*name);
+            }
+        }
+        None
+    }
+
     /// The names of the patches, each once, in the order of their first catches.
     pub fn names(&self) -> Result<Vec<Name>, AllocError>
         ensures exact { IfOk result (λ names. names.items ≡ names_of self.now) }
@@ -141,10 +154,12 @@ impl Branch {
     }
 
     /// How long a front of another branch is known to agree with a front of this one: at least as
-    /// long as it was known, and longer where what stands behind agrees too.
+    /// long as it was known, with all catches behind it that are the same in both, and longer where
+    /// further catches of both are the same patches in other orders.
     pub fn agreed(&self, from: &Branch, known: usize) -> Result<usize, AllocError>
         requires { Agree from.now self.now known }
         ensures agree { IfOk result (Agree from.now self.now) }
+        ensures as_they_are { IfOk result (λ long. ReachesAll from.now self.now known long) }
     {
         agreed(
             self.catches.allocator(),
@@ -156,13 +171,9 @@ impl Branch {
 
     /// The branch with what the wanted patches of another one become behind it, or why they can't
     /// come there.
-    pub fn pulled(
-        &self,
-        from: &Branch,
-        wanted: &SharedMap<Name, ()>,
-    ) -> Result<Result<Branch, Blocked>, AllocError>
+    pub fn pulled(&self, from: &Branch, wanted: &NameSet) -> Result<Branch, Unmade<Blocked>>
         requires lacked { AreLacked self.now (names_in wanted.now) }
-        ensures exact { IfOk result (λ outcome. PullGives from.now self.now (names_in wanted.now) outcome) }
+        ensures exact { ComesTo (PullGives from.now self.now (names_in wanted.now)) result }
     {
         let known = self.agreed(from, 0)?;
         self.pulled_behind(from, wanted, known)
@@ -173,39 +184,30 @@ impl Branch {
     pub fn pulled_behind(
         &self,
         from: &Branch,
-        wanted: &SharedMap<Name, ()>,
+        wanted: &NameSet,
         known: usize,
-    ) -> Result<Result<Branch, Blocked>, AllocError>
+    ) -> Result<Branch, Unmade<Blocked>>
         requires lacked { AreLacked self.now (names_in wanted.now) }
         requires agree { Agree from.now self.now known }
-        ensures exact { IfOk result (λ outcome. PullGives from.now self.now (names_in wanted.now) outcome) }
+        ensures exact { ComesTo (PullGives from.now self.now (names_in wanted.now)) result }
     {
         let theirs = behind(&from.catches, known)?;
         let ours = behind(&self.catches, known)?;
         let common = common(&theirs, &from.names, &ours, &self.names)?;
         let taken = pull(self.catches.allocator(), &theirs, &ours, &common, wanted)?;
-        match taken {
-            Ok(taken) => Ok(Ok(self.with_taken(&taken)?)),
-            Err(blocked) => Ok(Err(blocked)),
-        }
+        Ok(self.with_taken(&taken)?)
     }
 
     /// The branch without the patches of some names, or the first of the others that depends on one
     /// of them.
-    pub fn without(
-        &self,
-        names: &SharedMap<Name, ()>,
-    ) -> Result<Result<Branch, Blocked>, AllocError>
-        ensures exact { IfOk result (λ outcome. ObliterateGives self.now (names_in names.now) outcome) }
+    pub fn without(&self, names: &NameSet) -> Result<Branch, Unmade<Blocked>>
+        ensures exact { ComesTo (ObliterateGives self.now (names_in names.now)) result }
     {
         let staying = name_sets::without(&self.names, names)?;
         let start = name_sets::front(&self.catches, &staying);
         let behind = self.catches.range_to_vec(start, self.catches.len())?;
         let arranged = wanted_next(self.catches.allocator(), &behind, &staying)?;
-        match arranged {
-            Ok(arranged) => Ok(Ok(self.with_end(start, &arranged.first, &arranged.rest, staying)?)),
-            Err(blocked) => Ok(Err(blocked)),
-        }
+        Ok(self.with_end(start, &arranged.first, &arranged.rest, staying)?)
     }
 
     /// The branch whose catches from a place on are brought into another order, and then end before
@@ -215,7 +217,7 @@ impl Branch {
         start: usize,
         new: &[Shared<Catch>],
         gone: &[Shared<Catch>],
-        names: SharedMap<Name, ()>,
+        names: NameSet,
     ) -> Result<Branch, AllocError>
         requires within { start ≤ length self.now }
         requires reordered { (tree : Files) → LeadsTo self.now tree → LeadsTo ((take start self.now ++ new.now) ++ gone.now) tree }
@@ -278,8 +280,7 @@ fn with_recorded(
         place += 1;
     }
     let end = catches.len();
-    let list = catches.spliced(end, end, &new)?;
-    Ok(list)
+    Ok(catches.spliced(end, end, &new)?)
 }
 
 fn plain(

@@ -2,10 +2,10 @@
 //! comes of pulling patches from one into another and of taking patches out.
 #![tactic(auto)]
 
-mod agreements;
 mod branches;
 mod conflicts;
 mod effects;
+mod fast;
 mod faults;
 mod laws;
 mod name_sets;
@@ -18,3 +18,4 @@ pub use laws::{
     outcomes_are_determined, pulls_begin_with_own, pulls_keep_lawful, records_keep_lawful,
     trees_are_determined,
 };
+pub use name_sets::{NameSet, set_of};

@@ -6,13 +6,24 @@ ghost use Rattle.camp_branch.specs.Inside.Fronts.{front_of};
 use camp_base::Name;
 use camp_catch::Catch;
 use camp_share::{Share, Shared, SharedList, SharedMap};
-use std::alloc::AllocError;
+use std::alloc::{AllocError, Global};
+
+/// Names of patches, each once.
+pub type NameSet = SharedMap<Name, ()>;
+
+/// The names, each once.
+pub fn set_of(alloc: Global, names: &[Name]) -> Result<NameSet, AllocError>
+    ensures exact { IfOk result (λ set. (name : List ℕ) → is_among (names_in set) name ≡ is_among names.now name) }
+{
+    let mut set = SharedMap::new(alloc);
+    for name in names {
+        set = set.inserted(*name, ())?;
+    }
+    Ok(set)
+}
 
 /// The names but for those that are to go.
-pub(crate) fn without(
-    names: &SharedMap<Name, ()>,
-    gone: &SharedMap<Name, ()>,
-) -> Result<SharedMap<Name, ()>, AllocError>
+pub(crate) fn without(names: &NameSet, gone: &NameSet) -> Result<NameSet, AllocError>
     ensures { IfOk result (λ left. (name : List ℕ) →
         has_name left name ≡ (has_name names.now name && not (is_among (names_in gone.now) name))) }
 {
@@ -27,26 +38,25 @@ pub(crate) fn without(
 /// names of the one branch stand in a set, and those of the other in another.
 pub(crate) fn common(
     list: &[Shared<Catch>],
-    names: &SharedMap<Name, ()>,
+    names: &NameSet,
     others: &[Shared<Catch>],
-    other_names: &SharedMap<Name, ()>,
-) -> Result<SharedMap<Name, ()>, AllocError>
+    other_names: &NameSet,
+) -> Result<NameSet, AllocError>
     ensures { IfOk result (λ both. (name : List ℕ) → has_name both name ≡
         ((is_among (map name_of list.now) name && has_name other_names.now name)
         || (is_among (map name_of others.now) name && has_name names.now name))) }
 {
     let none = SharedMap::new(names.allocator());
     let first = with_those_in(&none, list, other_names)?;
-    let both = with_those_in(&first, others, names)?;
-    Ok(both)
+    Ok(with_those_in(&first, others, names)?)
 }
 
 /// The names of a set, and those of the patches of catches that stand in another.
 fn with_those_in(
-    set: &SharedMap<Name, ()>,
+    set: &NameSet,
     list: &[Shared<Catch>],
-    names: &SharedMap<Name, ()>,
-) -> Result<SharedMap<Name, ()>, AllocError>
+    names: &NameSet,
+) -> Result<NameSet, AllocError>
     ensures { IfOk result (λ all. (name : List ℕ) → has_name all name ≡
         (has_name set.now name || (is_among (map name_of list.now) name && has_name names.now name))) }
 {
@@ -62,10 +72,7 @@ fn with_those_in(
 }
 
 /// The names, and those of the patches that catches are of.
-pub(crate) fn with_taken(
-    names: &SharedMap<Name, ()>,
-    taken: &[Shared<Catch>],
-) -> Result<SharedMap<Name, ()>, AllocError>
+pub(crate) fn with_taken(names: &NameSet, taken: &[Shared<Catch>]) -> Result<NameSet, AllocError>
     ensures { IfOk result (λ all. (name : List ℕ) →
         has_name all name ≡ (has_name names.now name || is_among (map name_of taken.now) name)) }
 {
@@ -77,7 +84,7 @@ pub(crate) fn with_taken(
 }
 
 /// How many catches stand before the first that is of none of the patches.
-pub(crate) fn front(catches: &SharedList<Shared<Catch>>, names: &SharedMap<Name, ()>) -> usize
+pub(crate) fn front(catches: &SharedList<Shared<Catch>>, names: &NameSet) -> usize
     ensures { result ≡ front_of (names_in names.now) catches.now }
 {
     let end = catches.len();

@@ -2,17 +2,18 @@ ghost use Rattle.std.specs.Prelude.{◌≡◌, ◌++◌, List, IfOk, MatchOption
 ghost use Rattle.std.specs.Result.{MatchResult};
 ghost use Rattle.camp_catch.specs.Arranging.{Align, Arrange};
 ghost use Rattle.camp_catch.specs.Laws.{keys_of};
+ghost use Rattle.camp_catch.specs.Making.{ComesTo};
 ghost use Rattle.camp_catch.specs.MergingLists.{MergeLists};
 ghost use Rattle.camp_catch.specs.declared.catches.Catch.{Catch as AnyCatch};
 ghost use Rattle.camp_branch.specs.Fields.{names_in};
 ghost use Rattle.camp_branch.specs.Inside.Stages.{DependsIn, DivergesFrom, DivergesIn, DoesNotMerge};
-ghost use Rattle.camp_branch.specs.Pulling.{DiffersAt, MergesBehind, PullBy};
+ghost use Rattle.camp_branch.specs.Pulling.{DiffersAt, PullBy};
 
-use crate::Blocked;
+use crate::{Blocked, NameSet};
 use camp_base::Name;
-use camp_catch::{Arranged, Catch, align, arrange, merge_lists};
+use camp_catch::{Arranged, Catch, Unmade, align, arrange, merge_lists};
 use camp_prim::Key;
-use camp_share::{Shared, SharedMap};
+use camp_share::Shared;
 use std::alloc::{AllocError, Global};
 
 /// What the wanted catches of `from` become behind `to`, or why they can't come there.
@@ -20,65 +21,34 @@ pub(crate) fn pull(
     alloc: Global,
     from: &[Shared<Catch>],
     to: &[Shared<Catch>],
-    common: &SharedMap<Name, ()>,
-    wanted: &SharedMap<Name, ()>,
-) -> Result<Result<Vec<Shared<Catch>>, Blocked>, AllocError>
-    ensures exact { IfOk result (λ answer. MatchResult answer
+    common: &NameSet,
+    wanted: &NameSet,
+) -> Result<Vec<Shared<Catch>>, Unmade<Blocked>>
+    ensures exact { ComesTo (λ answer. MatchResult answer
         (λ taken. PullBy (names_in common.now) from.now to.now (names_in wanted.now) (ok (to.now ++ taken.items)))
-        (λ blocked. PullBy (names_in common.now) from.now to.now (names_in wanted.now) (err blocked))) }
+        (λ blocked. PullBy (names_in common.now) from.now to.now (names_in wanted.now) (err blocked))) result }
 {
-    let front = common_first(alloc, from, common)?;
-    match front {
-        Ok(front) => {
-            let choice = wanted_next(alloc, &front.rest, wanted)?;
-            match choice {
-                Ok(choice) => merge_behind(alloc, &front.first, &choice.first, to, common),
-                Err(blocked) => Ok(Err(blocked)),
-            }
-        }
-        Err(blocked) => Ok(Err(blocked)),
-    }
-}
-
-/// What the chosen catches, which stand behind the common ones, become behind the other branch.
-fn merge_behind(
-    alloc: Global,
-    from_common: &[Shared<Catch>],
-    chosen: &[Shared<Catch>],
-    to: &[Shared<Catch>],
-    common: &SharedMap<Name, ()>,
-) -> Result<Result<Vec<Shared<Catch>>, Blocked>, AllocError>
-    ensures exact { IfOk result (λ answer. MatchResult answer
-        (λ taken. MergesBehind (names_in common.now) from_common.now chosen.now to.now (ok (to.now ++ taken.items)))
-        (λ blocked. MergesBehind (names_in common.now) from_common.now chosen.now to.now (err blocked))) }
-{
-    let front = common_first(alloc, to, common)?;
-    match front {
-        Ok(front) => {
-            let same = same_front(alloc, from_common, &front.first)?;
-            match same {
-                Ok(()) => merged_last(alloc, chosen, &front.rest),
-                Err(blocked) => Ok(Err(blocked)),
-            }
-        }
-        Err(blocked) => Ok(Err(blocked)),
-    }
+    let theirs = common_first(alloc, from, common)?;
+    let chosen = wanted_next(alloc, &theirs.rest, wanted)?;
+    let ours = common_first(alloc, to, common)?;
+    same_front(alloc, &theirs.first, &ours.first)?;
+    merged_last(alloc, &chosen.first, &ours.rest)
 }
 
 /// The common patches, and behind them the others.
 fn common_first(
     alloc: Global,
     list: &[Shared<Catch>],
-    names: &SharedMap<Name, ()>,
-) -> Result<Result<Arranged, Blocked>, AllocError>
-    ensures exact { IfOk result (λ answer. MatchResult answer
+    names: &NameSet,
+) -> Result<Arranged, Unmade<Blocked>>
+    ensures exact { ComesTo (λ answer. MatchResult answer
         (λ arranged. Arrange (names_in names.now) list.now arranged.first.items arranged.rest.items)
-        (λ blocked. DivergesIn (names_in names.now) list.now blocked)) }
+        (DivergesIn (names_in names.now) list.now)) result }
 {
-    let arranged = arrange(alloc, list, names)?;
-    match arranged {
-        Ok(arranged) => Ok(Ok(arranged)),
-        Err(stuck) => Ok(Err(Blocked::Diverged(stuck.patch.name))),
+    match arrange(alloc, list, names) {
+        Ok(arranged) => Ok(arranged),
+        Err(Unmade::Blocked(stuck)) => Err(Unmade::Blocked(Blocked::Diverged(stuck.patch.name))),
+        Err(Unmade::Memory) => Err(Unmade::Memory),
     }
 }
 
@@ -86,19 +56,19 @@ fn common_first(
 pub(crate) fn wanted_next(
     alloc: Global,
     list: &[Shared<Catch>],
-    names: &SharedMap<Name, ()>,
-) -> Result<Result<Arranged, Blocked>, AllocError>
-    ensures exact { IfOk result (λ answer. MatchResult answer
+    names: &NameSet,
+) -> Result<Arranged, Unmade<Blocked>>
+    ensures exact { ComesTo (λ answer. MatchResult answer
         (λ arranged. Arrange (names_in names.now) list.now arranged.first.items arranged.rest.items)
-        (λ blocked. DependsIn (names_in names.now) list.now blocked)) }
+        (DependsIn (names_in names.now) list.now)) result }
 {
-    let arranged = arrange(alloc, list, names)?;
-    match arranged {
-        Ok(arranged) => Ok(Ok(arranged)),
-        Err(stuck) => Ok(Err(Blocked::Depends {
+    match arrange(alloc, list, names) {
+        Ok(arranged) => Ok(arranged),
+        Err(Unmade::Blocked(stuck)) => Err(Unmade::Blocked(Blocked::Depends {
             patch: stuck.patch.name,
             on: stuck.on.name,
         })),
+        Err(Unmade::Memory) => Err(Unmade::Memory),
     }
 }
 
@@ -107,19 +77,19 @@ pub(crate) fn same_front(
     alloc: Global,
     from_common: &[Shared<Catch>],
     to_common: &[Shared<Catch>],
-) -> Result<Result<(), Blocked>, AllocError>
-    ensures exact { IfOk result (λ answer. MatchResult answer
+) -> Result<(), Unmade<Blocked>>
+    ensures exact { ComesTo (λ answer. MatchResult answer
         (λ _. Align (keys_of to_common.now) from_common.now to_common.now)
-        (λ blocked. DivergesFrom from_common.now to_common.now blocked)) }
+        (DivergesFrom from_common.now to_common.now)) result }
 {
     let order = keys(alloc, to_common)?;
-    let aligned = align(alloc, from_common, &order)?;
-    match aligned {
+    match align(alloc, from_common, &order) {
         Ok(aligned) => match first_difference(&aligned, to_common) {
-            None => Ok(Ok(())),
-            Some(name) => Ok(Err(Blocked::Diverged(name))),
+            None => Ok(()),
+            Some(name) => Err(Unmade::Blocked(Blocked::Diverged(name))),
         },
-        Err(stuck) => Ok(Err(Blocked::Diverged(stuck.name))),
+        Err(Unmade::Blocked(stuck)) => Err(Unmade::Blocked(Blocked::Diverged(stuck.name))),
+        Err(Unmade::Memory) => Err(Unmade::Memory),
     }
 }
 
@@ -152,17 +122,17 @@ fn merged_last(
     alloc: Global,
     wanted: &[Shared<Catch>],
     others: &[Shared<Catch>],
-) -> Result<Result<Vec<Shared<Catch>>, Blocked>, AllocError>
-    ensures exact { IfOk result (λ answer. MatchResult answer
+) -> Result<Vec<Shared<Catch>>, Unmade<Blocked>>
+    ensures exact { ComesTo (λ answer. MatchResult answer
         (λ taken. (beside : List AnyCatch) × MergeLists wanted.now others.now taken.items beside)
-        (λ blocked. DoesNotMerge wanted.now others.now blocked)) }
+        (DoesNotMerge wanted.now others.now)) result }
 {
-    let merged = merge_lists(alloc, wanted, others)?;
-    match merged {
-        Ok(taken) => Ok(Ok(taken)),
-        Err(stuck) => Ok(Err(Blocked::NoMerge {
+    match merge_lists(alloc, wanted, others) {
+        Ok(taken) => Ok(taken),
+        Err(Unmade::Blocked(stuck)) => Err(Unmade::Blocked(Blocked::NoMerge {
             left: stuck.left.name,
             right: stuck.right.name,
         })),
+        Err(Unmade::Memory) => Err(Unmade::Memory),
     }
 }

@@ -7,6 +7,7 @@ pub mod Gains
 pub mod KeptLabels
 pub mod ListEffects
 pub mod ListResults
+pub mod Making
 pub mod MergeCases
 pub mod MergeEffects
 pub mod MergeListSteps

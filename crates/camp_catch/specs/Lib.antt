@@ -6,5 +6,6 @@ pub mod Conflictors
 pub mod Inside
 pub mod Laws
 pub mod ListLaws
+pub mod Making
 pub mod Merging
 pub mod MergingLists

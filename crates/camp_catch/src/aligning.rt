@@ -5,50 +5,44 @@ ghost use Rattle.camp_base.specs.Answers.{Finds};
 ghost use Rattle.camp_catch.specs.Arranging.{Align, AlignSticks};
 ghost use Rattle.camp_catch.specs.Catches.{catch_key};
 ghost use Rattle.camp_catch.specs.Inside.InPlace.{ComesFirstInPlace, FirstWith, Lacks};
+ghost use Rattle.camp_catch.specs.Making.{ComesTo};
 
-use crate::Catch;
 use crate::moves::{come_before, copies};
+use crate::{Catch, Unmade};
 use camp_prim::Key;
 use camp_share::Shared;
 use std::alloc::{AllocError, Global};
 
 /// The list in the order of these absolute labels; catches that the order does not name stay behind
-/// the others, in their order. `Err` with the first label whose catch can't come to its place, or is
+/// the others, in their order. Blocked by the first label whose catch can't come to its place, or is
 /// not there. A catch that stands in its place is only looked at.
 pub fn align(
     alloc: Global,
     list: &[Shared<Catch>],
     order: &[Key],
-) -> Result<Result<Vec<Shared<Catch>>, Key>, AllocError>
-    ensures exact { IfOk result (λ answer. MatchResult answer
+) -> Result<Vec<Shared<Catch>>, Unmade<Key>>
+    ensures exact { ComesTo (λ answer. MatchResult answer
         (λ aligned. Align order.now list.now aligned.items)
-        (λ stuck. AlignSticks order.now list.now stuck)) }
+        (AlignSticks order.now list.now)) result }
 {
     let mut aligned = copies(alloc, list)?;
-    let ordered = put_in_order(alloc, &mut aligned, order)?;
-    match ordered {
-        Ok(()) => Ok(Ok(aligned)),
-        Err(stuck) => Ok(Err(stuck)),
-    }
+    put_in_order(alloc, &mut aligned, order)?;
+    Ok(aligned)
 }
 
 /// Puts a list in the order in its place in memory. Where a label stops that, the list is left as it
 /// is then.
-fn put_in_order(
-    alloc: Global,
-    list: &mut [Shared<Catch>],
-    order: &[Key],
-) -> Result<Result<(), Key>, AllocError>
-    ensures exact { IfOk result (λ answer. MatchResult answer
+fn put_in_order(alloc: Global, list: &mut [Shared<Catch>], order: &[Key]) -> Result<(), Unmade<Key>>
+    ensures exact { ComesTo (λ answer. MatchResult answer
         (λ _. Align order.now list.old list.new)
-        (λ stuck. AlignSticks order.now list.old stuck)) }
+        (AlignSticks order.now list.old)) result }
 {
     for (at, key) in order.iter().enumerate() {
         if !come_first(alloc, &mut list[at..], key)? {
-            return Ok(Err(*key));
+            return Err(Unmade::Blocked(*key));
         }
     }
-    Ok(Ok(()))
+    Ok(())
 }
 
 /// Brings the first catch with a label to the front. Where it can't come there, or there is none, the
@@ -60,10 +54,9 @@ fn come_first(alloc: Global, list: &mut [Shared<Catch>], key: &Key) -> Result<bo
         return Ok(false);
     };
     let (before, from) = list.split_at_mut(at);
-    let moved = come_before(alloc, before, &mut from[0])?;
-    match moved {
-        Err(_) => Ok(false),
-        Ok(()) => {
+    match come_before(alloc, before, &mut from[0])? {
+        Some(_) => Ok(false),
+        None => {
             list[..at + 1].rotate_right(1);
             Ok(true)
         }

@@ -1,17 +1,18 @@
-ghost use Rattle.std.specs.Prelude.{◌↔◌, IfOk, IsTrue};
+ghost use Rattle.std.specs.Prelude.{◌↔◌, IsTrue};
 ghost use Rattle.std.specs.FinMap.{keys};
 ghost use Rattle.std.specs.Ordering.{nat_cmp};
 ghost use Rattle.std.specs.Cmp.Lexicographic.{slice_cmp};
 ghost use Rattle.std.specs.Result.{MatchResult};
 ghost use Rattle.camp_share.specs.Maps.{map_of};
 ghost use Rattle.camp_catch.specs.Arranging.{Arrange, ArrangeSticks, IsOf};
+ghost use Rattle.camp_catch.specs.Making.{ComesTo};
 
-use crate::Catch;
 use crate::moves::come_before;
+use crate::{Catch, Unmade};
 use camp_base::Name;
 use camp_prim::Key;
 use camp_share::{Share, Shared, SharedMap};
-use std::alloc::{AllocError, Global};
+use std::alloc::Global;
 
 /// The catches of some patches, and behind them the others.
 #[derive(Drop)]
@@ -28,16 +29,16 @@ pub struct Stuck {
 }
 
 /// The catches of the patches whose names are keys of the map, commuted left over the others, and
-/// the others. `Err` with the first of them that can't pass another. A catch that nothing passes and
+/// the others. Blocked by the first of them that can't pass another. A catch that nothing passes and
 /// that passes nothing is shared.
 pub fn arrange<V>(
     alloc: Global,
     list: &[Shared<Catch>],
     names: &SharedMap<Name, V>,
-) -> Result<Result<Arranged, Stuck>, AllocError>
-    ensures exact { IfOk result (λ answer. MatchResult answer
+) -> Result<Arranged, Unmade<Stuck>>
+    ensures exact { ComesTo (λ answer. MatchResult answer
         (λ arranged. Arrange (keys (map_of (slice_cmp nat_cmp) names.now)) list.now arranged.first.items arranged.rest.items)
-        (λ stuck. ArrangeSticks (keys (map_of (slice_cmp nat_cmp) names.now)) list.now stuck.patch stuck.on)) }
+        (λ stuck. ArrangeSticks (keys (map_of (slice_cmp nat_cmp) names.now)) list.now stuck.patch stuck.on)) result }
 {
     let mut first = Vec::new(alloc);
     let mut rest = Vec::new(alloc);
@@ -48,13 +49,12 @@ pub fn arrange<V>(
             continue;
         }
         let patch = catch.key();
-        let moved = come_before(alloc, &mut rest, &mut catch)?;
-        match moved {
-            Ok(()) => first.push(catch)?,
-            Err(on) => return Ok(Err(Stuck { patch, on })),
+        if let Some(on) = come_before(alloc, &mut rest, &mut catch)? {
+            return Err(Unmade::Blocked(Stuck { patch, on }));
         }
+        first.push(catch)?;
     }
-    Ok(Ok(Arranged { first, rest }))
+    Ok(Arranged { first, rest })
 }
 
 /// Whether a catch belongs to one of the patches.

@@ -41,8 +41,7 @@ fn both_plain(a: &Named, b: &Named) -> Result<Option<(Catch, Catch)>, AllocError
     ensures exact { IfOk result (FindsPair (BothPlain a.now b.now)) }
     ensures memory { IfErr result (λ error. MayWant (Plain a.now) (Plain b.now)) }
 {
-    let swapped = camp_prim::commute(a, b)?;
-    let Some((b, a)) = swapped else {
+    let Some((b, a)) = camp_prim::commute(a, b)? else {
         return Ok(None);
     };
     Ok(Some((Catch::Plain(b), Catch::Plain(a))))
@@ -84,12 +83,10 @@ fn plain_past_conflictor(a: &Named, k: &Conflictor) -> Result<Option<(Catch, Cat
     requires { get k.now.conflicts (patch_key a.now) ≡ None }
     ensures { IfOk result (FindsPair (PlainPastConflictor a.now k.now)) }
 {
-    let behind = past(a, &k.effect)?;
-    let Some((passed, a)) = behind else {
+    let Some((passed, a)) = past(a, &k.effect)? else {
         return Ok(None);
     };
-    let made = passes_before(&a, &passed, k)?;
-    match made {
+    match passes_before(&a, &passed, k)? {
         None => Ok(None),
         Some(moved) => Ok(Some((Catch::Conflictor(moved), Catch::Plain(a)))),
     }
@@ -103,12 +100,10 @@ fn conflictor_past_plain(
 ) -> Result<Option<(Catch, Catch)>, AllocError>
     ensures { IfOk result (FindsPair (ConflictorPastPlain j.now b.now)) }
 {
-    let behind = comes_before(alloc, &j.effect, b)?;
-    let Some((second, left)) = behind else {
+    let Some((second, left)) = comes_before(alloc, &j.effect, b)? else {
         return Ok(None);
     };
-    let made = inverse_passes_before(b, &left, j)?;
-    match made {
+    match inverse_passes_before(b, &left, j)? {
         None => Ok(None),
         Some(moved) => Ok(Some((Catch::Plain(second), Catch::Conflictor(moved)))),
     }
@@ -133,21 +128,12 @@ fn inverse_passes_before(
 fn comes_before(alloc: Global, r: &Seq, b: &Named) -> Result<Option<(Named, Seq)>, AllocError>
     ensures { IfOk result (FindsPair (λ b' left. PassesAll r.now (b.now ∷ []) (b' ∷ []) left)) }
 {
-    let behind = passes_one(alloc, r, b)?;
-    let Some((before, left)) = behind else {
+    let single = one(alloc, b)?;
+    let Some((before, left)) = past_all(r, &single)? else {
         return Ok(None);
     };
     let first = first_of(before.items())?;
     Ok(Some((first, left)))
-}
-
-/// The same, where `b'` is a list of one.
-fn passes_one(alloc: Global, r: &Seq, b: &Named) -> Result<Option<(Seq, Seq)>, AllocError>
-    ensures { IfOk result (FindsPair (PassesAll r.now (b.now ∷ []))) }
-{
-    let single = one(alloc, b)?;
-    let behind = past_all(r, &single)?;
-    Ok(behind)
 }
 
 /// The one element of a list.
@@ -208,8 +194,7 @@ fn plain_leaves_the_set(
     requires several { 2 ≤ len k.now.conflicts }
     ensures { IfOk result (FindsPair (PlainLeavesTheSet a.now k.now)) }
 {
-    let found = behind_inverse(a, &k.effect)?;
-    let Some(rest) = found else {
+    let Some(rest) = behind_inverse(a, &k.effect)? else {
         return Ok(None);
     };
     let second = without_member(&a.label().key(), &rest, k)?;
@@ -223,8 +208,7 @@ fn behind_inverse(a: &Named, s: &Seq) -> Result<Option<Seq>, AllocError>
     ensures { IfOk result
         (Finds (λ rest. Fronts (label_of (inverse_of a.now)) s.now (inverse_of a.now) rest)) }
 {
-    let found = front(s, &a.label().opposite())?;
-    let Some((back, rest)) = found else {
+    let Some((back, rest)) = front(s, &a.label().opposite())? else {
         return Ok(None);
     };
     if !back.invert().is_same(a) {

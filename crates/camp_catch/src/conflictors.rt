@@ -59,12 +59,10 @@ fn two_conflictors_apart(
     if !lacks_key(k.identity.context().items(), &j.identity.key()) {
         return Ok(None);
     }
-    let passed = effects_pass(alloc, &j.effect, &k.effect, &k.conflicts)?;
-    let Some((effect, rest)) = passed else {
+    let Some((effect, rest)) = effects_pass(alloc, &j.effect, &k.effect, &k.conflicts)? else {
         return Ok(None);
     };
-    let found = all_pass_before(&rest, effect, k)?;
-    let Some(moved) = found else {
+    let Some(moved) = all_pass_before(&rest, effect, k)? else {
         return Ok(None);
     };
     let own = both_behind(&k.effect, rest, j)?;
@@ -134,8 +132,7 @@ fn joins_behind_effects(
 ) -> Result<Option<(Catch, Catch)>, AllocError>
     ensures { IfOk result (FindsPair (JoinsBehindEffects j.now k.now others.now)) }
 {
-    let passed = effects_pass(alloc, &j.effect, &k.effect, others)?;
-    let Some((effect, rest)) = passed else {
+    let Some((effect, rest)) = effects_pass(alloc, &j.effect, &k.effect, others)? else {
         return Ok(None);
     };
     let moved = others_before(&rest, effect, k, others)?;
@@ -152,12 +149,10 @@ fn effects_pass(
 ) -> Result<Option<(Seq, Seq)>, AllocError>
     ensures { IfOk result (FindsPair (EffectsPass r.now s.now ys.now)) }
 {
-    let parts = parted(alloc, r, ys)?;
-    let Some((common, rest)) = parts else {
+    let Some((common, rest)) = parted(alloc, r, ys)? else {
         return Ok(None);
     };
-    let passed = past_all(&rest, s)?;
-    let Some((second, first)) = passed else {
+    let Some((second, first)) = past_all(&rest, s)? else {
         return Ok(None);
     };
     let effect = joined(alloc, &common, second)?;
@@ -169,8 +164,7 @@ fn parted(alloc: Global, r: &Seq, ys: &CtxSet) -> Result<Option<(Seq, Seq)>, All
     ensures { IfOk result (FindsPair (Splits (labels_undone r.now ys.now) r.now)) }
 {
     let labels = labels_undone(alloc, r.items(), ys)?;
-    let parts = split(r, labels.as_slice())?;
-    Ok(parts)
+    Ok(split(r, labels.as_slice())?)
 }
 
 /// A list and the normal order of another, in normal order.

@@ -8,19 +8,20 @@ mod arranging;
 mod catches;
 mod commuting;
 mod conflictors;
-mod gaining;
+mod fast;
+mod faults;
 mod laws;
 mod merging;
 mod merging_lists;
 mod moves;
 mod seen;
-mod unmoved;
 mod values;
 
 pub use aligning::align;
 pub use arranging::{Arranged, Stuck, arrange};
 pub use catches::{Catch, Conflictor};
 pub use commuting::commute;
+pub use faults::Unmade;
 pub use laws::{
     arrange_goes_by_members, cases_exclude_one_another, catches_are_decided, commute_is_unique,
     commute_keeps_effects, fronts_come_behind_fronts, labels_are_kept, lists_are_unique,

@@ -1,5 +1,5 @@
 ghost use Rattle.std.specs.Prelude.{◌≡◌, IfOk};
-ghost use Rattle.camp_base.specs.Answers.{Finds, FindsPair};
+ghost use Rattle.camp_base.specs.Answers.{FindsPair};
 ghost use Rattle.camp_prim.specs.Effect.{inverse_of};
 ghost use Rattle.camp_prim.specs.Swaps.{Swap};
 ghost use Rattle.camp_prim.specs.declared.named.Named.{Named};
@@ -9,11 +9,9 @@ ghost use Rattle.camp_seq.specs.Running.{inverse_all};
 ghost use Rattle.camp_ctx.specs.Adding.{AddsAll};
 ghost use Rattle.camp_ctx.specs.Conflicts.{Conflict};
 ghost use Rattle.camp_ctx.specs.Contexts.{ContextedPatch, bare};
-ghost use Rattle.camp_catch.specs.Inside.InPlace.{MergesBehind};
 ghost use Rattle.camp_catch.specs.Inside.Pairs.{JoinsAs};
 ghost use Rattle.camp_catch.specs.Inside.TwoConflictors.{EffectsMerge, JoinEachOther, TellsConflict, TellsPlainConflict};
 ghost use Rattle.camp_catch.specs.Merging.{Clean, FirstConflict, MergeCatch, MergePlainConflictor, Mirror, PlainBesideConflictor, PlainJoinsConflictor, TwoConflictors};
-ghost use Rattle.camp_catch.specs.declared.catches.Catch.{Catch as AnyCatch};
 ghost use Rattle.camp_catch.specs.declared.catches.Catch.TheVariants.{Plain};
 
 use crate::seen::{against, both_behind, in_conflict_with, joined, one_before, takes_back};
@@ -38,26 +36,11 @@ pub fn merge(alloc: Global, j: &Catch, k: &Catch) -> Result<Option<(Catch, Catch
     }
 }
 
-/// What the `k` of the same state becomes after `j`, where nobody reads what `j` becomes.
-pub(crate) fn behind(alloc: Global, j: &Catch, k: &Catch) -> Result<Option<Catch>, AllocError>
-    ensures exact { IfOk result (Finds (MergesBehind j.now k.now)) }
-{
-    if let (Catch::Conflictor(j), Catch::Conflictor(k)) = (j, k) {
-        return conflictor_behind(alloc, j, k);
-    }
-    let found = merge(alloc, j, k)?;
-    match found {
-        None => Ok(None),
-        Some((after, _)) => Ok(Some(after)),
-    }
-}
-
 /// Two plain catches: they merge cleanly, or this is the first conflict of each.
 fn both_plain(alloc: Global, a: &Named, b: &Named) -> Result<Option<(Catch, Catch)>, AllocError>
     ensures exact { IfOk result (FindsPair (MergeCatch (Plain a.now) (Plain b.now))) }
 {
-    let merged = clean(a, b)?;
-    match merged {
+    match clean(a, b)? {
         Some(pair) => Ok(Some(pair)),
         None => Ok(Some(first_conflict(alloc, a, b)?)),
     }
@@ -67,8 +50,7 @@ fn both_plain(alloc: Global, a: &Named, b: &Named) -> Result<Option<(Catch, Catc
 fn clean(a: &Named, b: &Named) -> Result<Option<(Catch, Catch)>, AllocError>
     ensures exact { IfOk result (FindsPair (Clean a.now b.now)) }
 {
-    let swapped = commute_inverse(a, b)?;
-    match swapped {
+    match commute_inverse(a, b)? {
         Some((b, back)) => Ok(Some((Catch::Plain(b), Catch::Plain(back.invert())))),
         None => Ok(None),
     }
@@ -105,8 +87,7 @@ fn plain_and_conflictor(
         let joined = plain_joins_conflictor(alloc, a, k)?;
         return Ok(Some(joined));
     }
-    let beside = plain_beside_conflictor(a, k)?;
-    Ok(beside)
+    Ok(plain_beside_conflictor(a, k)?)
 }
 
 /// Whether a patch is in conflict with what a conflictor is, as seen from before its effect.
@@ -123,8 +104,7 @@ fn plain_beside_conflictor(a: &Named, k: &Conflictor) -> Result<Option<(Catch, C
     requires { (seen : ContextedPatch) × AddsAll k.now.effect k.now.identity seen × (¬ (Conflict (bare a.now) seen)) }
     ensures exact { IfOk result (FindsPair (PlainBesideConflictor a.now k.now)) }
 {
-    let passed = past_inverse(a, &k.effect)?;
-    let Some((merged, back)) = passed else {
+    let Some((merged, back)) = past_inverse(a, &k.effect)? else {
         return Ok(None);
     };
     let moved = one_before(&back, &merged, k)?;
@@ -178,8 +158,7 @@ fn bare_behind(alloc: Global, a: &Named, list: &Seq) -> Result<Contexted, AllocE
 fn mirror(alloc: Global, j: &Conflictor, b: &Named) -> Result<Option<(Catch, Catch)>, AllocError>
     ensures exact { IfOk result (FindsPair (Mirror j.now b.now)) }
 {
-    let merged = plain_and_conflictor(alloc, b, j)?;
-    match merged {
+    match plain_and_conflictor(alloc, b, j)? {
         None => Ok(None),
         Some((beside, after)) => Ok(Some((after, beside))),
     }
@@ -194,8 +173,7 @@ fn two_conflictors(
 ) -> Result<Option<(Catch, Catch)>, AllocError>
     ensures exact { IfOk result (FindsPair (TwoConflictors j.now k.now)) }
 {
-    let merged = merged_effects(alloc, &j.effect, &k.effect)?;
-    let Some((s2, r2)) = merged else {
+    let Some((s2, r2)) = merged_effects(alloc, &j.effect, &k.effect)? else {
         return Ok(None);
     };
     let in_conflict = conflict_before(j, k)?;
@@ -205,42 +183,22 @@ fn two_conflictors(
     Ok(Some(pair))
 }
 
-/// `(r, X, i) | (s, Y, l) -> (s2, Y', l')`, where `r2^` added to `Y` and `l` gives `Y'` and `l'`. Of the
-/// other one its identity alone is made.
-fn conflictor_behind(
-    alloc: Global,
-    j: &Conflictor,
-    k: &Conflictor,
-) -> Result<Option<Catch>, AllocError>
-    ensures exact { IfOk result (Finds (MergesBehind (AnyCatch.Conflictor j.now) (AnyCatch.Conflictor k.now))) }
-{
-    let merged = merged_effects(alloc, &j.effect, &k.effect)?;
-    let Some((s2, r2)) = merged else {
-        return Ok(None);
-    };
-    let in_conflict = conflict_before(j, k)?;
-    let moved = both_behind(&r2, s2, k)?;
-    if !in_conflict {
-        return Ok(Some(Catch::Conflictor(moved)));
-    }
-    let identity = seen_behind(&moved.effect, &j.identity)?;
-    let joined = joined(moved, &identity)?;
-    Ok(Some(Catch::Conflictor(joined)))
-}
-
 /// `r | s -> s2 | r2`: two effects merged behind what they have in common, in normal order.
-fn merged_effects(alloc: Global, r: &Seq, s: &Seq) -> Result<Option<(Seq, Seq)>, AllocError>
+pub(crate) fn merged_effects(
+    alloc: Global,
+    r: &Seq,
+    s: &Seq,
+) -> Result<Option<(Seq, Seq)>, AllocError>
     ensures exact { IfOk result (FindsPair (EffectsMerge r.now s.now)) }
 {
-    let merged = merge_behind_common(alloc, r, s)?;
-    let Some((merged, left)) = merged else {
+    let Some((merged, left)) = merge_behind_common(alloc, r, s)? else {
         return Ok(None);
     };
     Ok(Some((ordered(merged), ordered(left))))
 }
 
 /// Whether two conflictors conflict: their identities do, as seen before the effects.
-fn conflict_before(j: &Conflictor, k: &Conflictor) -> Result<bool, AllocError>
+pub(crate) fn conflict_before(j: &Conflictor, k: &Conflictor) -> Result<bool, AllocError>
     ensures { IfOk result (TellsConflict j.now k.now) }
 {
     let x = Contexted::add(&j.effect, &j.identity)?;
@@ -249,7 +207,7 @@ fn conflict_before(j: &Conflictor, k: &Conflictor) -> Result<bool, AllocError>
 }
 
 /// What is seen before a list, as it is seen behind the list.
-fn seen_behind(list: &Seq, x: &Contexted) -> Result<Contexted, AllocError>
+pub(crate) fn seen_behind(list: &Seq, x: &Contexted) -> Result<Contexted, AllocError>
     ensures { IfOk result (AddsAll (inverse_all list.now) x.now) }
 {
     let back = invert_all(list)?;

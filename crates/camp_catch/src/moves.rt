@@ -1,32 +1,31 @@
-ghost use Rattle.std.specs.Prelude.{◌≡◌, IfOk};
-ghost use Rattle.std.specs.Result.{MatchResult};
+ghost use Rattle.std.specs.Prelude.{◌≡◌, IfOk, MatchOption};
 ghost use Rattle.camp_base.specs.Answers.{Changes};
 ghost use Rattle.camp_catch.specs.Arranging.{ComesBefore, StopsAt};
 ghost use Rattle.camp_catch.specs.Inside.InPlace.{CommutesInPlace};
 
-use crate::unmoved::commute_as_they_are;
+use crate::fast::commute_as_they_are;
 use crate::{Catch, commute};
 use camp_prim::Key;
 use camp_share::{Share, Shared};
 use std::alloc::{AllocError, Global};
 
-/// Commutes a catch, which stands behind a list, to before all of the list. `Err` with the absolute
-/// label of the one that it can't pass; both are then left as they are.
+/// Commutes a catch, which stands behind a list, to before all of the list. `Some` with the absolute
+/// label of the one that it can't pass, if there is one; both are then left as they are.
 pub(crate) fn come_before(
     alloc: Global,
     list: &mut [Shared<Catch>],
     coming: &mut Shared<Catch>,
-) -> Result<Result<(), Key>, AllocError>
-    ensures exact { IfOk result (λ answer. MatchResult answer
-        (λ _. ComesBefore list.old coming.old coming.new list.new)
-        (λ on. StopsAt list.old coming.old on)) }
+) -> Result<Option<Key>, AllocError>
+    ensures exact { IfOk result (λ stopped. MatchOption stopped
+        (ComesBefore list.old coming.old coming.new list.new)
+        (StopsAt list.old coming.old)) }
 {
     for at in (0..list.len()).rev() {
         if !exchange(alloc, &mut list[at], coming)? {
-            return Ok(Err(list[at].key()));
+            return Ok(Some(list[at].key()));
         }
     }
-    Ok(Ok(()))
+    Ok(None)
 }
 
 /// Commutes `j` and the `k` behind it, where each stays in its place in memory.
@@ -36,8 +35,7 @@ fn exchange(alloc: Global, j: &mut Shared<Catch>, k: &mut Shared<Catch>) -> Resu
     if commute_as_they_are(j, k)? {
         return Ok(true);
     }
-    let commuted = commute(alloc, j, k)?;
-    let Some((before, behind)) = commuted else {
+    let Some((before, behind)) = commute(alloc, j, k)? else {
         return Ok(false);
     };
     let behind = renewed(alloc, j, behind)?;

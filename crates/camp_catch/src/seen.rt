@@ -38,8 +38,7 @@ pub(crate) fn passes_before(
 ) -> Result<Option<Conflictor>, AllocError>
     ensures { IfOk result (Finds (Becomes (Norm s.now) (Adds a.now) (PassesBy a.now) k.now)) }
 {
-    let moved = Contexted::past_one(a, &k.identity)?;
-    let Some(identity) = moved else {
+    let Some(identity) = Contexted::past_one(a, &k.identity)? else {
         return Ok(None);
     };
     let made = set_before(a, s, k, identity)?;
@@ -95,8 +94,7 @@ pub(crate) fn all_pass_before(
 ) -> Result<Option<Conflictor>, AllocError>
     ensures { IfOk result (Finds (Becomes (λ t. t ≡ s) (AddsAll r.now) (PassesByAll r.now) k.now)) }
 {
-    let moved = Contexted::past(r, &k.identity)?;
-    let Some(identity) = moved else {
+    let Some(identity) = Contexted::past(r, &k.identity)? else {
         return Ok(None);
     };
     let conflicts = CtxSet::add(r, &k.conflicts)?;
@@ -155,23 +153,9 @@ pub(crate) fn takes_back(
 fn with_undone(alloc: Global, a: &Named, s: &Seq) -> Result<Seq, AllocError>
     ensures { IfOk result (Norm (inverse_of a.now ∷ s.now)) }
 {
-    let joined = undone_before(alloc, a, s)?;
-    Ok(ordered(joined))
-}
-
-/// `a^ s`
-fn undone_before(alloc: Global, a: &Named, s: &Seq) -> Result<Seq, AllocError>
-    ensures { IfOk result (λ joined. joined ≡ inverse_of a.now ∷ s.now) }
-{
     let back = inverse(a)?;
-    in_front(alloc, &back, s)
-}
-
-/// `p s`
-fn in_front(alloc: Global, p: &Named, s: &Seq) -> Result<Seq, AllocError>
-    ensures { IfOk result (λ joined. joined ≡ p.now ∷ s.now) }
-{
-    join(alloc, slice::from_ref(p), s.items())
+    let joined = join(alloc, slice::from_ref(&back), s.items())?;
+    Ok(ordered(joined))
 }
 
 /// `(s', X without a label, i)`, where `s'` is `s` in normal order

@@ -14,7 +14,7 @@ pub use Rattle.camp_base.specs.Trees.{Files, Lines, Splices}
 pub use Rattle.camp_branch.proofs.NameSets.{and_true, has_listed}
 pub use Rattle.camp_branch.proofs.Names.{all_append, is_among_is, name_itself, not_among, or_parts, or_true, passes_is_kept, same_name}
 pub use Rattle.camp_branch.proofs.NamesKept.{among_kept, among_once, among_others}
-pub use Rattle.camp_branch.specs.Branches.{AreDistinct, HasPatches, IsLawfulBranch, LeadsTo, Patch, has_patch, is_among, labels_from, labels_of, name_of, names_of, patch_names, recorded}
+pub use Rattle.camp_branch.specs.Branches.{first_lacked, AreDistinct, HasPatches, IsLawfulBranch, LeadsTo, Patch, has_patch, is_among, labels_from, labels_of, name_of, names_of, patch_names, recorded}
 pub use Rattle.camp_branch.specs.Conflicting.{AreConflicts}
 pub use Rattle.camp_branch.specs.Fields.{names_in}
 pub use Rattle.camp_catch.specs.Arranging.{Arrange, ArrangeSticks, ArrangesBehind, ComesBefore, SticksBehind, StopsAt}
@@ -45,7 +45,7 @@ pub use Rattle.camp_repo.proofs.ByMembers.{AreAlike, obliterate_alike}
 pub use Rattle.camp_repo.proofs.Effects.{accepted_calls}
 pub use Rattle.camp_repo.specs.Laws.{Effect, Has}
 pub use Rattle.camp_repo.specs.States.{Branches, Contents, after, catches_of, stands, with_catches}
-pub use Rattle.camp_repo.specs.Steps.{catches_named, first_lacked, is_empty, step}
+pub use Rattle.camp_repo.specs.Steps.{catches_named, is_empty, step}
 pub use Rattle.camp_share.specs.Maps.{map_of}
 pub use Rattle.camp_branch.specs.Laws.{ExactlyOne}
 pub use Rattle.camp_branch.specs.Obliterating.{ObliterateGives, other_names}
@@ -53,6 +53,6 @@ pub use Rattle.camp_prim.specs.Effect.{Applies, flipped}
 pub use Rattle.camp_questions.specs.GraphTexts.{arrow_text, conflict_text, node_text}
 pub use Rattle.camp_questions.specs.Laws.{AreAmong, Arrow, ArrowsAreDirectNeeds, GrewFrom, HeldCanGo, HeldIsDetermined, IsPlain, IsReached, LinesHaveNames, MissingIsPulled, NeedsAreDetermined, NeedsAreLeast, NeedsAreReached, NeedsComeFirst, NeedsDirectly, NeedsPatch, RecordedIsShown, WasMet, along, itself}
 pub use Rattle.camp_repo.proofs.DecideSteps.{conflicts_shown, pull_nothing, tree_shown}
-pub use Rattle.camp_repo.proofs.NameSteps.{IsFilled, all_filled, none_filled, none_lacked, one_listed}
+pub use Rattle.camp_repo.proofs.NameSteps.{none_lacked}
 pub use Rattle.std.proofs.lemmas.Bool.{eq-eqb, eqb-true}
 pub use Rattle.std.proofs.lemmas.List.Elements.{All-append, All-drop, All-nil, All-replicate, All-take, filter-append}

@@ -3,10 +3,11 @@ use Rattle.std.specs.Prelude.{◌≡◌, ◌≢◌, ◌⊎◌, ℕ, List, None, 
 use Rattle.camp_prim.specs.declared.labels.Key.{Key}
 use Rattle.camp_catch.specs.Arranging.{Arrange, ArrangeSticks}
 use Rattle.camp_catch.specs.declared.catches.Catch.{Catch}
+use Rattle.camp_branch.specs.Branches.{first_lacked}
 use Rattle.camp_branch.specs.Pulling.{common_names}
 use Rattle.camp_call.specs.declared.replies.Refusal.TheVariants.{Diverged, SameBranch}
 use Rattle.camp_repo.specs.States.{Contents, catches_of}
-use Rattle.camp_repo.specs.Steps.{first_lacked, wanted}
+use Rattle.camp_repo.specs.Steps.{wanted}
 use Rattle.camp_questions.specs.Answers.{AnswerOf, OfBranch, OfPatches}
 use Rattle.camp_questions.specs.Dependencies.{AreGrown, ComeToFront, StickOn}
 use Rattle.camp_questions.specs.declared.faults.Unanswered.{Unanswered}

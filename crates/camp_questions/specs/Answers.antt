@@ -1,10 +1,10 @@
 -- What questions come to, and what their callers are told.
 use Rattle.std.specs.Prelude.{◌≡◌, ℕ, List, MatchOption, Result, Ok, Err}
 use Rattle.camp_catch.specs.declared.catches.Catch.{Catch}
+use Rattle.camp_branch.specs.Branches.{first_lacked}
 use Rattle.camp_call.specs.declared.replies.Refusal.{Refusal}
 use Rattle.camp_call.specs.declared.replies.Refusal.TheVariants.{NoBranch, NoPatch}
 use Rattle.camp_repo.specs.States.{Contents, catches_of}
-use Rattle.camp_repo.specs.Steps.{first_lacked}
 use Rattle.camp_questions.specs.declared.faults.Unanswered.{Unanswered}
 use Rattle.camp_questions.specs.declared.faults.Unanswered.TheVariants.{Refused, Memory}
 

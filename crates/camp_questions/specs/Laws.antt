@@ -12,7 +12,7 @@ use Rattle.camp_prim.specs.declared.primitives.Primitive.{Primitive}
 use Rattle.camp_seq.specs.Room.{HasRoom}
 use Rattle.camp_catch.specs.declared.catches.Catch.{Catch}
 use Rattle.camp_catch.specs.declared.catches.Catch.TheVariants.{Plain}
-use Rattle.camp_branch.specs.Branches.{IsLawfulBranch as IsLawfulBranch, LeadsTo, has_patch, is_among, names_of, recorded}
+use Rattle.camp_branch.specs.Branches.{first_lacked, IsLawfulBranch as IsLawfulBranch, LeadsTo, has_patch, is_among, names_of, recorded}
 use Rattle.camp_branch.specs.Laws.{ExactlyOne}
 use Rattle.camp_call.specs.declared.calls.Call.TheVariants as call
 use Rattle.camp_call.specs.declared.replies.Refusal.TheVariants.{Depends, NoPatch, NothingToDo}
@@ -20,7 +20,7 @@ use Rattle.camp_object.specs.declared.objects.Decided.TheVariants.{Next}
 use Rattle.camp_repo.specs.Lawful.{IsLawfulState}
 use Rattle.camp_repo.specs.Laws.{Has}
 use Rattle.camp_repo.specs.States.{Contents}
-use Rattle.camp_repo.specs.Steps.{first_lacked, refused, step}
+use Rattle.camp_repo.specs.Steps.{refused, step}
 use Rattle.camp_questions.specs.Along.{AreAlong}
 use Rattle.camp_questions.specs.Annotations.{Known, behind_hunk, names_of_lines}
 use Rattle.camp_questions.specs.Dependencies.{AreHeldIn, ComeToFront, HeldBy, Needs, StickOn}

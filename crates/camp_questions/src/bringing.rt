@@ -9,12 +9,13 @@ ghost use Rattle.camp_questions.specs.Inside.Alongside.{DoNotStand, StandBehind}
 ghost use Rattle.camp_questions.specs.Inside.Growing.{GrowsToFront};
 
 use crate::Unanswered;
-use crate::dependencies::{in_order, set_of};
-use crate::finding::{branch_of, first_lacked};
+use crate::dependencies::in_order;
+use crate::finding::branch_of;
 use camp_base::Name;
-use camp_catch::{Catch, arrange};
+use camp_branch::{NameSet, set_of};
+use camp_catch::{Catch, Unmade, arrange};
 use camp_repo::{Branch, Names, Refusal, State};
-use camp_share::{Shared, SharedMap};
+use camp_share::Shared;
 use std::alloc::{AllocError, Global};
 
 /// The names that a pull of these from one branch into another has to list: those that `to` lacks, and
@@ -28,7 +29,7 @@ pub fn along(state: &State, from: &Name, to: &Name, names: &[Name]) -> Result<Na
     if from == to {
         return Err(Unanswered::Refused(Refusal::SameBranch(*to)));
     }
-    if let Some(name) = first_lacked(theirs, names) {
+    if let Some(name) = theirs.first_lacked(names) {
         return Err(Unanswered::Refused(Refusal::NoPatch(name)));
     }
     let alloc = theirs.catches().allocator();
@@ -47,14 +48,17 @@ fn behind_common(from: &Branch, to: &Branch) -> Result<Vec<Shared<Catch>>, Unans
     names.retain(|name| to.has_patch(name));
     let common = set_of(alloc, &names)?;
     let catches = from.catches().to_vec()?;
-    match arrange(alloc, &catches, &common)? {
+    match arrange(alloc, &catches, &common) {
         Ok(arranged) => Ok(arranged.rest),
-        Err(stuck) => Err(Unanswered::Refused(Refusal::Diverged(stuck.patch.name))),
+        Err(Unmade::Blocked(stuck)) => {
+            Err(Unanswered::Refused(Refusal::Diverged(stuck.patch.name)))
+        }
+        Err(Unmade::Memory) => Err(Unanswered::Memory),
     }
 }
 
 /// Those of the names of which a branch has no patch.
-fn wanted(alloc: Global, to: &Branch, names: &[Name]) -> Result<SharedMap<Name, ()>, AllocError>
+fn wanted(alloc: Global, to: &Branch, names: &[Name]) -> Result<NameSet, AllocError>
     ensures { IfOk result (λ set. (name : List ℕ) → is_among (names_in set) name ≡ is_among (wanted to.now names.now) name) }
 {
     let mut wanted = Vec::from_slice(alloc, names)?;
@@ -68,15 +72,16 @@ fn wanted(alloc: Global, to: &Branch, names: &[Name]) -> Result<SharedMap<Name, 
 fn grown_behind(
     alloc: Global,
     list: &[Shared<Catch>],
-    names: SharedMap<Name, ()>,
-) -> Result<SharedMap<Name, ()>, AllocError>
+    names: NameSet,
+) -> Result<NameSet, AllocError>
     ensures { IfOk result (λ grown. GrowsToFront list.now (names_in names) (names_in grown)) }
 {
     let mut grown = names;
     loop {
-        match arrange(alloc, list, &grown)? {
+        match arrange(alloc, list, &grown) {
             Ok(_) => return Ok(grown),
-            Err(stuck) => grown = grown.inserted(stuck.on.name, ())?,
+            Err(Unmade::Blocked(stuck)) => grown = grown.inserted(stuck.on.name, ())?,
+            Err(Unmade::Memory) => return Err(AllocError),
         }
     }
 }

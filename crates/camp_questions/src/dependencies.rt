@@ -8,11 +8,10 @@ ghost use Rattle.camp_questions.specs.Inside.Growing.{GrowsToFront, GrowsToGo, I
 use crate::Unanswered;
 use crate::finding::branch_with;
 use camp_base::Name;
-use camp_branch::Blocked;
-use camp_catch::arrange;
+use camp_branch::{Blocked, NameSet, set_of};
+use camp_catch::{Unmade, arrange};
 use camp_repo::{Branch, Names, State};
-use camp_share::SharedMap;
-use std::alloc::{AllocError, Global};
+use std::alloc::AllocError;
 
 /// What these names need in a branch: these, and each on which bringing them to the front of the branch
 /// sticks. They are told in the order of the branch. A pull into another branch may want others, which
@@ -37,49 +36,34 @@ pub fn held_by(state: &State, branch: &Name, names: &[Name]) -> Result<Names, Un
     Ok(in_order(branch, &held)?)
 }
 
-/// The names, each once.
-pub(crate) fn set_of(alloc: Global, names: &[Name]) -> Result<SharedMap<Name, ()>, AllocError>
-    ensures { IfOk result (λ set. (name : List ℕ) → is_among (names_in set) name ≡ is_among names.now name) }
-{
-    let mut set = SharedMap::new(alloc);
-    for name in names {
-        set = set.inserted(*name, ())?;
-    }
-    Ok(set)
-}
-
 /// The names, and those that are added until they come to the front of the branch. Each that is added
 /// costs an arranging, and one tells that none is left.
-pub(crate) fn grown_to_front(
-    branch: &Branch,
-    names: SharedMap<Name, ()>,
-) -> Result<SharedMap<Name, ()>, AllocError>
+pub(crate) fn grown_to_front(branch: &Branch, names: NameSet) -> Result<NameSet, AllocError>
     ensures { IfOk result (λ grown. GrowsToFront branch.now (names_in names) (names_in grown)) }
 {
     let alloc = branch.catches().allocator();
     let catches = branch.catches().to_vec()?;
     let mut grown = names;
     loop {
-        match arrange(alloc, &catches, &grown)? {
+        match arrange(alloc, &catches, &grown) {
             Ok(_) => return Ok(grown),
-            Err(stuck) => grown = grown.inserted(stuck.on.name, ())?,
+            Err(Unmade::Blocked(stuck)) => grown = grown.inserted(stuck.on.name, ())?,
+            Err(Unmade::Memory) => return Err(AllocError),
         }
     }
 }
 
 /// The names, and those that are added until they can be taken out of the branch. Each that is added
 /// costs an arranging, and one tells that none is left.
-fn grown_to_go(
-    branch: &Branch,
-    names: SharedMap<Name, ()>,
-) -> Result<SharedMap<Name, ()>, AllocError>
+fn grown_to_go(branch: &Branch, names: NameSet) -> Result<NameSet, AllocError>
     ensures { IfOk result (λ grown. GrowsToGo branch.now (names_in names) (names_in grown)) }
 {
     let mut grown = names;
     loop {
-        match branch.without(&grown)? {
+        match branch.without(&grown) {
             Ok(_) => return Ok(grown),
-            Err(blocked) => grown = grown.inserted(dependent(&blocked), ())?,
+            Err(Unmade::Blocked(blocked)) => grown = grown.inserted(dependent(&blocked), ())?,
+            Err(Unmade::Memory) => return Err(AllocError),
         }
     }
 }
@@ -96,7 +80,7 @@ fn dependent(blocked: &Blocked) -> Name
 }
 
 /// The names of the patches of a branch that are in a set, in the order of the branch.
-pub(crate) fn in_order(branch: &Branch, set: &SharedMap<Name, ()>) -> Result<Names, AllocError>
+pub(crate) fn in_order(branch: &Branch, set: &NameSet) -> Result<Names, AllocError>
     ensures { IfOk result (λ names. names ≡ in_order branch.now (names_in set.now)) }
 {
     let mut names = branch.names()?;

@@ -1,7 +1,6 @@
 ghost use Rattle.std.specs.Prelude.{◌≡◌, None, Some};
 ghost use Rattle.std.specs.Result.{MatchResult};
 ghost use Rattle.camp_repo.specs.States.{catches_of};
-ghost use Rattle.camp_repo.specs.Steps.{first_lacked};
 ghost use Rattle.camp_questions.specs.Inside.Finding.{IsFound, IsRefused};
 
 use camp_base::Name;
@@ -31,20 +30,8 @@ pub(crate) fn branch_with<'a>(
         (λ refusal. IsRefused state.now name.now names.now refusal) }
 {
     let branch = branch_of(state, name)?;
-    match first_lacked(branch, names) {
+    match branch.first_lacked(names) {
         Some(name) => Err(Refusal::NoPatch(name)),
         None => Ok(branch),
     }
-}
-
-/// The first of some names of which a branch has no patch.
-pub(crate) fn first_lacked(branch: &Branch, names: &[Name]) -> Option<Name>
-    ensures { result ≡ first_lacked branch.now names.now }
-{
-    for name in names {
-        if !branch.has_patch(name) {
-            return Some(*name);
-        }
-    }
-    None
 }

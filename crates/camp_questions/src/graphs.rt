@@ -5,11 +5,11 @@ ghost use Rattle.camp_questions.specs.Graphs.{IsGraphOf, NeedsThese, goes_betwee
 ghost use Rattle.camp_questions.specs.Inside.Graphing.{NeedEach, needing};
 
 use crate::Unanswered;
-use crate::dependencies::{grown_to_front, in_order, set_of};
+use crate::dependencies::{grown_to_front, in_order};
 use crate::finding::branch_of;
 use camp_base::Name;
+use camp_branch::{NameSet, set_of};
 use camp_repo::{Branch, Conflicts, Names, State};
-use camp_share::SharedMap;
 use std::alloc::AllocError;
 use std::marker::Model;
 use std::slice;
@@ -33,7 +33,7 @@ pub struct Node {
 #[derive(Drop)]
 struct Needed {
     name: Name,
-    needs: SharedMap<Name, ()>,
+    needs: NameSet,
 }
 
 impl Model for PatchGraph {
@@ -88,7 +88,7 @@ fn all_needed(branch: &Branch, names: &[Name]) -> Result<Vec<Needed>, AllocError
 }
 
 /// What a patch needs, and itself.
-fn needs_of(branch: &Branch, name: &Name) -> Result<SharedMap<Name, ()>, AllocError>
+fn needs_of(branch: &Branch, name: &Name) -> Result<NameSet, AllocError>
     ensures { IfOk result (λ needs. NeedsThese branch.now (record { name = name.now; needs = names_in needs })) }
 {
     let alloc = branch.catches().allocator();

@@ -1,7 +1,8 @@
 -- What a call passes on its way to a next state.
 use Rattle.camp_repo.proofs.Words.{◌≡◌, ℕ, Bool, true, false, List, Option, None, Some, Result, Ok, Err, refl, option_map_or, Files, Catch, Outcome, Refusal, Next, Has, Branches, Contents, after, catches_of, with_catches}
 use Rattle.camp_call.specs.declared.replies.Refusal.TheVariants.{NoBranch, NoPatch}
-use Rattle.camp_repo.specs.Steps.{Decision, accepted, becomes, first_lacked, record_leads, refused, refused_if, with_branch, with_patches}
+use Rattle.camp_branch.specs.Branches.{first_lacked}
+use Rattle.camp_repo.specs.Steps.{Decision, accepted, becomes, record_leads, refused, refused_if, with_branch, with_patches}
 
 module _ (state next : Contents) where
   has_at : (name : List ℕ) (goes_on : List Catch → Decision) (o : Option (List Catch)) → catches_of state.branches name ≡ o → option_map_or goes_on o (refused (NoBranch name)) ≡ Next next → (catches : List Catch) × Has state name catches × (goes_on catches ≡ Next next)

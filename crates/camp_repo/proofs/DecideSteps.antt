@@ -4,7 +4,8 @@ use Rattle.camp_repo.proofs.Words.{Files, Primitive, Catch, LeadsTo, recorded, O
 use Rattle.camp_branch.specs.Conflicting.{AreConflicts}
 use Rattle.camp_call.specs.declared.calls.Call.TheVariants as call
 use Rattle.camp_call.specs.declared.replies.Reply.TheVariants as reply
-use Rattle.camp_repo.specs.Steps.{Decision, becomes, changed, first_lacked, is_empty, is_full_with, is_too_large, listed, record_leads, refused, step, step_obliterate, step_pull, step_record, wanted}
+use Rattle.camp_branch.specs.Branches.{first_lacked}
+use Rattle.camp_repo.specs.Steps.{Decision, becomes, changed, is_empty, is_full_with, is_too_large, listed, record_leads, refused, step, step_obliterate, step_pull, step_record, wanted}
 use Rattle.camp_repo.proofs.ByMembers.{AreAlike, obliterate_alike, pull_alike}
 use Rattle.camp_repo.proofs.StateSteps.{settled_by_name}
 use Rattle.camp_repo.proofs.StepsLawful.{steps_lawful}
@@ -19,11 +20,6 @@ may_want (Err error) w = w
 pub none_found : {X : Type 0} (P : Type 0) (Q : X → Type 0) (o : Option X) → MatchOption o P Q → is_some o ≡ false → P
 none_found P Q None matches e = matches
 none_found P Q (Some x) matches e = cc
-
--- an answer that is one decision is the other, where they are the same
-pub settled_is : {E : Type 0} (result : Result Decision E) (one other : Decision) → IfOk result (λ decided. decided ≡ one) → one ≡ other → IfOk result (λ decided. decided ≡ other)
-settled_is (Ok decided) one other is same = is ∙ same
-settled_is (Err error) one other is same = is
 
 -- the tree of a branch is shown
 pub tree_shown : (state : Contents) (name : List ℕ) (catches : List Catch) (tree copy : Files) → Has state name catches → LeadsTo catches tree → copy ≡ tree → Answer (reply.Tree copy) ≡ step state (call.Tree name)

@@ -6,31 +6,10 @@ use Rattle.std.specs.FinMap.{contains_key, empty, get-empty, insert, keys}
 use Rattle.camp_repo.proofs.Words.{nat_cmp, slice_cmp, Catch, stands_at, has_patch, is_among, name_of, names_of, Agree, AreLacked, catches_named, first_lacked, wanted}
 use Rattle.camp_branch.proofs.AgreedFronts.{agreed_has, split_has}
 use Rattle.camp_branch.proofs.BranchFields.{Names, contains_more}
-use Rattle.camp_branch.proofs.NameSets.{and_false, has_listed}
+use Rattle.camp_branch.proofs.NameSets.{and_false, has_listed, one_more, or_none}
+pub use Rattle.camp_branch.proofs.NameSets.{IsFilled, all_filled, first_from, none_filled, one_listed}
 use Rattle.camp_branch.proofs.Names.{name_itself, or_true}
 use Rattle.camp_branch.proofs.NamesKept.{among_kept, among_once}
-
--- of a set, some names are still to come
-abbrev pub IsFilled : Names → List (List ℕ) → (List ℕ → Bool) → Type 0
-IsFilled set rest aim = (name : List ℕ) → (contains_key set name || is_among rest name) ≡ aim name
-
-or_assoc : (a b c : Bool) → ((a || b) || c) ≡ (a || (b || c))
-or_assoc true b c = refl
-or_assoc false b c = refl
-
-or_none : (b : Bool) → (b || false) ≡ b
-or_none true = refl
-or_none false = refl
-
-one_more : (set next : Names) (n : List ℕ) (rest : List (List ℕ)) (aim : List ℕ → Bool) → IsFilled set (n ∷ rest) aim → next ≡ insert set n tt → IsFilled next rest aim
-one_more set next n rest aim inv becomes name =
-    ap (λ m. contains_key m name || is_among rest name) becomes ∙ ap (λ b. b || is_among rest name) (contains_more set n name) ∙ or_assoc (contains_key set name) (bytes_eq name n) (is_among rest name) ∙ inv name
-
--- the name at a place comes into the set
-pub one_listed : (set next : Names) (names : List (List ℕ)) (i : ℕ) (n d : List ℕ) (aim : List ℕ → Bool) → IsFilled set (drop i names) aim → i < length names → n ≡ get_or names i d → next ≡ insert set n tt → IsFilled next (drop (i + 1) names) aim
-one_listed set next names i n d aim inv within is becomes =
-    one_more set next n (drop (i + 1) names) aim
-    (λ name. ap (λ r. contains_key set name || is_among r name) (sym (stands_at names i d n within is)) ∙ inv name) becomes
 
 -- what is wanted from a place on
 pub wanted_from : (ours : List Catch) (names : List (List ℕ)) (i : ℕ) (n d : List ℕ) (b : Bool) → i < length names → n ≡ get_or names i d → has_patch ours n ≡ b → wanted ours (drop i names) ≡ cond b (wanted ours (drop (i + 1) names)) (n ∷ wanted ours (drop (i + 1) names))
@@ -51,21 +30,6 @@ one_wanted ours set next names i n d aim inv within is has becomes =
 pub one_passed : (ours : List Catch) (set : Names) (names : List (List ℕ)) (i : ℕ) (n d : List ℕ) (aim : List ℕ → Bool) → IsFilled set (wanted ours (drop i names)) aim → i < length names → n ≡ get_or names i d → has_patch ours n ≡ true → IsFilled set (wanted ours (drop (i + 1) names)) aim
 one_passed ours set names i n d aim inv within is has name =
     ap (λ r. contains_key set name || is_among r name) (sym (wanted_from ours names i n d true within is has)) ∙ inv name
-
--- at first all are still to come
-pub none_filled : (set : Names) (rest : List (List ℕ)) → set ≡ empty → IsFilled set rest (is_among rest)
-none_filled set rest is name =
-    ap (λ b. b || is_among rest name) (ap (λ m. contains_key m name) is ∙ ap is_some (get-empty (slice_cmp nat_cmp) name))
-
--- in the end the set has all of them
-pub all_filled : (set : Names) (rest : List (List ℕ)) (aim : List ℕ → Bool) → rest ≡ [] → IsFilled set rest aim → (name : List ℕ) → is_among (keys set) name ≡ aim name
-all_filled set rest aim is inv name =
-    sym (has_listed set name) ∙ sym (or_none (contains_key set name)) ∙ ap (λ r. contains_key set name || is_among r name) (sym is) ∙ inv name
-
--- the name at a place decides which is the first that is lacked
-pub first_from : (catches : List Catch) (names : List (List ℕ)) (i : ℕ) (n d : List ℕ) (b : Bool) → i < length names → n ≡ get_or names i d → has_patch catches n ≡ b → first_lacked catches (drop i names) ≡ cond b (first_lacked catches (drop (i + 1) names)) (Some n)
-first_from catches names i n d b within is has =
-    ap (first_lacked catches) (stands_at names i d n within is) ∙ ap (λ c. cond c (first_lacked catches (drop (i + 1) names)) (Some n)) has
 
 -- a branch has the patches of all its names
 all_there : (catches : List Catch) (names : List (List ℕ)) → ((name : List ℕ) → is_among names name ≡ true → has_patch catches name ≡ true) → first_lacked catches names ≡ None

@@ -15,7 +15,7 @@ pub use Rattle.camp_branch.proofs.Names.{all_append}
 pub use Rattle.camp_branch.proofs.NamesKept.{among_kept}
 pub use Rattle.camp_branch.proofs.OutcomesDetermined.{outcomes_are_determined}
 pub use Rattle.camp_branch.specs.Agreeing.{Agree}
-pub use Rattle.camp_branch.specs.Branches.{AreDistinct, LeadsTo, has_patch, is_among, name_of, names_of, recorded}
+pub use Rattle.camp_branch.specs.Branches.{first_lacked, AreDistinct, LeadsTo, has_patch, is_among, name_of, names_of, recorded}
 pub use Rattle.camp_branch.specs.Fields.{names_in}
 pub use Rattle.camp_branch.specs.Laws.{AppliesEach, AreLacked}
 pub use Rattle.camp_branch.specs.Obliterating.{ObliterateGives}
@@ -36,5 +36,5 @@ pub use Rattle.camp_repo.specs.ObjectLaws.{repository_is_lawful}
 pub use Rattle.camp_repo.specs.Outcomes.{obliterated, pulled}
 pub use Rattle.camp_repo.specs.Placing.{placed, settled}
 pub use Rattle.camp_repo.specs.States.{Branches, Contents, after, catches_of, initial, stands, tree_of, with_catches}
-pub use Rattle.camp_repo.specs.Steps.{Decision, accepted, becomes, catches_named, changed, first_lacked, has_long_file, is_empty, is_full_with, is_too_large, led_to, listed, refused, shown, step, then_from, wanted}
+pub use Rattle.camp_repo.specs.Steps.{Decision, accepted, becomes, catches_named, changed, has_long_file, is_empty, is_full_with, is_too_large, led_to, listed, refused, shown, step, then_from, wanted}
 pub use Rattle.camp_share.specs.Maps.{map_of}

@@ -11,6 +11,7 @@ use Rattle.camp_prim.specs.Swaps.{path_of}
 use Rattle.camp_prim.specs.declared.primitives.Primitive.{Primitive}
 use Rattle.camp_prim.specs.declared.primitives.Primitive.TheVariants.{Add, Remove, Hunk}
 use Rattle.camp_catch.specs.declared.catches.Catch.{Catch}
+pub use Rattle.camp_branch.specs.Branches.{first_lacked}
 use Rattle.camp_branch.specs.Branches.{has_patch, is_among, name_of, names_of, recorded}
 use Rattle.camp_branch.specs.Pulling.{Outcome}
 use Rattle.camp_branch.specs.declared.faults.Blocked.{Blocked}
@@ -132,11 +133,6 @@ step_record state branch name changes =
     option_map_or
     (λ tree. record_leads state branch (catches ++ recorded name 1 changes) (changed changes tree))
     (tree_of catches) (refused DoesNotApply))))
-
--- the first of some names of which a branch has no patch
-abbrev pub first_lacked : List Catch → List (List ℕ) → Option (List ℕ)
-first_lacked catches [] = None
-first_lacked catches (name ∷ names) = if has_patch catches name then first_lacked catches names else Some name
 
 -- the call goes on where a branch has a patch of each listed name
 abbrev pub with_patches : List Catch → List (List ℕ) → Decision → Decision

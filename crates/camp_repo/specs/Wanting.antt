@@ -5,7 +5,8 @@ use Rattle.camp_catch.specs.declared.catches.Catch.{Catch}
 use Rattle.camp_call.specs.declared.calls.Call.{Call}
 use Rattle.camp_call.specs.declared.calls.Call.TheVariants as call
 use Rattle.camp_repo.specs.States.{Contents, catches_of, stands}
-use Rattle.camp_repo.specs.Steps.{first_lacked, is_empty, is_too_large, listed, most_branches}
+use Rattle.camp_branch.specs.Branches.{first_lacked}
+use Rattle.camp_repo.specs.Steps.{is_empty, is_too_large, listed, most_branches}
 
 -- there is a branch of a name, with such catches
 abbrev pub HasBranch : Contents → List ℕ → (List Catch → Type 0) → Type 0

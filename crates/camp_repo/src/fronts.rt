@@ -1,11 +1,12 @@
-ghost use Rattle.std.specs.Prelude.{◌≡◌, ◌<◌, ◌↔◌, List, Some, length, slice_get, IfOk, IfSome, IsTrue};
+ghost use Rattle.std.specs.Prelude.{◌≡◌, ◌<◌, ◌↔◌, List, [], Some, length, slice_get, IfOk, IfSome, IsTrue};
 ghost use Rattle.std.specs.List.{AllByRecursion};
 ghost use Rattle.camp_branch.specs.Agreeing.{Agree};
 ghost use Rattle.camp_catch.specs.declared.catches.Catch.{Catch};
 ghost use Rattle.camp_repo.specs.Fronts.{AgreesIn};
 
 use camp_share::{Share, SharedList};
-use std::alloc::AllocError;
+use std::alloc::{AllocError, Global};
+use std::marker::Model;
 
 /// Of how many pairs of branches the state keeps what is known of their fronts.
 const MAX_PAIRS: usize = 64;
@@ -24,18 +25,86 @@ impl Share for KnownFront {
     }
 }
 
-/// How long fronts of two branches are known to agree: 0 where nothing is known of them.
-pub(crate) fn known_long(known: &SharedList<KnownFront>, from: usize, to: usize) -> usize
-    ensures { (branches : List (List Catch)) → AllByRecursion (AgreesIn branches) known.now
-        → (theirs ours : List Catch) → slice_get branches from ≡ Some theirs → slice_get branches to ≡ Some ours
-        → Agree theirs ours result }
-{
-    for front in known.iter() {
-        if is_of(front, from, to) {
-            return front.long;
+/// How long fronts of pairs of branches are known to agree. Where there are too many pairs, the one that
+/// came first goes.
+#[derive(Drop)]
+pub(crate) struct KnownFronts {
+    fronts: SharedList<KnownFront>,
+}
+
+impl Model for KnownFronts {
+    ghost use Rattle.std.specs.Prelude.{List};
+    ghost use Rattle.camp_repo.specs.declared.fronts.KnownFront.{KnownFront};
+
+    ghost Value = { List KnownFront };
+
+    ghost view = { λ known. known.fronts };
+}
+
+impl KnownFronts {
+    /// Nothing is known.
+    pub(crate) fn none(alloc: Global) -> KnownFronts
+        ensures { result ≡ [] }
+    {
+        KnownFronts {
+            fronts: SharedList::new(alloc),
         }
     }
-    0
+
+    /// How long fronts of two branches are known to agree: 0 where nothing is known of them.
+    pub(crate) fn between(&self, from: usize, to: usize) -> usize
+        ensures { (branches : List (List Catch)) → AllByRecursion (AgreesIn branches) self.now
+            → (theirs ours : List Catch) → slice_get branches from ≡ Some theirs → slice_get branches to ≡ Some ours
+            → Agree theirs ours result }
+    {
+        for front in self.fronts.iter() {
+            if is_of(front, from, to) {
+                return front.long;
+            }
+        }
+        0
+    }
+
+    /// What is known, and of two branches how long their fronts agree.
+    pub(crate) fn learned(
+        &self,
+        from: usize,
+        to: usize,
+        long: usize,
+    ) -> Result<KnownFronts, AllocError>
+        ensures { IfOk result (λ all. (branches : List (List Catch)) → AllByRecursion (AgreesIn branches) self.now
+            → AgreesIn branches (record { from = from; to = to; long = long }) → AllByRecursion (AgreesIn branches) all) }
+    {
+        let fronts = with_front(&self.fronts, from, to, long)?;
+        Ok(KnownFronts { fronts })
+    }
+
+    /// What is known, and of a copy of a branch: so long it agrees with that branch, and with others as
+    /// far as that does, where there is room.
+    pub(crate) fn copied(
+        &self,
+        of: usize,
+        copy: usize,
+        long: usize,
+    ) -> Result<KnownFronts, AllocError>
+        ensures { IfOk result (λ all. (branches : List (List Catch)) → AllByRecursion (AgreesIn branches) self.now
+            → slice_get branches copy ≡ slice_get branches of
+            → AgreesIn branches (record { from = of; to = copy; long = long })
+            → AgreesIn branches (record { from = copy; to = of; long = long }) → AllByRecursion (AgreesIn branches) all) }
+    {
+        let all = taken_over(&self.fronts, of, copy)?;
+        let forth = with_front(&all, of, copy, long)?;
+        let fronts = with_front(&forth, copy, of, long)?;
+        Ok(KnownFronts { fronts })
+    }
+
+    /// The same. It shares all with this one.
+    pub(crate) fn try_clone(&self) -> Result<KnownFronts, AllocError>
+        ensures { IfOk result (λ copy. copy ≡ self.now) }
+    {
+        let fronts = self.fronts.share()?;
+        Ok(KnownFronts { fronts })
+    }
 }
 
 fn is_of(front: &KnownFront, from: usize, to: usize) -> bool
@@ -49,7 +118,7 @@ fn is_of(front: &KnownFront, from: usize, to: usize) -> bool
 
 /// What is known, and of two branches how long their fronts agree. Where there are too many pairs,
 /// the one that came first goes.
-pub(crate) fn with_front(
+fn with_front(
     known: &SharedList<KnownFront>,
     from: usize,
     to: usize,
@@ -60,24 +129,6 @@ pub(crate) fn with_front(
 {
     let others = others(known, from, to)?;
     others.pushed(KnownFront { from, to, long })
-}
-
-/// What is known, and of a copy of a branch: so long it agrees with that branch, and with others as
-/// far as that does, where there is room.
-pub(crate) fn with_copy(
-    known: &SharedList<KnownFront>,
-    of: usize,
-    copy: usize,
-    long: usize,
-) -> Result<SharedList<KnownFront>, AllocError>
-    ensures { IfOk result (λ all. (branches : List (List Catch)) → AllByRecursion (AgreesIn branches) known.now
-        → slice_get branches copy ≡ slice_get branches of
-        → AgreesIn branches (record { from = of; to = copy; long = long })
-        → AgreesIn branches (record { from = copy; to = of; long = long }) → AllByRecursion (AgreesIn branches) all) }
-{
-    let all = taken_over(known, of, copy)?;
-    let forth = with_front(&all, of, copy, long)?;
-    with_front(&forth, copy, of, long)
 }
 
 /// What is known, and what of it holds of a copy of a branch too, where there is room for more.

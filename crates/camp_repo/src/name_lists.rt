@@ -1,36 +1,25 @@
 ghost use Rattle.std.specs.Prelude.{◌≡◌, ℕ, List, drop, length, IfOk};
 ghost use Rattle.camp_branch.specs.Agreeing.{Agree};
-ghost use Rattle.camp_branch.specs.Branches.{is_among, names_of};
+ghost use Rattle.camp_branch.specs.Branches.{first_lacked, is_among, names_of};
 ghost use Rattle.camp_branch.specs.Fields.{names_in};
 ghost use Rattle.camp_branch.specs.Laws.{AreLacked};
 ghost use Rattle.camp_repo.specs.Wanting.{lists_none};
-ghost use Rattle.camp_repo.specs.Steps.{catches_named, first_lacked, is_full_with, listed, wanted};
+ghost use Rattle.camp_repo.specs.Steps.{catches_named, is_full_with, listed, wanted};
 
 use crate::{Branch, MAX_CATCHES, Names};
 use camp_base::Name;
+use camp_branch::NameSet;
 use camp_share::SharedMap;
-use std::alloc::{AllocError, Global};
+use std::alloc::AllocError;
 
 /// The first listed name of which a branch has no patch; where there is no list, none.
 pub(crate) fn first_lacked(branch: &Branch, names: &Option<Names>) -> Option<Name>
     ensures { result ≡ first_lacked branch.now (listed branch.now names.now) }
 {
     match names {
-        Some(names) => first_lacked_of(branch, names.as_slice()),
+        Some(names) => branch.first_lacked(names.as_slice()),
         None => None,
     }
-}
-
-/// The first of some names of which a branch has no patch.
-pub(crate) fn first_lacked_of(branch: &Branch, names: &[Name]) -> Option<Name>
-    ensures { result ≡ first_lacked branch.now names.now }
-{
-    for name in names {
-        if !branch.has_patch(name) {
-            return Some(*name);
-        }
-    }
-    None
 }
 
 /// Whether names are given, and they are none.
@@ -43,17 +32,6 @@ pub(crate) fn lists_none(names: &Option<Names>) -> bool
     }
 }
 
-/// The names, each once.
-pub(crate) fn set_of(alloc: Global, names: &[Name]) -> Result<SharedMap<Name, ()>, AllocError>
-    ensures { IfOk result (λ set. (name : List ℕ) → is_among (names_in set) name ≡ is_among names.now name) }
-{
-    let mut set = SharedMap::new(alloc);
-    for name in names {
-        set = set.inserted(*name, ())?;
-    }
-    Ok(set)
-}
-
 /// The listed names, or all names of the one branch, of which the other has no patch. Fronts of the
 /// two, so long, agree.
 pub(crate) fn wanted(
@@ -61,7 +39,7 @@ pub(crate) fn wanted(
     theirs: &Branch,
     names: &Option<Names>,
     long: usize,
-) -> Result<SharedMap<Name, ()>, AllocError>
+) -> Result<NameSet, AllocError>
     requires { Agree theirs.now ours.now long }
     ensures { IfOk result (λ set. (name : List ℕ) →
         is_among (names_in set) name ≡ is_among (wanted ours.now (listed theirs.now names.now)) name) }
@@ -74,11 +52,7 @@ pub(crate) fn wanted(
 
 /// The names of which a branch has no patch, of the catches of another one behind fronts of the two
 /// that agree.
-fn wanted_behind(
-    ours: &Branch,
-    theirs: &Branch,
-    long: usize,
-) -> Result<SharedMap<Name, ()>, AllocError>
+fn wanted_behind(ours: &Branch, theirs: &Branch, long: usize) -> Result<NameSet, AllocError>
     requires { Agree theirs.now ours.now long }
     ensures { IfOk result (λ set. (name : List ℕ) →
         is_among (names_in set) name ≡ is_among (wanted ours.now (names_of theirs.now)) name) }
@@ -95,7 +69,7 @@ fn wanted_behind(
 }
 
 /// The names of which a branch has no patch.
-fn wanted_of(branch: &Branch, names: &[Name]) -> Result<SharedMap<Name, ()>, AllocError>
+fn wanted_of(branch: &Branch, names: &[Name]) -> Result<NameSet, AllocError>
     ensures { IfOk result (λ set. (name : List ℕ) →
         is_among (names_in set) name ≡ is_among (wanted branch.now names.now) name) }
 {
@@ -110,13 +84,8 @@ fn wanted_of(branch: &Branch, names: &[Name]) -> Result<SharedMap<Name, ()>, All
 }
 
 /// Whether a branch would be too long with the catches of these names of another, which it lacks.
-/// Fronts of the two, so long, agree.
-pub(crate) fn is_full_with(
-    ours: &Branch,
-    theirs: &Branch,
-    names: &SharedMap<Name, ()>,
-    long: usize,
-) -> bool
+/// Fronts of the two, so long, agree: what is counted stands behind them.
+pub(crate) fn is_full_with(ours: &Branch, theirs: &Branch, names: &NameSet, long: usize) -> bool
     requires agree { Agree theirs.now ours.now long }
     requires lacked { AreLacked ours.now (names_in names.now) }
     ensures { result ≡ is_full_with ours.now theirs.now (names_in names.now) }
@@ -129,8 +98,9 @@ pub(crate) fn is_full_with(
     len.saturating_add(more) > MAX_CATCHES
 }
 
-/// How many catches of a branch have names that the other one lacks.
-fn count_of(ours: &Branch, theirs: &Branch, names: &SharedMap<Name, ()>, long: usize) -> usize
+/// How many catches of a branch have names that the other one lacks. What `ours` has is known to the
+/// proof alone: nothing of it is counted.
+fn count_of(ours: &Branch, theirs: &Branch, names: &NameSet, long: usize) -> usize
     requires agree { Agree theirs.now ours.now long }
     requires lacked { AreLacked ours.now (names_in names.now) }
     ensures { result ≡ length (catches_named (names_in names.now) theirs.now) }
@@ -139,7 +109,7 @@ fn count_of(ours: &Branch, theirs: &Branch, names: &SharedMap<Name, ()>, long: u
 }
 
 /// How many catches of a branch from a place on have one of these names.
-fn count_behind(branch: &Branch, names: &SharedMap<Name, ()>, from: usize) -> usize
+fn count_behind(branch: &Branch, names: &NameSet, from: usize) -> usize
     ensures { result ≡ length (catches_named (names_in names.now) (drop from branch.now)) }
 {
     let catches = branch.catches();

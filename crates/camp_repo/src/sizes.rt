@@ -1,15 +1,16 @@
-ghost use Rattle.std.specs.Prelude.{◌≡◌, IfOk};
+ghost use Rattle.std.specs.Prelude.{◌≡◌};
 ghost use Rattle.std.specs.List.{list_any};
 ghost use Rattle.camp_call.specs.Patches.{IsPatchSized};
 ghost use Rattle.camp_base.specs.Trees.{Files};
 ghost use Rattle.camp_prim.specs.Effect.{Applies};
 ghost use Rattle.camp_prim.specs.Swaps.{path_of};
+ghost use Rattle.camp_catch.specs.Making.{ComesTo};
 ghost use Rattle.camp_repo.specs.Steps.{changed, has_long_file, has_long_side, is_too_large};
 
 use crate::{Branch, MAX_CATCHES, MAX_FILE_LINES, MAX_SIDE_LINES, Refusal};
 use camp_base::{Apply, Path, Tree};
+use camp_catch::Unmade;
 use camp_prim::Primitive;
-use std::alloc::AllocError;
 
 /// Whether a record is too large for a branch.
 pub(crate) fn is_too_large(branch: &Branch, changes: &[Primitive]) -> bool
@@ -37,24 +38,21 @@ fn is_long(change: &Primitive) -> bool
 }
 
 /// The tree that changes lead to, each from that which those before it leave, or why they don't.
-pub(crate) fn changed(
-    tree: &Tree,
-    changes: &[Primitive],
-) -> Result<Result<Tree, Refusal>, AllocError>
-    ensures { IfOk result (λ led. led ≡ changed changes.now tree.now) }
+pub(crate) fn changed(tree: &Tree, changes: &[Primitive]) -> Result<Tree, Unmade<Refusal>>
+    ensures { ComesTo (λ led. led ≡ changed changes.now tree.now) result }
 {
     let mut next = tree.try_clone()?;
     for change in changes {
         match change.apply(&mut next) {
             Ok(()) => {}
-            Err(Apply::DoesNotApply) => return Ok(Err(Refusal::DoesNotApply)),
-            Err(Apply::Memory) => return Err(AllocError),
+            Err(Apply::DoesNotApply) => return Err(Unmade::Blocked(Refusal::DoesNotApply)),
+            Err(Apply::Memory) => return Err(Unmade::Memory),
         }
         if leaves_long_file(change, &next) {
-            return Ok(Err(Refusal::TooLarge));
+            return Err(Unmade::Blocked(Refusal::TooLarge));
         }
     }
-    Ok(Ok(next))
+    Ok(next)
 }
 
 /// Whether a file is too long where a change has led to this tree: only a hunk can make it so.

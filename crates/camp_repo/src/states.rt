@@ -1,5 +1,6 @@
 ghost use Rattle.std.specs.Prelude.{◌≡◌, ◌-◌, ◌^◌, ◌<◌, ◌++◌, [], ◌∷◌, List, None, Some, length, map, codes, slice_get, IfOk, IfSome, MatchOption};
 ghost use Rattle.std.specs.List.{list_any};
+ghost use Rattle.camp_branch.specs.Agreeing.{Agree};
 ghost use Rattle.camp_branch.specs.Branches.{has_patch};
 ghost use Rattle.camp_catch.specs.declared.catches.Catch.{Catch};
 ghost use Rattle.camp_repo.specs.Fronts.{AllHold, catches_in};
@@ -8,7 +9,7 @@ ghost use Rattle.camp_repo.specs.Placing.{placed};
 ghost use Rattle.camp_repo.specs.States.{after, catches_of, initial, stands, with_catches};
 
 use crate::Branch;
-use crate::fronts::KnownFront;
+use crate::fronts::KnownFronts;
 use camp_base::Name;
 use camp_share::{Share, Shared, SharedList};
 use indexmap::IndexSet;
@@ -21,7 +22,7 @@ use std::marker::Model;
 pub struct State {
     names: Shared<IndexSet<Name>>,
     branches: SharedList<Shared<Branch>>,
-    known: SharedList<KnownFront>,
+    known: KnownFronts,
     count: u64,
 }
 
@@ -54,7 +55,7 @@ impl State {
         Ok(State {
             names,
             branches,
-            known: SharedList::new(alloc),
+            known: KnownFronts::none(alloc),
             count: 0,
         })
     }
@@ -93,7 +94,7 @@ impl State {
     {
         let names = self.names.share()?;
         let branches = self.branches.share()?;
-        let known = self.known.share()?;
+        let known = self.known.try_clone()?;
         Ok(State {
             names,
             branches,
@@ -141,20 +142,67 @@ impl State {
         Some((place, branch))
     }
 
-    /// What is known of the fronts of its branches.
-    pub(crate) fn known(&self) -> &SharedList<KnownFront>
-        ensures { AllHold self.now.branches result.now }
+    /// How long fronts of two branches, by their places, are known to agree.
+    pub(crate) fn agreed(&self, from: usize, to: usize) -> usize
+        ensures { (theirs ours : List Catch) → slice_get (catches_in self.now.branches) from ≡ Some theirs
+            → slice_get (catches_in self.now.branches) to ≡ Some ours → Agree theirs ours result }
     {
-        &self.known
+        self.known.between(from, to)
     }
 
-    /// The state after one more accepted call, where the branch at a place becomes this one, and this
-    /// is known of the fronts of its branches.
-    pub(crate) fn with_branch_at(
+    /// The state after one more accepted call, where the branch at a place has grown to this one. What is
+    /// known of fronts holds on.
+    pub(crate) fn with_grown(&self, place: usize, branch: Branch) -> Result<State, AllocError>
+        requires counts { self.now.count < 2 ^ 64 - 1 }
+        requires grown { (old : List Catch) × (more : List Catch)
+            × (slice_get (catches_in self.now.branches) place ≡ Some old) × (branch ≡ old ++ more) }
+        requires within { place < length self.now.branches }
+        requires lawful { IsLawfulState (after self.now (placed self.now.branches place branch)) }
+        ensures { IfOk result (λ next. next ≡ after self.now (placed self.now.branches place branch)) }
+    {
+        let known = self.known.try_clone()?;
+        self.with_branch_at(place, branch, known)
+    }
+
+    /// The same of a branch that has grown by a pull from the one at another place, and fronts of the two
+    /// agreed so long.
+    pub(crate) fn with_pulled(
+        &self,
+        from: usize,
+        place: usize,
+        branch: Branch,
+        agreed: usize,
+    ) -> Result<State, AllocError>
+        requires counts { self.now.count < 2 ^ 64 - 1 }
+        requires grown { (theirs : List Catch) × (old : List Catch) × (more : List Catch)
+            × (slice_get (catches_in self.now.branches) from ≡ Some theirs)
+            × (slice_get (catches_in self.now.branches) place ≡ Some old)
+            × Agree theirs old agreed × (branch ≡ old ++ more) }
+        requires within { place < length self.now.branches }
+        requires lawful { IsLawfulState (after self.now (placed self.now.branches place branch)) }
+        ensures { IfOk result (λ next. next ≡ after self.now (placed self.now.branches place branch)) }
+    {
+        let known = self.known.learned(from, place, agreed)?;
+        self.with_branch_at(place, branch, known)
+    }
+
+    /// The state after one more accepted call, where the branch at a place becomes this one. All that was
+    /// known of fronts is forgotten.
+    pub(crate) fn with_replaced(&self, place: usize, branch: Branch) -> Result<State, AllocError>
+        requires counts { self.now.count < 2 ^ 64 - 1 }
+        requires within { place < length self.now.branches }
+        requires lawful { IsLawfulState (after self.now (placed self.now.branches place branch)) }
+        ensures { IfOk result (λ next. next ≡ after self.now (placed self.now.branches place branch)) }
+    {
+        let known = KnownFronts::none(self.allocator());
+        self.with_branch_at(place, branch, known)
+    }
+
+    fn with_branch_at(
         &self,
         place: usize,
         branch: Branch,
-        known: SharedList<KnownFront>,
+        known: KnownFronts,
     ) -> Result<State, AllocError>
         requires counts { self.now.count < 2 ^ 64 - 1 }
         requires within { place < length self.now.branches }
@@ -173,20 +221,23 @@ impl State {
         })
     }
 
-    /// The state after one more accepted call, with a further branch, and this is known of the fronts
-    /// of its branches.
-    pub(crate) fn with_new_branch(
+    /// The state after one more accepted call, with a copy of the branch at a place. What is known of
+    /// that one is known of the copy too.
+    pub(crate) fn with_copy(
         &self,
         name: &Name,
+        place: usize,
         branch: &Branch,
-        known: SharedList<KnownFront>,
     ) -> Result<State, AllocError>
         requires counts { self.now.count < 2 ^ 64 - 1 }
         requires fresh { catches_of self.now.branches name.now ≡ None }
         requires lawful { IsLawfulState (after self.now (self.now.branches ++ (name.now, branch.now) ∷ [])) }
-        requires known { AllHold (self.now.branches ++ (name.now, branch.now) ∷ []) known }
+        requires at { slice_get (catches_in self.now.branches) place ≡ Some branch.now }
         ensures { IfOk result (λ next. next ≡ after self.now (self.now.branches ++ (name.now, branch.now) ∷ [])) }
     {
+        let known = self
+            .known
+            .copied(place, self.len(), branch.catches().len())?;
         let mut names = (*self.names).clone()?;
         names.insert(*name)?;
         let alloc = self.branches.allocator();

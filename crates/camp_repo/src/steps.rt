@@ -1,21 +1,15 @@
 ghost use Rattle.std.specs.Prelude.{◌≡◌, ◌-◌, ◌^◌, ◌<◌, List, Ok, length, IfErr, IfOk};
-ghost use Rattle.camp_catch.specs.declared.catches.Catch.{Catch};
-ghost use Rattle.camp_repo.specs.Fronts.{AllHold};
-ghost use Rattle.camp_repo.specs.Lawful.{IsLawfulState};
-ghost use Rattle.camp_repo.specs.Placing.{placed, settled};
-ghost use Rattle.camp_repo.specs.States.{after};
 ghost use Rattle.camp_repo.specs.Steps.{is_too_large, refused, refusal_of, step, step_branch, step_obliterate, step_pull, step_record};
 ghost use Rattle.camp_repo.specs.Wanting.{HasBranch, MayWant, MayWantCopy, MayWantObliterate, MayWantPull, MayWantRecord};
 
-use crate::fronts::{KnownFront, known_long, with_copy, with_front};
-use crate::name_lists::{first_lacked, first_lacked_of, is_full_with, lists_none, set_of, wanted};
+use crate::name_lists::{first_lacked, is_full_with, lists_none, wanted};
 use crate::sizes::{changed, is_too_large};
 use crate::{
     Branch, Call, Changes, Conflicts, Decided, MAX_BRANCHES, Names, Refusal, Reply, State,
 };
 use camp_base::Name;
-use camp_branch::Blocked;
-use camp_share::{Share, SharedList};
+use camp_branch::{Blocked, set_of};
+use camp_catch::Unmade;
 use std::alloc::AllocError;
 
 impl State {
@@ -54,8 +48,7 @@ impl State {
         if self.len() >= MAX_BRANCHES {
             return Ok(refused(Refusal::TooLarge));
         }
-        let known = with_copy(self.known(), place, self.len(), branch.catches().len())?;
-        let next = self.with_new_branch(new, branch, known)?;
+        let next = self.with_copy(new, place, branch)?;
         Ok(Decided::Next(next))
     }
 
@@ -78,12 +71,13 @@ impl State {
         if is_too_large(old, changes.prims()) {
             return Ok(refused(Refusal::TooLarge));
         }
-        let tree = match changed(old.tree(), changes.prims())? {
+        let tree = match changed(old.tree(), changes.prims()) {
             Ok(tree) => tree,
-            Err(refusal) => return Ok(refused(refusal)),
+            Err(Unmade::Blocked(refusal)) => return Ok(refused(refusal)),
+            Err(Unmade::Memory) => return Err(AllocError),
         };
         let new = old.recorded(name, changes.prims(), tree)?;
-        let next = self.with_branch_at(place, new, self.known().share()?)?;
+        let next = self.with_grown(place, new)?;
         Ok(Decided::Next(next))
     }
 
@@ -112,18 +106,23 @@ impl State {
         if lists_none(names) {
             return Ok(refused(Refusal::NothingToDo));
         }
-        let long = known_long(self.known(), other, place);
-        let wanted = wanted(ours, theirs, names, long)?;
+        let known = self.agreed(other, place);
+        let wanted = wanted(ours, theirs, names, known)?;
         if wanted.is_empty() {
             return Ok(refused(Refusal::NothingToDo));
         }
-        if is_full_with(ours, theirs, &wanted, long) {
+        if is_full_with(ours, theirs, &wanted, known) {
             return Ok(refused(Refusal::TooLarge));
         }
-        let long = ours.agreed(theirs, long)?;
-        let outcome = ours.pulled_behind(theirs, &wanted, long)?;
-        let known = with_front(self.known(), other, place, long)?;
-        self.settled(place, outcome, known)
+        let agreed = ours.agreed(theirs, known)?;
+        match ours.pulled_behind(theirs, &wanted, agreed) {
+            Ok(pulled) => {
+                let next = self.with_pulled(other, place, pulled, agreed)?;
+                Ok(Decided::Next(next))
+            }
+            Err(Unmade::Blocked(blocked)) => Ok(refused(refusal_of(blocked))),
+            Err(Unmade::Memory) => Err(AllocError),
+        }
     }
 
     fn obliterate(&self, branch: &Name, names: &Names) -> Result<Decided<State, Reply>, AllocError>
@@ -135,37 +134,20 @@ impl State {
             return Ok(refused(Refusal::NoBranch(*branch)));
         };
         let names = names.as_slice();
-        if let Some(name) = first_lacked_of(old, names) {
+        if let Some(name) = old.first_lacked(names) {
             return Ok(refused(Refusal::NoPatch(name)));
         }
         if names.is_empty() {
             return Ok(refused(Refusal::NothingToDo));
         }
         let gone = set_of(self.allocator(), names)?;
-        let outcome = old.without(&gone)?;
-        self.settled(place, outcome, SharedList::new(self.allocator()))
-    }
-
-    /// What a call comes to that makes the branch at a place another one, or tells why it can't; and
-    /// what is known of fronts then.
-    fn settled(
-        &self,
-        place: usize,
-        outcome: Result<Branch, Blocked>,
-        known: SharedList<KnownFront>,
-    ) -> Result<Decided<State, Reply>, AllocError>
-        requires counts { self.now.count < 2 ^ 64 - 1 }
-        requires within { place < length self.now.branches }
-        requires lawful { (catches : List Catch) → outcome ≡ Ok catches → IsLawfulState (after self.now (placed self.now.branches place catches)) }
-        requires known { (catches : List Catch) → outcome ≡ Ok catches → AllHold (placed self.now.branches place catches) known }
-        ensures { IfOk result (λ decided. decided ≡ settled self.now place outcome) }
-    {
-        match outcome {
-            Ok(branch) => {
-                let next = self.with_branch_at(place, branch, known)?;
+        match old.without(&gone) {
+            Ok(left) => {
+                let next = self.with_replaced(place, left)?;
                 Ok(Decided::Next(next))
             }
-            Err(blocked) => Ok(refused(refusal_of(blocked))),
+            Err(Unmade::Blocked(blocked)) => Ok(refused(refusal_of(blocked))),
+            Err(Unmade::Memory) => Err(AllocError),
         }
     }
 

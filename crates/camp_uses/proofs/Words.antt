@@ -4,7 +4,7 @@ pub use Rattle.std.proofs.lemmas.Option.{same_Some}
 pub use Rattle.std.specs.List.{AllByRecursion}
 pub use Rattle.camp_base.specs.Answers.{Answers, AnswersByTrial, FindsPair}
 pub use Rattle.camp_base.specs.Trees.{Adds, Files, Lines, Removes}
-pub use Rattle.camp_branch.specs.Branches.{LeadsTo, has_patch, is_among, name_of, names_of}
+pub use Rattle.camp_branch.specs.Branches.{first_lacked, LeadsTo, has_patch, is_among, name_of, names_of}
 pub use Rattle.camp_branch.specs.Fields.{names_in}
 pub use Rattle.camp_branch.specs.Obliterating.{ObliterateGives, other_names}
 pub use Rattle.camp_branch.specs.Pulling.{Outcome, PullGives}
@@ -25,7 +25,7 @@ pub use Rattle.camp_questions.specs.Showing.{IsShown, Patch, patch_in}
 pub use Rattle.camp_repo.specs.Laws.{AcceptedCallsHaveEffect, Has, HistoriesTellTrees}
 pub use Rattle.camp_repo.specs.Objects.{repository}
 pub use Rattle.camp_repo.specs.States.{Contents, catches_of, initial}
-pub use Rattle.camp_repo.specs.Steps.{Decision, becomes, first_lacked, is_empty, is_full_with, pull_wanted, refused, refused_if, step, wanted, with_patches}
+pub use Rattle.camp_repo.specs.Steps.{Decision, becomes, is_empty, is_full_with, pull_wanted, refused, refused_if, step, wanted, with_patches}
 pub use Rattle.camp_run.specs.Keeping.{KeptLeadsBack, at_seat_0}
 pub use Rattle.camp_run.specs.Serial.{IsSerial, history_from}
 pub use Rattle.camp_script.specs.Canonical.{ReadsBack, call_text}

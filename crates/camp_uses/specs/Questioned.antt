@@ -1,7 +1,7 @@
 -- What callers that ask questions conclude.
 use Rattle.std.specs.Prelude.{◌≡◌, ℕ, true, List, [], ◌∷◌, Option, None, Some, MatchOption, Ok}
 use Rattle.camp_catch.specs.declared.catches.Catch.{Catch}
-use Rattle.camp_branch.specs.Branches.{has_patch, is_among, names_of}
+use Rattle.camp_branch.specs.Branches.{first_lacked, has_patch, is_among, names_of}
 use Rattle.camp_branch.specs.Obliterating.{other_names}
 use Rattle.camp_call.specs.Patches.{IsPatchSized}
 use Rattle.camp_call.specs.declared.calls.Call.{Call}
@@ -14,7 +14,6 @@ use Rattle.camp_call.specs.declared.replies.Reply.{Reply}
 use Rattle.camp_call.specs.declared.replies.Reply.TheVariants as reply
 use Rattle.camp_repo.specs.Laws.{Has}
 use Rattle.camp_repo.specs.States.{Contents, catches_of}
-use Rattle.camp_repo.specs.Steps.{first_lacked}
 use Rattle.camp_questions.specs.Answers.{AnswerOf, OfBranch, OfPatches}
 use Rattle.camp_questions.specs.Dependencies.{HeldBy, Needs}
 use Rattle.camp_questions.specs.Showing.{patch_in}

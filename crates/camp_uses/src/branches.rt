@@ -6,9 +6,10 @@ ghost use Rattle.camp_branch.specs.Fields.{names_in};
 ghost use Rattle.camp_branch.specs.Laws.{AreLacked};
 ghost use Rattle.camp_branch.specs.Obliterating.{other_names};
 
-use camp_base::Name;
-use camp_branch::{Branch, obliterates_keep_lawful, pulls_begin_with_own, pulls_keep_lawful};
-use camp_share::SharedMap;
+use camp_branch::{
+    Branch, NameSet, obliterates_keep_lawful, pulls_begin_with_own, pulls_keep_lawful,
+};
+use camp_catch::Unmade;
 use std::alloc::AllocError;
 
 /// A branch with the wanted patches of another one, which it lacks, if they can come there. What it
@@ -16,7 +17,7 @@ use std::alloc::AllocError;
 pub fn with_pulled(
     to: &Branch,
     from: &Branch,
-    wanted: &SharedMap<Name, ()>,
+    wanted: &NameSet,
 ) -> Result<Option<Branch>, AllocError>
     requires { AreLacked to.now (names_in wanted.now) }
     ensures own { IfOk result (λ found. IfSome found (λ pulled. (taken : List Catch) × (pulled ≡ to.now ++ taken))) }
@@ -26,21 +27,23 @@ pub fn with_pulled(
     pulls_begin_with_own();
     pulls_keep_lawful();
     let (_theirs, _ours) = (from.catches(), to.catches());
-    match to.pulled(from, wanted)? {
+    match to.pulled(from, wanted) {
         Ok(pulled) => Ok(Some(pulled)),
-        Err(_) => Ok(None),
+        Err(Unmade::Blocked(_)) => Ok(None),
+        Err(Unmade::Memory) => Err(AllocError),
     }
 }
 
 /// A branch without the patches of some names, if no other one depends on them. The others stay in
 /// their order.
-pub fn without(branch: &Branch, names: &SharedMap<Name, ()>) -> Result<Option<Branch>, AllocError>
+pub fn without(branch: &Branch, names: &NameSet) -> Result<Option<Branch>, AllocError>
     ensures names { IfOk result (λ found. IfSome found (λ left. names_of left ≡ other_names branch.now (names_in names.now))) }
 {
     obliterates_keep_lawful();
     let _lawful = branch.catches();
-    match branch.without(names)? {
+    match branch.without(names) {
         Ok(left) => Ok(Some(left)),
-        Err(_) => Ok(None),
+        Err(Unmade::Blocked(_)) => Ok(None),
+        Err(Unmade::Memory) => Err(AllocError),
     }
 }

@@ -5,7 +5,7 @@ ghost use Rattle.camp_catch.specs.Catches.{Fits, FitsAll};
 ghost use Rattle.camp_catch.specs.Laws.{keys_of};
 
 use camp_catch::{
-    Catch, commute, commute_keeps_effects, labels_are_kept, lists_keep_effects, merge,
+    Catch, Unmade, commute, commute_keeps_effects, labels_are_kept, lists_keep_effects, merge,
     merge_is_symmetric, merge_is_unique, merge_lists,
 };
 use camp_share::Shared;
@@ -58,8 +58,9 @@ pub fn behind_ours(
 {
     lists_keep_effects();
     labels_are_kept();
-    match merge_lists(alloc, theirs, ours)? {
+    match merge_lists(alloc, theirs, ours) {
         Ok(behind) => Ok(Some(behind)),
-        Err(_) => Ok(None),
+        Err(Unmade::Blocked(_)) => Ok(None),
+        Err(Unmade::Memory) => Err(AllocError),
     }
 }

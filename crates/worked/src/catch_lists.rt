@@ -5,7 +5,7 @@ use crate::results::{Outcome, catch_list_text, joined, key_text};
 use crate::tables::Table;
 use crate::wants::Wants;
 use camp_base::Name;
-use camp_catch::{Arranged, Catch, NoMerge, Stuck, align, arrange, merge_lists};
+use camp_catch::{Arranged, Catch, NoMerge, Stuck, Unmade, align, arrange, merge_lists};
 use camp_notation::NotationError;
 use camp_prim::{Key, Label};
 use camp_share::{Shared, SharedMap};
@@ -95,9 +95,9 @@ fn arranged(table: &Table, list: &Catches, labels: &[Label]) -> Outcome {
 
 fn arranged_by(table: &Table, list: &Catches, names: &SharedMap<Name, ()>) -> Outcome {
     match arrange(table.alloc(), list, names) {
-        Ok(Ok(arranged)) => arranged_text(table, &arranged),
-        Ok(Err(stuck)) => Ok(stuck_on(table, stuck)?),
-        Err(_) => Err(NotationError::Memory),
+        Ok(arranged) => arranged_text(table, &arranged),
+        Err(Unmade::Blocked(stuck)) => Ok(stuck_on(table, stuck)?),
+        Err(Unmade::Memory) => Err(NotationError::Memory),
     }
 }
 
@@ -122,9 +122,9 @@ fn aligned(table: &Table, list: &Catches, labels: &[Label]) -> Outcome {
 
 fn aligned_by(table: &Table, list: &Catches, order: &[Key]) -> Outcome {
     match align(table.alloc(), list, order) {
-        Ok(Ok(aligned)) => catch_list_text(table, &aligned),
-        Ok(Err(key)) => Ok(stuck(table, key)?),
-        Err(_) => Err(NotationError::Memory),
+        Ok(aligned) => catch_list_text(table, &aligned),
+        Err(Unmade::Blocked(key)) => Ok(stuck(table, key)?),
+        Err(Unmade::Memory) => Err(NotationError::Memory),
     }
 }
 
@@ -135,9 +135,9 @@ fn stuck(table: &Table, key: Key) -> Result<String, AllocError> {
 
 fn merged(table: &Table, left: &Catches, right: &Catches) -> Outcome {
     match merge_lists(table.alloc(), left, right) {
-        Ok(Ok(merged)) => catch_list_text(table, &merged),
-        Ok(Err(pair)) => Ok(no_merge(table, pair)?),
-        Err(_) => Err(NotationError::Memory),
+        Ok(merged) => catch_list_text(table, &merged),
+        Err(Unmade::Blocked(pair)) => Ok(no_merge(table, pair)?),
+        Err(Unmade::Memory) => Err(NotationError::Memory),
     }
 }
 

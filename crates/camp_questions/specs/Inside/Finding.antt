@@ -1,10 +1,10 @@
 -- The branch that a question is about.
 use Rattle.std.specs.Prelude.{◌≡◌, ℕ, List, None, Some, MatchOption}
 use Rattle.camp_catch.specs.declared.catches.Catch.{Catch}
+use Rattle.camp_branch.specs.Branches.{first_lacked}
 use Rattle.camp_call.specs.declared.replies.Refusal.{Refusal}
 use Rattle.camp_call.specs.declared.replies.Refusal.TheVariants.{NoBranch, NoPatch}
 use Rattle.camp_repo.specs.States.{Contents, catches_of}
-use Rattle.camp_repo.specs.Steps.{first_lacked}
 
 -- there is a branch of a name, with these catches, and it has the patches of all these names
 pub record IsFound (state : Contents) (branch : List ℕ) (names : List (List ℕ)) (catches : List Catch) : Type 0 where

@@ -14,5 +14,5 @@ pub returns : goal.returns
 returns c =
     let l = c.loop-change in
     let all = sym (append-nil l.new.items) ∙ ap (λ t. l.new.items ++ recorded c.args.name.now l.place t) (sym (drop_all l.change-index c.args.changes.now (omega arith))) ∙ l.invariant.so_far in
-    appended c.args.catches.now c.args.catches.now c.deref.result.now c.in_ok-list.list c.len-end.result c.len-end.ensures.exact refl c.in_ok-list.ensures.exact
+    appended c.args.catches.now c.args.catches.now c.deref.result.now c.in_ok-spliced.field-0 c.len-end.result c.len-end.ensures.exact refl c.in_ok-spliced.ensures.exact
     ∙ ap (λ xs. c.args.catches.now ++ xs) (c.deref.ensures.value ∙ all)

@@ -5,4 +5,4 @@ pub returns : goal.returns
 returns c name =
     let none = ap (λ m. contains_key m name) c.new-none.ensures.exact ∙ ap is_some (get-empty (slice_cmp nat_cmp) name) in
     let first = c.in_ok-first.ensures name ∙ ap (λ b. b || (is_among (map name_of c.args.list.now) name && has_name c.args.other_names.now name)) none in
-    c.in_ok-both.ensures name ∙ ap (λ b. b || (is_among (map name_of c.args.others.now) name && has_name c.args.names.now name)) first
+    c.in_ok-with_those_in.ensures name ∙ ap (λ b. b || (is_among (map name_of c.args.others.now) name && has_name c.args.names.now name)) first

@@ -5,17 +5,17 @@ use Rattle.camp_catch.proofs.aligning.come_first.Goals as goal
 pub returns-in_default : goal.returns-in_default
 returns-in_default c = record { exact = λ any w. none_first c.args.key.now c.args.list.now w.0 w.1 c.in_default.ensures w.2 }
 
-pub returns-in-Err : goal.returns-in-Err
-returns-in-Err c =
+pub returns-in-Some-2 : goal.returns-in-Some-2
+returns-in-Some-2 c =
     let (front, back) = stands_first c.in-Some.ensures in
-    record { exact = stays_behind c.in-Some.ensures c.in-Err.field-0 (rw (c.in-Err.is, c.split_at_mut-before.ensures.front, front, c.split_at_mut-before.ensures.back, back) at c.in_ok-moved.ensures.exact) }
+    record { exact = stays_behind c.in-Some.ensures c.in-Some-2.field-0 (rw (c.in-Some-2.is, c.split_at_mut-before.ensures.front, front, c.split_at_mut-before.ensures.back, back) at c.in_ok-come_before.ensures.exact) }
 
-pub returns-in-Ok : goal.returns-in-Ok
-returns-in-Ok c =
+pub returns-in-None : goal.returns-in-None
+returns-in-None c =
     let w = c.in-Some.ensures in
     let k = c.come_before.new.coming in
     let s = c.come_before.new.list in
     let (front, back) = stands_first w in
     let all = ap (λ x. s ++ set x 0 k) (c.split_at_mut-before.ensures.back ∙ back) in
     let long = c.come_before.auto.list ∙ ap (λ x. length x) (c.split_at_mut-before.ensures.front ∙ front) ∙ w.stands in
-    record { exact = (k, s ++ w.after, comes_first w k s (rw (c.in-Ok.is, c.split_at_mut-before.ensures.front, front, c.split_at_mut-before.ensures.back, back) at c.in_ok-moved.ensures.exact), turned_right _ s k w.after c.rotate_right.new.self c.in-Some.at all long c.rotate_right.ensures.after) }
+    record { exact = (k, s ++ w.after, comes_first w k s (rw (c.in-None.is, c.split_at_mut-before.ensures.front, front, c.split_at_mut-before.ensures.back, back) at c.in_ok-come_before.ensures.exact), turned_right _ s k w.after c.rotate_right.new.self c.in-Some.at all long c.rotate_right.ensures.after) }

@@ -4,13 +4,13 @@ use Rattle.camp_catch.proofs.PartsDetermined.{comes_before}
 use Rattle.camp_catch.proofs.commuting.conflictor_past_plain.Goals as goal
 
 pub returns-in_default : goal.returns-in_default
-returns-in_default c = λ pair w. (rw c.in_default.is at c.in_ok-behind.ensures) (w.b', w.left) w.passes
+returns-in_default c = λ pair w. (rw c.in_default.is at c.in_ok-second.ensures) (w.b', w.left) w.passes
 
 pub returns-in-None : goal.returns-in-None
 returns-in-None c =
     let back = inverse_of c.args.b.now in
-    λ pair w. leads_nowhere (λ (p : Named × List Named). Becomes (Norm p.1) (Adds back) (PassesBy back) c.args.j.now) (comes_before c.args.j.now.effect c.args.b.now) _ (rw c.in-Some.is at c.in_ok-behind.ensures) (rw c.in-None.is at c.in_ok-made.ensures) (w.b', w.left) w.passes w.moved w.becomes
+    λ pair w. leads_nowhere (λ (p : Named × List Named). Becomes (Norm p.1) (Adds back) (PassesBy back) c.args.j.now) (comes_before c.args.j.now.effect c.args.b.now) _ (rw c.in-Some.is at c.in_ok-second.ensures) (rw c.in-None.is at c.in_ok-inverse_passes_before.ensures) (w.b', w.left) w.passes w.moved w.becomes
 
-pub returns-in-Some-made : goal.returns-in-Some-made
-returns-in-Some-made c =
-    record { b' = _; left = _; passes = rw c.in-Some.is at c.in_ok-behind.ensures; moved = _; becomes = rw c.in-Some-made.is at c.in_ok-made.ensures; second = refl; first = refl }
+pub returns-in-Some-2 : goal.returns-in-Some-2
+returns-in-Some-2 c =
+    record { b' = _; left = _; passes = rw c.in-Some.is at c.in_ok-second.ensures; moved = _; becomes = rw c.in-Some-2.is at c.in_ok-inverse_passes_before.ensures; second = refl; first = refl }

@@ -15,4 +15,4 @@ plain_beside_conflictor-requires c =
 pub returns : goal.returns
 returns c =
     let told = c.in_ok-conflicts_with.ensures in
-    record { exact = only_beside c.args.a.now c.args.k.now told.seen told.sees (told_not _ c.if-branch.false told.tells) c.in_ok-beside.beside c.in_ok-beside.ensures.exact }
+    record { exact = only_beside c.args.a.now c.args.k.now told.seen told.sees (told_not _ c.if-branch.false told.tells) c.in_ok-plain_beside_conflictor.field-0 c.in_ok-plain_beside_conflictor.ensures.exact }

@@ -8,7 +8,7 @@ returns-in-Ok c =
     let branch : List Catch = c.args.branch.now in
     let grown = names_in c.loop-grown.grown in
     let is : c.deref.result.now ≡ branch = c.deref.ensures.value ∙ c.in_ok-catches.ensures.exact ∙ c.catches-2.ensures.value in
-    let front = rw c.in-Ok.is at c.in_ok-arrange.ensures.exact in
+    let front = c.in-Ok.ensures.exact in
     let first : List Catch = c.in-Ok.field-0.first.items in
     let rest : List Catch = c.in-Ok.field-0.rest.items in
     let done : ComeToFront branch grown = (first, rest, subst (λ l. Arrange grown l first rest) is front) in
@@ -19,17 +19,17 @@ loop-grown-smaller c =
     let branch : List Catch = c.args.branch.now in
     let grown = names_in c.loop-grown.grown in
     let is : c.deref.result.now ≡ branch = c.deref.ensures.value ∙ c.in_ok-catches.ensures.exact ∙ c.catches-2.ensures.value in
-    let on = c.in-Err.stuck.on in
-    let stuck = rw c.in-Err.is at c.in_ok-arrange.ensures.exact in
-    let stops : StickOn branch grown on.name = (c.in-Err.stuck.patch, on, subst (λ l. ArrangeSticks grown l c.in-Err.stuck.patch on) is stuck, refl) in
-    fewer_to_come (map name_of branch) (ComeToFront branch) (StickOn branch) (to_front branch) (map_of (slice_cmp nat_cmp) c.loop-grown.grown) (map_of (slice_cmp nat_cmp) c.in_ok-grown-in-Err.grown) on.name stops c.in_ok-grown-in-Err.ensures.exact
+    let on = c.in-Err-Blocked.stuck.on in
+    let stuck = rw c.in-Err-Blocked.field-0-is at c.in-Err-Blocked.ensures.exact in
+    let stops : StickOn branch grown on.name = (c.in-Err-Blocked.stuck.patch, on, subst (λ l. ArrangeSticks grown l c.in-Err-Blocked.stuck.patch on) is stuck, refl) in
+    fewer_to_come (map name_of branch) (ComeToFront branch) (StickOn branch) (to_front branch) (map_of (slice_cmp nat_cmp) c.loop-grown.grown) (map_of (slice_cmp nat_cmp) c.in_ok-grown-in-Err-Blocked.grown) on.name stops c.in_ok-grown-in-Err-Blocked.ensures.exact
 
 pub loop-grown-preserved : goal.loop-grown-preserved
 loop-grown-preserved c =
     let branch : List Catch = c.args.branch.now in
     let grown = names_in c.loop-grown.grown in
     let is : c.deref.result.now ≡ branch = c.deref.ensures.value ∙ c.in_ok-catches.ensures.exact ∙ c.catches-2.ensures.value in
-    let on = c.in-Err.stuck.on in
-    let stuck = rw c.in-Err.is at c.in_ok-arrange.ensures.exact in
-    let stops : StickOn branch grown on.name = (c.in-Err.stuck.patch, on, subst (λ l. ArrangeSticks grown l c.in-Err.stuck.patch on) is stuck, refl) in
-    one_grown (map name_of branch) (ComeToFront branch) (StickOn branch) (to_front branch) (names_in c.args.names) (map_of (slice_cmp nat_cmp) c.loop-grown.grown) (map_of (slice_cmp nat_cmp) c.in_ok-grown-in-Err.grown) on.name c.loop-grown.invariant stops c.in_ok-grown-in-Err.ensures.exact
+    let on = c.in-Err-Blocked.stuck.on in
+    let stuck = rw c.in-Err-Blocked.field-0-is at c.in-Err-Blocked.ensures.exact in
+    let stops : StickOn branch grown on.name = (c.in-Err-Blocked.stuck.patch, on, subst (λ l. ArrangeSticks grown l c.in-Err-Blocked.stuck.patch on) is stuck, refl) in
+    one_grown (map name_of branch) (ComeToFront branch) (StickOn branch) (to_front branch) (names_in c.args.names) (map_of (slice_cmp nat_cmp) c.loop-grown.grown) (map_of (slice_cmp nat_cmp) c.in_ok-grown-in-Err-Blocked.grown) on.name c.loop-grown.invariant stops c.in_ok-grown-in-Err-Blocked.ensures.exact

@@ -7,5 +7,5 @@ pub returns : goal.returns
 returns c =
     let branch : List Catch = c.args.branch.now in
     let told = c.in_ok-needs.needs in
-    let grown = grown_in_order (map name_of branch) (ComeToFront branch) (StickOn branch) (to_front branch) branch c.from_ref.result.now (names_in c.in_ok-named.named) (names_in c.in_ok-grown.grown) told c.in_ok-named.ensures c.in_ok-grown.ensures c.in_ok-needs.ensures in
-    (told, subst (λ names. Needs branch names told) c.from_ref.ensures.value grown, λ name. c.in_ok-set_of.ensures name ∙ ap (λ names. is_among names name) c.as_slice.ensures.exact)
+    let grown = grown_in_order (map name_of branch) (ComeToFront branch) (StickOn branch) (to_front branch) branch c.from_ref.result.now (names_in c.in_ok-named.named) (names_in c.in_ok-grown.grown) told c.in_ok-named.ensures.exact c.in_ok-grown.ensures c.in_ok-needs.ensures in
+    (told, subst (λ names. Needs branch names told) c.from_ref.ensures.value grown, λ name. c.in_ok-set_of.ensures.exact name ∙ ap (λ names. is_among names name) c.as_slice.ensures.exact)

@@ -3,5 +3,5 @@ use Rattle.camp_uses.proofs.branches.without.Goals as goal
 
 pub returns-in-Ok : goal.returns-in-Ok
 returns-in-Ok c =
-    let gives : ObliterateGives c.args.branch.now (names_in c.args.names.now) (Ok c.in-Ok.left) = rw c.in-Ok.is at c.in_ok-left.ensures.exact in
+    let gives : ObliterateGives c.args.branch.now (names_in c.args.names.now) (Ok c.in-Ok.left) = c.in-Ok.ensures.exact in
     record { names = c.obliterates_keep_lawful.ensures.law.names _ _ _ gives c.catches-lawful.ensures.lawful }

@@ -1,16 +1,15 @@
-use Rattle.camp_repo.proofs.Words.{◌++◌, ap, ◌∙◌, sym, subst, recorded, Next, AllHold, IsLawfulState, placed, after, changed, is_too_large}
+use Rattle.camp_repo.proofs.Words.{◌++◌, ap, ◌∙◌, sym, subst, recorded, Next, IsLawfulState, placed, after, changed, is_too_large}
 use Rattle.camp_repo.proofs.DecideSteps.{record_accepted, record_refused}
-use Rattle.camp_repo.proofs.FrontSteps.{all_grown}
 use Rattle.camp_repo.proofs.RecordSteps.{is_new, leads_from, record_keeps}
 use Rattle.camp_repo.proofs.states.State.record.Goals as goal
 
-pub returns-in-Err-clause-exact : goal.returns-in-Err-clause-exact
-returns-in-Err-clause-exact c =
+pub returns-in-Err-Blocked-clause-exact : goal.returns-in-Err-Blocked-clause-exact
+returns-in-Err-Blocked-clause-exact c =
     let has = c.in-Some.ensures.value in
     let free = sym c.stands.ensures ∙ c.if-stands.false in
     let small = ap (is_too_large c.in-Some.old.now) (sym c.prims.ensures.value) ∙ sym c.is_too_large.ensures ∙ c.if-is_too_large.false in
-    let led = sym c.in-Err.is ∙ c.in_ok-tree.ensures ∙ ap (λ cs. changed cs c.tree.result.now) c.prims-2.ensures.value in
-    c.refused-in-Err.ensures ∙ record_refused c.args.self.now c.args.branch.now c.args.name.now c.args.changes.now c.in-Some.old.now c.tree.result.now has free small c.tree.ensures.exact c.in-Err.refusal led
+    let led = (rw c.in-Err-Blocked.field-0-is at c.in-Err-Blocked.ensures) ∙ ap (λ cs. changed cs c.tree.result.now) c.prims-2.ensures.value in
+    (rw c.in-Err-Blocked.field-0-is at c.refused-in-Err-Blocked.ensures) ∙ record_refused c.args.self.now c.args.branch.now c.args.name.now c.args.changes.now c.in-Some.old.now c.tree.result.now has free small c.tree.ensures.exact c.in-Err-Blocked.refusal led
 
 pub recorded-requires-clause-is_new : goal.recorded-requires-clause-is_new
 recorded-requires-clause-is_new c =
@@ -18,15 +17,15 @@ recorded-requires-clause-is_new c =
 
 pub recorded-requires-clause-leads : goal.recorded-requires-clause-leads
 recorded-requires-clause-leads c old leads =
-    let led = sym c.in-Ok.is ∙ c.in_ok-tree.ensures ∙ ap (λ cs. changed cs c.tree.result.now) c.prims-2.ensures.value in
+    let led = c.in-Ok.ensures ∙ ap (λ cs. changed cs c.tree.result.now) c.prims-2.ensures.value in
     leads_from c.in-Some.old.now c.tree.result.now old c.in-Ok.tree c.args.changes.now c.prims-3.result.now c.tree.ensures.exact leads c.prims-3.ensures.value led
 
-pub with_branch_at-requires-clause-lawful : goal.with_branch_at-requires-clause-lawful
-with_branch_at-requires-clause-lawful c =
+pub with_grown-requires-clause-lawful : goal.with_grown-requires-clause-lawful
+with_grown-requires-clause-lawful c =
     let has = c.in-Some.ensures.value in
     let free = sym c.stands.ensures ∙ c.if-stands.false in
     let small = ap (is_too_large c.in-Some.old.now) (sym c.prims.ensures.value) ∙ sym c.is_too_large.ensures ∙ c.if-is_too_large.false in
-    let led = sym c.in-Ok.is ∙ c.in_ok-tree.ensures ∙ ap (λ cs. changed cs c.tree.result.now) c.prims-2.ensures.value in
+    let led = c.in-Ok.ensures ∙ ap (λ cs. changed cs c.tree.result.now) c.prims-2.ensures.value in
     let new_is = c.in_ok-new.ensures.exact ∙ ap (λ cs. c.in-Some.old.now ++ recorded c.args.name.now 1 cs) c.prims-3.ensures.value in
     subst (λ b. IsLawfulState (after c.args.self.now (placed c.args.self.now.branches c.in-Some.place b))) (sym new_is)
     (record_keeps c.args.self.now c.args.branch.now c.args.name.now c.args.changes.now c.in-Some.old.now c.tree.result.now c.in-Ok.tree c.in-Some.place has free small c.tree.ensures.exact led c.in-Some.ensures.placed c.in-Some.ensures.lawful)
@@ -36,13 +35,9 @@ returns-clause-exact c =
     let has = c.in-Some.ensures.value in
     let free = sym c.stands.ensures ∙ c.if-stands.false in
     let small = ap (is_too_large c.in-Some.old.now) (sym c.prims.ensures.value) ∙ sym c.is_too_large.ensures ∙ c.if-is_too_large.false in
-    let led = sym c.in-Ok.is ∙ c.in_ok-tree.ensures ∙ ap (λ cs. changed cs c.tree.result.now) c.prims-2.ensures.value in
+    let led = c.in-Ok.ensures ∙ ap (λ cs. changed cs c.tree.result.now) c.prims-2.ensures.value in
     let new_is = c.in_ok-new.ensures.exact ∙ ap (λ cs. c.in-Some.old.now ++ recorded c.args.name.now 1 cs) c.prims-3.ensures.value in
     ap Next (c.in_ok-next.ensures ∙ ap (λ b. after c.args.self.now (placed c.args.self.now.branches c.in-Some.place b)) new_is) ∙ record_accepted c.args.self.now c.args.branch.now c.args.name.now c.args.changes.now c.in-Some.old.now c.tree.result.now has free small c.tree.ensures.exact c.in-Ok.tree c.in-Some.place led c.in-Some.ensures.placed
 
-pub with_branch_at-requires-clause-known : goal.with_branch_at-requires-clause-known
-with_branch_at-requires-clause-known c =
-    let branches = c.args.self.now.branches in
-    let known = subst (AllHold branches) (sym c.in_ok-share.ensures) c.known.ensures in
-    subst (λ b. AllHold (placed branches c.in-Some.place b) c.in_ok-share.field-0) (sym c.in_ok-new.ensures.exact)
-    (all_grown branches c.in-Some.place c.in-Some.old.now (recorded c.args.name.now 1 c.prims-3.result.now) c.in-Some.ensures.at c.in_ok-share.field-0 known)
+pub with_grown-requires-clause-grown : goal.with_grown-requires-clause-grown
+with_grown-requires-clause-grown c = (c.in-Some.old.now, recorded c.args.name.now 1 c.prims-3.result.now, c.in-Some.ensures.at, c.in_ok-new.ensures.exact)

@@ -1,0 +1,110 @@
+//! A pull begins behind fronts that agree.
+//!
+//! Fronts of two branches agree where the first n catches of the one, brought into the order of the first
+//! n of the other, are those. All their patches are common, so they come to the front of both by
+//! themselves, and come into order by moves inside the front alone: arranging, aligning and comparing
+//! leave them as they are, and go on behind them. Catches that are the same in both are passed by. How far
+//! fronts of the same labels reach from there is guessed by sums over the labels; that they agree is then
+//! found out by aligning them, and where they do not, the plain pull tells why.
+ghost use Rattle.std.specs.Prelude.{◌+◌, ◌≤◌, drop, length, IfOk};
+ghost use Rattle.camp_branch.specs.Agreeing.{Agree, ReachesAll};
+ghost use Rattle.camp_branch.specs.Inside.Alike.{DifferBehind};
+
+use crate::pulls::same_front;
+use camp_catch::{Catch, Unmade};
+use camp_share::{Shared, SharedList};
+use std::alloc::{AllocError, Global};
+
+/// How long fronts of two lists are that agree, at least as long as it is known. They are longer by
+/// the catches behind them that are the same, and by further ones of both that have the same labels
+/// and agree.
+pub(crate) fn agreed(
+    alloc: Global,
+    from: &SharedList<Shared<Catch>>,
+    to: &SharedList<Shared<Catch>>,
+    known: usize,
+) -> Result<usize, AllocError>
+    requires { Agree from.now to.now known }
+    ensures agree { IfOk result (Agree from.now to.now) }
+    ensures as_they_are { IfOk result (λ long. ReachesAll from.now to.now known long) }
+{
+    // The proof is told that a length is a number of the machine.
+    prove!(from.len() <= usize::MAX);
+    let start = known + same_behind(from, to, known);
+    let more = alike_in_labels(from, to, start);
+    let theirs = from.range_to_vec(start, start + more)?;
+    let ours = to.range_to_vec(start, start + more)?;
+    match same_front(alloc, &theirs, &ours) {
+        Ok(()) => Ok(start + more),
+        Err(Unmade::Blocked(_)) => Ok(start),
+        Err(Unmade::Memory) => Err(AllocError),
+    }
+}
+
+/// How many catches behind fronts of two lists are the same in both.
+fn same_behind(
+    from: &SharedList<Shared<Catch>>,
+    to: &SharedList<Shared<Catch>>,
+    known: usize,
+) -> usize
+    requires within { known ≤ length from.now }
+    requires within_too { known ≤ length to.now }
+    ensures fits { known + result ≤ length from.now }
+    ensures fits_too { known + result ≤ length to.now }
+    ensures most { DifferBehind (drop known from.now) (drop known to.now) result }
+{
+    prove!(from.len() <= usize::MAX);
+    let mut others = to.iter_from(known);
+    let mut same = 0;
+    for catch in from.iter_from(known) {
+        let Some(other) = others.next() else {
+            return same;
+        };
+        if !catch.is_same(other) {
+            return same;
+        }
+        same += 1;
+    }
+    same
+}
+
+/// How many catches of two lists behind fronts have, as it seems by sums over them, the same labels.
+/// They may still differ.
+fn alike_in_labels(
+    from: &SharedList<Shared<Catch>>,
+    to: &SharedList<Shared<Catch>>,
+    known: usize,
+) -> usize
+    requires within { known ≤ length from.now }
+    requires within_too { known ≤ length to.now }
+    ensures fits { known + result ≤ length from.now }
+    ensures fits_too { known + result ≤ length to.now }
+{
+    prove!(from.len() <= usize::MAX);
+    let mut others = to.iter_from(known);
+    let mut difference: u64 = 0;
+    let mut seen = 0;
+    let mut alike = 0;
+    for catch in from.iter_from(known) {
+        let Some(other) = others.next() else {
+            return alike;
+        };
+        difference = difference
+            .wrapping_add(label_sum(catch))
+            .wrapping_sub(label_sum(other));
+        seen += 1;
+        if difference == 0 {
+            alike = seen;
+        }
+    }
+    alike
+}
+
+/// A number that catches with the same label share, and others rarely.
+fn label_sum(catch: &Catch) -> u64 {
+    let mut sum = catch.place() as u64;
+    for byte in catch.name().bytes() {
+        sum = (sum ^ *byte as u64).wrapping_mul(0x0000_0100_0000_01b3);
+    }
+    sum
+}

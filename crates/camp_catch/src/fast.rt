@@ -1,0 +1,23 @@
+//! Faster ways to what the rules say. Each says of itself when it goes, and there the rule's result is
+//! its own.
+//!
+//! - Two plain catches that keep their lines change places, or merge, as they are. So no catch is made
+//!   anew, and none is compared byte by byte with the one before.
+//! - A plain catch and a conflictor change places as they are where the plain one is not in the
+//!   conflictor's set, passes its effect as it is, and leaves its conflicts and its identity as they are.
+//!   A plain one comes before a conflictor so where its inverse passes it so, by the square law of swaps.
+//! - A plain catch and a conflictor of one state stay as they are where the inverse of the plain one
+//!   passes the conflictor so, and the two do not conflict.
+//! - Of the last catch of a pull the other side is not made: what the branch itself would become beside
+//!   it, nobody reads. A result is there whenever the side that is read has one, since adding always
+//!   gives something.
+//! - What a catch gains on its way joins its set at the end. Where two conflictors have no effect and
+//!   conflict, merging them changes one thing of the second: the identity of the first joins its set,
+//!   whatever has joined it before. So a catch that goes behind a list keeps beside it what it gains, and
+//!   its set is made once for all of them, when another step looks at it.
+mod behind;
+mod gaining;
+mod unmoved;
+
+pub(crate) use behind::merge_behind_all;
+pub(crate) use unmoved::{commute_as_they_are, merge_as_they_are};

@@ -1,0 +1,91 @@
+//! Merges of which the other side is not made.
+ghost use Rattle.std.specs.Prelude.{List, IfOk};
+ghost use Rattle.std.specs.Result.{MatchResult};
+ghost use Rattle.camp_base.specs.Answers.{Finds};
+ghost use Rattle.camp_catch.specs.Inside.InPlace.{MergesBehind};
+ghost use Rattle.camp_catch.specs.Making.{ComesTo};
+ghost use Rattle.camp_catch.specs.MergingLists.{MergesWithAll, SticksWithin};
+ghost use Rattle.camp_catch.specs.declared.catches.Catch.{Catch as AnyCatch};
+
+use crate::fast::gaining::Gaining;
+use crate::fast::merge_as_they_are;
+use crate::merging::{conflict_before, merged_effects, seen_behind};
+use crate::merging_lists::no_merge;
+use crate::moves::renewed;
+use crate::seen::{both_behind, joined};
+use crate::{Catch, Conflictor, NoMerge, Unmade, merge};
+use camp_share::{Share, Shared};
+use std::alloc::{AllocError, Global};
+
+/// One catch as it is after a list, where nobody reads what the list becomes.
+pub(crate) fn merge_behind_all(
+    alloc: Global,
+    q: &[Shared<Catch>],
+    k: &Shared<Catch>,
+) -> Result<Shared<Catch>, Unmade<NoMerge>>
+    ensures exact { ComesTo (λ answer. MatchResult answer
+        (λ after. (q' : List AnyCatch) × MergesWithAll q.now k.now after q')
+        (λ stuck. SticksWithin q.now k.now stuck.left stuck.right)) result }
+{
+    let mut after = Gaining::new(alloc, k)?;
+    for j in q {
+        if !after.go_behind(j)? {
+            let stuck = after.settled()?;
+            return Err(Unmade::Blocked(no_merge(j, &stuck)));
+        }
+    }
+    let settled = after.settled()?;
+    Ok(settled)
+}
+
+/// `k` as it is after the `j` of the same state.
+pub(crate) fn merge_behind(
+    alloc: Global,
+    j: &Catch,
+    k: &Shared<Catch>,
+) -> Result<Option<Shared<Catch>>, AllocError>
+    ensures exact { IfOk result (Finds (MergesBehind j.now k.now)) }
+{
+    if merge_as_they_are(alloc, j, k)? {
+        return Ok(Some(k.share()?));
+    }
+    match behind(alloc, j, k)? {
+        None => Ok(None),
+        Some(after) => Ok(Some(renewed(alloc, k, after)?)),
+    }
+}
+
+/// What the `k` of the same state becomes after `j`, where nobody reads what `j` becomes.
+fn behind(alloc: Global, j: &Catch, k: &Catch) -> Result<Option<Catch>, AllocError>
+    ensures exact { IfOk result (Finds (MergesBehind j.now k.now)) }
+{
+    if let (Catch::Conflictor(j), Catch::Conflictor(k)) = (j, k) {
+        return conflictor_behind(alloc, j, k);
+    }
+    match merge(alloc, j, k)? {
+        None => Ok(None),
+        Some((after, _)) => Ok(Some(after)),
+    }
+}
+
+/// `(r, X, i) | (s, Y, l) -> (s2, Y', l')`, where `r2^` added to `Y` and `l` gives `Y'` and `l'`. Of the
+/// other one its identity alone is made.
+fn conflictor_behind(
+    alloc: Global,
+    j: &Conflictor,
+    k: &Conflictor,
+) -> Result<Option<Catch>, AllocError>
+    ensures exact { IfOk result (Finds (MergesBehind (AnyCatch.Conflictor j.now) (AnyCatch.Conflictor k.now))) }
+{
+    let Some((s2, r2)) = merged_effects(alloc, &j.effect, &k.effect)? else {
+        return Ok(None);
+    };
+    let in_conflict = conflict_before(j, k)?;
+    let moved = both_behind(&r2, s2, k)?;
+    if !in_conflict {
+        return Ok(Some(Catch::Conflictor(moved)));
+    }
+    let identity = seen_behind(&moved.effect, &j.identity)?;
+    let joined = joined(moved, &identity)?;
+    Ok(Some(Catch::Conflictor(joined)))
+}

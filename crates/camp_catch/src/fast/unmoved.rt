@@ -1,0 +1,96 @@
+//! Catches that change places, or merge, as they are.
+ghost use Rattle.std.specs.Prelude.{◌≡◌, IfOk, IsTrue};
+ghost use Rattle.camp_ctx.specs.Adding.{Adds, PassesBy};
+ghost use Rattle.camp_seq.specs.NormalOrder.{Norm};
+ghost use Rattle.camp_seq.specs.Passing.{Passes};
+ghost use Rattle.camp_catch.specs.Commuting.{CommuteCatch, ConflictorPastPlain, PlainPastConflictor};
+ghost use Rattle.camp_catch.specs.Conflictors.{Becomes};
+ghost use Rattle.camp_catch.specs.Merging.{MergeCatch, MergePlainConflictor};
+ghost use Rattle.camp_catch.specs.declared.catches.Catch.{Catch as AnyCatch};
+ghost use Rattle.camp_catch.specs.declared.catches.Catch.TheVariants.{Plain};
+
+use crate::merging::conflicts_with;
+use crate::values::inverse;
+use crate::{Catch, Conflictor};
+use camp_prim::{Named, stay};
+use camp_seq::{is_own_order, stays_past};
+use std::alloc::{AllocError, Global};
+
+/// Whether two catches, one after the other, change places as they are. Where it says no, they may
+/// still do.
+pub(crate) fn commute_as_they_are(j: &Catch, k: &Catch) -> Result<bool, AllocError>
+    ensures { IfOk result (λ yes. IsTrue yes → CommuteCatch j.now k.now k.now j.now) }
+{
+    match (j, k) {
+        (Catch::Plain(a), Catch::Plain(b)) => Ok(stay(a, b)),
+        (Catch::Plain(a), Catch::Conflictor(k)) => Ok(passes_as_it_is(a, k)),
+        (Catch::Conflictor(j), Catch::Plain(b)) => comes_before_as_it_is(j, b),
+        _ => Ok(false),
+    }
+}
+
+/// `[a] (s, Y, l) <-> (s, Y, l) [a]`
+fn passes_as_it_is(a: &Named, k: &Conflictor) -> bool
+    ensures { IsTrue result → PlainPastConflictor a.now k.now (AnyCatch.Conflictor k.now) (Plain a.now) }
+{
+    match k.conflicts.get(&a.label().key()) {
+        Some(_) => false,
+        None => stays_behind(a, k),
+    }
+}
+
+/// `(r, X, i) [b] <-> [b] (r, X, i)`
+fn comes_before_as_it_is(j: &Conflictor, b: &Named) -> Result<bool, AllocError>
+    ensures { IfOk result (λ yes. IsTrue yes → ConflictorPastPlain j.now b.now (Plain b.now) (AnyCatch.Conflictor j.now)) }
+{
+    let back = inverse(b)?;
+    Ok(stays_behind(&back, j))
+}
+
+/// Whether two catches of one state stand behind one another as they are. Where it says no, they may
+/// still do.
+pub(crate) fn merge_as_they_are(alloc: Global, j: &Catch, k: &Catch) -> Result<bool, AllocError>
+    ensures { IfOk result (λ yes. IsTrue yes → MergeCatch j.now k.now k.now j.now) }
+{
+    match (j, k) {
+        (Catch::Plain(a), Catch::Plain(b)) => {
+            let back = inverse(a)?;
+            Ok(stay(&back, b))
+        }
+        (Catch::Plain(a), Catch::Conflictor(k)) => stand_aside(alloc, a, k),
+        (Catch::Conflictor(j), Catch::Plain(b)) => stand_aside(alloc, b, j),
+        _ => Ok(false),
+    }
+}
+
+/// `[a] | (s, Y, l) -> (s, Y, l) | [a]`
+fn stand_aside(alloc: Global, a: &Named, k: &Conflictor) -> Result<bool, AllocError>
+    ensures { IfOk result (λ yes. IsTrue yes → MergePlainConflictor a.now k.now (AnyCatch.Conflictor k.now) (Plain a.now)) }
+{
+    let back = inverse(a)?;
+    if !stays_behind(&back, k) {
+        return Ok(false);
+    }
+    let in_conflict = conflicts_with(alloc, a, k)?;
+    Ok(!in_conflict)
+}
+
+/// Whether a conflictor is as it was where `a` passes its effect, is added to its conflicts, and is added to
+/// its identity or passes by it.
+fn stays_behind(a: &Named, k: &Conflictor) -> bool
+    ensures passes { IsTrue result → Passes a.now k.now.effect k.now.effect a.now }
+    ensures becomes { IsTrue result → Becomes (Norm k.now.effect) (Adds a.now) (Adds a.now) k.now k.now }
+    ensures passed { IsTrue result → Becomes (Norm k.now.effect) (Adds a.now) (PassesBy a.now) k.now k.now }
+{
+    let effect = k.effect.items();
+    if !stays_past(a, effect) {
+        return false;
+    }
+    if !is_own_order(effect) {
+        return false;
+    }
+    if !k.identity.stays_behind(a) {
+        return false;
+    }
+    k.conflicts.stays_behind(a)
+}

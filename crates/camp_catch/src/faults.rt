@@ -1,0 +1,27 @@
+ghost use Rattle.std.specs.Prelude.{◌≡◌};
+ghost use Rattle.camp_catch.specs.declared.faults.Unmade.TheVariants as unmade;
+
+use std::alloc::{AllocError, AllocFailed};
+
+/// Why something was not made: this stands in its way, or memory ran out.
+#[derive(Clone, Copy, Debug)]
+pub enum Unmade<W> {
+    Blocked(W),
+    Memory,
+}
+
+impl<W> From<AllocError> for Unmade<W> {
+    ghost from_gives = { λ _ why. why ≡ unmade.Memory };
+
+    fn from(_error: AllocError) -> Unmade<W> {
+        Unmade::Memory
+    }
+}
+
+impl<W, T: Drop> From<AllocFailed<T>> for Unmade<W> {
+    ghost from_gives = { λ _ why. why ≡ unmade.Memory };
+
+    fn from(_error: AllocFailed<T>) -> Unmade<W> {
+        Unmade::Memory
+    }
+}
