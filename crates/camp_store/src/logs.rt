@@ -68,6 +68,13 @@ impl<D: Disk> Log<D> {
         &self.disk
     }
 
+    pub fn into_disk(self) -> D
+        ensures { result ≡ disk_of self }
+    {
+        let Log { disk, .. } = self;
+        disk
+    }
+
     /// Adds texts, all at once. At `Ok` they are acknowledged: from then on each crash leaves a file that has
     /// them. Where memory runs out or a text is too long nothing has changed; after another `Err` nothing more is
     /// kept here, and the file has to be opened again.

@@ -1,0 +1,5 @@
+pub mod Committing
+mod Listing
+mod Opening
+mod Recalling
+mod Refusing

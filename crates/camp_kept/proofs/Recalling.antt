@@ -1,0 +1,212 @@
+-- Calls by their texts, and what a file tells of them.
+use Rattle.std.proofs.Common.{◌≡◌, inl, inr, ◌≤◌, Bool, true, false, cond, List, [], ◌∷◌, ◌++◌, length, map, refl, sym, ◌∙◌, ap, subst, arith, append-nil, append_assoc, Result, Ok, Err, count_by, IsSome, IfOk, IfErr, IfSome, Option, None, Some, ◌≢◌, ◌+◌, ℕ, take, drop, Vec, Global, option_to_list}
+use Rattle.std.specs.List.{AllByRecursion}
+use Rattle.std.proofs.lemmas.List.{map-append}
+use Rattle.std.proofs.lemmas.List.Concat.{flat_map-cons}
+use Rattle.camp_call.specs.Calls.{is_writing}
+use Rattle.camp_call.specs.declared.calls.Call.{Call}
+use Rattle.camp_kept.specs.Accepting.{AreAccepted, alone}
+use Rattle.camp_kept.specs.Keeping.{AreTexts, Tells, call_texts, title}
+use Rattle.camp_kept.specs.Replaying.{AreAsked, AreRecalled, AsksAgain, AsksCall, IsOnly}
+use Rattle.camp_object.specs.Histories.{IsAccepted, IsFront, IsLegal}
+use Rattle.camp_object.proofs.Replays.{legal_front, replay_more}
+use Rattle.camp_repo.specs.Objects.{repository}
+use Rattle.camp_repo.specs.States.{Contents}
+use Rattle.camp_script.specs.Canonical.{IsScriptCall, call_text, script_text, section_text}
+use Rattle.camp_script.specs.Keeping.{calls_of}
+use Rattle.camp_script.specs.Reading.{script_of}
+use Rattle.camp_script.specs.declared.faults.LineFault.{LineFault}
+use Rattle.camp_script.proofs.CanonicalCalls.{reads_back}
+use Rattle.camp_script.proofs.Writable.{read_is_writable}
+use Rattle.camp_store.specs.Blocks.{Stands}
+use Rattle.camp_store.specs.Logs.{texts_of}
+use Rattle.camp_store.proofs.BlockLemmas.{stands_once}
+use Rattle.std.proofs.lemmas.List.{take-append-drop}
+use Rattle.std.proofs.lemmas.Option.{same_Some}
+
+at_most_one : (b : Bool) → cond {A = ℕ} b 1 0 ≤ 1
+at_most_one true = omega arith
+at_most_one false = omega arith
+
+few_writes : (c : Call) → count_by is_writing (c ∷ []) ≤ 65_536
+few_writes c = let one = at_most_one (is_writing c) in omega arith
+
+-- the text of a call that a script can ask is a script of this call
+pub text_reads : (c : Call) → IsScriptCall c → script_of (call_text c) ≡ Ok ((c ∷ []) ∷ [])
+text_reads c can =
+    let e : script_text ((c ∷ []) ∷ []) ≡ call_text c =
+    append-nil (section_text (c ∷ [])) ∙ flat_map-cons call_text c [] ∙ append-nil (call_text c) in
+    ap script_of (sym e)
+    ∙ reads_back ((c ∷ []) ∷ []) (record {
+      calls = ((can, tt), tt);
+      limits = record { has_opening = omega arith; sections_within = omega arith; writes_within = (few_writes c, tt) };
+    })
+
+abbrev first_call : Call → Result (List (List Call)) LineFault → Call
+first_call c (Ok []) = c
+first_call c (Ok ([] ∷ sections)) = c
+first_call c (Ok ((x ∷ calls) ∷ sections)) = x
+first_call c (Err fault) = c
+
+-- no two such calls have one text
+pub one_call : (c d : Call) → IsScriptCall c → IsScriptCall d → call_text c ≡ call_text d → c ≡ d
+one_call c d can could same = ap (first_call c) (sym (text_reads c can) ∙ ap script_of same ∙ text_reads d could)
+
+abbrev first_text : List (List ℕ) → List ℕ
+first_text [] = []
+first_text (text ∷ texts) = text
+
+abbrev other_texts : List (List ℕ) → List (List ℕ)
+other_texts [] = []
+other_texts (text ∷ texts) = texts
+
+pub no_texts : {A : Type 0} (x : A) (xs : List A) → x ∷ xs ≡ [] → ⊥
+no_texts x xs e = absurd (omega (arith, ap length e))
+
+-- a call that stands behind others, by its text
+pub record Behind (done calls : List Call) (text : List ℕ) : Type 0 where
+  pub call : Call
+  pub more : List Call
+  pub is : calls ≡ done ++ call ∷ more
+  pub can : IsScriptCall call
+  pub text_is : call_text call ≡ text
+
+pub stands_behind : (done calls : List Call) (text : List ℕ) (rest : List (List ℕ)) → AllByRecursion IsScriptCall done → AllByRecursion IsScriptCall calls
+    → call_texts calls ≡ call_texts done ++ text ∷ rest → Behind done calls text
+stands_behind [] [] text rest can could e = absurd (no_texts text rest (sym e))
+stands_behind [] (c ∷ calls) text rest can could e = record { call = c; more = calls; is = refl; can = could.0; text_is = ap first_text e }
+stands_behind (d ∷ done) [] text rest can could e = absurd (no_texts (call_text d) (call_texts done ++ text ∷ rest) (sym e))
+stands_behind (d ∷ done) (c ∷ calls) text rest can could e =
+    let same : c ≡ d = one_call c d could.0 can.0 (ap first_text e) in
+    let behind = stands_behind done calls text rest can.1 could.1 (ap other_texts e) in
+    record {
+      call = behind.call;
+      more = behind.more;
+      is = ap (λ (l : List Call). c ∷ l) behind.is ∙ ap (λ (x : Call). x ∷ (done ++ behind.call ∷ behind.more)) same;
+      can = behind.can;
+      text_is = behind.text_is;
+    }
+
+-- accepted calls that have the texts of others, and one more: the call of that one is accepted behind the others
+pub accepted_behind : (done calls : List Call) (text : List ℕ) (rest : List (List ℕ)) → AllByRecursion IsScriptCall done → AreAccepted calls
+    → call_texts calls ≡ call_texts done ++ text ∷ rest → (call : Call) × IsScriptCall call × (call_text call ≡ text) × IsAccepted repository (alone done) call
+accepted_behind done calls text rest can accepted e =
+    let behind = stands_behind done calls text rest can accepted.can e in
+    let c = behind.call in
+    let makes : (alone done ++ (0, c) ∷ []) ++ alone behind.more ≡ alone calls =
+    append_assoc (alone done) ((0, c) ∷ []) (alone behind.more)
+    ∙ sym (map-append (λ (call : Call). (0, call)) done (c ∷ behind.more))
+    ∙ ap alone (sym behind.is) in
+    let front : IsFront (alone done ++ (0, c) ∷ []) (alone calls) = record { rest = alone behind.more; makes = makes } in
+    let legal : IsLegal repository (alone done ++ (0, c) ∷ []) = legal_front repository front accepted.legal in
+    (c, behind.can, behind.text_is, subst (λ (o : Option Contents). IsSome o) (replay_more repository (alone done) (0, c)) legal)
+
+-- calls that a file tells which has a title
+pub told_texts : (texts : List (List ℕ)) (calls : List Call) (file : List ℕ) → Stands (title ∷ texts) file → Tells calls file → call_texts calls ≡ texts
+told_texts texts calls file stands told = from told.are where
+  same : title ∷ texts ≡ told.texts
+  same = stands_once (title ∷ texts) told.texts file stands told.stands
+
+  from : AreTexts told.texts calls → call_texts calls ≡ texts
+  from (inl are) = sym (ap other_texts (same ∙ are))
+  from (inr none) = absurd (no_texts title texts (same ∙ none.0))
+
+-- a file that stands for texts of which the first is no title has none
+pub no_title : (text : List ℕ) (texts others : List (List ℕ)) (file : List ℕ) → Stands (text ∷ texts) file → Stands (title ∷ others) file → text ≡ title
+no_title text texts others file stands titled = ap first_text (stands_once (text ∷ texts) (title ∷ others) file stands titled)
+
+-- calls without their seat
+pub calls_alone : (calls : List Call) → calls_of (alone calls) ≡ calls
+calls_alone [] = refl
+calls_alone (c ∷ calls) = ap (λ (l : List Call). c ∷ l) (calls_alone calls)
+
+pub alone-push : (calls : List Call) (c : Call) → alone calls ++ (0, c) ∷ [] ≡ alone (calls ++ c ∷ [])
+alone-push calls c = sym (map-append (λ (call : Call). (0, call)) calls (c ∷ []))
+
+pub all_push : {A : Type 0} (P : A → Type 0) (xs : List A) (x : A) → AllByRecursion P xs → P x → AllByRecursion P (xs ++ x ∷ [])
+all_push P [] x all one = (one, tt)
+all_push P (y ∷ xs) x all one = (all.0, all_push P xs x all.1 one)
+
+pub last_holds : {A : Type 0} (P : A → Type 0) (xs : List A) (x : A) → AllByRecursion P (xs ++ x ∷ []) → P x
+last_holds P [] x all = all.0
+last_holds P (y ∷ xs) x all = last_holds P xs x all.1
+
+pub nothing : {A : Type 0} (xs : List A) → length xs ≡ 0 → xs ≡ []
+nothing [] e = refl
+nothing (x ∷ xs) e = absurd (omega (arith, e))
+
+pub if_ok : {T E : Type 0} (P Q : T → Type 0) (r : Result T E) → ((t : T) → P t → Q t) → IfOk r P → IfOk r Q
+if_ok P Q (Ok t) f p = f t p
+if_ok P Q (Err e) f p = p
+
+pub if_err : {T E : Type 0} (P Q : E → Type 0) (r : Result T E) → ((e : E) → P e → Q e) → IfErr r P → IfErr r Q
+if_err P Q (Ok t) f p = p
+if_err P Q (Err e) f p = f e p
+
+abbrev sections_in : Result (List (List Call)) LineFault → List (List Call)
+sections_in (Ok sections) = sections
+sections_in (Err fault) = []
+
+-- what a script reads of the text of a call that a script can ask
+read_alone : (text : List ℕ) (sections : List (List Call)) (call : Call) → script_of text ≡ Ok sections → IsScriptCall call → call_text call ≡ text → sections ≡ (call ∷ []) ∷ []
+read_alone text sections call reads can is = ap sections_in (sym reads ∙ ap script_of (sym is) ∙ text_reads call can)
+
+no_call : (call : Call) → None ≡ Some call → ⊥
+no_call call e = cc
+
+pub is_only : (text : List ℕ) (sections : List (List Call)) (found : Option Call) → script_of text ≡ Ok sections
+    → ((call : Call) → sections ≡ (call ∷ []) ∷ [] → found ≡ Some call) → IfSome found (λ call. AllByRecursion (AllByRecursion IsScriptCall) sections → IsScriptCall call)
+    → IsOnly text found
+is_only text sections None reads alone stand = λ call can is. no_call call (alone call (read_alone text sections call reads can is))
+is_only text sections (Some call) reads alone stand = (
+  stand (read_is_writable text sections reads).calls,
+  λ other can is. same_Some call other (alone other (read_alone text sections other reads can is)),
+)
+
+pub is_none : (text : List ℕ) → ((sections : List (List Call)) → script_of text ≢ Ok sections) → IsOnly text None
+is_none text none = λ call can is. none ((call ∷ []) ∷ []) (ap script_of (sym is) ∙ text_reads call can)
+
+-- a call that was found by its text is asked
+pub asks_again : (before after : List (ℕ × Call)) (text : List ℕ) (call : Call) (yes : Bool) → (call_text call ≡ text) × IsScriptCall call → AsksCall before call yes after → AsksAgain before text yes after
+asks_again before after text call true found asks = (call, found.1, found.0, asks)
+asks_again before after text call false found asks = λ other can is. subst (λ (c : Call). IsAccepted repository before c → ⊥) (one_call call other found.1 can (found.0 ∙ sym is)) asks
+
+-- one call more is asked
+pub asked_more : (texts : List (List ℕ)) (text : List ℕ) (before after : List (ℕ × Call)) → AreAsked texts before → AsksAgain before text true after → AreAsked (texts ++ text ∷ []) after
+asked_more texts text before after asked (call, can, text_is, grows) = record {
+  calls = asked.calls ++ call ∷ [];
+  is = grows ∙ ap (λ (h : List (ℕ × Call)). h ++ (0, call) ∷ []) asked.is ∙ alone-push asked.calls call;
+  can = all_push IsScriptCall asked.calls call asked.can can;
+  texts_are = ap (λ (l : List (List ℕ)). l ++ text ∷ []) asked.texts_are
+      ∙ ap (λ (t : List ℕ). call_texts asked.calls ++ t ∷ []) (sym text_is)
+      ∙ sym (map-append call_text asked.calls (call ∷ []));
+}
+
+-- what was asked, behind a title
+pub recalled : (texts : List (List ℕ)) (history : List (ℕ × Call)) → AreAsked texts history → AreRecalled (title ∷ texts) history
+recalled texts history asked =
+    let calls : calls_of history ≡ asked.calls = ap (λ (h : List (ℕ × Call)). calls_of h) asked.is ∙ calls_alone asked.calls in
+    record {
+      are = inl (ap (λ (l : List (List ℕ)). title ∷ l) (asked.texts_are ∙ ap call_texts (sym calls)));
+      can = subst (λ (l : List Call). AllByRecursion IsScriptCall l) (sym calls) asked.can;
+    }
+
+-- the texts of a list around one of its texts
+pub around : (vs : List (Vec ℕ Global)) (i : ℕ) (v : Vec ℕ Global) → take (i + 1) vs ≡ take i vs ++ v ∷ [] → texts_of vs ≡ texts_of (take i vs) ++ v.items ∷ texts_of (drop (i + 1) vs)
+around vs i v next =
+    ap texts_of (sym (take-append-drop (i + 1) vs) ∙ ap (λ (l : List (Vec ℕ Global)). l ++ drop (i + 1) vs) next ∙ append_assoc (take i vs) (v ∷ []) (drop (i + 1) vs))
+    ∙ map-append (λ (t : Vec ℕ Global). t.items) (take i vs) (v ∷ drop (i + 1) vs)
+
+abbrev items_of : List (Vec Call Global) → List (List Call)
+items_of sections = map (λ section. section.items) sections
+
+-- the last call of the last section
+pub popped : (sections rest : List (Vec Call Global)) (last : Vec Call Global) (others : List Call) (found : Option Call) → sections ≡ rest ++ last ∷ [] → last.items ≡ others ++ option_to_list found
+    → IfSome found (λ call. AllByRecursion (AllByRecursion IsScriptCall) (items_of sections) → IsScriptCall call)
+popped sections rest last others None splits ends = tt
+popped sections rest last others (Some call) splits ends = λ can.
+    let all : AllByRecursion IsScriptCall last.items =
+    last_holds (AllByRecursion IsScriptCall) (items_of rest) last.items (
+    subst (λ (l : List (List Call)). AllByRecursion (AllByRecursion IsScriptCall) l) (ap items_of splits ∙ map-append (λ (section : Vec Call Global). section.items) rest (last ∷ [])) can
+    ) in
+    last_holds IsScriptCall others call (subst (λ (l : List Call). AllByRecursion IsScriptCall l) ends all)

@@ -1,0 +1,20 @@
+use Rattle.std.proofs.Common.{◌∙◌, length, ap}
+use Rattle.camp_kept.proofs.Committing.{counted}
+use Rattle.camp_kept.proofs.Refusing.{refused_at_once}
+use Rattle.camp_script.specs.Keeping.{calls_of}
+use Rattle.camp_store.specs.Logs.{texts_of}
+use Rattle.camp_kept.proofs.inspections.inspect.Goals as goal
+
+pub returns-in_err-reading-clause-refused : goal.returns-in_err-reading-clause-refused
+returns-in_err-reading-clause-refused c =
+    refused_at_once c.from_residual.result c.in_err-reading.field-0.0 c.args.bytes.now c.from_residual.ensures.1 c.in_err-reading.ensures.damaged
+
+pub returns-clause-told : goal.returns-clause-told
+returns-clause-told c = record {
+  calls = calls_of c.in_ok-book.book;
+  texts = texts_of c.in_ok-reading.reading.texts.items;
+  are = c.in_ok-book.ensures.recalled.are;
+  count_is = ap length c.history.ensures.value ∙ counted c.in_ok-book.book;
+  digest_is = c.in_ok-reading.ensures.reading.digest_is;
+  leaves = c.left_out.ensures c.args.bytes.now c.in_ok-reading.ensures.reading;
+}

@@ -1,0 +1,36 @@
+use Rattle.std.proofs.Common.{rules, ◌≡◌, ◌+◌, ◌∙◌, true, false, [], ◌∷◌, ◌++◌, take, drop, ap, subst, sym}
+use Rattle.std.proofs.lemmas.List.{take_more}
+use Rattle.camp_kept.specs.Keeping.{title}
+use Rattle.camp_kept.specs.Replaying.{AreAsked, AsksAgain}
+use Rattle.camp_kept.proofs.Recalling.{around, asked_more}
+use Rattle.camp_kept.proofs.Refusing.{not_accepted}
+use Rattle.camp_store.specs.Blocks.{Stands}
+use Rattle.camp_store.specs.Logs.{texts_of}
+use Rattle.camp_store.proofs.BlockLemmas.{texts_of-push}
+use Rattle.camp_kept.proofs.replays.ask_all.Goals as goal
+
+pub returns-then-not-branch-clause-refused : goal.returns-then-not-branch-clause-refused
+returns-then-not-branch-clause-refused c file stands calls accepted told =
+    let xs = c.args.texts.now in
+    let i = c.loop-text.text-index in
+    let x = c.text-item.result in
+    let next : take (i + 1) xs ≡ take i xs ++ x ∷ [] = search (rules, take_more) in
+    let no : c.in_ok-ask_again.field-0 ≡ false = search rules in
+    let none : AsksAgain c.loop-text.book x.items false c.ask_again.new.book =
+    subst (λ yes. AsksAgain c.loop-text.book x.items yes c.ask_again.new.book) no
+    (subst (λ t. AsksAgain c.loop-text.book t c.in_ok-ask_again.field-0 c.ask_again.new.book) c.deref.ensures.value c.in_ok-ask_again.ensures) in
+    not_accepted (texts_of (take i xs)) x.items (texts_of (drop (i + 1) xs)) c.loop-text.book c.ask_again.new.book c.loop-text.invariant none 0 0 file
+    (subst (λ ts. Stands (title ∷ ts) file) (around xs i x next) stands) calls accepted told
+
+pub loop-text-preserved : goal.loop-text-preserved
+loop-text-preserved c =
+    let xs = c.args.texts.now in
+    let i = c.loop-text.text-index in
+    let x = c.text-item.result in
+    let next : take (i + 1) xs ≡ take i xs ++ x ∷ [] = search (rules, take_more) in
+    let yes : c.in_ok-ask_again.field-0 ≡ true = search rules in
+    let one : AsksAgain c.loop-text.book x.items true c.ask_again.new.book =
+    subst (λ yes. AsksAgain c.loop-text.book x.items yes c.ask_again.new.book) yes
+    (subst (λ t. AsksAgain c.loop-text.book t c.in_ok-ask_again.field-0 c.ask_again.new.book) c.deref.ensures.value c.in_ok-ask_again.ensures) in
+    subst (λ ts. AreAsked ts c.ask_again.new.book) (sym (ap texts_of next ∙ texts_of-push (take i xs) x))
+    (asked_more (texts_of (take i xs)) x.items c.loop-text.book c.ask_again.new.book c.loop-text.invariant one)

@@ -1,0 +1,30 @@
+-- What stands behind the texts of a file.
+use Rattle.std.specs.Prelude.{◌≡◌, ℕ, ◌+◌, ◌==◌, List, [], ◌∷◌, ◌++◌, length, if◌then◌else◌}
+use Rattle.camp_call.specs.declared.calls.Call.{Call}
+use Rattle.camp_kept.specs.Keeping.{AreTexts}
+use Rattle.camp_kept.specs.declared.inspections.Inspection.{Inspection}
+use Rattle.camp_store.specs.Blocks.{AreBlocks, IsEnd, chain, closed_gate, first_digest}
+
+-- how many bytes of an end count for nothing: those behind a closed gate, or all
+abbrev pub uncounted : List ℕ → ℕ
+uncounted [] = 0
+uncounted (gate ∷ rest) = if gate == closed_gate then length rest else length rest + 1
+
+-- the file is the blocks of these texts and an end, of which so many bytes count for nothing
+pub record LeavesOut (texts : List (List ℕ)) (file : List ℕ) (count : ℕ) : Type 0 where
+  pub front : List ℕ
+  pub end : List ℕ
+  pub split : file ≡ front ++ end
+  pub are : AreBlocks first_digest texts front
+  pub ends : IsEnd end
+  pub count_is : count ≡ uncounted end
+
+-- what is told of a file: how many calls it tells, what the digests of their texts come to, and how many of its bytes
+-- count for nothing
+pub record IsInspection (file : List ℕ) (found : Inspection) : Type 0 where
+  pub calls : List Call
+  pub texts : List (List ℕ)
+  pub are : AreTexts texts calls
+  pub count_is : found.calls ≡ length calls
+  pub digest_is : found.digest ≡ chain first_digest texts
+  pub leaves : LeavesOut texts file found.left_out

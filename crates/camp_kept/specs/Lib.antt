@@ -1,0 +1,5 @@
+pub mod Accepting
+pub mod Endings
+pub mod Faults
+pub mod Keeping
+pub mod Replaying

@@ -1,0 +1,52 @@
+ghost use Rattle.std.specs.Prelude.{◌≡◌};
+ghost use Rattle.camp_kept.specs.Faults.{fault_of};
+ghost use Rattle.camp_kept.specs.declared.faults.KeptFault.TheVariants as fault;
+
+use camp_store::StoreFault;
+use std::alloc::{AllocError, AllocFailed};
+use thiserror::Error;
+
+/// Why a repository is not opened, or its calls are not kept.
+#[derive(Clone, Copy, Debug, Error)]
+pub enum KeptFault {
+    #[error("out of memory")]
+    Memory,
+    /// The file is there, and is no store.
+    #[error("no store of camp")]
+    NoStore,
+    /// At this byte stands the block of no call that is accepted behind those before it; calls count from 1.
+    #[error("damaged at call {call}, byte {at}")]
+    Damaged { call: usize, at: usize },
+    /// What the file came to.
+    #[error("{0}")]
+    Store(StoreFault),
+}
+
+impl From<AllocError> for KeptFault {
+    ghost from_gives = { λ _ result. result ≡ fault.Memory };
+
+    fn from(_error: AllocError) -> KeptFault {
+        KeptFault::Memory
+    }
+}
+
+impl<T: Drop> From<AllocFailed<T>> for KeptFault {
+    ghost from_gives = { λ _ result. result ≡ fault.Memory };
+
+    fn from(_error: AllocFailed<T>) -> KeptFault {
+        KeptFault::Memory
+    }
+}
+
+impl From<StoreFault> for KeptFault {
+    ghost from_gives = { λ why result. result ≡ fault_of why };
+
+    fn from(fault: StoreFault) -> KeptFault {
+        match fault {
+            StoreFault::Memory => KeptFault::Memory,
+            StoreFault::Damaged { texts: 0, .. } => KeptFault::NoStore,
+            StoreFault::Damaged { texts, at } => KeptFault::Damaged { call: texts, at },
+            other => KeptFault::Store(other),
+        }
+    }
+}

@@ -1,0 +1,33 @@
+ghost use Rattle.std.specs.Prelude.{◌≡◌, IfErr, IfOk};
+ghost use Rattle.camp_kept.specs.Endings.{IsInspection};
+ghost use Rattle.camp_kept.specs.Faults.{IsRefusal};
+
+use crate::KeptFault;
+use crate::openings::{left_out, recall};
+use camp_store::{Digest, decode};
+use std::alloc::Global;
+
+/// What the bytes of a file tell.
+#[derive(Clone, Copy, Debug)]
+pub struct Inspection {
+    /// How many calls there are.
+    pub calls: usize,
+    /// What the digests of the texts come to.
+    pub digest: Digest,
+    /// How many bytes at the end count for nothing.
+    pub left_out: usize,
+}
+
+/// Inspects the bytes of a file.
+pub fn inspect(alloc: Global, bytes: &[u8]) -> Result<Inspection, KeptFault>
+    ensures told { IfOk result (λ found. IsInspection bytes.now found) }
+    ensures refused { IfErr result (λ why. IsRefusal why bytes.now) }
+{
+    let reading = decode(alloc, bytes)?;
+    let book = recall(alloc, &reading)?;
+    Ok(Inspection {
+        calls: book.history().len(),
+        digest: reading.digest,
+        left_out: left_out(&reading),
+    })
+}

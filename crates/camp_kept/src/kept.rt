@@ -1,0 +1,100 @@
+//! What is kept.
+ghost use Rattle.std.specs.Prelude.{◌≡◌, ◌⊎◌, ◌-◌, List, length, IfErr, IfOk, IsTrue, OnOk, ℕ};
+ghost use Rattle.camp_call.specs.declared.calls.Call.{Call};
+ghost use Rattle.camp_kept.specs.Faults.{IsRefusal};
+ghost use Rattle.camp_kept.specs.declared.faults.KeptFault.TheVariants as fault;
+ghost use Rattle.camp_kept.specs.Keeping.{IsStoreOf, LeavesTold};
+
+use crate::KeptFault;
+use crate::openings::{begin, left_out, recover};
+use crate::texts::texts_to_keep;
+use camp_repo::{Book, State};
+use camp_store::{Disk, Log, StoreFault};
+use std::alloc::Global;
+
+/// A book whose accepted calls are kept on a disk: all of them after each commit.
+#[derive(Drop)]
+pub struct Kept<D: Disk> {
+    /// The book, which may be asked, and is not to be exchanged for another.
+    pub book: Book<State>,
+    log: Log<D>,
+    count: usize,
+    left_out: usize,
+}
+
+impl<D: Disk> Kept<D> {
+    ghost use Rattle.camp_kept.specs.Endings.{LeavesOut};
+    ghost use Rattle.camp_kept.specs.Keeping.{AreFirst, AreTexts, Holds, calls_in, disk_in, left_out_in};
+
+    /// Opens what a disk keeps, and writes the title of a store where there is none. It may crash too.
+    pub fn open(alloc: Global, mut disk: D) -> Result<Kept<D>, (KeptFault, D)>
+        ensures holds { IfOk result (λ kept. IsTrue (D.Disk.is_clean (disk_in kept)) → Holds D.Disk.seen D.Disk.may_leave (calls_in kept) kept) }
+        ensures told { IfOk result (λ kept. IsTrue (D.Disk.is_clean (disk_in kept)) → (texts : List (List ℕ))
+            × AreTexts texts (calls_in kept) × LeavesOut texts (D.Disk.seen disk) (left_out_in kept)) }
+        ensures refused { IfErr result (λ e. IsTrue (D.Disk.is_clean e.1) → IsRefusal e.0 (D.Disk.seen disk)) }
+        // A crash leaves what was told before.
+        ensures crash { IfOk result (λ kept. (calls : List Call) → LeavesTold D.Disk.seen D.Disk.may_leave calls disk
+            → IsTrue (D.Disk.is_clean (disk_in kept)) → LeavesTold D.Disk.seen D.Disk.may_leave calls (disk_in kept)) }
+        ensures crash_err { IfErr result (λ e. (calls : List Call) → LeavesTold D.Disk.seen D.Disk.may_leave calls disk
+            → IsTrue (D.Disk.is_clean e.1) → LeavesTold D.Disk.seen D.Disk.may_leave calls e.1) }
+    {
+        let (reading, book) = match recover(alloc, &mut disk) {
+            Ok(found) => found,
+            Err(fault) => return Err((fault, disk)),
+        };
+        let log = match Log::open(disk, &reading) {
+            Ok(log) => log,
+            Err((fault, disk)) => return Err((KeptFault::Store(fault), disk)),
+        };
+        match begin(alloc, log, &reading.texts) {
+            Ok(log) => Ok(Kept {
+                count: book.history().len(),
+                left_out: left_out(&reading),
+                book,
+                log,
+            }),
+            Err(failed) => Err(failed),
+        }
+    }
+
+    /// How many bytes at the end of the file counted for nothing when it was opened.
+    pub fn left_out(&self) -> usize
+        ensures { result ≡ left_out_in self.now }
+    {
+        self.left_out
+    }
+
+    /// How many accepted calls are not known to be on the disk.
+    pub fn waiting(&self) -> usize
+        ensures { (calls : List Call) → Holds D.Disk.seen D.Disk.may_leave calls self.now → result ≡ length (calls_in self.now) - length calls }
+    {
+        self.book.history().len().saturating_sub(self.count)
+    }
+
+    /// Keeps all accepted calls of the book. At `Ok` they are on the disk: from then on each crash leaves a file that
+    /// tells them. After an `Err` a crash leaves those from before the call, or all of them.
+    pub fn commit(&mut self, alloc: Global) -> Result<(), KeptFault>
+        ensures acknowledged { (calls : List Call) → AreFirst calls self.old → Holds D.Disk.seen D.Disk.may_leave calls self.old
+            → OnOk result (Holds D.Disk.seen D.Disk.may_leave (calls_in self.old) self.new) }
+        ensures crash { (calls : List Call) → AreFirst calls self.old → Holds D.Disk.seen D.Disk.may_leave calls self.old
+            → (c : List ℕ) → D.Disk.may_leave (disk_in self.new) c → IsStoreOf calls c ⊎ IsStoreOf (calls_in self.old) c }
+        ensures book { self.new.book ≡ self.old.book }
+        // Where memory runs out nothing has changed.
+        ensures memory { IfErr result (λ why. why ≡ fault.Memory → self.new ≡ self.old) }
+        ensures clean { D.Disk.is_clean (disk_in self.new) ≡ D.Disk.is_clean (disk_in self.old) }
+    {
+        let history = self.book.history();
+        let count = history.len();
+        if count < self.count {
+            return Err(KeptFault::Store(StoreFault::Failed));
+        }
+        let texts = texts_to_keep(alloc, &history[self.count..])?;
+        match self.log.put(alloc, &texts) {
+            Ok(()) => {
+                self.count = count;
+                Ok(())
+            }
+            Err(fault) => Err(fault.into()),
+        }
+    }
+}

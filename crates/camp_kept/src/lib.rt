@@ -1,0 +1,18 @@
+//! The repository whose accepted calls are kept in a file.
+#![tactic(auto)]
+
+mod faults;
+mod inspections;
+mod kept;
+mod openings;
+mod replays;
+mod texts;
+
+pub use camp_repo::{Book, State};
+pub use camp_store::Disk;
+pub use faults::KeptFault;
+pub use inspections::{Inspection, inspect};
+pub use kept::Kept;
+
+/// The most bytes of a file that has no title yet: more than a store has that is being made.
+const MAX_UNBEGUN: usize = 64;

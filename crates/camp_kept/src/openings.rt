@@ -1,0 +1,108 @@
+//! What is done when a store is opened.
+ghost use Rattle.std.specs.Prelude.{◌≡◌, [], List, ℕ, IfErr, IfOk, IsTrue};
+ghost use Rattle.camp_call.specs.declared.calls.Call.{Call};
+ghost use Rattle.camp_kept.specs.Endings.{LeavesOut};
+ghost use Rattle.camp_kept.specs.Faults.{IsRefusal};
+ghost use Rattle.camp_kept.specs.Keeping.{AreTexts, Tells, store_texts};
+ghost use Rattle.camp_kept.specs.declared.faults.KeptFault.TheVariants as fault;
+ghost use Rattle.camp_kept.specs.Replaying.{AreRecalled};
+ghost use Rattle.camp_store.specs.Logs.{KeepsTexts, disk_of, texts_of};
+ghost use Rattle.camp_store.specs.Readings.{IsReading};
+ghost use Rattle.sqlite_disk.specs.Disk.{Only};
+
+use crate::replays::replay;
+use crate::texts::TITLE;
+use crate::{KeptFault, MAX_UNBEGUN};
+use camp_repo::{Book, State};
+use camp_store::{Disk, Log, Reading, read};
+use std::alloc::Global;
+
+/// Reads what a disk keeps, and asks the calls again.
+pub(crate) fn recover<D: Disk>(
+    alloc: Global,
+    disk: &mut D,
+) -> Result<(Reading, Book<State>), KeptFault>
+    ensures reading { IfOk result (λ r. IsTrue (D.Disk.is_clean disk.new) → IsReading (D.Disk.seen disk.old) r.0) }
+    ensures recalled { IfOk result (λ r. AreRecalled (texts_of r.0.texts.items) r.1) }
+    ensures refused { IfErr result (λ why. IsTrue (D.Disk.is_clean disk.new) → IsRefusal why (D.Disk.seen disk.old)) }
+    ensures seen { D.Disk.seen disk.new ≡ D.Disk.seen disk.old }
+    ensures crash { (c : List ℕ) → D.Disk.may_leave disk.new c → D.Disk.may_leave disk.old c }
+    ensures settled { IfOk result (λ r. Only (D.Disk.seen disk.new) (D.Disk.may_leave disk.new)) }
+    ensures clean { IsTrue (D.Disk.is_clean disk.new) → IsTrue (D.Disk.is_clean disk.old) }
+{
+    let reading = read(alloc, disk)?;
+    let book = recall(alloc, &reading)?;
+    Ok((reading, book))
+}
+
+/// Asks the calls again whose texts were read.
+pub(crate) fn recall(alloc: Global, reading: &Reading) -> Result<Book<State>, KeptFault>
+    ensures recalled { IfOk result (AreRecalled (texts_of reading.now.texts.items)) }
+    ensures refused { IfErr result (λ why. (file : List ℕ) → IsReading file reading.now → IsRefusal why file) }
+{
+    let book = replay(alloc, &reading.texts)?;
+    if reading.texts.is_empty() && reading.behind > MAX_UNBEGUN {
+        return Err(KeptFault::NoStore);
+    }
+    Ok(book)
+}
+
+/// How many bytes of a file count for nothing.
+pub(crate) fn left_out(reading: &Reading) -> usize
+    ensures { (file : List ℕ) → IsReading file reading.now → LeavesOut (texts_of reading.now.texts.items) file result }
+{
+    if reading.is_closed && reading.behind > 0 {
+        reading.behind - 1
+    } else {
+        reading.behind
+    }
+}
+
+/// Puts the title, where no text was read.
+pub(crate) fn begin<D: Disk>(
+    alloc: Global,
+    log: Log<D>,
+    texts: &[Vec<u8>],
+) -> Result<Log<D>, (KeptFault, D)>
+    ensures keeps { IfOk result (λ new. (calls : List Call) → AreTexts (texts_of texts.now) calls
+        → KeepsTexts D.Disk.seen D.Disk.may_leave (texts_of texts.now) log
+        → KeepsTexts D.Disk.seen D.Disk.may_leave (store_texts calls) new) }
+    ensures crash { IfErr result (λ e. (calls : List Call) → AreTexts (texts_of texts.now) calls
+        → KeepsTexts D.Disk.seen D.Disk.may_leave (texts_of texts.now) log
+        → (c : List ℕ) → D.Disk.may_leave e.1 c → Tells calls c) }
+    ensures clean { IfOk result (λ new. D.Disk.is_clean (disk_of new) ≡ D.Disk.is_clean (disk_of log)) }
+    ensures clean_err { IfErr result (λ e. D.Disk.is_clean e.1 ≡ D.Disk.is_clean (disk_of log)) }
+    ensures unrefused { IfErr result (λ e. (file : List ℕ) → IsRefusal e.0 file) }
+{
+    if !texts.is_empty() {
+        return Ok(log);
+    }
+    put_title(alloc, log)
+}
+
+fn put_title<D: Disk>(alloc: Global, mut log: Log<D>) -> Result<Log<D>, (KeptFault, D)>
+    ensures keeps { IfOk result (λ new. KeepsTexts D.Disk.seen D.Disk.may_leave [] log
+        → KeepsTexts D.Disk.seen D.Disk.may_leave (store_texts []) new) }
+    ensures crash { IfErr result (λ e. KeepsTexts D.Disk.seen D.Disk.may_leave [] log
+        → (c : List ℕ) → D.Disk.may_leave e.1 c → Tells [] c) }
+    ensures clean { IfOk result (λ new. D.Disk.is_clean (disk_of new) ≡ D.Disk.is_clean (disk_of log)) }
+    ensures clean_err { IfErr result (λ e. D.Disk.is_clean e.1 ≡ D.Disk.is_clean (disk_of log)) }
+    ensures unrefused { IfErr result (λ e. (file : List ℕ) → IsRefusal e.0 file) }
+{
+    match title_texts(alloc) {
+        Ok(texts) => match log.put(alloc, &texts) {
+            Ok(()) => Ok(log),
+            Err(fault) => Err((fault.into(), log.into_disk())),
+        },
+        Err(fault) => Err((fault, log.into_disk())),
+    }
+}
+
+fn title_texts(alloc: Global) -> Result<Vec<Vec<u8>>, KeptFault>
+    ensures title { IfOk result (λ texts. texts_of texts.items ≡ store_texts []) }
+    ensures memory { IfErr result (λ why. why ≡ fault.Memory) }
+{
+    let mut texts = Vec::new(alloc);
+    texts.push(TITLE.to_vec(alloc)?)?;
+    Ok(texts)
+}

@@ -1,0 +1,77 @@
+//! A book that is made of the texts of its calls.
+ghost use Rattle.std.specs.Prelude.{◌≡◌, ◌↔◌, ◌∷◌, List, ℕ, IfErr, IfOk, IsTrue};
+ghost use Rattle.camp_kept.specs.Faults.{IsRefusal};
+ghost use Rattle.camp_kept.specs.Keeping.{title};
+ghost use Rattle.camp_kept.specs.Replaying.{AreAsked, AreRecalled, AsksAgain, AsksCall};
+ghost use Rattle.camp_store.specs.Blocks.{Stands};
+ghost use Rattle.camp_store.specs.Logs.{texts_of};
+
+use crate::KeptFault;
+use crate::texts::{TITLE, call_of};
+use camp_repo::{Book, Call, Object, State};
+use std::alloc::{AllocError, Global};
+
+/// How many bytes stand before the text of a block: its gate and its head.
+const BEFORE_TEXT: usize = 27;
+
+/// The book of the calls whose texts these are, behind the title.
+pub(crate) fn replay(alloc: Global, texts: &[Vec<u8>]) -> Result<Book<State>, KeptFault>
+    ensures recalled { IfOk result (AreRecalled (texts_of texts.now)) }
+    ensures refused { IfErr result (λ why. (file : List ℕ) → Stands (texts_of texts.now) file → IsRefusal why file) }
+{
+    let Some((first, others)) = texts.split_first() else {
+        return Ok(Book::new(alloc)?);
+    };
+    if !is_title(first) {
+        return Err(KeptFault::NoStore);
+    }
+    ask_all(alloc, others)
+}
+
+fn is_title(text: &[u8]) -> bool
+    ensures { IsTrue result ↔ (text.now ≡ title) }
+{
+    text == TITLE
+}
+
+// Asks the calls whose texts these are.
+fn ask_all(alloc: Global, texts: &[Vec<u8>]) -> Result<Book<State>, KeptFault>
+    ensures texts { IfOk result (AreAsked (texts_of texts.now)) }
+    ensures refused { IfErr result (λ why. (file : List ℕ) → Stands (title ∷ texts_of texts.now) file → IsRefusal why file) }
+{
+    let mut book = Book::new(alloc)?;
+    let mut at = BEFORE_TEXT + TITLE.len();
+    for text in texts {
+        if !ask_again(alloc, &mut book, text)? {
+            return Err(KeptFault::Damaged {
+                call: book.history().len().saturating_add(1),
+                at,
+            });
+        }
+        at = at.saturating_add(BEFORE_TEXT).saturating_add(text.len());
+    }
+    Ok(book)
+}
+
+// Asks the call whose text this is. Whether it was accepted.
+fn ask_again(alloc: Global, book: &mut Book<State>, text: &[u8]) -> Result<bool, AllocError>
+    ensures { IfOk result (λ yes. AsksAgain book.old text.now yes book.new) }
+{
+    match call_of(alloc, text)? {
+        Some(call) => accept(book, &call),
+        None => Ok(false),
+    }
+}
+
+// Asks a call. Whether it was accepted.
+fn accept(book: &mut Book<State>, call: &Call) -> Result<bool, AllocError>
+    ensures { IfOk result (λ yes. AsksCall book.old call.now yes book.new) }
+{
+    match book.ask(0, call) {
+        Ok(reply) => match State::done_at(&reply) {
+            Some(_) => Ok(true),
+            None => Ok(false),
+        },
+        Err(_) => Err(AllocError),
+    }
+}
