@@ -1,5 +1,5 @@
 -- The calls of a kept history, asked again of a new repository.
-use Rattle.std.proofs.Common.{◌≡◌, ℕ, ◌+◌, ◌≤◌, Bool, true, false, List, [], ◌∷◌, ◌++◌, length, map, Option, None, Some, Ok, bytes_eq}
+use Rattle.std.proofs.Common.{◌≡◌, ℕ, ◌+◌, ◌≤◌, Bool, true, false, List, [], ◌∷◌, ◌++◌, length, map, subst, Option, None, Some, Ok, bytes_eq}
 use Rattle.camp_run.proofs.Words.{refl, sym, ◌∙◌, ap, arith, AllByRecursion, Next, Answer, is_writing, Call, repository_is_lawful, next_of, replies_to, reply_of, repository, state_behind, accepted_from, booked}
 use Rattle.std.specs.Option.{option_and_then, option_map_or}
 use Rattle.std.proofs.lemmas.List.{append-nil, length-map}
@@ -14,6 +14,7 @@ use Rattle.camp_call.specs.declared.replies.Refusal.TheVariants.{NoBranch, SameB
 use Rattle.camp_repo.specs.States.{Contents, catches_of, initial}
 use Rattle.camp_repo.specs.Steps.{Decision, refused, refused_if, step}
 use Rattle.camp_run.specs.Keeping.{KeptLeadsBack, SeatZeroStays, at_seat_0, dones}
+use Rattle.camp_run.specs.Serial.{IsSerial}
 use Rattle.camp_script.specs.Canonical.{IsScriptCall, CanBeWritten}
 use Rattle.camp_script.specs.Keeping.{CanStand, ListsNames, calls_of}
 use Rattle.camp_script.proofs.CanonicalCalls.{reads_back}
@@ -127,7 +128,15 @@ kept_leads_back history state replays stand few =
       leads = run_at_seat_0 history (Some initial) ∙ replays;
     }
 
+as_it_was : (history : List (ℕ × Call)) → AllByRecursion (λ entry. entry.0 ≡ 0) history → at_seat_0 history ≡ history
+as_it_was [] all = refl
+as_it_was (entry ∷ history) all =
+    ap (λ n. (n, entry.1) ∷ at_seat_0 history) (sym all.0) ∙ ap (λ h. entry ∷ h) (as_it_was history all.1)
+
 pub seat_zero_stays : SeatZeroStays
-seat_zero_stays [] all = refl
-seat_zero_stays (entry ∷ history) all =
-    ap (λ n. (n, entry.1) ∷ at_seat_0 history) (sym all.0) ∙ ap (λ h. entry ∷ h) (seat_zero_stays history all.1)
+seat_zero_stays history state replays stand within all =
+    let back = kept_leads_back history state replays stand within in
+    record {
+      reads = back.reads;
+      comes = subst (λ h. IsSerial (calls_of history ∷ []) (dones 1 (calls_of history) ∷ []) h) (as_it_was history all) back.comes;
+    }

@@ -34,6 +34,13 @@ abbrev pub KeptLeadsBack : Type 0
 KeptLeadsBack = (history : List (ℕ × Call)) (state : Contents) → replay repository history ≡ Some state
     → AllByRecursion CanStand (calls_of history) → length history ≤ most_writing_calls → LeadsBack history state
 
--- a history whose calls are all at seat 0 comes back as it was
+-- the text of a history is a script, and a new repository that is asked its calls comes to just this history
+pub record ComesBack (history : List (ℕ × Call)) : Type 0 where
+  pub reads : script_of (kept_text history) ≡ Ok (calls_of history ∷ [])
+  pub comes : IsSerial (calls_of history ∷ []) (dones 1 (calls_of history) ∷ []) history
+
+-- so it is where the calls of such a history are all at seat 0
 abbrev pub SeatZeroStays : Type 0
-SeatZeroStays = (history : List (ℕ × Call)) → AllByRecursion (λ entry. entry.0 ≡ 0) history → at_seat_0 history ≡ history
+SeatZeroStays = (history : List (ℕ × Call)) (state : Contents) → replay repository history ≡ Some state
+    → AllByRecursion CanStand (calls_of history) → length history ≤ most_writing_calls
+    → AllByRecursion (λ entry. entry.0 ≡ 0) history → ComesBack history

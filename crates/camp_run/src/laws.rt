@@ -26,7 +26,8 @@ pub fn kept_text_leads_back()
     ensures law { KeptLeadsBack }
 {}
 
-/// A history whose calls are all at seat 0, as that of a book at one seat, comes back as it was.
+/// Where the calls of such a history are all at seat 0, as those of a book at one seat, its text is read as
+/// these calls, each is accepted, and they come to the history itself.
 pub fn seat_zero_stays()
     ensures law { SeatZeroStays }
 {}

@@ -4,6 +4,8 @@ use Rattle.std.specs.FinMap.{get, insert}
 use Rattle.camp_base.specs.declared.faults.Apply.{Apply}
 use Rattle.camp_base.specs.declared.faults.Apply.TheVariants.{DoesNotApply, Memory}
 use Rattle.camp_prim.specs.Applied.{AppliedIsApplies, InverseLeadsBack}
+use Rattle.camp_prim.specs.Effect.{inverted}
+use Rattle.camp_prim.specs.Laws.{SameEffect}
 use Rattle.camp_prim.specs.declared.named.Named.{Named}
 use Rattle.camp_prim.specs.declared.primitives.Primitive.TheVariants.{Add, Remove}
 use Rattle.camp_seq.specs.Laws as lists
@@ -28,6 +30,13 @@ taken_away is back path old between new (Ok done) adds removes =
 taken_away is back path old between new (Err DoesNotApply) adds (none, kept) =
     absurd (none old ((back (Add path) old between).0 adds))
 taken_away is back path old between new (Err Memory) adds kept = (tt, λ e. cc)
+
+-- without the first of two that change places, the other one stands alone
+pub taken_out : AppliedIsApplies → InverseLeadsBack → (p q alone last : Named) → SameEffect p q alone last → (old now new : Files) → Applies (inverted last.prim) now new → Leads p.prim q.prim old now → Applies alone.prim old new
+taken_out is back p q alone last same old now new undone leads =
+    let other = (same old now).0 leads in
+    let again = (back last.prim other.between now).0 other.second in
+    subst (λ tree. Applies alone.prim old tree) (applies_once is (inverted last.prim) now other.between new again undone) other.first
 
 -- a file that cannot be added is there
 there : (path : List ℕ) (old : Files) (o : Option Lines) → ((new : Files) → ¬ (Adds path old new)) → get old path ≡ o → IsSome o

@@ -185,6 +185,7 @@ module _ (state : Contents) (from to : List ℕ) (names needed : List (List ℕ)
         from_has = found.has;
         needed = needed;
         needs = needs_these;
+        pulls = pulls;
         new = ours ++ pulls.taken;
         becomes = pulls.becomes;
         has_names = λ n among. has_needed n (come n among);

@@ -1,7 +1,10 @@
 -- What the answers of a head say to callers.
-use Rattle.camp_uses.proofs.Words.{◌≡◌, ℕ, List, Option, None, Some, Result, Ok, Err, refl, subst, Files, LeadsTo, Catch, Call, Reply, Done, Refused, Tree, Conflicts, Names, Caller, Says, IsAnswered, own, Fault, Memory, Busy, Full, Next, Answer, Has, HistoriesTellTrees, repository, Contents, catches_of, Decision, step}
+use Rattle.camp_uses.proofs.Words.{◌≡◌, ℕ, false, true, List, Option, None, Some, MatchOption, Result, Ok, Err, refl, subst, Files, LeadsTo, Catch, Call, Reply, Done, Refused, Tree, Conflicts, Names, Caller, Says, IsAnswered, IsLegal, own, Fault, Memory, Busy, Full, Next, Answer, Has, HistoriesTellTrees, repository, Contents, catches_of, Decision, step}
 use Rattle.camp_call.specs.declared.calls.Call.TheVariants as call
-use Rattle.camp_uses.specs.Shared.{Grows, HoldsTree}
+use Rattle.camp_object.specs.Asking.{Accepts}
+use Rattle.camp_object.proofs.Asks.{accepted_before, accepted_writes}
+use Rattle.camp_repo.specs.ObjectLaws.{repository_is_lawful}
+use Rattle.camp_uses.specs.Shared.{Grows, HoldsTree, LacksBranch, tree_in}
 
 -- the calls of a caller, by what it was answered
 pub grows : (caller : Caller) (seen now : List (ℕ × Call)) (asked : Call) (answer : Result Reply Fault) → Says repository caller seen asked answer now → Grows (own caller.seat seen) asked answer (own caller.seat now)
@@ -36,3 +39,48 @@ holds law history branch tree answered =
       has = there.1;
       leads = subst (LeadsTo there.0) (same_tree told.0 tree _ told.3 answered.gives) told.1;
     }
+
+-- the question for a tree is never accepted
+never_done : (caller : Caller) (seen now : List (ℕ × Call)) (branch : List ℕ) (at : ℕ) → IsLegal repository now → ¬ (Accepts caller seen (call.Tree branch) at now)
+never_done caller seen now branch at legal accepts =
+    let writes : false ≡ true = accepted_writes repository repository_is_lawful accepts.before (call.Tree branch) (accepted_before repository caller seen (call.Tree branch) at now accepts legal) in
+    cc
+
+-- no call of its caller is new, whatever is answered
+pub asks_alone : (caller : Caller) (seen now : List (ℕ × Call)) (branch : List ℕ) (answer : Result Reply Fault) → IsLegal repository now → Says repository caller seen (call.Tree branch) answer now → own caller.seat now ≡ own caller.seat seen
+asks_alone caller seen now branch (Ok (Done at)) legal says =
+    absurd (never_done caller seen now branch at legal says)
+asks_alone caller seen now branch (Ok (Refused refusal)) legal says = says.0.own_stays
+asks_alone caller seen now branch (Ok (Tree tree)) legal says = says.0.own_stays
+asks_alone caller seen now branch (Ok (Conflicts conflicts)) legal says = says.0.own_stays
+asks_alone caller seen now branch (Ok (Names names)) legal says = says.0.own_stays
+asks_alone caller seen now branch (Err Memory) legal says = says.own_stays
+asks_alone caller seen now branch (Err (Busy lost)) legal says = says.adds_nothing.own_stays
+asks_alone caller seen now branch (Err Full) legal says = says.adds_nothing.own_stays
+
+-- one state gives one answer
+same_answer : (one other : Reply) (comes : Decision) → comes ≡ Answer one → comes ≡ Answer other → one ≡ other
+same_answer one other (Next next) first second = cc
+same_answer one other (Answer answer) first second = cc
+
+-- where the answer tells no tree, there is no branch
+module _ (law : HistoriesTellTrees) (history : List (ℕ × Call)) (branch : List ℕ) (answer : Reply) (none : tree_in answer ≡ None) (answered : IsAnswered repository history (call.Tree branch) answer) where
+  lacks_by : (found : Option (List Catch)) → catches_of answered.state.branches branch ≡ found → LacksBranch history branch
+  lacks_by None is = record { state = answered.state; replays = answered.replays; lacks = is }
+  lacks_by (Some catches) is =
+      let told = law history answered.state branch catches answered.replays is in
+      let same = same_answer answer (Tree told.0) _ answered.gives told.3 in
+      let some : Some told.0 ≡ None = subst (λ reply. tree_in reply ≡ None) same none in
+      cc
+
+  lacks_branch : LacksBranch history branch
+  lacks_branch = lacks_by (catches_of answered.state.branches branch) refl
+
+-- the tree that is told is that of the branch, and where none is told there is no branch
+pub found : HistoriesTellTrees → (caller : Caller) (seen now : List (ℕ × Call)) (branch : List ℕ) (answer : Reply) → IsLegal repository now → Says repository caller seen (call.Tree branch) (Ok answer) now → MatchOption (tree_in answer) (LacksBranch now branch) (HoldsTree now branch)
+found law caller seen now branch (Done at) legal says = absurd (never_done caller seen now branch at legal says)
+found law caller seen now branch (Tree tree) legal says = holds law now branch tree says.1
+found law caller seen now branch (Refused refusal) legal says = lacks_branch law now branch (Refused refusal) refl says.1
+found law caller seen now branch (Conflicts conflicts) legal says =
+    lacks_branch law now branch (Conflicts conflicts) refl says.1
+found law caller seen now branch (Names names) legal says = lacks_branch law now branch (Names names) refl says.1

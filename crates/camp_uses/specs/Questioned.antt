@@ -12,7 +12,7 @@ use Rattle.camp_call.specs.declared.replies.Refusal.TheVariants.{NothingToDo, To
 use Rattle.camp_call.specs.declared.replies.Refusal.TheVariants.{Diverged, NoMerge, SameBranch}
 use Rattle.camp_call.specs.declared.replies.Reply.{Reply}
 use Rattle.camp_call.specs.declared.replies.Reply.TheVariants as reply
-use Rattle.camp_repo.specs.Laws.{Has}
+use Rattle.camp_repo.specs.Laws.{Has, Pulls}
 use Rattle.camp_repo.specs.States.{Contents, catches_of}
 use Rattle.camp_questions.specs.Answers.{AnswerOf, OfBranch, OfPatches}
 use Rattle.camp_questions.specs.Dependencies.{HeldBy, Needs}
@@ -28,12 +28,14 @@ IsRefusal told = (refusal : Refusal) × (told ≡ reply.Refused refusal)
 abbrev pub HasThem : List Catch → List (List ℕ) → Type 0
 HasThem catches names = (name : List ℕ) → is_among names name ≡ true → has_patch catches name ≡ true
 
--- in the next state a branch has the patches of some names, and all that these need in another branch
+-- just the patches of some names, and what these need in another branch, were pulled: the branch has its own patches, and
+-- then those of them that it lacked, and so all of them
 pub record PullsWithNeeds (state : Contents) (from to : List ℕ) (names : List (List ℕ)) (next : Contents) : Type 0 where
   pub theirs : List Catch
   pub from_has : Has state from theirs
   pub needed : List (List ℕ)
   pub needs : Needs theirs names needed
+  pub pulls : Pulls from to (Some needed) state next
   pub new : List Catch
   pub becomes : Has next to new
   pub has_names : HasThem new names

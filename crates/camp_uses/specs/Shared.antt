@@ -1,5 +1,5 @@
 -- What callers at the seats of one head conclude.
-use Rattle.std.specs.Prelude.{◌≡◌, ℕ, List, [], ◌∷◌, ◌++◌, Some, Result, Ok, Err}
+use Rattle.std.specs.Prelude.{◌≡◌, ℕ, List, [], ◌∷◌, ◌++◌, Option, None, Some, Result, Ok, Err}
 use Rattle.camp_base.specs.Trees.{Files}
 use Rattle.camp_catch.specs.declared.catches.Catch.{Catch}
 use Rattle.camp_branch.specs.Branches.{LeadsTo}
@@ -10,7 +10,7 @@ use Rattle.camp_object.specs.Histories.{replay}
 use Rattle.camp_object.specs.declared.faults.Fault.{Fault}
 use Rattle.camp_repo.specs.Laws.{Has}
 use Rattle.camp_repo.specs.Objects.{repository}
-use Rattle.camp_repo.specs.States.{Contents}
+use Rattle.camp_repo.specs.States.{Contents, catches_of}
 
 -- after a history a branch has this tree: the effects of its catches, in their order, applied to no files
 pub record HoldsTree (history : List (ℕ × Call)) (branch : List ℕ) (tree : Files) : Type 0 where
@@ -19,6 +19,20 @@ pub record HoldsTree (history : List (ℕ × Call)) (branch : List ℕ) (tree : 
   pub catches : List Catch
   pub has : Has state branch catches
   pub leads : LeadsTo catches tree
+
+-- after a history there is no branch of this name
+pub record LacksBranch (history : List (ℕ × Call)) (branch : List ℕ) : Type 0 where
+  pub state : Contents
+  pub replays : replay repository history ≡ Some state
+  pub lacks : catches_of state.branches branch ≡ None
+
+-- the tree that a reply tells, if it tells one
+abbrev pub tree_in : Reply → Option Files
+tree_in (Tree tree) = Some tree
+tree_in (Done at) = None
+tree_in (Refused refusal) = None
+tree_in (Conflicts conflicts) = None
+tree_in (Names names) = None
 
 -- a caller's calls: one more where it was told a number, and else as before
 abbrev pub Grows : List Call → Call → Result Reply Fault → List Call → Type 0

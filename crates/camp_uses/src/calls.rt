@@ -24,8 +24,9 @@ pub fn record(branch: Name, name: Name, prims: Vec<Primitive>) -> Option<Call>
     })
 }
 
-/// A copy of a call, and whether it asks the same: it does.
+/// A copy of a call, which is the same call, and whether it asks the same: it does.
 pub fn copied(call: &Call) -> Result<(Call, bool), AllocError>
+    ensures copy { IfOk result (λ both. both.0 ≡ call.now) }
     ensures same { IfOk result (λ both. both.1 ≡ true) }
 {
     let copy = call.try_clone()?;

@@ -1,9 +1,12 @@
 //! The callers that stand in the READMEs of the crates, in their words.
+ghost use Rattle.std.specs.Prelude.{IfOk, IfSome};
+ghost use Rattle.camp_base.specs.Trees.{Files};
+ghost use Rattle.camp_prim.specs.Effect.{Applies, Leads};
 
 use camp_base::{Apply, Line, Path, Tree};
 use camp_ctx::{Contexted, CtxSet, conflict};
 use camp_notation::{NotationError, list_text, read_list};
-use camp_prim::{Named, commute};
+use camp_prim::{Named, applied_is_applies, commute, inverse_leads_back};
 use camp_seq::{Seq, apply_all, clean_merge, norm};
 use camp_share::{Share, Shared, SharedList, SharedMap};
 use std::alloc::{AllocError, Global};
@@ -31,7 +34,12 @@ pub fn one_line(alloc: Global, path: &Path, line: &Line) -> Result<Tree, Apply> 
 
 /// Takes `p` out of a tree that `p` and then `q` made, and leaves what `q` did, where it can stand
 /// without `p`; `camp_prim`.
-pub fn take_out(tree: &mut Tree, p: &Named, q: &Named) -> Result<Option<Named>, Apply> {
+pub fn take_out(tree: &mut Tree, p: &Named, q: &Named) -> Result<Option<Named>, Apply>
+    ensures left { IfOk result (λ found. IfSome found (λ alone. (old : Files) →
+        Leads p.now.prim q.now.prim old tree.old → Applies alone.prim old tree.new)) }
+{
+    applied_is_applies();
+    inverse_leads_back();
     let Some((alone, last)) = commute(p, q)? else {
         return Ok(None);
     };

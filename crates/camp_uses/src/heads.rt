@@ -1,9 +1,9 @@
 //! Callers of `camp_head`: one repository, at several seats.
-ghost use Rattle.std.specs.Prelude.{IfOk, IfSome, OnOk};
+ghost use Rattle.std.specs.Prelude.{◌≡◌, IfOk, MatchOption, OnOk};
 ghost use Rattle.camp_object.specs.Histories.{IsFront, own};
 ghost use Rattle.camp_history.specs.Kept.{IsKeptBy};
 ghost use Rattle.camp_history.specs.Seats.{IsSeatOf, history_of, number_of};
-ghost use Rattle.camp_uses.specs.Shared.{Grows, HoldsTree};
+ghost use Rattle.camp_uses.specs.Shared.{Grows, HoldsTree, LacksBranch, tree_in};
 
 use camp_base::{Name, Tree};
 use camp_head::{Fault, Head, Kept, Seat};
@@ -20,8 +20,9 @@ pub struct Met {
     pub met: Result<(), Fault>,
 }
 
-/// Asks for the tree of a branch. What is answered is the effects of the branch's catches, applied to no
-/// files, at the end of the one history that the seat has seen by then.
+/// Asks for the tree of a branch: none where there is no such branch, and else the effects of the branch's
+/// catches, applied to no files. Both are so at the end of the one history that the seat has seen by then,
+/// which has no new call of this seat, whatever is answered.
 pub fn tree_at(
     rt: &impl Wait,
     head: &Head,
@@ -31,13 +32,24 @@ pub fn tree_at(
     requires { IsSeatOf head.now seat.old }
     ensures seat { IsSeatOf head.now seat.new }
     ensures grows { IsFront (history_of seat.old) (history_of seat.new) }
-    ensures tree { IfOk result (λ found. IfSome found (HoldsTree (history_of seat.new) branch.now)) }
+    ensures own { own (number_of seat.old) (history_of seat.new) ≡ own (number_of seat.old) (history_of seat.old) }
+    ensures tree { IfOk result (λ found. MatchOption found
+        (LacksBranch (history_of seat.new) branch.now)
+        (HoldsTree (history_of seat.new) branch.now)) }
 {
     histories_tell_trees();
     let kept = head.keep(rt, &Call::Tree(*branch))?;
-    match head.ask(seat, kept)? {
-        Reply::Tree(tree) => Ok(Some(tree)),
-        _ => Ok(None),
+    let reply = head.ask(seat, kept)?;
+    Ok(tree_in(reply))
+}
+
+/// The tree that a reply tells.
+fn tree_in(reply: Reply) -> Option<Tree>
+    ensures exact { result ≡ tree_in reply }
+{
+    match reply {
+        Reply::Tree(tree) => Some(tree),
+        _ => None,
     }
 }
 

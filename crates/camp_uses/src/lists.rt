@@ -1,6 +1,7 @@
 //! Callers of `camp_seq`.
 ghost use Rattle.std.specs.Prelude.{◌≡◌, OnOk, IfOk, IfSome};
 ghost use Rattle.camp_seq.specs.Equivalence.{◌~◌};
+ghost use Rattle.camp_seq.specs.NormalOrder.{Norm};
 ghost use Rattle.camp_seq.specs.Room.{HasRoom};
 ghost use Rattle.camp_seq.specs.Running.{AppliesAll};
 
@@ -28,6 +29,7 @@ pub fn do_and_undo(list: &Seq, tree: &mut Tree) -> Result<(), Apply>
 pub fn in_order_either_way(s: &Seq, t: &Seq) -> Result<(Seq, Seq), AllocError>
     requires room { HasRoom s.now }
     requires equivalent { s.now ~ t.now }
+    ensures order { IfOk result (λ both. Norm s.now both.0 × Norm t.now both.1) }
     ensures same { IfOk result (λ both. both.0 ≡ both.1) }
 {
     results_of_lists_are_determined();
