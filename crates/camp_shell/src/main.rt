@@ -1,19 +1,22 @@
 //! `camp_shell`: loads the files that `--load` names, then reads commands from standard input, and answers
-//! each on standard output as soon as its last line is read. The exit status is 0 at the end of the input, 1
-//! where a command of a file was answered by a fault or a refusal, 2 where the command line is refused, and
+//! each on standard output as soon as its last line is read; with `--export` it writes a branch for git instead.
+//! The exit status is 0 at the end of the input, 1 where a command of a file was answered by a fault or a
+//! refusal, or the branch can't be written for git, 2 where the command line is refused, and
 //! 3 where memory ran out, or input or output failed; standard error says why.
 #![tactic(auto)]
 
 mod stops;
 mod words;
 
+use camp_base::Name;
+use camp_git::export;
 use camp_options::{WordsFault, command_line};
 use camp_talk::{Book, State, TalkFault, load, talk};
 use std::fs::{self, File};
 use std::io::{BufReader, Read};
 use std::process::ExitCode;
 use stops::Stop;
-use words::files_to_load;
+use words::wish_of;
 
 fn main(rt: HostRuntime) -> ExitCode {
     match command_line(&rt) {
@@ -33,14 +36,32 @@ fn exit_code(rt: &HostRuntime, ended: Result<(), Stop<'_>>) -> ExitCode {
 // Loads the files that the words of a command line name into a new repository, and then holds a conversation
 // over it.
 fn hold<'a>(rt: &HostRuntime, words: &'a [String]) -> Result<(), Stop<'a>> {
-    let files = files_to_load(rt.alloc(), words).map_err(WordsFault::from)?;
+    let wish = wish_of(rt.alloc(), words).map_err(WordsFault::from)?;
     let mut book = Book::new(rt.alloc())?;
-    for file in files.iter() {
+    for file in wish.files.iter() {
         load_file(rt, &mut book, file)?;
+    }
+    if let Some(branch) = wish.export {
+        return export_branch(rt, &book, branch);
     }
     let mut reader = buffered(rt, rt.stdin())?;
     talk(rt.alloc(), &mut book, &mut reader, &mut rt.stdout())?;
     Ok(())
+}
+
+// Writes a branch for git.
+fn export_branch<'a>(
+    rt: &HostRuntime,
+    book: &Book<State>,
+    branch: &'a str,
+) -> Result<(), Stop<'a>> {
+    let Ok(name) = Name::new(branch.as_bytes()) else {
+        return Err(Stop::NoName(branch));
+    };
+    match export(rt.alloc(), book.state(), &name, &mut rt.stdout()) {
+        Ok(()) => Ok(()),
+        Err(fault) => Err(Stop::Export(fault)),
+    }
 }
 
 fn load_file<'a>(rt: &HostRuntime, book: &mut Book<State>, file: &'a str) -> Result<(), Stop<'a>> {

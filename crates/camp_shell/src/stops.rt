@@ -1,3 +1,4 @@
+use camp_git::Unexported;
 use camp_options::{WordsFault, tell_fault};
 use camp_talk::{LoadFault, TalkFault};
 use std::alloc::AllocError;
@@ -14,6 +15,10 @@ pub(crate) enum Stop<'a> {
     Load(&'a str, LoadFault),
     /// The conversation could not go on.
     Talk(TalkFault),
+    /// No branch can have this name.
+    NoName(&'a str),
+    /// A branch was not written for git.
+    Export(Unexported),
 }
 
 const PROGRAM: &str = "camp_shell";
@@ -35,7 +40,18 @@ impl Stop<'_> {
                 )
             }
             Stop::Talk(fault) => tell_fault(rt, PROGRAM, fault, fault.status()),
+            Stop::NoName(branch) => {
+                tell_fault(rt, PROGRAM, &format_args!("refused 4 {branch}"), 1)
+            }
+            Stop::Export(fault) => tell_fault(rt, PROGRAM, fault, export_status(fault)),
         }
+    }
+}
+
+fn export_status(fault: &Unexported) -> u8 {
+    match fault {
+        Unexported::NoBranch(_) | Unexported::Unheld { .. } => 1,
+        Unexported::Memory | Unexported::Write(_) => 3,
     }
 }
 

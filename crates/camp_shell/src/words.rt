@@ -3,6 +3,15 @@ use clap::{Arg, ArgAction, Command, Error};
 use std::alloc::Global;
 use std::convert::AsStr;
 
+/// What the words of a command line wish for.
+#[derive(Debug, Drop)]
+pub(crate) struct Wish<'a> {
+    /// The files that are loaded first.
+    pub(crate) files: Vec<&'a str>,
+    /// The branch that is written for git, in place of a conversation.
+    pub(crate) export: Option<&'a str>,
+}
+
 const USAGE: &str = "camp_shell [OPTIONS]";
 
 const REFERENCE: &str =
@@ -25,36 +34,44 @@ With --load the commands of these files are asked first, and their answers are n
 them is answered by fault, refused or memory, nothing more is read: standard error says the file, the
 line where the command begins, and the answer.
 
+With --export no commands are read. The branch is written on standard output as git fast-import reads it:
+on refs/heads/BRANCH a commit for each patch, with the files of the branch up to it. What git can't hold
+is refused before anything is written: a file that is also a folder, and a part .git of a path.
+
 Exit status:
   0  the input has ended, whatever was answered
-  1  a command of a file was answered by fault or refused
+  1  a command of a file was answered by fault or refused; with --export, there is no such branch, or git
+     can't hold it
   2  the command line is refused
   3  memory ran out for the lines of a command or for a command of a file, or a file, input or output
      failed; standard error says which
 
-More: camp --help has the commands of scripts and their answers, docs/shell.md a conversation, and
-docs/questions.md the questions.";
+More: camp --help has the commands of scripts and their answers, docs/shell.md a conversation,
+docs/git.md the way to git, and docs/questions.md the questions.";
 
-/// Reads the words of a command line, of which the first is the program's name: the files to load. The fault
-/// is a mistake in the words, a request for the help text, or want of memory; it shows as the text for the
-/// user.
-pub(crate) fn files_to_load<'a, S: AsStr>(
-    alloc: Global,
-    words: &'a [S],
-) -> Result<Vec<&'a str>, Error> {
+/// Reads the words of a command line, of which the first is the program's name. The fault is a mistake in the
+/// words, a request for the help text, or want of memory; it shows as the text for the user.
+pub(crate) fn wish_of<'a, S: AsStr>(alloc: Global, words: &'a [S]) -> Result<Wish<'a>, Error> {
     let load = Arg::new(alloc, "load")
         .long("load")
         .num_args(1..)
         .action(ArgAction::Append)
         .value_name("FILE")
         .help("Load these files of commands first, one after the other");
+    let export = Arg::new(alloc, "export")
+        .long("export")
+        .value_name("BRANCH")
+        .help("Write this branch as a stream for git fast-import, and end");
     let command = Command::new(alloc, "camp_shell")
         .override_usage(USAGE)
         .after_help(REFERENCE)
-        .arg(load)?;
+        .arg(load)?
+        .arg(export)?;
     let matches = command.try_get_matches_from(words)?;
-    match matches.get_strs("load") {
-        Some(files) => Ok(Vec::from_slice(alloc, files)?),
-        None => Ok(Vec::new(alloc)),
-    }
+    let files = match matches.get_strs("load") {
+        Some(files) => Vec::from_slice(alloc, files)?,
+        None => Vec::new(alloc),
+    };
+    let export = matches.get_str("export");
+    Ok(Wish { files, export })
 }
