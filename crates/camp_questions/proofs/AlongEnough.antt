@@ -1,23 +1,21 @@
 -- A pull of what comes along is not refused for want of a patch.
-use Rattle.camp_questions.proofs.Words.{◌≡◌, ◌≢◌, ◌⊎◌, ℕ, Bool, true, false, true≢false, not, cond, ◌&&◌, ◌||◌, List, [], ◌∷◌, ◌++◌, map, filter, Option, None, Some, Ok, Err, bytes_eq, refl, sym, ap, ◌∙◌, inl, inr, subst, Key, Catch, has_patch, is_among, name_of, name_itself, names_of, same_name, among_kept, among_once, Arrange, AreAlike, Answer, Next, Contents, after, catches_of, first_lacked, is_empty, step, with_catches, AreAmong, AreGrown, ComeToFront, StickOn, in_order}
+use Rattle.camp_questions.proofs.Words.{◌≡◌, ◌≢◌, ℕ, Bool, true, false, not, ◌&&◌, List, [], ◌∷◌, ◌++◌, map, filter, Option, None, Some, Ok, Err, bytes_eq, refl, sym, ap, ◌∙◌, inl, inr, subst, Key, Catch, has_patch, is_among, name_of, names_of, same_name, among_kept, among_once, Arrange, AreAlike, Contents, catches_of, first_lacked, is_empty, step, AreAmong, ComeToFront, StickOn}
 use Rattle.std.specs.Prelude.{MatchOption}
 use Rattle.camp_branch.proofs.Names.{filter_image, is_among_is, not_among}
 use Rattle.camp_branch.proofs.Words.{cond-false, cond-true}
 use Rattle.camp_branch.proofs.OutcomesDetermined.{outcomes_are_determined}
 use Rattle.camp_branch.specs.Pulling.{MergesBehind, Outcome, PullGives, WantedNext, common_names}
-use Rattle.camp_branch.specs.declared.faults.Blocked.{Blocked}
 use Rattle.camp_branch.specs.declared.faults.Blocked.TheVariants as blocked
 use Rattle.camp_call.specs.declared.calls.Call.TheVariants as call
-use Rattle.camp_call.specs.declared.replies.Refusal.{Refusal}
-use Rattle.camp_call.specs.declared.replies.Refusal.TheVariants.{Depends, NoBranch, NoPatch, NothingToDo, SameBranch, TooLarge}
+use Rattle.camp_call.specs.declared.replies.Refusal.TheVariants.{Depends, NoBranch, NoPatch, NothingToDo, TooLarge}
 use Rattle.camp_catch.proofs.KeptLabels.{keep_labels}
 use Rattle.camp_catch.proofs.ListResults.{lists_are_unique, lists_succeed_or_stick}
 use Rattle.camp_catch.specs.Laws.{KeysPart, keys_of}
 use Rattle.camp_repo.specs.Outcomes.{pulled}
 use Rattle.camp_repo.specs.Steps.{Decision, becomes, is_full_with, refused, refused_if, wanted}
-use Rattle.camp_questions.proofs.BranchGrowths.{contains_alike, none_lacked, none_lacked_among, to_front}
-use Rattle.camp_questions.proofs.Growths.{all_done, all_own, among_both, in_order_there, same_in_order}
-use Rattle.camp_questions.specs.Along.{AlongOr, AreAlong, ComesAlong, OfTwo}
+use Rattle.camp_questions.proofs.BranchGrowths.{none_lacked, none_lacked_among, to_front}
+use Rattle.camp_questions.proofs.Growths.{all_done, all_own, in_order_there, same_in_order}
+use Rattle.camp_questions.specs.Along.{AlongOr, ComesAlong, OfTwo}
 use Rattle.camp_questions.specs.Answers.{AnswerOf, OfBranch, OfPatches}
 use Rattle.camp_questions.specs.Laws.{AlongIsEnough}
 

@@ -1,5 +1,5 @@
 -- What comes along with patches, and why it may not.
-use Rattle.camp_questions.proofs.Words.{◌≡◌, ◌≢◌, ◌⊎◌, ℕ, List, None, Some, Ok, Err, refl, sym, ap, ◌∙◌, inl, inr, subst, map, name_of, names_in, Catch, Arrange, ArrangeSticks, Contents, catches_of, first_lacked, AreAlike, ComeToFront, StickOn}
+use Rattle.camp_questions.proofs.Words.{◌≡◌, ◌≢◌, ℕ, List, None, Some, Ok, Err, refl, inl, inr, map, name_of, Catch, Arrange, ArrangeSticks, Contents, catches_of, first_lacked, AreAlike, ComeToFront, StickOn}
 use Rattle.camp_branch.specs.Pulling.{common_names}
 use Rattle.camp_catch.proofs.ListResults.{arrange_by_members}
 use Rattle.camp_call.specs.declared.replies.Refusal.TheVariants.{Diverged, NoPatch, SameBranch}

@@ -1,10 +1,12 @@
 -- The laws of annotations.
-use Rattle.camp_questions.proofs.Words.{◌≡◌, ◌≤◌, ℕ, ◌+◌, ◌-◌, ◌==◌, Bool, true, false, ◌||◌, cond, List, [], ◌∷◌, ◌++◌, map, bytes_eq, subst, Option, None, Some, length, take, drop, replicate, refl, sym, ap, ◌∙◌, arith, empty, get, get-empty, get-insert, insert, Edit, key_cmp, key_of, label_of, Key, Named, Primitive, Add, Remove, Hunk, key_total, effect_of, Catch, has_patch, is_among, name_of, name_itself, or_true, Known, behind_all, behind_catches, behind_change, behind_hunk, names_coming, nothing_known, lines_or_none, LinesHaveNames, append_assoc, drop_at, drop-drop, length-append, length-drop, length-take-le, take-append-drop, take_at, All, slice_range, splice, eq_by_cmp, is_eq, eq-eqb, All-append, All-drop, All-nil, All-replicate, All-take, none-some, same_Some, flipped}
+use Rattle.camp_questions.proofs.Words.{◌≡◌, ◌≤◌, ℕ, ◌+◌, ◌-◌, ◌==◌, Bool, true, false, ◌||◌, cond, List, [], ◌∷◌, ◌++◌, map, bytes_eq, subst, Option, None, Some, length, take, drop, replicate, refl, sym, ap, ◌∙◌, arith, empty, get, get-empty, get-insert, insert, Edit, key_cmp, key_of, label_of, Key, Named, Primitive, Add, Remove, Hunk, key_total, effect_of, Catch, has_patch, is_among, name_of, name_itself, or_true, Known, behind_all, behind_catches, behind_change, behind_hunk, names_coming, nothing_known, lines_or_none, LinesHaveNames, append_assoc, drop_at, drop-drop, length-append, length-take-le, take-append-drop, take_at, All, slice_range, splice, eq_by_cmp, is_eq, eq-eqb, All-append, All-drop, All-nil, All-replicate, All-take, none-some, same_Some, flipped}
 use Rattle.std.proofs.lemmas.Cmp.{tied_itself}
-use Rattle.camp_questions.proofs.LineNames.{as_many, catches_count, none_known}
+use Rattle.camp_questions.proofs.LineNames.{catches_count, coming_count, gone_count, none_known}
+use Rattle.camp_questions.specs.Annotations.{own_names}
+use Rattle.camp_questions.specs.CommonLines.{common_end, common_front}
 
-kept_at : (taken : List (List ℕ)) (name : List ℕ) (count : ℕ) → length taken ≡ count → names_coming (Some taken) name count ≡ taken
-kept_at taken name count same = ap (λ b. cond b taken (replicate count name)) (eq-eqb (length taken) count same)
+kept_at : (taken own : List (List ℕ)) (count : ℕ) → length taken ≡ count → names_coming (Some taken) own count ≡ taken
+kept_at taken own count same = ap (λ b. cond b taken own) (eq-eqb (length taken) count same)
 
 -- what was taken away is found under its absolute label
 found : (known : Known) (key : Key) (taken : List (List ℕ)) → get (insert known.taken key taken) key ≡ Some taken
@@ -26,12 +28,12 @@ given_back : (name other : List ℕ) (key : Key) (hunk : Edit) (known : Known) �
 given_back name other key hunk known within =
     let from : ℕ = hunk.line - 1 in
     let to : ℕ = from + length hunk.old in
-    let coming = names_coming (get known.taken key) name (length hunk.new) in
     let gone = slice_range known.names from to in
-    let dropped : length (drop from known.names) ≡ length known.names - from = length-drop from known.names in
-    let many : length gone ≡ length hunk.old = length-take-le (to - from) (drop from known.names) (omega (arith, dropped)) ∙ omega arith in
-    let there : names_coming (get (insert known.taken key gone) key) other (length hunk.old) ≡ gone = ap (λ o. names_coming o other (length hunk.old)) (found known key gone) ∙ kept_at gone other (length hunk.old) many in
-    ap (splice (splice known.names from to coming) from (from + length hunk.new)) there ∙ back known.names coming from to (from + length hunk.new) (omega arith) within (ap (λ n. from + n) (sym (as_many (get known.taken key) name (length hunk.new))))
+    let coming = names_coming (get known.taken key) (own_names gone name hunk) (length hunk.new) in
+    let many : length gone ≡ length hunk.old = gone_count hunk known within in
+    let own = own_names (slice_range (splice known.names from to coming) from (from + length hunk.new)) other (flipped hunk) in
+    let there : names_coming (get (insert known.taken key gone) key) own (length hunk.old) ≡ gone = ap (λ o. names_coming o own (length hunk.old)) (found known key gone) ∙ kept_at gone own (length hunk.old) many in
+    ap (splice (splice known.names from to coming) from (from + length hunk.new)) there ∙ back known.names coming from to (from + length hunk.new) (omega arith) within (ap (λ n. from + n) (sym (coming_count name key hunk known within)))
 
 -- all that is known are names of which something holds
 record Holds (P : List ℕ → Type 0) (known : Known) : Type 0 where
@@ -39,13 +41,22 @@ record Holds (P : List ℕ → Type 0) (known : Known) : Type 0 where
   pub taken : (key : Key) (taken : List (List ℕ)) → get known.taken key ≡ Some taken → All P taken
 
 module _ (P : List ℕ → Type 0) where
-  coming_hold_at : (taken : List (List ℕ)) (name : List ℕ) (count : ℕ) (b : Bool) → P name → All P taken → All P (cond b taken (replicate count name))
-  coming_hold_at taken name count true one all = all
-  coming_hold_at taken name count false one all = All-replicate P count name one
+  own_hold : (gone : List (List ℕ)) (name : List ℕ) (hunk : Edit) → P name → All P gone → All P (own_names gone name hunk)
+  own_hold gone name hunk one all =
+      let front : ℕ = common_front hunk.old hunk.new in
+      let end : ℕ = common_end (drop front hunk.old) (drop front hunk.new) in
+      let between : ℕ = length hunk.new - front - end in
+      All-append P (take front gone ++ replicate between name) (drop (length gone - end) gone)
+      (All-append P (take front gone) (replicate between name) (All-take P front gone all) (All-replicate P between name one))
+      (All-drop P (length gone - end) gone all)
 
-  coming_hold : (taken : Option (List (List ℕ))) (name : List ℕ) (count : ℕ) → P name → ((l : List (List ℕ)) → taken ≡ Some l → All P l) → All P (names_coming taken name count)
-  coming_hold None name count one all = All-replicate P count name one
-  coming_hold (Some taken) name count one all = coming_hold_at taken name count (length taken == count) one (all taken refl)
+  coming_hold_at : (taken own : List (List ℕ)) (b : Bool) → All P own → All P taken → All P (cond b taken own)
+  coming_hold_at taken own true one all = all
+  coming_hold_at taken own false one all = one
+
+  coming_hold : (taken : Option (List (List ℕ))) (own : List (List ℕ)) (count : ℕ) → All P own → ((l : List (List ℕ)) → taken ≡ Some l → All P l) → All P (names_coming taken own count)
+  coming_hold None own count one all = one
+  coming_hold (Some taken) own count one all = coming_hold_at taken own (length taken == count) one (all taken refl)
 
   taken_hold : (b : Bool) (gone taken : List (List ℕ)) (o : Option (List (List ℕ))) → All P gone → ((l : List (List ℕ)) → o ≡ Some l → All P l) → cond b (Some gone) o ≡ Some taken → All P taken
   taken_hold true gone taken o one all e = subst (All P) (same_Some gone taken e) one
@@ -55,12 +66,13 @@ module _ (P : List ℕ → Type 0) where
   hunk_holds name key hunk known one all =
       let from : ℕ = hunk.line - 1 in
       let to : ℕ = from + length hunk.old in
-      let coming = names_coming (get known.taken key) name (length hunk.new) in
       let gone = slice_range known.names from to in
-      let come : All P coming = coming_hold (get known.taken key) name (length hunk.new) one (all.taken key) in
+      let coming = names_coming (get known.taken key) (own_names gone name hunk) (length hunk.new) in
+      let all_gone : All P gone = All-take P (to - from) (drop from known.names) (All-drop P from known.names all.names) in
+      let come : All P coming = coming_hold (get known.taken key) (own_names gone name hunk) (length hunk.new) (own_hold gone name hunk one all_gone) (all.taken key) in
       record {
         names = All-append P (take from known.names) (coming ++ drop to known.names) (All-take P from known.names all.names) (All-append P coming (drop to known.names) come (All-drop P to known.names all.names));
-        taken = λ q taken e. taken_hold (eq_by_cmp key_cmp q key) gone taken (get known.taken q) (All-take P (to - from) (drop from known.names) (All-drop P from known.names all.names)) (all.taken q) (sym (get-insert key_total known.taken key gone q) ∙ e);
+        taken = λ q taken e. taken_hold (eq_by_cmp key_cmp q key) gone taken (get known.taken q) all_gone (all.taken q) (sym (get-insert key_total known.taken key gone q) ∙ e);
       }
 
   hunk_holds_at : (name : List ℕ) (key : Key) (hunk : Edit) (known : Known) (b : Bool) → P name → Holds P known → Holds P (cond b (behind_hunk name key hunk known) known)

@@ -1,16 +1,32 @@
 -- As many names are known on the way as the file has lines.
-use Rattle.camp_questions.proofs.Words.{◌≡◌, ◌≢◌, ◌<◌, ◌≤◌, ℕ, ◌+◌, ◌-◌, ◌==◌, Bool, true, false, true≢false, cond, List, [], ◌∷◌, ◌++◌, Option, None, Some, length, take, drop, get_or, replicate, bytes_eq, refl, sym, ap, ◌∙◌, subst, arith, empty, get, get-empty, splice, nat_cmp, eq_by_cmp, slice_cmp, bytes_eq-Decides, Edit, key_of, label_of, Key, Named, Primitive, Add, Remove, Hunk, Catch, name_of, Known, behind_all, behind_catches, behind_change, behind_hunk, names_coming, names_of_lines, nothing_known, AppliesOn, AreKnownIn, FollowsOn, StandsWithin, lines_or_none, drop_more, length-append, length-drop, length-replicate, length-take-le, eqb-true, Applies, Files, Lines, Splices, FitsAll, effect_of}
+use Rattle.camp_questions.proofs.Words.{◌≡◌, ◌≢◌, ◌<◌, ◌≤◌, ℕ, ◌+◌, ◌-◌, ◌==◌, Bool, true, false, true≢false, cond, List, [], ◌∷◌, ◌++◌, Option, None, Some, length, take, drop, get_or, bytes_eq, refl, sym, ap, ◌∙◌, subst, arith, empty, get, get-empty, slice_range, splice, nat_cmp, eq_by_cmp, slice_cmp, bytes_eq-Decides, Edit, key_of, label_of, Key, Named, Primitive, Add, Remove, Hunk, Catch, name_of, Known, behind_all, behind_catches, behind_change, behind_hunk, names_coming, names_of_lines, nothing_known, AppliesOn, AreKnownIn, FollowsOn, StandsWithin, lines_or_none, drop_more, length-append, length-drop, length-take-le, eqb-true, Applies, Files, Lines, Splices, FitsAll, effect_of}
 use Rattle.camp_prim.proofs.FilesAtPaths.{get-with_file, get-with_file_other, get-with_file_same, same_path, with_file}
 use Rattle.camp_seq.specs.Running.{AppliesAll}
+use Rattle.camp_questions.proofs.CommonSteps.{own_count}
+use Rattle.camp_questions.specs.Annotations.{own_names}
 
-as_many_at : (taken : List (List ℕ)) (name : List ℕ) (count : ℕ) (b : Bool) → (length taken == count) ≡ b → length (cond b taken (replicate count name)) ≡ count
-as_many_at taken name count true e = eqb-true (length taken) count e
-as_many_at taken name count false e = length-replicate count name
+as_many_at : (taken own : List (List ℕ)) (count : ℕ) (b : Bool) → length own ≡ count → (length taken == count) ≡ b → length (cond b taken own) ≡ count
+as_many_at taken own count true long e = eqb-true (length taken) count e
+as_many_at taken own count false long e = long
 
 -- as many names come as lines do
-pub as_many : (taken : Option (List (List ℕ))) (name : List ℕ) (count : ℕ) → length (names_coming taken name count) ≡ count
-as_many None name count = length-replicate count name
-as_many (Some taken) name count = as_many_at taken name count _ refl
+pub as_many : (taken : Option (List (List ℕ))) (own : List (List ℕ)) (count : ℕ) → length own ≡ count → length (names_coming taken own count) ≡ count
+as_many None own count long = long
+as_many (Some taken) own count long = as_many_at taken own count _ long refl
+
+-- as many lines go as a hunk has old ones
+pub gone_count : (hunk : Edit) (known : Known) → StandsWithin hunk known → length (slice_range known.names (hunk.line - 1) (hunk.line - 1 + length hunk.old)) ≡ length hunk.old
+gone_count hunk known within =
+    let from : ℕ = hunk.line - 1 in
+    let dropped = length-drop from known.names in
+    length-take-le (from + length hunk.old - from) (drop from known.names) (omega (arith, within, dropped)) ∙ omega arith
+
+-- and as many come as it has new ones
+pub coming_count : (name : List ℕ) (key : Key) (hunk : Edit) (known : Known) → StandsWithin hunk known
+    → length (names_coming (get known.taken key) (own_names (slice_range known.names (hunk.line - 1) (hunk.line - 1 + length hunk.old)) name hunk) (length hunk.new)) ≡ length hunk.new
+coming_count name key hunk known within =
+    let gone = slice_range known.names (hunk.line - 1) (hunk.line - 1 + length hunk.old) in
+    as_many (get known.taken key) (own_names gone name hunk) (length hunk.new) (own_count gone name hunk (gone_count hunk known within))
 
 spliced_count : (names coming : List (List ℕ)) (from to : ℕ) → from ≤ length names → length (splice names from to coming) ≡ from + (length coming + (length names - to))
 spliced_count names coming from to within =
@@ -40,14 +56,14 @@ hunk_counts path name key hunk old new known same w are =
     let found : length known.names ≡ length w.lines = are ∙ ap (λ p. length (lines_or_none (get old p))) (sym same) ∙ ap (λ o. length (lines_or_none o)) w.found in
     let s = w.splices in
     let within = stands_within path hunk old new known same w are in
-    let coming = names_coming (get known.taken key) name (length hunk.new) in
+    let coming = names_coming (get known.taken key) (own_names (slice_range known.names (hunk.line - 1) (hunk.line - 1 + length hunk.old)) name hunk) (length hunk.new) in
     let parts : length w.lines ≡ length s.before + length hunk.old + length s.after = ap length s.was ∙ length-append (s.before ++ hunk.old) s.after ∙ ap (λ n. n + length s.after) (length-append s.before hunk.old) in
     let becomes : length w.changed ≡ length s.before + length hunk.new + length s.after = ap length s.becomes ∙ length-append (s.before ++ hunk.new) s.after ∙ ap (λ n. n + length s.after) (length-append s.before hunk.new) in
     let now : get new path ≡ Some w.changed = ap (λ p. get new p) (sym same) ∙ ap (λ t. get t hunk.path) w.becomes ∙ get-with_file_same old hunk.path (Some w.changed) in
     let from : ℕ = hunk.line - 1 in
     let to : ℕ = from + length hunk.old in
     let starts : from ≤ length known.names = omega (arith, within) in
-    let many : length coming ≡ length hunk.new = as_many (get known.taken key) name (length hunk.new) in
+    let many : length coming ≡ length hunk.new = coming_count name key hunk known within in
     let counted : length (splice known.names from to coming) ≡ from + (length coming + (length known.names - to)) = spliced_count known.names coming from to starts in
     let here : length (splice known.names from to coming) ≡ length w.changed = omega (arith, found, parts, becomes, many, counted, s.at) in
     here ∙ ap (λ o. length (lines_or_none o)) (sym now)

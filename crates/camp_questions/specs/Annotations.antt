@@ -1,5 +1,5 @@
 -- Which patch put each line of a file there.
-use Rattle.std.specs.Prelude.{◌≡◌, ℕ, ◌+◌, ◌-◌, ◌==◌, if◌then◌else◌, List, [], ◌∷◌, length, replicate, bytes_eq, Option, None, Some, Ok}
+use Rattle.std.specs.Prelude.{◌≡◌, ℕ, ◌+◌, ◌-◌, ◌==◌, if◌then◌else◌, List, [], ◌∷◌, ◌++◌, length, take, drop, replicate, bytes_eq, Option, None, Some, Ok}
 use Rattle.std.specs.FinMap.{FinMap, empty, get, insert}
 use Rattle.std.specs.List.{slice_range, splice}
 use Rattle.camp_base.specs.Trees.{Files, Lines}
@@ -14,6 +14,7 @@ use Rattle.camp_catch.specs.declared.catches.Catch.{Catch}
 use Rattle.camp_branch.specs.Branches.{LeadsTo, name_of}
 use Rattle.camp_repo.specs.States.{Contents}
 use Rattle.camp_questions.specs.Answers.{AnswerOf, OfBranch}
+use Rattle.camp_questions.specs.CommonLines.{common_end, common_front}
 use Rattle.camp_questions.specs.declared.annotations.Annotated.{Annotated}
 use Rattle.camp_questions.specs.declared.annotations.Annotated.TheVariants.{File, NoFile}
 
@@ -27,11 +28,19 @@ pub record Known : Type 0 where
 abbrev pub nothing_known : Known
 nothing_known = record { names = []; taken = empty }
 
--- the names of so many lines that come with a hunk: those of the lines that its inverse took away, where these are as
--- many, and else for each the name of the patch
-abbrev pub names_coming : Option (List (List ℕ)) → List ℕ → ℕ → List (List ℕ)
-names_coming None name count = replicate count name
-names_coming (Some taken) name count = if length taken == count then taken else replicate count name
+-- the names that a hunk gives to its new lines: those that stand on both of its sides at their front, and behind that at
+-- their end, keep the names that they had; all others have the name of the patch
+abbrev pub own_names : List (List ℕ) → List ℕ → Edit → List (List ℕ)
+own_names gone name hunk =
+    let front = common_front hunk.old hunk.new in
+    let end = common_end (drop front hunk.old) (drop front hunk.new) in
+    take front gone ++ replicate (length hunk.new - front - end) name ++ drop (length gone - end) gone
+
+-- the names of the lines that come with a hunk: those of the lines that its inverse took away, where these are as many,
+-- and else those that it gives them
+abbrev pub names_coming : Option (List (List ℕ)) → List (List ℕ) → ℕ → List (List ℕ)
+names_coming None own count = own
+names_coming (Some taken) own count = if length taken == count then taken else own
 
 -- what is known behind a hunk of the file: the lines that come have their names in place of those that go, and the
 -- names of these are kept under its absolute label
@@ -39,9 +48,11 @@ abbrev pub behind_hunk : List ℕ → Key → Edit → Known → Known
 behind_hunk name key hunk known =
     let from = hunk.line - 1 in
     let to = from + length hunk.old in
+    let gone = slice_range known.names from to in
     record {
-      names = splice known.names from to (names_coming (get known.taken key) name (length hunk.new));
-      taken = insert known.taken key (slice_range known.names from to);
+      names =
+          splice known.names from to (names_coming (get known.taken key) (own_names gone name hunk) (length hunk.new));
+      taken = insert known.taken key gone;
     }
 
 -- what is known of the file of a path behind a change: no other one than a hunk of this file tells more

@@ -27,3 +27,10 @@ abbrev pub Tells : {A : Type 0} → (AnswerOf A → Type 0) → Result A Unanswe
 Tells ComesTo (Ok answer) = ComesTo (Ok answer)
 Tells ComesTo (Err (Refused refusal)) = ComesTo (Err refusal)
 Tells {A} ComesTo (Err Memory) = (answer : A) × ComesTo (Ok answer)
+
+-- the same of a question whose answer is not made before memory is asked for: want of memory is told only where it is not
+-- refused
+abbrev pub TellsOrWants : {A : Type 0} → (AnswerOf A → Type 0) → Result A Unanswered → Type 0
+TellsOrWants ComesTo (Ok answer) = ComesTo (Ok answer)
+TellsOrWants ComesTo (Err (Refused refusal)) = ComesTo (Err refusal)
+TellsOrWants ComesTo (Err Memory) = (refusal : Refusal) → ¬ (ComesTo (Err refusal))

@@ -1,5 +1,5 @@
 -- Graphs as text, in DOT, the language of Graphviz.
-use Rattle.std.specs.Prelude.{ℕ, List, [], ◌∷◌, ◌++◌, codes}
+use Rattle.std.specs.Prelude.{ℕ, List, ◌++◌, codes}
 use Rattle.std.specs.List.{flat_map}
 use Rattle.camp_questions.specs.Graphs.{Drawn}
 use Rattle.camp_questions.specs.declared.graphs.Node.{Node}

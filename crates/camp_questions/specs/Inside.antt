@@ -4,4 +4,7 @@ pub mod Finding
 pub mod Foresight
 pub mod Graphing
 pub mod Growing
+pub mod OpenPairs
+pub mod Placing
+pub mod Seeing
 pub mod Walking

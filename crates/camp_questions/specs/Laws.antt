@@ -13,7 +13,7 @@ use Rattle.camp_seq.specs.Room.{HasRoom}
 use Rattle.camp_catch.specs.declared.catches.Catch.{Catch}
 use Rattle.camp_catch.specs.declared.catches.Catch.TheVariants.{Plain}
 use Rattle.camp_branch.specs.Branches.{first_lacked, IsLawfulBranch as IsLawfulBranch, LeadsTo, has_patch, is_among, names_of, recorded}
-use Rattle.camp_branch.specs.Laws.{ExactlyOne}
+use Rattle.camp_branch.specs.Laws.{AppliesEach, ExactlyOne}
 use Rattle.camp_call.specs.declared.calls.Call.TheVariants as call
 use Rattle.camp_call.specs.declared.replies.Refusal.TheVariants.{Depends, NoPatch, NothingToDo}
 use Rattle.camp_object.specs.declared.objects.Decided.TheVariants.{Next}
@@ -26,7 +26,8 @@ use Rattle.camp_questions.specs.Annotations.{Known, behind_hunk, names_of_lines}
 use Rattle.camp_questions.specs.Dependencies.{AreHeldIn, ComeToFront, HeldBy, Needs, StickOn}
 use Rattle.camp_questions.specs.Differences.{missing_in}
 use Rattle.camp_questions.specs.Graphs.{Drawn, IsGraph}
-use Rattle.camp_questions.specs.Showing.{patch_in}
+use Rattle.camp_questions.specs.Showing.{changes_in, patch_in}
+use Rattle.camp_questions.specs.Sides.{IsSideIn}
 use Rattle.camp_questions.specs.declared.graphs.Node.{Node}
 
 -- a pull without names that is accepted gives a branch its old names and then those that it was missing; where it is
@@ -143,6 +144,12 @@ NeedsAreReached =
     (branch : List Catch) (graph : Drawn) (name : List ℕ) (needed : List (List ℕ)) → IsLawfulBranch branch →
     IsPlain branch → IsGraph branch graph → has_patch branch name ≡ true → Needs branch (name ∷ []) needed →
     (other : List ℕ) → (is_among needed other ≡ true) ↔ IsReached graph name other
+
+-- the changes of a side apply, one after the other, to the tree that the branch leads to
+abbrev pub SidesApply : Type 0
+SidesApply =
+    (branch : List Catch) (tree : Files) (name : List ℕ) (side : List Named) → LeadsTo branch tree → IsSideIn branch name side →
+    (after : Files) × AppliesEach (changes_in side) tree after
 
 -- a pull of what comes along is refused neither for a patch that is not there nor for one that another stands on
 abbrev pub AlongIsEnough : Type 0

@@ -1,6 +1,7 @@
 pub mod Along
 pub mod Annotations
 pub mod Answers
+pub mod CommonLines
 pub mod Dependencies
 pub mod Differences
 pub mod Files
@@ -9,4 +10,8 @@ pub mod GraphTexts
 pub mod Graphs
 pub mod Inside
 pub mod Laws
+pub mod Marks
+pub mod OpenConflicts
+pub mod Places
 pub mod Showing
+pub mod Sides

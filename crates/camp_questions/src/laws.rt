@@ -1,4 +1,4 @@
-ghost use Rattle.camp_questions.specs.Laws.{AlongIsEnough, ArrowsAreDirectNeeds, HeldCanGo, HeldIsDetermined, LinesHaveNames, MissingIsPulled, NeedsAreDetermined, NeedsAreLeast, NeedsAreReached, NeedsComeFirst, RecordedIsShown};
+ghost use Rattle.camp_questions.specs.Laws.{AlongIsEnough, ArrowsAreDirectNeeds, HeldCanGo, HeldIsDetermined, LinesHaveNames, MissingIsPulled, NeedsAreDetermined, NeedsAreLeast, NeedsAreReached, NeedsComeFirst, RecordedIsShown, SidesApply};
 
 /// A pull without names that is accepted brings what is missing, in this order; where nothing is
 /// missing, it is refused as having nothing to do.
@@ -54,6 +54,11 @@ pub fn arrows_are_direct_needs()
 /// what is reached from it along the arrows.
 pub fn needs_are_reached()
     ensures law { NeedsAreReached }
+{}
+
+/// The changes of a side apply to the tree of the branch, one after the other.
+pub fn sides_apply()
+    ensures law { SidesApply }
 {}
 
 /// A pull of what comes along is refused neither for a patch that is not there nor for one that

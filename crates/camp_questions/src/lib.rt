@@ -3,6 +3,7 @@
 
 mod annotations;
 mod bringing;
+mod common_lines;
 mod contents;
 mod dependencies;
 mod differences;
@@ -12,7 +13,11 @@ mod foresight;
 mod graph_texts;
 mod graphs;
 mod laws;
+mod marking;
+mod open_conflicts;
+mod places;
 mod showing;
+mod sides;
 mod walks;
 
 pub use annotations::{Annotated, annotate};
@@ -27,6 +32,9 @@ pub use graphs::{Node, PatchGraph, graph};
 pub use laws::{
     along_is_enough, arrows_are_direct_needs, held_can_go, held_is_determined, lines_have_names,
     missing_is_pulled, needs_are_determined, needs_are_least, needs_are_reached, needs_come_first,
-    recorded_is_shown,
+    recorded_is_shown, sides_apply,
 };
+pub use marking::{Marked, MarkedFile, Place, Version, marks};
+pub use open_conflicts::open_pairs;
 pub use showing::{Shown, show};
+pub use sides::{Said, side};

@@ -1,11 +1,12 @@
-ghost use Rattle.std.specs.Prelude.{◌≡◌, ℕ, List, IfOk, OnOk};
+ghost use Rattle.std.specs.Prelude.{◌≡◌, ℕ, List, length, IfOk, OnOk};
 ghost use Rattle.std.specs.FinMap.{get, insert};
 ghost use Rattle.camp_base.specs.Trees.{Files};
 ghost use Rattle.camp_prim.specs.Labels.{key_of, label_of};
 ghost use Rattle.camp_branch.specs.Branches.{LeadsTo};
-ghost use Rattle.camp_questions.specs.Annotations.{behind_all, behind_change, behind_hunk, names_coming, names_of_lines, nothing_known};
+ghost use Rattle.camp_questions.specs.Annotations.{behind_all, behind_change, behind_hunk, names_coming, names_of_lines, nothing_known, own_names};
 ghost use Rattle.camp_questions.specs.Inside.Walking.{AppliesOn, FollowsOn, StandsWithin, kept_in, known_in};
 
+use crate::common_lines::{common_end, common_front};
 use camp_base::{Name, Path};
 use camp_catch::Catch;
 use camp_prim::{Hunk, Key, Named, Primitive};
@@ -89,8 +90,9 @@ impl Walk {
         let from = hunk.line() as usize - 1;
         let to = from + hunk.old().len();
         let gone = names.copied(from, to)?;
+        let own = own_names(alloc, &gone, name, hunk)?;
         let before = keep(&mut taken, key, gone)?;
-        let coming = names_coming(alloc, before, name, hunk.new().len())?;
+        let coming = names_coming(before, own, hunk.new().len())?;
         let names = names.spliced(from, to, &coming)?;
         Ok(Walk { names, taken })
     }
@@ -109,17 +111,38 @@ fn keep(
     Ok(before)
 }
 
-// The names of so many lines that come with a primitive of a patch.
+// The names of the lines that come with a hunk: those that its inverse took away, where these are as
+// many, and else its own.
 fn names_coming(
-    alloc: Global,
     taken: Option<SharedList<Name>>,
-    name: &Name,
+    own: Vec<Name>,
     count: usize,
 ) -> Result<Vec<Name>, AllocError>
-    ensures { IfOk result (λ names. names.items ≡ names_coming taken name.now count) }
+    ensures { IfOk result (λ names. names.items ≡ names_coming taken own.items count) }
 {
     match taken {
         Some(taken) if taken.len() == count => taken.to_vec(),
-        _ => vec![in alloc; *name; count],
+        _ => Ok(own),
     }
+}
+
+// The names that a hunk itself gives to its new lines: those that are on both of its sides at their
+// fronts or at their ends keep theirs, and all others have the name of the patch.
+fn own_names(
+    alloc: Global,
+    gone: &SharedList<Name>,
+    name: &Name,
+    hunk: &Hunk,
+) -> Result<Vec<Name>, AllocError>
+    requires { length gone.now ≡ length hunk.now.old }
+    ensures { IfOk result (λ names. names.items ≡ own_names gone.now name.now hunk.now) }
+{
+    let front = common_front(hunk.old(), hunk.new());
+    let end = common_end(&hunk.old()[front..], &hunk.new()[front..]);
+    let mut names = gone.range_to_vec(0, front)?;
+    let between = vec![in alloc; *name; hunk.new().len() - front - end]?;
+    names.extend_from_slice(&between)?;
+    let last = gone.range_to_vec(gone.len() - end, gone.len())?;
+    names.extend_from_slice(&last)?;
+    Ok(names)
 }

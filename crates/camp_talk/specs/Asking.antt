@@ -54,12 +54,15 @@ call_topic word =
     else (if bytes_eq word (codes "names") then Some topic.Names
     else None))))))
 
--- the question about what there is that a word begins
-abbrev pub file_topic : List ℕ → Option Topic
-file_topic word =
-    if bytes_eq word (codes "file") then Some topic.File
+-- the question about conflicts, or about what there is, that a word begins
+abbrev pub conflict_topic : List ℕ → Option Topic
+conflict_topic word =
+    if bytes_eq word (codes "open") then Some topic.Open
+    else (if bytes_eq word (codes "side") then Some topic.Side
+    else (if bytes_eq word (codes "marks") then Some topic.Marks
+    else (if bytes_eq word (codes "file") then Some topic.File
     else (if bytes_eq word (codes "branches") then Some topic.Branches
-    else None)
+    else None))))
 
 -- the question about patches that a word begins
 abbrev pub patch_topic : List ℕ → Option Topic
@@ -71,7 +74,7 @@ patch_topic word =
     else (if bytes_eq word (codes "annotate") then Some topic.Annotate
     else (if bytes_eq word (codes "graph") then Some topic.Graph
     else (if bytes_eq word (codes "along") then Some topic.Along
-    else file_topic word))))))
+    else conflict_topic word))))))
 
 -- any other question that a word begins
 abbrev pub other_topic : List ℕ → Option Topic
@@ -109,11 +112,17 @@ plain_question word words =
     else (if bytes_eq word (codes "help") then (help_line words >>= λ topic. Ok (Some (question.Help topic)))
     else Ok None)))
 
--- one about a file
-abbrev pub file_question : List ℕ → List (List ℕ) → Result (Option Question) LineFault
-file_question word words =
-    if bytes_eq word (codes "file") then (branch_and_path words >>= λ pair. Ok (Some (question.File pair.0 pair.1)))
-    else plain_question word words
+-- one about conflicts, or about a file
+abbrev pub conflict_question : List ℕ → List (List ℕ) → Result (Option Question) LineFault
+conflict_question word words =
+    if bytes_eq word (codes "open") then (branch_alone words >>= λ branch. Ok (Some (question.Open branch)))
+    else (if bytes_eq word (codes "side")
+    then (two_names words >>= λ pair. Ok (Some (question.Side pair.0 pair.1)))
+    else (if bytes_eq word (codes "marks")
+    then (branch_and_path words >>= λ pair. Ok (Some (question.Marks pair.0 pair.1)))
+    else (if bytes_eq word (codes "file")
+    then (branch_and_path words >>= λ pair. Ok (Some (question.File pair.0 pair.1)))
+    else plain_question word words)))
 
 -- one without a list of names
 abbrev pub short_question : List ℕ → List (List ℕ) → Result (Option Question) LineFault
@@ -125,7 +134,7 @@ short_question word words =
     else (if bytes_eq word (codes "annotate")
     then (branch_and_path words >>= λ pair. Ok (Some (question.Annotate pair.0 pair.1)))
     else (if bytes_eq word (codes "graph") then (branch_alone words >>= λ branch. Ok (Some (question.Graph branch)))
-    else file_question word words)))
+    else conflict_question word words)))
 
 -- any but `whatif`
 abbrev pub question_of : List ℕ → List (List ℕ) → Result (Option Question) LineFault

@@ -13,7 +13,7 @@ abbrev pub commands : List Topic
 commands =
     topic.Branch ∷ topic.Record ∷ topic.Pull ∷ topic.Obliterate ∷ topic.Tree ∷ topic.Conflicts ∷ topic.Names
     ∷ topic.Branches ∷ topic.File ∷ topic.Needs ∷ topic.Held ∷ topic.Missing ∷ topic.Along ∷ topic.Show
-    ∷ topic.Annotate ∷ topic.Graph ∷ topic.WhatIf ∷ topic.History ∷ topic.Keep ∷ topic.Help ∷ []
+    ∷ topic.Annotate ∷ topic.Open ∷ topic.Side ∷ topic.Marks ∷ topic.Graph ∷ topic.WhatIf ∷ topic.History ∷ topic.Keep ∷ topic.Help ∷ []
 
 -- how a command is written, and what it does, in a line for each of its forms
 abbrev pub summary : Topic → List ℕ
@@ -39,6 +39,9 @@ summary topic.Missing = page (codes "missing FROM TO: the patches that FROM has 
 summary topic.Along = page (codes "along FROM TO NAME ..: what a pull of these patches has to list" ∷ [])
 summary topic.Show = page (codes "show BRANCH NAME: a patch as it stands in a branch" ∷ [])
 summary topic.Annotate = page (codes "annotate BRANCH PATH: the lines of a file, and which patch put each there" ∷ [])
+summary topic.Open = page (codes "open BRANCH: the pairs of patches in conflict that nothing has settled yet" ∷ [])
+summary topic.Side = page (codes "side BRANCH NAME: the changes that a patch in conflict says" ∷ [])
+summary topic.Marks = page (codes "marks BRANCH PATH: a file with the open sides of its conflicts" ∷ [])
 summary topic.Graph = page (codes "graph BRANCH: how the patches hang together, for Graphviz" ∷ [])
 summary topic.WhatIf = page (codes "whatif COMMAND: what a command would be answered; nothing changes" ∷ [])
 summary topic.History = page (codes "history: the accepted commands" ∷ [])
@@ -61,6 +64,12 @@ details topic.Along = page (
 details topic.Show = page (
     codes "Its catches, a line for each: [PATCH], or (EFFECT, CONFLICTS, IDENTITY) in a conflict." ∷
     codes "Then what they change, as a script has it." ∷ [])
+details topic.Open = page (codes "A patch recorded on top that touches the place settles a conflict." ∷ [])
+details topic.Side = page (
+    codes "They can be recorded as a group: between record BRANCH NAME group and done." ∷ [])
+details topic.Marks = page (
+    codes "Lines behind =. At each place conflict SIDES LINES, and what stands there; then of each" ∷
+    codes "patch side NAME LINES, and behind + what it would put there." ∷ [])
 details topic.Graph = page (codes "An arrow leads to what a patch needs directly; a dashed line joins two in conflict." ∷ [])
 details topic.WhatIf = page (codes "If it would be accepted: the conflicts and the files that its branch would have, too." ∷ [])
 details topic.History = page (codes "Of each its number, its seat, which is 0, and its words." ∷ [])
@@ -87,6 +96,9 @@ example topic.Missing = page (codes "missing anna main" ∷ [])
 example topic.Show = page (codes "show main hello" ∷ [])
 example topic.Annotate = page (codes "annotate main notes" ∷ [])
 example topic.Along = page (codes "along anna main hello" ∷ [])
+example topic.Open = page (codes "open main" ∷ [])
+example topic.Side = page (codes "side main hello" ∷ [])
+example topic.Marks = page (codes "marks main notes" ∷ [])
 example topic.Graph = page (codes "graph main" ∷ [])
 example topic.WhatIf = page (codes "whatif pull anna main" ∷ [])
 example topic.History = page (codes "history" ∷ [])

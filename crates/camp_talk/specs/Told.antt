@@ -5,6 +5,7 @@ use Rattle.std.specs.Fmt.{decimal}
 use Rattle.camp_base.specs.Signs.{newline, space}
 use Rattle.camp_base.specs.Trees.{Lines}
 use Rattle.camp_catch.specs.declared.catches.Catch.{Catch}
+use Rattle.camp_prim.specs.declared.primitives.Primitive.{Primitive}
 use Rattle.camp_call.specs.declared.replies.Reply.TheVariants.{Refused}
 use Rattle.camp_notation.specs.Catches.{catch_text}
 use Rattle.camp_object.specs.Histories.{replay}
@@ -17,19 +18,26 @@ use Rattle.camp_questions.specs.Files.{IsFile, branch_names}
 use Rattle.camp_questions.specs.Foresight.{Foresees}
 use Rattle.camp_questions.specs.GraphTexts.{graph_text}
 use Rattle.camp_questions.specs.Graphs.{Drawn, IsGraphOf}
+use Rattle.camp_questions.specs.Marks.{AreMarked}
+use Rattle.camp_questions.specs.OpenConflicts.{AreOpen}
+use Rattle.camp_questions.specs.Places.{File as MarkedFile, Place}
 use Rattle.camp_questions.specs.Showing.{IsShown, Patch}
+use Rattle.camp_questions.specs.Sides.{IsSide}
 use Rattle.camp_questions.specs.declared.annotations.Annotated.{Annotated}
 use Rattle.camp_questions.specs.declared.annotations.Annotated.TheVariants.{File, NoFile}
 use Rattle.camp_questions.specs.declared.foresight.Foreseen.{Foreseen}
 use Rattle.camp_questions.specs.declared.foresight.Standing.{Standing}
+use Rattle.camp_questions.specs.declared.marking.Marked.{Marked}
+use Rattle.camp_questions.specs.declared.marking.Marked.TheVariants as marked
+use Rattle.camp_questions.specs.declared.marking.Version.{Version}
 use Rattle.camp_repo.specs.Objects.{repository}
 use Rattle.camp_repo.specs.States.{Contents}
 use Rattle.camp_script.specs.Canonical.{change_text}
 use Rattle.camp_script.specs.HistoryTexts.{history_text}
 use Rattle.camp_script.specs.Keeping.{kept_text}
 use Rattle.camp_script.specs.Lines.{lines_of}
-use Rattle.camp_script.specs.Signs.{equals_sign}
-use Rattle.camp_script.specs.Texts.{conflicts_text, name_text, reply_text, signed_line, tree_text}
+use Rattle.camp_script.specs.Signs.{equals_sign, plus_sign}
+use Rattle.camp_script.specs.Texts.{conflicts_text, line_text, name_text, pair_text, reply_text, signed_line, tree_text}
 use Rattle.camp_talk.specs.Entries.{Entries}
 use Rattle.camp_talk.specs.Help.{help_text}
 use Rattle.camp_talk.specs.declared.questions.Question.{Question}
@@ -63,6 +71,39 @@ no_file_told = codes "no file\n"
 abbrev pub file_told : Option Lines → List ℕ
 file_told None = no_file_told
 file_told (Some lines) = counted (codes "file") (flat_map (signed_line equals_sign) lines)
+
+-- pairs of patches in an open conflict
+abbrev pub open_told : List (List ℕ × List ℕ) → List ℕ
+open_told pairs = counted (codes "open") (flat_map pair_text pairs)
+
+-- the changes of a side, as a script has those of a group
+abbrev pub side_told : List Primitive → List ℕ
+side_told changes = counted (codes "side") (flat_map change_text changes)
+
+-- what a side has at a place: `side`, the name of its patch and the number of its lines, and then each behind `+`
+abbrev pub side_text : Version → List ℕ
+side_text side =
+    line_text (codes "side" ∷ side.name ∷ decimal (length side.lines) ∷ [])
+    ++ flat_map (signed_line plus_sign) side.lines
+
+-- the lines before a place, each behind `=`; `conflict`, how many sides it has, and how many lines; these, each behind `=`;
+-- and the sides
+abbrev pub place_text : Place → List ℕ
+place_text place =
+    flat_map (signed_line equals_sign) place.before
+    ++ line_text (codes "conflict" ∷ decimal (length place.sides) ∷ decimal (length place.lines) ∷ [])
+    ++ flat_map (signed_line equals_sign) place.lines
+    ++ flat_map side_text place.sides
+
+-- a file with its places
+abbrev pub marked_lines : MarkedFile → List ℕ
+marked_lines file = flat_map place_text file.places ++ flat_map (signed_line equals_sign) file.rest
+
+-- a file with the open sides of its conflicts, or that there is no file
+abbrev pub marks_told : Marked → List ℕ
+marks_told marked.NoFile = no_file_told
+marks_told (marked.File file) =
+    counted (codes "marks") (marked_lines file)
 
 -- a graph in DOT
 abbrev pub graph_told : Drawn → List ℕ
@@ -115,6 +156,9 @@ TellsAt history state (question.Annotate branch path) text =
     IsTold annotated_told (AreAnnotated state branch path) text
 TellsAt history state (question.Along from to names) text =
     IsTold (names_told (codes "along")) (AreAlong state from to names) text
+TellsAt history state (question.Open branch) text = IsTold open_told (AreOpen state branch) text
+TellsAt history state (question.Side branch name) text = IsTold side_told (IsSide state branch name) text
+TellsAt history state (question.Marks branch path) text = IsTold marks_told (AreMarked state branch path) text
 TellsAt history state (question.File branch path) text = IsTold file_told (IsFile state branch path) text
 TellsAt history state question.Branches text =
     text ≡ names_told (codes "branches") (branch_names state)

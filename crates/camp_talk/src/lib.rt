@@ -14,6 +14,7 @@ mod readings;
 mod talks;
 mod tellings;
 mod told;
+mod told_conflicts;
 mod told_foresight;
 mod told_graphs;
 mod told_help;

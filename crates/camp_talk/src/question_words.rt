@@ -1,7 +1,7 @@
 //! The words of questions.
 ghost use Rattle.std.specs.Prelude.{◌≡◌, map};
 ghost use Rattle.camp_script.specs.Gives.{Gives};
-ghost use Rattle.camp_talk.specs.Asking.{branch_alone, branch_and_names, branch_and_path, branches_and_names, file_question, plain_question, question_of, short_question, two_names};
+ghost use Rattle.camp_talk.specs.Asking.{branch_alone, branch_and_names, branch_and_path, branches_and_names, conflict_question, plain_question, question_of, short_question, two_names};
 
 use crate::questions::Question;
 use crate::topics::help_topic;
@@ -67,16 +67,31 @@ fn short_question(
         let branch = branch_alone(words)?;
         return Ok(Some(Question::Graph(branch)));
     }
-    file_question(alloc, word, words)
+    conflict_question(alloc, word, words)
 }
 
-fn file_question(
+fn conflict_question(
     alloc: Global,
     word: &[u8],
     words: &[&[u8]],
 ) -> Result<Option<Question>, ScriptFault>
-    ensures { Gives result (file_question word.now (map (λ word. word.now) words.now)) }
+    ensures { Gives result (conflict_question word.now (map (λ word. word.now) words.now)) }
 {
+    if word == b"open".as_slice() {
+        let branch = branch_alone(words)?;
+        return Ok(Some(Question::Open(branch)));
+    }
+    if word == b"side".as_slice() {
+        let (branch, patch) = two_names(words)?;
+        return Ok(Some(Question::Side {
+            branch,
+            name: patch,
+        }));
+    }
+    if word == b"marks".as_slice() {
+        let (branch, path) = branch_and_path(alloc, words)?;
+        return Ok(Some(Question::Marks { branch, path }));
+    }
     if word == b"file".as_slice() {
         let (branch, path) = branch_and_path(alloc, words)?;
         return Ok(Some(Question::File { branch, path }));

@@ -17,6 +17,12 @@ pub enum Question {
     Annotate { branch: Name, path: Path },
     /// What a pull of patches from one branch into another has to list.
     Along { from: Name, to: Name, names: Names },
+    /// The pairs of patches of a branch that are in an open conflict.
+    Open(Name),
+    /// What a patch in conflict says.
+    Side { branch: Name, name: Name },
+    /// A file with the open sides of its conflicts.
+    Marks { branch: Name, path: Path },
     /// The lines of a file.
     File { branch: Name, path: Path },
     /// The branches.
@@ -50,6 +56,9 @@ pub enum Topic {
     Show,
     Annotate,
     Along,
+    Open,
+    Side,
+    Marks,
     File,
     Branches,
     Graph,

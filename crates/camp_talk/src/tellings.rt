@@ -3,6 +3,7 @@ ghost use Rattle.std.specs.Prelude.{IfOk};
 ghost use Rattle.camp_talk.specs.Told.{TellsAt, TellsQuestion};
 
 use crate::Question;
+use crate::told_conflicts::{tell_marks, tell_open, tell_side};
 use crate::told_foresight::tell_foreseen;
 use crate::told_graphs::tell_graph;
 use crate::told_help::tell_help;
@@ -42,6 +43,9 @@ fn answer_at(
         Question::Along { from, to, names } => {
             tell_along(alloc, state, from, to, names.as_slice())
         }
+        Question::Open(branch) => tell_open(alloc, state, branch),
+        Question::Side { branch, name } => tell_side(alloc, state, branch, name),
+        Question::Marks { branch, path } => tell_marks(alloc, state, branch, path),
         Question::File { branch, path } => tell_file(alloc, state, branch, path),
         Question::Branches => tell_branches(alloc, state),
         Question::Graph(branch) => tell_graph(alloc, state, branch),

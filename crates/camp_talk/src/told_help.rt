@@ -42,7 +42,7 @@ fn all_summaries(alloc: Global) -> Result<Vec<u8>, AllocError>
 }
 
 // The commands, in the order in which they are told.
-fn commands() -> [Topic; 20]
+fn commands() -> [Topic; 23]
     ensures { result ≡ commands }
 {
     [
@@ -61,6 +61,9 @@ fn commands() -> [Topic; 20]
         Topic::Along,
         Topic::Show,
         Topic::Annotate,
+        Topic::Open,
+        Topic::Side,
+        Topic::Marks,
         Topic::Graph,
         Topic::WhatIf,
         Topic::History,
@@ -102,6 +105,11 @@ fn summary(topic: Topic) -> &'static str
         Topic::Annotate => {
             "annotate BRANCH PATH: the lines of a file, and which patch put each there\n"
         }
+        Topic::Open => {
+            "open BRANCH: the pairs of patches in conflict that nothing has settled yet\n"
+        }
+        Topic::Side => "side BRANCH NAME: the changes that a patch in conflict says\n",
+        Topic::Marks => "marks BRANCH PATH: a file with the open sides of its conflicts\n",
         Topic::Graph => "graph BRANCH: how the patches hang together, for Graphviz\n",
         Topic::WhatIf => "whatif COMMAND: what a command would be answered; nothing changes\n",
         Topic::History => "history: the accepted commands\n",
@@ -136,6 +144,13 @@ fn details(topic: Topic) -> &'static str
             "Its catches, a line for each: [PATCH], or (EFFECT, CONFLICTS, IDENTITY) in a conflict.\n\
             Then what they change, as a script has it.\n"
         }
+        Topic::Open => "A patch recorded on top that touches the place settles a conflict.\n",
+        Topic::Side =>
+            "They can be recorded as a group: between record BRANCH NAME group and done.\n",
+        Topic::Marks => {
+            "Lines behind =. At each place conflict SIDES LINES, and what stands there; then of each\n\
+            patch side NAME LINES, and behind + what it would put there.\n"
+        }
         Topic::Graph => {
             "An arrow leads to what a patch needs directly; a dashed line joins two in conflict.\n"
         }
@@ -168,6 +183,9 @@ fn example(topic: Topic) -> &'static str
         Topic::Show => "show main hello\n",
         Topic::Annotate => "annotate main notes\n",
         Topic::Along => "along anna main hello\n",
+        Topic::Open => "open main\n",
+        Topic::Side => "side main hello\n",
+        Topic::Marks => "marks main notes\n",
         Topic::Graph => "graph main\n",
         Topic::WhatIf => "whatif pull anna main\n",
         Topic::History => "history\n",

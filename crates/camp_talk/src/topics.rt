@@ -1,7 +1,7 @@
 //! What help is asked for.
 ghost use Rattle.std.specs.Prelude.{◌≡◌, map};
 ghost use Rattle.camp_script.specs.Gives.{Gives};
-ghost use Rattle.camp_talk.specs.Asking.{call_topic, file_topic, help_line, other_topic, patch_topic, topic_at};
+ghost use Rattle.camp_talk.specs.Asking.{call_topic, conflict_topic, help_line, other_topic, patch_topic, topic_at};
 
 use crate::question_words::fault;
 use crate::questions::Topic;
@@ -85,12 +85,21 @@ fn patch_topic(word: &[u8]) -> Option<Topic>
     if word == b"along".as_slice() {
         return Some(Topic::Along);
     }
-    file_topic(word)
+    conflict_topic(word)
 }
 
-fn file_topic(word: &[u8]) -> Option<Topic>
-    ensures { result ≡ file_topic word.now }
+fn conflict_topic(word: &[u8]) -> Option<Topic>
+    ensures { result ≡ conflict_topic word.now }
 {
+    if word == b"open".as_slice() {
+        return Some(Topic::Open);
+    }
+    if word == b"side".as_slice() {
+        return Some(Topic::Side);
+    }
+    if word == b"marks".as_slice() {
+        return Some(Topic::Marks);
+    }
     if word == b"file".as_slice() {
         return Some(Topic::File);
     }

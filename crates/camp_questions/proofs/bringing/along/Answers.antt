@@ -1,4 +1,4 @@
-use Rattle.camp_questions.proofs.Words.{◌≡◌, ◌≢◌, ◌∙◌, ℕ, List, sym, subst, true≢false, bytes_eq-Decides, Catch, names_in}
+use Rattle.camp_questions.proofs.Words.{◌≢◌, ◌∙◌, ℕ, List, sym, subst, true≢false, bytes_eq-Decides, Catch, names_in}
 use Rattle.camp_questions.proofs.AlongSteps.{are_along, comes_along}
 use Rattle.camp_questions.specs.Inside.Growing.{GrowsToFront}
 use Rattle.camp_questions.proofs.bringing.along.Goals as goal

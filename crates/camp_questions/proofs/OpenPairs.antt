@@ -1,0 +1,154 @@
+-- The open conflicts of a branch: which they are.
+use Rattle.camp_questions.proofs.Words.{◌≡◌, ◌⊎◌, ◌≤◌, ℕ, suc, ◌+◌, Bool, true, false, true≢false, cond, List, [], ◌∷◌, ◌++◌, append-nil, map, filter, filter-append, take, Some, refl, sym, ap, ◌∙◌, subst, inl, inr, arith, map-append, Contains, flat_map, get, keys, name_of, Catch, Key, key_cmp, key_total}
+use Rattle.std.proofs.lemmas.List.{take_all}
+use Rattle.std.specs.FinMap.{entries, entries_sorted, get-entries, len}
+use Rattle.std.specs.Prelude.{slice_get}
+use Rattle.std.specs.declared.cmp.Ordering.TheVariants.{Less}
+use Rattle.camp_branch.proofs.ConflictsDetermined.{member_name}
+use Rattle.camp_questions.proofs.PairSteps.{IsOfNames, first_is_less, has_of_each, is_image, key_is_listed, listed_has_member, of_names, one_has, second_is_less}
+use Rattle.camp_branch.proofs.Names.{has_image}
+use Rattle.camp_branch.proofs.SortedPairs.{IsInOrder, Pair, by_name, first_or_later, has_first, has_later, no_member}
+use Rattle.camp_branch.proofs.Words.{flat_map_more}
+use Rattle.camp_branch.specs.Inside.Collecting.{pair_of}
+use Rattle.camp_catch.specs.declared.catches.Catch.TheVariants.{Plain}
+use Rattle.camp_ctx.proofs.EntrySteps.{found_at, take_push}
+use Rattle.camp_ctx.proofs.SetSteps.{count_of_members, members_of}
+use Rattle.camp_ctx.specs.Contexts.{AreKeyed, ContextedPatch, ContextedPatches, context_key}
+use Rattle.camp_questions.specs.Inside.OpenPairs.{open_against, open_at, open_in, open_with, open_within}
+use Rattle.camp_questions.specs.OpenConflicts.{AreInOpenConflict, AreOpenAmong, OpensWith, is_open}
+
+-- what a test keeps of a list
+kept_has : {X : Type 0} (p : X → Bool) (list : List X) (x : X) → Contains list x → p x ≡ true → Contains (filter p list) x
+kept_has p [] x c is = no_member x c
+kept_has p (y ∷ list) x c is =
+    kept_at (p y) refl (first_or_later y x list c) (λ later. kept_has p list x later is)
+  where
+    kept_at : (b : Bool) → p y ≡ b → (y ≡ x) ⊎ Contains list x → (Contains list x → Contains (filter p list) x) → Contains (cond b (y ∷ filter p list) (filter p list)) x
+    kept_at true e (inl same) rest = subst (Contains (y ∷ filter p list)) same (has_first y (filter p list))
+    kept_at false e (inl same) rest = absurd (true≢false (sym is ∙ ap p (sym same) ∙ e))
+    kept_at true e (inr later) rest = has_later y x (filter p list) (rest later)
+    kept_at false e (inr later) rest = rest later
+
+is_kept : {X : Type 0} (p : X → Bool) (list : List X) (x : X) → Contains (filter p list) x → Contains list x × (p x ≡ true)
+is_kept p [] x c = no_member x c
+is_kept p (y ∷ list) x c = is_kept_at (p y) refl c (λ d. is_kept p list x d)
+  where
+    is_kept_at : (b : Bool) → p y ≡ b → Contains (cond b (y ∷ filter p list) (filter p list)) x → (Contains (filter p list) x → Contains list x × (p x ≡ true)) → Contains (y ∷ list) x × (p x ≡ true)
+    is_kept_at true e d rest = elim (first_or_later y x (filter p list) d) [
+      | inl same ↦ (subst (Contains (y ∷ list)) same (has_first y list), ap p (sym same) ∙ e)
+      | inr later ↦ (has_later y x list (rest later).0, (rest later).1)
+    ]
+    is_kept_at false e d rest = (has_later y x list (rest d).0, (rest d).1)
+
+module _ (seen : ContextedPatches) where
+  -- those that a catch names are in an open conflict with it
+  against_at : (xs : ContextedPatches) (identity : ContextedPatch) (name : List ℕ) (b : Bool) → is_open seen (context_key identity) ≡ b → Contains (cond b (open_within seen xs) []) name
+      → (is_open seen (context_key identity) ≡ true) × ((key : Key) × (x : ContextedPatch) × (get xs key ≡ Some x) × (key.name ≡ name) × (is_open seen key ≡ true))
+  against_at xs identity name false is c = no_member name c
+  against_at xs identity name true is c =
+      let image = is_image (λ (key : Key). key.name) (filter (is_open seen) (keys xs)) name c in
+      let kept = is_kept (is_open seen) (keys xs) image.0 image.1 in
+      let member = listed_has_member xs image.0 kept.0 in
+      (is, (image.0, member.0, member.1, image.2, kept.1))
+
+  against : (k : Catch) (name : List ℕ) → Contains (open_against seen k) name → OpensWith seen (name_of k) name k
+  against (Plain a) name c = no_member name c
+  against (Catch.Conflictor k) name c =
+      let w = against_at k.conflicts k.identity name (is_open seen (context_key k.identity)) refl c in
+      (refl, w.0, w.1)
+
+  -- and all others that are in one are named
+  is_against : (k : Catch) (first second : List ℕ) → OpensWith seen first second k → (name_of k ≡ first) × Contains (open_against seen k) second
+  is_against (Plain a) first second w = absurd w
+  is_against (Catch.Conflictor k) first second (is, own, (key, x, there, called, free)) =
+      let kept = kept_has (is_open seen) (keys k.conflicts) key (key_is_listed k.conflicts key x there) free in
+      let image : Contains (open_within seen k.conflicts) key.name = has_image (λ (key : Key). key.name) (filter (is_open seen) (keys k.conflicts)) key kept in
+      (is, subst (λ b. Contains (cond b (open_within seen k.conflicts) []) second) (sym own) (subst (Contains (open_within seen k.conflicts)) called image))
+
+  opens_as : (k : Catch) (a b c d : List ℕ) → a ≡ c → b ≡ d → OpensWith seen a b k → OpensWith seen c d k
+  opens_as k a b c d e f w = subst (λ n. OpensWith seen c n k) f (subst (λ n. OpensWith seen n b k) e w)
+
+  -- the pairs that are collected are in open conflicts
+  collected_open : (branch : List Catch) (p : Pair) → Contains (open_in seen branch) p → (by_name p.0 p.1 ≡ Less) × AreInOpenConflict branch seen p.0 p.1
+  collected_open branch p c =
+      let at = one_has (open_at seen) branch p c in
+      let member = one_has (pair_of (name_of at.0)) (open_against seen at.0) p at.2 in
+      let with = against at.0 member.0 member.1 in
+      let names : IsOfNames (name_of at.0) member.0 p = of_names (name_of at.0) member.0 _ p refl member.2 in (
+        names.0,
+        (
+          at.0,
+          at.1,
+          elim names.1 [
+            | inl e ↦ inl (opens_as at.0 (name_of at.0) member.0 p.0 p.1 e.0 e.1 with)
+            | inr e ↦ inr (opens_as at.0 (name_of at.0) member.0 p.1 p.0 e.0 e.1 with)
+          ],
+        ),
+      )
+
+  at_catch : (k : Catch) (first second : List ℕ) → by_name first second ≡ Less → OpensWith seen first second k ⊎ OpensWith seen second first k → Contains (open_at seen k) (first, second)
+  at_catch k first second less (inl w) =
+      let is = is_against k first second w in
+      has_of_each (pair_of (name_of k)) (open_against seen k) second (first, second) is.1 (subst (λ n. Contains (pair_of n second) (first, second)) (sym is.0) (first_is_less first second less))
+  at_catch k first second less (inr w) =
+      let is = is_against k second first w in
+      has_of_each (pair_of (name_of k)) (open_against seen k) first (first, second) is.1 (subst (λ n. Contains (pair_of n first) (first, second)) (sym is.0) (second_is_less second first less))
+
+  -- the pairs that are collected, each once, in ascending order
+  pub open_by : (branch : List Catch) (pairs : List Pair) → IsInOrder (open_in seen branch) pairs → AreOpenAmong branch seen pairs
+  open_by branch pairs all = record {
+    ascending = all.ascending;
+    listed = λ first second. (
+      λ c. collected_open branch (first, second) (all.has_no_other (first, second) c),
+      λ w. all.has (first, second) (has_of_each (open_at seen) branch w.1.0 (first, second) w.1.1 (at_catch w.1.0 first second w.0 w.1.2)),
+    );
+  }
+
+  -- whether the label of a member is open
+  abbrev pub opens : ContextedPatch → Bool
+  opens x = is_open seen (context_key x)
+
+  kept_by_index : (es : List (Key × ContextedPatch)) → ((i : ℕ) (k : Key) (x : ContextedPatch) → slice_get es i ≡ Some (k, x) → k ≡ context_key x)
+      → map (λ (key : Key). key.name) (filter (is_open seen) (map (λ (e : Key × ContextedPatch). e.0) es)) ≡ map member_name (filter opens (map (λ (e : Key × ContextedPatch). e.1) es))
+  kept_by_index [] own = refl
+  kept_by_index (e ∷ es) own =
+      kept_one e.0 e.1 (own 0 e.0 e.1 refl) (is_open seen e.0) refl (filter (is_open seen) (map (λ (e : Key × ContextedPatch). e.0) es)) (filter opens (map (λ (e : Key × ContextedPatch). e.1) es)) (kept_by_index es (λ i k x is. own (suc i) k x is))
+    where
+      kept_one : (k : Key) (x : ContextedPatch) → k ≡ context_key x → (b : Bool) → is_open seen k ≡ b → (ks : List Key) (xs : List ContextedPatch) → map (λ (key : Key). key.name) ks ≡ map member_name xs
+          → map (λ (key : Key). key.name) (cond b (k ∷ ks) ks) ≡ map member_name (cond (opens x) (x ∷ xs) xs)
+      kept_one k x own true is ks xs same =
+          (λ t. (own t).name ∷ same t) ∙ ap (λ b. map member_name (cond b (x ∷ xs) xs)) (sym (ap (is_open seen) (sym own) ∙ is))
+      kept_one k x own false is ks xs same =
+          same ∙ ap (λ b. map member_name (cond b (x ∷ xs) xs)) (sym (ap (is_open seen) (sym own) ∙ is))
+
+  -- the names within a set are those of its members
+  names_of_open : (xs : ContextedPatches) → AreKeyed xs → open_within seen xs ≡ map member_name (filter opens (members_of xs))
+  names_of_open xs keyed =
+      kept_by_index (entries xs) (λ i k x is. keyed k x (get-entries xs k ∙ found_at key_cmp key_total (entries xs) i k x is (entries_sorted xs)))
+
+  kept_more : (members : List ContextedPatch) (i : ℕ) (x : ContextedPatch) → slice_get members i ≡ Some x → filter opens (take (i + 1) members) ≡ filter opens (take i members) ++ cond (opens x) (x ∷ []) []
+  kept_more members i x at =
+      ap (filter opens) (take_push members i x at) ∙ filter-append opens (take i members) (x ∷ [])
+
+  pairs_at : (name : List ℕ) (old pairs : List Pair) (names : List (List ℕ)) (x : ContextedPatch) (b : Bool) → pairs ≡ old ++ flat_map (pair_of name) names
+      → pairs ++ cond b (pair_of name x.patch.name) [] ≡ old ++ flat_map (pair_of name) (names ++ map member_name (cond b (x ∷ []) []))
+  pairs_at name old pairs names x true was =
+      ap (λ l. l ++ pair_of name (member_name x)) was ∙ flat_map_more (pair_of name) old names (member_name x)
+  pairs_at name old pairs names x false was =
+      append-nil pairs ∙ was ∙ ap (λ l. old ++ flat_map (pair_of name) l) (sym (append-nil names))
+
+  -- the pairs of a name with those of one more member
+  pub one_more_open : (name : List ℕ) (members : List ContextedPatch) (i : ℕ) (x : ContextedPatch) (old list next : List Pair) → slice_get members i ≡ Some x
+      → list ≡ old ++ flat_map (pair_of name) (map member_name (filter opens (take i members))) → next ≡ list ++ open_with seen name x
+      → next ≡ old ++ flat_map (pair_of name) (map member_name (filter opens (take (i + 1) members)))
+  one_more_open name members i x old list next at was becomes =
+      let grown : map member_name (filter opens (take (i + 1) members)) ≡ map member_name (filter opens (take i members)) ++ map member_name (cond (opens x) (x ∷ []) []) =
+      ap (map member_name) (kept_more members i x at) ∙ map-append member_name (filter opens (take i members)) (cond (opens x) (x ∷ []) []) in
+      becomes ∙ pairs_at name old list (map member_name (filter opens (take i members))) x (opens x) was ∙ ap (λ names. old ++ flat_map (pair_of name) names) (sym grown)
+
+  pub all_open : (name : List ℕ) (xs : ContextedPatches) (i n : ℕ) (old list : List Pair) → AreKeyed xs → n ≡ len xs → n ≤ i
+      → list ≡ old ++ flat_map (pair_of name) (map member_name (filter opens (take i (members_of xs)))) → list ≡ old ++ flat_map (pair_of name) (open_within seen xs)
+  all_open name xs i n old list keyed counted past was =
+      let long = count_of_members xs in
+      let whole : take i (members_of xs) ≡ members_of xs = take_all i (members_of xs) (omega arith) in
+      was ∙ ap (λ l. old ++ flat_map (pair_of name) l) (ap (λ l. map member_name (filter opens l)) whole ∙ sym (names_of_open xs keyed))

@@ -1,0 +1,73 @@
+-- How a file with its places is made, one place after the other.
+use Rattle.camp_questions.proofs.Words.{append-nil, arith, length-drop, slice_range, ◌≡◌, ◌<◌, ◌≤◌, ℕ, ◌+◌, ◌-◌, Bool, true, false, cond, List, [], ◌∷◌, ◌++◌, drop, filter, get_or, length, map, take, sym, ap, ◌∙◌, append_assoc, drop_more, map-append, take_more, Lines}
+use Rattle.std.proofs.Math.ListN.{drop_of_length-le}
+use Rattle.std.proofs.lemmas.List.{get_or-map, take_all}
+use Rattle.std.proofs.lemmas.List.Elements.{filter_more}
+use Rattle.std.proofs.lemmas.List.Sums.{fold-append}
+use Rattle.std.specs.List.{fold}
+use Rattle.camp_questions.specs.Inside.Placing.{is_within}
+use Rattle.camp_questions.specs.Places.{File, Place, at_place, differs_within, file_from, joined, place_from, range_of, touch, with_marks, with_range}
+use Rattle.camp_questions.specs.declared.marking.Version.{Version}
+use Rattle.camp_questions.specs.declared.places.Range.{Range}
+
+-- a file with places before its own
+abbrev pub behind_places : List Place → File → File
+behind_places places file = record { places = places ++ file.places; rest = file.rest }
+
+-- one more range among the places
+pub one_more_range : (ranges : List Range) (i : ℕ) (range d : Range) (places next : List Range) → i < length ranges → range ≡ get_or ranges i d → places ≡ fold with_range [] (take i ranges) → next ≡ with_range places range → next ≡ fold with_range [] (take (i + 1) ranges)
+one_more_range ranges i range d places next within is was becomes =
+    becomes ∙ (λ t. with_range (was t) (is t)) ∙ sym (fold-append with_range [] (take i ranges) (get_or ranges i d ∷ [])) ∙ ap (fold with_range []) (sym (take_more ranges i d within))
+
+-- one more place is joined to a range, where it touches it
+joined_at : (range place : Range) (touched : List Range) (whole : Range) (b : Bool) → whole ≡ fold joined range touched → cond b (joined whole place) whole ≡ fold joined range (touched ++ cond b (place ∷ []) [])
+joined_at range place touched whole true was =
+    ap (λ w. joined w place) was ∙ sym (fold-append joined range touched (place ∷ []))
+joined_at range place touched whole false was = was ∙ sym (fold-append joined range touched [])
+
+pub one_more_joined : (range : Range) (places : List Range) (i : ℕ) (place d whole next : Range) → i < length places → place ≡ get_or places i d → whole ≡ fold joined range (filter (touch range) (take i places)) → next ≡ cond (touch range place) (joined whole place) whole → next ≡ fold joined range (filter (touch range) (take (i + 1) places))
+one_more_joined range places i place d whole next within is was becomes =
+    becomes ∙ joined_at range place (filter (touch range) (take i places)) whole (touch range place) was
+    ∙ (λ t. fold joined range (filter (touch range) (take i places) ++ cond (touch range (is t)) (is t ∷ []) []))
+    ∙ ap (fold joined range) (sym (filter_more (touch range) places i d within))
+
+-- one more version differs within a place, or not
+sides_at : (lines : Lines) (place : Range) (versions : List Version) (version : Version) (sides : List Version) (b : Bool) → sides ≡ map (at_place lines place) versions → cond b (sides ++ at_place lines place version ∷ []) sides ≡ map (at_place lines place) (versions ++ cond b (version ∷ []) [])
+sides_at lines place versions version sides true was =
+    ap (λ s. s ++ at_place lines place version ∷ []) was ∙ sym (map-append (at_place lines place) versions (version ∷ []))
+sides_at lines place versions version sides false was =
+    was ∙ sym (map-append (at_place lines place) versions [] ∙ append-nil (map (at_place lines place) versions))
+
+pub one_more_side : (lines : Lines) (place : Range) (versions : List Version) (i : ℕ) (version d : Version) (range : Range) (sides next : List Version) → i < length versions → version ≡ get_or versions i d → sides ≡ map (at_place lines place) (filter (differs_within lines place) (take i versions)) → range ≡ range_of lines version.lines → next ≡ cond (is_within range place) (sides ++ at_place lines place version ∷ []) sides → next ≡ map (at_place lines place) (filter (differs_within lines place) (take (i + 1) versions))
+one_more_side lines place versions i version d range sides next within is was of becomes =
+    becomes ∙ ap (λ r. cond (is_within r place) (sides ++ at_place lines place version ∷ []) sides) of ∙ sides_at lines place (filter (differs_within lines place) (take i versions)) version sides (differs_within lines place version) was
+    ∙ (λ t. map (at_place lines place) (filter (differs_within lines place) (take i versions) ++ cond (differs_within lines place (is t)) (is t ∷ []) []))
+    ∙ ap (map (at_place lines place)) (sym (filter_more (differs_within lines place) versions i d within))
+
+-- the range at a place is that of the version there
+pub range_there : (lines : Lines) (versions : List Version) (ranges : List Range) (i : ℕ) (range d : Range) (version : Version) → ranges ≡ map (λ (v : Version). range_of lines v.lines) versions → i < length versions → range ≡ get_or ranges i d → version ≡ get_or versions i version → range ≡ range_of lines version.lines
+range_there lines versions ranges i range d version are within is there =
+    is ∙ ap (λ l. get_or l i d) are ∙ get_or-map (λ (v : Version). range_of lines v.lines) versions i version d within ∙ ap (λ (v : Version). range_of lines v.lines) (sym there)
+
+-- one more place of a file
+pub one_more_place : (lines : Lines) (versions : List Version) (found : List Range) (i : ℕ) (range d : Range) (at : ℕ) (places next : List Place) (place : Place) → i < length found → range ≡ get_or found i d → place ≡ place_from lines versions at range → next ≡ places ++ place ∷ []
+    → behind_places places (file_from lines versions at (drop i found)) ≡ with_marks lines versions → behind_places next (file_from lines versions range.to (drop (i + 1) found)) ≡ with_marks lines versions
+one_more_place lines versions found i range d at places next place within is made becomes was =
+    let rest = file_from lines versions range.to (drop (i + 1) found) in
+    let here : drop i found ≡ range ∷ drop (i + 1) found = drop_more found i d within ∙ ap (λ r. r ∷ drop (i + 1) found) (sym is) in
+    ap (λ l. behind_places l rest) (becomes ∙ ap (λ p. places ++ p ∷ []) made) ∙ ap (λ l. record { places = l; rest = rest.rest }) (append_assoc places (place_from lines versions at range ∷ []) rest.places)
+    ∙ ap (λ l. behind_places places (file_from lines versions at l)) (sym here) ∙ was
+
+-- the lines behind the last place
+pub rest_from : (lines : Lines) (at n : ℕ) → n ≡ length lines → slice_range lines at n ≡ drop at lines
+rest_from lines at n is = take_all (n - at) (drop at lines) (omega (arith, length-drop at lines))
+
+-- a file of places and the lines behind them
+abbrev pub file_of : List Place → Lines → File
+file_of places rest = record { places = places; rest = rest }
+
+-- all places are made
+pub all_places : (lines : Lines) (versions : List Version) (found : List Range) (i at : ℕ) (places : List Place) → length found ≤ i → behind_places places (file_from lines versions at (drop i found)) ≡ with_marks lines versions → file_of places (drop at lines) ≡ with_marks lines versions
+all_places lines versions found i at places past was =
+    ap (λ l. record { places = l; rest = drop at lines }) (sym (append-nil places))
+    ∙ ap (λ l. behind_places places (file_from lines versions at l)) (sym (drop_of_length-le found past)) ∙ was

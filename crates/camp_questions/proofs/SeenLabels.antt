@@ -1,0 +1,171 @@
+-- How labels in conflict are seen, from the last catch of a branch to the first.
+use Rattle.camp_questions.proofs.Words.{true≢false, ◌<◌, ◌≤◌, ◌+◌, arith, drop, drop_more, get_or, length, take, ◌≡◌, ℕ, suc, Bool, true, false, cond, List, [], ◌∷◌, ◌++◌, map, Option, Some, None, refl, sym, ap, ◌∙◌, subst, none-some, eq_by_cmp, empty, get, get-empty, get-insert, contains_key, insert, find, flat_map, effect_of, Catch, Key, key_cmp, key_total, key_ties, Named}
+use Rattle.std.specs.FinMap.{entries, entries_sorted, get-entries, len, values}
+use Rattle.std.specs.Prelude.{MatchOption, is_some, slice_get}
+use Rattle.std.proofs.lemmas.List.{take_all}
+use Rattle.std.specs.Cmp.{Equal-is}
+use Rattle.camp_catch.specs.declared.catches.Conflictor.{Conflictor}
+use Rattle.camp_ctx.proofs.AddResults.{same_key_of_sum}
+use Rattle.camp_ctx.proofs.EntrySteps.{found_at, take_push}
+use Rattle.camp_ctx.proofs.SetSteps.{count_of_members, members_of}
+use Rattle.camp_ctx.specs.Adding.{AddsAll}
+use Rattle.camp_ctx.specs.Contexts.{AreKeyed, ContextedPatch, ContextedPatches, context_key, with_member}
+use Rattle.camp_seq.proofs.ListRuns.{inverse_all-append}
+use Rattle.camp_seq.specs.Running.{inverse_all}
+use Rattle.camp_questions.specs.Inside.Seeing.{AllSeenToo, SeenToo, first_with}
+use Rattle.camp_questions.specs.Sides.{AreSeen, IsSeen, TellNothing, told_by}
+
+-- what is told first stays where more is told behind it
+first_stays : (key : Key) (xs : List ContextedPatch) (x : ContextedPatch) (found : Option ContextedPatch) → first_with key xs ≡ found → first_with key (xs ++ x ∷ []) ≡ cond (is_some found) found (first_with key (x ∷ []))
+first_stays key [] x None is = refl
+first_stays key [] x (Some y) is = absurd (none-some y is)
+first_stays key (z ∷ xs) x found is = stays_at (eq_by_cmp key_cmp key (context_key z)) is (first_stays key xs x)
+  where
+    stays_at : (b : Bool) → cond b (Some z) (first_with key xs) ≡ found → ((o : Option ContextedPatch) → first_with key xs ≡ o → first_with key (xs ++ x ∷ []) ≡ cond (is_some o) o (first_with key (x ∷ []))) → cond b (Some z) (first_with key (xs ++ x ∷ [])) ≡ cond (is_some found) found (first_with key (x ∷ []))
+    stays_at true is rest = subst (λ o. Some z ≡ cond (is_some o) o (first_with key (x ∷ []))) is refl
+    stays_at false is rest = rest found is
+
+too_behind : (undone : List Named) (told : Option ContextedPatch) (was seen next : Option ContextedPatch) (one : Option ContextedPatch) → SeenToo undone was told seen → SeenToo undone seen one next → SeenToo undone was (cond (is_some told) told one) next
+too_behind undone told (Some x) seen next one w v = rw w at v
+too_behind undone (Some x) None seen next one (y, adds, is) v = (y, adds, rw is at v)
+too_behind undone None None seen next one w v = rw w at v
+
+-- one more is told
+pub one_more_told : (undone : List Named) (xs : List ContextedPatch) (x : ContextedPatch) (was seen next : ContextedPatches) → AllSeenToo undone xs was seen → AllSeenToo undone (x ∷ []) seen next → AllSeenToo undone (xs ++ x ∷ []) was next
+one_more_told undone xs x was seen next w v key =
+    subst (λ o. SeenToo undone (get was key) o (get next key)) (sym (first_stays key xs x (first_with key xs) refl)) (too_behind undone (first_with key xs) (get was key) (get seen key) (get next key) (first_with key (x ∷ [])) (w key) (v key))
+
+-- a label that is seen already stays
+kept_at : (undone : List Named) (x : ContextedPatch) (seen : ContextedPatches) (key : Key) (found : Option ContextedPatch) (b : Bool) → get seen key ≡ found → eq_by_cmp key_cmp key (context_key x) ≡ b → is_some (get seen (context_key x)) ≡ true → SeenToo undone found (cond b (Some x) None) (get seen key)
+kept_at undone x seen key (Some y) b is same there = is
+kept_at undone x seen key None false is same there = is
+kept_at undone x seen key None true is same there =
+    let own : key ≡ context_key x = key_ties key (context_key x) ((Equal-is _).0 same) in
+    absurd (none_there (sym (ap is_some (sym is ∙ ap (get seen) own) ∙ there)))
+  where
+    none_there : {A : Type 0} → true ≡ false → A
+    none_there e = cc
+
+pub label_kept : (undone : List Named) (x : ContextedPatch) (seen : ContextedPatches) → is_some (get seen (context_key x)) ≡ true → AllSeenToo undone (x ∷ []) seen seen
+label_kept undone x seen there key =
+    kept_at undone x seen key (get seen key) (eq_by_cmp key_cmp key (context_key x)) refl refl there
+
+-- a label that is not seen yet comes in
+none_by : (found : Option ContextedPatch) → is_some found ≡ false → found ≡ None
+none_by None e = refl
+none_by (Some x) e = absurd (true≢false e)
+
+come_at : (undone : List Named) (x y : ContextedPatch) (seen next : ContextedPatches) (key : Key) (found : Option ContextedPatch) (b : Bool) → AddsAll undone x y → get seen key ≡ found → eq_by_cmp key_cmp key (context_key x) ≡ b → get seen (context_key x) ≡ None → get next key ≡ cond b (Some y) (get seen key) → SeenToo undone found (cond b (Some x) None) (get next key)
+come_at undone x y seen next key (Some z) false adds is same none now = now ∙ is
+come_at undone x y seen next key (Some z) true adds is same none now =
+    let own : key ≡ context_key x = key_ties key (context_key x) ((Equal-is _).0 same) in
+    absurd (none-some z (sym none ∙ ap (get seen) (sym own) ∙ is))
+come_at undone x y seen next key None false adds is same none now = now ∙ is
+come_at undone x y seen next key None true adds is same none now = (y, adds, now)
+
+pub label_comes : (undone : List Named) (x y : ContextedPatch) (seen next : ContextedPatches) → AddsAll undone x y → is_some (get seen (context_key x)) ≡ false → next ≡ with_member seen y → AllSeenToo undone (x ∷ []) seen next
+label_comes undone x y seen next adds lacks becomes key =
+    let none = none_by (get seen (context_key x)) lacks in
+    let same_key : context_key y ≡ context_key x = same_key_of_sum undone x y adds in
+    let absent : contains_key seen (context_key y) ≡ false = ap (λ k. is_some (get seen k)) same_key ∙ ap is_some none in
+    let is : next ≡ insert seen (context_key x) y = becomes ∙ ap (λ b. cond b seen (insert seen (context_key y) y)) absent ∙ ap (λ k. insert seen k y) same_key in
+    come_at undone x y seen next key (get seen key) (eq_by_cmp key_cmp key (context_key x)) adds refl refl none (ap (λ m. get m key) is ∙ get-insert key_total seen (context_key x) y key)
+
+by_index : (key : Key) (es : List (Key × ContextedPatch)) → ((i : ℕ) (k : Key) (x : ContextedPatch) → slice_get es i ≡ Some (k, x) → k ≡ context_key x) → first_with key (map (λ (e : Key × ContextedPatch). e.1) es) ≡ find key_cmp key es
+by_index key [] own = refl
+by_index key (e ∷ es) own =
+    λ t. cond (eq_by_cmp key_cmp key (sym (own 0 e.0 e.1 refl) t)) (Some e.1) (by_index key es (λ i k x is. own (suc i) k x is) t)
+
+-- what the members of a set tell is the member with the label
+pub members_tell : (xs : ContextedPatches) → AreKeyed xs → (key : Key) → first_with key (values xs) ≡ get xs key
+members_tell xs keyed key =
+    by_index key (entries xs) (λ i k x is. keyed k x (get-entries xs k ∙ found_at key_cmp key_total (entries xs) i k x is (entries_sorted xs))) ∙ sym (get-entries xs key)
+
+-- one more member of the set of a conflictor is told
+pub one_member_told : (undone : List Named) (k : Conflictor) (i : ℕ) (x : ContextedPatch) (was seen next : ContextedPatches) → slice_get (members_of k.conflicts) i ≡ Some x → AllSeenToo undone (k.identity ∷ take i (members_of k.conflicts)) was seen → AllSeenToo undone (x ∷ []) seen next
+    → AllSeenToo undone (k.identity ∷ take (i + 1) (members_of k.conflicts)) was next
+one_member_told undone k i x was seen next at all one =
+    subst (λ l. AllSeenToo undone (k.identity ∷ l) was next) (sym (take_push (members_of k.conflicts) i x at)) (one_more_told undone (k.identity ∷ take i (members_of k.conflicts)) x was seen next all one)
+
+-- where all have been, that is what the conflictor tells
+pub conflictor_told : (undone : List Named) (k : Conflictor) (was seen : ContextedPatches) (i n : ℕ) → AreKeyed k.conflicts → n ≡ len k.conflicts → n ≤ i → AllSeenToo undone (k.identity ∷ take i (members_of k.conflicts)) was seen
+    → (key : Key) → SeenToo undone (get was key) (told_by (Catch.Conflictor k) key) (get seen key)
+conflictor_told undone k was seen i n keyed counted past all key =
+    let long = count_of_members k.conflicts in
+    let whole : take i (members_of k.conflicts) ≡ members_of k.conflicts = take_all i (members_of k.conflicts) (omega arith) in
+    subst (λ o. SeenToo undone (get was key) o (get seen key)) (ap (λ o. cond (eq_by_cmp key_cmp key (context_key k.identity)) (Some k.identity) o) (ap (first_with key) whole ∙ members_tell k.conflicts keyed key)) (all key)
+
+-- a catch that tells nothing leaves what is seen
+pub seen_stays : (undone : List Named) (was : Option ContextedPatch) → SeenToo undone was None was
+seen_stays undone None = refl
+seen_stays undone (Some x) = refl
+
+-- at first nothing is seen
+pub none_seen : AreSeen [] empty
+none_seen key = subst (λ o. MatchOption o (TellNothing [] key) (IsSeen [] key)) (sym (get-empty key_cmp key)) tt
+
+seen_before : (k : Catch) (behind : List Catch) (key : Key) (x : ContextedPatch) → IsSeen behind key x → IsSeen (k ∷ behind) key x
+seen_before k behind key x seen = record {
+  before = k ∷ seen.before;
+  k = seen.k;
+  behind = seen.behind;
+  parts = ap (λ l. k ∷ l) seen.parts;
+  last = seen.last;
+  x = seen.x;
+  told = seen.told;
+  added = seen.added;
+}
+
+one_seen_at : (k : Catch) (behind : List Catch) (key : Key) (was told now : Option ContextedPatch) → told_by k key ≡ told → MatchOption was (TellNothing behind key) (IsSeen behind key)
+    → SeenToo (inverse_all (flat_map effect_of behind)) was told now → MatchOption now (TellNothing (k ∷ behind) key) (IsSeen (k ∷ behind) key)
+one_seen_at k behind key (Some x) told now is seen w =
+    subst (λ o. MatchOption o (TellNothing (k ∷ behind) key) (IsSeen (k ∷ behind) key)) (sym w) (seen_before k behind key x seen)
+one_seen_at k behind key None None now is seen w =
+    subst (λ o. MatchOption o (TellNothing (k ∷ behind) key) (IsSeen (k ∷ behind) key)) (sym w) (is, seen)
+one_seen_at k behind key None (Some x) now is seen (y, adds, w) =
+    subst (λ o. MatchOption o (TellNothing (k ∷ behind) key) (IsSeen (k ∷ behind) key)) (sym w) (record {
+      before = [];
+      k = k;
+      behind = behind;
+      parts = refl;
+      last = seen;
+      x = x;
+      told = is;
+      added = adds;
+    })
+
+-- one more catch tells what is seen
+pub one_seen : (k : Catch) (behind : List Catch) (seen next : ContextedPatches) (undone : List Named) → undone ≡ inverse_all (flat_map effect_of behind) → AreSeen behind seen
+    → ((key : Key) → SeenToo undone (get seen key) (told_by k key) (get next key)) → AreSeen (k ∷ behind) next
+one_seen k behind seen next undone is are told key =
+    one_seen_at k behind key (get seen key) (told_by k key) (get next key) refl (are key) (subst (λ u. SeenToo u (get seen key) (told_by k key) (get next key)) is (told key))
+
+-- so much is seen: the labels of some last catches, and their effects taken back
+pub record IsSoFar (catches : List Catch) (undone : List Named) (seen : ContextedPatches) : Type 0 where
+  pub back : undone ≡ inverse_all (flat_map effect_of catches)
+  pub are : AreSeen catches seen
+
+pub nothing_so_far : (catches : List Catch) (undone : List Named) (seen : ContextedPatches) → catches ≡ [] → undone ≡ [] → seen ≡ empty → IsSoFar catches undone seen
+nothing_so_far catches undone seen none nothing is =
+    rw (none, nothing, is) (record { back = refl; are = none_seen })
+
+-- what stands at one place is one
+pub same_at : (catches : List Catch) (i : ℕ) (k j : Catch) → i < length catches → k ≡ get_or catches i k → j ≡ get_or catches i j → k ≡ j
+same_at catches i k j within is also =
+    let first : drop i catches ≡ get_or catches i k ∷ drop (i + 1) catches = drop_more catches i k within in
+    let second : drop i catches ≡ get_or catches i j ∷ drop (i + 1) catches = drop_more catches i j within in
+    cc
+
+-- the catch before those
+pub catch_before : (catches : List Catch) (i at : ℕ) (k d : Catch) → i + 1 ≡ at → at ≤ length catches → k ≡ get_or catches i d → drop i catches ≡ k ∷ drop at catches
+catch_before catches i at k d follows within is =
+    drop_more catches i d (omega arith) ∙ ap (λ q. q ∷ drop (i + 1) catches) (sym is) ∙ ap (λ n. k ∷ drop n catches) follows
+
+-- one catch more
+pub one_so_far : (k : Catch) (behind all : List Catch) (undone more : List Named) (seen next : ContextedPatches) → all ≡ k ∷ behind → IsSoFar behind undone seen
+    → ((key : Key) → SeenToo undone (get seen key) (told_by k key) (get next key)) → more ≡ undone ++ inverse_all (effect_of k) → IsSoFar all more next
+one_so_far k behind all undone more seen next is so_far told grows =
+    subst (λ l. IsSoFar l more next) (sym is) (record {
+      back = grows ∙ ap (λ u. u ++ inverse_all (effect_of k)) so_far.back ∙ sym (inverse_all-append (effect_of k) (flat_map effect_of behind));
+      are = one_seen k behind seen next undone so_far.back so_far.are told;
+    })

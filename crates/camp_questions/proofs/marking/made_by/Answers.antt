@@ -1,0 +1,15 @@
+use Rattle.camp_questions.proofs.Words.{Files, subst, sym}
+use Rattle.camp_seq.specs.Running.{AppliesAll}
+use Rattle.camp_questions.proofs.MarkSteps.{makes_at}
+use Rattle.camp_questions.proofs.SidesApply.{side_applies}
+use Rattle.camp_questions.proofs.marking.made_by.Goals as goal
+
+pub unreachable-requires : goal.unreachable-requires
+unreachable-requires c =
+    let applies = subst (λ t. (next : Files) × AppliesAll c.in_ok-side.side t next) (sym c.in_ok-next.ensures.exact) (side_applies c.args.tree.now c.args.seen.now c.args.name.now c.in_ok-side.side c.requires c.in_ok-side.ensures) in
+    let never = rw (c.in-Err-DoesNotApply.is, c.in-Err-DoesNotApply.field-0-is) at c.apply_all.ensures.exact in
+    never.0 applies.0 applies.1
+
+pub returns : goal.returns
+returns c =
+    makes_at c.args.seen.now c.args.tree.now c.apply_all.new.tree c.args.path.now c.args.name.now c.in_ok-side.side c.in_ok-made.made c.in_ok-side.ensures (subst (λ t. AppliesAll c.in_ok-side.side t c.apply_all.new.tree) c.in_ok-next.ensures.exact c.in-Ok.ensures.exact) c.in_ok-made.ensures

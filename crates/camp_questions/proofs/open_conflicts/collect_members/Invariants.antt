@@ -1,0 +1,10 @@
+use Rattle.camp_questions.proofs.Words.{◌≡◌, ◌++◌, filter, flat_map, map, take}
+use Rattle.camp_branch.proofs.ConflictsDetermined.{member_name}
+use Rattle.camp_branch.specs.Inside.Collecting.{pair_of}
+use Rattle.camp_ctx.proofs.SetSteps.{members_of}
+use Rattle.camp_questions.proofs.OpenPairs.{opens}
+use Rattle.camp_questions.proofs.open_conflicts.collect_members.Given as goal
+
+abbrev pub invariant-loop-index : goal.invariant-loop-index
+invariant-loop-index l =
+    l.pairs.items ≡ l.fn.pairs.items ++ flat_map (pair_of l.name) (map member_name (filter (opens l.seen) (take l.index (members_of l.set))))

@@ -1,0 +1,6 @@
+use Rattle.camp_questions.proofs.Words.{◌≡◌, ◌++◌}
+use Rattle.camp_questions.specs.Inside.OpenPairs.{open_in}
+use Rattle.camp_questions.proofs.open_conflicts.collected.Given as goal
+
+abbrev pub invariant-loop-catch : goal.invariant-loop-catch
+invariant-loop-catch l = l.pairs.items ++ open_in l.seen l.catch-iterator ≡ open_in l.seen l.catches

@@ -1,0 +1,9 @@
+use Rattle.camp_questions.proofs.Words.{Bool, rules, ap, ◌∙◌, filter, filter_same}
+use Rattle.std.specs.Prelude.{nat_lt}
+use Rattle.camp_questions.specs.declared.places.Range.{Range}
+use Rattle.camp_questions.proofs.places.places_behind.Goals as goal
+
+pub returns : goal.returns
+returns c =
+    let test : Range → Bool = λ place. nat_lt c.args.range.to place.from in
+    filter_same _ test _ (λ x b f' k. search rules) _ _ c.retain.ensures.filtered ∙ ap (filter test) c.in_ok-behind.ensures.items

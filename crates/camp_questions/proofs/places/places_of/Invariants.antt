@@ -1,0 +1,7 @@
+use Rattle.camp_questions.proofs.Words.{◌≡◌, [], take}
+use Rattle.std.specs.List.{fold}
+use Rattle.camp_questions.specs.Places.{with_range}
+use Rattle.camp_questions.proofs.places.places_of.Given as goal
+
+abbrev pub invariant-loop-range : goal.invariant-loop-range
+invariant-loop-range l = l.places.items ≡ fold with_range [] (take l.range-index l.ranges)

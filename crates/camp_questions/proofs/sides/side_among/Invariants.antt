@@ -1,0 +1,7 @@
+use Rattle.camp_questions.proofs.Words.{[], bytes_eq, filter, take}
+use Rattle.camp_ctx.proofs.SetSteps.{members_of}
+use Rattle.camp_questions.specs.Sides.{ComeBehind}
+use Rattle.camp_questions.proofs.sides.side_among.Given as goal
+
+abbrev pub invariant-loop-index : goal.invariant-loop-index
+invariant-loop-index l = ComeBehind [] (filter (λ x. bytes_eq l.name x.patch.name) (take l.index (members_of l.seen))) l.side

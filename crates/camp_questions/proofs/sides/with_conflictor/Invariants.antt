@@ -1,0 +1,7 @@
+use Rattle.camp_questions.proofs.Words.{◌∷◌, take}
+use Rattle.camp_ctx.proofs.SetSteps.{members_of}
+use Rattle.camp_questions.specs.Inside.Seeing.{AllSeenToo}
+use Rattle.camp_questions.proofs.sides.with_conflictor.Given as goal
+
+abbrev pub invariant-loop-index : goal.invariant-loop-index
+invariant-loop-index l = AllSeenToo l.undone (l.k.identity ∷ take l.index (members_of l.k.conflicts)) l.fn.was l.seen

@@ -1,0 +1,31 @@
+-- The open conflicts of catches, as they come: in no order, and a pair more than once.
+use Rattle.std.specs.Prelude.{ℕ, List, [], map, filter, if◌then◌else◌}
+use Rattle.std.specs.List.{flat_map}
+use Rattle.std.specs.FinMap.{keys}
+use Rattle.camp_ctx.specs.Contexts.{ContextedPatch, ContextedPatches, context_key}
+use Rattle.camp_catch.specs.declared.catches.Catch.{Catch}
+use Rattle.camp_catch.specs.declared.catches.Catch.TheVariants.{Plain}
+use Rattle.camp_branch.specs.Branches.{name_of}
+use Rattle.camp_branch.specs.Inside.Collecting.{pair_of}
+use Rattle.camp_questions.specs.OpenConflicts.{is_open}
+
+-- the pair of a name and that of a contexted patch whose label is open
+abbrev pub open_with : ContextedPatches → List ℕ → ContextedPatch → List (List ℕ × List ℕ)
+open_with seen name x = if is_open seen (context_key x) then pair_of name x.patch.name else []
+
+-- the names of the patches in a set whose labels are open
+abbrev pub open_within : ContextedPatches → ContextedPatches → List (List ℕ)
+open_within seen xs = map (λ key. key.name) (filter (is_open seen) (keys xs))
+
+-- the names of the patches with which a catch is in an open conflict
+abbrev pub open_against : ContextedPatches → Catch → List (List ℕ)
+open_against seen (Plain a) = []
+open_against seen (Catch.Conflictor k) = if is_open seen (context_key k.identity) then open_within seen k.conflicts else []
+
+-- the open conflicts of a catch
+abbrev pub open_at : ContextedPatches → Catch → List (List ℕ × List ℕ)
+open_at seen k = flat_map (pair_of (name_of k)) (open_against seen k)
+
+-- the open conflicts of catches
+abbrev pub open_in : ContextedPatches → List Catch → List (List ℕ × List ℕ)
+open_in seen branch = flat_map (open_at seen) branch

@@ -1,0 +1,84 @@
+-- What a patch in conflict says: the changes that would put it in at the end of a branch.
+use Rattle.std.specs.Prelude.{◌≡◌, ℕ, Bool, true, false, List, [], ◌∷◌, ◌++◌, filter, Option, None, Some, MatchOption, Ok, bytes_eq, if◌then◌else◌}
+use Rattle.std.specs.FinMap.{get, values}
+use Rattle.std.specs.List.{AllByRecursion, flat_map, list_any}
+use Rattle.std.specs.Ordering.{eq_by_cmp}
+use Rattle.camp_prim.specs.Labels.{key_cmp, key_of, label_of}
+use Rattle.camp_prim.specs.declared.labels.Key.{Key}
+use Rattle.camp_prim.specs.declared.named.Named.{Named}
+use Rattle.camp_prim.specs.declared.primitives.Primitive.{Primitive}
+use Rattle.camp_seq.specs.Running.{inverse_all}
+use Rattle.camp_ctx.specs.Adding.{AddsAll}
+use Rattle.camp_ctx.specs.Contexts.{ContextedPatch, ContextedPatches, context_key, whole}
+use Rattle.camp_catch.specs.Catches.{effect_of}
+use Rattle.camp_catch.specs.declared.catches.Catch.{Catch}
+use Rattle.camp_catch.specs.declared.catches.Catch.TheVariants.{Plain}
+use Rattle.camp_repo.specs.States.{Contents}
+use Rattle.camp_questions.specs.Answers.{AnswerOf, OfBranch, OfPatches}
+use Rattle.camp_questions.specs.Showing.{changes_in}
+
+-- what a catch tells of an absolute label that is in conflict there: its identity, or the member of its set
+abbrev pub told_by : Catch → Key → Option ContextedPatch
+told_by (Plain a) key = None
+told_by (Catch.Conflictor k) key =
+    if eq_by_cmp key_cmp key (context_key k.identity) then Some k.identity else get k.conflicts key
+
+-- catches tell nothing of a label
+abbrev pub TellNothing : List Catch → Key → Type 0
+TellNothing catches key = AllByRecursion (λ k. told_by k key ≡ None) catches
+
+-- a label in conflict as seen from the end of a branch: what the last catch that tells it has, and the effects behind that
+-- catch taken back before it
+-- branch = before k behind
+pub record IsSeen (branch : List Catch) (key : Key) (seen : ContextedPatch) : Type 0 where
+  pub before : List Catch
+  pub k : Catch
+  pub behind : List Catch
+  pub parts : branch ≡ before ++ k ∷ behind
+  pub last : TellNothing behind key
+  pub x : ContextedPatch
+  pub told : told_by k key ≡ Some x
+  pub added : AddsAll (inverse_all (flat_map effect_of behind)) x seen
+
+-- all labels in conflict of a branch, as seen from its end
+abbrev pub AreSeen : List Catch → ContextedPatches → Type 0
+AreSeen branch seen = (key : Key) → MatchOption (get seen key) (TellNothing branch key) (IsSeen branch key)
+
+-- whether a primitive of a list has an absolute label
+abbrev pub has_key : List Named → Key → Bool
+has_key s key = list_any (λ p. eq_by_cmp key_cmp key (key_of (label_of p))) s
+
+-- a contexted patch comes behind changes: with them taken back before it, its context and its patch are put there; none,
+-- where its label stands there already
+abbrev pub ComesUnless : Bool → List Named → ContextedPatch → List Named → Type 0
+ComesUnless true changes x next = next ≡ changes
+ComesUnless false changes x next =
+    (y : ContextedPatch) × AddsAll (inverse_all changes) x y × (next ≡ changes ++ whole y)
+
+-- whether it stands there is told by its absolute label
+abbrev pub ComesBehind : List Named → ContextedPatch → List Named → Type 0
+ComesBehind changes x next = ComesUnless (has_key changes (context_key x)) changes x next
+
+-- contexted patches come behind changes, one after the other
+abbrev pub ComeBehind : List Named → List ContextedPatch → List Named → Type 0
+ComeBehind changes [] side = side ≡ changes
+ComeBehind changes (x ∷ xs) side =
+    (next : List Named) × ComesBehind changes x next × ComeBehind next xs side
+
+-- the labels of a patch, in ascending place
+abbrev pub labels_of_patch : List ℕ → ContextedPatches → List ContextedPatch
+labels_of_patch name seen = filter (λ x. bytes_eq name x.patch.name) (values seen)
+
+-- the side of a patch among labels as seen from the end of a branch: its labels come behind one another
+abbrev pub IsSideAmong : ContextedPatches → List ℕ → List Named → Type 0
+IsSideAmong seen name side = ComeBehind [] (labels_of_patch name seen) side
+
+-- the side of a patch in a branch
+abbrev pub IsSideIn : List Catch → List ℕ → List Named → Type 0
+IsSideIn branch name side = (seen : ContextedPatches) × AreSeen branch seen × IsSideAmong seen name side
+
+-- the question for the changes of the side of a patch, which the branch has
+abbrev pub IsSide : Contents → List ℕ → List ℕ → AnswerOf (List Primitive) → Type 0
+IsSide state branch name =
+    OfBranch state branch (λ catches. OfPatches catches (name ∷ []) (λ answer.
+    (side : List Named) × (answer ≡ Ok (changes_in side)) × IsSideIn catches name side))

@@ -1,0 +1,45 @@
+//! What two lists of lines have in common at their ends.
+ghost use Rattle.std.specs.Prelude.{◌≡◌, ◌≤◌, length, bytes_eq};
+ghost use Rattle.camp_questions.specs.CommonLines.{common_end, common_front};
+
+use camp_base::Line;
+
+/// How many lines are the same at the front of both.
+pub(crate) fn common_front(lines: &[Line], others: &[Line]) -> usize
+    ensures exact { result ≡ common_front lines.now others.now }
+    ensures within { result ≤ length lines.now }
+    ensures within_too { result ≤ length others.now }
+{
+    for at in 0..lines.len() {
+        if at >= others.len() {
+            return at;
+        }
+        if !is_same(&lines[at], &others[at]) {
+            return at;
+        }
+    }
+    lines.len()
+}
+
+/// How many lines are the same at the end of both.
+pub(crate) fn common_end(lines: &[Line], others: &[Line]) -> usize
+    ensures exact { result ≡ common_end lines.now others.now }
+    ensures within { result ≤ length lines.now }
+    ensures within_too { result ≤ length others.now }
+{
+    for at in 0..lines.len() {
+        if at >= others.len() {
+            return at;
+        }
+        if !is_same(&lines[lines.len() - 1 - at], &others[others.len() - 1 - at]) {
+            return at;
+        }
+    }
+    lines.len()
+}
+
+fn is_same(line: &Line, other: &Line) -> bool
+    ensures { result ≡ bytes_eq line.now other.now }
+{
+    line == other
+}

@@ -1,0 +1,236 @@
+//! A file with the open sides of its conflicts.
+ghost use Rattle.std.specs.Prelude.{◌≡◌, ◌++◌, [], bytes_eq, IfOk, OnOk};
+ghost use Rattle.std.specs.Cmp.Lexicographic.{pointwise};
+ghost use Rattle.std.specs.FinMap.{get};
+ghost use Rattle.camp_ctx.specs.Contexts.{AreValid};
+ghost use Rattle.camp_questions.specs.Answers.{TellsOrWants};
+ghost use Rattle.camp_questions.specs.Marks.{AreMarked, AreVersions, Makes, names_in_pairs, with_made};
+
+use crate::Unanswered;
+use crate::finding::branch_of;
+use crate::open_conflicts::open_among;
+use crate::places::with_marks;
+use crate::sides::{labels_seen, side_among};
+use camp_base::{Apply, Line, Name, Path, Tree};
+use camp_ctx::CtxSet;
+use camp_repo::{Branch, State};
+use camp_seq::apply_all;
+use camp_share::{Share, SharedList, SharedMap};
+use std::alloc::{AllocError, Global};
+use std::marker::Model;
+
+/// What is told of the marks of a path.
+#[derive(Drop)]
+pub enum Marked {
+    File(MarkedFile),
+    /// The branch has no file of this path.
+    NoFile,
+}
+
+/// A file with its places, and the lines behind them.
+#[derive(Drop)]
+pub struct MarkedFile {
+    places: Vec<Place>,
+    rest: SharedList<Line>,
+}
+
+impl Model for MarkedFile {
+    ghost use Rattle.camp_questions.specs.Places.{File};
+
+    ghost Value = { File };
+
+    ghost view = { λ file. record { places = file.places.items; rest = file.rest } };
+}
+
+impl MarkedFile {
+    pub(crate) fn new(places: Vec<Place>, rest: SharedList<Line>) -> MarkedFile
+        ensures { result ≡ record { places = places.items; rest = rest } }
+    {
+        MarkedFile { places, rest }
+    }
+
+    /// The places, from the top.
+    pub fn places(&self) -> &[Place]
+        ensures value { result.now ≡ self.now.places }
+    {
+        &self.places
+    }
+
+    /// The lines behind the last place.
+    pub fn rest(&self) -> &SharedList<Line>
+        ensures value { result.now ≡ self.now.rest }
+    {
+        &self.rest
+    }
+}
+
+/// A place of a file: its lines, those before it, up to the place above, and what the sides of patches
+/// have there.
+#[derive(Drop)]
+pub struct Place {
+    before: SharedList<Line>,
+    lines: SharedList<Line>,
+    sides: Vec<Version>,
+}
+
+impl Model for Place {
+    ghost use Rattle.camp_questions.specs.Places.{Place};
+
+    ghost Value = { Place };
+
+    ghost view = { λ place. record { before = place.before; lines = place.lines; sides = place.sides.items } };
+}
+
+impl Place {
+    pub(crate) fn new(
+        before: SharedList<Line>,
+        lines: SharedList<Line>,
+        sides: Vec<Version>,
+    ) -> Place
+        ensures { result ≡ record { before = before; lines = lines; sides = sides.items } }
+    {
+        Place {
+            before,
+            lines,
+            sides,
+        }
+    }
+
+    /// The lines before it, up to the place above.
+    pub fn before(&self) -> &SharedList<Line>
+        ensures value { result.now ≡ self.now.before }
+    {
+        &self.before
+    }
+
+    /// Its lines. There may be none, where sides only put lines in.
+    pub fn lines(&self) -> &SharedList<Line>
+        ensures value { result.now ≡ self.now.lines }
+    {
+        &self.lines
+    }
+
+    /// What each side has there, in the order of the patches in the branch.
+    pub fn sides(&self) -> &[Version]
+        ensures value { result.now ≡ self.now.sides }
+    {
+        &self.sides
+    }
+}
+
+/// Lines that a patch has in place of those of a file.
+#[derive(Drop)]
+pub struct Version {
+    pub name: Name,
+    pub lines: SharedList<Line>,
+}
+
+/// A file of a branch with the open sides of its conflicts.
+pub fn marks(state: &State, branch: &Name, path: &Path) -> Result<Marked, Unanswered>
+    ensures exact { TellsOrWants (AreMarked state.now branch.now path.now) result }
+{
+    let branch = branch_of(state, branch)?;
+    let tree = branch.tree();
+    let Some(lines) = tree.file(path) else {
+        return Ok(Marked::NoFile);
+    };
+    let seen = labels_seen(branch)?;
+    let pairs = open_among(branch.catches(), &seen)?;
+    let names = names_in_pairs(branch, &pairs)?;
+    let versions = versions_of(&seen, tree, path, lines, &names)?;
+    let file = with_marks(lines, &versions)?;
+    Ok(Marked::File(file))
+}
+
+/// The names of the patches of a branch that are in one of some pairs.
+fn names_in_pairs(branch: &Branch, pairs: &[(Name, Name)]) -> Result<Vec<Name>, AllocError>
+    ensures { IfOk result (λ names. names.items ≡ names_in_pairs branch.now pairs.now) }
+{
+    let mut set = SharedMap::new(branch.catches().allocator());
+    for pair in pairs {
+        let first = set.inserted(pair.0, ())?;
+        set = first.inserted(pair.1, ())?;
+    }
+    let mut names = branch.names()?;
+    names.retain(|name| set.contains_key(name));
+    Ok(names)
+}
+
+/// The versions that patches would make of a file, in their order.
+fn versions_of(
+    seen: &CtxSet,
+    tree: &Tree,
+    path: &Path,
+    lines: &SharedList<Line>,
+    names: &[Name],
+) -> Result<Vec<Version>, AllocError>
+    requires { AreValid tree.now seen.now }
+    ensures { IfOk result (λ versions. AreVersions seen.now tree.now path.now lines.now names.now versions.items) }
+{
+    let alloc = lines.allocator();
+    let mut versions = Vec::new(alloc);
+    for name in names {
+        let made = made_by(alloc, seen, tree, path, name)?;
+        push_made(&mut versions, lines, name, made)?;
+    }
+    Ok(versions)
+}
+
+/// Puts what a patch would make of a file behind the versions, where that is a file, and another one.
+fn push_made(
+    versions: &mut Vec<Version>,
+    lines: &SharedList<Line>,
+    name: &Name,
+    made: Option<SharedList<Line>>,
+) -> Result<(), AllocError>
+    ensures { OnOk result (versions.new.items ≡ versions.old.items ++ with_made lines.now name.now made []) }
+{
+    let Some(made) = made else {
+        return Ok(());
+    };
+    if is_same(lines, &made) {
+        return Ok(());
+    }
+    versions.push(Version {
+        name: *name,
+        lines: made,
+    })?;
+    Ok(())
+}
+
+fn is_same(lines: &SharedList<Line>, others: &SharedList<Line>) -> bool
+    ensures { result ≡ pointwise bytes_eq lines.now others.now }
+{
+    lines == others
+}
+
+/// What a patch would make of a path: what is there behind the changes of its side.
+fn made_by(
+    alloc: Global,
+    seen: &CtxSet,
+    tree: &Tree,
+    path: &Path,
+    name: &Name,
+) -> Result<Option<SharedList<Line>>, AllocError>
+    requires { AreValid tree.now seen.now }
+    ensures { IfOk result (Makes seen.now tree.now path.now name.now) }
+{
+    let side = side_among(alloc, seen, name)?;
+    let mut next = tree.try_clone()?;
+    match apply_all(&side, &mut next) {
+        Ok(()) => {}
+        Err(Apply::Memory) => return Err(AllocError),
+        Err(Apply::DoesNotApply) => unreachable!(),
+    }
+    let made = file_at(&next, path)?;
+    Ok(made)
+}
+
+fn file_at(tree: &Tree, path: &Path) -> Result<Option<SharedList<Line>>, AllocError>
+    ensures { IfOk result (λ lines. lines ≡ get tree.now path.now) }
+{
+    match tree.file(path) {
+        Some(lines) => Ok(Some(lines.share()?)),
+        None => Ok(None),
+    }
+}

@@ -1,0 +1,138 @@
+//! Which conflicts of a branch are still open.
+ghost use Rattle.std.specs.Prelude.{◌≡◌, ◌++◌, IfOk, OnOk};
+ghost use Rattle.std.specs.List.{flat_map};
+ghost use Rattle.camp_branch.specs.Inside.Collecting.{pair_of};
+ghost use Rattle.camp_questions.specs.Answers.{TellsOrWants};
+ghost use Rattle.camp_questions.specs.Inside.OpenPairs.{open_at, open_in, open_with, open_within};
+ghost use Rattle.camp_questions.specs.OpenConflicts.{AreOpen, AreOpenAmong, is_open, takes_back};
+
+use crate::Unanswered;
+use crate::finding::branch_of;
+use crate::sides::labels_seen;
+use camp_base::Name;
+use camp_catch::Catch;
+use camp_ctx::{Contexted, CtxSet};
+use camp_prim::Key;
+use camp_repo::{Conflicts, State};
+use camp_share::{Shared, SharedList};
+use std::alloc::AllocError;
+use std::cmp::Ordering;
+
+/// The pairs of patches that are in an open conflict: each once, the lesser name first, in ascending
+/// order.
+pub fn open_pairs(state: &State, branch: &Name) -> Result<Conflicts, Unanswered>
+    ensures exact { TellsOrWants (AreOpen state.now branch.now) result }
+{
+    let branch = branch_of(state, branch)?;
+    let seen = labels_seen(branch)?;
+    let pairs = open_among(branch.catches(), &seen)?;
+    Ok(Conflicts::new(pairs))
+}
+
+/// The open conflicts among labels as seen from the end of a branch.
+pub(crate) fn open_among(
+    catches: &SharedList<Shared<Catch>>,
+    seen: &CtxSet,
+) -> Result<Vec<(Name, Name)>, AllocError>
+    ensures { IfOk result (λ pairs. AreOpenAmong catches.now seen.now pairs.items) }
+{
+    let mut pairs = collected(catches, seen)?;
+    pairs.sort_unstable();
+    pairs.dedup();
+    Ok(pairs)
+}
+
+/// The pairs as the catches have them.
+fn collected(
+    catches: &SharedList<Shared<Catch>>,
+    seen: &CtxSet,
+) -> Result<Vec<(Name, Name)>, AllocError>
+    ensures { IfOk result (λ pairs. pairs.items ≡ open_in seen.now catches.now) }
+{
+    let mut pairs = Vec::new(catches.allocator());
+    for catch in catches.iter() {
+        collect_from(catch, seen, &mut pairs)?;
+    }
+    Ok(pairs)
+}
+
+fn collect_from(
+    catch: &Catch,
+    seen: &CtxSet,
+    pairs: &mut Vec<(Name, Name)>,
+) -> Result<(), AllocError>
+    ensures { OnOk result (pairs.new.items ≡ pairs.old.items ++ open_at seen.now catch.now) }
+{
+    match catch {
+        Catch::Plain(_) => Ok(()),
+        Catch::Conflictor(k) => {
+            if !is_open(seen, &k.identity.key()) {
+                return Ok(());
+            }
+            collect_members(k.identity.name(), &k.conflicts, seen, pairs)
+        }
+    }
+}
+
+fn collect_members(
+    name: &Name,
+    set: &CtxSet,
+    seen: &CtxSet,
+    pairs: &mut Vec<(Name, Name)>,
+) -> Result<(), AllocError>
+    ensures { OnOk result (pairs.new.items ≡ pairs.old.items ++ flat_map (pair_of name.now) (open_within seen.now set.now)) }
+{
+    for index in 0..set.len() {
+        if let Some(member) = set.at(index) {
+            collect_member(name, member, seen, pairs)?;
+        }
+    }
+    Ok(())
+}
+
+fn collect_member(
+    name: &Name,
+    member: &Contexted,
+    seen: &CtxSet,
+    pairs: &mut Vec<(Name, Name)>,
+) -> Result<(), AllocError>
+    ensures { OnOk result (pairs.new.items ≡ pairs.old.items ++ open_with seen.now name.now member.now) }
+{
+    if !is_open(seen, &member.key()) {
+        return Ok(());
+    }
+    push_pair(name, member.name(), pairs)
+}
+
+/// The two names, the lesser first, unless they are one.
+fn push_pair(name: &Name, other: &Name, pairs: &mut Vec<(Name, Name)>) -> Result<(), AllocError>
+    ensures { OnOk result (pairs.new.items ≡ pairs.old.items ++ pair_of name.now other.now) }
+{
+    match name.cmp(other) {
+        Ordering::Less => pairs.push((*name, *other))?,
+        Ordering::Equal => {}
+        Ordering::Greater => pairs.push((*other, *name))?,
+    }
+    Ok(())
+}
+
+/// Whether a label is seen, and to put it in nothing has to be taken back.
+fn is_open(seen: &CtxSet, key: &Key) -> bool
+    ensures { result ≡ is_open seen.now key.now }
+{
+    match seen.get(key) {
+        Some(x) => !takes_back(x),
+        None => false,
+    }
+}
+
+fn takes_back(x: &Contexted) -> bool
+    ensures { result ≡ takes_back x.now }
+{
+    for p in x.context().items() {
+        if p.inverse {
+            return true;
+        }
+    }
+    false
+}

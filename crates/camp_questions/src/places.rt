@@ -1,0 +1,246 @@
+//! The places of a file where versions of it differ from it.
+ghost use Rattle.std.specs.Prelude.{◌≡◌, ◌≤◌, [], ◌∷◌, ◌++◌, map, filter, fold, if◌then◌else◌, nat_lt, min, max, IfOk, OnOk};
+ghost use Rattle.std.specs.List.{slice_range};
+ghost use Rattle.camp_questions.specs.Inside.Placing.{is_within};
+ghost use Rattle.camp_questions.specs.Places.{at_place, differs_within, joined, place_from, range_of, touch, with_marks, with_range};
+
+use crate::common_lines::{common_end, common_front};
+use crate::marking::{MarkedFile, Place, Version};
+use camp_base::Line;
+use camp_share::SharedList;
+use std::alloc::{AllocError, Global};
+
+/// Lines of a file, from one place up to another; none, where the two are one.
+#[derive(Clone, Copy, Debug)]
+pub struct Range {
+    pub from: usize,
+    pub to: usize,
+}
+
+/// A file with what versions of it have at the places where they differ from it.
+pub(crate) fn with_marks(
+    lines: &SharedList<Line>,
+    versions: &[Version],
+) -> Result<MarkedFile, AllocError>
+    ensures { IfOk result (λ file. file ≡ with_marks lines.now versions.now) }
+{
+    let alloc = lines.allocator();
+    let ranges = ranges_of(alloc, lines, versions)?;
+    let found = places_of(alloc, &ranges)?;
+    let mut places = Vec::with_capacity(alloc, found.len())?;
+    let mut at = 0;
+    for place in &found {
+        let next = place_from(lines, versions, &ranges, at, *place)?;
+        places.push(next)?;
+        at = place.to;
+    }
+    let rest = part(lines, at, lines.len())?;
+    Ok(MarkedFile::new(places, rest))
+}
+
+/// The lines of a file where each version differs from it.
+fn ranges_of(
+    alloc: Global,
+    lines: &SharedList<Line>,
+    versions: &[Version],
+) -> Result<Vec<Range>, AllocError>
+    ensures { IfOk result (λ ranges. ranges.items ≡ map (λ version. range_of lines.now version.lines) versions.now) }
+{
+    let lines = lines.to_vec()?;
+    let mut ranges = Vec::with_capacity(alloc, versions.len())?;
+    for version in versions {
+        let others = version.lines.to_vec()?;
+        ranges.push(range_of(&lines, &others))?;
+    }
+    Ok(ranges)
+}
+
+/// The lines of a file that stand behind what it has in common with another at the front, and before
+/// what the two have in common behind that at the end.
+fn range_of(lines: &[Line], others: &[Line]) -> Range
+    ensures { result ≡ range_of lines.now others.now }
+{
+    let from = common_front(lines, others);
+    let end = common_end(&lines[from..], &others[from..]);
+    Range {
+        from,
+        to: lines.len() - end,
+    }
+}
+
+/// The places that ranges make: those that overlap or touch are one.
+fn places_of(alloc: Global, ranges: &[Range]) -> Result<Vec<Range>, AllocError>
+    ensures { IfOk result (λ places. places.items ≡ fold with_range [] ranges.now) }
+{
+    let mut places = Vec::new(alloc);
+    for range in ranges {
+        places = with_range(alloc, &places, *range)?;
+    }
+    Ok(places)
+}
+
+/// A range among places that lie apart, from the top: those before it, the one that it makes with those
+/// that it touches, and those behind it.
+fn with_range(alloc: Global, places: &[Range], range: Range) -> Result<Vec<Range>, AllocError>
+    ensures { IfOk result (λ new. new.items ≡ with_range places.now range) }
+{
+    let mut new = places_before(alloc, places, range)?;
+    let whole = joined_with(range, places);
+    new.push(whole)?;
+    let behind = places_behind(alloc, places, range)?;
+    new.extend_from_slice(&behind)?;
+    Ok(new)
+}
+
+fn places_before(alloc: Global, places: &[Range], range: Range) -> Result<Vec<Range>, AllocError>
+    ensures { IfOk result (λ before. before.items ≡ filter (λ place. nat_lt place.to range.from) places.now) }
+{
+    let mut before = Vec::from_slice(alloc, places)?;
+    before.retain(|place| place.to < range.from);
+    Ok(before)
+}
+
+fn places_behind(alloc: Global, places: &[Range], range: Range) -> Result<Vec<Range>, AllocError>
+    ensures { IfOk result (λ behind. behind.items ≡ filter (λ place. nat_lt range.to place.from) places.now) }
+{
+    let mut behind = Vec::from_slice(alloc, places)?;
+    behind.retain(|place| range.to < place.from);
+    Ok(behind)
+}
+
+/// A range and those that it touches, as one.
+fn joined_with(range: Range, places: &[Range]) -> Range
+    ensures { result ≡ fold joined range (filter (touch range) places.now) }
+{
+    let mut whole = range;
+    for place in places {
+        if touch(range, *place) {
+            whole = join(whole, *place);
+        }
+    }
+    whole
+}
+
+/// Whether two ranges overlap or touch.
+fn touch(range: Range, other: Range) -> bool
+    ensures { result ≡ touch range other }
+{
+    if range.from > other.to {
+        return false;
+    }
+    other.from <= range.to
+}
+
+/// The two as one.
+fn join(range: Range, other: Range) -> Range
+    ensures { result ≡ joined range other }
+{
+    Range {
+        from: lesser(range.from, other.from),
+        to: greater(range.to, other.to),
+    }
+}
+
+/// A place, with what stands between an earlier line and it.
+fn place_from(
+    lines: &SharedList<Line>,
+    versions: &[Version],
+    ranges: &[Range],
+    at: usize,
+    place: Range,
+) -> Result<Place, AllocError>
+    requires { ranges.now ≡ map (λ version. range_of lines.now version.lines) versions.now }
+    ensures { IfOk result (λ next. next ≡ place_from lines.now versions.now at place) }
+{
+    let before = part(lines, at, place.from)?;
+    let within = part(lines, place.from, place.to)?;
+    let sides = sides_at(lines, versions, ranges, place)?;
+    Ok(Place::new(before, within, sides))
+}
+
+/// What those versions have at a place that differ within it.
+fn sides_at(
+    lines: &SharedList<Line>,
+    versions: &[Version],
+    ranges: &[Range],
+    place: Range,
+) -> Result<Vec<Version>, AllocError>
+    requires { ranges.now ≡ map (λ version. range_of lines.now version.lines) versions.now }
+    ensures { IfOk result (λ sides. sides.items ≡ map (at_place lines.now place) (filter (differs_within lines.now place) versions.now)) }
+{
+    let mut sides = Vec::new(lines.allocator());
+    for at in 0..versions.len() {
+        push_within(&mut sides, lines, place, &ranges[at], &versions[at])?;
+    }
+    Ok(sides)
+}
+
+/// Puts what a version has at a place behind the sides, where it differs within it.
+fn push_within(
+    sides: &mut Vec<Version>,
+    lines: &SharedList<Line>,
+    place: Range,
+    range: &Range,
+    version: &Version,
+) -> Result<(), AllocError>
+    ensures { OnOk result (sides.new.items ≡
+        (if is_within range.now place then sides.old.items ++ at_place lines.now place version.now ∷ [] else sides.old.items)) }
+{
+    if !is_within(*range, place) {
+        return Ok(());
+    }
+    let side = at_place(lines, place, version)?;
+    sides.push(side)?;
+    Ok(())
+}
+
+/// Whether a range lies within a place.
+fn is_within(range: Range, place: Range) -> bool
+    ensures { result ≡ is_within range place }
+{
+    if place.from > range.from {
+        return false;
+    }
+    range.to <= place.to
+}
+
+/// What a version has at a place.
+fn at_place(
+    lines: &SharedList<Line>,
+    place: Range,
+    version: &Version,
+) -> Result<Version, AllocError>
+    ensures { IfOk result (λ side. side ≡ at_place lines.now place version.now) }
+{
+    let behind = lines.len().saturating_sub(place.to);
+    let to = version.lines.len().saturating_sub(behind);
+    let there = part(&version.lines, place.from, to)?;
+    Ok(Version {
+        name: version.name,
+        lines: there,
+    })
+}
+
+/// Lines from one place up to another; none, where there are none.
+fn part(lines: &SharedList<Line>, from: usize, to: usize) -> Result<SharedList<Line>, AllocError>
+    ensures { IfOk result (λ part. part ≡ slice_range lines.now from to) }
+{
+    let end = lesser(to, lines.len());
+    let start = lesser(from, end);
+    let part = lines.copied(start, end)?;
+    Ok(part)
+}
+
+fn lesser(a: usize, b: usize) -> usize
+    ensures exact { result ≡ min a b }
+    ensures first { result ≤ a }
+    ensures second { result ≤ b }
+{
+    usize::min(a, b)
+}
+
+fn greater(a: usize, b: usize) -> usize
+    ensures { result ≡ max a b }
+{
+    usize::max(a, b)
+}

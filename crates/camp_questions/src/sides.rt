@@ -1,0 +1,209 @@
+//! What patches in conflict say, as seen from the end of a branch.
+ghost use Rattle.std.specs.Prelude.{◌≡◌, [], ◌∷◌, ◌++◌, is_some, IfOk, OnOk};
+ghost use Rattle.std.specs.FinMap.{get};
+ghost use Rattle.std.specs.Ordering.{eq_by_cmp};
+ghost use Rattle.camp_catch.specs.declared.catches.Catch.TheVariants as catch;
+ghost use Rattle.camp_prim.specs.Labels.{key_cmp, key_of, label_of};
+ghost use Rattle.camp_prim.specs.declared.labels.Key.{Key as AnyKey};
+ghost use Rattle.camp_seq.specs.Running.{inverse_all};
+ghost use Rattle.camp_questions.specs.Answers.{TellsOrWants};
+ghost use Rattle.camp_questions.specs.Inside.Seeing.{AllSeenToo, ComesIfNamed, SeenToo};
+ghost use Rattle.camp_questions.specs.Showing.{changes_in};
+ghost use Rattle.camp_questions.specs.Sides.{AreSeen, ComesBehind, IsSide, IsSideAmong, has_key, told_by};
+
+use crate::Unanswered;
+use crate::finding::branch_with;
+use camp_base::Name;
+use camp_catch::{Catch, Conflictor};
+use camp_ctx::{Contexted, CtxSet};
+use camp_prim::{Key, Named, Primitive};
+use camp_repo::{Branch, State};
+use camp_seq::{Seq, invert_all};
+use std::alloc::{AllocError, Global};
+use std::marker::Model;
+use std::slice;
+
+/// What a patch in conflict says.
+#[derive(Drop)]
+pub struct Said {
+    changes: Vec<Primitive>,
+}
+
+impl Model for Said {
+    ghost use Rattle.std.specs.Prelude.{List};
+    ghost use Rattle.camp_prim.specs.declared.primitives.Primitive.{Primitive};
+
+    ghost Value = { List Primitive };
+
+    ghost view = { λ said. said.changes.items };
+}
+
+impl Said {
+    /// The changes that put the patch in at the end of the branch, one after the other. There may be
+    /// more than a patch has room for.
+    pub fn changes(&self) -> &[Primitive]
+        ensures value { result.now ≡ self.now }
+    {
+        &self.changes
+    }
+
+    /// The changes, given away.
+    pub fn into_changes(self) -> Vec<Primitive>
+        ensures value { result.items ≡ self }
+    {
+        self.changes
+    }
+}
+
+/// The side of a patch in a branch. A patch that is in no conflict has the empty one.
+pub fn side(state: &State, branch: &Name, name: &Name) -> Result<Said, Unanswered>
+    ensures exact { TellsOrWants (IsSide state.now branch.now name.now) result }
+{
+    let branch = branch_with(state, branch, slice::from_ref(name))?;
+    let alloc = branch.catches().allocator();
+    let seen = labels_seen(branch)?;
+    let side = side_among(alloc, &seen, name)?;
+    let changes = changes_in(alloc, side.items())?;
+    Ok(Said { changes })
+}
+
+fn changes_in(alloc: Global, side: &[Named]) -> Result<Vec<Primitive>, AllocError>
+    ensures { IfOk result (λ changes. changes.items ≡ changes_in side.now) }
+{
+    let mut changes = Vec::with_capacity(alloc, side.len())?;
+    for p in side {
+        changes.push(p.prim.try_clone()?)?;
+    }
+    Ok(changes)
+}
+
+/// The labels in conflict of a branch, as seen from its end: from the last catch to the first, with
+/// the inverses of the effects behind it.
+pub(crate) fn labels_seen(branch: &Branch) -> Result<CtxSet, AllocError>
+    ensures { IfOk result (λ seen. AreSeen branch.now seen) }
+{
+    let alloc = branch.catches().allocator();
+    let catches = branch.catches().to_vec()?;
+    let mut undone = Seq::empty(alloc);
+    let mut seen = CtxSet::empty(alloc);
+    for at in (0..catches.len()).rev() {
+        seen = with_told(seen, &catches[at], &undone)?;
+        append_inverse(&mut undone, catches[at].effect())?;
+    }
+    Ok(seen)
+}
+
+/// The labels that are seen, and those that a catch tells too.
+fn with_told(seen: CtxSet, catch: &Catch, undone: &Seq) -> Result<CtxSet, AllocError>
+    ensures { IfOk result (λ next. (key : AnyKey) →
+        SeenToo undone.now (get seen key) (told_by catch.now key) (get next key)) }
+{
+    match catch {
+        Catch::Plain(_) => Ok(seen),
+        Catch::Conflictor(k) => with_conflictor(seen, k, undone),
+    }
+}
+
+fn with_conflictor(was: CtxSet, k: &Conflictor, undone: &Seq) -> Result<CtxSet, AllocError>
+    ensures { IfOk result (λ next. (key : AnyKey) →
+        SeenToo undone.now (get was key) (told_by (catch.Conflictor k.now) key) (get next key)) }
+{
+    let mut seen = with_label(was, &k.identity, undone)?;
+    for index in 0..k.conflicts.len() {
+        if let Some(member) = k.conflicts.at(index) {
+            seen = with_label(seen, member, undone)?;
+        }
+    }
+    Ok(seen)
+}
+
+/// The labels that are seen, and one more, unless it is seen already.
+fn with_label(seen: CtxSet, x: &Contexted, undone: &Seq) -> Result<CtxSet, AllocError>
+    ensures { IfOk result (AllSeenToo undone.now (x.now ∷ []) seen) }
+{
+    if is_seen(&seen, &x.key()) {
+        return Ok(seen);
+    }
+    let added = Contexted::add(undone, x)?;
+    let next = seen.insert(&added)?;
+    Ok(next)
+}
+
+fn is_seen(seen: &CtxSet, key: &Key) -> bool
+    ensures { result ≡ is_some (get seen.now key.now) }
+{
+    seen.get(key).is_some()
+}
+
+/// The list with the inverses of another behind it, from the last to the first.
+fn append_inverse(list: &mut Seq, effect: &[Named]) -> Result<(), AllocError>
+    ensures { OnOk result (list.new ≡ list.old ++ inverse_all effect.now) }
+{
+    for at in (0..effect.len()).rev() {
+        list.push(effect[at].try_clone()?.invert())?;
+    }
+    Ok(())
+}
+
+/// The side of a patch among labels as seen from the end of a branch.
+pub(crate) fn side_among(alloc: Global, seen: &CtxSet, name: &Name) -> Result<Seq, AllocError>
+    ensures { IfOk result (λ side. IsSideAmong seen.now name.now side) }
+{
+    let mut side = Seq::empty(alloc);
+    for index in 0..seen.len() {
+        if let Some(label) = seen.at(index) {
+            append_named(&mut side, name, label)?;
+        }
+    }
+    Ok(side)
+}
+
+/// Puts a contexted patch of a name behind changes.
+fn append_named(side: &mut Seq, name: &Name, x: &Contexted) -> Result<(), AllocError>
+    ensures { OnOk result (ComesIfNamed side.old name.now x.now side.new) }
+{
+    if name != x.name() {
+        return Ok(());
+    }
+    append_label(side, x)
+}
+
+/// Puts a contexted patch behind changes, unless its label stands there already.
+fn append_label(side: &mut Seq, x: &Contexted) -> Result<(), AllocError>
+    ensures { OnOk result (ComesBehind side.old x.now side.new) }
+{
+    if has_key(side.items(), &x.key()) {
+        return Ok(());
+    }
+    let back = invert_all(side)?;
+    let seen = Contexted::add(&back, x)?;
+    append_all(side, seen.context().items())?;
+    side.push(seen.patch().try_clone()?)?;
+    Ok(())
+}
+
+fn append_all(list: &mut Seq, more: &[Named]) -> Result<(), AllocError>
+    ensures { OnOk result (list.new ≡ list.old ++ more.now) }
+{
+    for p in more {
+        list.push(p.try_clone()?)?;
+    }
+    Ok(())
+}
+
+fn has_key(list: &[Named], key: &Key) -> bool
+    ensures { result ≡ has_key list.now key.now }
+{
+    for p in list {
+        if is_at(p, key) {
+            return true;
+        }
+    }
+    false
+}
+
+fn is_at(p: &Named, key: &Key) -> bool
+    ensures { result ≡ eq_by_cmp key_cmp key.now (key_of (label_of p.now)) }
+{
+    key.cmp(&p.label().key()).is_eq()
+}

@@ -1,0 +1,141 @@
+//! Conflicts, and what their sides say, as texts.
+ghost use Rattle.std.specs.Prelude.{◌≡◌, ◌++◌, IfOk, OnOk};
+ghost use Rattle.std.specs.List.{flat_map};
+ghost use Rattle.camp_questions.specs.Marks.{AreMarked};
+ghost use Rattle.camp_questions.specs.OpenConflicts.{AreOpen};
+ghost use Rattle.camp_questions.specs.Sides.{IsSide};
+ghost use Rattle.camp_script.specs.Texts.{pair_text};
+ghost use Rattle.camp_talk.specs.Told.{IsTold, marked_lines, marks_told, open_told, place_text, side_text, side_told};
+
+use crate::told::{counted, unanswered};
+use crate::told_lines::{append_lines, no_file};
+use camp_base::{Name, Path};
+use camp_questions::{Marked, MarkedFile, Place, Said, Version, marks, open_pairs, side};
+use camp_repo::{Conflicts, State};
+use camp_script::append_changes;
+use std::alloc::{AllocError, Global};
+
+/// The pairs of patches of a branch that are in an open conflict.
+pub(crate) fn tell_open(alloc: Global, state: &State, branch: &Name) -> Result<Vec<u8>, AllocError>
+    ensures { IfOk result (λ text. IsTold open_told (AreOpen state.now branch.now) text.items) }
+{
+    match open_pairs(state, branch) {
+        Ok(pairs) => tell_pairs(alloc, &pairs),
+        Err(why) => unanswered(alloc, why),
+    }
+}
+
+fn tell_pairs(alloc: Global, pairs: &Conflicts) -> Result<Vec<u8>, AllocError>
+    ensures { IfOk result (λ text. text.items ≡ open_told pairs.now) }
+{
+    let text = pair_lines(alloc, pairs.pairs())?;
+    counted(alloc, "open", &text)
+}
+
+fn pair_lines(alloc: Global, pairs: &[(Name, Name)]) -> Result<Vec<u8>, AllocError>
+    ensures { IfOk result (λ text. text.items ≡ flat_map pair_text pairs.now) }
+{
+    let mut text = Vec::new(alloc);
+    for pair in pairs {
+        text.extend_from_slice(pair.0.bytes())?;
+        text.push(b' ')?;
+        text.extend_from_slice(pair.1.bytes())?;
+        text.push(b'\n')?;
+    }
+    Ok(text)
+}
+
+/// The changes of the side of a patch.
+pub(crate) fn tell_side(
+    alloc: Global,
+    state: &State,
+    branch: &Name,
+    name: &Name,
+) -> Result<Vec<u8>, AllocError>
+    ensures { IfOk result (λ text. IsTold side_told (IsSide state.now branch.now name.now) text.items) }
+{
+    match side(state, branch, name) {
+        Ok(said) => tell_said(alloc, &said),
+        Err(why) => unanswered(alloc, why),
+    }
+}
+
+fn tell_said(alloc: Global, said: &Said) -> Result<Vec<u8>, AllocError>
+    ensures { IfOk result (λ text. text.items ≡ side_told said.now) }
+{
+    let mut text = Vec::new(alloc);
+    append_changes(&mut text, said.changes())?;
+    counted(alloc, "side", &text)
+}
+
+/// A file of a branch with the open sides of its conflicts.
+pub(crate) fn tell_marks(
+    alloc: Global,
+    state: &State,
+    branch: &Name,
+    path: &Path,
+) -> Result<Vec<u8>, AllocError>
+    ensures { IfOk result (λ text. IsTold marks_told (AreMarked state.now branch.now path.now) text.items) }
+{
+    match marks(state, branch, path) {
+        Ok(marked) => tell_marked(alloc, &marked),
+        Err(why) => unanswered(alloc, why),
+    }
+}
+
+fn tell_marked(alloc: Global, marked: &Marked) -> Result<Vec<u8>, AllocError>
+    ensures { IfOk result (λ text. text.items ≡ marks_told marked.now) }
+{
+    match marked {
+        Marked::File(file) => {
+            let text = marked_lines(alloc, file)?;
+            counted(alloc, "marks", &text)
+        }
+        Marked::NoFile => no_file(alloc),
+    }
+}
+
+fn marked_lines(alloc: Global, file: &MarkedFile) -> Result<Vec<u8>, AllocError>
+    ensures { IfOk result (λ text. text.items ≡ marked_lines file.now) }
+{
+    let mut text = Vec::new(alloc);
+    for place in file.places() {
+        append_place(alloc, &mut text, place)?;
+    }
+    append_lines(&mut text, b'=', file.rest())?;
+    Ok(text)
+}
+
+fn append_place(alloc: Global, text: &mut Vec<u8>, place: &Place) -> Result<(), AllocError>
+    ensures { OnOk result (text.new.items ≡ text.old.items ++ place_text place.now) }
+{
+    append_lines(text, b'=', place.before())?;
+    let sides = place.sides().len();
+    let lines = place.lines().len();
+    let head = format!(in alloc; "conflict {sides} {lines}")?.into_bytes();
+    text.extend_from_slice(&head)?;
+    text.push(b'\n')?;
+    append_lines(text, b'=', place.lines())?;
+    append_sides(alloc, text, place.sides())
+}
+
+fn append_sides(alloc: Global, text: &mut Vec<u8>, sides: &[Version]) -> Result<(), AllocError>
+    ensures { OnOk result (text.new.items ≡ text.old.items ++ flat_map side_text sides.now) }
+{
+    for side in sides {
+        append_side(alloc, text, side)?;
+    }
+    Ok(())
+}
+
+fn append_side(alloc: Global, text: &mut Vec<u8>, side: &Version) -> Result<(), AllocError>
+    ensures { OnOk result (text.new.items ≡ text.old.items ++ side_text side.now) }
+{
+    text.extend_from_slice(b"side ")?;
+    text.extend_from_slice(side.name.bytes())?;
+    let lines = side.lines.len();
+    let count = format!(in alloc; " {lines}")?.into_bytes();
+    text.extend_from_slice(&count)?;
+    text.push(b'\n')?;
+    append_lines(text, b'+', &side.lines)
+}
