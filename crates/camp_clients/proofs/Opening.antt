@@ -18,7 +18,7 @@ module _ {Call : Type 0} (seats per_seat tries : ℕ) (head : HeadId) (made : Li
       let at : get_or made k d ≡ seat_at head k = ap (λ xs. get_or xs k d) opened.all
       ∙ get_or-map-range_with_len (seat_at head) 0 seats k k d (omega (arith, opened_length)) (zero-add k) in
       subst (IsNew head k) (sym at) (record {
-        is_seat = record { row = refl; stored = λ i e none. absurd (omega arith); front_stored = λ i e none. absurd (omega arith) };
+        is_seat = record { row = refl; stored = λ i e none. absurd (omega arith); bases = λ i e none. absurd (omega arith) };
         number_is = refl;
         unseen = refl;
       })

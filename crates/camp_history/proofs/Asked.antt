@@ -1,6 +1,6 @@
 -- Lemmas on the answers to a call at a seat.
-use Rattle.camp_history.proofs.Words.{length-append, append-nil, append_assoc, map-append, All-same, Where, Shows, Sequential, IsLawfulObject, Next, Fault, Memory, front_self, HeadId, Seated, asked, history_of, IsSeatOf, caller_at, Mark, ◌≡◌, ℕ, suc, ◌+◌, ◌<◌, false, List, [], ◌∷◌, ◌++◌, length, map, All, Option, Some, Result, Ok, Err, IsErrAnd, refl, sym, ◌∙◌, ap, subst, arith, add-one, IsFront, replay, IsLegal, IsAccepted, own, Caller, Ask, AddsNothing, Loses, IsNotBusy, replay_accepted, accepted_at, ask_done, ask_memory, ask_since, loses_more, never_busy_among_own, entry_of, entries_of, DecidesAt, SeesMore, FindsMore, Publishes, LosesOne, Attempts}
-pub use Rattle.camp_history.proofs.Seeing.{all_more, history_front, history_more, sees_more_more, sees_more_self}
+use Rattle.camp_history.proofs.Words.{length-append, length-map, append-nil, append_assoc, map-append, All-same, Where, Shows, Sequential, IsLawfulObject, Next, Fault, Memory, front_self, HeadId, Seated, asked, history_of, IsSeatOf, IsBaseAt, caller_at, Mark, ◌≡◌, ℕ, suc, ◌+◌, ◌<◌, false, List, [], ◌∷◌, ◌++◌, length, map, All, Option, Some, Result, Ok, Err, IsErrAnd, refl, sym, ◌∙◌, ap, subst, arith, add-one, IsFront, replay, IsLegal, IsAccepted, own, Caller, Ask, AddsNothing, Loses, IsNotBusy, replay_accepted, accepted_at, ask_done, ask_memory, ask_since, loses_more, never_busy_among_own, entry_of, entries_of, DecidesAt, SeesMore, FindsMore, Publishes, LosesOne, Attempts}
+pub use Rattle.camp_history.proofs.Seeing.{all_more, history_more, sees_more_more, sees_more_self}
 
 -- a seat that sees more adds nothing of its own
 pub adds_nothing : {Call : Type 0} (head : HeadId) {old new : Seated Call} → SeesMore old new → AddsNothing (caller_at head old) (history_of old) (history_of new)
@@ -42,7 +42,7 @@ pub seat_published : {Call : Type 0} (head : HeadId) (old new : Seated Call) (ca
 seat_published head old new call of shows publishes = record {
   row = publishes.row ∙ of.row;
   stored = all_more old.marks new.marks (record { seat = old.known.number; call = call }) publishes.marks (λ mark. Shows head.store mark.call) of.stored shows;
-  front_stored = All-same (λ mark. Shows head.store mark.call) new.front old.front publishes.front of.front_stored;
+  bases = All-same (IsBaseAt head.slots) new.bases old.bases publishes.bases of.bases;
 }
 
 -- a seat that found more has seen no more
@@ -50,30 +50,25 @@ pub finds_sees : {Call : Type 0} {old new : Seated Call} → FindsMore old new �
 finds_sees {old = old} {new = new} finds = record {
   number = finds.number;
   row = finds.row;
-  more = record { rest = []; makes = append-nil old.marks ∙ sym finds.marks };
+  more = record { rest = []; makes = append-nil (history_of old) ∙ sym (ap (map asked) finds.marks) };
   own_stays = ap (λ marks. own old.known.number (map asked marks)) finds.marks;
 }
 
 -- after a lost exchange the seat sees another call, which went ahead
 pub sees_ahead : {Call : Type 0} {old lost new : Seated Call} → FindsMore old lost → SeesMore lost new → entries_of new ≡ lost.known.ahead
-    → (ahead : Mark Call) × IsFront (history_of old ++ asked ahead ∷ []) (history_of new)
+    → (ahead : ℕ × Call) × IsFront (history_of old ++ ahead ∷ []) (history_of new)
 sees_ahead {Call = Call} {old = old} {lost = lost} {new = new} finds more whole = at more.more.rest more.more.makes
   where
-    at : (rest : List (Mark Call)) → lost.marks ++ rest ≡ new.marks → (ahead : Mark Call) × IsFront (history_of old ++ asked ahead ∷ []) (history_of new)
+    at : (rest : List (ℕ × Call)) → history_of lost ++ rest ≡ history_of new → (ahead : ℕ × Call) × IsFront (history_of old ++ ahead ∷ []) (history_of new)
     at [] makes =
-        let same : entries_of new ≡ entries_of lost = ap (map entry_of) (sym makes ∙ append-nil lost.marks) in
-        let longer : entries_of lost ++ finds.longer.next ∷ finds.longer.rest ≡ entries_of lost = finds.longer.is ∙ sym whole ∙ same in
-        let lengths : length (entries_of lost ++ finds.longer.next ∷ finds.longer.rest) ≡ length (entries_of lost) = ap length longer in
-        absurd (omega (arith, length-append (entries_of lost) (finds.longer.next ∷ finds.longer.rest)))
+        let same : length (history_of lost ++ []) ≡ length (history_of new) = ap length makes in
+        let longer : length (entries_of lost ++ finds.longer.next ∷ finds.longer.rest) ≡ length (entries_of new) = ap length (finds.longer.is ∙ sym whole) in
+        absurd (omega (arith, same, longer, length-append (history_of lost) [], length-append (entries_of lost) (finds.longer.next ∷ finds.longer.rest), length-map lost.marks asked, length-map new.marks asked, length-map lost.marks entry_of, length-map new.marks entry_of))
     at (ahead ∷ rest) makes = (
       ahead,
       record {
-        rest = map asked rest;
-        makes =
-            append_assoc (history_of old) (asked ahead ∷ []) (map asked rest)
-            ∙ sym (map-append asked old.marks (ahead ∷ rest))
-            ∙ ap (λ marks. map asked (marks ++ ahead ∷ rest)) (sym finds.marks)
-            ∙ ap (map asked) makes;
+        rest = rest;
+        makes = append_assoc (history_of old) (ahead ∷ []) rest ∙ ap (λ history. history ++ ahead ∷ rest) (sym (ap (map asked) finds.marks)) ∙ makes;
       },
     )
 
@@ -83,7 +78,7 @@ pub ask_later : {State Call Reply : Type 0} (object : Sequential State Call Repl
     → Ask object (caller_at head seat) (history_of seat) call answer now → Ask object (caller_at head start) (history_of start) call answer now
 ask_later object head start seat more call answer now ask =
     let Asks : Caller → Type 0 = λ caller. Ask object caller (history_of seat) call answer now in
-    ask_since object (caller_at head start) call now (history_of start) (history_of seat) refl (history_front more) more.own_stays answer (subst Asks (same_caller head start seat more.number) ask)
+    ask_since object (caller_at head start) call now (history_of start) (history_of seat) refl more.more more.own_stays answer (subst Asks (same_caller head start seat more.number) ask)
 
 -- one more lost exchange
 pub loses_again : {State Call Reply : Type 0} (object : Sequential State Call Reply) (head : HeadId) (call : Call) (times : ℕ) (start old lost new : Seated Call)
@@ -91,7 +86,7 @@ pub loses_again : {State Call Reply : Type 0} (object : Sequential State Call Re
     → Loses object call (times + 1) (history_of start) (history_of new)
 loses_again object head call times start old lost new loses one more whole =
     let ahead = sees_ahead one.finds more whole in
-    let again : Loses object call (suc times) (history_of start) (history_of new) = loses_more object call times (history_of start) (history_of old) (history_of new) (asked ahead.0) loses one.accepted ahead.1 in
+    let again : Loses object call (suc times) (history_of start) (history_of new) = loses_more object call times (history_of start) (history_of old) (history_of new) ahead.0 loses one.accepted ahead.1 in
     rw add-one again
 
 -- at a head of one seat nobody else asks

@@ -1,5 +1,5 @@
 -- Lemmas on what a seat sees.
-use Rattle.camp_history.proofs.Words.{◌≡◌, ◌≢◌, ℕ, ◌<◌, ◌≤◌, List, [], ◌∷◌, ◌++◌, length, map, All, Some, refl, sym, ◌∙◌, ap, arith, All-push, All-same, append_assoc, map-append, length-map, Sequential, IsLawfulObject, IsFront, replay, own, Decides, Entry, Seated, asked, history_of, Mark, entry_of, DecidesAt, SeesNext, SeesMore, own_other, count-replay, front_self, front_front, Known, Leads, ComesNext}
+use Rattle.camp_history.proofs.Words.{◌≡◌, ◌≢◌, ℕ, ◌<◌, ◌≤◌, List, [], ◌∷◌, ◌++◌, length, map, All, Some, refl, sym, ◌∙◌, ap, subst, arith, length-append, All-push, All-same, append_assoc, map-append, length-map, Sequential, IsLawfulObject, IsFront, replay, own, Decides, Entry, Seated, asked, told, Begins, most_listed, history_of, Mark, entry_of, DecidesAt, SeesNext, SeesMore, own_other, count-replay, front_self, front_front, Based, All-weaker, Known, Leads, ComesNext}
 use Rattle.camp_object.specs.declared.objects.Decided.{Decided}
 use Rattle.camp_row.specs.declared.trails.Next.{Next}
 pub use Rattle.camp_history.proofs.Marked.{length-own, map_more}
@@ -13,15 +13,14 @@ module _ {Call : Type 0} (marks now : List (Mark Call)) (mark : Mark Call) (grow
   pub history_more : map asked now ≡ map asked marks ++ asked mark ∷ []
   history_more = ap (map asked) grows ∙ map_more asked marks mark
 
-  pub begins_more : (list : List (ℕ × Call)) → IsFront list (map asked marks) → IsFront list (map asked now)
-  begins_more list begins =
-      record { rest = begins.rest ++ asked mark ∷ []; makes = sym (append_assoc list begins.rest (asked mark ∷ [])) ∙ ap (λ l. l ++ asked mark ∷ []) begins.makes ∙ sym history_more }
+  pub begins_more : Begins marks now
+  begins_more = record { rest = told mark ∷ []; makes = sym (ap (map told) grows ∙ map_more told marks mark) }
 
   pub all_more : (P : Mark Call → Type 0) → All P marks → P mark → All P now
   all_more P all here = All-same P now (marks ++ mark ∷ []) grows (All-push P marks mark all here)
 
 pub sees_more_self : {Call : Type 0} (seat : Seated Call) → SeesMore seat seat
-sees_more_self seat = record { number = refl; row = refl; more = front_self seat.marks; own_stays = refl }
+sees_more_self seat = record { number = refl; row = refl; more = front_self (history_of seat); own_stays = refl }
 
 pub sees_more_more : {Call : Type 0} {one two three : Seated Call} → SeesMore one two → SeesMore two three → SeesMore one three
 sees_more_more {one = one} {two = two} {three = three} first second =
@@ -32,6 +31,15 @@ sees_more_more {one = one} {two = two} {three = three} first second =
       own_stays = ap (λ number. own number (history_of three)) (sym first.number) ∙ second.own_stays ∙ ap (λ number. own number (history_of two)) first.number ∙ first.own_stays;
     }
 
+-- what a seat noted changes nothing of what it sees
+pub sees_same : {Call : Type 0} (old new now : Seated Call) → SeesMore old new → now.known ≡ new.known → now.marks ≡ new.marks → SeesMore old now
+sees_same old new now more known marks = record {
+  number = ap (λ known. known.number) known ∙ more.number;
+  row = ap (λ known. known.row) known ∙ more.row;
+  more = subst (λ marks. IsFront (history_of old) (map asked marks)) (sym marks) more.more;
+  own_stays = ap (λ marks. own old.known.number (map asked marks)) marks ∙ more.own_stays;
+}
+
 -- the entry that comes next is of another seat
 pub sees_next_more : {Call : Type 0} {old new : Seated Call} (next : Next) → ComesNext old.known next → SeesNext old next.entry new → SeesMore old new
 sees_next_more {old = old} {new = new} next comes sees =
@@ -40,7 +48,7 @@ sees_next_more {old = old} {new = new} next comes sees =
     record {
       number = ap (λ known. known.number) sees.known;
       row = ap (λ known. known.row) sees.known;
-      more = record { rest = sees.mark ∷ []; makes = sym sees.marks };
+      more = record { rest = asked sees.mark ∷ []; makes = sym grows };
       own_stays = ap (own old.known.number) grows ∙ own_other old.known.number sees.mark.seat (history_of old) sees.mark.call.value other;
     }
 
@@ -48,20 +56,24 @@ sees_next_more {old = old} {new = new} next comes sees =
 pub leads_on : (old new : Known) (entry : Entry) (trail : List ℕ) → new ≡ record old { seen = old.seen ++ entry ∷ [] } → Leads old (old.seen ++ entry ∷ []) trail → Leads new new.seen trail
 leads_on old new entry trail is leads = rw is (record { left = leads.left; is = leads.is; cells = leads.cells })
 
--- what a seat has seen begins what it sees later
-pub history_front : {Call : Type 0} {old new : Seated Call} → SeesMore old new → IsFront (history_of old) (history_of new)
-history_front {old = old} {new = new} more =
-    record { rest = map asked more.more.rest; makes = sym (map-append asked old.marks more.more.rest) ∙ ap (map asked) more.more.makes }
-
 -- a list of marks has no more than memory has room for
-pub few_marks : {State Call Reply : Type 0} (object : Sequential State Call Reply) → IsLawfulObject object → (marks : List (Mark Call)) (state : State) (len cap : ℕ)
-    → (len ≡ length marks) × (len ≤ cap) → cap < 9223372036854775808 → replay object (map asked marks) ≡ Some state → object.count state < 18446744073709551615
-few_marks object lawful marks state len cap ok small replays =
-    let counts = count-replay object lawful (map asked marks) state replays in
-    let same = length-map marks asked in
+pub few_marks : {State Call Reply : Type 0} (object : Sequential State Call Reply) → IsLawfulObject object → (front tail : List (Mark Call)) (state : State) (len cap : ℕ)
+    → length front ≤ most_listed → (len ≡ length tail) × (len ≤ cap) → cap < 9223372036854775808 → replay object (map asked (front ++ tail)) ≡ Some state → object.count state < 18446744073709551615
+few_marks object lawful front tail state len cap few ok small replays =
+    let counts = count-replay object lawful (map asked (front ++ tail)) state replays in
+    let same = length-map (front ++ tail) asked in
     let is = ok.0 in
     let fits = ok.1 in
-    omega arith
+    omega (arith, few, length-append front tail)
+
+-- versions that begin what was seen begin what is seen later
+pub bases_begin : {Call : Type 0} (marks version : List (Mark Call)) (bases : List (Based Call)) → Begins marks version → All (λ base. Begins base.marks marks) bases → All (λ base. Begins base.marks version) bases
+bases_begin {Call} marks version bases begins all =
+    All-weaker (λ (base : Based Call). Begins base.marks marks) (λ (base : Based Call). Begins base.marks version) (λ base front. front_front front begins) bases all
+
+-- one mark more behind the last
+pub one_more : {Call : Type 0} (front tail now : List (Mark Call)) (mark : Mark Call) → now ≡ tail ++ mark ∷ [] → front ++ now ≡ (front ++ tail) ++ mark ∷ []
+one_more front tail now mark is = ap (λ list. front ++ list) is ∙ sym (append_assoc front tail (mark ∷ []))
 
 -- the object decides at the replay of the marks
 pub decides_at : {State Call Reply : Type 0} (object : Sequential State Call Reply) (marks : List (Mark Call)) (call : Call) (state : State) (decided : Decided State Reply)

@@ -2,7 +2,7 @@
 use Rattle.camp_history.proofs.Words.{IsFront, own, Fault, Memory, Seated, asked, history_of, entry_of, entries_of, SeesMore, ◌≡◌, ℕ, zero, suc, ◌≤◌, ◌⊎◌, inl, inr, List, [], ◌++◌, length, map, Result, OnOk, IfErr, sym, ◌∙◌, ap, subst, arith, length-map, length-append, append-nil, nil_from_length, own-append, front_front, front_shorter, FindsChain}
 use Rattle.camp_row.specs.Chains as chain
 use Rattle.camp_history.specs.Meeting.{Meets}
-use Rattle.camp_history.proofs.Seeing.{history_front, length-own}
+use Rattle.camp_history.proofs.Seeing.{length-own}
 
 -- of two lists one is not longer than the other
 shorter : (m n : ℕ) → (m ≤ n) ⊎ (n ≤ m)
@@ -31,7 +31,7 @@ module _ {Call : Type 0} (a b met a' b' : Seated Call) (a_finds : FindsChain a.k
   a_number = ap (λ known. known.number) a_finds.is
 
   grows : IsFront (history_of a) (history_of a')
-  grows = let Begins : List (ℕ × Call) → Type 0 = λ list. IsFront list (history_of a') in subst Begins (ap (map asked) a_marks) (history_front more)
+  grows = let Begins : List (ℕ × Call) → Type 0 = λ list. IsFront list (history_of a') in subst Begins (ap (map asked) a_marks) more.more
 
   one_begins : (IsFront (history_of a) (history_of b)) ⊎ (IsFront (history_of b) (history_of a))
   one_begins =

@@ -1,12 +1,16 @@
 -- Lemmas on versions: how they are tied to a store, and how one goes on from what a seat has seen.
-use Rattle.camp_history.proofs.Words.{splice, same_Some, IsFront, own, Known, Leads, IsSound, Entry, HeadId, Seated, asked, history_of, IsSeatOf, ids, IsIn, news, list_of, made_of, GoesOn, Adopts, Mark, entry_of, entries_of, SeesMore, ◌≡◌, ℕ, zero, suc, ◌+◌, ◌-◌, ◌<◌, ◌≤◌, List, [], ◌∷◌, ◌++◌, length, map, take, drop, slice_get, slice_range, slice_index_or, All, Result, Ok, Err, OnOk, OnErr, IsOk, is_ok, if◌then◌else◌, Option, None, Some, IfSome, refl, sym, ◌∙◌, ap, subst, arith, append-nil, append_assoc, length-append, length-map, map-append, take-append-drop, take_all, take_more, take_rest, drop_all, take_at, drop_at, drop-drop, drop-map, All-append, All-drop, All-push, All-same, All-weaker, Shelves, Where, Shows}
-use Rattle.std.proofs.lemmas.Bool.{false≢true}
+use Rattle.camp_history.proofs.Words.{Entry, HeadId, IsFront, IsIn, IsSeatOf, IsSound, Known, Leads, Seated, asked, entry_of, entries_of, front_front, front_shorter, history_of, ids, ids_of, length-front, own, told, news, based, bases_in, Begins, Based, IsBaseAt, Share, GoesOn, Adopts, made_of, Mark, SeesMore, ◌≡◌, ℕ, zero, suc, ◌+◌, ◌-◌, ◌<◌, ◌≤◌, List, [], ◌∷◌, ◌++◌, length, map, take, drop, splice, slice_get, slice_index_or, All, Result, Ok, Err, OnOk, OnErr, Option, None, Some, IfSome, MatchOption, refl, sym, ◌∙◌, ap, subst, arith, append-nil, append_assoc, length-append, length-map, map-append, take-append-drop, take_at, take_rest, drop_at, drop-drop, drop-map, same_Some, take_all, drop_all, front_self, Bool, true, false, if◌then◌else◌, All-append, All-drop, All-map, All-push, All-same, All-weaker, Shelves, Shows, Where, turns}
+use Rattle.std.proofs.lemmas.List.{get_or-map, take-append-le}
+use Rattle.std.proofs.Math.Seq.{drop-append-add}
+use Rattle.std.proofs.lemmas.Simd.{map-map}
 use Rattle.boxcar.specs.Slot.{Named}
 use Rattle.camp_row.specs.Chains as chain
 use Rattle.camp_row.proofs.Cells.{turns_front}
 use Rattle.camp_row.proofs.TrailSteps.{length-cells_back}
 use Rattle.camp_history.proofs.Seeing.{sees_more_self, length-own, map_more}
 use Rattle.camp_history.proofs.Together.{own_front}
+use Rattle.camp_history.proofs.Compared.{get_append}
+use Rattle.camp_history.specs.declared.versions.Base.{Base}
 
 -- the number of a bucket, among those of its store
 id_among : (buckets : List Named) (i : ℕ) → slice_index_or (map (λ (bucket : Named). bucket.id) buckets) i 0 ≡ (slice_index_or buckets i (record { id = 0; tag = [] })).id
@@ -79,61 +83,78 @@ one_more_comes seen ahead list rest i mark entry left begins at is =
     let Begins : List Entry → Type 0 = λ list. chain.IsFront list ahead in
     subst Begins (append_assoc seen (map entry_of before) (entry_of mark ∷ []) ∙ ap (λ l. seen ++ l) (sym (map_more entry_of before mark) ∙ ap (map entry_of) (sym (take_step list rest i mark left)))) on
 
--- one more mark of a seat is of the call that a version has there
-pub begins_step : {Call : Type 0} (marks version others left : List (Mark Call)) (i : ℕ) (mark other : Mark Call)
-    → i < length marks → mark ≡ slice_index_or marks i mark → others ≡ other ∷ left → asked mark ≡ asked other
-    → map asked (take i marks) ++ map asked others ≡ map asked version → map asked (take (i + 1) marks) ++ map asked left ≡ map asked version
-begins_step marks version others left i mark other within at first same all =
-    let more : take (i + 1) marks ≡ take i marks ++ mark ∷ [] = take_more marks i mark within ∙ ap (λ m. take i marks ++ m ∷ []) (sym at) in
-    ap (λ l. l ++ map asked left) (ap (map asked) more ∙ map_more asked (take i marks) mark ∙ ap (λ call. map asked (take i marks) ++ call ∷ []) same)
-    ∙ append_assoc (map asked (take i marks)) (asked other ∷ []) (map asked left)
-    ∙ ap (λ l. map asked (take i marks) ++ map asked l) (sym first)
-    ∙ all
+-- what holds of what is made of each holds of each, as it is made
+pub all_unmap : {A B : Type 0} (P : B → Type 0) (f : A → B) (list : List A) → All P (map f list) → All (λ x. P (f x)) list
+all_unmap P f list all k d below = subst P (get_or-map f list k d (f d) below) (all k (f d) (omega (arith, length-map list f)))
 
--- what is left of a version, once as many marks were compared as a seat has
-pub version_splits : {Call : Type 0} (marks version others : List (Mark Call)) → others ≡ drop (length marks) version
-    → map asked marks ++ map asked others ≡ map asked version → map asked version ≡ map asked marks ++ map asked (drop (length marks) version)
-version_splits marks version others rest same = sym same ∙ ap (λ l. map asked marks ++ map asked l) rest
+front_map : {A B : Type 0} (f : A → B) {front whole : List A} → IsFront front whole → IsFront (map f front) (map f whole)
+front_map f {front = front} begins = record { rest = map f begins.rest; makes = sym (map-append f front begins.rest) ∙ ap (map f) begins.makes }
 
--- what was seen stands behind the version before
-pub listed : {Call : Type 0} (seat : Seated Call) (list : List (Mark Call)) (len : ℕ) → len ≡ length seat.front
-    → list ≡ splice seat.front len len (take (length seat.marks - len) (drop len seat.marks)) → list ≡ list_of seat
-listed seat list len len_is spliced =
-    let all : splice seat.front (length seat.front) (length seat.front) (take (length seat.marks - length seat.front) (drop (length seat.front) seat.marks)) ≡ list_of seat =
-    (λ k. take_all (length seat.front) seat.front (omega arith) k ++ (take_rest seat.marks (length seat.front) k ++ drop_all (length seat.front) seat.front (omega arith) k))
-    ∙ ap (λ l. seat.front ++ l) (append-nil (drop (length seat.front) seat.marks))
-    in
-    spliced ∙ ap (λ n. splice seat.front n n (take (length seat.marks - n) (drop n seat.marks))) len_is ∙ all
+-- what stands behind a front
+front_rest : {A : Type 0} (front whole : List A) → IsFront front whole → whole ≡ front ++ drop (length front) whole
+front_rest front whole begins =
+    sym begins.makes ∙ ap (λ rest. front ++ rest) (sym (drop_at front begins.rest (length front) refl) ∙ ap (drop (length front)) begins.makes)
 
--- the list of a version that is made has all calls that the seat has seen, and the new one
-module _ {Call : Type 0} (seat : Seated Call) (begins : IsFront (map asked seat.front) (history_of seat)) where
-  pub front_within : length seat.front ≤ length seat.marks
-  front_within =
-      let both : length (map asked seat.front ++ begins.rest) ≡ length (map asked seat.marks) = ap length begins.makes in
-      omega (arith, length-append (map asked seat.front) begins.rest, length-map seat.front asked, length-map seat.marks asked)
+-- marks that begin others
+module _ {Call : Type 0} (front whole : List (Mark Call)) (begins : Begins front whole) where
+  pub begins_asked : IsFront (map asked front) (map asked whole)
+  begins_asked =
+      let f : Entry × Call → ℕ × Call = λ t. (t.0.seat, t.1) in
+      let made : IsFront (map f (map told front)) (map f (map told whole)) = front_map f begins in
+      let left : IsFront (map asked front) (map f (map told whole)) = subst (λ list. IsFront list (map f (map told whole))) (map-map f told front) made in
+      subst (λ list. IsFront (map asked front) list) (map-map f told whole) left
 
-  behind : map asked (drop (length seat.front) seat.marks) ≡ begins.rest
-  behind =
-      sym (drop-map asked (length seat.front) seat.marks) ∙ ap (drop (length seat.front)) (sym begins.makes)
-      ∙ drop_at (map asked seat.front) begins.rest (length seat.front) (length-map seat.front asked)
+  pub begins_entries : IsFront (map entry_of front) (map entry_of whole)
+  begins_entries =
+      let f : Entry × Call → Entry = λ t. t.0 in
+      let made : IsFront (map f (map told front)) (map f (map told whole)) = front_map f begins in
+      let left : IsFront (map entry_of front) (map f (map told whole)) = subst (λ list. IsFront list (map f (map told whole))) (map-map f told front) made in
+      subst (λ list. IsFront (map entry_of front) list) (map-map f told whole) left
 
-  pub list_asks : map asked (list_of seat) ≡ history_of seat
-  list_asks = map-append asked seat.front (drop (length seat.front) seat.marks) ∙ ap (λ l. map asked seat.front ++ l) behind ∙ begins.makes
+  pub begins_within : length front ≤ length whole
+  begins_within = omega (arith, length-front begins, length-map front told, length-map whole told)
 
-  pub made_asks : (call : Where Call) → map asked (made_of seat call) ≡ history_of seat ++ (seat.known.number, call.value) ∷ []
-  made_asks call =
-      let mark : Mark Call = record { seat = seat.known.number; call = call } in
-      map-append asked (list_of seat) (mark ∷ []) ∙ ap (λ l. l ++ asked mark ∷ []) list_asks
+-- a version with which two lists begin is what they have in common
+pub share_of : {Call : Type 0} (base one other : List (Mark Call)) (count : ℕ) → count ≡ length base → Begins base one → Begins base other → Share one other count
+share_of base one other count is first second =
+    let len : length (map told base) ≡ count = length-map base told ∙ sym is in
+    let one_takes = ap (take count) (sym first.makes) ∙ take_at (map told base) first.rest count len in
+    let other_takes = ap (take count) (sym second.makes) ∙ take_at (map told base) second.rest count len in
+    record {
+      same = one_takes ∙ sym other_takes;
+      in_seat = omega (arith, is, begins_within base one first);
+      in_version = omega (arith, is, begins_within base other second);
+    }
 
-pub list_stored : {Call : Type 0} (head : HeadId) (seat : Seated Call) → IsSeatOf head seat → All (λ mark. Shows head.store mark.call) (list_of seat)
-list_stored {Call} head seat of =
-    let Stored : Mark Call → Type 0 = λ mark. Shows head.store mark.call in
-    All-append Stored seat.front (drop (length seat.front) seat.marks) of.front_stored (All-drop Stored (length seat.front) seat.marks of.stored)
+pub share_none : {Call : Type 0} (one other : List (Mark Call)) → Share one other 0
+share_none one other = record { same = refl; in_seat = omega arith; in_version = omega arith }
 
-pub made_stored : {Call : Type 0} (head : HeadId) (seat : Seated Call) (call : Where Call) → IsSeatOf head seat → Shows head.store call → All (λ mark. Shows head.store mark.call) (made_of seat call)
-made_stored {Call} head seat call of shows =
-    let mark : Mark Call = record { seat = seat.known.number; call = call } in
-    All-push (λ mark. Shows head.store mark.call) (list_of seat) mark (list_stored head seat of) shows
+-- two lists of marks that were compared as far as the marks that are left
+pub record Compared {Call : Type 0} (one other left others : List (Mark Call)) : Type 0 where
+  pub front : List (Entry × Call)
+  pub one_is : map told one ≡ front ++ map told left
+  pub other_is : map told other ≡ front ++ map told others
+
+module _ {Call : Type 0} (one other : List (Mark Call)) where
+  pub compared_start : (from : ℕ) → Share one other from → Compared one other (drop from one) (drop from other)
+  compared_start from share = record {
+    front = take from (map told one);
+    one_is = sym (take-append-drop from (map told one)) ∙ ap (λ l. take from (map told one) ++ l) (drop-map told from one);
+    other_is = sym (take-append-drop from (map told other)) ∙ (λ k. sym share.same k ++ drop-map told from other k);
+  }
+
+  pub compared_step : (left others : List (Mark Call)) (mark mark' : Mark Call) → told mark ≡ told mark' → Compared one other (mark ∷ left) (mark' ∷ others) → Compared one other left others
+  compared_step left others mark mark' same past = record {
+    front = past.front ++ told mark ∷ [];
+    one_is = past.one_is ∙ sym (append_assoc past.front (told mark ∷ []) (map told left));
+    other_is = past.other_is ∙ ap (λ t. past.front ++ t ∷ map told others) (sym same) ∙ sym (append_assoc past.front (told mark ∷ []) (map told others));
+  }
+
+  pub compared_end : (others : List (Mark Call)) → Compared one other [] others → Begins one other
+  compared_end others past = record { rest = map told others; makes = ap (λ l. l ++ map told others) (past.one_is ∙ append-nil past.front) ∙ sym past.other_is }
+
+  pub compared_other_end : (left : List (Mark Call)) → Compared one other left [] → Begins other one
+  compared_other_end left past = record { rest = map told left; makes = ap (λ l. l ++ map told left) (past.other_is ∙ append-nil past.front) ∙ sym past.one_is }
 
 -- as many entries lie ahead as a trail has cells
 pub news_within : (known : Known) (trail : List ℕ) (more : List Entry) → Leads known known.seen trail → chain.IsFront (known.seen ++ more) known.ahead → length more ≤ length trail
@@ -149,50 +170,47 @@ taken_front known more count is ahead =
     ap (take (length known.seen + count)) (sym ahead.is)
     ∙ take_at (known.seen ++ more) ahead.rest (length known.seen + count) (length-append known.seen more ∙ ap (λ n. length known.seen + n) (sym is))
 
--- what is copied of a version is what it has behind a seat
-pub news_are : {Call : Type 0} (seat : Seated Call) (version items copied : List (Mark Call)) (from to : ℕ) → from ≡ length seat.marks → to ≡ length version
-    → copied ≡ slice_range version from to → items ≡ copied → items ≡ news seat version
-news_are seat version items copied from to starts ends is same =
-    same ∙ is ∙ (λ k. slice_range version (starts k) (ends k)) ∙ take_rest version (length seat.marks)
-
--- elements that were appended
-pub appended : {X E : Type 0} (answer : Result (Unit {0}) E) (items old other : List X) → IsOk answer → items ≡ (if is_ok answer then old ++ other else old) → items ≡ old ++ other
-appended (Ok done) items old other ok is = is
-appended (Err fault) items old other ok is = absurd (false≢true ok)
-
 -- what a seat that takes a version over has in its fields
-module _ {Call : Type 0} (seat : Seated Call) (version marks : List (Mark Call)) (goes : GoesOn seat version) (grows : marks ≡ seat.marks ++ news seat version) where
-  pub adopted_asks : map asked version ≡ map asked marks
-  adopted_asks = goes.asks ∙ sym (ap (map asked) grows ∙ map-append asked seat.marks (news seat version))
+module _ {Call : Type 0} (seat : Seated Call) (version : List (Mark Call)) (goes : GoesOn seat version) where
+  pub version_entries : map entry_of version ≡ map entry_of seat.marks ++ map entry_of (news seat version)
+  version_entries =
+      front_rest (map entry_of seat.marks) (map entry_of version) (begins_entries seat.marks version goes.begins)
+      ∙ ap (λ n. map entry_of seat.marks ++ drop n (map entry_of version)) (length-map seat.marks entry_of)
+      ∙ ap (λ l. map entry_of seat.marks ++ l) (drop-map entry_of (length seat.marks) version)
 
-module _ {Call : Type 0} (seat : Seated Call) (version marks : List (Mark Call)) (known : Known) (count : ℕ)
-    (goes : GoesOn seat version) (grows : marks ≡ seat.marks ++ news seat version) (all : count ≡ length (news seat version))
-    (moves : known ≡ record seat.known { seen = take (length seat.known.seen + count) seat.known.ahead }) where
-  seen : known ≡ record seat.known { seen = seat.known.seen ++ map entry_of (news seat version) }
-  seen =
-      moves
-      ∙ ap (λ seen. record seat.known { seen = seen }) (taken_front seat.known (map entry_of (news seat version)) count (all ∙ sym (length-map (news seat version) entry_of)) goes.ahead)
+  pub news_length : length version ≡ length seat.marks + length (news seat version)
+  news_length =
+      let all : length (map entry_of version) ≡ length (map entry_of seat.marks ++ map entry_of (news seat version)) = ap length version_entries in
+      omega (arith, length-append (map entry_of seat.marks) (map entry_of (news seat version)), length-map version entry_of, length-map seat.marks entry_of, length-map (news seat version) entry_of)
 
-  pub adopts : Adopts seat version (record { known = known; marks = marks; front = version })
-  adopts = record { marks = grows; front = refl; known = seen }
+  module _ (known : Known) (count : ℕ) (all : count ≡ length (news seat version)) (moves : known ≡ record seat.known { seen = take (length seat.known.seen + count) seat.known.ahead }) where
+    pub adopted_known : known ≡ record seat.known { seen = seat.known.seen ++ map entry_of (news seat version) }
+    adopted_known =
+        moves
+        ∙ ap (λ seen. record seat.known { seen = seen }) (taken_front seat.known (map entry_of (news seat version)) count (all ∙ sym (length-map (news seat version) entry_of)) goes.ahead)
 
-  pub adopted_places : entries_of seat ≡ seat.known.seen → map entry_of marks ≡ known.seen
-  adopted_places places =
-      ap (map entry_of) grows ∙ map-append entry_of seat.marks (news seat version) ∙ ap (λ l. l ++ map entry_of (news seat version)) places ∙ sym (ap (λ known. known.seen) seen)
+    pub adopted_places : map entry_of seat.marks ≡ seat.known.seen → map entry_of version ≡ known.seen
+    adopted_places places = version_entries ∙ ap (λ l. l ++ map entry_of (news seat version)) places ∙ sym (ap (λ known. known.seen) adopted_known)
 
-  pub adopted_below : All (λ mark. mark.seat < seat.known.row.seats) seat.marks → All (λ mark. mark.seat < known.row.seats) marks
-  adopted_below below =
-      let Below : ℕ → Type 0 = λ seats. All (λ mark. mark.seat < seats) marks in
-      let Is : Mark Call → Type 0 = λ mark. mark.seat < seat.known.row.seats in
-      subst Below (sym (ap (λ known. known.row.seats) seen)) (All-same Is marks (seat.marks ++ news seat version) grows (All-append Is seat.marks (news seat version) below goes.below))
+    pub adopted_below : All (λ mark. mark.seat < seat.known.row.seats) seat.marks → All (λ mark. mark.seat < known.row.seats) version
+    adopted_below below =
+        let Is : Entry → Type 0 = λ entry. entry.seat < seat.known.row.seats in
+        let entries : All Is (map entry_of version) =
+        All-same Is (map entry_of version) (map entry_of seat.marks ++ map entry_of (news seat version)) version_entries
+        (All-append Is (map entry_of seat.marks) (map entry_of (news seat version)) (All-map Is entry_of seat.marks below) (All-map Is entry_of (news seat version) goes.below))
+        in
+        let Below : ℕ → Type 0 = λ seats. All (λ (mark : Mark Call). mark.seat < seats) version in
+        subst Below (sym (ap (λ known. known.row.seats) adopted_known)) (all_unmap Is entry_of version entries)
 
 -- a seat that takes a version over sees more
 pub adopts_more : {Call : Type 0} (old new : Seated Call) (version : List (Mark Call)) → entries_of old ≡ old.known.seen → IsSound old.known → GoesOn old version → Adopts old version new → SeesMore old new
 adopts_more old new version places sound goes adopts =
     let list = news old version in
     let number = old.known.number in
-    let seen' : entries_of new ≡ old.known.seen ++ map entry_of list = ap (map entry_of) adopts.marks ∙ map-append entry_of old.marks list ∙ ap (λ l. l ++ map entry_of list) places in
-    let grows : history_of old ++ map asked list ≡ history_of new = sym (ap (map asked) adopts.marks ∙ map-append asked old.marks list) in
+    let seen' : entries_of new ≡ old.known.seen ++ map entry_of list = ap (map entry_of) adopts.marks ∙ version_entries old version goes ∙ ap (λ l. l ++ map entry_of list) places in
+    let grows : IsFront (history_of old) (history_of new) =
+    subst (λ marks. IsFront (history_of old) (map asked marks)) (sym adopts.marks) (begins_asked old.marks version goes.begins)
+    in
     let least = turns_front number old.known.seen (old.known.seen ++ map entry_of list) (record { rest = map entry_of list; is = refl }) in
     let most = turns_front number (old.known.seen ++ map entry_of list) old.known.ahead goes.ahead in
     let ends : chain.turns number old.known.ahead ≡ chain.turns number old.known.seen = ap length sound.own_seen in
@@ -201,8 +219,8 @@ adopts_more old new version places sound goes adopts =
     record {
       number = ap (λ known. known.number) adopts.known;
       row = ap (λ known. known.row) adopts.known;
-      more = record { rest = list; makes = sym adopts.marks };
-      own_stays = own_front number (history_of old) (history_of new) (record { rest = map asked list; makes = grows }) (omega arith);
+      more = grows;
+      own_stays = own_front number (history_of old) (history_of new) grows (omega arith);
     }
 
 pub adopting_more : {Call E : Type 0} (old new : Seated Call) (version : List (Mark Call)) (answer : Result (Unit {0}) E) → entries_of old ≡ old.known.seen → IsSound old.known → GoesOn old version
@@ -212,15 +230,96 @@ adopting_more old new version (Err fault) places sound goes adopts same = subst 
 
 -- and is one of the head
 pub seat_adopted : {Call : Type 0} (head : HeadId) (old new : Seated Call) (version : List (Mark Call)) → IsSeatOf head old → All (λ mark. Shows head.store mark.call) version → Adopts old version new → IsSeatOf head new
-seat_adopted {Call} head old new version of stored adopts =
-    let Stored : Mark Call → Type 0 = λ mark. Shows head.store mark.call in
-    record {
-      row = ap (λ known. known.row) adopts.known ∙ of.row;
-      stored = All-same Stored new.marks (old.marks ++ news old version) adopts.marks (All-append Stored old.marks (news old version) of.stored (All-drop Stored (length old.marks) version stored));
-      front_stored = All-same Stored new.front version adopts.front stored;
-    }
+seat_adopted {Call} head old new version of stored adopts = record {
+  row = ap (λ known. known.row) adopts.known ∙ of.row;
+  stored = All-same (λ (mark : Mark Call). Shows head.store mark.call) new.marks version adopts.marks stored;
+  bases = All-same (IsBaseAt head.slots) new.bases old.bases adopts.bases of.bases;
+}
 
 pub adopting_of : {Call E : Type 0} (head : HeadId) (old new : Seated Call) (version : List (Mark Call)) (answer : Result (Unit {0}) E) → IsSeatOf head old → All (λ mark. Shows head.store mark.call) version
     → OnOk answer (Adopts old version new) → OnErr answer (new ≡ old) → IsSeatOf head new
 adopting_of head old new version (Ok done) of stored takes same = seat_adopted head old new version of stored takes
 adopting_of head old new version (Err fault) of stored takes same = subst (IsSeatOf head) (sym same) of
+
+pub made_stored : {Call : Type 0} (head : HeadId) (seat : Seated Call) (call : Where Call) → IsSeatOf head seat → Shows head.store call → All (λ mark. Shows head.store mark.call) (made_of seat call)
+made_stored {Call} head seat call of shows =
+    let mark : Mark Call = record { seat = seat.known.number; call = call } in
+    All-push (λ mark. Shows head.store mark.call) seat.marks mark of.stored shows
+
+-- the list that copies share, once the few behind it were moved into it
+pub spliced_behind : {X : Type 0} (front tail longer none : List X) (len : ℕ) → len ≡ length front → longer ≡ splice front len len tail → none ≡ [] → longer ++ none ≡ front ++ tail
+spliced_behind front tail longer none len len_is spliced is_none =
+    let all : splice front (length front) (length front) tail ≡ front ++ tail =
+    (λ k. take_all (length front) front (omega arith) k ++ (tail ++ drop_all (length front) front (omega arith) k)) ∙ ap (λ l. front ++ l) (append-nil tail)
+    in
+    ap (λ rest. longer ++ rest) is_none ∙ append-nil longer ∙ spliced ∙ ap (λ n. splice front n n tail) len_is ∙ all
+
+-- what holds of all that was noted and of one more holds of all that is noted then
+pub noted_all : {B : Type 0} (P : B → Type 0) (old room new : List B) (base : B) (gone : ℕ) (is_ok : Bool) → room ≡ drop gone old → new ≡ (if is_ok then room ++ base ∷ [] else room) → All P old → P base → All P new
+noted_all P old room new base gone true left is all here = All-same P new (room ++ base ∷ []) is (All-push P room base (All-same P room (drop gone old) left (All-drop P gone old all)) here)
+noted_all P old room new base gone false left is all here = All-same P new room is (All-same P room (drop gone old) left (All-drop P gone old all))
+
+-- the element behind a front
+at_length : {X : Type 0} (front rest : List X) (x : X) → slice_get (front ++ x ∷ rest) (length front) ≡ Some x
+at_length [] rest x = refl
+at_length (y ∷ front) rest x = at_length front rest x
+
+-- the entry of the first mark that is left is the next one of the chain
+stands : {Call : Type 0} (whole : List Entry) (list left : List (Mark Call)) (front : List (Entry × Call)) (mark : Mark Call) → chain.IsFront (map entry_of list) whole → map told list ≡ front ++ map told (mark ∷ left)
+    → slice_get whole (length front) ≡ Some (entry_of mark)
+stands {Call} whole list left front mark begins is =
+    let f : Entry × Call → Entry = λ t. t.0 in
+    let entries : map entry_of list ≡ map f front ++ entry_of mark ∷ map entry_of left =
+    sym (map-map f told list) ∙ ap (map f) is ∙ map-append f front (map told (mark ∷ left)) ∙ ap (λ l. map f front ++ entry_of mark ∷ l) (map-map f told left)
+    in
+    let here : slice_get (map entry_of list) (length front) ≡ Some (entry_of mark) =
+    ap (slice_get (map entry_of list)) (sym (length-map front f)) ∙ ap (λ l. slice_get l (length (map f front))) entries ∙ at_length (map f front) (map entry_of left) (entry_of mark)
+    in
+    subst (λ l. slice_get l (length front) ≡ Some (entry_of mark)) begins.is (get_append (map entry_of list) begins.rest (length front) (entry_of mark) here)
+
+-- the marks that are left first of two parts of one chain are of one entry
+pub same_next : {Call : Type 0} (whole : List Entry) (one other left others : List (Mark Call)) (mark mark' : Mark Call) → chain.IsFront (map entry_of one) whole → chain.IsFront (map entry_of other) whole
+    → Compared one other (mark ∷ left) (mark' ∷ others) → entry_of mark ≡ entry_of mark'
+same_next whole one other left others mark mark' begins begins' past =
+    same_Some (entry_of mark) (entry_of mark') (sym (stands whole one left past.front mark begins past.one_is) ∙ stands whole other others past.front mark' begins' past.other_is)
+
+-- what a seat has seen begins the chain that it found
+pub seat_begins : {Call : Type 0} (seat : Seated Call) → entries_of seat ≡ seat.known.seen → IsSound seat.known → chain.IsFront (entries_of seat) seat.known.ahead
+seat_begins seat places sound = record { rest = sound.front.rest; is = ap (λ list. list ++ sound.front.rest) places ∙ sound.front.is }
+
+-- of two lists that begin one another the shorter one begins the other
+pub begins_either : {Call : Type 0} (one other : List (Mark Call)) → Begins one other → length other ≤ length one → IsFront (map asked other) (map asked one)
+begins_either one other begins short =
+    front_shorter (map asked other) (map asked one) (map asked other) (front_self (map asked other)) (begins_asked one other begins) (omega (arith, short, length-map one asked, length-map other asked))
+
+-- what was noted holds as it was seen, and as it lies in its slots
+pub all_based : {State Call Reply : Type 0} (P : Based Call → Type 0) (bases : List (Base State Call Reply)) → All P (bases_in bases) → All (λ base. P (based base)) bases
+all_based P bases all = all_unmap P based bases all
+
+pub noted_based : {State Call Reply : Type 0} (P : Based Call → Type 0) (old room new : List (Base State Call Reply)) (base : Base State Call Reply) (gone : ℕ) (is_ok : Bool) → room ≡ drop gone old → new ≡ (if is_ok then room ++ base ∷ [] else room)
+    → All P (bases_in old) → P (based base) → All P (bases_in new)
+noted_based P old room new base gone is_ok left is all here =
+    All-map P based new (noted_all (λ base. P (based base)) old room new base gone is_ok left is (all_unmap P based old all) here)
+
+-- the number of a slot, among those of its row
+pub id_at : (slots : List Named) (number : ℕ) (slot : Named) → slot ≡ slice_index_or slots number slot → number < length slots → slot.id ≡ slice_index_or (ids_of slots) number 0
+id_at slots number slot is below = ap (λ (slot : Named). slot.id) is ∙ sym (get_or-map (λ (slot : Named). slot.id) slots number slot 0 below)
+
+-- the number of a slot that was looked up
+pub slot_by : {R : Type 0} (now : R → Named) (Holds : R → Type 0) (slots : List Named) (number : ℕ) (found : Option R) → IfSome found (λ slot. now slot ≡ slice_index_or slots number (now slot))
+    → MatchOption found (length slots ≤ number) (λ slot. (number < length slots) × Holds slot) → IfSome found (λ slot. (now slot).id ≡ slice_index_or (ids_of slots) number 0)
+slot_by now Holds slots number None is within = tt
+slot_by now Holds slots number (Some slot) is within = id_at slots number (now slot) is within.0
+
+-- what is left of a list and of a few behind it, from a place among the few on
+pub left_behind : {X : Type 0} (front tail none : List X) (from len : ℕ) → len ≡ length front → len ≤ from → none ≡ drop len front → none ++ take (length tail - (from - len)) (drop (from - len) tail) ≡ drop from (front ++ tail)
+left_behind front tail none from len is less left =
+    let gone : none ≡ [] = left ∙ ap (λ n. drop n front) is ∙ drop_all (length front) front (omega arith) in
+    let rest : take (length tail - (from - len)) (drop (from - len) tail) ≡ drop (from - len) tail = take_rest tail (from - len) in
+    let split : length front + (from - len) ≡ from = omega (arith, is, less) in
+    (λ k. gone k ++ rest k) ∙ sym (drop-append-add front tail (from - len)) ∙ ap (λ n. drop n (front ++ tail)) split
+
+-- what holds of all that are left holds of the first and of the others
+module _ {X : Type 0} (P : X → Type 0) (whole rest : List X) (first : X) (is : whole ≡ first ∷ rest) (all : All P whole) where
+  pub left_first : P first
+  left_first = All-same P (first ∷ rest) whole (sym is) all 0 first (omega arith)

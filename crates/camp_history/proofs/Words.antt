@@ -1,5 +1,5 @@
 -- Words that the proofs of this crate have in common: of the standard library, of definitions, and of crates below.
-pub use Rattle.std.proofs.Common.{All, Bool, Err, IfErr, IfSome, IsErrAnd, IsOk, List, None, Ok, OnErr, OnOk, Option, Result, Some, [], add-one, ap, arith, below_more, cond, drop, false, filter, if◌then◌else◌, inl, inr, is_ok, length, map, option_map, refl, slice_get, slice_index_or, slice_range, subst, suc, sym, take, true, vec_capacity, vec_len, zero, ℕ, ◌++◌, ◌+◌, ◌-◌, ◌<◌, ◌==◌, ◌∙◌, ◌∷◌, ◌≡◌, ◌≢◌, ◌≤◌, ◌⊎◌}
+pub use Rattle.std.proofs.Common.{All, Bool, Err, IfErr, IfSome, IsErrAnd, IsOk, List, MatchOption, None, Ok, OnErr, OnOk, Option, Result, Some, [], add-one, ap, arith, below_more, cond, drop, false, filter, if◌then◌else◌, inl, inr, is_ok, length, map, option_map, refl, slice_get, slice_index_or, slice_range, subst, suc, sym, take, true, vec_capacity, vec_len, zero, ℕ, ◌++◌, ◌+◌, ◌-◌, ◌<◌, ◌==◌, ◌∙◌, ◌∷◌, ◌≡◌, ◌≢◌, ◌≤◌, ◌⊎◌}
 -- goals that `search` fails at and `grind` proves have `grind` as their answer where the search takes long
 pub use Rattle.std.proofs.lemmas.Grind.{common_steps, elements}
 pub use Rattle.std.proofs.lemmas.List.{append-nil, append_assoc, drop-drop, drop-map, drop_all, drop_at, length-append, length-map, map-append, nil_from_length, take-append-drop, take_all, take_at, take_more, take_rest}
@@ -7,10 +7,10 @@ pub use Rattle.std.proofs.lemmas.List.Elements.{All-append, All-drop, All-map, A
 pub use Rattle.std.proofs.lemmas.Option.{get_or_from_slice_get, same_Some, slice_get-map, slice_get_within}
 pub use Rattle.std.specs.List.{range_with_len, splice}
 pub use Rattle.boxcar.specs.Table.{Shelves, Shows, Where}
-pub use Rattle.camp_history.specs.Inside.SeatFields.{seated}
-pub use Rattle.camp_history.specs.Inside.Steps.{Attempts, DecidesAt, Decision, FindsMore, LosesOne, Publishes, SeesMore, SeesNext, entries_of, entry_of}
-pub use Rattle.camp_history.specs.Seats.{HeadId, IsSeatOf, Seated, asked, caller_at, history_of, unseen}
-pub use Rattle.camp_history.specs.Versions.{Adopts, GoesOn, IsIn, IsMade, ids, list_of, made_of, news}
+pub use Rattle.camp_history.specs.Inside.SeatFields.{marks_in, seated}
+pub use Rattle.camp_history.specs.Inside.Steps.{Attempts, DecidesAt, Decision, FindsMore, LosesOne, Publishes, SeesMore, SeesNext, entries_of}
+pub use Rattle.camp_history.specs.Seats.{Based, HeadId, IsBaseAt, IsSeatOf, Seated, asked, caller_at, entry_of, history_of, most_listed, told, unseen}
+pub use Rattle.camp_history.specs.Versions.{Adopts, Begins, GoesOn, IsIn, IsMadeFrom, Share, based, bases_in, ids, ids_of, made_of, news}
 pub use Rattle.camp_history.specs.declared.marks.Mark.{Mark}
 pub use Rattle.camp_object.proofs.Fronts.{front_append, front_front, front_self, front_shorter, length-front}
 pub use Rattle.camp_object.specs.Asking.{AddsNothing, Ask, Caller, IsNotBusy, Loses}

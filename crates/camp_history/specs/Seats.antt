@@ -1,26 +1,52 @@
 -- What contracts see of a head and of its seats.
-use Rattle.std.specs.Prelude.{◌≡◌, ℕ, false, List, [], map, All}
+use Rattle.std.specs.Prelude.{◌≡◌, ℕ, false, List, [], map, slice_index_or, All}
 use Rattle.boxcar.specs.Table.{Shelves, Shows}
 use Rattle.camp_object.specs.Asking.{Caller}
 use Rattle.camp_row.specs.Known.{RowId, Known}
+use Rattle.camp_row.specs.declared.entries.Entry.{Entry}
 use Rattle.camp_history.specs.declared.marks.Mark.{Mark}
 
--- which head it is: its row of words, its store of calls, and how many exchanges a call loses at most
+-- which head it is: its row of words, its store of calls, its slots for versions, and how many exchanges a call loses
+-- at most
 pub record HeadId : Type 0 where
   pub row : RowId
   pub store : Shelves
+  pub slots : List ℕ
   pub tries : ℕ
 
--- a seat: what its pass knows of the row, a mark for each call that it has seen, in order, and the marks of the last
--- version that it made or took over
+-- a version that lies in a slot: the slot's place among those of its head, what tells it from other slots, and the
+-- version's marks
+pub record Based (Call : Type 0) : Type 0 where
+  pub slot : ℕ
+  pub id : ℕ
+  pub marks : List (Mark Call)
+
+-- the slot is the one at this place
+abbrev pub IsBaseAt : {Call : Type 0} → List ℕ → Based Call → Type 0
+IsBaseAt ids base = base.id ≡ slice_index_or ids base.slot 0
+
+-- a seat: what its pass knows of the row, a mark for each call that it has seen, in order, and versions with which
+-- these begin
 pub record Seated (Call : Type 0) : Type 0 where
   pub known : Known
   pub marks : List (Mark Call)
-  pub front : List (Mark Call)
+  pub bases : List (Based Call)
 
 -- a seat that has seen nothing, by what its pass knows
 abbrev pub unseen : {Call : Type 0} → Known → Seated Call
-unseen known = record { known = known; marks = []; front = [] }
+unseen known = record { known = known; marks = []; bases = [] }
+
+-- the entry of the row that a mark is of
+abbrev pub entry_of : {Call : Type 0} → Mark Call → Entry
+entry_of mark = record { seat = mark.seat; place = mark.call.index }
+
+-- what a mark tells: the entry, and the call
+abbrev pub told : {Call : Type 0} → Mark Call → Entry × Call
+told mark = (entry_of mark, mark.call.value)
+
+-- so many calls a list that copies share has at most: no fewer than any head
+abbrev pub most_listed : ℕ
+most_listed = 4_194_304
 
 -- a call of the history, and the seat that asked it
 abbrev pub asked : {Call : Type 0} → Mark Call → ℕ × Call
@@ -30,11 +56,12 @@ asked mark = (mark.seat, mark.call.value)
 abbrev pub history_of : {Call : Type 0} → Seated Call → List (ℕ × Call)
 history_of seat = map asked seat.marks
 
--- the seat is one of this head: its pass is to the head's row, and its calls lie in the head's store
+-- the seat is one of this head: its pass is to the head's row, its calls lie in the head's store, and its versions in
+-- the head's slots
 pub record IsSeatOf {Call : Type 0} (head : HeadId) (seat : Seated Call) : Type 0 where
   pub row : seat.known.row ≡ head.row
   pub stored : All (λ mark. Shows head.store mark.call) seat.marks
-  pub front_stored : All (λ mark. Shows head.store mark.call) seat.front
+  pub bases : All (IsBaseAt head.slots) seat.bases
 
 -- how many seats a head has
 abbrev pub seats_of : HeadId → ℕ

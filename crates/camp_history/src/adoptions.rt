@@ -1,23 +1,58 @@
-//! How versions are made and put, and how a seat that is behind takes one over.
-ghost use Rattle.std.specs.Prelude.{◌≡◌, ◌<◌, ◌≤◌, ◌+◌, ◌++◌, [], ◌∷◌, length, map, slice_get, All, Some, IfOk, IfErr, IfSome, OnOk, OnErr, IsTrue};
+//! How a seat that is behind takes a version over.
+ghost use Rattle.std.specs.Prelude.{◌≡◌, ℕ, ◌<◌, ◌≤◌, ◌+◌, length, map, drop, slice_get, slice_index_or, All, Some, IfOk, IfSome, OnOk, OnErr, IsTrue};
 ghost use Rattle.boxcar.specs.Table.{Shows};
-ghost use Rattle.camp_object.specs.declared.faults.Fault.TheVariants.{Memory};
-ghost use Rattle.camp_history.specs.Versions.{ids, news, list_of, made_of, GoesOn, Adopts, IsMade};
+ghost use Rattle.camp_history.specs.Versions.{ids, Adopts, Begins, GoesOn, Share};
 
 use crate::heads::Head;
+use crate::lists::{MarksLeft, copies};
 use crate::marks::Mark;
+use crate::origins::OriginSlot;
 use crate::seats::Seat;
-use crate::versions::{Made, Slot, Version};
-use boxcar::Pushed;
-use camp_object::{Fault, Object};
+use crate::versions::{Base, Origin, Slot, Version};
+use camp_object::Object;
 use camp_row::{Entry, Row, Trail};
-use camp_share::{Share, Shared, SharedList};
+use camp_share::Share as _;
 use std::alloc::AllocError;
 
+/// So many versions a seat notes at most.
+const MOST_NOTED: usize = 16;
+
+/// Where a seat has noted as many versions as it may, it lets go of the oldest.
+fn make_room<State: Object>(bases: &mut Vec<Base<State>>)
+    ensures { (gone : ℕ) × (bases.new.items ≡ drop gone bases.old.items) }
+{
+    if bases.len() == MOST_NOTED {
+        let _oldest = bases.remove(0);
+    }
+}
+
+impl<State: Object> Version<State> {
+    pub(crate) fn len(&self) -> usize
+        ensures { result ≡ length self.now }
+    {
+        let _ = &self.state;
+        self.front.len() + self.tail.len()
+    }
+
+    /// Its marks from a place on.
+    pub(crate) fn marks_from(&self, from: usize) -> MarksLeft<'_, State::Call>
+        requires { from ≤ length self.now }
+        ensures { result ≡ drop from self.now }
+    {
+        MarksLeft::new(&self.front, &self.tail, from)
+    }
+}
+
 impl<State: Object> Seat<State> {
-    ghost use Rattle.camp_object.specs.Histories.{replay};
     ghost use Rattle.camp_row.specs.Known.{Leads};
-    ghost use Rattle.camp_history.specs.Seats.{asked, history_of};
+
+    /// The marks of what it has seen, from a place on.
+    pub(crate) fn marks_from(&self, from: usize) -> MarksLeft<'_, State::Call>
+        requires { from ≤ length self.now.marks }
+        ensures { result ≡ drop from self.now.marks }
+    {
+        MarksLeft::new(&self.front, &self.tail, from)
+    }
 
     fn entry_at(&mut self, row: &Row, trail: &Trail, index: usize) -> Entry
         requires row { self.old.known.row ≡ row.now }
@@ -30,52 +65,7 @@ impl<State: Object> Seat<State> {
         row.entry_at(&mut self.pass, trail, index)
     }
 
-    /// The marks of all that it has seen: those of its last version, and behind them its own.
-    fn list(&self) -> Result<SharedList<Mark<State::Call>>, AllocError>
-        ensures { IfOk result (λ list. list ≡ list_of self.now) }
-    {
-        let len = self.front.len();
-        Ok(self.front.spliced(len, len, &self.marks[len..])?)
-    }
-
-    /// All that it has seen, as a version.
-    pub(crate) fn version(&self) -> Result<Version<State>, AllocError>
-        ensures { IfOk result (λ version. version ≡ list_of self.now) }
-    {
-        let marks = self.list()?;
-        let state = self.state.share()?;
-        Ok(Version { marks, state })
-    }
-
-    /// The version at the position of a call, as long as it is accepted there.
-    pub(crate) fn version_with(
-        &self,
-        call: &Pushed<State::Call>,
-        next: &Shared<State>,
-    ) -> Result<Version<State>, AllocError>
-        requires { replay State.object (history_of self.now ++ (self.now.known.number, call.now.value) ∷ []) ≡ Some next.now }
-        ensures made { IfOk result (λ version. version ≡ made_of self.now call.now) }
-        ensures asks { IfOk result (λ version. map asked version ≡ history_of self.now ++ (self.now.known.number, call.now.value) ∷ []) }
-    {
-        let list = self.list()?;
-        let marks = list.pushed(Mark {
-            seat: self.pass.number(),
-            call: call.again(),
-        })?;
-        let state = next.share()?;
-        Ok(Version { marks, state })
-    }
-
-    /// The marks that a version has behind those of the seat.
-    fn news_of(&self, version: &Version<State>) -> Result<Vec<Mark<State::Call>>, AllocError>
-        requires { GoesOn self.now version.now }
-        ensures { IfOk result (λ marks. marks.items ≡ news self.now version.now) }
-    {
-        let marks = version.marks.copied(self.marks.len(), version.marks.len())?;
-        marks.to_vec()
-    }
-
-    /// Takes a version over, with all that it has behind what was seen.
+    /// Takes a version over.
     fn adopt(
         &mut self,
         row: &Row,
@@ -89,13 +79,12 @@ impl<State: Object> Seat<State> {
         ensures err { OnErr result (self.new ≡ self.old) }
         ensures leads { Leads self.new.known self.new.known.seen trail.new }
     {
-        let mut news = self.news_of(version)?;
-        let taken = version.share()?;
-        self.marks.reserve(news.len())?;
-        row.advance_by(&mut self.pass, trail, news.len());
-        let _room = self.marks.append(&mut news);
-        self.front = taken.marks;
-        self.state = taken.state;
+        let count = version.len() - (self.front.len() + self.tail.len());
+        let Version { front, tail, state } = version.share()?;
+        row.advance_by(&mut self.pass, trail, count);
+        self.front = front;
+        self.tail = tail;
+        self.state = state;
         Ok(())
     }
 
@@ -107,28 +96,60 @@ impl<State: Object> Seat<State> {
     }
 }
 
+impl<State: Object> camp_share::Share for Version<State> {
+    /// The version once more: its list and its state have one more owner each, and the last few marks
+    /// are copied.
+    fn share(&self) -> Result<Version<State>, AllocError> {
+        let front = self.front.share()?;
+        let tail = copies(*self.tail.allocator(), &self.tail)?;
+        let state = self.state.share()?;
+        Ok(Version { front, tail, state })
+    }
+}
+
 impl<State: Object> Head<State> {
-    ghost use Rattle.camp_object.specs.Histories.{replay, IsLegal};
+    ghost use Rattle.camp_object.specs.Histories.{IsLegal};
     ghost use Rattle.camp_row.specs.Known.{Leads};
-    ghost use Rattle.camp_history.specs.Seats.{IsSeatOf, asked, history_of};
+    ghost use Rattle.camp_history.specs.Seats.{IsBaseAt, IsSeatOf, history_of, told};
+    ghost use Rattle.camp_history.specs.Versions.{IsMadeFrom, based};
     ghost use Rattle.camp_history.specs.Inside.Steps.{entries_of, SeesMore};
 
-    /// The slot of a position, if a version is kept there.
-    pub(crate) fn slot_at(&self, position: u64) -> Option<&Slot<State>>
-        ensures { IfSome result (λ slot. slot.now.tag ≡ ids self.now.store) }
+    /// The slot of a number.
+    pub(crate) fn slot(&self, number: usize) -> Option<&Slot<State>>
+        ensures tag { IfSome result (λ slot. slot.now.tag ≡ ids self.now.store) }
+        ensures id { IfSome result (λ slot. slot.now.id ≡ slice_index_or self.now.slots number 0) }
     {
-        let every = self.every as u64;
-        if every == 0 || position % every != 0 {
-            return None;
-        }
-        let index = (position / every).checked_sub(1)?;
-        self.versions.get(index as usize)
+        self.versions.get(number)
+    }
+
+    /// Where it is told what the version in the slot of a number was made from.
+    pub(crate) fn origin_slot(&self, number: usize) -> Option<&OriginSlot<State>>
+        ensures { IfSome result (λ slot. slot.now.tag ≡ self.now.slots) }
+    {
+        self.origins.get(number)
+    }
+
+    /// The version that lies in a slot.
+    pub(crate) fn version_of(&self, base: &Base<State>) -> Option<&Version<State>>
+        requires { IsBaseAt self.now.slots (based base.now) }
+        ensures is { IfSome result (λ version. version.now ≡ base.now.version.value) }
+        ensures stored { IfSome result (λ version. All (λ mark. Shows self.now.store mark.call) version.now) }
+    {
+        let slot = self.slot(base.slot)?;
+        Some(slot.value(&base.version))
+    }
+
+    /// What lies in the slot of a number, and what it was made from.
+    fn origin_at(&self, number: usize) -> Option<&Origin<State>>
+        ensures { IfSome result (λ origin. IsMadeFrom self.now.slots origin.now) }
+    {
+        self.origin_slot(number)?.get()
     }
 
     /// Whether two marks are of one call of one seat.
     fn is_same(&self, one: &Mark<State::Call>, other: &Mark<State::Call>) -> bool
         requires { Shows self.now.store one.now.call × Shows self.now.store other.now.call }
-        ensures { IsTrue result → asked one.now ≡ asked other.now }
+        ensures { IsTrue result → told one.now ≡ told other.now }
     {
         if one.seat != other.seat || one.call.index() != other.call.index() {
             return false;
@@ -137,15 +158,79 @@ impl<State: Object> Head<State> {
         true
     }
 
-    /// Whether the calls of a version begin with those that a seat has seen.
-    fn begins(&self, seat: &Seat<State>, version: &Version<State>) -> bool
+    /// Whether a seat noted a version.
+    fn has_noted(&self, seat: &Seat<State>, base: &Base<State>) -> bool
+        requires seat { IsSeatOf self.now seat.now }
+        requires base { IsBaseAt self.now.slots (based base.now) }
+        ensures begins { IsTrue result → Begins base.now.version.value seat.now.marks }
+    {
+        for noted in &seat.bases {
+            if noted.slot == base.slot {
+                noted.version.agrees(&base.version);
+                return true;
+            }
+        }
+        false
+    }
+
+    /// How many calls a version has, if a seat noted it: then the seat's calls begin with them.
+    pub(crate) fn met(&self, seat: &Seat<State>, base: &Base<State>) -> Option<usize>
+        requires seat { IsSeatOf self.now seat.now }
+        requires base { IsBaseAt self.now.slots (based base.now) }
+        ensures length { IfSome result (λ len. len ≡ length base.now.version.value) }
+        ensures begins { IfSome result (λ len. Begins base.now.version.value seat.now.marks) }
+    {
+        if !self.has_noted(seat, base) {
+            return None;
+        }
+        Some(self.version_of(base)?.len())
+    }
+
+    /// What the version was made from that another was made from.
+    fn before(&self, origin: &Origin<State>) -> Option<&Origin<State>>
+        requires { IsMadeFrom self.now.slots origin.now }
+        ensures is { IfSome result (λ before. IsMadeFrom self.now.slots before.now) }
+        ensures begins { IfSome result (λ before. Begins before.now.version.version.value origin.now.version.version.value) }
+    {
+        let from = origin.from.as_ref()?;
+        let before = self.origin_at(from.slot)?;
+        if before.version.slot != from.slot {
+            return None;
+        }
+        before.version.version.agrees(&from.version);
+        Some(before)
+    }
+
+    /// How many calls a seat and a version have in common without a look at them: from what the version
+    /// was made from it goes back to a version that the seat noted.
+    fn common(&self, seat: &Seat<State>, origin: &Origin<State>) -> usize
+        requires seat { IsSeatOf self.now seat.now }
+        requires origin { IsMadeFrom self.now.slots origin.now }
+        ensures { Share seat.now.marks origin.now.version.version.value result }
+    {
+        let mut way = origin;
+        for _ in 0..self.origins.len() {
+            if let Some(len) = self.met(seat, &way.version) {
+                return len;
+            }
+            let Some(before) = self.before(way) else {
+                return 0;
+            };
+            way = before;
+        }
+        0
+    }
+
+    /// Whether a version begins with the calls that a seat has seen, where so many are known to be the same.
+    fn begins(&self, seat: &Seat<State>, version: &Version<State>, from: usize) -> bool
         requires seat { IsSeatOf self.now seat.now }
         requires version { All (λ mark. Shows self.now.store mark.call) version.now }
-        ensures length { IsTrue result → length seat.now.marks ≤ length version.now }
-        ensures asks { IsTrue result → map asked version.now ≡ history_of seat.now ++ map asked (news seat.now version.now) }
+        requires from { Share seat.now.marks version.now from }
+        ensures { IsTrue result → Begins seat.now.marks version.now }
     {
-        let mut others = version.marks.iter();
-        for mark in &seat.marks {
+        let mut marks = seat.marks_from(from);
+        let mut others = version.marks_from(from);
+        while let Some(mark) = marks.next() {
             let Some(other) = others.next() else {
                 return false;
             };
@@ -160,11 +245,11 @@ impl<State: Object> Head<State> {
     fn leads_on(&self, seat: &mut Seat<State>, trail: &Trail, version: &Version<State>) -> bool
         requires row { seat.old.known.row ≡ self.now.row }
         requires leads { Leads seat.old.known seat.old.known.seen trail.now }
-        requires begins { map asked version.now ≡ history_of seat.old ++ map asked (news seat.old version.now) }
+        requires begins { Begins seat.old.marks version.now }
         ensures same { seat.new ≡ seat.old }
         ensures goes_on { IsTrue result → GoesOn seat.old version.now }
     {
-        let mut news = version.marks.iter_from(seat.marks.len());
+        let mut news = version.marks_from(seat.position() as usize);
         let mut index = 0;
         while let Some(mark) = news.next() {
             if index == trail.len() {
@@ -179,105 +264,174 @@ impl<State: Object> Head<State> {
         true
     }
 
-    /// Whether a version goes on from what a seat has seen.
-    fn goes_on(&self, seat: &mut Seat<State>, trail: &Trail, version: &Version<State>) -> bool
+    /// Whether a version goes on from what a seat has seen, where so many calls are known to be the same.
+    fn goes_on(
+        &self,
+        seat: &mut Seat<State>,
+        trail: &Trail,
+        version: &Version<State>,
+        from: usize,
+    ) -> bool
         requires seat { IsSeatOf self.now seat.old }
         requires leads { Leads seat.old.known seat.old.known.seen trail.now }
         requires version { All (λ mark. Shows self.now.store mark.call) version.now }
+        requires from { Share seat.old.marks version.now from }
         ensures same { seat.new ≡ seat.old }
         ensures goes_on { IsTrue result → GoesOn seat.old version.now }
     {
-        self.begins(seat, version) && self.leads_on(seat, trail, version)
+        self.begins(seat, version, from) && self.leads_on(seat, trail, version)
     }
 
-    /// The version at a position.
-    fn version_at(&self, position: u64) -> Option<&Version<State>>
-        ensures { IfSome result (λ version. All (λ mark. Shows self.now.store mark.call) version.now) }
+    /// Notes a version with which a seat's calls begin: only the last few are of use.
+    pub(crate) fn note(&self, seat: &mut Seat<State>, base: Base<State>)
+        requires seat { IsSeatOf self.now seat.old }
+        requires base { IsBaseAt self.now.slots (based base) }
+        requires begins { Begins base.version.value seat.old.marks }
+        ensures seat { IsSeatOf self.now seat.new }
+        ensures known { seat.new.known ≡ seat.old.known }
+        ensures marks { seat.new.marks ≡ seat.old.marks }
     {
-        self.slot_at(position)?.get()
+        make_room(&mut seat.bases);
+        let _noted = seat.bases.push(base);
     }
 
-    /// The slot of what a seat hands on, if versions are kept.
-    fn slot_of(&self, number: usize) -> Option<&Slot<State>>
-        ensures { IfSome result (λ slot. slot.now.tag ≡ ids self.now.store) }
+    /// How many calls the version of a slot has, if there is one: more than so many, and at most so many.
+    fn length_at(&self, number: usize, seen: u64, reach: u64) -> Option<u64>
+        ensures beyond { IfSome result (λ len. seen < len) }
+        ensures within { IfSome result (λ len. len ≤ reach) }
     {
-        self.handed_on.get(number)
+        let origin = self.origin_at(number)?;
+        let len = self.version_of(&origin.version)?.len() as u64;
+        if seen < len && len <= reach {
+            Some(len)
+        } else {
+            None
+        }
     }
 
-    /// What a seat has handed on.
-    fn handed_on_by(&self, number: usize) -> Option<&Version<State>>
-        ensures { IfSome result (λ version. All (λ mark. Shows self.now.store mark.call) version.now) }
-    {
-        self.slot_of(number)?.get()
-    }
-
-    /// The longest version that a seat handed on, of those beyond one position and not beyond another.
-    fn longest_handed_on(&self, seen: u64, reach: u64) -> Option<&Version<State>>
-        ensures beyond { IfSome result (λ version. seen < length version.now) }
-        ensures within { IfSome result (λ version. length version.now ≤ reach) }
-        ensures stored { IfSome result (λ version. All (λ mark. Shows self.now.store mark.call) version.now) }
+    /// The slot of the longest version of those that seats handed on beyond one position and not beyond
+    /// another, and how long that is.
+    fn longest_handed_on(&self, seen: u64, reach: u64) -> Option<(usize, u64)>
+        ensures beyond { IfSome result (λ found. seen < found.1) }
+        ensures within { IfSome result (λ found. found.1 ≤ reach) }
     {
         let mut longest = None;
         let mut most = seen;
-        for number in 0..self.handed_on.len() {
-            let Some(version) = self.handed_on_by(number) else {
-                continue;
-            };
-            let len = version.marks.len() as u64;
-            if most < len && len <= reach {
+        for number in self.kept_count()..self.origins.len() {
+            if let Some(len) = self.length_at(number, most, reach) {
                 most = len;
-                longest = Some(version);
+                longest = Some((number, len));
             }
         }
         longest
     }
 
-    /// The longest version of those kept beyond a position that goes on from what a seat has seen.
-    fn longest_kept<'a>(
-        &'a self,
-        seat: &mut Seat<State>,
-        trail: &Trail,
-        from: u64,
-    ) -> Option<&'a Version<State>>
-        requires seat { IsSeatOf self.now seat.old }
-        requires leads { Leads seat.old.known seat.old.known.seen trail.now }
-        ensures same { seat.new ≡ seat.old }
-        ensures goes_on { IfSome result (λ version. GoesOn seat.old version.now) }
-        ensures stored { IfSome result (λ version. All (λ mark. Shows self.now.store mark.call) version.now) }
+    /// The same of those that were kept at positions.
+    fn longest_kept(&self, seen: u64, reach: u64) -> Option<(usize, u64)>
+        ensures beyond { IfSome result (λ found. seen < found.1) }
+        ensures within { IfSome result (λ found. found.1 ≤ reach) }
     {
-        let mut position = seat.position().saturating_add(trail.len() as u64);
-        while position > from {
-            if let Some(version) = self.version_at(position) {
-                if self.goes_on(seat, trail, version) {
-                    return Some(version);
-                }
+        let every = self.every as u64;
+        if every == 0 {
+            return None;
+        }
+        let first = seen / every;
+        let mut number = (reach / every).min(self.kept_count() as u64);
+        while number > first {
+            number -= 1;
+            if let Some(len) = self.length_at(number as usize, seen, reach) {
+                return Some((number as usize, len));
             }
-            position -= 1;
         }
         None
     }
 
-    /// The longest version that goes on from what a seat has seen: one that was kept, or handed on.
-    fn longest<'a>(&'a self, seat: &mut Seat<State>, trail: &Trail) -> Option<&'a Version<State>>
-        requires seat { IsSeatOf self.now seat.old }
-        requires leads { Leads seat.old.known seat.old.known.seen trail.now }
-        ensures same { seat.new ≡ seat.old }
-        ensures goes_on { IfSome result (λ version. GoesOn seat.old version.now) }
-        ensures stored { IfSome result (λ version. All (λ mark. Shows self.now.store mark.call) version.now) }
+    /// The same of all.
+    fn longest(&self, seen: u64, reach: u64) -> Option<(usize, u64)>
+        ensures beyond { IfSome result (λ found. seen < found.1) }
+        ensures within { IfSome result (λ found. found.1 ≤ reach) }
     {
-        if trail.len() == 0 {
+        if reach <= seen {
             return None;
         }
-        let seen = seat.position();
-        let reach = seen.saturating_add(trail.len() as u64);
-        let Some(version) = self.longest_handed_on(seen, reach) else {
-            return self.longest_kept(seat, trail, seen);
+        let Some(kept) = self.longest_kept(seen, reach) else {
+            return self.longest_handed_on(seen, reach);
         };
-        if !self.goes_on(seat, trail, version) {
-            return self.longest_kept(seat, trail, seen);
+        self.longest_handed_on(kept.1, reach).or(Some(kept))
+    }
+
+    /// A seat takes over a version that goes on from what it has seen, and notes it.
+    fn take(
+        &self,
+        seat: &mut Seat<State>,
+        trail: &mut Trail,
+        base: &Base<State>,
+        version: &Version<State>,
+    ) -> Result<(), AllocError>
+        requires of { IsSeatOf self.now seat.old }
+        requires leads { Leads seat.old.known seat.old.known.seen trail.old }
+        requires base { IsBaseAt self.now.slots (based base.now) }
+        requires is { version.now ≡ base.now.version.value }
+        requires stored { All (λ mark. Shows self.now.store mark.call) version.now }
+        requires goes_on { GoesOn seat.old version.now }
+        ensures of { IsSeatOf self.now seat.new }
+        ensures more { SeesMore seat.old seat.new }
+        ensures ahead { seat.new.known.ahead ≡ seat.old.known.ahead }
+        ensures leads { Leads seat.new.known seat.new.known.seen trail.new }
+    {
+        seat.is_whole();
+        seat.adopt(&self.row, trail, version)?;
+        self.note(seat, base.again());
+        seat.count_version();
+        Ok(())
+    }
+
+    /// A seat takes over the version of a slot, if it goes on from what the seat has seen. Tells whether it did.
+    fn adopt_at(
+        &self,
+        seat: &mut Seat<State>,
+        trail: &mut Trail,
+        number: usize,
+    ) -> Result<bool, AllocError>
+        requires of { IsSeatOf self.now seat.old }
+        requires leads { Leads seat.old.known seat.old.known.seen trail.old }
+        ensures of { IsSeatOf self.now seat.new }
+        ensures more { SeesMore seat.old seat.new }
+        ensures ahead { seat.new.known.ahead ≡ seat.old.known.ahead }
+        ensures leads { Leads seat.new.known seat.new.known.seen trail.new }
+    {
+        let Some(origin) = self.origin_at(number) else {
+            return Ok(false);
+        };
+        let Some(version) = self.version_of(&origin.version) else {
+            return Ok(false);
+        };
+        let from = self.common(seat, origin);
+        if !self.goes_on(seat, trail, version, from) {
+            return Ok(false);
         }
-        let kept = self.longest_kept(seat, trail, version.marks.len() as u64);
-        kept.or(Some(version))
+        self.take(seat, trail, &origin.version, version)?;
+        Ok(true)
+    }
+
+    /// A seat that is behind tries the versions that it finds, the longest first, until it has taken one over.
+    fn adopt_longest(&self, seat: &mut Seat<State>, trail: &mut Trail) -> Result<(), AllocError>
+        requires of { IsSeatOf self.now seat.old }
+        requires leads { Leads seat.old.known seat.old.known.seen trail.old }
+        ensures of { IsSeatOf self.now seat.new }
+        ensures more { SeesMore seat.old seat.new }
+        ensures ahead { seat.new.known.ahead ≡ seat.old.known.ahead }
+        ensures leads { Leads seat.new.known seat.new.known.seen trail.new }
+    {
+        let seen = seat.position();
+        let mut reach = seen.saturating_add(trail.len() as u64);
+        while let Some((number, len)) = self.longest(seen, reach) {
+            if self.adopt_at(seat, trail, number)? {
+                return Ok(());
+            }
+            reach = len - 1;
+        }
+        Ok(())
     }
 
     /// A seat that is behind takes over the longest version that it can.
@@ -291,14 +445,9 @@ impl<State: Object> Head<State> {
         ensures places { entries_of seat.new ≡ seat.new.known.seen }
         ensures legal { IsLegal State.object (history_of seat.new) }
     {
+        let answer = self.adopt_longest(seat, trail);
         seat.is_whole();
-        let Some(version) = self.longest(seat, trail) else {
-            return Ok(());
-        };
-        seat.adopt(&self.row, trail, version)?;
-        seat.count_version();
-        seat.is_whole();
-        Ok(())
+        answer
     }
 
     /// A seat that is behind another takes over all that this one has seen and decided.
@@ -319,61 +468,10 @@ impl<State: Object> Head<State> {
         }
         let mut trail = seat.walk(&self.row)?;
         let version = other.version()?;
-        if !self.goes_on(seat, &trail, &version) {
+        let from = self.shared(seat, other);
+        if !self.goes_on(seat, &trail, &version, from) {
             return Ok(());
         }
         seat.adopt(&self.row, &mut trail, &version)
-    }
-
-    /// Hands on what a seat has seen and decided, for seats that are behind: a seat that asks no more
-    /// saves them deciding it. It does so once; where no versions are kept, nothing comes of it. The
-    /// only fault is want of memory: then nothing is handed on, and all else is as it was.
-    pub fn hand_on(&self, seat: &Seat<State>) -> Result<(), Fault>
-        requires { IsSeatOf self.now seat.now }
-        ensures only_memory { IfErr result (λ fault. fault ≡ Memory) }
-    {
-        let Some(slot) = self.slot_of(seat.number() as usize) else {
-            return Ok(());
-        };
-        let version = seat.version()?;
-        let _handed = slot.set(version);
-        Ok(())
-    }
-
-    /// The version for the position of a call, if one is kept there.
-    pub(crate) fn version_for(
-        &self,
-        seat: &Seat<State>,
-        call: &Pushed<State::Call>,
-        next: &Shared<State>,
-    ) -> Result<Option<Made<State>>, AllocError>
-        requires seat { IsSeatOf self.now seat.now }
-        requires call { Shows self.now.store call.now }
-        requires next { replay State.object (history_of seat.now ++ (seat.now.known.number, call.now.value) ∷ []) ≡ Some next.now }
-        ensures { IfOk result (λ made. IfSome made (IsMade self.now (history_of seat.now ++ (seat.now.known.number, call.now.value) ∷ []))) }
-    {
-        if self.slot_at(seat.position().saturating_add(1)).is_none() {
-            return Ok(None);
-        }
-        let version = seat.version_with(call, next)?;
-        let front = version.marks.share()?;
-        Ok(Some(Made { version, front }))
-    }
-
-    /// Puts a version that was made for the last call that a seat has seen.
-    pub(crate) fn put(&self, seat: &mut Seat<State>, made: Option<Made<State>>)
-        requires seat { IsSeatOf self.now seat.old }
-        requires made { IfSome made (IsMade self.now (history_of seat.old)) }
-        ensures seat { IsSeatOf self.now seat.new }
-        ensures known { seat.new.known ≡ seat.old.known }
-        ensures marks { seat.new.marks ≡ seat.old.marks }
-    {
-        let Some(Made { version, front }) = made else {
-            return;
-        };
-        if let Some(slot) = self.slot_at(seat.position()) {
-            let _put = slot.set(version);
-        }
-        seat.front = front;
     }
 }

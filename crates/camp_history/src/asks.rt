@@ -137,6 +137,6 @@ impl<State: Object> Head<State> {
         if seat.accepted() == self.row.per_seat() {
             return Err(Fault::Full);
         }
-        Ok(Decided::Next(Shared::new(*seat.marks.allocator(), next)?))
+        Ok(Decided::Next(Shared::new(*seat.tail.allocator(), next)?))
     }
 }

@@ -6,6 +6,7 @@ ghost use Rattle.camp_row.specs.Known.{most_cells, most_seats};
 
 use crate::faults::HeadFault;
 use crate::kept::{Kept, Place};
+use crate::origins::{OriginSlot, origins_of};
 use crate::seats::Seat;
 use crate::versions::{Slot, slots_of};
 use camp_object::{Fault, Object};
@@ -22,9 +23,11 @@ pub struct Head<State: Object> {
     pub(crate) calls: boxcar::Vec<State::Call>,
     pub(crate) tries: u32,
     pub(crate) every: u32,
+    /// A slot for each position at which a version is kept, and behind them one for each seat, by its
+    /// number, for what it hands on.
     pub(crate) versions: Vec<Slot<State>>,
-    /// A slot for each seat, by its number, for what it hands on; none where no versions are kept.
-    pub(crate) handed_on: Vec<Slot<State>>,
+    /// What each of these versions was made from.
+    pub(crate) origins: Vec<OriginSlot<State>>,
 }
 
 impl<State: Object> Model for Head<State> {
@@ -49,9 +52,10 @@ fn is_in_range(seats: u32, per_seat: u32, tries: u32, every: u32) -> bool
 }
 
 /// A slot for each position up to `seats * per_seat` that is a multiple of `every`; none for 0.
-fn slot_count(seats: u32, per_seat: u32, every: u32) -> usize
+pub(crate) fn slot_count(seats: u32, per_seat: u32, every: u32) -> usize
     requires { (seats ≤ most_seats) × (per_seat ≤ most_cells) }
-    ensures { result ≡ (if every == 0 then 0 else (seats * per_seat) / every) }
+    ensures exact { result ≡ (if every == 0 then 0 else (seats * per_seat) / every) }
+    ensures few { result ≤ 4194304 }
 {
     let most = seats as usize * per_seat as usize;
     most.checked_div(every as usize).unwrap_or(0)
@@ -82,9 +86,10 @@ fn seat_of<State: Object>(alloc: Global, pass: Pass) -> Result<Seat<State>, Allo
 {
     Ok(Seat {
         pass,
-        marks: Vec::new(alloc),
+        front: Shared::new(alloc, SharedList::new(alloc))?,
+        tail: Vec::new(alloc),
         state: Shared::new(alloc, State::initial(alloc)?)?,
-        front: SharedList::new(alloc),
+        bases: Vec::new(alloc),
         adopted: 0,
     })
 }
@@ -114,15 +119,16 @@ impl<State: Object> Head<State> {
         let (row, passes) = Row::new(alloc, seats, per_seat)?;
         let all = seats_of(alloc, passes)?;
         let calls = boxcar::Vec::new(alloc)?;
-        let versions = slots_of(alloc, &calls, slot_count(seats, per_seat, every))?;
-        let handed_on = slots_of(alloc, &calls, handing_count(seats, every))?;
+        let count = slot_count(seats, per_seat, every) + handing_count(seats, every);
+        let versions = slots_of(alloc, &calls, count)?;
+        let origins = origins_of(alloc, &versions)?;
         let head = Head {
             row,
             calls,
             tries,
             every,
             versions,
-            handed_on,
+            origins,
         };
         Ok((head, all))
     }
@@ -154,8 +160,9 @@ impl<State: Object> Head<State> {
         ensures empty { history_of seat.now ≡ [] → IsOk result }
         ensures only_memory { IfErr result (λ fault. fault ≡ Memory) }
     {
-        let mut history = Vec::new(*seat.marks.allocator());
-        for mark in &seat.marks {
+        let mut history = Vec::new(*seat.tail.allocator());
+        let mut marks = seat.marks_from(0);
+        while let Some(mark) = marks.next() {
             let call = State::copy(self.calls.value(&mark.call))?;
             history.push((mark.seat, call))?;
         }

@@ -11,6 +11,7 @@ impl<State: Object> Head<State> {
     ghost use Rattle.camp_history.specs.Meeting.{Meets};
     ghost use Rattle.camp_history.specs.Seats.{IsSeatOf, history_of};
     ghost use Rattle.camp_history.specs.Inside.Steps.{entries_of, SeesMore};
+    ghost use Rattle.camp_history.specs.Versions.{Share};
 
     /// Brings two seats together, and lets the first see all that the second has seen.
     pub fn meet(
@@ -47,6 +48,19 @@ impl<State: Object> Head<State> {
         self.follow(seat)
     }
 
+    /// How many calls two seats have in common, by a version that both noted.
+    pub(crate) fn shared(&self, a: &Seat<State>, b: &Seat<State>) -> usize
+        requires seats { IsSeatOf self.now a.now × IsSeatOf self.now b.now }
+        ensures { Share a.now.marks b.now.marks result }
+    {
+        for base in &b.bases {
+            if let Some(len) = self.met(a, base) {
+                return len;
+            }
+        }
+        0
+    }
+
     /// Of two seats that found one chain, the calls agree as far as both have seen it.
     fn compare(&self, a: &Seat<State>, b: &Seat<State>)
         requires seats { IsSeatOf self.now a.now × IsSeatOf self.now b.now }
@@ -56,9 +70,14 @@ impl<State: Object> Head<State> {
     {
         a.is_whole();
         b.is_whole();
-        let len = a.position().min(b.position()) as usize;
-        for i in 0..len {
-            self.calls.agrees(&a.mark(i).call, &b.mark(i).call);
+        let from = self.shared(a, b);
+        let mut marks = a.marks_from(from);
+        let mut others = b.marks_from(from);
+        while let Some(mark) = marks.next() {
+            let Some(other) = others.next() else {
+                return;
+            };
+            self.calls.agrees(&mark.call, &other.call);
         }
     }
 }

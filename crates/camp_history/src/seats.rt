@@ -1,6 +1,7 @@
 ghost use Rattle.std.specs.Prelude.{◌≡◌, ◌<◌, ◌≤◌, length, All};
 
 use crate::marks::Mark;
+use crate::versions::Base;
 use camp_object::Object;
 use camp_row::Pass;
 use camp_share::{Shared, SharedList};
@@ -10,10 +11,12 @@ use std::marker::Model;
 #[derive(Drop)]
 pub struct Seat<State: Object> {
     pub(crate) pass: Pass,
-    pub(crate) marks: Vec<Mark<State::Call>>,
+    /// All that it has seen but the last few calls.
+    pub(crate) front: Shared<SharedList<Mark<State::Call>>>,
+    pub(crate) tail: Vec<Mark<State::Call>>,
     pub(crate) state: Shared<State>,
-    /// The list of the last version that it made or took over.
-    pub(crate) front: SharedList<Mark<State::Call>>,
+    /// The last few versions that it made or took over.
+    pub(crate) bases: Vec<Base<State>>,
     pub(crate) adopted: u32,
 }
 
@@ -47,7 +50,7 @@ impl<State: Object> Seat<State> {
     pub fn position(&self) -> u64
         ensures exact { result ≡ length (history_of self.now) }
     {
-        self.marks.len() as u64
+        (self.front.len() + self.tail.len()) as u64
     }
 
     /// How many calls of its own were accepted.

@@ -1,13 +1,12 @@
 //! What a seat that is behind takes over.
-ghost use Rattle.std.specs.Prelude.{◌≡◌, All, Some, IfOk};
-ghost use Rattle.boxcar.specs.Table.{Shelves};
-ghost use Rattle.camp_history.specs.Versions.{ids, IsIn};
+ghost use Rattle.std.specs.Prelude.{◌≡◌, All, IfOk};
+ghost use Rattle.camp_history.specs.Versions.{ids};
 
 use crate::marks::Mark;
-use boxcar::slot::{OnceSlot, SlotRule};
+use boxcar::slot::{OnceSlot, SlotRule, Written};
 use boxcar::tag::{Names, Tag};
 use camp_object::Object;
-use camp_share::{Share, Shared, SharedList};
+use camp_share::{Shared, SharedList};
 use std::alloc::{AllocError, Global};
 use std::marker::Model;
 
@@ -15,45 +14,52 @@ use std::marker::Model;
 /// for each call, in order.
 #[derive(Drop)]
 pub struct Version<State: Object> {
-    pub(crate) marks: SharedList<Mark<State::Call>>,
+    /// All but the last few.
+    pub(crate) front: Shared<SharedList<Mark<State::Call>>>,
+    pub(crate) tail: Vec<Mark<State::Call>>,
     pub(crate) state: Shared<State>,
 }
 
 impl<State: Object> Model for Version<State> {
-    ghost use Rattle.std.specs.Prelude.{◌≡◌, List, map, Some};
+    ghost use Rattle.std.specs.Prelude.{◌≡◌, ◌++◌, ◌≤◌, List, length, map, Some};
     ghost use Rattle.camp_object.specs.Histories.{replay};
-    ghost use Rattle.camp_history.specs.Seats.{asked};
+    ghost use Rattle.camp_history.specs.Seats.{asked, most_listed};
     ghost use Rattle.camp_history.specs.declared.marks.Mark.{Mark};
 
     ghost Value = { List (Mark State.Call) };
 
-    ghost view = { λ version. version.marks };
+    ghost view = { λ version. version.front ++ version.tail.items };
 
-    ghost invariant = { λ version. replay State.object (map asked version.marks) ≡ Some version.state };
+    ghost invariant = { λ version. (length version.front ≤ most_listed) × (replay State.object (map asked (version.front ++ version.tail.items)) ≡ Some version.state) };
 }
 
-impl<State: Object> Share for Version<State> {
-    /// The version once more: its list and its state have one more owner each.
-    fn share(&self) -> Result<Version<State>, AllocError> {
-        let marks = self.marks.share()?;
-        let state = self.state.share()?;
-        Ok(Version { marks, state })
+/// A version that lies in a slot: the slot's number, and what shows the version there.
+#[derive(Drop)]
+pub struct Base<State: Object> {
+    pub(crate) slot: usize,
+    pub(crate) version: Written<Version<State>>,
+}
+
+impl<State: Object> Base<State> {
+    pub(crate) fn again(&self) -> Base<State>
+        ensures { result ≡ self.now }
+    {
+        Base {
+            slot: self.slot,
+            version: self.version.again(),
+        }
     }
 }
 
-/// A version that was made before its call was accepted, and its list once more, for its seat.
+/// A version that lies in a slot, and the one that its maker had taken over last.
 #[derive(Drop)]
-pub(crate) struct Made<State: Object> {
-    pub(crate) version: Version<State>,
-    pub(crate) front: SharedList<Mark<State::Call>>,
+pub struct Origin<State: Object> {
+    pub(crate) version: Base<State>,
+    pub(crate) from: Option<Base<State>>,
 }
 
 /// A version lies in a slot of the head whose store has its calls.
 pub struct OfStore;
-
-impl<State: Object> SlotRule<Version<State>> for OfStore {
-    ghost holds = { λ tag version. All (λ mark. IsIn tag mark.call) version };
-}
 
 /// A store is told by the numbers of its buckets.
 pub struct StoreIds;

@@ -15,6 +15,12 @@ use camp_row::{Next, Pass, Row, Trail};
 use camp_share::Shared;
 use std::alloc::AllocError;
 
+/// So many calls a seat keeps by itself before it moves them into a list. A version is kept for each 64 calls, and
+/// most of these have fewer of them, so that a seat that takes one over need not move them.
+const FEW: usize = 40;
+/// More than the calls of any head.
+const MOST_LISTED: usize = 4_194_304;
+
 /// Drafts the next cell, with a call's place, and exchanges.
 fn exchange_cell<G: Gate>(row: &Row, pass: &mut Pass, place: usize, gate: &G, lost: u32) -> bool
     requires row { pass.old.row ≡ row.now }
@@ -57,35 +63,43 @@ impl<State: Object> Seat<State> {
         requires { (self.old.known.row ≡ row.now) × (other.known.row ≡ row.now) }
         ensures self_finds { FindsChain self.old.known self.new.known }
         ensures self_marks { self.new.marks ≡ self.old.marks }
-        ensures self_front { self.new.front ≡ self.old.front }
+        ensures self_bases { self.new.bases ≡ self.old.bases }
         ensures other_finds { FindsChain other.known result.known }
         ensures other_marks { result.marks ≡ other.marks }
-        ensures other_front { result.front ≡ other.front }
+        ensures other_bases { result.bases ≡ other.bases }
         ensures one_chain { result.known.ahead ≡ self.new.known.ahead }
     {
         let Seat {
             pass,
-            marks,
-            state,
             front,
+            tail,
+            state,
+            bases,
             adopted,
         } = other;
         let pass = row.meet(&mut self.pass, pass);
         Seat {
             pass,
-            marks,
-            state,
             front,
+            tail,
+            state,
+            bases,
             adopted,
         }
     }
 
-    /// What it has seen at a place of the history.
-    pub(crate) fn mark(&self, index: usize) -> &Mark<State::Call>
-        requires { index < length self.now.marks }
-        ensures { slice_get self.now.marks index ≡ Some result.now }
+    /// Moves the last calls into the list that copies share, once there are some.
+    pub(crate) fn settle(&mut self) -> Result<(), AllocError>
+        ensures { self.new ≡ self.old }
     {
-        &self.marks[index]
+        let len = self.front.len();
+        if self.tail.len() < FEW || self.tail.len() + len > MOST_LISTED {
+            return Ok(());
+        }
+        let longer = self.front.spliced(len, len, &self.tail)?;
+        self.front = Shared::new(*self.tail.allocator(), longer)?;
+        self.tail.clear();
+        Ok(())
     }
 
     pub(crate) fn walk(&mut self, row: &Row) -> Result<Trail, AllocError>
@@ -93,7 +107,7 @@ impl<State: Object> Seat<State> {
         ensures same { self.new ≡ self.old }
         ensures leads { IfOk result (λ trail. Leads self.old.known self.old.known.seen trail) }
     {
-        row.walk(*self.marks.allocator(), &mut self.pass)
+        row.walk(*self.tail.allocator(), &mut self.pass)
     }
 
     pub(crate) fn next(&mut self, row: &Row, trail: &mut Trail) -> Option<Next>
@@ -114,7 +128,7 @@ impl<State: Object> Seat<State> {
     ) -> Result<Decided<State, State::Reply>, AllocError>
         ensures { IfOk result (DecidesAt State.object (history_of self.now) call.now) }
     {
-        let _len = self.marks.len();
+        let _len = self.tail.len();
         self.state.decide(call)
     }
 
@@ -132,12 +146,12 @@ impl<State: Object> Seat<State> {
         requires next { replay State.object (history_of self.old ++ (self.old.known.number, call.now.value) ∷ []) ≡ Some next }
         ensures { MatchResult result (λ won. MatchBool won (Publishes self.old call.now self.new) (FindsMore self.old self.new)) (λ fault. (fault ≡ Memory) × (self.new ≡ self.old)) }
     {
-        self.marks.reserve(1)?;
+        self.tail.reserve(1)?;
         let number = self.pass.number();
         if !exchange_cell(row, &mut self.pass, call.index(), gate, lost) {
             return Ok(false);
         }
-        self.marks.push_reserved(Mark {
+        self.tail.push_reserved(Mark {
             seat: number,
             call: call.again(),
         });
@@ -161,7 +175,7 @@ impl<State: Object> Head<State> {
         ensures err { OnErr result (seat.new ≡ seat.old) }
         ensures legal { OnOk result (IsLegal State.object (history_of seat.new)) }
     {
-        seat.marks.reserve(1)?;
+        seat.tail.reserve(1)?;
         let entry = next.entry;
         let Some(call) = self.calls.witness(entry.place) else {
             return Err(AllocError);
@@ -169,9 +183,9 @@ impl<State: Object> Head<State> {
         let Decided::Next(state) = seat.state.decide(self.calls.value(&call))? else {
             return Err(AllocError);
         };
-        let next_state = Shared::new(*seat.marks.allocator(), state)?;
+        let next_state = Shared::new(*seat.tail.allocator(), state)?;
         self.row.advance(&mut seat.pass, next);
-        seat.marks.push_reserved(Mark {
+        seat.tail.push_reserved(Mark {
             seat: entry.seat,
             call,
         });
@@ -194,7 +208,7 @@ impl<State: Object> Head<State> {
         while let Some(next) = seat.next(&self.row, &mut trail) {
             self.see(seat, next)?;
         }
-        Ok(())
+        seat.settle()
     }
 
     /// Sees all of the chain as it is now.

@@ -1,19 +1,25 @@
 -- How a seat lies in its fields.
-use Rattle.std.specs.Prelude.{◌≡◌, ◌<◌, map, All, Some}
+use Rattle.std.specs.Prelude.{◌≡◌, ◌<◌, ◌≤◌, ◌++◌, List, length, map, All, Some}
 use Rattle.camp_object.specs.Objects.{Sequential}
-use Rattle.camp_object.specs.Histories.{IsFront, replay}
-use Rattle.camp_history.specs.Inside.Steps.{entry_of}
-use Rattle.camp_history.specs.Seats.{Seated, asked}
+use Rattle.camp_object.specs.Histories.{replay}
+use Rattle.camp_history.specs.Seats.{Seated, asked, entry_of, most_listed}
+use Rattle.camp_history.specs.Versions.{Begins, based, bases_in}
+use Rattle.camp_history.specs.declared.marks.Mark.{Mark}
 use Rattle.camp_history.specs.declared.seats.Seat.TheInside.{Inside}
 
+-- the marks of all that it has seen
+abbrev pub marks_in : {State Call Reply : Type 0} → Inside State Call Reply → List (Mark Call)
+marks_in seat = seat.front ++ seat.tail.items
+
 abbrev pub seated : {State Call Reply : Type 0} → Inside State Call Reply → Seated Call
-seated seat = record { known = seat.pass; marks = seat.marks.items; front = seat.front }
+seated seat = record { known = seat.pass; marks = marks_in seat; bases = bases_in seat.bases.items }
 
 -- the marks are of the entries that the pass has seen, each of a seat of the row, and the state is their calls' replay;
--- the version that was made or taken over last begins them
+-- they begin with those of each version that it noted
 pub record IsSeat {State Call Reply : Type 0} (object : Sequential State Call Reply) (seat : Inside State Call Reply)
     : Type 0 where
-  pub places : map entry_of seat.marks.items ≡ seat.pass.seen
-  pub below : All (λ mark. mark.seat < seat.pass.row.seats) seat.marks.items
-  pub replays : replay object (map asked seat.marks.items) ≡ Some seat.state
-  pub begins : IsFront (map asked seat.front) (map asked seat.marks.items)
+  pub places : map entry_of (marks_in seat) ≡ seat.pass.seen
+  pub below : All (λ mark. mark.seat < seat.pass.row.seats) (marks_in seat)
+  pub replays : replay object (map asked (marks_in seat)) ≡ Some seat.state
+  pub begins : All (λ base. Begins base.marks (marks_in seat)) (bases_in seat.bases.items)
+  pub few : length seat.front ≤ most_listed

@@ -10,12 +10,8 @@ use Rattle.camp_object.specs.declared.objects.Decided.TheVariants.{Next, Answer}
 use Rattle.camp_row.specs.Chains.{IsShorter}
 use Rattle.camp_row.specs.declared.entries.Entry.{Entry}
 use Rattle.boxcar.specs.Table.{Where}
-use Rattle.camp_history.specs.Seats.{HeadId, Seated, history_of, caller_at}
+use Rattle.camp_history.specs.Seats.{HeadId, Seated, entry_of, history_of, caller_at}
 use Rattle.camp_history.specs.declared.marks.Mark.{Mark}
-
--- the entry of the row that a mark is of
-abbrev pub entry_of : {Call : Type 0} → Mark Call → Entry
-entry_of mark = record { seat = mark.seat; place = mark.call.index }
 
 -- the entries of a seat's marks
 abbrev pub entries_of : {Call : Type 0} → Seated Call → List Entry
@@ -45,14 +41,14 @@ pub record SeesNext {Call : Type 0} (old : Seated Call) (entry : Entry) (new : S
   pub mark : Mark Call
   pub is : entry_of mark ≡ entry
   pub marks : new.marks ≡ old.marks ++ mark ∷ []
-  pub front : new.front ≡ old.front
+  pub bases : new.bases ≡ old.bases
   pub known : new.known ≡ record old.known { seen = old.known.seen ++ entry ∷ [] }
 
 -- a seat sees more: its pass is to the same seat of the row, and no call that it sees newly is its own
 pub record SeesMore {Call : Type 0} (old new : Seated Call) : Type 0 where
   pub number : new.known.number ≡ old.known.number
   pub row : new.known.row ≡ old.known.row
-  pub more : IsFront old.marks new.marks
+  pub more : IsFront (history_of old) (history_of new)
   pub own_stays : own old.known.number (history_of new) ≡ own old.known.number (history_of old)
 
 -- the seat published its call, which is the last that it has seen now
@@ -60,14 +56,14 @@ pub record Publishes {Call : Type 0} (old : Seated Call) (call : Where Call) (ne
   pub number : new.known.number ≡ old.known.number
   pub row : new.known.row ≡ old.known.row
   pub marks : new.marks ≡ old.marks ++ record { seat = old.known.number; call = call } ∷ []
-  pub front : new.front ≡ old.front
+  pub bases : new.bases ≡ old.bases
 
 -- the chain was longer than what the seat has seen, and was found
 pub record FindsMore {Call : Type 0} (old new : Seated Call) : Type 0 where
   pub number : new.known.number ≡ old.known.number
   pub row : new.known.row ≡ old.known.row
   pub marks : new.marks ≡ old.marks
-  pub front : new.front ≡ old.front
+  pub bases : new.bases ≡ old.bases
   pub longer : IsShorter (entries_of new) new.known.ahead
 
 -- the exchange was lost, at a history at which the call is accepted

@@ -1,5 +1,5 @@
 use Rattle.camp_history.proofs.Words.{◌≡◌, ◌<◌, List, Ok, length, map, ap, sym, ◌∙◌, subst, own, Next, Ask, asked, history_of, caller_at, Mark, DecidesAt, Decision, Publishes}
-use Rattle.camp_history.proofs.Asked.{decided_next, decided_accepted, ask_published, seat_published, attempts_nothing, history_more}
+use Rattle.camp_history.proofs.Asked.{decided_next, decided_accepted, ask_published, seat_published, attempts_nothing}
 use Rattle.camp_history.proofs.heads.Head.attempt.Given.{Over}
 use Rattle.camp_history.proofs.heads.Head.attempt.Goals.{In-Next}
 use Rattle.camp_history.proofs.heads.Head.attempt.Goals as goal
@@ -10,9 +10,9 @@ decided g c =
     let ready : Decision g.State.Object.object c.args.self.now c.args.seat.now c.value.result.now (Ok (Next c.in-Next.state)) = rw c.in-Next.is at c.in_ok-reply.ensures in
     rw c.value.ensures at ready
 
-pub version_for-requires-clause-next : goal.version_for-requires-clause-next
-version_for-requires-clause-next g c =
-    decided_next g.State.Object.object (history_of c.args.seat.now) c.args.seat.now.known.number c.args.call.now.value c.in-Next.state (decided g (goal.at.version_for-requires-clause-next g c).In-Next).1
+pub version_for-requires : goal.version_for-requires
+version_for-requires g c =
+    decided_next g.State.Object.object (history_of c.args.seat.now) c.args.seat.now.known.number c.args.call.now.value c.in-Next.state (decided g (goal.at.version_for-requires g c).In-Next).1
 
 pub publish-requires-clause-room : goal.publish-requires-clause-room
 publish-requires-clause-room g c = rw (ap (λ head. head.row.per_seat) c.self.view_is) (decided g (goal.at.publish-requires-clause-room g c).In-Next).0
@@ -33,10 +33,8 @@ put-requires-clause-seat g c =
 
 pub put-requires-clause-made : goal.put-requires-clause-made
 put-requires-clause-made g c =
-    let seat = c.args.seat.now in
-    let publishes : Publishes seat c.args.call.now c.publish.new.self = rw c.if-not-branch.false at c.in_ok-publish.ensures in
-    let mark : Mark g.row.State-Call.Denot = record { seat = seat.known.number; call = c.args.call.now } in
-    rw (history_more seat.marks c.publish.new.self.marks mark publishes.marks) c.in_ok-made.ensures
+    let publishes : Publishes c.args.seat.now c.args.call.now c.publish.new.self = rw c.if-not-branch.false at c.in_ok-publish.ensures in
+    rw publishes.marks c.in_ok-made.ensures
 
 pub returns-clause-attempts : goal.returns-clause-attempts
 returns-clause-attempts g c =

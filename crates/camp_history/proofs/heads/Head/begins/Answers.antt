@@ -1,21 +1,46 @@
-use Rattle.camp_history.proofs.Words.{◌≡◌, refl, sym, ◌∙◌, length, arith, ap, All-rest, Shows, asked}
-use Rattle.camp_history.proofs.Versioned.{begins_step, drop_step}
+use Rattle.camp_history.proofs.Words.{◌≡◌, ◌∷◌, ◌∙◌, refl, sym, subst, List, All, All-rest, All-drop, All-same, Shows, Mark, drop, told}
+use Rattle.camp_history.proofs.Versioned.{Compared, compared_start, compared_step, left_first}
 use Rattle.camp_history.proofs.heads.Head.begins.Goals as goal
+
+pub loop-mark-init : goal.loop-mark-init
+loop-mark-init g c =
+    let seat = c.args.seat.now in
+    let version = c.args.version.now in
+    let Stored : Mark g.row.State-Call.Denot → Type 0 = λ mark. Shows c.args.self.now.store mark.call in
+    let start = compared_start seat.marks version c.args.from c.requires.from in
+    let left : c.marks_from-marks.result ≡ drop c.args.from seat.marks = c.marks_from-marks.ensures in
+    let others : c.marks_from-others.result ≡ drop c.args.from version = c.marks_from-others.ensures in
+    record {
+      compared = subst (λ list. Compared seat.marks version list c.marks_from-others.result) (sym left) (subst (λ list. Compared seat.marks version (drop c.args.from seat.marks) list) (sym others) start);
+      stored = All-same Stored c.marks_from-marks.result (drop c.args.from seat.marks) left (All-drop Stored c.args.from seat.marks c.requires.seat.stored);
+      others_stored = All-same Stored c.marks_from-others.result (drop c.args.from version) others (All-drop Stored c.args.from version c.requires.version);
+    }
+
+pub is_same-requires : goal.is_same-requires
+is_same-requires g c =
+    let past = c.loop-mark.invariant in
+    let Stored : Mark g.row.State-Call.Denot → Type 0 = λ mark. Shows c.args.self.now.store mark.call in (
+      left_first Stored c.loop-mark.marks c.next.new.self c.in-Some.mark.now c.in-Some.ensures past.stored,
+      left_first Stored c.loop-mark.others c.next-in-Some.new.self c.in-Some-next.other.now c.in-Some-next.ensures past.others_stored,
+    )
 
 pub loop-mark-preserved : goal.loop-mark-preserved
 loop-mark-preserved g c =
     let past = c.loop-mark.invariant in
+    let seat = c.args.seat.now in
     let version = c.args.version.now in
-    let others = c.loop-mark.others in
+    let mark = c.in-Some.mark.now in
+    let other = c.in-Some-next.other.now in
     let left = c.next.new.self in
-    let other = c.in-Some.other.now in
-    let first = c.in-Some.ensures.steps in
-    let i = c.loop-mark.mark-index in
-    let one = ap length first in
-    let same : asked c.mark-item.result ≡ asked other = c.if-not-is_same.ensures refl in
+    let others = c.next-in-Some.new.self in
+    let Stored : Mark g.row.State-Call.Denot → Type 0 = λ mark. Shows c.args.self.now.store mark.call in
+    let first : c.loop-mark.marks ≡ mark ∷ left = c.in-Some.ensures in
+    let second : c.loop-mark.others ≡ other ∷ others = c.in-Some-next.ensures in
+    let here : Compared seat.marks version (mark ∷ left) (other ∷ others) =
+    subst (λ list. Compared seat.marks version (mark ∷ left) list) second (subst (λ list. Compared seat.marks version list c.loop-mark.others) first past.compared)
+    in
     record {
-      same = begins_step c.deref-mark-items.result.now version others left i c.mark-item.result other c.loop-mark-test.true c.mark-item.is first same past.same;
-      long = omega (arith, past.long);
-      rest = sym (drop_step version left i other (sym past.rest ∙ first));
-      stored = All-rest (λ mark. Shows c.args.self.now.store mark.call) other left others first past.stored;
+      compared = compared_step seat.marks version left others mark other (c.if-not-is_same.ensures refl) here;
+      stored = All-rest Stored mark left c.loop-mark.marks first past.stored;
+      others_stored = All-rest Stored other others c.loop-mark.others second past.others_stored;
     }

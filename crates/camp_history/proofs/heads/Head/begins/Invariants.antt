@@ -1,10 +1,13 @@
-use Rattle.camp_history.proofs.Words.{◌≡◌, ◌+◌, ◌++◌, length, map, take, drop, All, Shows, asked}
+use Rattle.camp_history.proofs.Words.{length, All, Shows}
+use Rattle.camp_history.proofs.Versioned.{Compared}
 use Rattle.camp_history.proofs.heads.Head.begins.Given as goal
 
 abbrev pub invariant-loop-mark : goal.invariant-loop-mark
 invariant-loop-mark g l = record {
-  same : map asked (take l.mark-index l.mark-items) ++ map asked l.others ≡ map asked l.version;
-  long : l.mark-index + length l.others ≡ length l.version;
-  rest : l.others ≡ drop l.mark-index l.version;
-  stored : All (λ mark. Shows l.self.store mark.call) l.others;
+  compared : Compared l.seat.marks l.version l.marks l.others;
+  stored : All (λ mark. Shows l.self.store mark.call) l.marks;
+  others_stored : All (λ mark. Shows l.self.store mark.call) l.others;
 }
+
+abbrev pub decreases-loop-mark : goal.decreases-loop-mark
+decreases-loop-mark g l = length l.marks

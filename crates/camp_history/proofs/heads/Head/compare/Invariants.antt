@@ -1,5 +1,13 @@
-use Rattle.camp_history.proofs.Words.{◌≡◌, ℕ, ◌<◌, slice_get, history_of}
+use Rattle.camp_history.proofs.Words.{length, All, Shows}
+use Rattle.camp_history.proofs.Versioned.{Compared}
 use Rattle.camp_history.proofs.heads.Head.compare.Given as goal
 
-abbrev pub invariant-loop-i : goal.invariant-loop-i
-invariant-loop-i g l = (k : ℕ) → k < l.i → slice_get (history_of l.a) k ≡ slice_get (history_of l.b) k
+abbrev pub invariant-loop-mark : goal.invariant-loop-mark
+invariant-loop-mark g l = record {
+  compared : Compared l.a.marks l.b.marks l.marks l.others;
+  stored : All (λ mark. Shows l.self.store mark.call) l.marks;
+  others_stored : All (λ mark. Shows l.self.store mark.call) l.others;
+}
+
+abbrev pub decreases-loop-mark : goal.decreases-loop-mark
+decreases-loop-mark g l = length l.marks

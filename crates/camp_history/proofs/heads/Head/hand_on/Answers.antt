@@ -1,12 +1,10 @@
-use Rattle.camp_history.proofs.Words.{All, All-same, Shows, list_of}
-use Rattle.camp_history.proofs.Versioned.{all_in, list_stored}
+use Rattle.camp_history.proofs.Words.{◌≡◌, All, All-same, Shows, sym, subst, IfSome, Begins, Option}
 use Rattle.camp_history.proofs.heads.Head.hand_on.Goals as goal
 
-pub set-handed-requires : goal.set-handed-requires
-set-handed-requires g c =
-    let head = c.args.self.now in
-    let seat = c.args.seat.now in
-    let version = c.in_ok-version.version in
-    let stored : All (λ mark. Shows head.store mark.call) version =
-    All-same (λ mark. Shows head.store mark.call) version (list_of seat) c.in_ok-version.ensures (list_stored head seat c.requires) in
-    all_in head.store c.in-Some.slot.now.tag c.in-Some.ensures version stored
+pub put_at-handed-requires-clause-version : goal.put_at-handed-requires-clause-version
+put_at-handed-requires-clause-version g c =
+    All-same (λ mark. Shows c.args.self.now.store mark.call) c.in_ok-version.version c.args.seat.now.marks c.in_ok-version.ensures c.requires.stored
+
+pub put_at-handed-requires-clause-begins : goal.put_at-handed-requires-clause-begins
+put_at-handed-requires-clause-begins g c =
+    subst (λ marks. IfSome c.last_noted.result (λ base. Begins base.version.value marks)) (sym c.in_ok-version.ensures) c.last_noted.ensures.begins

@@ -1,14 +1,36 @@
-use Rattle.camp_history.proofs.Words.{arith, common_steps}
+use Rattle.camp_history.proofs.Words.{◌≡◌, ◌∷◌, [], ◌++◌, ◌∙◌, sym, ap, map, drop, All, All-rest, All-same, Shows, Mark, asked, append-nil, append_assoc}
+use Rattle.camp_history.proofs.Versioned.{left_first}
 use Rattle.camp_history.proofs.heads.Head.history.Goals as goal
 
-pub returns-in_err-call-clause-empty : goal.returns-in_err-call-clause-empty
-returns-in_err-call-clause-empty g c = grind (arith, common_steps)
+pub loop-mark-init : goal.loop-mark-init
+loop-mark-init g c =
+    let marks = c.args.seat.now.marks in
+    let whole : c.marks_from-marks.result ≡ marks = c.marks_from-marks.ensures in
+    record {
+      so_far = ap (λ items. items ++ map asked c.marks_from-marks.result) c.new-history.ensures.items ∙ ap (map asked) whole;
+      stored = All-same (λ mark. Shows c.args.self.now.store mark.call) c.marks_from-marks.result marks whole c.requires.stored;
+    }
 
-pub returns-in_err-push-clause-empty : goal.returns-in_err-push-clause-empty
-returns-in_err-push-clause-empty g c = grind (arith, common_steps)
+pub value-requires : goal.value-requires
+value-requires g c =
+    let Stored : Mark g.row.State-Call.Denot → Type 0 = λ mark. Shows c.args.self.now.store mark.call in
+    let store : c.self.inside.calls ≡ c.args.self.now.store = ap (λ head. head.store) c.self.view_is in
+    rw store (left_first Stored c.loop-mark.marks c.next.new.self c.in-Some.mark.now c.in-Some.ensures c.loop-mark.invariant.stored)
 
 pub loop-mark-preserved : goal.loop-mark-preserved
-loop-mark-preserved g c = grind (arith, common_steps)
-
-pub returns-clause-history : goal.returns-clause-history
-returns-clause-history g c = grind (arith, common_steps)
+loop-mark-preserved g c =
+    let past = c.loop-mark.invariant in
+    let mark = c.in-Some.mark.now in
+    let left = c.next.new.self in
+    let items = c.loop-mark.history.items in
+    let first : c.loop-mark.marks ≡ mark ∷ left = c.in-Some.ensures in
+    let call : c.in_ok-call.call ≡ mark.call.value = c.in_ok-call.ensures ∙ c.value.ensures in
+    let pushed : c.push.new.self.items ≡ items ++ asked mark ∷ [] = c.in_ok-push.ensures.items ∙ ap (λ call. items ++ (mark.seat, call) ∷ []) call in
+    record {
+      so_far =
+          ap (λ list. list ++ map asked left) pushed
+          ∙ append_assoc items (asked mark ∷ []) (map asked left)
+          ∙ ap (λ list. items ++ map asked list) (sym first)
+          ∙ past.so_far;
+      stored = All-rest (λ mark. Shows c.args.self.now.store mark.call) mark left c.loop-mark.marks first past.stored;
+    }

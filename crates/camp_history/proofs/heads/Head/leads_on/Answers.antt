@@ -13,11 +13,11 @@ loop-mark-preserved g c =
     let left = c.next.new.self in
     let entry = c.entry_at-entry.result in
     let at = c.entry_at-entry.ensures in
-    let first = sym past.rest ∙ c.in-Some.ensures.steps in
+    let first = sym past.rest ∙ c.in-Some.ensures in
     let place : entry.place ≡ mark.call.index = c.if-entry-index.false ∙ c.index.ensures in
     let is : entry ≡ entry_of mark = λ k. record { seat = c.if-entry-mark.false k; place = place k } in
     let index = c.if-index-len.false in
-    let len = c.len-in-Some.ensures.exact in
+    let len = c.len.ensures.exact in
     let within = past.within in
     let other : i ≢ length c.args.trail.now = λ same. index (same ∙ sym len) in
     let Below : Mark g.row.State-Call.Denot → Type 0 = λ mark. mark.seat < seat.known.row.seats in
@@ -35,7 +35,7 @@ returns-clause-goes_on g c = λ yes.
     let seat = c.args.seat.now in
     let list = news seat c.args.version.now in
     let i = c.loop-mark.index in
-    let all : take i list ≡ list = all_taken list i (sym past.rest ∙ c.in_default.ensures.steps.0) in
+    let all : take i list ≡ list = all_taken list i (sym past.rest ∙ c.in_default.ensures) in
     let Comes : List (Mark g.row.State-Call.Denot) → Type 0 = λ list. chain.IsFront (seat.known.seen ++ map entry_of list) seat.known.ahead in
     let Below : List (Mark g.row.State-Call.Denot) → Type 0 = λ list. All (λ mark. mark.seat < seat.known.row.seats) list in
-    record { asks = c.requires.begins; ahead = subst Comes all past.ahead; below = subst Below all past.below }
+    record { begins = c.requires.begins; ahead = subst Comes all past.ahead; below = subst Below all past.below }

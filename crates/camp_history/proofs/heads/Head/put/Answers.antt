@@ -1,19 +1,18 @@
-use Rattle.camp_history.proofs.Words.{◌≡◌, sym, ◌∙◌, ap, map, subst, IsFront, front_self, asked, history_of, IsMade}
-use Rattle.camp_history.proofs.Versioned.{all_in}
+use Rattle.camp_history.proofs.Words.{◌≡◌, All, All-same, Shows, sym, subst, IfSome, Begins, ◌∙◌, front_self, map, told}
 use Rattle.camp_history.proofs.heads.Head.put.Goals as goal
 
-pub set-put-requires : goal.set-put-requires
-set-put-requires g c =
-    let made : IsMade c.args.self.now (history_of c.args.seat.now) c.in-Some.field-0 = rw c.in-Some.is at c.requires.made in
-    all_in c.args.self.now.store c.in-Some-slot_at.slot.now.tag c.in-Some-slot_at.ensures c.in-Some.field-0.version made.stored
+pub put_at-requires-clause-version : goal.put_at-requires-clause-version
+put_at-requires-clause-version g c =
+    let made : c.in-Some.version ≡ c.args.seat.now.marks = rw c.in-Some.is at c.requires.made in
+    All-same (λ mark. Shows c.args.self.now.store mark.call) c.in-Some.version c.args.seat.now.marks made c.requires.seat.stored
 
-pub invariant_of-seat : goal.invariant_of-seat
-invariant_of-seat g c =
-    let made : IsMade c.args.self.now (history_of c.args.seat.now) c.in-Some.field-0 = rw c.in-Some.is at c.requires.made in
-    let asks : map asked c.in-Some.field-0.front ≡ map asked c.seat.inside.marks.items = ap (map asked) made.same ∙ made.asks ∙ sym (ap history_of c.seat.view_is) in
-    record {
-      places = c.seat.invariant.places;
-      below = c.seat.invariant.below;
-      replays = c.seat.invariant.replays;
-      begins = subst (λ list. IsFront list (map asked c.seat.inside.marks.items)) (sym asks) (front_self (map asked c.seat.inside.marks.items));
-    }
+pub put_at-requires-clause-begins : goal.put_at-requires-clause-begins
+put_at-requires-clause-begins g c =
+    let made : c.in-Some.version ≡ c.args.seat.now.marks = rw c.in-Some.is at c.requires.made in
+    subst (λ marks. IfSome c.last_noted-from.result (λ base. Begins base.version.value marks)) (sym made) c.last_noted-from.ensures.begins
+
+pub note-requires-clause-begins : goal.note-requires-clause-begins
+note-requires-clause-begins g c =
+    let made : c.in-Some.version ≡ c.args.seat.now.marks = rw c.in-Some.is at c.requires.made in
+    let same : c.in-Some-put_at.base.version.value ≡ c.args.seat.now.marks = c.in-Some-put_at.ensures.is ∙ made in
+    subst (λ list. Begins list c.args.seat.now.marks) (sym same) (front_self (map told c.args.seat.now.marks))

@@ -1,12 +1,14 @@
-use Rattle.camp_history.proofs.Words.{◌≡◌, All, refl, sym, ◌∙◌, subst, All-same, Shows, IsSound, IsSeatOf, GoesOn, list_of, SeesMore, entries_of}
-use Rattle.camp_history.proofs.Versioned.{adopting_more, adopting_of, list_stored}
+use Rattle.camp_history.proofs.Words.{◌≡◌, All, refl, sym, ◌∙◌, subst, All-same, Shows, IsSound, IsSeatOf, GoesOn, Share, SeesMore, entries_of}
+use Rattle.camp_history.proofs.Versioned.{adopting_more, adopting_of}
 use Rattle.camp_history.proofs.heads.Head.take_over.Goals as goal
 
 pub goes_on-requires-clause-version : goal.goes_on-requires-clause-version
 goes_on-requires-clause-version g c =
-    let head = c.args.self.now in
-    let other = c.args.other.now in
-    All-same (λ mark. Shows head.store mark.call) c.in_ok-version.version (list_of other) c.in_ok-version.ensures (list_stored head other c.requires.other)
+    All-same (λ mark. Shows c.args.self.now.store mark.call) c.in_ok-version.version c.args.other.now.marks c.in_ok-version.ensures c.requires.other.stored
+
+pub goes_on-requires-clause-from : goal.goes_on-requires-clause-from
+goes_on-requires-clause-from g c =
+    subst (λ marks. Share c.walk.new.self.marks marks c.shared-from.result) (sym c.in_ok-version.ensures) c.shared-from.ensures
 
 pub returns-clause-of : goal.returns-clause-of
 returns-clause-of g c =
@@ -14,7 +16,7 @@ returns-clause-of g c =
     let other = c.args.other.now in
     let old = c.goes_on.new.seat in
     let version = c.in_ok-version.version in
-    let stored : All (λ mark. Shows head.store mark.call) version = All-same (λ mark. Shows head.store mark.call) version (list_of other) c.in_ok-version.ensures (list_stored head other c.requires.other) in
+    let stored : All (λ mark. Shows head.store mark.call) version = All-same (λ mark. Shows head.store mark.call) version other.marks c.in_ok-version.ensures c.requires.other.stored in
     let same : old ≡ c.args.seat.now = c.goes_on.ensures.same ∙ c.walk.ensures.same in
     adopting_of head old c.adopt.new.self version c.adopt.result (subst (IsSeatOf head) (sym same) c.requires.of) stored c.adopt.ensures.ok c.adopt.ensures.err
 

@@ -1,5 +1,5 @@
-use Rattle.camp_history.proofs.Words.{◌≡◌, [], ◌<◌, ◌∷◌, ◌++◌, length, refl, sym, ◌∙◌, ap, map, replay, own, turns, Known, Won, drafted, with_draft, asked, history_of, entry_of, Mark}
-use Rattle.camp_history.proofs.Seeing.{entries_more, history_more, begins_more, all_more, length-own}
+use Rattle.camp_history.proofs.Words.{◌≡◌, [], ◌<◌, ◌∷◌, ◌++◌, length, refl, sym, ◌∙◌, ap, replay, own, turns, Known, Won, drafted, with_draft, bases_in, marks_in, history_of, entry_of, Mark}
+use Rattle.camp_history.proofs.Seeing.{entries_more, history_more, begins_more, all_more, bases_begin, length-own, one_more}
 use Rattle.camp_history.proofs.seats.Seat.publish.Given.{Over}
 use Rattle.camp_history.proofs.seats.Seat.publish.Goals as goal
 
@@ -7,7 +7,7 @@ pub exchange_cell-requires-clause-room : goal.exchange_cell-requires-clause-room
 exchange_cell-requires-clause-room g c =
     let here : turns c.self.inside.pass.number c.self.inside.pass.seen ≡ length (own c.args.self.now.known.number (history_of c.args.self.now)) =
     ap (turns c.self.inside.pass.number) (sym c.self.invariant.places)
-    ∙ sym (length-own c.self.inside.pass.number c.self.inside.marks.items)
+    ∙ sym (length-own c.self.inside.pass.number (marks_in c.self.inside))
     ∙ ap (λ seat. length (own seat.known.number (history_of seat))) c.self.view_is
     in
     rw here c.requires.room
@@ -16,17 +16,19 @@ exchange_cell-requires-clause-room g c =
 pushed : (g : Over) (c : goal.After-drop-self-inside g) → Mark g.row.State-Call.Denot
 pushed g c = record { seat = c.self.inside.pass.number; call = c.args.call.now }
 
-stands : (g : Over) (c : goal.After-drop-self-inside g) → c.push_reserved.new.self.items ≡ c.self.inside.marks.items ++ pushed g c ∷ []
+stands : (g : Over) (c : goal.After-drop-self-inside g) → c.self.inside.front ++ c.push_reserved.new.self.items ≡ marks_in c.self.inside ++ pushed g c ∷ []
 unfolding pushed
 stands g c =
     let items : c.push_reserved.new.self.items ≡ c.reserve.new.self.items ++ record { seat = c.number-number.result; call = c.again.result } ∷ [] = c.push_reserved.ensures.items in
-    let kept : c.reserve.new.self.items ≡ c.self.inside.marks.items = c.in_ok-reserve.ensures.items in
+    let kept : c.reserve.new.self.items ≡ c.self.inside.tail.items = c.in_ok-reserve.ensures.items in
     let number : c.number-number.result ≡ c.self.inside.pass.number = c.number-number.ensures.number in
     let call : c.again.result ≡ c.args.call.now = c.again.ensures in
+    one_more c.self.inside.front c.self.inside.tail.items c.push_reserved.new.self.items (pushed g c) (
     items
     ∙ ap (λ list. list ++ record { seat = c.number-number.result; call = c.again.result } ∷ []) kept
-    ∙ ap (λ number. c.self.inside.marks.items ++ record { seat = number; call = c.again.result } ∷ []) number
-    ∙ ap (λ call. c.self.inside.marks.items ++ record { seat = c.self.inside.pass.number; call = call } ∷ []) call
+    ∙ ap (λ number. c.self.inside.tail.items ++ record { seat = number; call = c.again.result } ∷ []) number
+    ∙ ap (λ call. c.self.inside.tail.items ++ record { seat = c.self.inside.pass.number; call = call } ∷ []) call
+    )
 
 -- what a pass knows that won
 abbrev won : Known → Known
@@ -42,17 +44,20 @@ passed g c =
 pub invariant_of-self-2 : goal.invariant_of-self-2
 unfolding pushed
 invariant_of-self-2 g c =
+    let marks = marks_in c.self.inside in
+    let now = c.self.inside.front ++ c.push_reserved.new.self.items in
     rw (passed g c) (
     record {
-      places = entries_more c.self.inside.marks.items c.push_reserved.new.self.items (pushed g c) (stands g c) c.self.inside.pass.seen (c.self.inside.pass.seen ++ entry_of (pushed g c) ∷ []) c.self.invariant.places refl;
+      places = entries_more marks now (pushed g c) (stands g c) c.self.inside.pass.seen (c.self.inside.pass.seen ++ entry_of (pushed g c) ∷ []) c.self.invariant.places refl;
       below =
-          all_more c.self.inside.marks.items c.push_reserved.new.self.items (pushed g c) (stands g c) (λ mark. mark.seat < c.self.inside.pass.row.seats) c.self.invariant.below (
+          all_more marks now (pushed g c) (stands g c) (λ mark. mark.seat < c.self.inside.pass.row.seats) c.self.invariant.below (
           let below = c.number-number.ensures.below in rw (← c.number-number.ensures.number) below
           );
       replays =
-          ap (replay g.State.Object.object) (history_more c.self.inside.marks.items c.push_reserved.new.self.items (pushed g c) (stands g c))
+          ap (replay g.State.Object.object) (history_more marks now (pushed g c) (stands g c))
           ∙ ap (λ seat. replay g.State.Object.object (history_of seat ++ (seat.known.number, c.args.call.now.value) ∷ [])) c.self.view_is
           ∙ c.requires.next;
-      begins = begins_more c.self.inside.marks.items c.push_reserved.new.self.items (pushed g c) (stands g c) (map asked c.self.inside.front) c.self.invariant.begins;
+      begins = bases_begin marks now (bases_in c.self.inside.bases.items) (begins_more marks now (pushed g c) (stands g c)) c.self.invariant.begins;
+      few = c.self.invariant.few;
     }
     )

@@ -1,0 +1,29 @@
+use Rattle.camp_history.proofs.Words.{◌≡◌, All, All-same, Shows, ap, is_ok, IsBaseAt, Begins, bases_in, marks_in, based, subst, sym}
+use Rattle.camp_history.proofs.Versioned.{noted_based}
+use Rattle.camp_history.proofs.heads.Head.note.Goals as goal
+
+pub invariant_of-seat : goal.invariant_of-seat
+invariant_of-seat g c =
+    let inside = c.seat.inside in
+    let begins : Begins c.args.base.version.value (marks_in inside) = subst (Begins c.args.base.version.value) (sym (ap (λ seat. seat.marks) c.seat.view_is)) c.requires.begins in
+    record {
+      places = c.seat.invariant.places;
+      below = c.seat.invariant.below;
+      replays = c.seat.invariant.replays;
+      begins =
+          noted_based (λ base. Begins base.marks (marks_in inside)) inside.bases.items c.make_room.new.bases.items c.push-noted.new.self.items c.args.base c.make_room.ensures.0 (is_ok c.push-noted.result) c.make_room.ensures.1
+          c.push-noted.ensures.items c.seat.invariant.begins begins;
+      few = c.seat.invariant.few;
+    }
+
+pub returns-clause-seat : goal.returns-clause-seat
+returns-clause-seat g c =
+    let inside = c.seat.inside in
+    let bases = All-same (IsBaseAt c.args.self.now.slots) (bases_in inside.bases.items) c.args.seat.now.bases (ap (λ seat. seat.bases) c.seat.view_is) c.requires.seat.bases in
+    record {
+      row = rw (ap (λ seat. seat.known.row) c.seat.view_is) c.requires.seat.row;
+      stored = subst (All (λ mark. Shows c.args.self.now.store mark.call)) (sym (ap (λ seat. seat.marks) c.seat.view_is)) c.requires.seat.stored;
+      bases =
+          noted_based (IsBaseAt c.args.self.now.slots) inside.bases.items c.make_room.new.bases.items c.push-noted.new.self.items c.args.base c.make_room.ensures.0 (is_ok c.push-noted.result) c.make_room.ensures.1
+          c.push-noted.ensures.items bases c.requires.base;
+    }

@@ -1,9 +1,0 @@
-use Rattle.camp_history.proofs.Words.{All, Shows, IsIn}
-use Rattle.camp_history.proofs.Versioned.{all_shown, some_weaker}
-use Rattle.camp_history.proofs.heads.Head.version_at.Goals as goal
-
-pub returns : goal.returns
-returns g c =
-    let tag = c.in_ok-slot_at.field-0.now.tag in
-    some_weaker (λ version. All (λ mark. IsIn tag mark.call) version.now) (λ version. All (λ mark. Shows c.args.self.now.store mark.call) version.now)
-    (λ version. all_shown c.args.self.now.store tag c.in_ok-slot_at.ensures version.now) c.get.result c.get.ensures

@@ -1,0 +1,5 @@
+use Rattle.camp_history.proofs.Words.{◌≡◌, All, ids_of}
+use Rattle.camp_history.proofs.origins.origins_of.Given as goal
+
+abbrev pub invariant-loop : goal.invariant-loop
+invariant-loop g l = All (λ slot. slot.tag ≡ ids_of l.slots.items) l.origins.items

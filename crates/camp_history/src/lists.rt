@@ -1,0 +1,75 @@
+//! Marks in order: a list that copies share, and a few behind it.
+ghost use Rattle.std.specs.Prelude.{◌≡◌, ◌∷◌, ◌++◌, ◌+◌, ◌≤◌, [], length, drop, IfOk, MatchOption};
+
+use crate::marks::Mark;
+use camp_share::{Iter, Share, SharedList};
+use std::alloc::AllocError;
+use std::marker::Model;
+
+/// The marks that are still to come. Contracts see them as a list.
+#[derive(Drop)]
+pub(crate) struct MarksLeft<'a, Call> {
+    front: Iter<'a, Mark<Call>>,
+    tail: &'a [Mark<Call>],
+}
+
+impl<'a, Call> Model for MarksLeft<'a, Call> {
+    ghost use Rattle.std.specs.Prelude.{◌++◌, List};
+    ghost use Rattle.camp_history.specs.declared.marks.Mark.{Mark};
+
+    ghost Value = { List (Mark Call) };
+
+    ghost view = { λ left. left.front ++ left.tail.now };
+}
+
+impl<'a, Call> MarksLeft<'a, Call> {
+    /// Those of a list and of the marks behind it, from a place on.
+    pub(crate) fn new(
+        front: &'a SharedList<Mark<Call>>,
+        tail: &'a [Mark<Call>],
+        from: usize,
+    ) -> MarksLeft<'a, Call>
+        requires { from ≤ length front.now + length tail.now }
+        ensures { result ≡ drop from (front.now ++ tail.now) }
+    {
+        let len = front.len();
+        if from <= len {
+            return MarksLeft {
+                front: front.iter_from(from),
+                tail,
+            };
+        }
+        MarksLeft {
+            front: front.iter_from(len),
+            tail: &tail[from - len..],
+        }
+    }
+
+    pub(crate) fn next(&mut self) -> Option<&'a Mark<Call>>
+        ensures { MatchOption result (self.old ≡ []) (λ mark. self.old ≡ mark.now ∷ self.new) }
+    {
+        if let Some(mark) = self.front.next() {
+            return Some(mark);
+        }
+        let tail = self.tail;
+        if tail.is_empty() {
+            return None;
+        }
+        self.tail = &tail[1..];
+        Some(&tail[0])
+    }
+}
+
+/// Marks once more, with room for one behind them.
+pub(crate) fn copies<Call>(
+    alloc: std::alloc::Global,
+    marks: &[Mark<Call>],
+) -> Result<Vec<Mark<Call>>, AllocError>
+    ensures { IfOk result (λ copies. copies.items ≡ marks.now) }
+{
+    let mut copies = Vec::with_capacity(alloc, marks.len().saturating_add(1))?;
+    for mark in marks {
+        copies.push(mark.share()?)?;
+    }
+    Ok(copies)
+}

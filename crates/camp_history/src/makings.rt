@@ -1,0 +1,162 @@
+//! How versions are made, put into their slots, and handed on.
+ghost use Rattle.std.specs.Prelude.{◌≡◌, ◌<◌, ◌≤◌, ◌++◌, ◌∷◌, [], length, All, Some, IfOk, IfErr, IfSome};
+ghost use Rattle.boxcar.specs.Table.{Shows};
+ghost use Rattle.camp_object.specs.declared.faults.Fault.TheVariants.{Memory};
+ghost use Rattle.camp_history.specs.Versions.{made_of, Begins};
+
+use crate::heads::{Head, slot_count};
+use crate::lists::copies;
+use crate::marks::Mark;
+use crate::seats::Seat;
+use crate::versions::{Base, Origin, Version};
+use boxcar::Pushed;
+use camp_object::{Fault, Object};
+use camp_share::{Share, Shared};
+use std::alloc::AllocError;
+
+impl<State: Object> Seat<State> {
+    ghost use Rattle.camp_object.specs.Histories.{replay};
+    ghost use Rattle.camp_history.specs.Seats.{history_of};
+
+    /// All that it has seen, as a version.
+    pub(crate) fn version(&self) -> Result<Version<State>, AllocError>
+        ensures { IfOk result (λ version. version ≡ self.now.marks) }
+    {
+        let front = self.front.share()?;
+        let tail = copies(*self.tail.allocator(), &self.tail)?;
+        let state = self.state.share()?;
+        Ok(Version { front, tail, state })
+    }
+
+    /// The version at the position of a call, as long as it is accepted there.
+    fn version_with(
+        &self,
+        call: &Pushed<State::Call>,
+        next: &Shared<State>,
+    ) -> Result<Version<State>, AllocError>
+        requires { replay State.object (history_of self.now ++ (self.now.known.number, call.now.value) ∷ []) ≡ Some next.now }
+        ensures { IfOk result (λ version. version ≡ made_of self.now call.now) }
+    {
+        let front = self.front.share()?;
+        let mut tail = copies(*self.tail.allocator(), &self.tail)?;
+        tail.push(Mark {
+            seat: self.pass.number(),
+            call: call.again(),
+        })?;
+        let state = next.share()?;
+        Ok(Version { front, tail, state })
+    }
+}
+
+impl<State: Object> Head<State> {
+    ghost use Rattle.camp_object.specs.Histories.{replay};
+    ghost use Rattle.camp_history.specs.Seats.{IsBaseAt, IsSeatOf, history_of};
+    ghost use Rattle.camp_history.specs.Versions.{based};
+
+    /// How many slots are for positions. Behind them lie those of the seats.
+    pub(crate) fn kept_count(&self) -> usize
+        ensures { result ≤ 4194304 }
+    {
+        slot_count(self.row.seats(), self.row.per_seat(), self.every)
+    }
+
+    /// The number of the slot of a position, if a version is kept there.
+    fn slot_at(&self, position: u64) -> Option<usize> {
+        let every = self.every as u64;
+        if every == 0 || position % every != 0 {
+            return None;
+        }
+        let number = (position / every).checked_sub(1)?;
+        Some(number as usize)
+    }
+
+    /// The version that a seat noted last.
+    fn last_noted(&self, seat: &Seat<State>) -> Option<Base<State>>
+        requires { IsSeatOf self.now seat.now }
+        ensures base { IfSome result (λ base. IsBaseAt self.now.slots (based base)) }
+        ensures begins { IfSome result (λ base. Begins base.version.value seat.now.marks) }
+    {
+        Some(seat.bases.last()?.again())
+    }
+
+    /// Puts a version into the slot of a number, with what it was made from, if there is none yet.
+    fn put_at(
+        &self,
+        number: usize,
+        version: Version<State>,
+        from: Option<Base<State>>,
+    ) -> Option<Base<State>>
+        requires version { All (λ mark. Shows self.now.store mark.call) version }
+        requires from { IfSome from (λ base. IsBaseAt self.now.slots (based base)) }
+        requires begins { IfSome from (λ base. Begins base.version.value version) }
+        ensures base { IfSome result (λ base. IsBaseAt self.now.slots (based base)) }
+        ensures is { IfSome result (λ base. base.version.value ≡ version) }
+    {
+        let slot = self.slot(number)?;
+        let origin = self.origin_slot(number)?;
+        let Ok(shown) = slot.set_written(version) else {
+            return None;
+        };
+        let base = Base {
+            slot: number,
+            version: shown,
+        };
+        let _told = origin.set(Origin {
+            version: base.again(),
+            from,
+        });
+        Some(base)
+    }
+
+    /// Hands on what a seat has seen and decided, for seats that are behind: a seat that asks no more
+    /// saves them deciding it. It does so once; where no versions are kept, nothing comes of it. The
+    /// only fault is want of memory: then nothing is handed on, and all else is as it was.
+    pub fn hand_on(&self, seat: &Seat<State>) -> Result<(), Fault>
+        requires { IsSeatOf self.now seat.now }
+        ensures only_memory { IfErr result (λ fault. fault ≡ Memory) }
+    {
+        let number = self.kept_count() + seat.number() as usize;
+        if number >= self.versions.len() {
+            return Ok(());
+        }
+        let version = seat.version()?;
+        let _handed = self.put_at(number, version, self.last_noted(seat));
+        Ok(())
+    }
+
+    /// The version for the position of a call, if one is kept there.
+    pub(crate) fn version_for(
+        &self,
+        seat: &Seat<State>,
+        call: &Pushed<State::Call>,
+        next: &Shared<State>,
+    ) -> Result<Option<Version<State>>, AllocError>
+        requires { replay State.object (history_of seat.now ++ (seat.now.known.number, call.now.value) ∷ []) ≡ Some next.now }
+        ensures { IfOk result (λ made. IfSome made (λ version. version ≡ made_of seat.now call.now)) }
+    {
+        if self.slot_at(seat.position().saturating_add(1)).is_none() {
+            return Ok(None);
+        }
+        Ok(Some(seat.version_with(call, next)?))
+    }
+
+    /// Puts a version that was made for the last call that a seat has seen.
+    pub(crate) fn put(&self, seat: &mut Seat<State>, made: Option<Version<State>>)
+        requires seat { IsSeatOf self.now seat.old }
+        requires made { IfSome made (λ version. version ≡ seat.old.marks) }
+        ensures seat { IsSeatOf self.now seat.new }
+        ensures known { seat.new.known ≡ seat.old.known }
+        ensures marks { seat.new.marks ≡ seat.old.marks }
+    {
+        let Some(version) = made else {
+            return;
+        };
+        let Some(number) = self.slot_at(seat.position()) else {
+            return;
+        };
+        let from = self.last_noted(seat);
+        if let Some(base) = self.put_at(number, version, from) {
+            self.note(seat, base);
+        }
+    }
+}
