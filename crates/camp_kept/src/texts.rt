@@ -10,7 +10,7 @@ ghost use Rattle.camp_script.specs.Reading.{script_of};
 ghost use Rattle.camp_store.specs.Logs.{texts_of};
 
 use camp_repo::Call;
-use camp_script::{ScriptFault, append_call, read_script};
+use camp_script::{ScriptFault, append_accepted, read_script};
 use std::alloc::{AllocError, Global};
 
 /// The first text of a store.
@@ -36,7 +36,7 @@ fn text_of(alloc: Global, call: &Call) -> Result<Vec<u8>, AllocError>
     ensures stands { IfOk result (λ _. CanStand call.now) }
 {
     let mut text = Vec::new(alloc);
-    append_call(&mut text, call)?;
+    append_accepted(&mut text, call)?;
     Ok(text)
 }
 

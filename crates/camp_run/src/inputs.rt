@@ -20,7 +20,6 @@ pub(crate) fn read_input<R: Read>(alloc: Global, reader: &mut R) -> Result<Scrip
         Ok(script) => Ok(script),
         Err(ScriptFault::Line(fault)) => Err(RunFault::Script(fault)),
         Err(ScriptFault::Memory) => Err(RunFault::Memory),
-        Err(ScriptFault::Write) => unreachable!(),
     }
 }
 

@@ -38,7 +38,7 @@ pub use Rattle.camp_script.specs.Words.{in_turn, is_line_number, name_at, names_
 pub use Rattle.camp_script.specs.Writing.{Extends}
 pub use Rattle.camp_script.specs.declared.faults.LineFault.{LineFault}
 pub use Rattle.camp_script.specs.declared.faults.ScriptFault.{ScriptFault}
-pub use Rattle.camp_script.specs.declared.faults.ScriptFault.TheVariants.{Line, Memory, Write}
+pub use Rattle.camp_script.specs.declared.faults.ScriptFault.TheVariants.{Line, Memory}
 pub use Rattle.camp_base.specs.Trees.{Files, Lines}
 pub use Rattle.std.proofs.lemmas.List.Elements.{All-from_get_or, All-tail}
 pub use Rattle.std.proofs.lemmas.List.Splits.{length-slice_split, slice_split-cons_no, slice_split-cons_yes, slice_split_first, slice_split_none}

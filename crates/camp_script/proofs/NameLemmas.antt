@@ -1,5 +1,5 @@
 -- Names that are read word by word.
-use Rattle.camp_script.proofs.Common.{◌>>=◌, name_at, names_at, LineFault, ScriptFault, Line, Memory, Write, ◌≡◌, ◌≢◌, ℕ, List, [], ◌∷◌, ◌++◌, refl, sym, ap, subst, ◌∙◌, append_assoc, append-nil, Result, Ok, Err, IsFaultFirst, IsFaultOf}
+use Rattle.camp_script.proofs.Common.{◌>>=◌, name_at, names_at, LineFault, ScriptFault, Line, Memory, ◌≡◌, ◌≢◌, ℕ, List, [], ◌∷◌, ◌++◌, refl, sym, ap, subst, ◌∙◌, append_assoc, append-nil, Result, Ok, Err, IsFaultFirst, IsFaultOf}
 
 -- reading the words comes to the names that are read, and then those of the rest
 abbrev pub NamesFrom : ℕ → List (List ℕ) → List (List ℕ) → List (List ℕ) → Type 0
@@ -29,7 +29,6 @@ first_fault line words done more word fault so is =
 pub fault_named : (line : ℕ) (words done rest more : List (List ℕ)) (word : List ℕ) (fault : ScriptFault) → NamesFrom line words done rest → rest ≡ word ∷ more → IsFaultFirst fault (name_at line word) → fault ≢ Memory → IsFaultFirst fault (names_at line words)
 fault_named line words done rest more word (Line fault) so is told other = first_fault line words done more word fault (subst (NamesFrom line words done) is so) told
 fault_named line words done rest more word Memory so is told other = absurd (other refl)
-fault_named line words done rest more word Write so is told other = told
 
 pub all_named : (line : ℕ) (words done rest : List (List ℕ)) → NamesFrom line words done rest → rest ≡ [] → names_at line words ≡ Ok done
 all_named line words done rest so is = so ∙ ap (λ (ws : List (List ℕ)). names_at line ws >>= λ names. Ok (done ++ names)) is ∙ ap Ok (append-nil done)
@@ -38,4 +37,3 @@ all_named line words done rest so is = so ∙ ap (λ (ws : List (List ℕ)). nam
 pub is_fault_of : {A : Type 0} (fault : ScriptFault) (reading : Result A LineFault) → IsFaultFirst fault reading → IsFaultOf fault reading
 is_fault_of (Line fault) reading is = is
 is_fault_of Memory reading is = tt
-is_fault_of Write reading is = is

@@ -8,7 +8,9 @@ use Rattle.camp_script.specs.declared.faults.FaultKind.TheVariants.{EditNotEnded
 use Rattle.camp_script.specs.declared.faults.FaultKind.TheVariants.{BadGroup, GroupNotEnded}
 use Rattle.camp_script.specs.declared.faults.LineFault.{LineFault}
 use Rattle.camp_script.specs.declared.faults.ScriptFault.{ScriptFault}
-use Rattle.camp_script.specs.declared.faults.ScriptFault.TheVariants.{Line, Memory, Write}
+use Rattle.camp_script.specs.declared.faults.ScriptFault.TheVariants.{Line, Memory}
+use Rattle.camp_script.specs.declared.faults.CallFault.{CallFault}
+use Rattle.camp_script.specs.declared.faults.CallFault.TheVariants as call
 
 -- what is wrong with a line
 abbrev pub kind_words : FaultKind → List ℕ
@@ -29,11 +31,15 @@ kind_words GroupNotEnded = codes "group not ended"
 abbrev pub line_words : LineFault → List ℕ
 line_words fault = codes "line " ++ decimal fault.line ++ codes ": " ++ kind_words fault.kind
 
--- why bytes were not read as a script, or a text was not written
+-- why bytes were not read as a script
 abbrev pub fault_words : ScriptFault → List ℕ
 fault_words (Line fault) = line_words fault
 fault_words Memory = codes "out of memory"
-fault_words Write = codes "cannot write"
+
+-- why a call was not written
+abbrev pub call_fault_words : CallFault → List ℕ
+call_fault_words call.NoNames = codes "a list without a name"
+call_fault_words call.Memory = codes "out of memory"
 
 -- the fault of a kind at a line
 abbrev pub fault_at : {A : Type 0} → ℕ → FaultKind → Result A LineFault

@@ -3,15 +3,13 @@ use Rattle.std.specs.Prelude.{◌≡◌, ◌≢◌, ℕ, List, Result, Ok, Err, 
 use Rattle.std.specs.declared.alloc.AllocError.{AllocError}
 use Rattle.camp_script.specs.declared.faults.LineFault.{LineFault}
 use Rattle.camp_script.specs.declared.faults.ScriptFault.{ScriptFault}
-use Rattle.camp_script.specs.declared.faults.ScriptFault.TheVariants.{Line, Memory, Write}
+use Rattle.camp_script.specs.declared.faults.ScriptFault.TheVariants.{Line, Memory}
 use Rattle.camp_script.specs.Words.{path_at}
 
--- a fault of a line is the one that reading comes to; a want of memory says nothing; `Write` never comes, since nothing
--- is written
+-- a fault of a line is the one that reading comes to; a want of memory says nothing
 abbrev pub IsFaultOf : {A : Type 0} → ScriptFault → Result A LineFault → Type 0
 IsFaultOf (Line fault) reading = reading ≡ Err fault
 IsFaultOf Memory reading = Unit {0}
-IsFaultOf Write reading = ⊥
 
 -- an answer is what reading comes to: just its value, or its fault, unless memory ran out
 abbrev pub Gives : {A : Type 0} → Result A ScriptFault → Result A LineFault → Type 0
@@ -23,11 +21,10 @@ abbrev pub HasNoFault : {A : Type 0} → Result A LineFault → Type 0
 HasNoFault (Ok value) = Unit {0}
 HasNoFault (Err fault) = ⊥
 
--- a fault of a line is the one that reading it comes to; memory runs out only for a line without a fault; `Write` never comes
+-- a fault of a line is the one that reading it comes to; memory runs out only for a line without a fault
 abbrev pub IsFaultFirst : {A : Type 0} → ScriptFault → Result A LineFault → Type 0
 IsFaultFirst (Line fault) reading = reading ≡ Err fault
 IsFaultFirst Memory reading = HasNoFault reading
-IsFaultFirst Write reading = ⊥
 
 -- as `Gives`, but memory runs out only where reading comes to no fault
 abbrev pub GivesFaultFirst : {A : Type 0} → Result A ScriptFault → Result A LineFault → Type 0

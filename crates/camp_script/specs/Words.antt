@@ -1,6 +1,6 @@
 -- The words of a line as names, paths and numbers, or the fault of the first that is none.
 use Rattle.std.specs.Prelude.{ℕ, ◌+◌, ◌*◌, ◌-◌, Bool, ◌&&◌, if◌then◌else◌}
-use Rattle.std.specs.Prelude.{List, [], ◌∷◌, length, fold, Result, Ok, Err}
+use Rattle.std.specs.Prelude.{List, [], ◌∷◌, length, fold, Option, None, Some, Result, Ok, Err}
 use Rattle.std.specs.List.{list_all}
 use Rattle.camp_base.specs.Bytes.{is_name, is_path}
 use Rattle.camp_base.specs.Signs.{digit_zero, is_between, is_digit}
@@ -60,6 +60,10 @@ names_at line (word ∷ words) = name_at line word >>= λ name. names_at line wo
 -- the number that decimal digits spell
 abbrev pub value_of : List ℕ → ℕ
 value_of digits = fold (λ value digit. value * 10 + (digit - digit_zero)) 0 digits
+
+-- the number that a word of 1 to 10 decimal digits spells
+abbrev pub count_of : List ℕ → Option ℕ
+count_of word = if is_between 1 10 (length word) && list_all is_digit word then Some (value_of word) else None
 
 -- the greatest number of a line of a file
 abbrev pub last_line_number : ℕ

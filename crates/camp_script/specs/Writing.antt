@@ -1,8 +1,8 @@
 -- What appending and writing a text does to the bytes that are there.
 use Rattle.std.specs.Prelude.{◌≡◌, ◌<◌, ℕ, List, ◌++◌, length, Option, Result, Ok, Err}
 use Rattle.std.specs.Io.KnownBytes.{Appends, Keeps}
-use Rattle.camp_script.specs.declared.faults.ScriptFault.{ScriptFault}
-use Rattle.camp_script.specs.declared.faults.ScriptFault.TheVariants.{Line, Memory, Write}
+use Rattle.camp_script.specs.declared.faults.WriteFault.{WriteFault}
+use Rattle.camp_script.specs.declared.faults.WriteFault.TheVariants.{Memory, Write}
 
 -- Ok: the bytes grow by these. Not Ok: what was there stays in front.
 abbrev pub Extends : {E : Type 0} → List ℕ → List ℕ → Result (Unit {0}) E → List ℕ → Type 0
@@ -21,8 +21,7 @@ AppendsFront old new text =
 
 -- Ok: known bytes grow by the text. Out of memory: by nothing. After a fault of the writer: by a front of the text.
 -- Nothing is read.
-abbrev pub Writes : Option (List ℕ) → List ℕ → Result (Unit {0}) ScriptFault → Option (List ℕ) → Type 0
+abbrev pub Writes : Option (List ℕ) → List ℕ → Result (Unit {0}) WriteFault → Option (List ℕ) → Type 0
 Writes old text (Ok done) new = Appends old new text
-Writes old text (Err (Line fault)) new = ⊥
 Writes old text (Err Memory) new = Keeps old new
-Writes old text (Err Write) new = AppendsFront old new text
+Writes old text (Err (Write error)) new = AppendsFront old new text

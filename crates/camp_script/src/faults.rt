@@ -1,11 +1,12 @@
 //! What may be wrong with a script, and why one is not read or a text not written.
 ghost use Rattle.std.specs.Prelude.{◌≡◌, Some};
 ghost use Rattle.camp_script.specs.declared.faults.ScriptFault.TheVariants.{Memory};
-ghost use Rattle.camp_script.specs.Faults.{kind_words, line_words, fault_words};
+ghost use Rattle.camp_script.specs.declared.faults.CallFault.TheVariants as call;
+ghost use Rattle.camp_script.specs.Faults.{call_fault_words, kind_words, line_words, fault_words};
 
 use std::alloc::{AllocError, AllocFailed};
 use std::error::Error;
-use std::fmt;
+use std::{fmt, io};
 
 /// What is wrong with a line of a script.
 #[derive(Clone, Copy, PartialEq, Eq, Debug)]
@@ -79,14 +80,12 @@ pub(crate) fn at_line(line: u64, kind: FaultKind) -> ScriptFault
     ScriptFault::Line(LineFault { line, kind })
 }
 
-/// Why bytes were not read as a script, or a text was not written.
+/// Why bytes were not read as a script.
 #[derive(Clone, Copy, PartialEq, Eq, Debug)]
 pub enum ScriptFault {
     /// The bytes are no script: their first fault.
     Line(LineFault),
     Memory,
-    /// The writer failed before the whole text was written.
-    Write,
 }
 
 impl fmt::Display for ScriptFault {
@@ -96,7 +95,6 @@ impl fmt::Display for ScriptFault {
         match self {
             ScriptFault::Line(fault) => write!(f, "{fault}"),
             ScriptFault::Memory => f.write_str("out of memory"),
-            ScriptFault::Write => f.write_str("cannot write"),
         }
     }
 }
@@ -118,3 +116,51 @@ impl<T: Drop> From<AllocFailed<T>> for ScriptFault {
         ScriptFault::Memory
     }
 }
+
+/// Why a call was not written as a script has it.
+#[derive(Clone, Copy, PartialEq, Eq, Debug)]
+pub enum CallFault {
+    /// It lists names, and there is none in its list: no script can ask it.
+    NoNames,
+    Memory,
+}
+
+impl fmt::Display for CallFault {
+    ghost output = { λ fault. Some (call_fault_words fault) };
+
+    fn fmt<W: fmt::Write>(&self, f: &mut fmt::Formatter<W>) -> fmt::Result {
+        match self {
+            CallFault::NoNames => f.write_str("a list without a name"),
+            CallFault::Memory => f.write_str("out of memory"),
+        }
+    }
+}
+
+impl Error for CallFault {}
+
+impl From<AllocError> for CallFault {
+    ghost from_gives = { λ _ fault. fault ≡ call.Memory };
+
+    fn from(_error: AllocError) -> CallFault {
+        CallFault::Memory
+    }
+}
+
+/// Why a text was not written whole.
+#[derive(Clone, Copy, Debug)]
+pub enum WriteFault {
+    Memory,
+    /// The writer failed, with this error.
+    Write(io::Error),
+}
+
+impl fmt::Display for WriteFault {
+    fn fmt<W: fmt::Write>(&self, f: &mut fmt::Formatter<W>) -> fmt::Result {
+        match self {
+            WriteFault::Memory => f.write_str("out of memory"),
+            WriteFault::Write(error) => write!(f, "cannot write: {error}"),
+        }
+    }
+}
+
+impl Error for WriteFault {}

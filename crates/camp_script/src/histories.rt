@@ -4,7 +4,7 @@ ghost use Rattle.camp_script.specs.HistoryTexts.{change_words, changes_words, ca
 ghost use Rattle.camp_script.specs.Inside.Spaces.{spaced};
 ghost use Rattle.camp_script.specs.Writing.{Extends, ExtendsOrKeeps, Writes};
 
-use crate::ScriptFault;
+use crate::WriteFault;
 use crate::spaces::{extend_by_count, extend_by_named, extend_by_number, extend_by_words};
 use crate::texts::write_text;
 use camp_base::Name;
@@ -20,16 +20,16 @@ pub fn write_history<W: Write>(
     alloc: Global,
     history: &[(u32, Call)],
     writer: &mut W,
-) -> Result<(), ScriptFault>
+) -> Result<(), WriteFault>
     ensures writes { Writes (W.contents writer.old) (history_text history.now) result (W.contents writer.new) }
 {
     let mut text = Vec::new(alloc);
     if append_history(&mut text, history).is_err() {
-        return Err(ScriptFault::Memory);
+        return Err(WriteFault::Memory);
     }
     match write_text(writer, &text) {
         Ok(()) => Ok(()),
-        Err(_) => Err(ScriptFault::Write),
+        Err(error) => Err(WriteFault::Write(error)),
     }
 }
 

@@ -6,7 +6,7 @@ ghost use Rattle.camp_base.specs.Bytes.{is_line};
 ghost use Rattle.camp_script.specs.Texts.{line_text, refusal_words, signed_line, file_text, tree_text, reply_text, answer_text, HasText, pair_text, conflicts_text, name_text, names_text};
 ghost use Rattle.camp_script.specs.Writing.{Extends, ExtendsOrKeeps, AppendsFront, Writes};
 
-use crate::ScriptFault;
+use crate::WriteFault;
 use crate::spaces::{extend_by_count, extend_by_line, extend_by_numbered};
 use camp_base::{Line, Name, Path, Tree};
 use camp_call::{Refusal, Reply};
@@ -23,17 +23,17 @@ pub fn write_reply<W: Write>(
     alloc: Global,
     answer: &Result<Reply, Fault>,
     writer: &mut W,
-) -> Result<(), ScriptFault>
+) -> Result<(), WriteFault>
     requires { HasText answer.now }
     ensures writes { Writes (W.contents writer.old) (answer_text answer.now) result (W.contents writer.new) }
 {
     let mut text = Vec::new(alloc);
     if append_reply(&mut text, answer).is_err() {
-        return Err(ScriptFault::Memory);
+        return Err(WriteFault::Memory);
     }
     match write_text(writer, &text) {
         Ok(()) => Ok(()),
-        Err(_) => Err(ScriptFault::Write),
+        Err(error) => Err(WriteFault::Write(error)),
     }
 }
 

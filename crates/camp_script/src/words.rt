@@ -2,7 +2,7 @@
 ghost use Rattle.std.specs.Prelude.{◌≡◌, ◌≢◌, ◌≤◌, IfErr, IfOk, List, Ok, length, map, ℕ};
 ghost use Rattle.std.specs.List.{list_all};
 ghost use Rattle.camp_base.specs.Signs.{is_digit};
-ghost use Rattle.camp_script.specs.Words.{no_words, one_word, two_words, three_words, name_at, names_at, number_at, value_of, is_line_number};
+ghost use Rattle.camp_script.specs.Words.{count_of, no_words, one_word, two_words, three_words, name_at, names_at, number_at, value_of, is_line_number};
 ghost use Rattle.camp_script.specs.Gives.{Gives, GivesFaultFirst, GivesPath, IsFaultFirst};
 
 use crate::faults::{FaultKind, ScriptFault, at_line};
@@ -128,6 +128,16 @@ pub(crate) fn number_at(number: u64, word: &[u8]) -> Result<u32, ScriptFault>
         return Err(at_line(number, FaultKind::BadNumber));
     }
     Ok(value_of(word) as u32)
+}
+
+/// The number that a word of 1 to 10 decimal digits spells.
+pub fn count_of(word: &[u8]) -> Option<u64>
+    ensures exact { result ≡ count_of word.now }
+{
+    if word.is_empty() || MAX_DIGITS < word.len() || !has_digits(word) {
+        return None;
+    }
+    Some(value_of(word))
 }
 
 fn is_line_number(word: &[u8]) -> bool

@@ -1,14 +1,15 @@
 //! The canonical text of calls, as a script has it.
-ghost use Rattle.std.specs.Prelude.{◌∷◌, ◌++◌, IfOk, IsTrue};
+ghost use Rattle.std.specs.Prelude.{◌≡◌, ◌∷◌, ◌++◌, false, IfErr, IfOk, IsTrue};
 ghost use Rattle.std.specs.List.{flat_map, AllByRecursion};
 ghost use Rattle.camp_base.specs.Bytes.{is_name};
 ghost use Rattle.camp_prim.specs.declared.primitives.Primitive.TheVariants as primitive;
-ghost use Rattle.camp_script.specs.Canonical.{change_text, call_text, record_text, section_text, AreLines, AreNames, IsChange};
+ghost use Rattle.camp_script.specs.Canonical.{change_text, call_text, record_text, section_text, AreLines, AreNames, IsChange, IsScriptCall};
 ghost use Rattle.camp_script.specs.Inside.Written.{changes_text, group_text};
-ghost use Rattle.camp_script.specs.Keeping.{CanStand, calls_of, kept_text};
+ghost use Rattle.camp_script.specs.Keeping.{CanStand, ListsNames, calls_of, kept_text};
 ghost use Rattle.camp_script.specs.Texts.{line_text, signed_line};
 ghost use Rattle.camp_script.specs.Writing.{Extends, ExtendsOrKeeps};
 
+use crate::CallFault;
 use crate::spaces::{extend_by_line, extend_by_named};
 use crate::texts::extend_by_signed_line;
 use camp_base::{Line, Name};
@@ -17,9 +18,24 @@ use camp_prim::{Hunk, Primitive};
 use itoa::Buffer;
 use std::alloc::AllocError;
 
-/// Appends a call as a script has it, with the bodies of its edits. Where memory runs out the text
-/// stays as it was.
-pub fn append_call(text: &mut Vec<u8>, call: &Call) -> Result<(), AllocError>
+/// Appends a call as a script has it, with the bodies of its edits. A call whose list of names is empty is
+/// none that a script can ask. After an error the text stays as it was.
+pub fn append_call(text: &mut Vec<u8>, call: &Call) -> Result<(), CallFault>
+    ensures text { ExtendsOrKeeps text.old.items (call_text call.now) result text.new.items }
+    ensures stands { IfOk result (λ _. IsScriptCall call.now) }
+    ensures unnamed { IfErr result (λ why. why ≡ CallFault.NoNames → ListsNames call.now → ⊥) }
+{
+    let length = text.len();
+    let appended = extend_by_listed(text, call);
+    if appended.is_err() {
+        text.truncate(length);
+    }
+    appended
+}
+
+/// Appends an accepted call as `append_call` does. No repository accepts a call whose list of names is empty; one
+/// is written as if it had no list. Where memory runs out the text stays as it was.
+pub fn append_accepted(text: &mut Vec<u8>, call: &Call) -> Result<(), AllocError>
     ensures text { ExtendsOrKeeps text.old.items (call_text call.now) result text.new.items }
     ensures stands { IfOk result (λ _. CanStand call.now) }
 {
@@ -31,10 +47,12 @@ pub fn append_call(text: &mut Vec<u8>, call: &Call) -> Result<(), AllocError>
     appended
 }
 
-/// Appends calls as a section of a script has them. Where memory runs out the text stays as it was.
-pub fn append_calls(text: &mut Vec<u8>, calls: &[Call]) -> Result<(), AllocError>
+/// Appends calls as a section of a script has them, each as `append_call` does. After an error the text stays
+/// as it was.
+pub fn append_calls(text: &mut Vec<u8>, calls: &[Call]) -> Result<(), CallFault>
     ensures text { ExtendsOrKeeps text.old.items (section_text calls.now) result text.new.items }
-    ensures stand { IfOk result (λ _. AllByRecursion CanStand calls.now) }
+    ensures stand { IfOk result (λ _. AllByRecursion IsScriptCall calls.now) }
+    ensures unnamed { IfErr result (λ why. why ≡ CallFault.NoNames → AllByRecursion ListsNames calls.now → ⊥) }
 {
     let length = text.len();
     let appended = extend_by_section(text, calls);
@@ -83,14 +101,42 @@ fn extend_by_kept(text: &mut Vec<u8>, history: &[(u32, Call)]) -> Result<(), All
     Ok(())
 }
 
-fn extend_by_section(text: &mut Vec<u8>, calls: &[Call]) -> Result<(), AllocError>
+fn extend_by_section(text: &mut Vec<u8>, calls: &[Call]) -> Result<(), CallFault>
     ensures text { Extends text.old.items (section_text calls.now) result text.new.items }
-    ensures stand { IfOk result (λ _. AllByRecursion CanStand calls.now) }
+    ensures stand { IfOk result (λ _. AllByRecursion IsScriptCall calls.now) }
+    ensures unnamed { IfErr result (λ why. why ≡ CallFault.NoNames → AllByRecursion ListsNames calls.now → ⊥) }
 {
     for call in calls {
-        extend_by_asked(text, call)?;
+        extend_by_listed(text, call)?;
     }
     Ok(())
+}
+
+// A call that lists a name, where it lists names.
+fn extend_by_listed(text: &mut Vec<u8>, call: &Call) -> Result<(), CallFault>
+    ensures text { Extends text.old.items (call_text call.now) result text.new.items }
+    ensures stands { IfOk result (λ _. IsScriptCall call.now) }
+    ensures unnamed { IfErr result (λ why. why ≡ CallFault.NoNames → ListsNames call.now → ⊥) }
+{
+    if !lists_names(call) {
+        return Err(CallFault::NoNames);
+    }
+    Ok(extend_by_asked(text, call)?)
+}
+
+// Whether a call lists a name, where it lists names.
+fn lists_names(call: &Call) -> bool
+    ensures listed { IsTrue result → ListsNames call.now }
+    ensures unlisted { result ≡ false → ListsNames call.now → ⊥ }
+{
+    match call {
+        Call::Pull {
+            names: Some(names),
+            ..
+        } => !names.as_slice().is_empty(),
+        Call::Obliterate { names, .. } => !names.as_slice().is_empty(),
+        _ => true,
+    }
 }
 
 fn extend_by_asked(text: &mut Vec<u8>, call: &Call) -> Result<(), AllocError>

@@ -1,8 +1,9 @@
 //! `camp_shell`: loads the files that `--load` names, then reads commands from standard input, and answers
-//! each on standard output as soon as its last line is read; with `--export` it writes a branch for git instead.
+//! each on standard output as soon as its last line is read; with `--frames` it does so request by request, and
+//! with `--export` it writes a branch for git instead.
 //! The exit status is 0 at the end of the input, 1 where a command of a file was answered by a fault or a
-//! refusal, or the branch can't be written for git, 2 where the command line is refused, and
-//! 3 where memory ran out, or input or output failed; standard error says why.
+//! refusal, the input is no requests in frames, or the branch can't be written for git, 2 where the command line
+//! is refused, and 3 where memory ran out, or input or output failed; standard error says why.
 #![tactic(auto)]
 
 mod stops;
@@ -11,12 +12,12 @@ mod words;
 use camp_base::Name;
 use camp_git::export;
 use camp_options::{WordsFault, command_line};
-use camp_talk::{Book, State, TalkFault, load, talk};
+use camp_talk::{Book, Conversation, FramedConversation, State, TalkFault, load, talk};
 use std::fs::{self, File};
 use std::io::{BufReader, Read};
 use std::process::ExitCode;
 use stops::Stop;
-use words::wish_of;
+use words::{Form, wish_of};
 
 fn main(rt: HostRuntime) -> ExitCode {
     match command_line(&rt) {
@@ -44,8 +45,12 @@ fn hold<'a>(rt: &HostRuntime, words: &'a [String]) -> Result<(), Stop<'a>> {
     if let Some(branch) = wish.export {
         return export_branch(rt, &book, branch);
     }
-    let mut reader = buffered(rt, rt.stdin())?;
-    talk(rt.alloc(), &mut book, &mut reader, &mut rt.stdout())?;
+    let reader = buffered(rt, rt.stdin())?;
+    let writer = rt.stdout();
+    match wish.form {
+        Form::Lines => talk(&mut Conversation::new(rt.alloc(), book, reader, writer))?,
+        Form::Frames => talk(&mut FramedConversation::new(rt.alloc(), book, reader, writer))?,
+    }
     Ok(())
 }
 

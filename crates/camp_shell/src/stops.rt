@@ -1,6 +1,6 @@
 use camp_git::Unexported;
 use camp_options::{WordsFault, tell_fault};
-use camp_talk::{LoadFault, TalkFault};
+use camp_talk::{FrameFault, LoadFault, TalkFault};
 use std::alloc::AllocError;
 use std::io;
 
@@ -15,6 +15,8 @@ pub(crate) enum Stop<'a> {
     Load(&'a str, LoadFault),
     /// The conversation could not go on.
     Talk(TalkFault),
+    /// No more requests could be served.
+    Frame(FrameFault),
     /// No branch can have this name.
     NoName(&'a str),
     /// A branch was not written for git.
@@ -31,6 +33,12 @@ impl Stop<'_> {
             Stop::Open(file, error) => {
                 tell_fault(rt, PROGRAM, &format_args!("{file}: {error}"), 3)
             }
+            Stop::Load(file, LoadFault::Talk(TalkFault::Read(error))) => tell_fault(
+                rt,
+                PROGRAM,
+                &format_args!("{file}: cannot read input: {error}"),
+                TalkFault::Read(*error).status(),
+            ),
             Stop::Load(file, fault) => {
                 tell_fault(
                     rt,
@@ -39,11 +47,29 @@ impl Stop<'_> {
                     fault.status(),
                 )
             }
-            Stop::Talk(fault) => tell_fault(rt, PROGRAM, fault, fault.status()),
+            Stop::Talk(fault) | Stop::Frame(FrameFault::Talk(fault)) => tell_talk(rt, fault),
+            Stop::Frame(fault) => tell_fault(rt, PROGRAM, fault, fault.status()),
             Stop::NoName(branch) => {
                 tell_fault(rt, PROGRAM, &format_args!("refused 4 {branch}"), 1)
             }
             Stop::Export(fault) => tell_fault(rt, PROGRAM, fault, export_status(fault)),
+        }
+    }
+}
+
+// Says why a conversation could not go on, and the error of its reader or its writer.
+fn tell_talk<R: Print + Eprint>(rt: &R, fault: &TalkFault) -> u8 {
+    match fault {
+        TalkFault::Read(error) | TalkFault::Write(error) => {
+            tell_fault(
+                rt,
+                PROGRAM,
+                &format_args!("{fault}: {error}"),
+                fault.status(),
+            )
+        }
+        TalkFault::Memory | TalkFault::Internal => {
+            tell_fault(rt, PROGRAM, fault, fault.status())
         }
     }
 }
@@ -64,6 +90,12 @@ impl<'a> From<WordsFault> for Stop<'a> {
 impl<'a> From<TalkFault> for Stop<'a> {
     fn from(fault: TalkFault) -> Stop<'a> {
         Stop::Talk(fault)
+    }
+}
+
+impl<'a> From<FrameFault> for Stop<'a> {
+    fn from(fault: FrameFault) -> Stop<'a> {
+        Stop::Frame(fault)
     }
 }
 

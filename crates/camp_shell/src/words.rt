@@ -10,6 +10,16 @@ pub(crate) struct Wish<'a> {
     pub(crate) files: Vec<&'a str>,
     /// The branch that is written for git, in place of a conversation.
     pub(crate) export: Option<&'a str>,
+    pub(crate) form: Form,
+}
+
+/// How commands come and answers go.
+#[derive(Clone, Copy, PartialEq, Eq, Debug)]
+pub(crate) enum Form {
+    /// Line by line.
+    Lines,
+    /// In frames, each of which says how many bytes it has.
+    Frames,
 }
 
 const USAGE: &str = "camp_shell [OPTIONS]";
@@ -17,8 +27,9 @@ const USAGE: &str = "camp_shell [OPTIONS]";
 const REFERENCE: &str =
     "Commands come on standard input, as in a script of camp. Each is answered on standard output as soon
 as its last line is read, and the answer is flushed: so a program can ask, and read the answer, before
-it asks again. An answer is the text that camp gives; its first line tells how many lines follow. A
-command whose answer has none is ok NUMBER, refused NUMBER .. or one of these:
+it asks again. An answer is the text that camp gives. Its first line tells what follows: tree FILES is
+followed by so many files, each file PATH LINES with so many lines, and any other word with a COUNT by
+so many lines. Alone stand ok NUMBER, refused NUMBER .., no file and these:
 
   fault LINE KIND               the command has a fault; lines count from the beginning. What follows
                                 is read from the next line on, and behind a fault in a body or in a
@@ -29,6 +40,11 @@ Lines without words and lines whose first word begins with # are not answered. c
 here, and neither is a line of more than 1048576 bytes. Questions are commands, too: needs, held,
 missing, show, annotate, graph, whatif, history and keep. The command help tells how all are written,
 and help COMMAND more about one.
+
+With --frames a request is a line with its number of bytes, in 1 to 10 digits, and then so many bytes,
+268435456 at most. It is answered so, too: by a line with the number of bytes of its answer, and then
+these. The answer is what a conversation of just these bytes is answered from here on: a body that is not
+ended has its fault, several commands have their answers one behind another, and nothing has none.
 
 With --load the commands of these files are asked first, and their answers are not shown. Where one of
 them is answered by fault, refused or memory, nothing more is read: standard error says the file, the
@@ -41,13 +57,16 @@ is refused before anything is written: a file that is also a folder, and a part 
 Exit status:
   0  the input has ended, whatever was answered
   1  a command of a file was answered by fault or refused; with --export, there is no such branch, or git
-     can't hold it
+     can't hold it; with --frames, a line that is no number, a greater number, or an input that ends
+     inside a request
   2  the command line is refused
   3  memory ran out for the lines of a command or for a command of a file, or a file, input or output
      failed; standard error says which
+  4  a line has no number below 2^64: no conversation comes to that
 
 More: camp --help has the commands of scripts and their answers, docs/shell.md a conversation,
-docs/git.md the way to git, and docs/questions.md the questions.";
+docs/tools.md how a program drives camp_shell, docs/git.md the way to git, and docs/questions.md the
+questions.";
 
 /// Reads the words of a command line, of which the first is the program's name. The fault is a mistake in the
 /// words, a request for the help text, or want of memory; it shows as the text for the user.
@@ -62,16 +81,32 @@ pub(crate) fn wish_of<'a, S: AsStr>(alloc: Global, words: &'a [S]) -> Result<Wis
         .long("export")
         .value_name("BRANCH")
         .help("Write this branch as a stream for git fast-import, and end");
+    let frames = Arg::new(alloc, "frames")
+        .long("frames")
+        .action(ArgAction::SetTrue)
+        .help(
+            "Read requests and write answers in frames: a number of bytes on a line, and then so many",
+        );
     let command = Command::new(alloc, "camp_shell")
         .override_usage(USAGE)
         .after_help(REFERENCE)
         .arg(load)?
-        .arg(export)?;
+        .arg(export)?
+        .arg(frames)?;
     let matches = command.try_get_matches_from(words)?;
     let files = match matches.get_strs("load") {
         Some(files) => Vec::from_slice(alloc, files)?,
         None => Vec::new(alloc),
     };
     let export = matches.get_str("export");
-    Ok(Wish { files, export })
+    let form = if matches.get_flag("frames") {
+        Form::Frames
+    } else {
+        Form::Lines
+    };
+    Ok(Wish {
+        files,
+        export,
+        form,
+    })
 }

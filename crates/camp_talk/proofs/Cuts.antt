@@ -4,7 +4,7 @@ use Rattle.camp_talk.proofs.Words.{◌≡◌, ◌≢◌, ℕ, Bool, true, false,
 -- ---- the lines of bytes
 
 -- a line with its LF stands first
-lines-line : (line rest : List ℕ) → IsLine line → lines_of (line ++ 10 ∷ rest) ≡ line ∷ lines_of rest
+pub lines-line : (line rest : List ℕ) → IsLine line → lines_of (line ++ 10 ∷ rest) ≡ line ∷ lines_of rest
 lines-line [] rest is = lines-feed 10 rest refl
 lines-line (byte ∷ line) rest is =
     lines-other byte (line ++ 10 ∷ rest) (ne_eqb byte 10 (All-head (λ b. b ≢ 10) byte line is))
@@ -15,7 +15,7 @@ onto-last byte [] = refl
 onto-last byte (next ∷ last) = refl
 
 -- what has no LF is one line
-lines-last : (last : List ℕ) → IsLine last → lines_of last ≡ with_last [] last
+pub lines-last : (last : List ℕ) → IsLine last → lines_of last ≡ with_last [] last
 lines-last [] is = refl
 lines-last (byte ∷ last) is =
     lines-other byte last (ne_eqb byte 10 (All-head (λ b. b ≢ 10) byte last is))
@@ -25,7 +25,7 @@ one_more : (line : List ℕ) (lines : List (List ℕ)) (rest : List ℕ)
     → ended (line ∷ lines) ++ rest ≡ line ++ 10 ∷ (ended lines ++ rest)
 one_more line lines rest = append_assoc (line ++ 10 ∷ []) (ended lines) rest ∙ append_assoc line (10 ∷ []) (ended lines ++ rest)
 
-lines-ended : (lines : List (List ℕ)) (rest : List ℕ) → All IsLine lines
+pub lines-ended : (lines : List (List ℕ)) (rest : List ℕ) → All IsLine lines
     → lines_of (ended lines ++ rest) ≡ lines ++ lines_of rest
 lines-ended [] rest are = refl
 lines-ended (line ∷ lines) rest are =
@@ -72,7 +72,7 @@ pub body_goes : (line : List ℕ) (others : List (List ℕ)) → ends_body line 
     → body_of (line ∷ others) ≡ line ∷ body_of others
 body_goes line others goes = ap (λ b. line ∷ cond b [] (body_of others)) goes
 
-either_empty : (b : Bool) → cond b [] (body_of []) ≡ []
+pub either_empty : (b : Bool) → cond b [] (body_of []) ≡ []
 either_empty true = refl
 either_empty false = refl
 

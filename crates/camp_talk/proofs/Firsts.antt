@@ -1,12 +1,12 @@
 -- A command that was read is one: by its first line, and what that takes with it.
-use Rattle.camp_talk.proofs.Words.{◌≡◌, ℕ, Bool, true, false, List, [], ◌∷◌, ◌++◌, length, map, Option, Result, Ok, Err, refl, sym, ap, subst, ◌∙◌, arith, Call, lines_of, script_of_lines, LineFault, Ends, ReadsHeld, ReadsLine, ReadsLines, ReadsPart, ended, last_part, with_last, TakesAll, as_read, call_line, script_in, taken, taken_at, taken_by}
+use Rattle.camp_talk.proofs.Words.{◌≡◌, ℕ, Bool, true, false, List, [], ◌∷◌, ◌++◌, length, map, Option, Result, Ok, Err, refl, sym, ap, subst, ◌∙◌, arith, Call, lines_of, script_of_lines, LineFault, Consumes, Consumes-trans, Ends, IsCommand, IsLeft, ReadsCommand, ReadsHeld, ReadsLine, ReadsLines, ReadsPart, ReadsWithin, StopsAtLine, StopsIn, ended, last_part, with_last, TakesAll, append-nil, length-map, lines_in, ◌≤◌, as_read, call_line, script_in, taken, taken_at, taken_by}
 use Rattle.camp_script.specs.declared.faults.FaultKind.{FaultKind}
 use Rattle.camp_script.specs.declared.faults.FaultKind.TheVariants.{UnknownCommand, WrongNumberOfWords, BadName}
 use Rattle.camp_script.specs.declared.faults.FaultKind.TheVariants.{BadPath, BadNumber, BadLine, BadEdit}
 use Rattle.camp_script.specs.declared.faults.FaultKind.TheVariants.{EditNotEnded, TooManyClients, TooManyCommands}
 use Rattle.camp_script.specs.declared.faults.FaultKind.TheVariants.{BadGroup, GroupNotEnded}
 use Rattle.camp_talk.proofs.Cuts.{EndsWithLine, ends_with_line}
-use Rattle.camp_talk.proofs.Parts.{behind, ends_behind, lines_are_read, lines_held, none_left}
+use Rattle.camp_talk.proofs.Parts.{behind, ends_behind, lines_are_read, lines_behind, lines_held, none_left}
 
 -- nothing of no lines
 nothing_at : (kind : FaultKind) → taken_at kind [] ≡ []
@@ -103,3 +103,59 @@ module _ (a b c : Option (List ℕ)) (first bytes : List ℕ) (fault : LineFault
           → taken_at fault.kind (with_last lines last) ≡ with_last lines last → TakesAll (with_last (line ∷ lines) last)
       by [] same all = ap (λ r. taken_by r lines) same ∙ all
       by (byte ∷ last) same all = ap (λ r. taken_by r (lines ++ (byte ∷ last) ∷ [])) same ∙ all
+
+-- ---- no more was read than a command has
+
+-- a line at most is taken whole
+takes_few : (lines : List (List ℕ)) → length lines ≤ 1 → TakesAll lines
+takes_few [] few = tt
+takes_few (line ∷ []) few = nothing_by (script_of_lines (call_line line ∷ []))
+takes_few (line ∷ next ∷ lines) few = absurd (omega (arith, few))
+
+pub stops_within : (a b : Option (List ℕ)) → StopsAtLine a b → ReadsWithin a b
+stops_within a b stops = record {
+  some = stops.some;
+  reads = stops.reads;
+  is = takes_few (lines_in stops.some) (omega (arith, length-map (lines_of stops.some) as_read, stops.one));
+}
+
+-- the first line was read
+pub first_within : (a b : Option (List ℕ)) (bytes : List ℕ) (whole : Bool) → ReadsLine a b whole [] bytes → ReadsWithin a b
+first_within a b bytes true (line, reads) = record {
+  some = ended reads.whole ++ reads.left;
+  reads = reads.consumes;
+  is = subst TakesAll (sym (lines_are_read a b [] bytes (line ∷ []) [] reads)) (nothing_by (script_of_lines (call_line line ∷ [])));
+}
+first_within a b bytes false (last, reads, ends) = record {
+  some = ended reads.whole ++ reads.left;
+  reads = reads.consumes;
+  is = subst TakesAll (sym (lines_are_read a b [] bytes [] last reads)) (takes_last a b bytes last);
+}
+
+-- reading stops behind a first line, in what that takes with it
+pub rest_within : (a b c : Option (List ℕ)) (first : List ℕ) (fault : LineFault) → ReadsLine a b true [] first
+    → script_in (lines_of first) ≡ Err fault → StopsIn b c (taken_at fault.kind) → ReadsWithin a c
+rest_within a b c first fault (line, reads) is stops =
+    let lines = lines_in stops.some in
+    let same = sym (script_is a b first line reads) ∙ is in
+    record {
+      some = (ended reads.whole ++ reads.left) ++ stops.some;
+      reads = Consumes-trans a b c (ended reads.whole ++ reads.left) stops.some reads.consumes stops.reads;
+      is = subst TakesAll (sym (lines_behind a b [] first (line ∷ []) reads stops.some))
+          (ap (λ (r : Result (List (List Call)) LineFault). taken_by r lines) same ∙ stops.all);
+    }
+
+-- a command is no more than a command
+pub command_left : (a b : Option (List ℕ)) (whole : Bool) (command : List ℕ) → ReadsCommand a b whole command → IsLeft command
+command_left a b true command (reads, is) =
+    subst TakesAll (sym is.lines) (ap (taken is.first) (sym (append-nil is.rest)) ∙ is.takes [])
+command_left a b false command (reads, is, ends) = is
+
+pub command_read : (a b : Option (List ℕ)) (whole : Bool) (command : List ℕ) → ReadsCommand a b whole command → Consumes a b command
+command_read a b true command (reads, is) = reads
+command_read a b false command (reads, is, ends) = reads
+
+-- a command has a line
+pub command_long : (command : List ℕ) → IsCommand command → 1 ≤ length (lines_of command)
+command_long command is =
+    omega (arith, ap (λ (ls : List (List ℕ)). length ls) is.lines, length-map (lines_of command) as_read)

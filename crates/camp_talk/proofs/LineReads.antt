@@ -1,6 +1,7 @@
 -- A line is read, part by part, and as much of it is held as is read.
-use Rattle.camp_talk.proofs.Words.{◌≡◌, ◌≢◌, ℕ, zero, suc, ◌+◌, ◌-◌, ◌<◌, ◌≤◌, min, Bool, true, false, cond, ◌==◌, nat_lt, List, [], ◌∷◌, ◌++◌, length, take, drop, position_or_len, Consumes, Consumes-trans, drop-append_seam, take-append_seam, All-append, All-cons, All-nil, as_read, Seen, Option, refl, sym, ap, subst, ◌∙◌, append_assoc, append-nil, arith, take_all, take-take, length-append, length-take-le, eqb-true, eq-eqb, true≢false, zero-le, take_more, passes_at_first, Ends, EndsAt, IsLine, ReadsLine, Takes, feed_of, ended, seen_of, slice_set, not}
+use Rattle.camp_talk.proofs.Words.{◌≡◌, ◌≢◌, ℕ, zero, suc, ◌+◌, ◌-◌, ◌<◌, ◌≤◌, min, Bool, true, false, cond, ◌==◌, nat_lt, List, [], ◌∷◌, ◌++◌, length, take, drop, position_or_len, Consumes, Consumes-trans, drop-append_seam, take-append_seam, All-append, All-cons, All-nil, as_read, Seen, Option, refl, sym, ap, subst, ◌∙◌, append_assoc, append-nil, arith, take_all, take-take, length-append, length-take-le, eqb-true, eq-eqb, true≢false, zero-le, take_more, passes_at_first, Ends, EndsAt, IsLine, ReadsLine, StopsAtLine, Takes, lines_of, with_last, feed_of, ended, seen_of, slice_set, not}
 use Rattle.std.proofs.lemmas.Bool.Decides.{nat_tests}
+use Rattle.camp_talk.proofs.Cuts.{lines-last, lines-line}
 use Rattle.camp_talk.proofs.Parts.{ends_behind}
 use Rattle.camp_talk.specs.declared.lines.Seen.TheVariants as seen
 
@@ -242,3 +243,31 @@ module _ (a b : Option (List ℕ)) (old mid new : List ℕ) where
         },
         takes.ends,
       )
+
+-- ---- reading stops
+
+few_last : (last : List ℕ) → length (with_last [] last) ≤ 1
+few_last [] = omega arith
+few_last (byte ∷ last) = omega arith
+
+module _ (a b : Option (List ℕ)) (line : List ℕ) (is : IsLine line) where
+  -- in a line
+  pub stops_in_line : Consumes a b (line ++ []) → StopsAtLine a b
+  stops_in_line consumes = record {
+    some = line ++ [];
+    reads = consumes;
+    one = subst (λ (bytes : List ℕ). length (lines_of bytes) ≤ 1) (sym (append-nil line))
+        (subst (λ (ls : List (List ℕ)). length ls ≤ 1) (sym (lines-last line is)) (few_last line));
+  }
+
+  -- behind a line
+  pub stops_behind_line : Consumes a b (line ++ 10 ∷ []) → StopsAtLine a b
+  stops_behind_line consumes = record {
+    some = line ++ 10 ∷ [];
+    reads = consumes;
+    one = subst (λ (ls : List (List ℕ)). length ls ≤ 1) (sym (lines-line line [] is)) (omega arith);
+  }
+
+-- nothing more is read
+pub stops_here : (a b c : Option (List ℕ)) (bytes : List ℕ) → Consumes a b bytes → Consumes b c [] → Consumes a c bytes
+stops_here a b c bytes first none = subst (Consumes a c) (append-nil bytes) (Consumes-trans a b c bytes [] first none)

@@ -1,11 +1,11 @@
 -- Commands that are loaded, one behind another.
-use Rattle.camp_talk.proofs.Words.{◌≡◌, ◌⊎◌, inl, inr, ℕ, ◌+◌, Bool, true, false, List, [], ◌∷◌, ◌++◌, Option, Result, Ok, Err, refl, sym, ap, subst, ◌∙◌, append-nil, true≢false, flat_map, Consumes, Consumes-nil, Consumes-trans, flat_map-append, All-append, All-cons, All-nil, Call, reply_text, LineFault, Answers, Standing, Tells, TellsWant, asked_by, IsCommand, IsLeft, Entries, Exchange, Asked, DoesOne, Hears, LoadsOne, Done, Fails, TellsSuccess, tells_failure}
+use Rattle.camp_talk.proofs.Words.{◌≡◌, ℕ, ◌+◌, Bool, true, false, List, [], ◌∷◌, ◌++◌, Option, Result, Ok, Err, Vec, refl, sym, ap, subst, ◌∙◌, append-nil, true≢false, flat_map, Consumes, Consumes-nil, Consumes-trans, flat_map-append, All-append, All-cons, All-nil, Call, reply_text, LineFault, Answers, Standing, Tells, asked_by, Entries, Exchange, Asked, DoesOne, Hears, LoadsOne, Done, Fails, ReadsCommand, TellsSuccess, Wants, tells_failure}
 use Rattle.camp_call.specs.declared.replies.Reply.{Reply}
 use Rattle.camp_call.specs.declared.replies.Reply.TheVariants as reply
 use Rattle.camp_object.specs.Asking.{Ask, alone_at}
 use Rattle.camp_repo.specs.Objects.{repository}
 use Rattle.camp_talk.specs.declared.questions.Asked.TheVariants as asked
-use Rattle.camp_talk.proofs.Turns.{one_more}
+use Rattle.camp_talk.proofs.Turns.{answered, one_more}
 
 -- ---- a failure changes nothing
 
@@ -25,62 +25,60 @@ module _ (before : Standing) (text : List ℕ) (now : Entries) (fails : tells_fa
   by_asked (Ok (asked.Call call)) tells = by_reply call tells.reply tells.tells tells.asks
   by_asked (Ok (asked.Question question)) tells = tells.1
 
-  by_answer : (asked : Result Asked LineFault) → Tells before asked text now ⊎ TellsWant before text now
-      → now ≡ before.history
-  by_answer asked (inl tells) = by_asked asked tells
-  by_answer asked (inr want) = want.1
-
-pub failure_keeps : (before : Standing) (command text : List ℕ) (after : Standing) → Answers before command text after
-    → tells_failure text ≡ true → after.history ≡ before.history
-failure_keeps before command text after answers fails =
-    by_answer before text after.history fails (asked_by command) answers.tells
+pub failure_keeps : (before : Standing) (asked : Result Asked LineFault) (text : List ℕ) (now : Entries)
+    → Tells before asked text now → tells_failure text ≡ true → now ≡ before.history
+failure_keeps before asked text now tells fails = by_asked before text now fails asked tells
 
 -- ---- one command
 
-module _ {a b : Option (List ℕ)} {before after : Standing} {text : List ℕ} where
-  done : (whole : Bool) → Hears a b before whole text after → TellsSuccess text → LoadsOne a b before (Ok whole) after
-  done true hears well = record {
-    said = record { command = hears.command; answer = text };
-    is = hears.reads.1;
-    answers = hears.answers;
+module _ (a b : Option (List ℕ)) (before after : Standing) where
+  -- it was done
+  one_done_at : (whole : Bool) (command text : List ℕ) → ReadsCommand a b whole command → Answers before command text after
+      → TellsSuccess text → LoadsOne a b before (Ok whole) after
+  one_done_at true command text (reads, is) answers well = record {
+    said = record { command = command; answer = text };
+    is = is;
+    answers = answers;
     well = well;
-    reads = hears.reads.0;
+    reads = reads;
   }
-  done false hears well = record {
-    said = record { command = hears.command; answer = text };
-    is = hears.reads.1;
+  one_done_at false command text reads answers well = record {
+    said = record { command = command; answer = text };
+    reads = reads;
     after = after;
-    answers = hears.answers;
+    answers = answers;
     well = well;
     same = refl;
-    reads = hears.reads.0;
-    ends = hears.reads.2;
   }
 
-  is_read : (whole : Bool) (hears : Hears a b before whole text after)
-      → Consumes a b hears.command × (IsCommand hears.command ⊎ IsLeft hears.command)
-  is_read true hears = (hears.reads.0, inl hears.reads.1)
-  is_read false hears = (hears.reads.0, inr hears.reads.1)
+module _ {a b : Option (List ℕ)} {before after : Standing} where
+  module _ {Z E : Type 0} where
+    pub one_done : {said : Result (Vec ℕ Z) E} {whole : Bool} {text : Vec ℕ Z} → Hears a b before whole said after → said ≡ Ok text
+        → TellsSuccess text.items → LoadsOne a b before (Ok whole) after
+    one_done {said} {whole} {text} told is well =
+        let hears = subst (λ (said : Result (Vec ℕ Z) E). Hears a b before whole said after) is told in
+        one_done_at a b before after whole hears.command text.items hears.reads
+        (answered {Z = Z} {E = E} before after hears.command (Ok text) hears.says hears.counts) well
 
-  pub one_done : {said : List ℕ} {whole : Bool} → Hears a b before whole said after → said ≡ text → TellsSuccess text → LoadsOne a b before (Ok whole) after
-  one_done {whole = whole} hears is well = done whole (subst (λ (text : List ℕ). Hears a b before whole text after) is hears) well
+    pub one_fails : {said : Result (Vec ℕ Z) E} {whole : Bool} {text : Vec ℕ Z} {line : ℕ} → Hears a b before whole said after → said ≡ Ok text
+        → tells_failure text.items ≡ true → line ≡ before.lines + 1 → Fails a b before line text.items after.history
+    one_fails {said} {whole} {text} told is failure at =
+        let hears = subst (λ (said : Result (Vec ℕ Z) E). Hears a b before whole said after) is told in
+        record {
+          whole = whole;
+          command = hears.command;
+          reads = hears.reads;
+          tells = hears.says;
+          failure = failure;
+          at = at;
+          same = failure_keeps before (asked_by hears.command) text.items after.history hears.says failure;
+        }
 
-  pub one_fails : {said : List ℕ} {whole : Bool} {line : ℕ} → Hears a b before whole said after → said ≡ text → tells_failure text ≡ true
-      → line ≡ before.lines + 1 → Fails a b before line text after.history
-  one_fails {whole = whole} told is failure at =
-      let hears = subst (λ (text : List ℕ). Hears a b before whole text after) is told in
-      let read = is_read whole hears in (
-      record {
-        command = hears.command;
-        is = read.1;
-        after = after;
-        answers = hears.answers;
-        failure = failure;
-        at = at;
-        same = failure_keeps before hears.command text after hears.answers failure;
-        reads = read.0;
-      }
-      )
+    pub one_wants : {said : Result (Vec ℕ Z) E} {whole : Bool} {line : ℕ} {error : E} → Hears a b before whole said after → said ≡ Err error
+        → line ≡ before.lines + 1 → Wants a b before line after.history
+    one_wants {said} {whole} {line} {error} told is at =
+        let hears = subst (λ (said : Result (Vec ℕ Z) E). Hears a b before whole said after) is told in
+        record { whole = whole; command = hears.command; reads = hears.reads; at = at; same = hears.says }
 
 -- ---- commands
 

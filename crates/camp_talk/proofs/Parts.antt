@@ -1,6 +1,6 @@
 -- What is read of a command, part behind part.
-use Rattle.camp_talk.proofs.Words.{◌≡◌, ◌≢◌, ℕ, ◌-◌, Bool, true, false, cond, nat_lt, List, [], ◌∷◌, ◌++◌, length, map, take, drop, codes, All, Consumes, Consumes-nil, Consumes-trans, drop-append_seam, take-append_seam, flat_map-append, lines_of, words_of, begins_edit, begins_with, Part, More, Whole, Cut, as_read, body_of, ends_body, entries_of, group_of, lines_in, Option, None, Some, refl, sym, ap, subst, ◌∙◌, append_assoc, append-nil, arith, length-append, map-append, All-append, All-cons, All-drop, All-head, All-nil, All-tail, All-take, Ends, IsLine, ReadsLine, ReadsLines, ReadsPart, Uses, ended, entry_part, with_last}
-use Rattle.camp_talk.proofs.Cuts.{body_ends, body_goes, body_left, entry_alone, entry_with, group_ends, group_goes, group_left, lines_read, with_last-append}
+use Rattle.camp_talk.proofs.Words.{◌≡◌, ◌≢◌, ℕ, ◌-◌, Bool, true, false, cond, nat_lt, List, [], ◌∷◌, ◌++◌, length, map, take, drop, codes, All, Consumes, Consumes-nil, Consumes-trans, drop-append_seam, take-append_seam, flat_map-append, lines_of, words_of, begins_edit, begins_with, Part, More, Whole, Cut, as_read, body_of, ends_body, entries_of, group_of, lines_in, Option, None, Some, refl, sym, ap, subst, ◌∙◌, append_assoc, append-nil, arith, length-append, map-append, All-append, All-cons, All-drop, All-head, All-nil, All-tail, All-take, Ends, IsLine, ReadsLine, ReadsLines, ReadsPart, StopsAtLine, StopsIn, ended, entry_part, with_last, length-map, ◌≤◌, ◌<◌}
+use Rattle.camp_talk.proofs.Cuts.{body_ends, body_goes, body_left, entry_alone, either_empty, entry_with, group_ends, group_goes, group_left, lines-ended, lines_read, with_last-append}
 
 -- ---- lines as they are read
 
@@ -57,8 +57,15 @@ ends_behind None b c bytes consumes ends = tt
 ends_behind (Some xs) None c bytes consumes ends = absurd consumes
 ends_behind (Some xs) (Some ys) c bytes consumes ends = ends
 
-pub uses_behind : (a b c : Option (List ℕ)) (bytes : List ℕ) → Consumes a b bytes → Uses b c → Uses a c
-uses_behind a b c bytes consumes uses = (bytes ++ uses.0, Consumes-trans a b c bytes uses.0 consumes uses.1)
+-- the lines of what stands behind whole lines
+pub lines_behind : (a b : Option (List ℕ)) (old new : List ℕ) (lines : List (List ℕ)) (reads : ReadsLines a b old new lines [])
+    (some : List ℕ) → lines_in ((ended reads.whole ++ reads.left) ++ some) ≡ lines ++ lines_in some
+lines_behind a b old new lines reads some =
+    ap (λ (left : List ℕ). lines_in ((ended reads.whole ++ left) ++ some)) (none_left reads.left reads.is_read)
+    ∙ ap (λ (bytes : List ℕ). lines_in (bytes ++ some)) (append-nil (ended reads.whole))
+    ∙ ap (map as_read) (lines-ended reads.whole some reads.are_lines)
+    ∙ map-append as_read reads.whole (lines_of some)
+    ∙ ap (λ (ls : List (List ℕ)). ls ++ lines_in some) (sym reads.are_read)
 
 module _ (a b c : Option (List ℕ)) (old mid new : List ℕ) where
   -- lines behind lines
@@ -141,12 +148,39 @@ line_at a b old new line reads =
     ∙ ap (λ bytes. take (length line) (drop (length old) bytes)) all
     ∙ ap (take (length line)) (drop-append_seam old (line ++ 10 ∷ [])) ∙ take-append_seam line (10 ∷ [])
 
--- behind lines with which the taking goes on, some bytes were used
-pub part_uses : (a b c : Option (List ℕ)) (take : List (List ℕ) → List (List ℕ)) (old mid : List ℕ)
-    → ReadsPart a b take More old mid → Uses b c → Uses a c
-part_uses a b c take old mid reads uses = uses_behind a b c (ended reads.1.whole ++ reads.1.left) reads.1.consumes uses
+-- reading stops behind lines with which the taking goes on
+pub part_stops : (a b c : Option (List ℕ)) (take : List (List ℕ) → List (List ℕ)) (old mid : List ℕ)
+    → ReadsPart a b take More old mid → StopsIn b c take → StopsIn a c take
+part_stops a b c take old mid (lines, reads, goes) stops = record {
+  some = (ended reads.whole ++ reads.left) ++ stops.some;
+  reads = Consumes-trans a b c (ended reads.whole ++ reads.left) stops.some reads.consumes stops.reads;
+  all = ap take are ∙ goes (lines_in stops.some) ∙ ap (λ (ls : List (List ℕ)). lines ++ ls) stops.all ∙ sym are;
+}
+  where
+    are : lines_in ((ended reads.whole ++ reads.left) ++ stops.some) ≡ lines ++ lines_in stops.some
+    are = lines_behind a b old mid lines reads stops.some
+
+-- a line at most: it is taken, if it is there
+module _ (take : List (List ℕ) → List (List ℕ)) (none : take [] ≡ []) (one : (line : List ℕ) → take (line ∷ []) ≡ line ∷ []) where
+  all_taken : (lines : List (List ℕ)) → length lines ≤ 1 → take lines ≡ lines
+  all_taken [] few = none
+  all_taken (line ∷ []) few = one line
+  all_taken (line ∷ next ∷ lines) few = absurd (omega (arith, few))
+
+  pub line_stops : (a b : Option (List ℕ)) → StopsAtLine a b → StopsIn a b take
+  line_stops a b stops = record {
+    some = stops.some;
+    reads = stops.reads;
+    all = all_taken (lines_in stops.some) (omega (arith, length-map (lines_of stops.some) as_read, stops.one));
+  }
 
 -- ---- the lines of bodies
+
+body_of_one : (line : List ℕ) → body_of (line ∷ []) ≡ line ∷ []
+body_of_one line = ap (λ (ls : List (List ℕ)). line ∷ ls) (either_empty (ends_body line))
+
+pub body_line_stops : (a b : Option (List ℕ)) → StopsAtLine a b → StopsIn a b body_of
+body_line_stops = line_stops body_of refl body_of_one
 
 pub body_line_ends : (a b : Option (List ℕ)) (old new line : List ℕ) → ReadsLines a b old new (line ∷ []) []
     → ends_body line ≡ true → ReadsPart a b body_of Whole old new
@@ -214,3 +248,44 @@ entry_read_cut a b c old mid new head reads opens (body, last, then, all, end) =
           ∙ group_left head lines (head ∷ (lines ++ [])) [] first refl ∙ sym (with_last-append (head ∷ []) body last),
       ends_behind a b c (ended reads.whole ++ reads.left) reads.consumes end,
     )
+
+pub entry_line_stops : (a b : Option (List ℕ)) → StopsAtLine a b → StopsIn a b group_of
+entry_line_stops = line_stops group_of refl (λ line. alone_left line (begins line) refl)
+
+-- reading stops in the body of an entry
+pub entry_body_stops : (a b c : Option (List ℕ)) (old mid head : List ℕ) → ReadsLines a b old mid (head ∷ []) []
+    → begins head ≡ true → StopsIn b c body_of → StopsIn a c group_of
+entry_body_stops a b c old mid head reads opens stops = record {
+  some = (ended reads.whole ++ reads.left) ++ stops.some;
+  reads = Consumes-trans a b c (ended reads.whole ++ reads.left) stops.some reads.consumes stops.reads;
+  all = ap group_of are ∙ taken ∙ sym are;
+}
+  where
+    lines : List (List ℕ)
+    lines = lines_in stops.some
+
+    are : lines_in ((ended reads.whole ++ reads.left) ++ stops.some) ≡ head ∷ lines
+    are = lines_behind a b old mid (head ∷ []) reads stops.some
+
+    taken : group_of (head ∷ lines) ≡ head ∷ lines
+    taken =
+        ap (λ (ls : List (List ℕ)). group_of (head ∷ ls)) (sym (append-nil lines))
+        ∙ group_left head lines (head ∷ (lines ++ [])) [] (entry_with head [] lines opens (ap body_of (append-nil lines) ∙ stops.all)) refl
+
+-- ---- what was read is longer
+
+pub line_longer : (a b : Option (List ℕ)) (old new line : List ℕ) → ReadsLines a b old new (line ∷ []) [] → length old < length new
+line_longer a b old new line reads =
+    omega (
+      arith,
+      ap (λ (bytes : List ℕ). length bytes) reads.grows,
+      length-append old (ended (line ∷ []) ++ []),
+      length-append (ended (line ∷ [])) [],
+      length-append (line ++ 10 ∷ []) [],
+      length-append line (10 ∷ []),
+    )
+
+pub lines_longer : (a b : Option (List ℕ)) (old new : List ℕ) (lines : List (List ℕ)) (last : List ℕ) → ReadsLines a b old new lines last
+    → length old ≤ length new
+lines_longer a b old new lines last reads =
+    omega (arith, ap (λ (bytes : List ℕ). length bytes) reads.grows, length-append old (ended lines ++ last))

@@ -1,66 +1,62 @@
 -- Turns of a conversation, one behind another.
-use Rattle.camp_talk.proofs.Words.{refl, sym, ap, subst, ◌∙◌, append-nil, flat_map, flat_map-append, Gives, lines_of, LineFault, ScriptFault, Answers, Standing, Tells, TellsWant, asked_by, IsCommand, IsLeft, Entries, said_text, Asked, ◌≡◌, ◌⊎◌, inl, inr, ℕ, ◌+◌, Bool, true, false, List, [], ◌∷◌, ◌++◌, length, Option, Result, Ok, Err, Vec, IfOk, OnErr, ReadsCommand, Appends, Consumes, Appends-nil, Appends-trans, Consumes-nil, Consumes-trans, Keeps-refl, AppendsSome, EndsSo, Exchange, Follow, Holds, Stops, Turns}
+use Rattle.camp_talk.proofs.Words.{refl, sym, ap, subst, ◌∙◌, append-nil, flat_map, flat_map-append, Gives, lines_of, LineFault, ScriptFault, Answers, Standing, Tells, TellsWant, asked_by, IsCommand, IsLeft, Entries, IsReading, IsSaid, IsWriting, said_text, Asked, ◌≡◌, ◌≤◌, ◌⊎◌, inl, inr, ℕ, ◌+◌, ◌^◌, true, List, [], ◌∷◌, ◌++◌, length, Option, Result, Ok, Err, Vec, IfOk, OnErr, Appends, Consumes, Appends-nil, Appends-trans, Consumes-nil, Consumes-trans, Exchange, Exchanges, Follow, Holds, ReadsNone, ReadsTooMuch, ReadsWithin, Stops, Turns}
+use Rattle.std.specs.Io.KnownBytes.{Keeps}
 use Rattle.camp_talk.specs.declared.faults.TalkFault.{TalkFault}
-use Rattle.camp_talk.specs.declared.faults.TalkFault.TheVariants.{Memory, Read, Write}
+use Rattle.camp_talk.specs.declared.faults.TalkFault.TheVariants.{Internal, Memory, Read, Write}
 
--- what was written is the answer to what was read
+-- what is said is what a command is answered
 module _ {Z E : Type 0} (before : Standing) (now : Entries) (command : List ℕ) (asked : Result Asked ScriptFault)
     (gives : Gives asked (asked_by command)) where
-  said_so : (said : Result (Vec ℕ Z) E)
+  pub said_so : (said : Result (Vec ℕ Z) E)
       → IfOk said (λ text. (reading : Result Asked LineFault) → Gives asked reading
       → Tells before reading text.items now)
-      → OnErr said (now ≡ before.history)
-      → Tells before (asked_by command) (said_text said) now ⊎ TellsWant before (said_text said) now
-  said_so (Ok text) tells kept = inl (tells (asked_by command) gives)
-  said_so (Err error) tells kept = inr (refl, kept)
+      → OnErr said (now ≡ before.history) → IsSaid before command said now
+  said_so (Ok text) tells kept = tells (asked_by command) gives
+  said_so (Err error) tells kept = kept
 
-  pub answered : (lines : ℕ) (said : Result (Vec ℕ Z) E)
-      → IfOk said (λ text. (reading : Result Asked LineFault) → Gives asked reading
-      → Tells before reading text.items now)
-      → OnErr said (now ≡ before.history) → lines ≡ before.lines + length (lines_of command)
-      → Answers before command (said_text said) (record { history = now; lines = lines })
-  answered lines said tells kept counts = record { tells = said_so said tells kept; counts = counts }
+module _ {Z E : Type 0} (before after : Standing) (command : List ℕ) where
+  answered_by : (said : Result (Vec ℕ Z) E) → IsSaid before command said after.history
+      → Tells before (asked_by command) (said_text said) after.history ⊎ TellsWant before (said_text said) after.history
+  answered_by (Ok text) says = inl says
+  answered_by (Err error) says = inr (refl, says)
 
-module _ (remaining rest old new : Option (List ℕ)) (before after behind : Standing) (command text : List ℕ) where
-  pub turned : (whole : Bool) → ReadsCommand remaining rest whole command → Answers before command text after
-      → Appends old new text → Turns remaining rest old new before (Ok whole) after
-  turned true (reads, is) answers writes = (
-    record { command = command; answer = text },
-    is,
-    record { answers = answers; reads = reads; writes = writes },
-  )
-  turned false (reads, is, ends) answers writes = (
-    record { command = command; answer = text },
-    is,
-    record { answers = answers; reads = reads; writes = writes },
-    ends,
-  )
+  pub answered : (said : Result (Vec ℕ Z) E) → IsSaid before command said after.history
+      → after.lines ≡ before.lines + length (lines_of command) → Answers before command (said_text said) after
+  answered said says counts = record { tells = answered_by said says; counts = counts }
 
-  which : (whole : Bool) → ReadsCommand remaining rest whole command
-      → Consumes remaining rest command × (IsCommand command ⊎ IsLeft command)
-  which true (reads, is) = (reads, inl is)
-  which false (reads, is, ends) = (reads, inr is)
+abbrev pub at_lines : ℕ → Entries → Standing
+at_lines lines history = record { history = history; lines = lines }
 
-  stopped_at : (why : TalkFault) → why ≡ Write → Stops remaining rest old new before after
+pub same_standing : (lines : ℕ) (a b : Entries) → a ≡ b → at_lines lines a ≡ at_lines lines b
+same_standing lines a b same = ap (at_lines lines) same
+
+-- no command was read
+module _ (a b : Option (List ℕ)) (before : Standing) where
+  pub reads_none : (why : TalkFault) → IsReading why → ReadsWithin a b → ReadsNone a b before why
+  reads_none Memory is within = within
+  reads_none (Read error) is within = within
+  reads_none (Write error) is within = absurd is
+  reads_none Internal is within = absurd is
+
+  -- the lines of what was read have no numbers
+  pub reads_too_much : (some : List ℕ) → Consumes a b some → IsLeft some → 2 ^ 64 ≤ before.lines + length (lines_of some) + 1
+      → ReadsTooMuch a b before
+  reads_too_much some reads is many = record { some = some; reads = reads; is = is; many = many }
+
+module _ (remaining rest old new : Option (List ℕ)) (before after : Standing) where
+  pub broken : (why : TalkFault) → ReadsNone remaining rest before why → Keeps old new → after ≡ before
       → Turns remaining rest old new before (Err why) after
-  stopped_at Write is stops = stops
-  stopped_at Memory is stops = cc
-  stopped_at Read is stops = cc
+  broken Memory none keeps same = record { none = none; keeps = keeps; same = same }
+  broken (Read error) none keeps same = record { none = none; keeps = keeps; same = same }
+  broken (Write error) none keeps same = absurd none
+  broken Internal none keeps same = record { none = none; keeps = keeps; same = same }
 
-  pub stopped : (whole : Bool) (why : TalkFault) → why ≡ Write → ReadsCommand remaining rest whole command
-      → Answers before command text behind → after.history ≡ behind.history → AppendsSome old new text
+  pub stopped : (why : TalkFault) → IsWriting why → Stops remaining rest old new before after
       → Turns remaining rest old new before (Err why) after
-  stopped whole why is reads answers same writes =
-      let read = which whole reads in
-      stopped_at why is (record {
-        said = record { command = command; answer = text };
-        is = read.1;
-        behind = behind;
-        answers = answers;
-        same = same;
-        reads = read.0;
-        writes = writes;
-      })
+  stopped Memory is stops = absurd is
+  stopped (Read error) is stops = absurd is
+  stopped (Write error) is stops = stops
+  stopped Internal is stops = absurd is
 
 -- one more command is answered
 pub one_more : (first middle last : Standing) (said : List Exchange) (more : Exchange) → Follow first said middle
@@ -71,17 +67,19 @@ one_more first middle last (exchange ∷ said) more (next, command, answered, fo
     (next, command, answered, one_more next middle last said more follow is answers)
 
 module _ (a b c old held new : Option (List ℕ)) (first middle last : Standing) where
-  pub holds_on : Holds a b old held first middle → Turns b c held new middle (Ok true) last
-      → Holds a c old new first last
-  holds_on holds (more, is, exchanges) = record {
+  pub holds_on : Holds a b old held first middle → Exchanges b c held new true middle last → Holds a c old new first last
+  holds_on holds exchanges = record {
     said = holds.said ++ more ∷ [];
-    follow = one_more first middle last holds.said more holds.follow is exchanges.answers;
+    follow = one_more first middle last holds.said more holds.follow exchanges.reads.1 exchanges.answers;
     reads = subst (Consumes a c) (joined (λ e. e.command) refl)
-        (Consumes-trans a b c _ _ holds.reads exchanges.reads);
+        (Consumes-trans a b c _ _ holds.reads exchanges.reads.0);
     writes = subst (Appends old new) (joined (λ e. e.answer) refl)
         (Appends-trans old held new _ _ holds.writes exchanges.writes);
   }
     where
+      more : Exchange
+      more = exchanges.said
+
       joined : {bytes : List ℕ} (part : Exchange → List ℕ) → part more ≡ bytes
           → flat_map part holds.said ++ bytes ≡ flat_map part (holds.said ++ more ∷ [])
       joined part is =
@@ -90,16 +88,3 @@ module _ (a b c old held new : Option (List ℕ)) (first middle last : Standing)
 
 pub begins_so : (a old : Option (List ℕ)) (first : Standing) → Holds a a old old first first
 begins_so a old first = record { said = []; follow = refl; reads = Consumes-nil a; writes = Appends-nil old }
-
--- it can't go on
-pub gives_up : (a b old new : Option (List ℕ)) (first last : Standing) → Holds a b old new first last
-    → EndsSo a b old new first (Err Read) last.history
-gives_up a b old new first last holds = record {
-  left = b;
-  held = new;
-  middle = last;
-  last = last;
-  holds = holds;
-  turns = record { some = []; reads = Consumes-nil b; keeps = Keeps-refl new; same = refl };
-  leaves = refl;
-}

@@ -21,11 +21,11 @@ pub use Rattle.camp_talk.specs.Answers.{Answers, Standing, Tells, TellsWant}
 pub use Rattle.camp_talk.specs.Asking.{asked_by, asked_of, first_of, question_of, short_question}
 pub use Rattle.camp_talk.specs.Cutting.{IsCommand, IsLeft, TakesAll, as_read, body_of, call_line, call_lines, ends_body, ends_group, entries_of, entry_lines, group_of, lines_in, script_in, taken, taken_at, taken_by}
 pub use Rattle.camp_talk.specs.Entries.{Entries}
-pub use Rattle.camp_talk.specs.Inside.Hearing.{DoesOne, Hears, LoadsOne}
-pub use Rattle.camp_talk.specs.Inside.Parts.{Ends, EndsAt, IsLine, ReadsCommand, ReadsHeld, ReadsLine, ReadsLines, ReadsPart, Takes, Uses, ended, entry_part, feed_of, last_part, last_seen, seen_of, with_last}
-pub use Rattle.camp_talk.specs.Inside.Said.{said_text}
-pub use Rattle.camp_talk.specs.Loads.{Done, Fails, TellsSuccess, tells_failure}
-pub use Rattle.camp_talk.specs.Talks.{AppendsSome, EndsSo, Exchange, Follow, Holds, Stops, Turns}
+pub use Rattle.camp_talk.specs.Inside.Hearing.{DoesOne, Hears, IsSaid, LoadsOne}
+pub use Rattle.camp_talk.specs.Inside.Parts.{Ends, EndsAt, IsLine, IsLonger, IsReading, ReadsHeld, ReadsLine, ReadsLines, ReadsPart, StopsAtLine, StopsIn, Takes, ended, entry_part, feed_of, last_part, last_seen, seen_of, with_last}
+pub use Rattle.camp_talk.specs.Inside.Said.{IsNotWriting, IsWriting, said_text}
+pub use Rattle.camp_talk.specs.Loads.{Done, Fails, TellsSuccess, Wants, tells_failure}
+pub use Rattle.camp_talk.specs.Talks.{AppendsSome, Breaks, EndsSo, Exchange, Exchanges, Follow, Holds, ReadsCommand, ReadsNone, ReadsTooMuch, ReadsWithin, Stops, Turns}
 pub use Rattle.camp_talk.specs.Told.{IsTold, annotated_line, catch_line, names_told}
 pub use Rattle.camp_talk.specs.declared.commands.Part.{Part}
 pub use Rattle.camp_talk.specs.declared.commands.Part.TheVariants.{Cut, More, Whole}

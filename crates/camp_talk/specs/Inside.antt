@@ -1,4 +1,5 @@
 -- Words that serve only private functions.
+pub mod Framing
 pub mod Hearing
 pub mod Parts
 pub mod Said

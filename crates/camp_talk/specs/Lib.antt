@@ -1,11 +1,14 @@
 pub mod Answers
 pub mod Asking
 pub mod Cutting
+pub mod Dialogues
 pub mod Entries
 pub mod Faults
+pub mod Frames
 pub mod Help
 pub mod Inside
 pub mod Laws
 pub mod Loads
+pub mod Requests
 pub mod Talks
 pub mod Told

@@ -1,12 +1,11 @@
 -- What comes of commands that are loaded: each is asked as in a conversation, and has to be done.
-use Rattle.std.specs.Prelude.{◌≡◌, ◌⊎◌, ℕ, ◌+◌, Bool, true, false, ◌||◌, ◌==◌, List, Option, OnSome, Result, Ok, Err, codes}
+use Rattle.std.specs.Prelude.{◌≡◌, ℕ, ◌+◌, Bool, true, false, ◌||◌, ◌==◌, List, Option, Result, Ok, Err, codes}
 use Rattle.std.specs.List.{All, flat_map, starts_with}
-use Rattle.std.specs.Io.KnownBytes.{Consumes, IsAtEnd}
-use Rattle.camp_talk.specs.Answers.{Answers, Standing, memory_text}
-use Rattle.camp_talk.specs.Cutting.{IsCommand, IsLeft}
+use Rattle.std.specs.Io.KnownBytes.{Consumes}
+use Rattle.camp_talk.specs.Answers.{Answers, Standing, Tells, memory_text}
+use Rattle.camp_talk.specs.Asking.{asked_by}
 use Rattle.camp_talk.specs.Entries.{Entries}
-use Rattle.camp_talk.specs.Talks.{Exchange, Follow}
-use Rattle.camp_talk.specs.declared.faults.TalkFault.TheVariants as talk
+use Rattle.camp_talk.specs.Talks.{Exchange, Follow, ReadsCommand, ReadsNone}
 use Rattle.camp_talk.specs.declared.faults.LoadFault.{LoadFault}
 use Rattle.camp_talk.specs.declared.faults.LoadFault.TheVariants.{Answer, Memory, Talk}
 
@@ -34,39 +33,38 @@ module _ (remaining rest : Option (List ℕ)) where
   -- the input has ended, and what it left of a command was done
   pub record EndsWell (before : Standing) (now : Entries) : Type 0 where
     pub said : Exchange
-    pub is : IsLeft said.command
+    pub reads : ReadsCommand remaining rest false said.command
     pub after : Standing
     pub answers : Answers before said.command said.answer after
     pub well : TellsSuccess said.answer
     pub same : now ≡ after.history
-    pub reads : Consumes remaining rest said.command
-    pub ends : OnSome remaining (IsAtEnd rest)
 
-  -- the command that begins at this line was read, and answered so: it was not done, and nothing has changed
+  -- the command that begins at this line was read, and this is the answer to what it asks: it was not done, and nothing
+  -- has changed
   pub record Fails (before : Standing) (line : ℕ) (answer : List ℕ) (now : Entries) : Type 0 where
+    pub whole : Bool
     pub command : List ℕ
-    pub is : IsCommand command ⊎ IsLeft command
-    pub after : Standing
-    pub answers : Answers before command answer after
+    pub reads : ReadsCommand remaining rest whole command
+    pub tells : Tells before (asked_by command) answer now
     pub failure : tells_failure answer ≡ true
     pub at : line ≡ before.lines + 1
     pub same : now ≡ before.history
-    pub reads : Consumes remaining rest command
 
-  -- a command could not be read: no call was asked
-  pub record Breaks (before : Standing) (now : Entries) : Type 0 where
-    pub some : List ℕ
-    pub reads : Consumes remaining rest some
+  -- the command that begins at this line was read, and there was no memory for what it asks, or for its answer: nothing
+  -- has changed
+  pub record Wants (before : Standing) (line : ℕ) (now : Entries) : Type 0 where
+    pub whole : Bool
+    pub command : List ℕ
+    pub reads : ReadsCommand remaining rest whole command
+    pub at : line ≡ before.lines + 1
     pub same : now ≡ before.history
 
   -- what a load comes to, where these commands were done
   abbrev pub Ends : Standing → Result (Unit {0}) LoadFault → Entries → Type 0
   Ends before (Ok done) now = EndsWell before now
   Ends before (Err (Answer line text)) now = Fails before line text.items now
-  Ends before (Err (Memory line)) now = Fails before line memory_text now
-  Ends before (Err (Talk talk.Memory)) now = Breaks before now
-  Ends before (Err (Talk talk.Read)) now = Breaks before now
-  Ends before (Err (Talk talk.Write)) now = ⊥
+  Ends before (Err (Memory line)) now = Wants before line now
+  Ends before (Err (Talk why)) now = ReadsNone remaining rest before why × (now ≡ before.history)
 
 -- a load that begins with the accepted calls of a book, and before the first line: commands were done, one after the
 -- other; Ok, and the input has ended, or else the next one was not done

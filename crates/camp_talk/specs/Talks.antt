@@ -1,57 +1,88 @@
 -- What a conversation reads and writes.
-use Rattle.std.specs.Prelude.{◌≡◌, ◌⊎◌, ℕ, Bool, true, false, List, [], ◌∷◌, ◌++◌, Option, OnSome, Result, Ok, Err}
+use Rattle.std.specs.Prelude.{◌≡◌, ◌^◌, ◌+◌, ◌<◌, ◌≤◌, ℕ, Bool, true, false, List, [], ◌∷◌, ◌++◌, length, Option, OnSome, Result, Ok, Err}
 use Rattle.std.specs.List.{flat_map}
 use Rattle.std.specs.Io.KnownBytes.{Appends, Consumes, IsAtEnd, Keeps}
+use Rattle.camp_script.specs.Lines.{lines_of}
 use Rattle.camp_talk.specs.Answers.{Answers, Standing}
 use Rattle.camp_talk.specs.Cutting.{IsCommand, IsLeft}
 use Rattle.camp_talk.specs.Entries.{Entries}
 use Rattle.camp_talk.specs.declared.faults.TalkFault.{TalkFault}
-use Rattle.camp_talk.specs.declared.faults.TalkFault.TheVariants.{Memory, Read, Write}
+use Rattle.camp_talk.specs.declared.faults.TalkFault.TheVariants.{Internal, Memory, Read, Write}
 
 -- a command and its answer
 pub record Exchange : Type 0 where
   pub command : List ℕ
   pub answer : List ℕ
 
+-- a count of 64 bits has become more
+pub record HasRisen (old new : ℕ) : Type 0 where
+  pub rises : old < new
+  pub counted : old < 2 ^ 64
+
 -- known bytes grow by a front of a text
 abbrev pub AppendsSome : Option (List ℕ) → Option (List ℕ) → List ℕ → Type 0
 AppendsSome old new text = (done : List ℕ) × (rest : List ℕ) × (text ≡ done ++ rest) × Appends old new done
 
--- by what a reader had and has left, and what a writer held and holds, where that is known
-module _ (remaining rest old new : Option (List ℕ)) where
-  -- a command was read, no more and no less, and its answer was written, no more and no less
-  pub record Exchanges (before : Standing) (said : Exchange) (after : Standing) : Type 0 where
-    pub answers : Answers before said.command said.answer after
-    pub reads : Consumes remaining rest said.command
-    pub writes : Appends old new said.answer
+-- by what a reader had and has left
+module _ (remaining rest : Option (List ℕ)) where
+  -- a command was read, no more and no less: whole; or the input has ended, and this is what it left of one
+  abbrev pub ReadsCommand : Bool → List ℕ → Type 0
+  ReadsCommand true command = Consumes remaining rest command × IsCommand command
+  ReadsCommand false command = Consumes remaining rest command × IsLeft command × OnSome remaining (IsAtEnd rest)
 
-  -- a command could not be read: nothing was written, and no call was asked
-  pub record Breaks (before after : Standing) : Type 0 where
+  -- no more was read than a command has: its first line takes all of it
+  pub record ReadsWithin : Type 0 where
     pub some : List ℕ
     pub reads : Consumes remaining rest some
-    pub keeps : Keeps old new
-    pub same : after.history ≡ before.history
+    pub is : IsLeft some
 
-  -- a command was read and asked, and a front of its answer was written
-  pub record Stops (before after : Standing) : Type 0 where
+  -- no more was read than a command has, and the line behind it has no number below 2^64
+  pub record ReadsTooMuch (before : Standing) : Type 0 where
+    pub some : List ℕ
+    pub reads : Consumes remaining rest some
+    pub is : IsLeft some
+    pub many : 2 ^ 64 ≤ before.lines + length (lines_of some) + 1
+
+  -- no command is there to be asked: there was no memory for it, the reader failed, or its lines have no numbers
+  abbrev pub ReadsNone : Standing → TalkFault → Type 0
+  ReadsNone before Memory = ReadsWithin
+  ReadsNone before (Read error) = ReadsWithin
+  ReadsNone before (Write error) = ⊥
+  ReadsNone before Internal = ReadsTooMuch before
+
+-- by that, and what a writer held and holds, where it is known
+module _ (remaining rest old new : Option (List ℕ)) where
+  -- a command was read, no more and no less, and its answer was written, no more and no less
+  pub record Exchanges (whole : Bool) (before after : Standing) : Type 0 where
     pub said : Exchange
-    pub is : IsCommand said.command ⊎ IsLeft said.command
+    pub reads : ReadsCommand remaining rest whole said.command
+    pub answers : Answers before said.command said.answer after
+    pub writes : Appends old new said.answer
+
+  -- a command was read and asked, and a front of its answer was written; its lines are not counted
+  pub record Stops (before after : Standing) : Type 0 where
+    pub whole : Bool
+    pub said : Exchange
+    pub reads : ReadsCommand remaining rest whole said.command
     pub behind : Standing
     pub answers : Answers before said.command said.answer behind
-    pub same : after.history ≡ behind.history
-    pub reads : Consumes remaining rest said.command
+    pub same : after ≡ record { history = behind.history; lines = before.lines }
     pub writes : AppendsSome old new said.answer
 
-  -- one command is answered. Ok, and there may be more: it is whole. Ok, and there is no more: the input has ended, and
-  -- what it left of a command was answered.
-  -- Memory or Read: the command could not be read. Write: its answer could not be written.
+  -- there was no command to be asked: nothing was written, and nothing has changed
+  pub record Breaks (before : Standing) (why : TalkFault) (after : Standing) : Type 0 where
+    pub none : ReadsNone remaining rest before why
+    pub keeps : Keeps old new
+    pub same : after ≡ before
+
+  -- one command is answered. Ok: whether there may be more, or else the input has ended. Write: it was asked, and its
+  -- answer could not be written. Any other fault: none was asked.
   abbrev pub Turns : Standing → Result Bool TalkFault → Standing → Type 0
-  Turns before (Ok true) after = (said : Exchange) × IsCommand said.command × Exchanges before said after
-  Turns before (Ok false) after =
-      (said : Exchange) × IsLeft said.command × Exchanges before said after × OnSome remaining (IsAtEnd rest)
-  Turns before (Err Memory) after = Breaks before after
-  Turns before (Err Read) after = Breaks before after
-  Turns before (Err Write) after = Stops before after
+  Turns before (Ok whole) after = Exchanges whole before after
+  Turns before (Err Memory) after = Breaks before Memory after
+  Turns before (Err (Read error)) after = Breaks before (Read error) after
+  Turns before (Err (Write error)) after = Stops before after
+  Turns before (Err Internal) after = Breaks before Internal after
 
 -- commands are answered one after the other, from where a conversation stands
 abbrev pub Follow : Standing → List Exchange → Standing → Type 0
@@ -77,12 +108,3 @@ pub record EndsSo (remaining rest old new : Option (List ℕ)) (first : Standing
   pub holds : Holds remaining left old held first middle
   pub turns : Turns left rest held new middle turn last
   pub leaves : history ≡ last.history
-
--- a conversation that begins with the accepted calls of a book, and before the first line: each command was answered,
--- one after the other; Ok, and the input has ended, or else it could not go on
-abbrev pub Talks : Option (List ℕ) → Option (List ℕ) → Option (List ℕ) → Option (List ℕ)
-    → Entries → Result (Unit {0}) TalkFault → Entries → Type 0
-Talks remaining rest old new history (Ok done) now =
-    EndsSo remaining rest old new (record { history = history; lines = 0 }) (Ok false) now
-Talks remaining rest old new history (Err why) now =
-    EndsSo remaining rest old new (record { history = history; lines = 0 }) (Err why) now

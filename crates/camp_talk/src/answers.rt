@@ -5,7 +5,7 @@ ghost use Rattle.camp_script.specs.Gives.{Gives};
 ghost use Rattle.camp_script.specs.Texts.{HasText, answer_text};
 ghost use Rattle.camp_script.specs.declared.faults.LineFault.{LineFault as SaidFault};
 ghost use Rattle.camp_talk.specs.Answers.{Replies, Tells, fault_text};
-ghost use Rattle.camp_talk.specs.Inside.Said.{said_text};
+ghost use Rattle.camp_talk.specs.Inside.Said.{IsWriting, said_text};
 ghost use Rattle.camp_talk.specs.Talks.{AppendsSome};
 ghost use Rattle.camp_talk.specs.declared.questions.Asked.{Asked as SaidAsked};
 
@@ -15,6 +15,7 @@ use crate::tellings::answer_question;
 use camp_object::Fault;
 use camp_repo::{Book, Call, Object, Reply, State};
 use camp_script::{FaultKind, ScriptFault, append_reply, write_text};
+use itoa::Buffer;
 use std::alloc::{AllocError, Global};
 use std::io::Write;
 
@@ -33,7 +34,7 @@ pub(crate) fn answer(
     match asked {
         Ok(asked) => answer_asked(alloc, book, asked),
         Err(ScriptFault::Line(fault)) => fault_text(alloc, before, fault.line, fault.kind),
-        Err(_) => Err(AllocError),
+        Err(ScriptFault::Memory) => Err(AllocError),
     }
 }
 
@@ -62,7 +63,8 @@ fn reply(alloc: Global, book: &mut Book<State>, call: &Call) -> Result<Vec<u8>, 
             Some(_) => Ok(accepted),
             None => answer_text(alloc, &answer),
         },
-        Err(_) => Err(AllocError),
+        Err(Fault::Memory) => Err(AllocError),
+        Err(Fault::Busy { .. } | Fault::Full) => unreachable!(),
     }
 }
 
@@ -83,14 +85,12 @@ fn answer_text(alloc: Global, answer: &Result<Reply, Fault>) -> Result<Vec<u8>, 
     Ok(text)
 }
 
-// The text of the answer to a command with a fault, by the number of the lines before it. A number that
-// has no room is told as want of memory.
+// The text of the answer to a command with a fault, by the number of the lines before it.
 fn fault_text(alloc: Global, before: u64, line: u64, kind: FaultKind) -> Result<Vec<u8>, AllocError>
     ensures { IfOk result (λ text. text.items ≡ fault_text (before + line) kind) }
 {
-    let Some(line) = before.checked_add(line) else {
-        return Err(AllocError);
-    };
+    let mut number = Buffer::new();
+    let line = number.format(u128::from(before) + u128::from(line));
     let mut text = format!(in alloc; "fault {line} {kind}")?.into_bytes();
     text.push(b'\n')?;
     Ok(text)
@@ -100,17 +100,17 @@ fn fault_text(alloc: Global, before: u64, line: u64, kind: FaultKind) -> Result<
 fn write_answer<W: Write>(writer: &mut W, text: &[u8]) -> Result<(), TalkFault>
     ensures { MatchResult result
         (λ _. Appends (W.contents writer.old) (W.contents writer.new) text.now)
-        (λ why. (why ≡ TalkFault.Write) × AppendsSome (W.contents writer.old) (W.contents writer.new) text.now) }
+        (λ why. IsWriting why × AppendsSome (W.contents writer.old) (W.contents writer.new) text.now) }
 {
     if text.is_empty() {
         return Ok(());
     }
-    if write_text(writer, text).is_err() {
-        return Err(TalkFault::Write);
+    if let Err(error) = write_text(writer, text) {
+        return Err(TalkFault::Write(error));
     }
     match writer.flush() {
         Ok(()) => Ok(()),
-        Err(_) => Err(TalkFault::Write),
+        Err(error) => Err(TalkFault::Write(error)),
     }
 }
 
@@ -121,7 +121,7 @@ pub(crate) fn write_said<W: Write>(
 ) -> Result<(), TalkFault>
     ensures { MatchResult result
         (λ _. Appends (W.contents writer.old) (W.contents writer.new) (said_text said.now))
-        (λ why. (why ≡ TalkFault.Write) × AppendsSome (W.contents writer.old) (W.contents writer.new) (said_text said.now)) }
+        (λ why. IsWriting why × AppendsSome (W.contents writer.old) (W.contents writer.new) (said_text said.now)) }
 {
     match said {
         Ok(text) => write_answer(writer, text),

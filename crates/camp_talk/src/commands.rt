@@ -1,7 +1,7 @@
 //! The commands of a reader.
 ghost use Rattle.std.specs.Prelude.{◌≡◌, IfOk, IfErr};
 ghost use Rattle.camp_talk.specs.Cutting.{body_of, group_of};
-ghost use Rattle.camp_talk.specs.Inside.Parts.{IsReading, ReadsPart, Uses, entry_part, last_part};
+ghost use Rattle.camp_talk.specs.Inside.Parts.{IsLonger, IsReading, ReadsPart, StopsIn, entry_part, last_part};
 
 use crate::TalkFault;
 use crate::lines::{last_line, read_line};
@@ -24,23 +24,23 @@ pub(crate) fn read_body<R: BufRead>(reader: &mut R, text: &mut Vec<u8>) -> Resul
     ensures part { IfOk result (λ whole. ReadsPart (R.remaining reader.old) (R.remaining reader.new)
         body_of (last_part whole) text.old.items text.new.items) }
     ensures fault { IfErr result IsReading }
-    ensures uses { IfErr result (λ why. Uses (R.remaining reader.old) (R.remaining reader.new)) }
+    ensures stops { IfErr result (λ why. StopsIn (R.remaining reader.old) (R.remaining reader.new) body_of) }
 {
-    for _ in 0..u64::MAX {
+    loop {
         match read_body_line(reader, text)? {
             Part::More => {}
             Part::Whole => return Ok(true),
             Part::Cut => return Ok(false),
         }
     }
-    Err(TalkFault::Read)
 }
 
 fn read_body_line<R: BufRead>(reader: &mut R, text: &mut Vec<u8>) -> Result<Part, TalkFault>
     ensures part { IfOk result (λ part.
         ReadsPart (R.remaining reader.old) (R.remaining reader.new) body_of part text.old.items text.new.items) }
     ensures fault { IfErr result IsReading }
-    ensures uses { IfErr result (λ why. Uses (R.remaining reader.old) (R.remaining reader.new)) }
+    ensures longer { IfOk result (λ part. part ≡ Part.More → IsLonger text.old.items text.new.items) }
+    ensures stops { IfErr result (λ why. StopsIn (R.remaining reader.old) (R.remaining reader.new) body_of) }
 {
     let start = text.len();
     if !read_line(reader, text)? {
@@ -57,23 +57,23 @@ pub(crate) fn read_group<R: BufRead>(reader: &mut R, text: &mut Vec<u8>) -> Resu
     ensures part { IfOk result (λ whole. ReadsPart (R.remaining reader.old) (R.remaining reader.new)
         group_of (last_part whole) text.old.items text.new.items) }
     ensures fault { IfErr result IsReading }
-    ensures uses { IfErr result (λ why. Uses (R.remaining reader.old) (R.remaining reader.new)) }
+    ensures stops { IfErr result (λ why. StopsIn (R.remaining reader.old) (R.remaining reader.new) group_of) }
 {
-    for _ in 0..u64::MAX {
+    loop {
         match read_entry(reader, text)? {
             Part::More => {}
             Part::Whole => return Ok(true),
             Part::Cut => return Ok(false),
         }
     }
-    Err(TalkFault::Read)
 }
 
 fn read_entry<R: BufRead>(reader: &mut R, text: &mut Vec<u8>) -> Result<Part, TalkFault>
     ensures part { IfOk result (λ part.
         ReadsPart (R.remaining reader.old) (R.remaining reader.new) group_of part text.old.items text.new.items) }
     ensures fault { IfErr result IsReading }
-    ensures uses { IfErr result (λ why. Uses (R.remaining reader.old) (R.remaining reader.new)) }
+    ensures longer { IfOk result (λ part. part ≡ Part.More → IsLonger text.old.items text.new.items) }
+    ensures stops { IfErr result (λ why. StopsIn (R.remaining reader.old) (R.remaining reader.new) group_of) }
 {
     let start = text.len();
     if !read_line(reader, text)? {

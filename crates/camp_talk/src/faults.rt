@@ -1,29 +1,34 @@
 //! Why a conversation ends before its input does.
 ghost use Rattle.std.specs.Prelude.{◌≡◌, Some};
 ghost use Rattle.camp_script.specs.Lines.{without_end};
-ghost use Rattle.camp_talk.specs.Faults.{fault_words, load_status, load_words};
+ghost use Rattle.camp_talk.specs.Faults.{fault_status, fault_words, load_status, load_words};
 
 use bstr::BStr;
 use std::error::Error;
-use std::fmt;
+use std::{fmt, io};
 
 /// Why a conversation ended before its input did.
-#[derive(Clone, Copy, PartialEq, Eq, Debug)]
+#[derive(Clone, Copy, Debug)]
 pub enum TalkFault {
     /// There was no memory for the lines of a command.
     Memory,
-    /// The reader failed.
-    Read,
-    /// The writer failed. A front of an answer was written.
-    Write,
+    /// The reader failed, with this error.
+    Read(io::Error),
+    /// The writer failed, with this error. A front of an answer was written.
+    Write(io::Error),
+    /// A line has no number below 2^64. No conversation comes to that.
+    Internal,
 }
 
 impl TalkFault {
     /// The exit status of a program that ends with it.
     pub fn status(&self) -> u8
-        ensures exact { result ≡ 3 }
+        ensures exact { result ≡ fault_status self.now }
     {
-        3
+        match self {
+            TalkFault::Internal => 4,
+            _ => 3,
+        }
     }
 }
 
@@ -33,8 +38,9 @@ impl fmt::Display for TalkFault {
     fn fmt<W: fmt::Write>(&self, f: &mut fmt::Formatter<W>) -> fmt::Result {
         match self {
             TalkFault::Memory => f.write_str("out of memory"),
-            TalkFault::Read => f.write_str("cannot read input"),
-            TalkFault::Write => f.write_str("cannot write output"),
+            TalkFault::Read(_) => f.write_str("cannot read input"),
+            TalkFault::Write(_) => f.write_str("cannot write output"),
+            TalkFault::Internal => f.write_str("internal fault: lines without a number"),
         }
     }
 }

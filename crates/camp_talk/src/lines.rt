@@ -1,12 +1,13 @@
 //! The lines of a reader, behind one another.
-ghost use Rattle.std.specs.Prelude.{◌≡◌, ◌==◌, ◌+◌, ◌-◌, ◌<◌, ◌≤◌, ◌++◌, length, take, drop, IfOk, IfErr};
+ghost use Rattle.std.specs.Io.KnownBytes.{Consumes};
+ghost use Rattle.std.specs.Prelude.{◌≡◌, ◌==◌, ◌+◌, ◌-◌, ◌<◌, ◌≤◌, ◌++◌, [], length, take, drop, IfOk, IfErr};
 ghost use Rattle.std.specs.List.{position_or_len};
 ghost use Rattle.camp_base.specs.Signs.{newline};
 ghost use Rattle.camp_talk.specs.Cutting.{as_read};
-ghost use Rattle.camp_talk.specs.Inside.Parts.{IsReading, ReadsLine, Takes, Uses, feed_of, last_seen, seen_of};
+ghost use Rattle.camp_talk.specs.Inside.Parts.{IsReading, ReadsLine, StopsAtLine, Takes, feed_of, last_seen, seen_of};
 
 use crate::TalkFault;
-use std::io::{BufRead, ErrorKind};
+use std::io::{self, BufRead, ErrorKind};
 
 /// The most bytes of a line.
 const MAX_LINE: usize = 1_048_576;
@@ -33,7 +34,7 @@ pub(crate) fn read_line<R: BufRead>(reader: &mut R, text: &mut Vec<u8>) -> Resul
     ensures line { IfOk result (λ whole.
         ReadsLine (R.remaining reader.old) (R.remaining reader.new) whole text.old.items text.new.items) }
     ensures fault { IfErr result IsReading }
-    ensures uses { IfErr result (λ why. Uses (R.remaining reader.old) (R.remaining reader.new)) }
+    ensures stops { IfErr result (λ why. StopsAtLine (R.remaining reader.old) (R.remaining reader.new)) }
 {
     let start = text.len();
     let is_whole = read_front(reader, text)?;
@@ -47,12 +48,13 @@ pub(crate) fn read_line<R: BufRead>(reader: &mut R, text: &mut Vec<u8>) -> Resul
     }
 }
 
-// Reads a line and its LF. Puts as much of the line behind bytes as shows whether it is too long.
-fn read_front<R: BufRead>(reader: &mut R, text: &mut Vec<u8>) -> Result<bool, TalkFault>
+/// Reads a line and its LF. Puts as much of the line behind bytes as shows whether it is too long. Whether it
+/// has its LF; where it has none, the input has ended.
+pub(crate) fn read_front<R: BufRead>(reader: &mut R, text: &mut Vec<u8>) -> Result<bool, TalkFault>
     ensures front { IfOk result (λ whole. Takes (R.remaining reader.old) (R.remaining reader.new)
         1_048_577 (last_seen whole) text.old.items text.new.items) }
     ensures fault { IfErr result IsReading }
-    ensures uses { IfErr result (λ why. Uses (R.remaining reader.old) (R.remaining reader.new)) }
+    ensures stops { IfErr result (λ why. StopsAtLine (R.remaining reader.old) (R.remaining reader.new)) }
 {
     let start = text.len();
     for _ in 0..u64::MAX {
@@ -63,7 +65,7 @@ fn read_front<R: BufRead>(reader: &mut R, text: &mut Vec<u8>) -> Result<bool, Ta
             Seen::End => return Ok(false),
         }
     }
-    Err(TalkFault::Read)
+    Err(TalkFault::Read(ErrorKind::TimedOut.into()))
 }
 
 // Reads what the reader shows of a line, and its LF where it shows that. Puts as much of the line behind
@@ -72,16 +74,13 @@ fn read_some<R: BufRead>(reader: &mut R, text: &mut Vec<u8>, room: usize) -> Res
     ensures some { IfOk result (λ seen.
         Takes (R.remaining reader.old) (R.remaining reader.new) room seen text.old.items text.new.items) }
     ensures fault { IfErr result IsReading }
-    ensures uses { IfErr result (λ why. Uses (R.remaining reader.old) (R.remaining reader.new)) }
+    ensures none { IfErr result (λ why. Consumes (R.remaining reader.old) (R.remaining reader.new) []) }
 {
     let shown = match reader.fill_buf() {
         Ok(shown) => shown,
         Err(error) => {
-            return match error.kind() {
-                ErrorKind::Interrupted => Ok(Seen::Part),
-                ErrorKind::OutOfMemory => Err(TalkFault::Memory),
-                _ => Err(TalkFault::Read),
-            };
+            unless_interrupted(error)?;
+            return Ok(Seen::Part);
         }
     };
     let len = line_len(shown);
@@ -93,8 +92,19 @@ fn read_some<R: BufRead>(reader: &mut R, text: &mut Vec<u8>, room: usize) -> Res
     Ok(seen)
 }
 
-// Puts bytes behind others.
-fn hold(text: &mut Vec<u8>, bytes: &[u8]) -> Result<(), TalkFault>
+/// The fault of a reader that failed with this error. A reader that is interrupted is asked again.
+pub(crate) fn unless_interrupted(error: io::Error) -> Result<(), TalkFault>
+    ensures fault { IfErr result IsReading }
+{
+    match error.kind() {
+        ErrorKind::Interrupted => Ok(()),
+        ErrorKind::OutOfMemory => Err(TalkFault::Memory),
+        _ => Err(TalkFault::Read(error)),
+    }
+}
+
+/// Puts bytes behind others.
+pub(crate) fn hold(text: &mut Vec<u8>, bytes: &[u8]) -> Result<(), TalkFault>
     ensures items { IfOk result (λ _. text.new.items ≡ text.old.items ++ bytes.now) }
     ensures fault { IfErr result IsReading }
 {

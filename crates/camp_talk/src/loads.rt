@@ -1,10 +1,11 @@
 //! Commands that are loaded: each has to be done.
-ghost use Rattle.std.specs.Prelude.{◌≡◌};
+ghost use Rattle.std.specs.Prelude.{◌≡◌, true, IfOk};
 ghost use Rattle.camp_talk.specs.Inside.Hearing.{LoadsOne};
 ghost use Rattle.camp_talk.specs.Loads.{Loads, tells_failure};
+ghost use Rattle.camp_talk.specs.Talks.{HasRisen};
 
+use crate::LoadFault;
 use crate::talks::{Heard, hear};
-use crate::{LoadFault, TalkFault};
 use camp_repo::{Book, State};
 use std::alloc::Global;
 use std::io::BufRead;
@@ -19,14 +20,8 @@ pub fn load<R: BufRead>(
     ensures loads { Loads (R.remaining reader.old) (R.remaining reader.new) book.old result book.new }
 {
     let mut lines = 0;
-    for _ in 0..u64::MAX {
-        match load_one(alloc, book, &mut lines, reader) {
-            Ok(true) => {}
-            Ok(false) => return Ok(()),
-            Err(why) => return Err(why),
-        }
-    }
-    Err(LoadFault::Talk(TalkFault::Read))
+    while load_one(alloc, book, &mut lines, reader)? {}
+    Ok(())
 }
 
 // Loads a command. Whether there may be more: else the input has ended. `lines` counts those that were read.
@@ -36,8 +31,9 @@ fn load_one<R: BufRead>(
     lines: &mut u64,
     reader: &mut R,
 ) -> Result<bool, LoadFault>
-    ensures { LoadsOne (R.remaining reader.old) (R.remaining reader.new) (record { history = book.old; lines = lines.old })
+    ensures loads { LoadsOne (R.remaining reader.old) (R.remaining reader.new) (record { history = book.old; lines = lines.old })
         result (record { history = book.new; lines = lines.new }) }
+    ensures counts { IfOk result (λ more. more ≡ true → HasRisen lines.old lines.new) }
 {
     let Heard {
         said,

@@ -4,7 +4,8 @@ ghost use Rattle.camp_script.specs.Gives.{Gives};
 ghost use Rattle.camp_script.specs.Lines.{lines_of};
 ghost use Rattle.camp_talk.specs.Asking.{asked_of};
 ghost use Rattle.camp_talk.specs.Cutting.{script_in, taken_at};
-ghost use Rattle.camp_talk.specs.Inside.Parts.{IsReading, ReadsHeld, ReadsPart, Uses, last_part};
+ghost use Rattle.camp_talk.specs.Inside.Parts.{IsReading, ReadsHeld, ReadsPart, StopsIn, last_part};
+ghost use Rattle.camp_talk.specs.Talks.{ReadsWithin};
 
 use crate::TalkFault;
 use crate::asking::{read_asked, read_script_in};
@@ -39,7 +40,7 @@ pub(crate) fn read_command<R: BufRead>(alloc: Global, reader: &mut R) -> Result<
         ReadsHeld (R.remaining reader.old) (R.remaining reader.new) command.is_whole command.bytes.items) }
     ensures asked { IfOk result (λ command. Gives command.asked (asked_of (lines_of command.bytes.items))) }
     ensures fault { IfErr result IsReading }
-    ensures uses { IfErr result (λ why. Uses (R.remaining reader.old) (R.remaining reader.new)) }
+    ensures within { IfErr result (λ why. ReadsWithin (R.remaining reader.old) (R.remaining reader.new)) }
 {
     let CommandLines {
         bytes,
@@ -60,7 +61,7 @@ fn read_lines<R: BufRead>(alloc: Global, reader: &mut R) -> Result<CommandLines,
         ReadsHeld (R.remaining reader.old) (R.remaining reader.new) lines.is_whole lines.bytes.items) }
     ensures script { IfOk result (λ lines. Gives lines.script (script_in (lines_of lines.bytes.items))) }
     ensures fault { IfErr result IsReading }
-    ensures uses { IfErr result (λ why. Uses (R.remaining reader.old) (R.remaining reader.new)) }
+    ensures within { IfErr result (λ why. ReadsWithin (R.remaining reader.old) (R.remaining reader.new)) }
 {
     let mut bytes = Vec::new(alloc);
     let is_whole = read_line(reader, &mut bytes)?;
@@ -86,7 +87,7 @@ fn read_lines<R: BufRead>(alloc: Global, reader: &mut R) -> Result<CommandLines,
                 script,
             })
         }
-        Err(_) => Err(TalkFault::Memory),
+        Err(ScriptFault::Memory) => Err(TalkFault::Memory),
     }
 }
 
@@ -99,7 +100,7 @@ fn read_rest<R: BufRead>(
     ensures part { IfOk result (λ whole. ReadsPart (R.remaining reader.old) (R.remaining reader.new)
         (taken_at kind) (last_part whole) text.old.items text.new.items) }
     ensures fault { IfErr result IsReading }
-    ensures uses { IfErr result (λ why. Uses (R.remaining reader.old) (R.remaining reader.new)) }
+    ensures stops { IfErr result (λ why. StopsIn (R.remaining reader.old) (R.remaining reader.new) (taken_at kind)) }
 {
     match kind {
         FaultKind::EditNotEnded => read_body(reader, text),

@@ -1,8 +1,7 @@
-//! Conversations.
-ghost use Rattle.std.specs.Prelude.{◌≡◌, ◌+◌, IfOk, IfErr};
-ghost use Rattle.camp_talk.specs.Inside.Hearing.{Hears, HearsNothing};
-ghost use Rattle.camp_talk.specs.Inside.Said.{said_text};
-ghost use Rattle.camp_talk.specs.Talks.{Talks, Turns};
+//! One command of a conversation: it is read, asked and answered.
+ghost use Rattle.std.specs.Prelude.{◌≡◌, ◌+◌, true, IfOk, IfErr};
+ghost use Rattle.camp_talk.specs.Inside.Hearing.{Hears};
+ghost use Rattle.camp_talk.specs.Talks.{HasRisen, ReadsNone, Turns};
 
 use crate::TalkFault;
 use crate::answers::{answer, write_said};
@@ -32,18 +31,19 @@ pub(crate) fn hear<R: BufRead>(
     reader: &mut R,
 ) -> Result<Heard, TalkFault>
     ensures hears { IfOk result (λ heard. Hears (R.remaining reader.old) (R.remaining reader.new)
-        (record { history = book.old; lines = lines }) heard.is_whole (said_text heard.said)
+        (record { history = book.old; lines = lines }) heard.is_whole heard.said
         (record { history = book.new; lines = heard.lines })) }
     ensures line { IfOk result (λ heard. heard.line ≡ lines + 1) }
-    ensures nothing { IfErr result (λ why. HearsNothing (R.remaining reader.old) (R.remaining reader.new)
-        (record { history = book.old; lines = lines }) why book.new) }
+    ensures none { IfErr result (ReadsNone (R.remaining reader.old) (R.remaining reader.new)
+        (record { history = book.old; lines = lines })) }
+    ensures same { IfErr result (λ why. book.new ≡ book.old) }
 {
     let Some(line) = lines.checked_add(1) else {
-        return Err(TalkFault::Read);
+        return Err(TalkFault::Internal);
     };
     let command = read_command(alloc, reader)?;
     let Some(after) = lines.checked_add(count_lines(&command.bytes)) else {
-        return Err(TalkFault::Read);
+        return Err(TalkFault::Internal);
     };
     Ok(Heard {
         said: answer(alloc, book, lines, &command.asked),
@@ -54,7 +54,7 @@ pub(crate) fn hear<R: BufRead>(
 }
 
 /// Reads a command, asks it of a book at seat 0, writes its answer and flushes. Whether there may be
-/// more: else the input has ended. `lines` counts the lines that were read.
+/// more: else the input has ended. `lines` counts the lines that were read; after a fault it stays.
 pub fn turn<R: BufRead, W: Write>(
     alloc: Global,
     book: &mut Book<State>,
@@ -64,6 +64,7 @@ pub fn turn<R: BufRead, W: Write>(
 ) -> Result<bool, TalkFault>
     ensures turns { Turns (R.remaining reader.old) (R.remaining reader.new) (W.contents writer.old) (W.contents writer.new)
         (record { history = book.old; lines = lines.old }) result (record { history = book.new; lines = lines.new }) }
+    ensures counts { IfOk result (λ more. more ≡ true → HasRisen lines.old lines.new) }
 {
     let heard = hear(alloc, book, *lines, reader)?;
     match write_said(writer, &heard.said) {
@@ -73,26 +74,4 @@ pub fn turn<R: BufRead, W: Write>(
         }
         Err(why) => Err(why),
     }
-}
-
-/// Answers the commands of a reader, one after the other, until the input ends: each is asked of the book
-/// at seat 0, and its answer is written and flushed before the next is read.
-pub fn talk<R: BufRead, W: Write>(
-    alloc: Global,
-    book: &mut Book<State>,
-    reader: &mut R,
-    writer: &mut W,
-) -> Result<(), TalkFault>
-    ensures talks { Talks (R.remaining reader.old) (R.remaining reader.new) (W.contents writer.old) (W.contents writer.new)
-        book.old result book.new }
-{
-    let mut lines = 0;
-    for _ in 0..u64::MAX {
-        match turn(alloc, book, &mut lines, reader, writer) {
-            Ok(true) => {}
-            Ok(false) => return Ok(()),
-            Err(why) => return Err(why),
-        }
-    }
-    Err(TalkFault::Read)
 }

@@ -7,7 +7,7 @@ use crate::calls::record;
 use camp_base::Name;
 use camp_questions::{Unanswered, held_by, held_can_go, needs, needs_come_first, show};
 use camp_repo::{Call, Decided, Refusal, Reply, State, accepted_calls_have_effect};
-use camp_script::{Script, append_call, canonical_text_reads_back, read_script};
+use camp_script::{Script, append_accepted, canonical_text_reads_back, read_script};
 use std::alloc::Global;
 
 /// Pulls patches with all that they need. Where that is accepted, the branch that is pulled into has
@@ -88,7 +88,7 @@ pub fn show_and_read(
         return Ok(None);
     };
     let mut text = Vec::new(alloc);
-    append_call(&mut text, &call)?;
+    append_accepted(&mut text, &call)?;
     let Ok(script) = read_script(alloc, &text) else {
         return Err(Unanswered::Memory);
     };

@@ -11,8 +11,9 @@ use camp_clients::{LockFault, has_exactly, serial};
 use camp_head::HeadFault;
 use camp_object::{Fault, NumberCall, NumberReply};
 use camp_run::RunFault;
-use camp_script::ScriptFault;
+use camp_script::{ScriptFault, WriteFault};
 use std::alloc::{AllocError, Global};
+use std::io::ErrorKind;
 
 /// The calls on clients, and on the words of faults.
 #[derive(Clone, Copy)]
@@ -139,7 +140,8 @@ fn reply(at: u32) -> Result<NumberReply, Fault> {
 
 fn fault_words(table: &Table) -> Outcome {
     let (foreign, read, write) = (RunFault::Foreign, RunFault::Read, RunFault::Write);
-    let (lock, head, script) = (LockFault::Foreign, HeadFault::BadSize, ScriptFault::Write);
+    let (lock, head) = (LockFault::Foreign, HeadFault::BadSize);
+    let script = WriteFault::Write(ErrorKind::BrokenPipe.into());
     let (busy, full) = (Fault::Busy { lost: 3 }, Fault::Full);
     let memory = memory_words(table.alloc())?;
     let words = format!(in table.alloc();

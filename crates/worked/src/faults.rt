@@ -3,7 +3,7 @@ use camp_clients::LockFault;
 use camp_head::HeadFault;
 use camp_object::Fault;
 use camp_run::RunFault;
-use camp_script::{LineFault, ScriptFault};
+use camp_script::{LineFault, ScriptFault, WriteFault};
 use std::alloc::{AllocError, AllocFailed};
 use std::io;
 use thiserror::Error;
@@ -45,7 +45,15 @@ impl From<ScriptFault> for PlayFault {
         match fault {
             ScriptFault::Line(fault) => PlayFault::Script(fault),
             ScriptFault::Memory => PlayFault::Memory,
-            ScriptFault::Write => PlayFault::Wrong("cannot write"),
+        }
+    }
+}
+
+impl From<WriteFault> for PlayFault {
+    fn from(fault: WriteFault) -> PlayFault {
+        match fault {
+            WriteFault::Memory => PlayFault::Memory,
+            WriteFault::Write(_) => PlayFault::Wrong("cannot write"),
         }
     }
 }

@@ -1,27 +1,27 @@
 -- What it is to read a command and ask it.
-use Rattle.std.specs.Prelude.{◌≡◌, ℕ, Bool, true, false, List, Option, Result, Ok, Err}
+use Rattle.std.specs.Prelude.{◌≡◌, ℕ, ◌+◌, Bool, true, false, List, length, Option, Result, Ok, Err, Vec}
 use Rattle.std.specs.Io.KnownBytes.{Consumes}
-use Rattle.camp_talk.specs.Answers.{Answers, Standing}
+use Rattle.camp_script.specs.Lines.{lines_of}
+use Rattle.camp_talk.specs.Answers.{Answers, Standing, Tells}
+use Rattle.camp_talk.specs.Asking.{asked_by}
 use Rattle.camp_talk.specs.Cutting.{IsCommand}
 use Rattle.camp_talk.specs.Entries.{Entries}
-use Rattle.camp_talk.specs.Inside.Parts.{IsReading, ReadsCommand, Uses}
 use Rattle.camp_talk.specs.Loads.{Ends, TellsSuccess}
-use Rattle.camp_talk.specs.Talks.{Exchange}
+use Rattle.camp_talk.specs.Talks.{Exchange, ReadsCommand}
 use Rattle.camp_talk.specs.declared.faults.LoadFault.{LoadFault}
-use Rattle.camp_talk.specs.declared.faults.TalkFault.{TalkFault}
+
+-- what a command asks is answered by this text; or there was no memory, and nothing has changed
+abbrev pub IsSaid : {Z E : Type 0} → Standing → List ℕ → Result (Vec ℕ Z) E → Entries → Type 0
+IsSaid before command (Ok text) now = Tells before (asked_by command) text.items now
+IsSaid before command (Err error) now = now ≡ before.history
 
 module _ (remaining rest : Option (List ℕ)) (before : Standing) where
-  -- a command was read, whole or as far as the input has it, and this answers it
-  pub record Hears (whole : Bool) (text : List ℕ) (after : Standing) : Type 0 where
+  -- a command was read, whole or as far as the input has it, and this is said to it
+  pub record Hears {Z E : Type 0} (whole : Bool) (said : Result (Vec ℕ Z) E) (after : Standing) : Type 0 where
     pub command : List ℕ
     pub reads : ReadsCommand remaining rest whole command
-    pub answers : Answers before command text after
-
-  -- a command could not be read, and no call was asked
-  pub record HearsNothing (why : TalkFault) (now : Entries) : Type 0 where
-    pub is : IsReading why
-    pub uses : Uses remaining rest
-    pub same : now ≡ before.history
+    pub says : IsSaid before command said after.history
+    pub counts : after.lines ≡ before.lines + length (lines_of command)
 
   -- a whole command was read, and done
   pub record DoesOne (after : Standing) : Type 0 where

@@ -1,14 +1,15 @@
 -- How far a command is read.
-use Rattle.std.specs.Prelude.{◌≡◌, ◌≢◌, ◌⊎◌, ◌==◌, nat_lt, if◌then◌else◌, ℕ, Bool, true, false, List, [], ◌∷◌, ◌++◌, map, take, Option, OnSome}
+use Rattle.std.specs.Prelude.{◌≡◌, ◌≢◌, ◌==◌, ◌^◌, ◌<◌, ◌≤◌, nat_lt, if◌then◌else◌, ℕ, Bool, true, false, List, [], ◌∷◌, ◌++◌, length, map, take, Option, OnSome}
 use Rattle.std.specs.List.{All, flat_map}
 use Rattle.std.specs.Io.KnownBytes.{Consumes, IsAtEnd}
 use Rattle.camp_base.specs.Signs.{newline}
 use Rattle.camp_script.specs.Lines.{lines_of}
-use Rattle.camp_talk.specs.Cutting.{IsCommand, IsLeft, as_read, lines_in}
+use Rattle.camp_talk.specs.Cutting.{as_read, lines_in}
 use Rattle.camp_talk.specs.declared.commands.Part.{Part}
 use Rattle.camp_talk.specs.declared.commands.Part.TheVariants as part
 use Rattle.camp_talk.specs.declared.faults.TalkFault.{TalkFault}
-use Rattle.camp_talk.specs.declared.faults.TalkFault.TheVariants.{Memory, Read}
+use Rattle.camp_talk.specs.declared.faults.TalkFault.TheVariants.{Internal, Memory, Read, Write}
+use Rattle.camp_talk.specs.Talks.{ReadsCommand}
 use Rattle.camp_talk.specs.declared.lines.Seen.{Seen}
 use Rattle.camp_talk.specs.declared.lines.Seen.TheVariants as seen
 
@@ -54,9 +55,17 @@ module _ (remaining rest : Option (List ℕ)) where
   abbrev pub Ends : Type 0
   Ends = OnSome remaining (IsAtEnd rest)
 
-  -- some bytes were read
-  abbrev pub Uses : Type 0
-  Uses = (more : List ℕ) × Consumes remaining rest more
+  -- a line was read, or a part of one, or nothing
+  pub record StopsAtLine : Type 0 where
+    pub some : List ℕ
+    pub reads : Consumes remaining rest some
+    pub one : length (lines_of some) ≤ 1
+
+  -- of the lines that are taken some were read, and maybe a part of the next: no other
+  pub record StopsIn (take : List (List ℕ) → List (List ℕ)) : Type 0 where
+    pub some : List ℕ
+    pub reads : Consumes remaining rest some
+    pub all : take (lines_in some) ≡ lines_in some
 
   -- where the end of the input is seen, nothing is left
   abbrev pub EndsAt : Seen → Type 0
@@ -97,17 +106,20 @@ module _ (remaining rest : Option (List ℕ)) where
   ReadsPart take part.Cut old new = (lines : List (List ℕ)) × (last : List ℕ) × ReadsLines old new lines last
       × (take (with_last lines last) ≡ with_last lines last) × Ends
 
-  -- a command was read, whole or as far as the input has it
-  abbrev pub ReadsCommand : Bool → List ℕ → Type 0
-  ReadsCommand true bytes = Consumes remaining rest bytes × IsCommand bytes
-  ReadsCommand false bytes = Consumes remaining rest bytes × IsLeft bytes × Ends
-
   -- a command was read, and bytes are its lines, as they are read
   pub record ReadsHeld (whole : Bool) (held : List ℕ) : Type 0 where
     pub command : List ℕ
     pub lines : lines_of held ≡ lines_in command
-    pub reads : ReadsCommand whole command
+    pub reads : ReadsCommand remaining rest whole command
 
--- reading fails, or there is no memory for a line
+-- bytes that can be counted have become more
+pub record IsLonger (old new : List ℕ) : Type 0 where
+  pub longer : length old < length new
+  pub counted : length old < 2 ^ 64
+
+-- reading failed, or there was no memory for a line
 abbrev pub IsReading : TalkFault → Type 0
-IsReading why = (why ≡ Memory) ⊎ (why ≡ Read)
+IsReading Memory = Unit {0}
+IsReading (Read error) = Unit {0}
+IsReading (Write error) = ⊥
+IsReading Internal = ⊥

@@ -1,8 +1,24 @@
 -- What is written for a command, whether there was memory for its answer or not.
 use Rattle.std.specs.Prelude.{ℕ, List, Result, Ok, Err, Vec}
 use Rattle.camp_talk.specs.Answers.{memory_text}
+use Rattle.camp_talk.specs.declared.faults.TalkFault.{TalkFault}
+use Rattle.camp_talk.specs.declared.faults.TalkFault.TheVariants.{Internal, Memory, Read, Write}
 
 -- the text of an answer, or that memory ran out
 abbrev pub said_text : {Z E : Type 0} → Result (Vec ℕ Z) E → List ℕ
 said_text (Ok text) = text.items
 said_text (Err error) = memory_text
+
+-- the writer failed
+abbrev pub IsWriting : TalkFault → Type 0
+IsWriting Memory = ⊥
+IsWriting (Read error) = ⊥
+IsWriting (Write error) = Unit {0}
+IsWriting Internal = ⊥
+
+-- it was not the writer that failed
+abbrev pub IsNotWriting : TalkFault → Type 0
+IsNotWriting Memory = Unit {0}
+IsNotWriting (Read error) = Unit {0}
+IsNotWriting (Write error) = ⊥
+IsNotWriting Internal = Unit {0}

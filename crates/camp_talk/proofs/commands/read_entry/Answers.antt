@@ -1,5 +1,5 @@
-use Rattle.camp_talk.proofs.Words.{rules, ◌≡◌, ◌-◌, Bool, true, false, List, ℕ, length, take, drop, ap, sym, subst, ◌∙◌, body_of, group_of, ReadsLine, ReadsPart, Uses, last_part}
-use Rattle.camp_talk.proofs.Parts.{begins, entry_cut, entry_read_cut, entry_read_whole, is_done, line_at, uses_behind}
+use Rattle.camp_talk.proofs.Words.{rules, ◌≡◌, ◌-◌, Bool, true, false, List, ℕ, length, take, drop, ap, sym, subst, ◌∙◌, body_of, group_of, ReadsLine, ReadsPart, StopsIn, last_part}
+use Rattle.camp_talk.proofs.Parts.{begins, entry_body_stops, entry_cut, entry_line_stops, entry_read_cut, entry_read_whole, is_done, line_at}
 use Rattle.camp_talk.proofs.commands.read_entry.Given.{Over}
 use Rattle.camp_talk.proofs.commands.read_entry.Goals.{After-read_body}
 use Rattle.camp_talk.proofs.commands.read_entry.Goals as goal
@@ -12,18 +12,6 @@ returns-then-not-branch-clause-part g c =
     let mid = c.read_line.new.text.items in
     let last : c.in_ok-read_line.field-0 ≡ false = search rules in
     entry_cut a b old mid (subst (λ (w : Bool). ReadsLine a b w old mid) last c.in_ok-read_line.ensures.line)
-
-pub returns-in_err-read_body-clause-uses : goal.returns-in_err-read_body-clause-uses
-returns-in_err-read_body-clause-uses g c =
-    let a = g.R.Read.remaining c.args.reader.now in
-    let b = g.R.Read.remaining c.read_line.new.reader in
-    let old = c.args.text.now.items in
-    let mid = c.read_line.new.text.items in
-    let whole : c.in_ok-read_line.field-0 ≡ true = search rules in
-    let line = subst (λ (w : Bool). ReadsLine a b w old mid) whole c.in_ok-read_line.ensures.line in
-    let uses : Uses a (g.R.Read.remaining c.read_body.new.reader) =
-    uses_behind a b _ _ line.1.consumes c.in_err-read_body.ensures.uses in
-    search (rules, uses)
 
 -- the line that opens the entry
 line : (g : Over) (c : After-read_body g) → ReadsLine (g.R.Read.remaining c.args.reader.now) (g.R.Read.remaining c.read_line.new.reader) true c.args.text.now.items c.read_line.new.text.items
@@ -41,6 +29,20 @@ head g c =
 
 opens : (g : Over) (c : After-read_body g) → begins (line g c).0 ≡ true
 opens g c = ap begins (sym (head g c)) ∙ sym c.begins_edit.ensures.exact ∙ c.if-not-begins_edit.false
+
+pub returns-in_err-read_line-clause-stops : goal.returns-in_err-read_line-clause-stops
+returns-in_err-read_line-clause-stops g c =
+    let stops : StopsIn (g.R.Read.remaining c.args.reader.now) (g.R.Read.remaining c.read_line.new.reader) group_of =
+    entry_line_stops _ _ c.in_err-read_line.ensures.stops in
+    search (rules, stops)
+
+pub returns-in_err-read_body-clause-stops : goal.returns-in_err-read_body-clause-stops
+returns-in_err-read_body-clause-stops g c =
+    let then = (goal.at.returns-in_err-read_body-clause-stops g c).After-read_body in
+    let line = line g then in
+    let stops : StopsIn (g.R.Read.remaining c.args.reader.now) (g.R.Read.remaining c.read_body.new.reader) group_of =
+    entry_body_stops _ _ _ c.args.text.now.items c.read_line.new.text.items _ line.1 (opens g then) c.in_err-read_body.ensures.stops in
+    search (rules, stops)
 
 pub returns-then-not-branch-2-clause-part : goal.returns-then-not-branch-2-clause-part
 returns-then-not-branch-2-clause-part g c =

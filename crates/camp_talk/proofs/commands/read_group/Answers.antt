@@ -1,15 +1,15 @@
-use Rattle.camp_talk.proofs.Words.{rules, group_of, Uses}
-use Rattle.camp_talk.proofs.Parts.{none_read, part_on, part_uses}
+use Rattle.camp_talk.proofs.Words.{rules, group_of, StopsIn}
+use Rattle.camp_talk.proofs.Parts.{none_read, part_on, part_stops}
 use Rattle.camp_talk.proofs.commands.read_group.Goals as goal
 
 pub loop-init : goal.loop-init
 loop-init g c = none_read (g.R.Read.remaining c.args.reader.now) group_of c.args.text.now.items
 
-pub returns-in_err-read_entry-clause-uses : goal.returns-in_err-read_entry-clause-uses
-returns-in_err-read_entry-clause-uses g c =
-    let uses : Uses (g.R.Read.remaining c.args.reader.now) (g.R.Read.remaining c.read_entry.new.reader) =
-    part_uses _ (g.R.Read.remaining c.loop.reader) _ group_of _ _ c.loop.invariant c.in_err-read_entry.ensures.uses in
-    search (rules, uses)
+pub returns-in_err-read_entry-clause-stops : goal.returns-in_err-read_entry-clause-stops
+returns-in_err-read_entry-clause-stops g c =
+    let stops : StopsIn (g.R.Read.remaining c.args.reader.now) (g.R.Read.remaining c.read_entry.new.reader) group_of =
+    part_stops _ (g.R.Read.remaining c.loop.reader) _ group_of _ _ c.loop.invariant c.in_err-read_entry.ensures.stops in
+    search (rules, stops)
 
 pub returns-in-Whole-clause-part : goal.returns-in-Whole-clause-part
 returns-in-Whole-clause-part g c = part_on _ (g.R.Read.remaining c.loop.reader) _ _ c.loop.text.items _ group_of c.loop.invariant c.in-Whole.is c.in_ok-read_entry.ensures.part

@@ -1,6 +1,5 @@
-use Rattle.camp_talk.proofs.Words.{Uses, Consumes-nil, ◌≡◌, length, take, ap, arith, rules, length-append, length-take}
-use Rattle.camp_talk.proofs.LineReads.{none_taken, taken_on}
-use Rattle.camp_talk.proofs.Parts.{uses_behind}
+use Rattle.camp_talk.proofs.Words.{StopsAtLine, Consumes-nil, ◌≡◌, ◌++◌, [], length, take, ap, arith, rules, length-append, length-take}
+use Rattle.camp_talk.proofs.LineReads.{none_taken, stops_here, stops_in_line, taken_on}
 use Rattle.camp_talk.proofs.lines.read_front.Goals as goal
 
 pub loop-init : goal.loop-init
@@ -14,11 +13,17 @@ overflow_sub-room-in-loop g c =
     let len : c.len.result ≡ length c.loop.text.items = search rules in
     omega (arith, start, len, ap length c.loop.invariant.grows, length-append old (take 1_048_577 line), length-take 1_048_577 line)
 
-pub returns-in_err-read_some-clause-uses : goal.returns-in_err-read_some-clause-uses
-returns-in_err-read_some-clause-uses g c =
-    let uses : Uses (g.R.Read.remaining c.args.reader.now) (g.R.Read.remaining c.read_some.new.reader) =
-    uses_behind _ (g.R.Read.remaining c.loop.reader) _ _ c.loop.invariant.consumes c.in_err-read_some.ensures.uses in
-    search (rules, uses)
+pub returns-in_err-read_some-clause-stops : goal.returns-in_err-read_some-clause-stops
+returns-in_err-read_some-clause-stops g c =
+    let a = g.R.Read.remaining c.args.reader.now in
+    let b = g.R.Read.remaining c.loop.reader in
+    let d = g.R.Read.remaining c.read_some.new.reader in
+    let stops : StopsAtLine a d = stops_in_line a d c.loop.invariant.line c.loop.invariant.is_line
+    (stops_here a b d (c.loop.invariant.line ++ []) c.loop.invariant.consumes c.in_err-read_some.ensures.none) in
+    search (rules, stops)
+
+pub returns-clause-stops : goal.returns-clause-stops
+returns-clause-stops g c = stops_in_line _ _ c.loop.invariant.line c.loop.invariant.is_line c.loop.invariant.consumes
 
 pub returns-in-Line-clause-front : goal.returns-in-Line-clause-front
 returns-in-Line-clause-front g c =

@@ -1,5 +1,5 @@
 use Rattle.camp_talk.proofs.Words.{◌≡◌, ◌++◌, Bool, length, take, drop, subst, rules, as_read, Takes, last_seen}
-use Rattle.camp_talk.proofs.LineReads.{last_line, whole_line}
+use Rattle.camp_talk.proofs.LineReads.{last_line, stops_behind_line, whole_line}
 use Rattle.camp_talk.proofs.lines.read_line.Goals as goal
 
 pub returns-then-not-is_whole-clause-line : goal.returns-then-not-is_whole-clause-line
@@ -25,3 +25,11 @@ returns-in-Ok-clause-line g c =
     whole_line a b old mid new c.push.new.self.items
     (subst (λ (whole : Bool). Takes a b 1_048_577 (last_seen whole) old mid) c.if-not-is_whole.false c.in_ok-is_whole.ensures.front)
     (subst (λ n. new ≡ take n mid ++ as_read (drop n mid)) start c.cut_line.ensures) c.in-Ok.ensures.items
+
+pub returns-in-Err-clause-stops : goal.returns-in-Err-clause-stops
+returns-in-Err-clause-stops g c =
+    let a = g.R.Read.remaining c.args.reader.now in
+    let b = g.R.Read.remaining c.read_front.new.reader in
+    let takes = subst (λ (whole : Bool). Takes a b 1_048_577 (last_seen whole) c.args.text.now.items c.read_front.new.text.items)
+    c.if-not-is_whole.false c.in_ok-is_whole.ensures.front in
+    stops_behind_line a b takes.line takes.is_line takes.consumes

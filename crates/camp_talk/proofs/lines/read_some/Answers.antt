@@ -4,8 +4,8 @@ use Rattle.std.proofs.BufReadLemmas.{Consumes_shown}
 use Rattle.camp_talk.proofs.LineReads.{none_taken, shown_taken, taken_within}
 use Rattle.camp_talk.proofs.lines.read_some.Goals as goal
 
-pub returns-in-Interrupted-clause-some : goal.returns-in-Interrupted-clause-some
-returns-in-Interrupted-clause-some g c =
+pub returns-in-Err-clause-some : goal.returns-in-Err-clause-some
+returns-in-Err-clause-some g c =
     none_taken _ _ c.args.room c.args.text.now.items
     (Consumes-kept _ _ _ [] (Consumes-nil _) c.fill_buf.follows.holds-at-none.0)
 

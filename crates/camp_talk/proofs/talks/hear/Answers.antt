@@ -1,6 +1,30 @@
-use Rattle.camp_talk.proofs.Words.{◌≡◌, ◌+◌, ℕ, List, length, ap, subst, ◌∙◌, arith, Gives, lines_of, Standing, as_read, length-map, asked_of}
-use Rattle.camp_talk.proofs.Turns.{answered}
+use Rattle.camp_talk.proofs.Words.{◌≡◌, ◌+◌, ℕ, List, length, ap, subst, ◌∙◌, arith, rules, Gives, lines_of, Standing, as_read, length-map, asked_of}
+use Rattle.camp_talk.proofs.Firsts.{command_left, command_read}
+use Rattle.camp_talk.proofs.Turns.{reads_none, reads_too_much, said_so}
 use Rattle.camp_talk.proofs.talks.hear.Goals as goal
+use Rattle.camp_talk.proofs.talks.hear.Given.{Over}
+use Rattle.camp_talk.proofs.talks.hear.Goals.{After-count_lines}
+
+-- the lines of the command that was read
+lines : (g : Over) (c : After-count_lines g) → c.count_lines.result ≡ length (lines_of c.in_ok-command.ensures.command.command)
+lines g c =
+    let read = c.in_ok-command.ensures.command in
+    c.count_lines.ensures ∙ ap (λ bytes. length (lines_of bytes)) c.deref.ensures.value
+    ∙ ap (λ (ls : List (List ℕ)). length ls) read.lines ∙ length-map (lines_of read.command) as_read
+
+pub returns-in_err-command-clause-none : goal.returns-in_err-command-clause-none
+returns-in_err-command-clause-none g c =
+    let before : Standing = record { history = c.args.book.now; lines = c.args.lines } in
+    let none = reads_none _ _ before _ c.in_err-command.ensures.fault c.in_err-command.ensures.within in
+    search (rules, none)
+
+pub returns-in_default-checked_add-clause-none : goal.returns-in_default-checked_add-clause-none
+returns-in_default-checked_add-clause-none g c =
+    let then = (goal.at.returns-in_default-checked_add-clause-none g c).After-count_lines in
+    let read = c.in_ok-command.ensures.command in
+    let whole = c.in_ok-command.command.is_whole in
+    reads_too_much _ _ _ read.command (command_read _ _ whole read.command read.reads) (command_left _ _ whole read.command read.reads)
+    (omega (arith, lines g then, c.in_default-checked_add.is, c.checked_add-2.ensures))
 
 pub returns-clause-hears : goal.returns-clause-hears
 returns-clause-hears g c =
@@ -8,14 +32,12 @@ returns-clause-hears g c =
     let read = c.in_ok-command.ensures.command in
     let before : Standing = record { history = c.args.book.now; lines = c.args.lines } in
     let after = c.in-Some-checked_add.after in
-    let counted : c.count_lines.result ≡ length (lines_of command.bytes.items) =
-    c.count_lines.ensures ∙ ap (λ bytes. length (lines_of bytes)) c.deref.ensures.value in
-    let lines : length (lines_of command.bytes.items) ≡ length (lines_of read.command) =
-    ap (λ (ls : List (List ℕ)). length ls) read.lines ∙ length-map (lines_of read.command) as_read in
-    let counts : after ≡ c.args.lines + length (lines_of read.command) = omega (arith, counted, lines) in
+    let then = (goal.at.returns-clause-hears g c).After-count_lines in
+    let counts : after ≡ c.args.lines + length (lines_of read.command) = omega (arith, lines g then) in
     let gives = subst (λ (ls : List (List ℕ)). Gives command.asked (asked_of ls)) read.lines c.in_ok-command.ensures.asked in
     record {
       command = read.command;
       reads = read.reads;
-      answers = answered before c.answer.new.book read.command command.asked gives after c.answer.result c.answer.ensures.text c.answer.ensures.kept counts;
+      says = said_so before c.answer.new.book read.command command.asked gives c.answer.result c.answer.ensures.text c.answer.ensures.kept;
+      counts = counts;
     }

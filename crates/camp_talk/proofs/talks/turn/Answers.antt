@@ -1,26 +1,50 @@
-use Rattle.camp_talk.proofs.Words.{refl, Standing, said_text}
-use Rattle.camp_talk.proofs.Turns.{stopped, turned}
+use Rattle.camp_talk.proofs.Words.{refl, true, subst, arith, rules, Bool, Keeps-refl, ReadsCommand, Standing, said_text, ◌≡◌}
+use Rattle.camp_talk.proofs.Firsts.{command_long}
+use Rattle.camp_talk.proofs.Turns.{answered, broken, same_standing, stopped}
 use Rattle.camp_talk.proofs.talks.turn.Goals as goal
 
-pub returns-in-Ok : goal.returns-in-Ok
-returns-in-Ok g c = record {
-  turns =
-      let heard = c.in_ok-heard.heard in
-      let before : Standing = record { history = c.args.book.now; lines = c.args.lines.now } in
-      let after : Standing = record { history = c.hear.new.book; lines = heard.lines } in
-      let hears = c.in_ok-heard.ensures.hears in
-      turned _ _ _ _ before after after hears.command (said_text heard.said) heard.is_whole hears.reads hears.answers
-      c.in-Ok.ensures;
-}
+pub returns-in_err-heard-clause-turns : goal.returns-in_err-heard-clause-turns
+returns-in_err-heard-clause-turns g c =
+    let before : Standing = record { history = c.args.book.now; lines = c.args.lines.now } in
+    let after : Standing = record { history = c.hear.new.book; lines = c.args.lines.now } in
+    let same = same_standing c.args.lines.now c.hear.new.book c.args.book.now c.in_err-heard.ensures.same in
+    let turns = broken _ _ _ _ before after _ c.in_err-heard.ensures.none (Keeps-refl (g.W.Write.contents c.args.writer.now)) same in
+    search (rules, turns)
 
-pub returns : goal.returns
-returns g c = record {
-  turns =
-      let heard = c.in_ok-heard.heard in
-      let before : Standing = record { history = c.args.book.now; lines = c.args.lines.now } in
-      let after : Standing = record { history = c.hear.new.book; lines = c.args.lines.now } in
-      let behind : Standing = record { history = c.hear.new.book; lines = heard.lines } in
-      let hears = c.in_ok-heard.ensures.hears in
-      stopped _ _ _ _ before after behind hears.command (said_text heard.said) heard.is_whole c.in-Err.why c.in-Err.ensures.0
-      hears.reads hears.answers refl c.in-Err.ensures.1;
-}
+pub returns-in-Ok-clause-turns : goal.returns-in-Ok-clause-turns
+returns-in-Ok-clause-turns g c =
+    let heard = c.in_ok-heard.heard in
+    let before : Standing = record { history = c.args.book.now; lines = c.args.lines.now } in
+    let after : Standing = record { history = c.hear.new.book; lines = heard.lines } in
+    let hears = c.in_ok-heard.ensures.hears in
+    record {
+      said = record { command = hears.command; answer = said_text heard.said };
+      reads = hears.reads;
+      answers = answered before after hears.command heard.said hears.says hears.counts;
+      writes = c.in-Ok.ensures;
+    }
+
+pub returns-in-Ok-clause-counts : goal.returns-in-Ok-clause-counts
+returns-in-Ok-clause-counts g c =
+    let heard = c.in_ok-heard.heard in
+    let hears = c.in_ok-heard.ensures.hears in
+    λ (more : heard.is_whole ≡ true).
+    let reads = subst (λ (w : Bool). ReadsCommand (g.R.Read.remaining c.args.reader.now) (g.R.Read.remaining c.hear.new.reader) w hears.command) more hears.reads in
+    record { rises = omega (arith, hears.counts, command_long hears.command reads.1); counted = search rules }
+
+pub returns-clause-turns : goal.returns-clause-turns
+returns-clause-turns g c =
+    let heard = c.in_ok-heard.heard in
+    let before : Standing = record { history = c.args.book.now; lines = c.args.lines.now } in
+    let after : Standing = record { history = c.hear.new.book; lines = c.args.lines.now } in
+    let behind : Standing = record { history = c.hear.new.book; lines = heard.lines } in
+    let hears = c.in_ok-heard.ensures.hears in
+    stopped _ _ _ _ before after c.in-Err.why c.in-Err.ensures.0 (record {
+      whole = heard.is_whole;
+      said = record { command = hears.command; answer = said_text heard.said };
+      reads = hears.reads;
+      behind = behind;
+      answers = answered before behind hears.command heard.said hears.says hears.counts;
+      same = refl;
+      writes = c.in-Err.ensures.1;
+    })

@@ -10,9 +10,9 @@ returns c = record {
       let shown = shown_is c.args.state.now c.args.branch.now c.args.name.now c.in_ok-shown.shown c.in_ok-shown.ensures.exact in
       let recorded = c.in-Some.ensures.exact in
       let changes = c.into_changes.ensures.value ∙ ap (λ (patch : Patch). patch.changes) shown.2 in
-      let written = c.deref.ensures.value ∙ c.in_ok-append_call.ensures.text ∙ ap (λ t. t ++ call_text c.in-Some.call) c.new-text.ensures.items in (
+      let written = c.deref.ensures.value ∙ c.in_ok-append_accepted.ensures.text ∙ ap (λ t. t ++ call_text c.in-Some.call) c.new-text.ensures.items in (
         shown.0,
         shown.1,
-        shown_reads_back c.canonical_text_reads_back.ensures.law c.in-Some.call c.args.to.now c.args.name.now _ c.deref.result.now c.in-Ok.script (recorded.0 ∙ ap (call.Record c.args.to.now c.args.name.now) changes) c.in_ok-append_call.ensures.stands written c.in-Ok.ensures.given,
+        shown_reads_back c.canonical_text_reads_back.ensures.law c.in-Some.call c.args.to.now c.args.name.now _ c.deref.result.now c.in-Ok.script (recorded.0 ∙ ap (call.Record c.args.to.now c.args.name.now) changes) c.in_ok-append_accepted.ensures.stands written c.in-Ok.ensures.given,
       );
 }

@@ -1,0 +1,308 @@
+-- Frames of requests and of answers, part by part.
+use Rattle.camp_talk.proofs.Words.{◌==◌, zero, suc, ◌≡◌, ◌≢◌, ◌<◌, ◌≤◌, inl, inr, ℕ, Bool, true, false, cond, List, [], ◌∷◌, ◌++◌, length, take, drop, Option, None, Some, Err, refl, sym, ap, subst, ◌∙◌, append_assoc, arith, true≢false, take_all, length-append, length-take, All, All-cons, All-drop, All-head, All-nil, list_all, drop-append_seam, and_parts, Appends, Appends-trans, Consumes, Consumes-trans, append-nil, ◌-◌, lines_of, first_of, AppendsSome, Entries, IsLine, IsNotWriting, IsWriting, Takes}
+use Rattle.std.proofs.Common.{unwrap_or, ◌&&◌}
+use Rattle.std.proofs.lemmas.Bool.Decides.{nat_tests}
+use Rattle.std.proofs.KnownBytes.{Appends-kept}
+use Rattle.std.proofs.lemmas.List.{nil_from_length}
+use Rattle.std.proofs.lemmas.Option.{none-some}
+use Rattle.std.specs.Io.KnownBytes.{Keeps}
+use Rattle.camp_base.specs.Signs.{is_between, is_digit}
+use Rattle.camp_script.specs.Words.{count_of, value_of}
+use Rattle.camp_talk.proofs.Cuts.{lines-line}
+use Rattle.camp_talk.proofs.Parts.{ends_behind}
+use Rattle.camp_talk.specs.Frames.{AnswersNot, BeginsNoFrame, IsFrame, Serves, WritesNot}
+use Rattle.camp_talk.specs.Inside.Framing.{IsCounted, IsNotCounted, ReadsBytes, ReadsFrame, ReadsMore, ReadsNothing, ReadsPartly, StopsReading}
+use Rattle.camp_talk.specs.declared.faults.TalkFault.{TalkFault}
+use Rattle.camp_talk.specs.declared.faults.TalkFault.TheVariants.{Internal, Memory, Read, Write}
+use Rattle.camp_talk.specs.declared.frames.FrameFault.{FrameFault}
+use Rattle.camp_talk.specs.declared.lines.Seen.TheVariants as seen
+use Rattle.camp_talk.specs.declared.frames.FrameFault.TheVariants.{Cut, NoNumber, Talk, TooLarge}
+
+-- ---- the line before a request
+
+digit_is : (byte : ℕ) → is_digit byte ≡ true → byte ≢ 10
+digit_is byte is = λ (same : byte ≡ 10). true≢false (sym is ∙ ap is_digit same)
+
+digits_are_line : (digits : List ℕ) → list_all is_digit digits ≡ true → IsLine digits
+digits_are_line [] are = All-nil (λ byte. byte ≢ 10)
+digits_are_line (byte ∷ digits) are =
+    let both = and_parts (is_digit byte) (list_all is_digit digits) are in
+    All-cons (λ byte. byte ≢ 10) byte digits (digit_is byte both.0) (digits_are_line digits both.1)
+
+module _ (line : List ℕ) where
+  abbrev tested : Bool
+  tested = is_between 1 10 (length line) && list_all is_digit line
+
+  tested_at : (b : Bool) (n : ℕ) → cond b (Some (value_of line)) None ≡ Some n → b ≡ true
+  tested_at true n is = refl
+  tested_at false n is = absurd (none-some n is)
+
+  module _ (n : ℕ) (is : count_of line ≡ Some n) where
+    pub counted_line : IsLine line
+    counted_line = digits_are_line line (and_parts (is_between 1 10 (length line)) (list_all is_digit line) (tested_at tested n is)).1
+
+    pub counted_short : length line ≤ 10
+    counted_short =
+        let between : is_between 1 10 (length line) ≡ true =
+        (and_parts (is_between 1 10 (length line)) (list_all is_digit line) (tested_at tested n is)).0 in
+        grind (arith, nat_tests, between)
+
+  -- as much of it as is held
+  abbrev held : List ℕ
+  held = take 1_048_577 line
+
+-- what is held of a line that has a number is all of it
+module _ (line : List ℕ) (n : ℕ) where
+  held_is : count_of (held line) ≡ Some n → held line ≡ line
+  held_is is = take_all 1_048_577 line (omega (arith, counted_short (held line) n is, length-take 1_048_577 line))
+
+  pub held_counted : count_of (held line) ≡ Some n → count_of line ≡ Some n
+  held_counted is = subst (λ (bytes : List ℕ). count_of bytes ≡ Some n) (held_is is) is
+
+  pub line_counted : count_of line ≡ Some n → count_of (held line) ≡ Some n
+  line_counted is =
+      ap count_of (take_all 1_048_577 line (omega (arith, counted_short line n is))) ∙ is
+
+same_count : (some n m : ℕ) (found : Option ℕ) → found ≡ Some n → found ≡ Some m → n ≡ m
+same_count some n m found one two = ap (λ (o : Option ℕ). unwrap_or o some) (sym one ∙ two)
+
+-- ---- frames that begin with a line
+
+module _ (line : List ℕ) (is : IsLine line) where
+  same_line : (digits request more : List ℕ) → IsLine digits → digits ++ 10 ∷ request ≡ line ++ 10 ∷ more → digits ≡ line
+  same_line digits request more are same =
+      ap first_of (sym (lines-line digits request are) ∙ ap lines_of same ∙ lines-line line more is)
+
+  begins_none : ((n : ℕ) → count_of line ≡ Some n → n ≤ 268_435_456 → ⊥) → BeginsNoFrame (line ++ 10 ∷ [])
+  begins_none none request frame more framed same =
+      let digits = framed.digits in
+      let joined : digits ++ 10 ∷ request ≡ line ++ 10 ∷ more = sym framed.is ∙ same ∙ append_assoc line (10 ∷ []) more in
+      let one = same_line digits request more (counted_line digits (length request) framed.counts) joined in
+      none (length request) (ap count_of (sym one) ∙ framed.counts) framed.few
+
+  pub no_number : count_of (held line) ≡ None → BeginsNoFrame (line ++ 10 ∷ [])
+  no_number none = begins_none (λ n counts few. none-some n (sym none ∙ line_counted line n counts))
+
+  pub too_large : (count : ℕ) → count_of (held line) ≡ Some count → 268_435_456 < count → BeginsNoFrame (line ++ 10 ∷ [])
+  too_large count counts large = begins_none (λ n so few.
+      let same : count ≡ n = same_count 0 count n (count_of line) (held_counted line count counts) so in omega (arith, same, few, large))
+
+  -- the input ends in it
+  pub cut_line : (request : List ℕ) → IsFrame request line → ⊥
+  cut_line request framed =
+      let digits = framed.digits in
+      let behind = subst (All (λ byte. byte ≢ 10)) (ap (drop (length digits)) framed.is ∙ drop-append_seam digits (10 ∷ request))
+      (All-drop (λ byte. byte ≢ 10) (length digits) line is) in
+      All-head (λ byte. byte ≢ 10) 10 request behind refl
+
+  -- the input ends behind it, and fewer bytes than it says
+  pub cut_request : (count : ℕ) (more : List ℕ) → count_of line ≡ Some count → length more < count → (request : List ℕ)
+      → IsFrame request ((line ++ 10 ∷ []) ++ more) → ⊥
+  cut_request count more counts few request framed =
+      let digits = framed.digits in
+      let joined : digits ++ 10 ∷ request ≡ line ++ 10 ∷ more = sym framed.is ∙ append_assoc line (10 ∷ []) more in
+      let one = same_line digits request more (counted_line digits (length request) framed.counts) joined in
+      let same : count ≡ length request = same_count 0 count (length request) (count_of line) counts (ap count_of (sym one) ∙ framed.counts) in
+      omega (
+        arith,
+        same,
+        few,
+        ap (λ (bytes : List ℕ). length bytes) joined,
+        ap (λ (bytes : List ℕ). length bytes) one,
+        length-append digits (10 ∷ request),
+        length-append line (10 ∷ more),
+      )
+
+  -- as many as it says
+  pub frame_read : (count : ℕ) (request : List ℕ) → count_of line ≡ Some count → count ≤ 268_435_456 → length request ≡ count
+      → IsFrame request ((line ++ 10 ∷ []) ++ request)
+  frame_read count request counts few long = record {
+    digits = line;
+    counts = counts ∙ ap (λ (n : ℕ). Some n) (sym long);
+    few = omega (arith, few, long);
+    is = append_assoc line (10 ∷ []) request;
+  }
+
+  -- what it says is no number of bytes
+  pub other_read : (a b : Option (List ℕ)) (why : FrameFault) → IsNotCounted (held line) why → Consumes a b (line ++ 10 ∷ [])
+      → StopsReading a b why
+  other_read a b NoNumber none reads = record { some = line ++ 10 ∷ []; reads = reads; none = no_number none }
+  other_read a b TooLarge (count, counts, large) reads =
+      record { some = line ++ 10 ∷ []; reads = reads; none = too_large count counts large }
+  other_read a b Cut none reads = absurd none
+  other_read a b (Talk why) none reads = absurd none
+
+-- ---- the line before a request, as it was read
+
+-- a number is not none
+pub some_are : (n m : ℕ) → n ≡ m → (n == 0) ≡ false → 0 < m
+some_are zero m same is = absurd (true≢false is)
+some_are (suc n) m same is = omega (arith, same)
+
+module _ (a b : Option (List ℕ)) (old new : List ℕ) where
+  -- the input had ended
+  pub reads_nothing : Takes a b 1_048_577 seen.End old new → length new ≡ 0 → ReadsNothing a b
+  reads_nothing takes none =
+      let few : length takes.line ≡ 0 = omega (
+        arith,
+        none,
+        ap (λ (bytes : List ℕ). length bytes) takes.grows,
+        length-append old (held takes.line),
+        length-take 1_048_577 takes.line,
+      ) in
+      record {
+        reads = subst (λ (bytes : List ℕ). Consumes a b (bytes ++ [])) (nil_from_length takes.line few) takes.consumes;
+        ends = takes.ends;
+      }
+
+  -- the input has ended in it
+  pub reads_cut_line : Takes a b 1_048_577 seen.End old new → length old ≡ 0 → 0 < length new → ReadsPartly a b
+  reads_cut_line takes first some = record {
+    some = takes.line;
+    some_are = λ (none : takes.line ≡ []). omega (
+      arith,
+      first,
+      some,
+      ap (λ (bytes : List ℕ). length bytes) none,
+      ap (λ (bytes : List ℕ). length bytes) takes.grows,
+      length-append old (held takes.line),
+      length-take 1_048_577 takes.line,
+    );
+    reads = subst (Consumes a b) (append-nil takes.line) takes.consumes;
+    none = cut_line takes.line takes.is_line;
+    ends = takes.ends;
+  }
+
+module _ (a b : Option (List ℕ)) (old new : List ℕ) (takes : Takes a b 1_048_577 seen.Line old new) (first : old ≡ []) where
+  -- what is held of it
+  new_is : new ≡ held takes.line
+  new_is = takes.grows ∙ ap (λ (bytes : List ℕ). bytes ++ held takes.line) first
+
+  -- it is no number of bytes
+  pub reads_other : (why : FrameFault) → IsNotCounted new why → StopsReading a b why
+  reads_other why none =
+      other_read takes.line takes.is_line a b why (subst (λ (bytes : List ℕ). IsNotCounted bytes why) new_is none) takes.consumes
+
+  module _ (c : Option (List ℕ)) (count : ℕ) (request : List ℕ) (counted : IsCounted new count) where
+    counts : count_of takes.line ≡ Some count
+    counts = held_counted takes.line count (subst (λ (bytes : List ℕ). count_of bytes ≡ Some count) new_is counted.0)
+
+    abbrev bytes : List ℕ
+    bytes = (takes.line ++ 10 ∷ []) ++ request
+
+    -- fewer bytes than it says
+    pub reads_cut_request : ReadsBytes b c count false request → ReadsPartly a c
+    reads_cut_request (reads, few, ends) = record {
+      some = bytes;
+      some_are = λ (none : bytes ≡ []). omega (
+        arith,
+        ap (λ (bytes : List ℕ). length bytes) none,
+        length-append (takes.line ++ 10 ∷ []) request,
+        length-append takes.line (10 ∷ []),
+      );
+      reads = Consumes-trans a b c (takes.line ++ 10 ∷ []) request takes.consumes reads;
+      none = cut_request takes.line takes.is_line count request counts few;
+      ends = ends_behind a b c (takes.line ++ 10 ∷ []) takes.consumes ends;
+    }
+
+    -- as many as it says
+    pub reads_frame : ReadsBytes b c count true request → ReadsFrame a c request
+    reads_frame (reads, long) = record {
+      frame = bytes;
+      is = frame_read takes.line takes.is_line count request counts counted.1 long;
+      reads = Consumes-trans a b c (takes.line ++ 10 ∷ []) request takes.consumes reads;
+    }
+
+-- ---- so many bytes
+
+module _ (a b c : Option (List ℕ)) (count : ℕ) (old new : List ℕ) where
+  pub more_read : (read : ℕ) → read ≡ length old → Consumes a b old × (length old ≤ count) → ReadsMore b c (count - read) true old new
+      → Consumes a c new × (length new ≤ count)
+  more_read read is (first, fits) (more, reads, grows, few) = (
+    subst (Consumes a c) (sym grows) (Consumes-trans a b c old more first reads),
+    omega (arith, is, fits, few, ap (λ (bytes : List ℕ). length bytes) grows, length-append old more),
+  )
+
+  pub none_more : (room : ℕ) → Consumes a b old × (length old ≤ count) → length old < count → ReadsMore b c room false old new
+      → ReadsBytes a c count false new
+  none_more room (first, fits) few (reads, same, ends) = (
+    subst (Consumes a c) (append-nil old ∙ sym same) (Consumes-trans a b c old [] first reads),
+    omega (arith, few, ap (λ (bytes : List ℕ). length bytes) same),
+    ends_behind a b c old first ends,
+  )
+
+-- ---- what is written
+
+module _ (a b : Option (List ℕ)) (text rest : List ℕ) where
+  pub fails_first : AppendsSome a b text → AppendsSome a b (text ++ rest)
+  fails_first (done, left, is, appends) =
+      (done, left ++ rest, ap (λ (bytes : List ℕ). bytes ++ rest) is ∙ append_assoc done left rest, appends)
+
+module _ (a b c : Option (List ℕ)) (front text : List ℕ) where
+  pub fails_behind : Appends a b front → AppendsSome b c text → AppendsSome a c (front ++ text)
+  fails_behind first (done, left, is, appends) = (
+    front ++ done,
+    left,
+    ap (λ (bytes : List ℕ). front ++ bytes) is ∙ sym (append_assoc front done left),
+    Appends-trans a b c front done first appends,
+  )
+
+-- of the number of bytes, the line end and the bytes one can't be written
+module _ (why : TalkFault) (digits answer text : List ℕ) (is : digits ++ 10 ∷ answer ≡ text) where
+  pub digits_fail : (a b : Option (List ℕ)) → IsWriting why × AppendsSome a b digits → IsWriting why × AppendsSome a b text
+  digits_fail a b (fails, some) = (fails, subst (AppendsSome a b) is (fails_first a b digits (10 ∷ answer) some))
+
+  pub line_end_fails : (a b c : Option (List ℕ)) → Appends a b digits → IsWriting why × AppendsSome b c (10 ∷ [])
+      → IsWriting why × AppendsSome a c text
+  line_end_fails a b c first (fails, some) =
+      (fails, subst (AppendsSome a c) is (fails_behind a b c digits (10 ∷ answer) first (fails_first b c (10 ∷ []) answer some)))
+
+  pub bytes_fail : (a b c d : Option (List ℕ)) → Appends a b digits → Appends b c (10 ∷ []) → IsWriting why × AppendsSome c d answer
+      → IsWriting why × AppendsSome a d text
+  bytes_fail a b c d first second (fails, some) =
+      (fails, subst (AppendsSome a d) is (fails_behind a b d digits (10 ∷ answer) first (fails_behind b c d (10 ∷ []) answer second some)))
+
+-- all is written, and can't be flushed
+pub flush_fails : (digits answer text : List ℕ) → digits ++ 10 ∷ answer ≡ text → (a b c d e : Option (List ℕ)) → Appends a b digits
+    → Appends b c (10 ∷ []) → Appends c d answer → Keeps d e → AppendsSome a e text
+flush_fails digits answer text is a b c d e first second third keeps = (
+  text,
+  [],
+  sym (append-nil text),
+  Appends-kept a d e text (subst (Appends a d) is
+      (Appends-trans a b d digits (10 ∷ answer) first (Appends-trans b c d (10 ∷ []) answer second third))) keeps,
+)
+
+-- ---- what serving comes to
+
+module _ (a b old new : Option (List ℕ)) (before after : Entries) where
+  pub reading_stops : (why : FrameFault) → StopsReading a b why → Keeps old new → after ≡ before → Serves a b old new before (Err why) after
+  reading_stops NoNumber stops keeps same = record { some = stops.some; reads = stops.reads; none = stops.none; keeps = keeps; same = same }
+  reading_stops TooLarge stops keeps same = record { some = stops.some; reads = stops.reads; none = stops.none; keeps = keeps; same = same }
+  reading_stops Cut stops keeps same = record {
+    some = stops.some;
+    some_are = stops.some_are;
+    reads = stops.reads;
+    none = stops.none;
+    ends = stops.ends;
+    keeps = keeps;
+    same = same;
+  }
+  reading_stops (Talk Memory) stops keeps same = inl (keeps, same)
+  reading_stops (Talk (Read error)) stops keeps same = inl (keeps, same)
+  reading_stops (Talk (Write error)) stops keeps same = absurd stops
+  reading_stops (Talk Internal) stops keeps same = absurd stops
+
+  pub answering_stops : (why : TalkFault) → IsNotWriting why → AnswersNot a b old new before after
+      → Serves a b old new before (Err (Talk why)) after
+  answering_stops Memory is stops = inr stops
+  answering_stops (Read error) is stops = inr stops
+  answering_stops (Write error) is stops = absurd is
+  answering_stops Internal is stops = inr stops
+
+  pub writing_stops : (why : TalkFault) → IsWriting why → WritesNot a b old new before after
+      → Serves a b old new before (Err (Talk why)) after
+  writing_stops Memory is stops = absurd is
+  writing_stops (Read error) is stops = absurd is
+  writing_stops (Write error) is stops = stops
+  writing_stops Internal is stops = absurd is

@@ -1,0 +1,141 @@
+-- Requests in frames: each stands behind a line with the number of its bytes, and so does its answer.
+use Rattle.std.specs.Prelude.{◌≡◌, ◌≢◌, ◌≤◌, ◌⊎◌, ℕ, Bool, true, false, List, [], ◌∷◌, ◌++◌, length, Option, OnSome, Some, Result, Ok, Err, codes}
+use Rattle.std.specs.Fmt.{decimal}
+use Rattle.std.specs.List.{flat_map}
+use Rattle.std.specs.Io.KnownBytes.{Appends, Consumes, IsAtEnd, Keeps}
+use Rattle.camp_base.specs.Signs.{newline}
+use Rattle.camp_script.specs.Words.{count_of}
+use Rattle.camp_talk.specs.Entries.{Entries}
+use Rattle.camp_talk.specs.Faults.{fault_status, fault_words}
+use Rattle.camp_talk.specs.Requests.{AnswersRequest, AnswersSome}
+use Rattle.camp_talk.specs.Talks.{AppendsSome}
+use Rattle.camp_talk.specs.declared.frames.FrameFault.{FrameFault}
+use Rattle.camp_talk.specs.declared.frames.FrameFault.TheVariants.{Cut, NoNumber, Talk, TooLarge}
+use Rattle.camp_talk.specs.declared.faults.TalkFault.TheVariants.{Write}
+
+-- bytes of a request at most
+abbrev pub most_bytes : ℕ
+most_bytes = 268_435_456
+
+-- bytes are the frame of a request: its number of bytes in 1 to 10 digits, a line end, and then the request
+pub record IsFrame (request frame : List ℕ) : Type 0 where
+  pub digits : List ℕ
+  pub counts : count_of digits ≡ Some (length request)
+  pub few : length request ≤ most_bytes
+  pub is : frame ≡ digits ++ newline ∷ request
+
+-- the frame of an answer
+abbrev pub framed : List ℕ → List ℕ
+framed answer = decimal (length answer) ++ newline ∷ answer
+
+-- no frame begins with these bytes
+abbrev pub BeginsNoFrame : List ℕ → Type 0
+BeginsNoFrame bytes = (request frame more : List ℕ) → IsFrame request frame → frame ≢ bytes ++ more
+
+-- a request, its frame, and its answer
+pub record Service : Type 0 where
+  pub request : List ℕ
+  pub frame : List ℕ
+  pub answer : List ℕ
+
+-- by what a reader had and has left, and what a writer held and holds, where that is known
+module _ (remaining rest old new : Option (List ℕ)) where
+  -- the frame of a request was read, no more and no less, and that of its answer was written, no more and no less
+  pub record ServesOne (before after : Entries) : Type 0 where
+    pub service : Service
+    pub is : IsFrame service.request service.frame
+    pub reads : Consumes remaining rest service.frame
+    pub answers : AnswersRequest before service.request service.answer after
+    pub writes : Appends old new (framed service.answer)
+
+  -- the input has ended behind a request
+  pub record ServesNoMore (before after : Entries) : Type 0 where
+    pub reads : Consumes remaining rest []
+    pub ends : OnSome remaining (IsAtEnd rest)
+    pub keeps : Keeps old new
+    pub same : after ≡ before
+
+  -- what was read begins no frame
+  pub record ReadsNoFrame (before after : Entries) : Type 0 where
+    pub some : List ℕ
+    pub reads : Consumes remaining rest some
+    pub none : BeginsNoFrame some
+    pub keeps : Keeps old new
+    pub same : after ≡ before
+
+  -- the input has ended behind some bytes that are no whole frame
+  pub record ReadsCut (before after : Entries) : Type 0 where
+    pub some : List ℕ
+    pub some_are : some ≢ []
+    pub reads : Consumes remaining rest some
+    pub none : (request : List ℕ) → IsFrame request some → ⊥
+    pub ends : OnSome remaining (IsAtEnd rest)
+    pub keeps : Keeps old new
+    pub same : after ≡ before
+
+  -- the frame of a request was read, and of its commands only some were answered
+  pub record AnswersNot (before after : Entries) : Type 0 where
+    pub service : Service
+    pub is : IsFrame service.request service.frame
+    pub reads : Consumes remaining rest service.frame
+    pub answers : AnswersSome before service.request service.answer after
+    pub keeps : Keeps old new
+
+  -- a request was read and answered, and a front of the frame of its answer was written
+  pub record WritesNot (before after : Entries) : Type 0 where
+    pub service : Service
+    pub is : IsFrame service.request service.frame
+    pub reads : Consumes remaining rest service.frame
+    pub answers : AnswersRequest before service.request service.answer after
+    pub writes : AppendsSome old new (framed service.answer)
+
+  -- one request is served. Ok: whether there may be more, or else the input has ended. NoNumber or TooLarge: no frame begins
+  -- so. Cut: the input has ended inside one. Any other fault: the request could not be read, or not be answered whole, and
+  -- nothing was written; or its answer could not be written.
+  abbrev pub Serves : Entries → Result Bool FrameFault → Entries → Type 0
+  Serves before (Ok true) after = ServesOne before after
+  Serves before (Ok false) after = ServesNoMore before after
+  Serves before (Err NoNumber) after = ReadsNoFrame before after
+  Serves before (Err TooLarge) after = ReadsNoFrame before after
+  Serves before (Err Cut) after = ReadsCut before after
+  Serves before (Err (Talk (Write error))) after = WritesNot before after
+  Serves before (Err (Talk other)) after = (Keeps old new × (after ≡ before)) ⊎ AnswersNot before after
+
+-- requests are answered one after the other, from these accepted calls
+abbrev pub ServedInTurn : Entries → List Service → Entries → Type 0
+ServedInTurn first [] last = first ≡ last
+ServedInTurn first (service ∷ others) last =
+    (next : Entries) × IsFrame service.request service.frame × AnswersRequest first service.request service.answer next
+    × ServedInTurn next others last
+
+-- frames of requests were read, no more and no less, and the frames of their answers were written, no more and no less:
+-- the n-th answer is that of the n-th request, after the requests before it
+pub record ServesInTurn (remaining rest old new : Option (List ℕ)) (first last : Entries) : Type 0 where
+  pub services : List Service
+  pub follow : ServedInTurn first services last
+  pub reads : Consumes remaining rest (flat_map (λ service. service.frame) services)
+  pub writes : Appends old new (flat_map (λ service. framed service.answer) services)
+
+-- where requests are served: what a reader has left, what a writer holds, and the accepted calls
+pub record Counter : Type 0 where
+  pub left : Option (List ℕ)
+  pub held : Option (List ℕ)
+  pub history : Entries
+
+-- one request is served, from one place to another
+abbrev pub ServesAt : Counter → Result Bool FrameFault → Counter → Type 0
+ServesAt from answer to = Serves from.left to.left from.held to.held from.history answer to.history
+
+-- the words that tell a fault
+abbrev pub frame_words : FrameFault → List ℕ
+frame_words NoNumber = codes "the line before a request is no number of 1 to 10 digits"
+frame_words TooLarge = codes "a request has more than 268435456 bytes"
+frame_words Cut = codes "the input ends inside a request"
+frame_words (Talk fault) = fault_words fault
+
+-- the exit status that tells it
+abbrev pub frame_status : FrameFault → ℕ
+frame_status NoNumber = 1
+frame_status TooLarge = 1
+frame_status Cut = 1
+frame_status (Talk fault) = fault_status fault

@@ -1,0 +1,63 @@
+-- How far the frame of a request is read.
+use Rattle.std.specs.Prelude.{◌≡◌, ◌≢◌, ◌<◌, ◌≤◌, ℕ, Bool, true, false, List, [], ◌++◌, length, Option, None, Some}
+use Rattle.std.specs.Io.KnownBytes.{Consumes}
+use Rattle.camp_script.specs.Words.{count_of}
+use Rattle.camp_talk.specs.Frames.{BeginsNoFrame, IsFrame, most_bytes}
+use Rattle.camp_talk.specs.Inside.Parts.{Ends, IsReading}
+use Rattle.camp_talk.specs.declared.frames.FrameFault.{FrameFault}
+use Rattle.camp_talk.specs.declared.frames.FrameFault.TheVariants.{Cut, NoNumber, Talk, TooLarge}
+
+-- a line says that a request has so many bytes
+abbrev pub IsCounted : List ℕ → ℕ → Type 0
+IsCounted line count = (count_of line ≡ Some count) × (count ≤ most_bytes)
+
+-- a line says no number of bytes, or of too many
+abbrev pub IsNotCounted : List ℕ → FrameFault → Type 0
+IsNotCounted line NoNumber = count_of line ≡ None
+IsNotCounted line TooLarge = (count : ℕ) × (count_of line ≡ Some count) × (most_bytes < count)
+IsNotCounted line Cut = ⊥
+IsNotCounted line (Talk fault) = ⊥
+
+module _ (remaining rest : Option (List ℕ)) where
+  -- some bytes were read behind others, as far as there is room; or the input has ended
+  abbrev pub ReadsMore : ℕ → Bool → List ℕ → List ℕ → Type 0
+  ReadsMore room true old new =
+      (more : List ℕ) × Consumes remaining rest more × (new ≡ old ++ more) × (length more ≤ room)
+  ReadsMore room false old new = Consumes remaining rest [] × (new ≡ old) × Ends remaining rest
+
+  -- bytes were read, as many as were wanted; or fewer, and the input has ended
+  abbrev pub ReadsBytes : ℕ → Bool → List ℕ → Type 0
+  ReadsBytes count true bytes = Consumes remaining rest bytes × (length bytes ≡ count)
+  ReadsBytes count false bytes = Consumes remaining rest bytes × (length bytes < count) × Ends remaining rest
+
+  -- the frame of a request was read
+  pub record ReadsFrame (request : List ℕ) : Type 0 where
+    pub frame : List ℕ
+    pub is : IsFrame request frame
+    pub reads : Consumes remaining rest frame
+
+  -- the input had ended
+  pub record ReadsNothing : Type 0 where
+    pub reads : Consumes remaining rest []
+    pub ends : Ends remaining rest
+
+  -- what was read begins no frame
+  pub record ReadsOther : Type 0 where
+    pub some : List ℕ
+    pub reads : Consumes remaining rest some
+    pub none : BeginsNoFrame some
+
+  -- the input has ended behind some bytes that are no whole frame
+  pub record ReadsPartly : Type 0 where
+    pub some : List ℕ
+    pub some_are : some ≢ []
+    pub reads : Consumes remaining rest some
+    pub none : (request : List ℕ) → IsFrame request some → ⊥
+    pub ends : Ends remaining rest
+
+  -- no frame could be read
+  abbrev pub StopsReading : FrameFault → Type 0
+  StopsReading NoNumber = ReadsOther
+  StopsReading TooLarge = ReadsOther
+  StopsReading Cut = ReadsPartly
+  StopsReading (Talk why) = IsReading why

@@ -1,0 +1,43 @@
+-- What a request is answered: its bytes are a conversation of their own.
+use Rattle.std.specs.Prelude.{◌≡◌, ◌⊎◌, ℕ, List, [], ◌++◌}
+use Rattle.std.specs.List.{flat_map}
+use Rattle.camp_talk.specs.Answers.{Answers, Standing}
+use Rattle.camp_talk.specs.Cutting.{IsLeft}
+use Rattle.camp_talk.specs.Entries.{Entries}
+use Rattle.camp_talk.specs.Talks.{Exchange, Follow}
+
+-- a request is commands, one behind another, and what its end leaves of a last one; the answer is that of each, one behind
+-- another. It begins with these accepted calls, and these are there behind it. Lines count from its beginning.
+pub record AnswersRequest (history : Entries) (request answer : List ℕ) (now : Entries) : Type 0 where
+  pub said : List Exchange
+  pub last : Exchange
+  pub middle : Standing
+  pub after : Standing
+  pub follow : Follow (record { history = history; lines = 0 }) said middle
+  pub is : IsLeft last.command
+  pub answers : Answers middle last.command last.answer after
+  pub same : now ≡ after.history
+  pub asks : request ≡ flat_map (λ exchange. exchange.command) said ++ last.command
+  pub tells : answer ≡ flat_map (λ exchange. exchange.answer) said ++ last.answer
+
+-- the command that stands next in a request was asked, and a front of its answer is there
+pub record AsksOneMore (middle : Standing) (rest front : List ℕ) (now : Entries) : Type 0 where
+  pub last : Exchange
+  pub behind : Standing
+  pub answers : Answers middle last.command last.answer behind
+  pub same : now ≡ behind.history
+  pub more : List ℕ
+  pub asks : rest ≡ last.command ++ more
+  pub unsaid : List ℕ
+  pub tells : last.answer ≡ front ++ unsaid
+
+-- of a request some commands were answered, one behind another, and then maybe one more was asked
+pub record AnswersSome (history : Entries) (request answer : List ℕ) (now : Entries) : Type 0 where
+  pub said : List Exchange
+  pub middle : Standing
+  pub follow : Follow (record { history = history; lines = 0 }) said middle
+  pub rest : List ℕ
+  pub asks : request ≡ flat_map (λ exchange. exchange.command) said ++ rest
+  pub front : List ℕ
+  pub tells : answer ≡ flat_map (λ exchange. exchange.answer) said ++ front
+  pub leaves : ((now ≡ middle.history) × (front ≡ [])) ⊎ AsksOneMore middle rest front now

@@ -1,0 +1,78 @@
+//! Turns that are taken one after the other.
+ghost use Rattle.std.specs.Prelude.{◌≡◌, ◌-◌, ◌^◌, ◌<◌, Bool, IfOk, Result, true, ℕ};
+ghost use Rattle.camp_talk.specs.Dialogues.{TakesTurns};
+ghost use Rattle.camp_talk.specs.Talks.{Turns};
+
+use crate::TalkFault;
+use crate::talks::turn;
+use camp_repo::{Book, State};
+use std::alloc::Global;
+use std::io::{BufRead, Write};
+
+/// What is done turn by turn.
+pub trait Dialogue {
+    /// Why it can't go on.
+    type Fault;
+
+    // What a turn comes to: from where it begins, by its answer, to where it ends.
+    ghost comes_to: { Self → Result Bool Self.Fault → Self → Type 0 };
+
+    // How many more turns there may be at most.
+    ghost left: { Self → ℕ };
+
+    /// Takes one turn. Whether there may be more.
+    fn turn(&mut self) -> Result<bool, Self::Fault>
+        ensures turns { comes_to self.old result self.new }
+        ensures fewer { IfOk result (λ more. more ≡ true → left self.new < left self.old) };
+}
+
+/// Takes turns, one after the other, until there is no more, or one can't be taken.
+pub fn talk<D: Dialogue>(dialogue: &mut D) -> Result<(), D::Fault>
+    ensures talks { TakesTurns D.comes_to dialogue.old result dialogue.new }
+{
+    while dialogue.turn()? {}
+    Ok(())
+}
+
+/// A conversation: the commands of a reader are asked of a book at seat 0, and their answers go to a writer.
+#[derive(Drop)]
+pub struct Conversation<R, W> {
+    alloc: Global,
+    book: Book<State>,
+    /// How many lines were read.
+    lines: u64,
+    reader: R,
+    writer: W,
+}
+
+impl<R: BufRead, W: Write> Conversation<R, W> {
+    /// Before the first command.
+    pub fn new(alloc: Global, book: Book<State>, reader: R, writer: W) -> Conversation<R, W> {
+        Conversation {
+            alloc,
+            book,
+            lines: 0,
+            reader,
+            writer,
+        }
+    }
+}
+
+impl<R: BufRead, W: Write> Dialogue for Conversation<R, W> {
+    type Fault = TalkFault;
+
+    ghost comes_to = { λ old result new. Turns (R.remaining old.reader) (R.remaining new.reader) (W.contents old.writer) (W.contents new.writer)
+        (record { history = old.book; lines = old.lines }) result (record { history = new.book; lines = new.lines }) };
+
+    ghost left = { λ it. 2 ^ 64 - it.lines };
+
+    fn turn(&mut self) -> Result<bool, TalkFault> {
+        turn(
+            self.alloc,
+            &mut self.book,
+            &mut self.lines,
+            &mut self.reader,
+            &mut self.writer,
+        )
+    }
+}

@@ -1,0 +1,106 @@
+//! Requests in frames: each stands behind a line with the number of its bytes, and so does its answer.
+ghost use Rattle.std.specs.Prelude.{◌≡◌, ◌+◌, ◌-◌, ◌^◌, ◌<◌, true, Some, IfOk};
+ghost use Rattle.camp_talk.specs.Frames.{Serves, frame_status, frame_words};
+ghost use Rattle.camp_talk.specs.declared.frames.FrameFault.TheVariants as frame;
+
+use crate::TalkFault;
+use crate::dialogues::Dialogue;
+use crate::serving::serve;
+use camp_repo::{Book, State};
+use std::alloc::Global;
+use std::error::Error;
+use std::fmt;
+use std::io::{BufRead, Write};
+
+/// Why no more requests can be served.
+#[derive(Clone, Copy, Debug)]
+pub enum FrameFault {
+    /// The line before a request is no number of 1 to 10 digits.
+    NoNumber,
+    /// A request has more bytes than one may have.
+    TooLarge,
+    /// The input ended inside a request, or inside the line before it.
+    Cut,
+    /// A request could not be read or not be answered, or its answer not be written.
+    Talk(TalkFault),
+}
+
+impl FrameFault {
+    /// The exit status of a program that ends with it.
+    pub fn status(&self) -> u8
+        ensures exact { result ≡ frame_status self.now }
+    {
+        match self {
+            FrameFault::NoNumber | FrameFault::TooLarge | FrameFault::Cut => 1,
+            FrameFault::Talk(fault) => fault.status(),
+        }
+    }
+}
+
+impl fmt::Display for FrameFault {
+    ghost output = { λ fault. Some (frame_words fault) };
+
+    fn fmt<W: fmt::Write>(&self, f: &mut fmt::Formatter<W>) -> fmt::Result {
+        match self {
+            FrameFault::NoNumber => {
+                f.write_str("the line before a request is no number of 1 to 10 digits")
+            }
+            FrameFault::TooLarge => f.write_str("a request has more than 268435456 bytes"),
+            FrameFault::Cut => f.write_str("the input ends inside a request"),
+            FrameFault::Talk(fault) => write!(f, "{fault}"),
+        }
+    }
+}
+
+impl Error for FrameFault {}
+
+impl From<TalkFault> for FrameFault {
+    ghost from_gives = { λ why fault. fault ≡ frame.Talk why };
+
+    fn from(why: TalkFault) -> FrameFault {
+        FrameFault::Talk(why)
+    }
+}
+
+/// Requests in frames: they are answered over a book, one after the other.
+#[derive(Drop)]
+pub struct FramedConversation<R, W> {
+    alloc: Global,
+    book: Book<State>,
+    /// How many requests were served.
+    served: u64,
+    reader: R,
+    writer: W,
+}
+
+impl<R: BufRead, W: Write> FramedConversation<R, W> {
+    /// Before the first request.
+    pub fn new(alloc: Global, book: Book<State>, reader: R, writer: W) -> FramedConversation<R, W> {
+        FramedConversation {
+            alloc,
+            book,
+            served: 0,
+            reader,
+            writer,
+        }
+    }
+}
+
+impl<R: BufRead, W: Write> Dialogue for FramedConversation<R, W> {
+    type Fault = FrameFault;
+
+    ghost comes_to = { λ old result new. Serves (R.remaining old.reader) (R.remaining new.reader) (W.contents old.writer) (W.contents new.writer)
+        old.book result new.book };
+
+    ghost left = { λ it. 2 ^ 64 - it.served };
+
+    fn turn(&mut self) -> Result<bool, FrameFault> {
+        serve(
+            self.alloc,
+            &mut self.book,
+            &mut self.served,
+            &mut self.reader,
+            &mut self.writer,
+        )
+    }
+}

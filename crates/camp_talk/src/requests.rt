@@ -1,0 +1,46 @@
+//! Requests, each of which is a conversation of its own.
+ghost use Rattle.std.specs.Prelude.{◌≡◌, ◌++◌, List, IfErr, IfOk, ℕ};
+ghost use Rattle.camp_talk.specs.Inside.Said.{IsNotWriting};
+ghost use Rattle.camp_talk.specs.Requests.{AnswersRequest, AnswersSome};
+
+use crate::TalkFault;
+use crate::talks::turn;
+use camp_repo::{Book, State};
+use std::alloc::Global;
+
+/// Appends the answer to a request: what a conversation of just these bytes answers, which begins at the book as
+/// it is. A body or a group that is not ended has its fault; an empty request has an empty answer; several commands
+/// have their answers one behind another. Lines count from the beginning of the request. After a fault the book
+/// holds what the commands before it did; a command whose answer is not there whole may have been done.
+pub fn answer_request(
+    alloc: Global,
+    book: &mut Book<State>,
+    request: &[u8],
+    answer: &mut Vec<u8>,
+) -> Result<(), TalkFault>
+    ensures answers { IfOk result (λ _. (text : List ℕ) × (answer.new.items ≡ answer.old.items ++ text)
+        × AnswersRequest book.old request.now text book.new) }
+    ensures some { IfErr result (λ why. (text : List ℕ) × (answer.new.items ≡ answer.old.items ++ text)
+        × AnswersSome book.old request.now text book.new) }
+    ensures unwritten { IfErr result IsNotWriting }
+{
+    let mut reader = request;
+    let mut lines = 0;
+    loop {
+        match turn(alloc, book, &mut lines, &mut reader, answer) {
+            Ok(true) => {}
+            Ok(false) => return Ok(()),
+            Err(why) => return Err(in_memory(why)),
+        }
+    }
+}
+
+// Why an answer that is written to memory could not be made: where it could not be written, memory ran out.
+fn in_memory(why: TalkFault) -> TalkFault
+    ensures { IsNotWriting result }
+{
+    match why {
+        TalkFault::Write(_) => TalkFault::Memory,
+        other => other,
+    }
+}
