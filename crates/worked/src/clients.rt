@@ -1,17 +1,19 @@
 //! Clients of another object than the repository: numbers, each of which is inserted once. And the words of
-//! the faults of runs.
-use crate::arguments::{End, Four, Three};
+//! the faults of runs, and of the refusals of pulls.
+use crate::arguments::{End, Four, Three, Two};
 use crate::calls::{Asked, CallLine, ask, find};
 use crate::numbers::Numbers;
 use crate::results::{Outcome, joined, none, yes_or_no};
 use crate::tables::Table;
 use crate::wants::Wants;
 use NumberCall::{Insert, Show};
+use camp_base::Name;
+use camp_call::{Refusal, Reply};
 use camp_clients::{LockFault, has_exactly, serial};
 use camp_head::HeadFault;
 use camp_object::{Fault, NumberCall, NumberReply};
 use camp_run::RunFault;
-use camp_script::{ScriptFault, WriteFault};
+use camp_script::{ScriptFault, WriteFault, append_reply};
 use std::alloc::{AllocError, Global};
 use std::io::ErrorKind;
 
@@ -21,12 +23,14 @@ pub(crate) enum ClientCall {
     Serial,
     HasExactly,
     FaultWords,
+    PullRefusals,
 }
 
-const CALLS: [(&[u8], ClientCall); 3] = [
+const CALLS: [(&[u8], ClientCall); 4] = [
     (b"serial", ClientCall::Serial),
     (b"has_exactly", ClientCall::HasExactly),
     (b"run_faults", ClientCall::FaultWords),
+    (b"pull_refusals", ClientCall::PullRefusals),
 ];
 
 impl ClientCall {
@@ -41,6 +45,7 @@ impl ClientCall {
             ClientCall::Serial => ask(asked, wants, Serial),
             ClientCall::HasExactly => ask(asked, wants, HasExactly),
             ClientCall::FaultWords => ask(asked, wants, FaultWords),
+            ClientCall::PullRefusals => ask(asked, wants, PullRefusals),
         }
     }
 }
@@ -85,6 +90,27 @@ impl Asked for FaultWords {
 
     fn answer(self, table: &Table, _on: &End) -> Outcome {
         fault_words(table)
+    }
+}
+
+/// The texts of the refusals of a pull that name two patches, or the first of them.
+#[derive(Clone, Copy)]
+pub(crate) struct PullRefusals;
+
+impl Asked for PullRefusals {
+    type On = Two<Name, Name>;
+
+    fn answer(self, table: &Table, on: &Two<Name, Name>) -> Outcome {
+        let (left, right) = (on.first, on.rest.first);
+        let depends = Refusal::Depends {
+            patch: left,
+            on: right,
+        };
+        let mut text = refusal_text(table.alloc(), depends)?;
+        for refusal in [Refusal::Diverged(left), Refusal::NoMerge { left, right }] {
+            text = joined(text, "; ", &refusal_text(table.alloc(), refusal)?)?;
+        }
+        Ok(text)
     }
 }
 
@@ -154,4 +180,11 @@ fn memory_words(alloc: Global) -> Result<String, AllocError> {
     let (run, lock, head) = (RunFault::Memory, LockFault::Memory, HeadFault::Memory);
     let (call, script) = (Fault::Memory, ScriptFault::Memory);
     format!(in alloc; "{run}, {lock}, {head}, {call}, {script}")
+}
+
+fn refusal_text(alloc: Global, refusal: Refusal) -> Outcome {
+    let mut line = Vec::new(alloc);
+    append_reply(&mut line, &Ok(Reply::Refused(refusal)))?;
+    let words = str::from_utf8(&line).unwrap_or("no text").trim_end();
+    Ok(format!(in alloc; "{words}")?)
 }
