@@ -1,9 +1,9 @@
 //! Tables: each entry with its result below it.
-use crate::calls;
-use crate::calls::CallLine;
 use crate::entries::entry_len;
 use crate::plays::{Stage, is_play};
 use crate::tables::{Table, split_call};
+use crate::values::calls;
+use crate::values::calls::CallLine;
 use crate::wants::{Wants, allocate};
 use bstr::ByteSlice;
 use camp_notation::NotationError;

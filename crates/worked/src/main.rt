@@ -30,44 +30,12 @@
 //! `worked M` tells behind the lines how many more allocations are made before one is refused, M at most.
 #![tactic(auto)]
 
-mod arguments;
-mod bases;
-mod batons;
-mod blocks;
-mod books;
-mod bytes;
-mod calls;
-mod catch_lists;
-mod catches;
-mod clients;
-mod commands;
-mod contexts;
-mod ends;
 mod entries;
-mod faults;
-mod gates;
-mod heads;
 mod lines;
-mod lists;
-mod numbers;
-mod orders;
-mod places;
-mod players;
 mod plays;
-mod primitives;
-mod ranks;
-mod replays;
-mod results;
-mod runs;
-mod same;
 mod schedules;
-mod scripts;
-mod seatings;
-mod sets;
-mod shares;
-mod splits;
 mod tables;
-mod trees;
+mod values;
 mod wants;
 
 use lines::print_tables;

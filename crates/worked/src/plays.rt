@@ -1,13 +1,21 @@
 //! Books and heads: what an entry that is no call asks, of a book, a head, a run or a schedule.
-use crate::blocks::play_block;
-use crate::calls::find;
-use crate::commands::{command_of, number, read_numbers};
+
+pub(crate) mod books;
+pub(crate) mod commands;
+pub(crate) mod faults;
+pub(crate) mod heads;
+pub(crate) mod ranks;
+pub(crate) mod runs;
+pub(crate) mod seatings;
+
 use crate::entries::{SCHEDULE, is_command, is_run};
-use crate::faults::PlayFault;
-use crate::runs::{append_again, joined, run, run_of};
-use crate::seatings::Seating;
+use crate::plays::commands::{command_of, number, read_numbers};
+use crate::plays::faults::PlayFault;
+use crate::plays::runs::{append_again, joined, run, run_of};
+use crate::plays::seatings::Seating;
+use crate::schedules::blocks::play_block;
+use crate::values::calls::find;
 use crate::wants::Wants;
-use crate::{books, heads};
 use bstr::ByteSlice;
 use camp_head::HeadFault;
 use camp_repo::{Book, State};

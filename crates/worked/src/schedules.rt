@@ -2,11 +2,21 @@
 ghost use Rattle.std.specs.Prelude.{◌≤◌, All, IsTrue, count_by};
 ghost use Rattle.camp_repo.specs.Objects.{repository};
 
-use crate::faults::PlayFault;
-use crate::gates::Delays;
-use crate::replays::{Counts, replay};
-use crate::runs::{Way, run_way};
-use crate::scripts::{Lots, append_drawn};
+pub(crate) mod batons;
+pub(crate) mod blocks;
+pub(crate) mod ends;
+pub(crate) mod gates;
+pub(crate) mod orders;
+pub(crate) mod players;
+pub(crate) mod replays;
+pub(crate) mod same;
+pub(crate) mod scripts;
+
+use crate::plays::faults::PlayFault;
+use crate::plays::runs::{Way, run_way};
+use crate::schedules::gates::Delays;
+use crate::schedules::replays::{Counts, replay};
+use crate::schedules::scripts::{Lots, append_drawn};
 use camp_clients::{locked, shared};
 use camp_repo::{Call, State};
 use camp_run::{Gate, run_head};

@@ -1,5 +1,5 @@
 //! Books and heads: a command of a table, with its seat and how often it is asked.
-use crate::faults::PlayFault;
+use crate::plays::faults::PlayFault;
 use bstr::ByteSlice;
 use camp_base::Name;
 use camp_call::{Call, Names};

@@ -1,9 +1,9 @@
 //! Books and heads: a head that is asked commands at its seats.
-use crate::books::{Answer, append_history_again, call_again, pass_over};
-use crate::commands::Command;
-use crate::faults::PlayFault;
-use crate::runs::append_again;
-use crate::seatings::{Seating, Seen};
+use crate::plays::books::{Answer, append_history_again, call_again, pass_over};
+use crate::plays::commands::Command;
+use crate::plays::faults::PlayFault;
+use crate::plays::runs::append_again;
+use crate::plays::seatings::{Seating, Seen};
 use crate::wants::Wants;
 use camp_head::{Fault, HeadFault};
 use camp_repo::Call;

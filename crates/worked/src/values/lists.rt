@@ -1,8 +1,8 @@
 //! Values: the calls on lists of primitives.
-use crate::arguments::{One, Then, Two};
-use crate::calls::{Asked, CallLine, ask, find};
-use crate::results::{Outcome, Shown, both, changed, made, word, yes_or_no};
 use crate::tables::Table;
+use crate::values::arguments::{One, Then, Two};
+use crate::values::calls::{Asked, CallLine, ask, find};
+use crate::values::results::{Outcome, Shown, both, changed, made, word, yes_or_no};
 use crate::wants::Wants;
 use camp_base::Tree;
 use camp_notation::{NotationError, listing, word_text};

@@ -1,7 +1,7 @@
 //! Books and heads: scripts that are run in one thread, over a lock or over a head.
-use crate::calls::find;
-use crate::faults::PlayFault;
-use crate::ranks::ranked;
+use crate::plays::faults::PlayFault;
+use crate::plays::ranks::ranked;
+use crate::values::calls::find;
 use crate::wants::Wants;
 use camp_run::{NoGate, RunFault, run_book, run_head, run_locked};
 use std::alloc::{AllocError, Global};

@@ -1,8 +1,8 @@
 //! Values: the calls on catches.
-use crate::arguments::{One, Two};
-use crate::calls::{Asked, CallLine, ask, find};
-use crate::results::{Outcome, Shown, both, key_text, made, yes_or_no};
 use crate::tables::Table;
+use crate::values::arguments::{One, Two};
+use crate::values::calls::{Asked, CallLine, ask, find};
+use crate::values::results::{Outcome, Shown, both, key_text, made, yes_or_no};
 use crate::wants::Wants;
 use camp_catch::{Catch, commute, merge};
 use camp_ctx::join;

@@ -1,12 +1,20 @@
 //! Values: the calls, looked for among those on one kind of value after the other.
-use crate::arguments::Arguments;
-use crate::results::{Outcome, word};
-use crate::splits::split;
 use crate::tables::Table;
+use crate::values::arguments::Arguments;
+use crate::values::bases::BaseCall;
+use crate::values::bytes::ByteCall;
+use crate::values::catch_lists::CatchListCall;
+use crate::values::catches::CatchCall;
+use crate::values::clients::ClientCall;
+use crate::values::contexts::ContextCall;
+use crate::values::lists::ListCall;
+use crate::values::primitives::PrimitiveCall;
+use crate::values::results::{Outcome, word};
+use crate::values::sets::SetCall;
+use crate::values::shares::ShareCall;
+use crate::values::splits::split;
+use crate::values::trees::TreeCall;
 use crate::wants::Wants;
-use crate::{
-    bases, bytes, catch_lists, catches, clients, contexts, lists, primitives, sets, shares, trees,
-};
 use camp_notation::NotationError;
 
 /// A line that is a call. Its arguments may name what stands in the table.
@@ -19,80 +27,40 @@ pub(crate) struct CallLine<'a> {
 
 /// The result of a call, which is looked for among the calls on one kind of value after the other.
 pub(crate) fn answer(line: CallLine<'_>, wants: &mut Wants) -> Outcome {
-    match bases::BaseCall::of(line.name) {
-        Some(call) => call.ask(line, wants),
-        None => answer_on_bytes(line, wants),
+    if let Some(call) = BaseCall::of(line.name) {
+        return call.ask(line, wants);
     }
-}
-
-fn answer_on_bytes(line: CallLine<'_>, wants: &mut Wants) -> Outcome {
-    match bytes::ByteCall::of(line.name) {
-        Some(call) => call.ask(line, wants),
-        None => answer_on_trees(line, wants),
+    if let Some(call) = ByteCall::of(line.name) {
+        return call.ask(line, wants);
     }
-}
-
-fn answer_on_trees(line: CallLine<'_>, wants: &mut Wants) -> Outcome {
-    match trees::TreeCall::of(line.name) {
-        Some(call) => call.ask(line, wants),
-        None => answer_on_primitives(line, wants),
+    if let Some(call) = TreeCall::of(line.name) {
+        return call.ask(line, wants);
     }
-}
-
-fn answer_on_primitives(line: CallLine<'_>, wants: &mut Wants) -> Outcome {
-    match primitives::PrimitiveCall::of(line.name) {
-        Some(call) => call.ask(line, wants),
-        None => answer_on_lists(line, wants),
+    if let Some(call) = PrimitiveCall::of(line.name) {
+        return call.ask(line, wants);
     }
-}
-
-fn answer_on_lists(line: CallLine<'_>, wants: &mut Wants) -> Outcome {
-    match lists::ListCall::of(line.name) {
-        Some(call) => call.ask(line, wants),
-        None => answer_on_contexts(line, wants),
+    if let Some(call) = ListCall::of(line.name) {
+        return call.ask(line, wants);
     }
-}
-
-fn answer_on_contexts(line: CallLine<'_>, wants: &mut Wants) -> Outcome {
-    match contexts::ContextCall::of(line.name) {
-        Some(call) => call.ask(line, wants),
-        None => answer_on_sets(line, wants),
+    if let Some(call) = ContextCall::of(line.name) {
+        return call.ask(line, wants);
     }
-}
-
-fn answer_on_sets(line: CallLine<'_>, wants: &mut Wants) -> Outcome {
-    match sets::SetCall::of(line.name) {
-        Some(call) => call.ask(line, wants),
-        None => answer_on_catches(line, wants),
+    if let Some(call) = SetCall::of(line.name) {
+        return call.ask(line, wants);
     }
-}
-
-fn answer_on_catches(line: CallLine<'_>, wants: &mut Wants) -> Outcome {
-    match catches::CatchCall::of(line.name) {
-        Some(call) => call.ask(line, wants),
-        None => answer_on_catch_lists(line, wants),
+    if let Some(call) = CatchCall::of(line.name) {
+        return call.ask(line, wants);
     }
-}
-
-fn answer_on_catch_lists(line: CallLine<'_>, wants: &mut Wants) -> Outcome {
-    match catch_lists::CatchListCall::of(line.name) {
-        Some(call) => call.ask(line, wants),
-        None => answer_on_shares(line, wants),
+    if let Some(call) = CatchListCall::of(line.name) {
+        return call.ask(line, wants);
     }
-}
-
-fn answer_on_shares(line: CallLine<'_>, wants: &mut Wants) -> Outcome {
-    match shares::ShareCall::of(line.name) {
-        Some(call) => call.ask(line, wants),
-        None => answer_on_clients(line, wants),
+    if let Some(call) = ShareCall::of(line.name) {
+        return call.ask(line, wants);
     }
-}
-
-fn answer_on_clients(line: CallLine<'_>, wants: &mut Wants) -> Outcome {
-    match clients::ClientCall::of(line.name) {
-        Some(call) => call.ask(line, wants),
-        None => word(line.table, "no such call"),
+    if let Some(call) = ClientCall::of(line.name) {
+        return call.ask(line, wants);
     }
+    word(line.table, "no such call")
 }
 
 /// The call of a name.

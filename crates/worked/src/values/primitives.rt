@@ -1,11 +1,11 @@
 //! Values: the calls on primitives.
-use crate::arguments::{Four, One, Two};
-use crate::calls::{Asked, CallLine, ask, find};
-use crate::catches::Commuted;
-use crate::results::{
+use crate::tables::Table;
+use crate::values::arguments::{Four, One, Two};
+use crate::values::calls::{Asked, CallLine, ask, find};
+use crate::values::catches::Commuted;
+use crate::values::results::{
     Outcome, both, changed, joined, made, none, order, pair_text, show, word, yes_or_no,
 };
-use crate::tables::Table;
 use crate::wants::Wants;
 use camp_base::{Path, Tree};
 use camp_notation::{NotationError, lines_text, word_text};

@@ -1,6 +1,6 @@
 //! A run is replayed from its history and its answers alone.
-use crate::faults::PlayFault;
-use crate::same::is_same_reply;
+use crate::plays::faults::PlayFault;
+use crate::schedules::same::is_same_reply;
 use camp_clients::{Answers, MAX_SECTIONS, has_exactly};
 use camp_repo::{Call, Decided, Fault, Reply, State};
 use std::alloc::Global;

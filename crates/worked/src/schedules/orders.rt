@@ -1,7 +1,7 @@
 //! Every order in which two clients can take their turns.
-use crate::batons::Baton;
-use crate::faults::PlayFault;
-use crate::players::Player;
+use crate::plays::faults::PlayFault;
+use crate::schedules::batons::Baton;
+use crate::schedules::players::Player;
 use crate::schedules::{expect_same, output_over_head};
 use camp_repo::{Book, Call, State};
 use camp_script::{append_history, read_script};

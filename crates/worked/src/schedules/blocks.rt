@@ -1,18 +1,18 @@
 //! Blocks of lines below the word `schedule`: how a script is run, where its seats wait for each other, and
 //! the script.
-use crate::calls::find;
-use crate::commands::{append_line, read_numbers};
-use crate::ends::{Side, play_ends};
-use crate::faults::PlayFault;
-use crate::gates::Delays;
-use crate::orders::play_script;
+use crate::plays::commands::{append_line, read_numbers};
+use crate::plays::faults::PlayFault;
+use crate::plays::runs::append_again;
 use crate::plays::split_word;
-use crate::replays::Counts;
-use crate::runs::append_again;
+use crate::schedules::ends::{Side, play_ends};
+use crate::schedules::gates::Delays;
+use crate::schedules::orders::play_script;
+use crate::schedules::replays::Counts;
+use crate::schedules::scripts::{append_clients, append_race};
 use crate::schedules::{
     counts_of_drawn, counts_over_head, counts_over_lock, output_of_each, output_over_head,
 };
-use crate::scripts::{append_clients, append_race};
+use crate::values::calls::find;
 use crate::wants::Wants;
 use bstr::ByteSlice;
 use std::alloc::Global;

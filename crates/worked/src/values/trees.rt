@@ -1,8 +1,8 @@
 //! Values: the calls on trees.
-use crate::arguments::{Five, One, Two};
-use crate::calls::{Asked, CallLine, ask, find};
-use crate::results::{Outcome, changed, made, none, yes_or_no};
 use crate::tables::Table;
+use crate::values::arguments::{Five, One, Two};
+use crate::values::calls::{Asked, CallLine, ask, find};
+use crate::values::results::{Outcome, changed, made, none, yes_or_no};
 use crate::wants::Wants;
 use camp_base::{Line, Path, Tree};
 use camp_notation::lines_text;

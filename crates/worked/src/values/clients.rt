@@ -1,10 +1,10 @@
 //! Clients of another object than the repository: numbers, each of which is inserted once. And the words of
 //! the faults of runs, and of the refusals of pulls.
-use crate::arguments::{End, Four, Three, Two};
-use crate::calls::{Asked, CallLine, ask, find};
-use crate::numbers::Numbers;
-use crate::results::{Outcome, joined, none, yes_or_no};
 use crate::tables::Table;
+use crate::values::arguments::{End, Four, Three, Two};
+use crate::values::calls::{Asked, CallLine, ask, find};
+use crate::values::numbers::Numbers;
+use crate::values::results::{Outcome, joined, none, yes_or_no};
 use crate::wants::Wants;
 use NumberCall::{Insert, Show};
 use camp_base::Name;

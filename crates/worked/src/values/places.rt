@@ -1,6 +1,6 @@
 //! Shared maps from names to numbers: `{one: 1, two: 2}`.
 
-use crate::numbers::{Number, read_number};
+use crate::values::numbers::{Number, read_number};
 use bstr::ByteSlice;
 use camp_base::Name;
 use camp_notation::NotationError;

@@ -1,8 +1,8 @@
 //! Values: the calls on contexted patches.
-use crate::arguments::{One, Two};
-use crate::calls::{Asked, CallLine, ask, find};
-use crate::results::{Outcome, Shown, both, found_one, key_text, made, yes_or_no};
 use crate::tables::Table;
+use crate::values::arguments::{One, Two};
+use crate::values::calls::{Asked, CallLine, ask, find};
+use crate::values::results::{Outcome, Shown, both, found_one, key_text, made, yes_or_no};
 use crate::wants::Wants;
 use camp_ctx::{Contexted, conflict, merge_behind_common};
 use camp_notation::NotationError;

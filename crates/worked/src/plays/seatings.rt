@@ -2,8 +2,8 @@
 ghost use Rattle.std.specs.Prelude.{◌<◌, All, IfOk, IfSome, length};
 ghost use Rattle.camp_history.specs.Seats.{IsSeatOf};
 
-use crate::books::Answer;
-use crate::faults::PlayFault;
+use crate::plays::books::Answer;
+use crate::plays::faults::PlayFault;
 use crate::wants::Wants;
 use camp_head::{Fault, Head, HeadFault, Seat};
 use camp_repo::Call;

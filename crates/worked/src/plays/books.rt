@@ -1,7 +1,7 @@
 //! Books and heads: a book that is asked commands.
-use crate::commands::Command;
-use crate::faults::PlayFault;
-use crate::same::is_same_state;
+use crate::plays::commands::Command;
+use crate::plays::faults::PlayFault;
+use crate::schedules::same::is_same_state;
 use crate::wants::Wants;
 use camp_repo::{Book, Call, Fault, Reply, State};
 use camp_script::{append_history, append_reply};

@@ -1,6 +1,6 @@
 //! Readers and writers that serve a few bytes a call, are interrupted, and fail at each of their calls.
-use crate::faults::PlayFault;
-use crate::runs::{WAYS, Way, run_way};
+use crate::plays::faults::PlayFault;
+use crate::plays::runs::{WAYS, Way, run_way};
 use crate::schedules::output_of;
 use camp_run::RunFault;
 use std::alloc::Global;

@@ -1,8 +1,8 @@
 //! Values: the calls on sets of contexted patches.
-use crate::arguments::{One, Two};
-use crate::calls::{Asked, CallLine, ask, find};
-use crate::results::{Outcome, Shown, found, made, yes_or_no};
 use crate::tables::Table;
+use crate::values::arguments::{One, Two};
+use crate::values::calls::{Asked, CallLine, ask, find};
+use crate::values::results::{Outcome, Shown, found, made, yes_or_no};
 use crate::wants::Wants;
 use camp_ctx::{Contexted, CtxSet};
 use camp_prim::{Label, Named};

@@ -1,9 +1,9 @@
 //! Which bytes, and how many, names, paths and lines may have.
 
-use crate::arguments::One;
-use crate::calls::{Asked, CallLine, ask, find};
-use crate::results::{Outcome, none, word};
 use crate::tables::Table;
+use crate::values::arguments::One;
+use crate::values::calls::{Asked, CallLine, ask, find};
+use crate::values::results::{Outcome, none, word};
 use crate::wants::Wants;
 use camp_base::{BaseFault, Line, Name, Path};
 use camp_notation::{NotationError, word_text};

@@ -1,12 +1,12 @@
 //! Values: the calls on shared lists and maps.
 ghost use Rattle.std.specs.Prelude.{◌≤◌, ◌<◌, IsTrue, length};
 
-use crate::arguments::{Four, One, Three, Two};
-use crate::calls::{Asked, CallLine, ask, find};
-use crate::numbers::{Number, Numbers};
-use crate::places::Places;
-use crate::results::{Outcome, made, none};
 use crate::tables::Table;
+use crate::values::arguments::{Four, One, Three, Two};
+use crate::values::calls::{Asked, CallLine, ask, find};
+use crate::values::numbers::{Number, Numbers};
+use crate::values::places::Places;
+use crate::values::results::{Outcome, made, none};
 use crate::wants::Wants;
 use camp_base::Name;
 use camp_notation::NotationError;

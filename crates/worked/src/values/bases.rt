@@ -1,8 +1,8 @@
 //! Values: the calls on names, paths, lines and faults.
-use crate::arguments::{End, One, Two};
-use crate::calls::{Asked, CallLine, ask, find};
-use crate::results::{Outcome, fault, order};
 use crate::tables::Table;
+use crate::values::arguments::{End, One, Two};
+use crate::values::calls::{Asked, CallLine, ask, find};
+use crate::values::results::{Outcome, fault, order};
 use crate::wants::Wants;
 use camp_base::{Apply, BaseFault, Line, Name, Path};
 use camp_notation::{NotationError, lines_text, word_text};

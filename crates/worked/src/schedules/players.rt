@@ -1,8 +1,8 @@
 //! What seats are told, worked out without a head: each turn leads from one gate of a seat to its next
 //! one.
-use crate::books::Answer;
-use crate::faults::PlayFault;
-use crate::replays::decided;
+use crate::plays::books::Answer;
+use crate::plays::faults::PlayFault;
+use crate::schedules::replays::decided;
 use camp_repo::{Book, Call, Decided, Fault, State};
 use camp_script::append_reply;
 use std::alloc::Global;

@@ -1,7 +1,7 @@
 //! Values: the arguments of a call, each read from its text and written again.
-use crate::numbers::{Numbers, numbers_text, read_number, read_numbers};
-use crate::places::{Places, places_text, read_places};
 use crate::tables::Table;
+use crate::values::numbers::{Numbers, numbers_text, read_number, read_numbers};
+use crate::values::places::{Places, places_text, read_places};
 use camp_base::{Name, Path, Tree};
 use camp_catch::Catch;
 use camp_ctx::{Contexted, CtxSet};

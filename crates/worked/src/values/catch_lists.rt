@@ -1,8 +1,8 @@
 //! Values: the calls on lists of catches.
-use crate::arguments::{One, Then, Two};
-use crate::calls::{Asked, CallLine, ask, find};
-use crate::results::{Outcome, catch_list_text, joined, key_text};
 use crate::tables::Table;
+use crate::values::arguments::{One, Then, Two};
+use crate::values::calls::{Asked, CallLine, ask, find};
+use crate::values::results::{Outcome, catch_list_text, joined, key_text};
 use crate::wants::Wants;
 use camp_base::Name;
 use camp_catch::{Arranged, Catch, NoMerge, Stuck, Unmade, align, arrange, merge_lists};

@@ -1,7 +1,7 @@
 //! Values: how results are shown, and read back.
-use crate::numbers::{Numbers, numbers_text};
-use crate::places::{Places, places_text};
 use crate::tables::Table;
+use crate::values::numbers::{Numbers, numbers_text};
+use crate::values::places::{Places, places_text};
 use camp_base::{Apply, BaseFault, Tree};
 use camp_catch::Catch;
 use camp_ctx::{Contexted, CtxSet};

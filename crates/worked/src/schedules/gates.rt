@@ -1,8 +1,8 @@
 //! Gates at which seats wait for each other.
-use crate::calls::find;
-use crate::commands::number;
-use crate::faults::PlayFault;
+use crate::plays::commands::number;
+use crate::plays::faults::PlayFault;
 use crate::plays::split_word;
+use crate::values::calls::find;
 use bstr::ByteSlice;
 use camp_run::Gate;
 use std::alloc::Global;
