@@ -37,9 +37,9 @@ so many lines. Alone stand ok NUMBER, refused NUMBER .., no file and these:
   memory                        there was no memory for the command or its answer; nothing has changed
 
 Lines without words and lines whose first word begins with # are not answered. client is no command
-here, and neither is a line of more than 1048576 bytes. Questions are commands, too: needs, held,
-missing, show, annotate, graph, whatif, history and keep. The command help tells how all are written,
-and help COMMAND more about one.
+here, and neither is a line of more than 1048576 bytes. Questions are commands, too: branches, file,
+needs, held, missing, along, show, annotate, open, side, marks, graph, whatif, history and keep. The
+command help tells how all are written, and help COMMAND more about one.
 
 With --frames a request is a line with its number of bytes, in 1 to 10 digits, and then so many bytes,
 268435456 at most. It is answered so, too: by a line with the number of bytes of its answer, and then
