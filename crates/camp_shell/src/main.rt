@@ -6,6 +6,7 @@
 //! is refused, and 3 where memory ran out, or input or output failed; standard error says why.
 #![tactic(auto)]
 
+mod prompts;
 mod stops;
 mod words;
 
@@ -13,8 +14,9 @@ use camp_base::Name;
 use camp_git::export;
 use camp_options::{WordsFault, command_line};
 use camp_talk::{Book, Conversation, FramedConversation, State, TalkFault, load, talk};
+use prompts::Prompted;
 use std::fs::{self, File};
-use std::io::{BufReader, Read};
+use std::io::{BufReader, IsTerminal, Read};
 use std::process::ExitCode;
 use stops::Stop;
 use words::{Form, wish_of};
@@ -47,11 +49,20 @@ fn hold<'a>(rt: &HostRuntime, words: &'a [String]) -> Result<(), Stop<'a>> {
     }
     let reader = buffered(rt, rt.stdin())?;
     let writer = rt.stdout();
-    match wish.form {
+    match form_of(wish.form, rt.stdin().is_terminal() && writer.is_terminal()) {
         Form::Lines => talk(&mut Conversation::new(rt.alloc(), book, reader, writer))?,
+        Form::Prompts => talk(&mut Prompted::new(rt.alloc(), book, reader, rt.stdout(), writer))?,
         Form::Frames => talk(&mut FramedConversation::new(rt.alloc(), book, reader, writer))?,
     }
     Ok(())
+}
+
+// At a terminal lines are asked for by prompts.
+fn form_of(wished: Form, is_terminal: bool) -> Form {
+    match wished {
+        Form::Lines if is_terminal => Form::Prompts,
+        form => form,
+    }
 }
 
 // Writes a branch for git.

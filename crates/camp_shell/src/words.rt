@@ -18,6 +18,8 @@ pub(crate) struct Wish<'a> {
 pub(crate) enum Form {
     /// Line by line.
     Lines,
+    /// Line by line, each asked for by a prompt.
+    Prompts,
     /// In frames, each of which says how many bytes it has.
     Frames,
 }
@@ -45,6 +47,9 @@ With --frames a request is a line with its number of bytes, in 1 to 10 digits, a
 268435456 at most. It is answered so, too: by a line with the number of bytes of its answer, and then
 these. The answer is what a conversation of just these bytes is answered from here on: a body that is not
 ended has its fault, several commands have their answers one behind another, and nothing has none.
+
+With --prompt, and where standard input and output are terminals, camp> stands before each command and
+....> before each line of a body or a group; the command quit ends the conversation.
 
 With --load the commands of these files are asked first, and their answers are not shown. Where one of
 them is answered by fault, refused or memory, nothing more is read: standard error says the file, the
@@ -87,12 +92,19 @@ pub(crate) fn wish_of<'a, S: AsStr>(alloc: Global, words: &'a [S]) -> Result<Wis
         .help(
             "Read requests and write answers in frames: a number of bytes on a line, and then so many",
         );
+    let prompt = Arg::new(alloc, "prompt")
+        .long("prompt")
+        .action(ArgAction::SetTrue)
+        .conflicts_with("frames")?
+        .conflicts_with("export")?
+        .help("Ask for each line with a prompt, as at a terminal");
     let command = Command::new(alloc, "camp_shell")
         .override_usage(USAGE)
         .after_help(REFERENCE)
         .arg(load)?
         .arg(export)?
-        .arg(frames)?;
+        .arg(frames)?
+        .arg(prompt)?;
     let matches = command.try_get_matches_from(words)?;
     let files = match matches.get_strs("load") {
         Some(files) => Vec::from_slice(alloc, files)?,
@@ -101,6 +113,8 @@ pub(crate) fn wish_of<'a, S: AsStr>(alloc: Global, words: &'a [S]) -> Result<Wis
     let export = matches.get_str("export");
     let form = if matches.get_flag("frames") {
         Form::Frames
+    } else if matches.get_flag("prompt") {
+        Form::Prompts
     } else {
         Form::Lines
     };

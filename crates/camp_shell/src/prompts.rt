@@ -1,0 +1,144 @@
+//! A conversation with a person, who is asked for each line by a prompt.
+ghost use Rattle.std.specs.Prelude.{◌-◌, ◌^◌};
+
+use camp_talk::{Book, Dialogue, State, TalkFault, turn};
+use std::alloc::Global;
+use std::io::{self, BufRead, Read, Write};
+
+/// What stands before the first prompt.
+const GREETING: &[u8] =
+    b"camp holds branches of named patches. help tells the commands, help COMMAND more, quit ends.\n";
+
+/// A conversation with prompts.
+#[derive(Drop)]
+pub(crate) struct Prompted<R, W> {
+    alloc: Global,
+    book: Book<State>,
+    /// How many lines were read.
+    lines: u64,
+    reader: Prompting<R, W>,
+    writer: W,
+}
+
+impl<R: BufRead, W: Write> Prompted<R, W> {
+    /// Before the first command. Prompts and answers go to writers of one output.
+    pub(crate) fn new(alloc: Global, book: Book<State>, reader: R, prompts: W, writer: W) -> Self {
+        Prompted {
+            alloc,
+            book,
+            lines: 0,
+            reader: Prompting::new(alloc, reader, prompts),
+            writer,
+        }
+    }
+}
+
+impl<R: BufRead, W: Write> Dialogue for Prompted<R, W> {
+    type Fault = TalkFault;
+
+    ghost comes_to = { λ _ _ _. Unit {0} };
+
+    ghost left = { λ it. 2 ^ 64 - it.lines };
+
+    fn turn(&mut self) -> Result<bool, TalkFault> {
+        self.reader.begin();
+        turn(
+            self.alloc,
+            &mut self.book,
+            &mut self.lines,
+            &mut self.reader,
+            &mut self.writer,
+        )
+    }
+}
+
+/// What is to be read next.
+#[derive(Clone, Copy, Drop)]
+enum Place {
+    /// The first line of a command.
+    Command,
+    /// A further line of a body or a group.
+    Inside,
+    /// Nothing, behind a line without an LF.
+    End,
+}
+
+/// A reader of lines, each of which is asked for by a prompt.
+#[derive(Drop)]
+struct Prompting<R, W> {
+    reader: R,
+    prompts: W,
+    place: Place,
+    /// What is left of the line that was read last, with its LF; without one where the input ends behind it.
+    line: Vec<u8>,
+}
+
+impl<R: BufRead, W: Write> Prompting<R, W> {
+    fn new(alloc: Global, reader: R, prompts: W) -> Self {
+        let mut prompting = Prompting {
+            reader,
+            prompts,
+            place: Place::Command,
+            line: Vec::new(alloc),
+        };
+        prompting.show(GREETING);
+        prompting
+    }
+
+    // A command is to begin.
+    fn begin(&mut self) {
+        self.place = Place::Command;
+    }
+
+    // Shows a text. What can't be shown here is told where the next answer can't be written.
+    fn show(&mut self, text: &[u8]) {
+        if self.prompts.write_all(text).is_ok() {
+            let _ = self.prompts.flush();
+        }
+    }
+
+    // Asks for the next line by a prompt, and reads it. There is none at the end of the input, and at a command `quit`.
+    fn ask_line(&mut self) -> io::Result<()> {
+        match self.place {
+            Place::Command => self.show(b"camp> "),
+            Place::Inside => self.show(b"....> "),
+            Place::End => {}
+        }
+        self.line.clear();
+        if self.reader.read_until(b'\n', &mut self.line)? == 0 {
+            self.show(b"\n");
+        }
+        if matches!(self.place, Place::Command) && self.line.trim_ascii() == b"quit".as_slice() {
+            self.line.clear();
+        }
+        self.place = if self.line.ends_with(b"\n") {
+            Place::Inside
+        } else {
+            Place::End
+        };
+        Ok(())
+    }
+}
+
+impl<R: BufRead, W: Write> Read for Prompting<R, W> {
+    fn read(&mut self, buf: &mut [u8]) -> io::Result<usize> {
+        let mut shown = self.fill_buf()?;
+        let count = shown.read(buf)?;
+        self.consume(count);
+        Ok(count)
+    }
+}
+
+impl<R: BufRead, W: Write> BufRead for Prompting<R, W> {
+    fn fill_buf(&mut self) -> io::Result<&[u8]> {
+        if self.line.is_empty() {
+            self.ask_line()?;
+        }
+        Ok(self.line.as_slice())
+    }
+
+    fn consume(&mut self, amount: usize) {
+        let used = amount.min(self.line.len());
+        self.line.drain(..used);
+    }
+}
