@@ -4,7 +4,8 @@ use Rattle.camp_catch.specs.Arranging.{Align}
 use Rattle.camp_catch.specs.Laws.{keys_of}
 use Rattle.camp_catch.specs.declared.catches.Catch.{Catch}
 
--- the first n catches of `from`, in the order of the first n of `to`, are those
+-- the first n catches of both branches are the same patches in the same state: sorted as in `to`, those of
+-- `from` are those of `to`
 pub record Agree (from to : List Catch) (n : ℕ) : Type 0 where
   pub within : n ≤ length from
   pub within_too : n ≤ length to

@@ -24,7 +24,7 @@ pub(crate) fn tree_after(tree: &Tree, catches: &[Shared<Catch>]) -> Result<Tree,
     Ok(after)
 }
 
-/// The tree that catches led from to this one.
+/// The tree before these catches; `tree` is the one after them.
 pub(crate) fn tree_before(tree: &Tree, catches: &[Shared<Catch>]) -> Result<Tree, AllocError>
     requires led { (before : Files) × AppliesAll (flat_map effect_of catches.now) before tree.now }
     ensures { IfOk result (λ before. AppliesAll (flat_map effect_of catches.now) before tree.now) }

@@ -5,8 +5,8 @@ use camp_base::Name;
 pub enum Blocked {
     /// The patch can't come before `on`, which does not move with it.
     Depends { patch: Name, on: Name },
-    /// The branches have a patch in common that can't come to the front of one of them, or not into
-    /// the order of the other, or is not the same in both.
+    /// The branches share this patch, but not as one: in one branch it can't be moved to the front, or it
+    /// can't be put into the order of the other, or its catch differs.
     Diverged(Name),
     /// Two patches do not merge: one that only the branch has that is pulled into, and a wanted one.
     NoMerge { left: Name, right: Name },

@@ -29,8 +29,8 @@ pub struct Stuck {
 }
 
 /// The catches of the patches whose names are keys of the map, commuted left over the others, and
-/// the others. Blocked by the first of them that can't pass another. A catch that nothing passes and
-/// that passes nothing is shared.
+/// the others. Blocked by the first of them that can't pass another. Catches that don't move are shared
+/// with the old list.
 pub fn arrange<V>(
     alloc: Global,
     list: &[Shared<Catch>],

@@ -11,8 +11,8 @@ use crate::chains::{can_swap, is_chain};
 use crate::orders::is_less;
 use camp_prim::{Label, Named, stay};
 
-/// Whether one look at each two neighbours tells that a list is its own normal order. Where it says no,
-/// the list may still be. It takes no memory.
+/// A quick test by one look at each two neighbours. True: the list is in normal order. False: it may or may
+/// not be. It takes no memory.
 #[tactic(auto, using(crate::proofs::OwnOrders::ascending_is_ordered, crate::proofs::OwnOrders::chain_is_ordered))]
 pub fn is_own_order(items: &[Named]) -> bool
     ensures sound { IsTrue result → Norm items.now items.now }
