@@ -13,6 +13,7 @@ pub mod MergeEffects
 pub mod MergeListSteps
 pub mod MergeSteps
 pub mod MoveSteps
+pub mod NoEffect
 pub mod PartsDetermined
 pub mod PlainArranging
 pub mod PlainFronts

@@ -187,7 +187,7 @@ fn labels_undone(alloc: Global, r: &[Named], ys: &CtxSet) -> Result<Vec<Label>, 
 }
 
 /// Whether no element of a list has an absolute label.
-fn lacks_key(s: &[Named], key: &Key) -> bool
+pub(crate) fn lacks_key(s: &[Named], key: &Key) -> bool
     ensures { IsTrue result ↔ All (λ p. patch_key p ≢ key.now) s.now }
 {
     s.iter().all(|p| !has_key(p, key))

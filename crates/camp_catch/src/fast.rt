@@ -2,10 +2,12 @@
 //! its own.
 //!
 //! - Two plain catches that keep their lines change places, or merge, as they are. So no catch is made
-//!   anew, and none is compared byte by byte with the one before.
+//!   anew. One that is made is not compared with the one before, which takes longer than to keep both.
 //! - A plain catch and a conflictor change places as they are where the plain one is not in the
 //!   conflictor's set, passes its effect as it is, and leaves its conflicts and its identity as they are.
 //!   A plain one comes before a conflictor so where its inverse passes it so, by the square law of swaps.
+//! - Two conflictors without an effect change places as they are where the first is not in the set of the
+//!   second, nor in the context of its identity: what would be added to the sets is empty.
 //! - A plain catch and a conflictor of one state stay as they are where the inverse of the plain one
 //!   passes the conflictor so, and the two do not conflict.
 //! - Of the last catch of a pull the other side is not made: what the branch itself would become beside

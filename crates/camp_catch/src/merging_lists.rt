@@ -8,7 +8,7 @@ ghost use Rattle.camp_catch.specs.Catches.{catch_key};
 ghost use Rattle.camp_catch.specs.declared.catches.Catch.{Catch as AnyCatch};
 
 use crate::fast::{merge_as_they_are, merge_behind_all};
-use crate::moves::{copies, renewed};
+use crate::moves::copies;
 use crate::{Catch, Unmade, merge};
 use camp_prim::Key;
 use camp_share::{Share, Shared};
@@ -79,8 +79,8 @@ fn merge_one(
     let Some((after, beside)) = merge(alloc, j, k)? else {
         return Ok(false);
     };
-    let beside = renewed(alloc, j, beside)?;
-    *k = renewed(alloc, k, after)?;
+    let beside = Shared::new(alloc, beside)?;
+    *k = Shared::new(alloc, after)?;
     *j = beside;
     Ok(true)
 }

@@ -38,24 +38,10 @@ fn exchange(alloc: Global, j: &mut Shared<Catch>, k: &mut Shared<Catch>) -> Resu
     let Some((before, behind)) = commute(alloc, j, k)? else {
         return Ok(false);
     };
-    let behind = renewed(alloc, j, behind)?;
-    *k = renewed(alloc, k, before)?;
+    let behind = Shared::new(alloc, behind)?;
+    *k = Shared::new(alloc, before)?;
     *j = behind;
     Ok(true)
-}
-
-/// A catch that may still be as it was: then the old one is shared.
-pub(crate) fn renewed(
-    alloc: Global,
-    old: &Shared<Catch>,
-    new: Catch,
-) -> Result<Shared<Catch>, AllocError>
-    ensures { IfOk result (λ catch. catch ≡ new) }
-{
-    if old.is_same(&new) {
-        return old.share();
-    }
-    Shared::new(alloc, new)
 }
 
 /// A copy of a list, which shares its catches.

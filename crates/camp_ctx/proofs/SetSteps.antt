@@ -1,4 +1,5 @@
 -- What bodies of sets know at their answers.
+use Rattle.std.proofs.Common.{is_some}
 use Rattle.camp_ctx.proofs.Words.{nil_from_length, ◌≡◌, ℕ, suc, ◌+◌, ◌<◌, ◌≤◌, Bool, true, false, cond, Option, Some, None, List, [], ◌∷◌, length, take, map, refl, sym, ap, ◌∙◌, subst, arith, length-map, take_all, same_Some, none-some, slice_get-map, fold, slice_get, option_map, eq_by_cmp, Equal-is, empty, get, contains_key, insert, remove, entries, entries_sorted, len, get-empty, get-entries, get-insert}
 use Rattle.camp_ctx.proofs.Words.{same_lists, unwrap_or, unwrap_or-slice_get, slice_get_cases, inl, inr, get-remove, same_entries_map, entries-insert, len-entries, len-empty, find, put, find-append, key_cmp, Key, Named, key_total, key_ties, AddsAll, ContextedPatch, ContextedPatches, context_key, only, with_member, AreKeyed, ChangesAt, EachMember}
 use Rattle.camp_ctx.proofs.AddResults.{same_key_of_sum}
@@ -116,6 +117,20 @@ one_more_added r xs sum after i k x y is adds becomes before key =
     ap (find key_cmp key) (take_push es i (k, x) is) ∙ find-append key_cmp key_total (take i es) k x key (not_before key_cmp key_total es i k x is (entries_sorted xs)) in
     let now : get after key ≡ cond test (Some y) (get sum key) = ap (λ m. get m key) becomes ∙ get-insert key_total sum k y key in
     subst (ChangesAt (AddsAll r) (find key_cmp key (take (i + 1) es))) (sym now) (subst (λ w. ChangesAt (AddsAll r) w (cond test (Some y) (get sum key))) (sym was) (changes_choose (AddsAll r) test x y _ _ adds (before key)))
+
+nothing_from : (Change : ContextedPatch → ContextedPatch → Type 0) (now : Option ContextedPatch) → ChangesAt Change None now → now ≡ None
+nothing_from Change None w = refl
+nothing_from Change (Some y) w = absurd w
+
+-- nothing stands yet at the label of the next member
+none_yet : (r : List Named) (xs sum : ContextedPatches) (i : ℕ) (k : Key) (x : ContextedPatch) → slice_get (entries xs) i ≡ Some (k, x) → ((key : Key) → ChangesAt (AddsAll r) (find key_cmp key (take i (entries xs))) (get sum key)) → get sum k ≡ None
+none_yet r xs sum i k x is before =
+    nothing_from (AddsAll r) (get sum k) (subst (λ was. ChangesAt (AddsAll r) was (get sum k)) (not_before key_cmp key_total (entries xs) i k x is (entries_sorted xs)) (before k))
+
+-- so a member that is put there where there is none is put there
+pub one_more_put : (r : List Named) (xs sum after : ContextedPatches) (i : ℕ) (k : Key) (x y : ContextedPatch) → slice_get (entries xs) i ≡ Some (k, x) → AddsAll r x y → after ≡ cond (contains_key sum k) sum (insert sum k y) → ((key : Key) → ChangesAt (AddsAll r) (find key_cmp key (take i (entries xs))) (get sum key)) → (key : Key) → ChangesAt (AddsAll r) (find key_cmp key (take (i + 1) (entries xs))) (get after key)
+one_more_put r xs sum after i k x y is adds becomes before =
+    one_more_added r xs sum after i k x y is adds (becomes ∙ ap (λ o. cond (is_some o) sum (insert sum k y)) (none_yet r xs sum i k x is before)) before
 
 -- no place below the number of entries is empty
 pub none_missing : (xs : ContextedPatches) (i n : ℕ) → n ≡ len xs → i < n → ¬ (None ≡ slice_get (entries xs) i)

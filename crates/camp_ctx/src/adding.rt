@@ -33,6 +33,9 @@ impl Contexted {
     pub fn add_one(a: &Named, x: &Contexted) -> Result<Contexted, AllocError>
         ensures exact { IfOk result (λ y. Adds a.now x.now y) }
     {
+        if x.stays_behind(a) {
+            return x.try_clone();
+        }
         let cancelled = cancelled(a, x)?;
         if let Some(y) = cancelled {
             return Ok(y);

@@ -5,7 +5,7 @@
 //!   cancel with what stands behind them, adding them one by one puts each in front and orders nothing.
 //!   So they are joined to the context at once, and the rest is added one by one.
 //! - What a primitive passes as it is, and what is its own normal order then, stays as it is where the
-//!   primitive is added.
+//!   primitive is added, and is shared.
 //! - A patch without a context, whose inverse passes the whole of another contexted patch as it is, does
 //!   not conflict with it: the two merge with nothing in common. No list is made of it.
 //! - Two patches without a context and with different labels have nothing in common, and each is its own

@@ -132,16 +132,16 @@ impl CtxSet {
         if r.items().is_empty() {
             return set.try_clone();
         }
-        let mut members = SharedMap::new(set.alloc);
+        let mut members = MapBuilder::from_map(&SharedMap::new(set.alloc))?;
         for index in 0..set.members.len() {
             if let Some((key, member)) = set.members.at(index) {
                 let sum = Contexted::add(r, member)?;
-                members = members.inserted(*key, sum)?;
+                members.insert_if_absent(*key, sum)?;
             }
         }
         Ok(CtxSet {
             alloc: set.alloc,
-            members,
+            members: members.into_map()?,
         })
     }
 

@@ -11,7 +11,6 @@ use crate::fast::gaining::Gaining;
 use crate::fast::merge_as_they_are;
 use crate::merging::{conflict_before, merged_effects, seen_behind};
 use crate::merging_lists::no_merge;
-use crate::moves::renewed;
 use crate::seen::{both_behind, joined};
 use crate::{Catch, Conflictor, NoMerge, Unmade, merge};
 use camp_share::{Share, Shared};
@@ -51,7 +50,7 @@ pub(crate) fn merge_behind(
     }
     match behind(alloc, j, k)? {
         None => Ok(None),
-        Some(after) => Ok(Some(renewed(alloc, k, after)?)),
+        Some(after) => Ok(Some(Shared::new(alloc, after)?)),
     }
 }
 

@@ -1,14 +1,15 @@
 //! Catches that change places, or merge, as they are.
-ghost use Rattle.std.specs.Prelude.{◌≡◌, IfOk, IsTrue};
+ghost use Rattle.std.specs.Prelude.{◌≡◌, ◌↔◌, [], IfOk, IsTrue};
 ghost use Rattle.camp_ctx.specs.Adding.{Adds, PassesBy};
 ghost use Rattle.camp_seq.specs.NormalOrder.{Norm};
 ghost use Rattle.camp_seq.specs.Passing.{Passes};
-ghost use Rattle.camp_catch.specs.Commuting.{CommuteCatch, ConflictorPastPlain, PlainPastConflictor};
+ghost use Rattle.camp_catch.specs.Commuting.{CommuteCatch, ConflictorPastPlain, PlainPastConflictor, TwoConflictorsApart};
 ghost use Rattle.camp_catch.specs.Conflictors.{Becomes};
 ghost use Rattle.camp_catch.specs.Merging.{MergeCatch, MergePlainConflictor};
 ghost use Rattle.camp_catch.specs.declared.catches.Catch.{Catch as AnyCatch};
 ghost use Rattle.camp_catch.specs.declared.catches.Catch.TheVariants.{Plain};
 
+use crate::conflictors::lacks_key;
 use crate::merging::conflicts_with;
 use crate::values::inverse;
 use crate::{Catch, Conflictor};
@@ -25,7 +26,7 @@ pub(crate) fn commute_as_they_are(j: &Catch, k: &Catch) -> Result<bool, AllocErr
         (Catch::Plain(a), Catch::Plain(b)) => Ok(stay(a, b)),
         (Catch::Plain(a), Catch::Conflictor(k)) => Ok(passes_as_it_is(a, k)),
         (Catch::Conflictor(j), Catch::Plain(b)) => comes_before_as_it_is(j, b),
-        _ => Ok(false),
+        (Catch::Conflictor(j), Catch::Conflictor(k)) => Ok(pass_without_effect(j, k)),
     }
 }
 
@@ -47,6 +48,25 @@ fn comes_before_as_it_is(j: &Conflictor, b: &Named) -> Result<bool, AllocError>
     Ok(stays_behind(&back, j))
 }
 
+/// `([], X, i) ([], Y, l) <-> ([], Y, l) ([], X, i)`
+fn pass_without_effect(j: &Conflictor, k: &Conflictor) -> bool
+    ensures { IsTrue result → TwoConflictorsApart j.now k.now (AnyCatch.Conflictor k.now) (AnyCatch.Conflictor j.now) }
+{
+    if !has_no_effect(j) {
+        return false;
+    }
+    if !has_no_effect(k) {
+        return false;
+    }
+    if !lacks_key(k.identity.context().items(), &j.identity.key()) {
+        return false;
+    }
+    match k.conflicts.get(&j.identity.key()) {
+        Some(_) => false,
+        None => true,
+    }
+}
+
 /// Whether two catches of one state stand behind one another as they are. Where it says no, they may
 /// still do.
 pub(crate) fn merge_as_they_are(alloc: Global, j: &Catch, k: &Catch) -> Result<bool, AllocError>
@@ -61,6 +81,13 @@ pub(crate) fn merge_as_they_are(alloc: Global, j: &Catch, k: &Catch) -> Result<b
         (Catch::Conflictor(j), Catch::Plain(b)) => stand_aside(alloc, b, j),
         _ => Ok(false),
     }
+}
+
+/// Whether a conflictor has no effect.
+fn has_no_effect(k: &Conflictor) -> bool
+    ensures { IsTrue result ↔ (k.now.effect ≡ []) }
+{
+    k.effect.items().is_empty()
 }
 
 /// `[a] | (s, Y, l) -> (s, Y, l) | [a]`

@@ -32,6 +32,9 @@ pub(crate) fn linked(r: &[Named], x: &Contexted) -> Result<(usize, Contexted), A
 fn links_from(r: &[Named], s: &[Named], patch: &Named) -> usize
     ensures { LinksFrom r.now s.now patch.now result }
 {
+    if !may_link(r, s, patch) {
+        return r.len();
+    }
     if !is_chain(s) {
         return r.len();
     }
@@ -41,6 +44,15 @@ fn links_from(r: &[Named], s: &[Named], patch: &Named) -> usize
         }
     }
     0
+}
+
+/// Whether the last element of a list may be put before a context as it stands. Where it may not, none
+/// of the list is.
+fn may_link(r: &[Named], s: &[Named], patch: &Named) -> bool {
+    match r.last() {
+        None => false,
+        Some(a) => links(a, &[], s, patch),
+    }
 }
 
 /// Whether a primitive neither swaps with what stands behind it nor is taken away with it. Behind it
