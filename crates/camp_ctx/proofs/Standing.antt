@@ -41,7 +41,7 @@ none_named : (b : Bool) (l : Label) → ¬ (b ≡ true) → cond b (l ∷ []) []
 none_named true l never = absurd (never refl)
 none_named false l never = refl
 
-no_parts : (t : List Named) → Parts [] t [] t
+pub no_parts : (t : List Named) → Parts [] t [] t
 no_parts [] = (refl, refl)
 no_parts (p ∷ t) =
     inr ((λ named. let within = named.1 in absurd (omega arith)), ([], t, p, no_parts t, (refl, refl), refl))

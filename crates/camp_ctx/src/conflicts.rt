@@ -3,7 +3,7 @@ ghost use Rattle.camp_base.specs.Answers.{FindsPair};
 ghost use Rattle.camp_ctx.specs.Conflicts.{common_labels, has_label, Conflict, MergesBehindCommon};
 ghost use Rattle.camp_ctx.specs.Contexts.{whole};
 
-use crate::fast::{are_apart, clash, merge_apart, stand_aside};
+use crate::fast::{are_apart, are_elsewhere, clash, merge_apart, stand_aside};
 use crate::{Contexted, join};
 use camp_prim::{Label, Named};
 use camp_seq::{Seq, clean_merge, split};
@@ -14,6 +14,9 @@ use std::slice;
 pub fn conflict(x: &Contexted, y: &Contexted) -> Result<bool, AllocError>
     ensures exact { IfOk result (λ found. IsTrue found ↔ Conflict x.now y.now) }
 {
+    if are_elsewhere(x, y) {
+        return Ok(false);
+    }
     if clash(x, y)? {
         return Ok(true);
     }

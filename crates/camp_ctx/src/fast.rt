@@ -8,13 +8,17 @@
 //!   primitive is added, and is shared.
 //! - A patch without a context, whose inverse passes the whole of another contexted patch as it is, does
 //!   not conflict with it: the two merge with nothing in common. No list is made of it.
+//! - Contexted patches that change other files, under other absolute labels, do not conflict: their normal
+//!   orders change other files too, and merge as they are. No list is made of them.
 //! - Two patches without a context and with different labels have nothing in common, and each is its own
 //!   normal order. So they conflict just where the inverse of the one does not swap with the other.
 //! - Two lists with no label in common merge as they stand where each is its own normal order: a split
 //!   takes nothing off. Where their first primitives do not merge, the lists do not, and neither is copied.
 mod conflicts;
+mod elsewhere;
 mod links;
 mod stays;
 
 pub(crate) use conflicts::{are_apart, clash, merge_apart, stand_aside};
+pub(crate) use elsewhere::are_elsewhere;
 pub(crate) use links::linked;

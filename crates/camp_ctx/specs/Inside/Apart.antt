@@ -1,8 +1,27 @@
--- Lists that do not merge.
-use Rattle.std.specs.Prelude.{List}
+-- Lists that do not merge, and primitives that have nothing to do with each other.
+use Rattle.std.specs.Prelude.{◌≢◌, List}
+use Rattle.std.specs.List.{AllByRecursion}
+use Rattle.camp_prim.specs.Effect.{InRange}
+use Rattle.camp_prim.specs.Labels.{SameKey}
+use Rattle.camp_prim.specs.Swaps.{path_of}
 use Rattle.camp_prim.specs.declared.named.Named.{Named}
 use Rattle.camp_seq.specs.Merging.{CleanMerge}
 
 -- two lists do not merge cleanly
 abbrev pub NoCleanMerge : List Named → List Named → Type 0
 NoCleanMerge s t = (t' s' : List Named) → ¬ (CleanMerge s t t' s')
+
+-- two primitives change other files, under other absolute labels
+pub record Elsewhere (p q : Named) : Type 0 where
+  pub paths : path_of p.prim ≢ path_of q.prim
+  pub keys : ¬ (SameKey p q)
+  pub first : InRange p.prim
+  pub second : InRange q.prim
+
+-- a primitive has nothing to do with any of a list
+abbrev pub IsElsewhere : List Named → Named → Type 0
+IsElsewhere t p = AllByRecursion (Elsewhere p) t
+
+-- no element of the one list has to do with one of the other
+abbrev pub AreElsewhere : List Named → List Named → Type 0
+AreElsewhere s t = AllByRecursion (IsElsewhere t) s

@@ -1,0 +1,62 @@
+//! Contexted patches that change other files do not conflict.
+ghost use Rattle.std.specs.Prelude.{IsTrue};
+ghost use Rattle.camp_ctx.specs.Conflicts.{Conflict};
+ghost use Rattle.camp_ctx.specs.Contexts.{whole};
+ghost use Rattle.camp_ctx.specs.Inside.Apart.{AreElsewhere, Elsewhere, IsElsewhere};
+
+use crate::Contexted;
+use camp_prim::Named;
+
+/// Whether two contexted patches change other files, under other absolute labels, and so don't conflict.
+/// Where it says no, they may still not. It takes no memory.
+pub(crate) fn are_elsewhere(x: &Contexted, y: &Contexted) -> bool
+    ensures { IsTrue result → ¬ (Conflict x.now y.now) }
+{
+    if !is_elsewhere(x.patch(), y) {
+        return false;
+    }
+    all_elsewhere(x.context().items(), y)
+}
+
+/// Whether each element of a list changes other files than a contexted patch.
+fn all_elsewhere(s: &[Named], y: &Contexted) -> bool
+    ensures { IsTrue result → AreElsewhere s.now (whole y.now) }
+{
+    for at in (0..s.len()).rev() {
+        if !is_elsewhere(&s[at], y) {
+            return false;
+        }
+    }
+    true
+}
+
+/// Whether a primitive changes another file than each of a contexted patch.
+fn is_elsewhere(p: &Named, y: &Contexted) -> bool
+    ensures { IsTrue result → IsElsewhere (whole y.now) p.now }
+{
+    if !change_two_files(p, y.patch()) {
+        return false;
+    }
+    is_away_from(p, y.context().items())
+}
+
+/// Whether a primitive changes another file than each element of a list.
+fn is_away_from(p: &Named, s: &[Named]) -> bool
+    ensures { IsTrue result → IsElsewhere s.now p.now }
+{
+    for at in (0..s.len()).rev() {
+        if !change_two_files(p, &s[at]) {
+            return false;
+        }
+    }
+    true
+}
+
+fn change_two_files(p: &Named, q: &Named) -> bool
+    ensures { IsTrue result → Elsewhere p.now q.now }
+{
+    if p.prim.path() == q.prim.path() {
+        return false;
+    }
+    p.label().key() != q.label().key()
+}
