@@ -14,7 +14,7 @@ pub record Grow (own : List (List ℕ)) (Done : List (List ℕ) → Type 0) (Sto
 pub among_both : (names others : List (List ℕ)) (name : List ℕ) → is_among (names ++ others) name ≡ (is_among names name || is_among others name)
 among_both names others name = list_any-append (bytes_eq name) names others
 
-among_first : (names others : List (List ℕ)) → AreAmong names (names ++ others)
+pub among_first : (names others : List (List ℕ)) → AreAmong names (names ++ others)
 among_first names others name there = among_both names others name ∙ ap (λ b. b || is_among others name) there
 
 -- names and others, of which the first is counted to the names

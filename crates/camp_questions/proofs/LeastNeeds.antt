@@ -4,7 +4,7 @@ use Rattle.camp_catch.proofs.PlainArranging.{what_stops_comes_along}
 use Rattle.camp_questions.proofs.Growths.{all_within}
 
 -- what stops some names comes along with all that come to the front and have them
-stops_within : (branch : List Catch) (others : List (List ℕ)) → IsPlain branch → ComeToFront branch others → (names : List (List ℕ)) (name : List ℕ) → AreAmong names others → StickOn branch names name → is_among others name ≡ true
+pub stops_within : (branch : List Catch) (others : List (List ℕ)) → IsPlain branch → ComeToFront branch others → (names : List (List ℕ)) (name : List ℕ) → AreAmong names others → StickOn branch names name → is_among others name ≡ true
 stops_within branch others plain come names name among stop =
     let sticks = subst (λ list. ArrangeSticks names list stop.0 stop.1) plain.are stop.2 in
     let along = what_stops_comes_along plain.patches names others plain.room (λ n c. (is_among_is others n).1 (among n ((is_among_is names n).0 c))) stop.0 stop.1 sticks (subst (λ list. ComeToFront list others) plain.are come) in

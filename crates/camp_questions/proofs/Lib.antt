@@ -4,12 +4,15 @@ pub mod AlongSteps
 pub mod AnnotationLaws
 pub mod Answering
 pub mod Arrows
+pub mod BackwardArrows
 pub mod BranchGrowths
 pub mod CommonSteps
 pub mod Foreseeing
+pub mod ForeseenCalls
 pub mod GraphSteps
 pub mod Growing
 pub mod Growths
+pub mod LeastHeld
 pub mod LeastNeeds
 pub mod LineNames
 pub mod MarkSteps
@@ -18,6 +21,8 @@ pub mod OpenPairs
 pub mod PairSteps
 pub mod PatchFronts
 pub mod PlaceSteps
+pub mod PlainGoing
+pub mod PulledNeeds
 pub mod ReachedNeeds
 pub mod SeenLabels
 pub mod ShownPatches

@@ -38,14 +38,14 @@ ends [] name there = there
 ends (n ∷ names) name there = ends_at n names name (bytes_eq name n) refl there (ends names name)
 
 -- catches are of these names, and are not
-abbrev AreOf : List (List ℕ) → List Catch → Type 0
+abbrev pub AreOf : List (List ℕ) → List Catch → Type 0
 AreOf names list = AllByRecursion (λ k. is_among names (name_of k) ≡ true) list
 
-abbrev AreNotOf : List (List ℕ) → List Catch → Type 0
+abbrev pub AreNotOf : List (List ℕ) → List Catch → Type 0
 AreNotOf names list = AllByRecursion (λ k. is_among names (name_of k) ≡ false) list
 
 module _ (names : List (List ℕ)) where
-  others_stay : (rest list : List Catch) → AreNotOf names list → ArrangesBehind names rest list [] (rest ++ list)
+  pub others_stay : (rest list : List Catch) → AreNotOf names list → ArrangesBehind names rest list [] (rest ++ list)
   others_stay rest [] are = (refl, append-nil rest)
   others_stay rest (k ∷ list) are =
       inr (λ c. true≢false (sym ((is_among_is names (name_of k)).0 c) ∙ are.0), subst (ArrangesBehind names (rest ++ k ∷ []) list []) (append_assoc rest (k ∷ []) list) (others_stay (rest ++ k ∷ []) list are.1))
@@ -56,17 +56,17 @@ module _ (names : List (List ℕ)) where
       inl ((is_among_is names (name_of k)).1 are.0, (k, [], front, (refl, refl), those_come front behind are.1 others, refl))
 
 -- a list in two parts, by its labels
-record PartsByLabels (list : List Catch) (xs ys : List Key) : Type 0 where
-  first : List Catch
-  rest : List Catch
-  is : list ≡ first ++ rest
-  first_keys : keys_of first ≡ xs
-  rest_keys : keys_of rest ≡ ys
+pub record PartsByLabels (list : List Catch) (xs ys : List Key) : Type 0 where
+  pub first : List Catch
+  pub rest : List Catch
+  pub is : list ≡ first ++ rest
+  pub first_keys : keys_of first ≡ xs
+  pub rest_keys : keys_of rest ≡ ys
 
-same_head : {X : Type 0} {x y : X} {xs ys : List X} → x ∷ xs ≡ y ∷ ys → (x ≡ y) × (xs ≡ ys)
+pub same_head : {X : Type 0} {x y : X} {xs ys : List X} → x ∷ xs ≡ y ∷ ys → (x ≡ y) × (xs ≡ ys)
 same_head e = (cc, cc)
 
-parts_by_labels : (list : List Catch) (xs ys : List Key) → keys_of list ≡ xs ++ ys → PartsByLabels list xs ys
+pub parts_by_labels : (list : List Catch) (xs ys : List Key) → keys_of list ≡ xs ++ ys → PartsByLabels list xs ys
 parts_by_labels list [] ys e = record { first = []; rest = list; is = refl; first_keys = refl; rest_keys = e }
 parts_by_labels [] (x ∷ xs) ys e = cc
 parts_by_labels (k ∷ list) (x ∷ xs) ys e =
@@ -80,18 +80,18 @@ parts_by_labels (k ∷ list) (x ∷ xs) ys e =
       rest_keys = parts.rest_keys;
     }
 
-of_one_patch : (list : List Catch) (name : List ℕ) (place changes : ℕ) → keys_of list ≡ labels_from name place changes → AllByRecursion (λ k. name_of k ≡ name) list
+pub of_one_patch : (list : List Catch) (name : List ℕ) (place changes : ℕ) → keys_of list ≡ labels_from name place changes → AllByRecursion (λ k. name_of k ≡ name) list
 of_one_patch [] name place changes e = tt
 of_one_patch (k ∷ list) name place zero e = cc
 of_one_patch (k ∷ list) name place (suc changes) e =
     let same = same_head e in
     (ap (λ key. key.name) same.0, of_one_patch list name (place + 1) changes same.1)
 
-all_are : {P Q : Catch → Type 0} → ((k : Catch) → P k → Q k) → (list : List Catch) → AllByRecursion P list → AllByRecursion Q list
+pub all_are : {P Q : Catch → Type 0} → ((k : Catch) → P k → Q k) → (list : List Catch) → AllByRecursion P list → AllByRecursion Q list
 all_are to [] w = tt
 all_are to (k ∷ list) w = (to k w.0, all_are to list w.1)
 
-both_are : {P Q R : Catch → Type 0} → ((k : Catch) → P k → Q k → R k) → (list : List Catch) → AllByRecursion P list → AllByRecursion Q list → AllByRecursion R list
+pub both_are : {P Q R : Catch → Type 0} → ((k : Catch) → P k → Q k → R k) → (list : List Catch) → AllByRecursion P list → AllByRecursion Q list → AllByRecursion R list
 both_are to [] v w = tt
 both_are to (k ∷ list) v w = (to k v.0 w.0, both_are to list v.1 w.1)
 
@@ -99,7 +99,7 @@ all_last : (P : Catch → Type 0) (xs ys : List Catch) → AllByRecursion P (xs 
 all_last P [] ys w = w
 all_last P (x ∷ xs) ys w = all_last P xs ys w.1
 
-at_first : (n : List ℕ) (names : List (List ℕ)) (name : List ℕ) → name ≡ n → is_among (n ∷ names) name ≡ true
+pub at_first : (n : List ℕ) (names : List (List ℕ)) (name : List ℕ) → name ≡ n → is_among (n ∷ names) name ≡ true
 at_first n names name e = ap (λ b. b || is_among names name) (ap (λ l. bytes_eq l n) e ∙ name_itself n)
 
 -- catches are of the patches whose labels they have
@@ -119,14 +119,14 @@ is_other name n names true e lacks there =
 is_other name n names false e lacks there = refl
 
 -- the catches of patches up to one stand before the others
-record StandFirst (names : List (List ℕ)) (list : List Catch) : Type 0 where
-  front : List Catch
-  behind : List Catch
-  is : list ≡ front ++ behind
-  are : AreOf names front
-  others : AreNotOf names behind
+pub record StandFirst (names : List (List ℕ)) (list : List Catch) : Type 0 where
+  pub front : List Catch
+  pub behind : List Catch
+  pub is : list ≡ front ++ behind
+  pub are : AreOf names front
+  pub others : AreNotOf names behind
 
-stand_first : (patches : List Patch) (list : List Catch) (name : List ℕ) → AreDistinct (patch_names patches) → keys_of list ≡ labels_of patches → StandFirst (up_to (patch_names patches) name) list
+pub stand_first : (patches : List Patch) (list : List Catch) (name : List ℕ) → AreDistinct (patch_names patches) → keys_of list ≡ labels_of patches → StandFirst (up_to (patch_names patches) name) list
 stand_first [] [] name distinct e = record { front = []; behind = []; is = refl; are = tt; others = tt }
 stand_first [] (k ∷ list) name distinct e = cc
 stand_first (p ∷ patches) list name distinct e =

@@ -6,7 +6,7 @@ use Rattle.camp_questions.proofs.LeastNeeds.{needs_are_least}
 use Rattle.camp_questions.proofs.PatchFronts.{earlier, ends, place_of, up_to, up_to_come}
 
 -- one name alone, among others that have it
-alone_among : (name : List ℕ) (others : List (List ℕ)) → is_among others name ≡ true → AreAmong (name ∷ []) others
+pub alone_among : (name : List ℕ) (others : List (List ℕ)) → is_among others name ≡ true → AreAmong (name ∷ []) others
 alone_among name others has n there = at (bytes_eq n name) refl there
   where
     at : (b : Bool) → bytes_eq n name ≡ b → (b || false) ≡ true → is_among others n ≡ true
@@ -18,7 +18,7 @@ reached_through itself w = w
 reached_through (along arrow rest) w = along arrow (reached_through rest w)
 
 module _ (P : Node → Type 0) where
-  fact_of : (nodes : List Node) (node : Node) → AllByRecursion P nodes → Contains nodes node → P node
+  pub fact_of : (nodes : List Node) (node : Node) → AllByRecursion P nodes → Contains nodes node → P node
   fact_of [] node all (k, within, is) = absurd (omega arith)
   fact_of (n ∷ nodes) node all (zero, within, is) = subst P is all.0
   fact_of (n ∷ nodes) node all (suc k, within, is) = fact_of nodes node all.1 (k, (omega arith), is)
@@ -42,7 +42,7 @@ module _ (P : Node → Type 0) where
   find (n ∷ nodes) name all there =
       found_at n nodes name (bytes_eq name n.name) refl all.0 there (find nodes name all.1)
 
-names_of_nodes : (branch : List Catch) (all list : List Needing) → map (λ (n : Node). n.name) (map (node_of branch all) list) ≡ map (λ (p : Needing). p.name) list
+pub names_of_nodes : (branch : List Catch) (all list : List Needing) → map (λ (n : Node). n.name) (map (node_of branch all) list) ≡ map (λ (p : Needing). p.name) list
 names_of_nodes branch all [] = refl
 names_of_nodes branch all (p ∷ list) = ap (λ l. p.name ∷ l) (names_of_nodes branch all list)
 

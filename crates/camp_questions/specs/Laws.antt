@@ -1,5 +1,5 @@
 -- The laws of questions.
-use Rattle.std.specs.Prelude.{◌≡◌, ◌≢◌, ◌↔◌, ◌≤◌, ℕ, ◌+◌, ◌-◌, true, false, List, [], ◌∷◌, ◌++◌, map, length, None, Some, Ok}
+use Rattle.std.specs.Prelude.{◌≡◌, ◌≢◌, ◌↔◌, ◌≤◌, ℕ, ◌+◌, ◌-◌, true, false, List, [], ◌∷◌, ◌++◌, map, length, None, Some, Ok, Err}
 use Rattle.std.specs.Prelude.{Contains}
 use Rattle.std.specs.FinMap.{get}
 use Rattle.std.specs.List.{All, AllByRecursion}
@@ -14,20 +14,28 @@ use Rattle.camp_catch.specs.declared.catches.Catch.{Catch}
 use Rattle.camp_catch.specs.declared.catches.Catch.TheVariants.{Plain}
 use Rattle.camp_branch.specs.Branches.{first_lacked, IsLawfulBranch as IsLawfulBranch, LeadsTo, has_patch, is_among, names_of, recorded}
 use Rattle.camp_branch.specs.Laws.{AppliesEach, ExactlyOne}
+use Rattle.camp_branch.specs.Pulling.{PullGives}
+use Rattle.camp_branch.specs.declared.faults.Blocked.TheVariants as blocked
+use Rattle.camp_call.specs.declared.calls.Call.{Call}
 use Rattle.camp_call.specs.declared.calls.Call.TheVariants as call
 use Rattle.camp_call.specs.declared.replies.Refusal.TheVariants.{Depends, NoPatch, NothingToDo}
+use Rattle.camp_call.specs.declared.replies.Reply.TheVariants as reply
 use Rattle.camp_object.specs.declared.objects.Decided.TheVariants.{Next}
 use Rattle.camp_repo.specs.Lawful.{IsLawfulState}
 use Rattle.camp_repo.specs.Laws.{Has}
+use Rattle.camp_repo.specs.Objects.{replies_to, reply_of, state_behind}
 use Rattle.camp_repo.specs.States.{Contents}
 use Rattle.camp_repo.specs.Steps.{refused, step}
 use Rattle.camp_questions.specs.Along.{AreAlong}
 use Rattle.camp_questions.specs.Annotations.{Known, behind_hunk, names_of_lines}
-use Rattle.camp_questions.specs.Dependencies.{AreHeldIn, ComeToFront, HeldBy, Needs, StickOn}
+use Rattle.camp_questions.specs.Dependencies.{AreHeldIn, CanGo, ComeToFront, HeldBy, Needs, StickOn}
 use Rattle.camp_questions.specs.Differences.{missing_in}
+use Rattle.camp_questions.specs.Foresight.{Foresees}
 use Rattle.camp_questions.specs.Graphs.{Drawn, IsGraph}
 use Rattle.camp_questions.specs.Showing.{changes_in, patch_in}
 use Rattle.camp_questions.specs.Sides.{IsSideIn}
+use Rattle.camp_questions.specs.declared.foresight.Foreseen.{Foreseen}
+use Rattle.camp_questions.specs.declared.foresight.Standing.{Standing}
 use Rattle.camp_questions.specs.declared.graphs.Node.{Node}
 
 -- a pull without names that is accepted gives a branch its old names and then those that it was missing; where it is
@@ -79,6 +87,28 @@ abbrev pub NeedsAreLeast : Type 0
 NeedsAreLeast =
     (branch : List Catch) (names needed others : List (List ℕ)) → IsPlain branch → Needs branch names needed →
     AreAmong names others → ComeToFront branch others → AreAmong needed others
+
+-- of a branch with plain catches alone that have room, what names hold is among all others that have these names among
+-- them and can go
+abbrev pub HeldIsLeast : Type 0
+HeldIsLeast =
+    (branch : List Catch) (names held others : List (List ℕ)) → IsPlain branch → HeldBy branch names held →
+    AreAmong names others → CanGo branch others → AreAmong held others
+
+-- of a branch with plain catches alone that have room, what is needed can be pulled into a branch that has none of it:
+-- such a pull does not fail because one of its patches depends on another patch
+abbrev pub NeedsCanBePulled : Type 0
+NeedsCanBePulled =
+    (from to : List Catch) (names needed : List (List ℕ)) → IsPlain from → first_lacked from names ≡ None →
+    Needs from names needed → ((name : List ℕ) → is_among needed name ≡ true → has_patch to name ≡ false) →
+    (patch on : List ℕ) → ¬ (PullGives from to needed (Err (blocked.Depends patch on)))
+
+-- of a branch with plain catches alone that have room, one patch needs another exactly where the other holds it
+abbrev pub NeedsAndHeldAreOne : Type 0
+NeedsAndHeldAreOne =
+    (branch : List Catch) (name other : List ℕ) (needed held : List (List ℕ)) → IsPlain branch →
+    has_patch branch name ≡ true → has_patch branch other ≡ true → Needs branch (other ∷ []) needed →
+    HeldBy branch (name ∷ []) held → (is_among needed name ≡ true) ↔ (is_among held other ≡ true)
 
 -- an obliteration of what is held by patches of a branch is accepted, and it has grown from them by what depends on them
 abbrev pub HeldCanGo : Type 0
@@ -133,6 +163,19 @@ abbrev pub Arrow : Drawn → List ℕ → List ℕ → Type 0
 Arrow graph name other =
     (node : Node) × Contains graph.patches node × (node.name ≡ name) × (is_among node.needs other ≡ true)
 
+-- one name stands before another among some
+pub record StandsBefore (names : List (List ℕ)) (first second : List ℕ) : Type 0 where
+  pub before : List (List ℕ)
+  pub between : List (List ℕ)
+  pub behind : List (List ℕ)
+  pub are : names ≡ before ++ first ∷ (between ++ second ∷ behind)
+
+-- in the graph of a lawful branch, arrows lead backwards: each from a patch to one that stands before it
+abbrev pub ArrowsLeadBackwards : Type 0
+ArrowsLeadBackwards =
+    (branch : List Catch) (graph : Drawn) → IsLawfulBranch branch → IsGraph branch graph → (name other : List ℕ) →
+    Arrow graph name other → StandsBefore (names_of branch) other name
+
 -- what is reached from a patch along arrows: the patch, and what is reached from where an arrow of it leads
 pub data IsReached : Drawn → List ℕ → List ℕ → Type 0 where
   itself : {graph : Drawn} {name : List ℕ} → IsReached graph name name
@@ -157,3 +200,17 @@ AlongIsEnough =
     (state : Contents) (from to : List ℕ) (names told : List (List ℕ)) → AreAlong state from to names (Ok told) →
     ((name : List ℕ) → ¬ (step state (call.Pull from to (Some told)) ≡ refused (NoPatch name)))
     × ((patch on : List ℕ) → ¬ (step state (call.Pull from to (Some told)) ≡ refused (Depends patch on)))
+
+-- what is foreseen of a call is what comes of it: it gets this reply; where no branch is told, nothing changes; and where
+-- one is told, the questions for its tree and its conflicts, asked right behind the call, are answered with these
+pub record ComesAsForeseen (state : Contents) (asked : Call) (seen : Foreseen) : Type 0 where
+  pub replied : reply_of (step state asked) ≡ seen.reply
+  pub stays : seen.changed ≡ None → state_behind state (step state asked) ≡ state
+  pub changed :
+      (standing : Standing) → seen.changed ≡ Some standing →
+      replies_to state (asked ∷ call.Tree standing.branch ∷ call.Conflicts standing.branch ∷ [])
+      ≡ seen.reply ∷ reply.Tree standing.tree ∷ reply.Conflicts standing.conflicts ∷ []
+
+-- it is so of every call at every state
+abbrev pub ForeseenComes : Type 0
+ForeseenComes = (state : Contents) (asked : Call) (seen : Foreseen) → Foresees state asked seen → ComesAsForeseen state asked seen

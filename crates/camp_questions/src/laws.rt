@@ -1,4 +1,4 @@
-ghost use Rattle.camp_questions.specs.Laws.{AlongIsEnough, ArrowsAreDirectNeeds, HeldCanGo, HeldIsDetermined, LinesHaveNames, MissingIsPulled, NeedsAreDetermined, NeedsAreLeast, NeedsAreReached, NeedsComeFirst, RecordedIsShown, SidesApply};
+ghost use Rattle.camp_questions.specs.Laws.{AlongIsEnough, ArrowsAreDirectNeeds, ArrowsLeadBackwards, ForeseenComes, HeldCanGo, HeldIsDetermined, HeldIsLeast, LinesHaveNames, MissingIsPulled, NeedsAndHeldAreOne, NeedsAreDetermined, NeedsAreLeast, NeedsAreReached, NeedsCanBePulled, NeedsComeFirst, RecordedIsShown, SidesApply};
 
 /// A pull without names that is accepted brings what is missing, in this order; where nothing is
 /// missing, it is refused as having nothing to do.
@@ -34,6 +34,24 @@ pub fn held_is_determined()
     ensures law { HeldIsDetermined }
 {}
 
+/// Where all catches of a branch are plain and have room, what is held by some patches is the least that
+/// has them and can go.
+pub fn held_is_least()
+    ensures law { HeldIsLeast }
+{}
+
+/// Where all catches of a branch are plain and have room, a pull of what is needed into a branch that has
+/// none of it does not fail because one of its patches depends on another patch.
+pub fn needs_can_be_pulled()
+    ensures law { NeedsCanBePulled }
+{}
+
+/// Where all catches of a branch are plain and have room, one patch needs another exactly where the other
+/// holds it.
+pub fn needs_and_held_are_one()
+    ensures law { NeedsAndHeldAreOne }
+{}
+
 /// Each line of a file of a branch has a name, which is that of one of its patches; and where a hunk is
 /// undone, all lines have the names that they had.
 pub fn lines_have_names()
@@ -65,4 +83,15 @@ pub fn sides_apply()
 /// another stands on.
 pub fn along_is_enough()
     ensures law { AlongIsEnough }
+{}
+
+/// The arrows of a graph of a lawful branch lead backwards: each to a patch that stands before.
+pub fn arrows_lead_backwards()
+    ensures law { ArrowsLeadBackwards }
+{}
+
+/// What is foreseen of a call is what comes of it: the reply that it gets, and the tree and the conflicts
+/// of the branch that it writes to, as they are told right behind it.
+pub fn foreseen_comes()
+    ensures law { ForeseenComes }
 {}

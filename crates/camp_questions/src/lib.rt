@@ -30,9 +30,10 @@ pub use foresight::{Foreseen, Standing, what_if};
 pub use graph_texts::graph_text;
 pub use graphs::{Node, PatchGraph, graph};
 pub use laws::{
-    along_is_enough, arrows_are_direct_needs, held_can_go, held_is_determined, lines_have_names,
-    missing_is_pulled, needs_are_determined, needs_are_least, needs_are_reached, needs_come_first,
-    recorded_is_shown, sides_apply,
+    along_is_enough, arrows_are_direct_needs, arrows_lead_backwards, foreseen_comes, held_can_go,
+    held_is_determined, held_is_least, lines_have_names, missing_is_pulled, needs_and_held_are_one,
+    needs_are_determined, needs_are_least, needs_are_reached, needs_can_be_pulled,
+    needs_come_first, recorded_is_shown, sides_apply,
 };
 pub use marking::{Marked, MarkedFile, Place, Version, marks};
 pub use open_conflicts::open_pairs;

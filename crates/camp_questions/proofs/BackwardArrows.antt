@@ -1,0 +1,108 @@
+-- The arrows of a graph lead backwards.
+use Rattle.camp_questions.proofs.Words.{◌≡◌, ◌≢◌, ℕ, Bool, true, false, true≢false, ◌||◌, cond, List, [], ◌∷◌, ◌++◌, map, bytes_eq, refl, sym, ap, ◌∙◌, subst, inl, inr, Key, Catch, SticksBehind, is_among, is_among_is, name_of, names_of, same_name, ComeToFront, StickOn, AreAmong, NeedsDirectly, NeedsPatch, Node, ◌↔◌, HasPatches, Patch, IsLawfulBranch, has_patch, among_once}
+use Rattle.camp_branch.proofs.BranchLabels.{names_of_patches}
+use Rattle.camp_questions.specs.Laws.{ArrowsLeadBackwards, StandsBefore}
+use Rattle.camp_branch.proofs.Names.{has_image}
+use Rattle.camp_questions.proofs.Arrows.{arrows_are_direct_needs}
+use Rattle.camp_questions.proofs.Growths.{all_within}
+use Rattle.camp_questions.proofs.LeastNeeds.{in_order_among}
+use Rattle.camp_questions.proofs.PatchFronts.{AreNotOf, AreOf, StandFirst, ends, stand_first, up_to}
+use Rattle.camp_questions.proofs.ReachedNeeds.{alone_among, fact_of, names_of_nodes}
+use Rattle.camp_questions.proofs.Stuck.{sticks_between}
+
+module _ (names : List (List ℕ)) where
+  -- what is of none of the names does not stick
+  none_stick : (rest list : List Catch) (patch on : Key) → AreNotOf names list → ¬ (SticksBehind names rest list patch on)
+  none_stick rest [] patch on are w = w
+  none_stick rest (k ∷ list) patch on are (inl w) =
+      true≢false (sym ((is_among_is names (name_of k)).0 w.0) ∙ are.0)
+  none_stick rest (k ∷ list) patch on are (inr (inl w)) =
+      true≢false (sym ((is_among_is names (name_of k)).0 w.0) ∙ are.0)
+  none_stick rest (k ∷ list) patch on are (inr (inr w)) = none_stick (rest ++ k ∷ []) list patch on are.1 w.1
+
+  -- what sticks does so before what is of none of the names
+  stuck_in_front : (rest front behind : List Catch) (patch on : Key) → AreNotOf names behind → SticksBehind names rest (front ++ behind) patch on → SticksBehind names rest front patch on
+  stuck_in_front rest [] behind patch on are w = absurd (none_stick rest behind patch on are w)
+  stuck_in_front rest (k ∷ front) behind patch on are (inl w) = inl w
+  stuck_in_front rest (k ∷ front) behind patch on are (inr (inl w)) =
+      let come = w.1 in
+      inr (inl (w.0, (come.0, come.1, come.2, stuck_in_front come.1 front behind patch on are come.3)))
+  stuck_in_front rest (k ∷ front) behind patch on are (inr (inr w)) =
+      inr (inr (w.0, stuck_in_front (rest ++ k ∷ []) front behind patch on are w.1))
+
+fewer_of : (names others : List (List ℕ)) → AreAmong names others → (list : List Catch) → AreNotOf others list → AreNotOf names list
+fewer_of names others among [] are = tt
+fewer_of names others among (k ∷ list) are =
+    (lacks (is_among names (name_of k)) refl, fewer_of names others among list are.1)
+  where
+    lacks : (b : Bool) → is_among names (name_of k) ≡ b → b ≡ false
+    lacks false e = refl
+    lacks true e = absurd (true≢false (sym (among (name_of k) e) ∙ are.0))
+
+one_of : (names : List (List ℕ)) (list : List Catch) (n : List ℕ) → AreOf names list → is_among (map name_of list) n ≡ true → is_among names n ≡ true
+one_of names [] n are there = absurd (true≢false (sym there))
+one_of names (k ∷ list) n are there = at (bytes_eq n (name_of k)) refl there (one_of names list n are.1)
+  where
+    at : (b : Bool) → bytes_eq n (name_of k) ≡ b → (b || is_among (map name_of list) n) ≡ true → (is_among (map name_of list) n ≡ true → is_among names n ≡ true) → is_among names n ≡ true
+    at true e w rest = ap (is_among names) (same_name n (name_of k) e) ∙ are.0
+    at false e w rest = rest w
+
+-- what names up to one stick on is one of those up to it
+stuck_up_to : (branch : List Catch) (patches : List Patch) → HasPatches branch patches → (last : List ℕ) (names : List (List ℕ)) (name : List ℕ) → AreAmong names (up_to (names_of branch) last) → StickOn branch names name → is_among (up_to (names_of branch) last) name ≡ true
+stuck_up_to branch patches has last names name among stop =
+    let first = subst (λ own. StandFirst (up_to own last) branch) (sym (names_of_patches branch patches has)) (stand_first patches branch last has.distinct has.labels) in
+    let others = fewer_of names (up_to (names_of branch) last) among first.behind first.others in
+    let stuck = stuck_in_front names [] first.front first.behind stop.0 stop.1 others (subst (λ l. SticksBehind names [] l stop.0 stop.1) first.is stop.2) in
+    let there = (sticks_between names first.front stop.0 stop.1 stuck).0.0 in
+    ap (is_among (up_to (names_of branch) last)) stop.3 ∙ one_of (up_to (names_of branch) last) first.front stop.1.name first.are there
+
+-- names up to one stand before it
+split_at : (names : List (List ℕ)) (name : List ℕ) → is_among names name ≡ true → (before : List (List ℕ)) × (behind : List (List ℕ)) × (names ≡ before ++ name ∷ behind)
+split_at [] name there = absurd (true≢false (sym there))
+split_at (n ∷ names) name there = at (bytes_eq name n) refl there (split_at names name)
+  where
+    at : (b : Bool) → bytes_eq name n ≡ b → (b || is_among names name) ≡ true → (is_among names name ≡ true → (before : List (List ℕ)) × (behind : List (List ℕ)) × (names ≡ before ++ name ∷ behind)) → (before : List (List ℕ)) × (behind : List (List ℕ)) × (n ∷ names ≡ before ++ name ∷ behind)
+    at true e w later = ([], names, ap (λ x. x ∷ names) (sym (same_name name n e)))
+    at false e w later = let rest = later w in (n ∷ rest.0, rest.1, ap (λ l. n ∷ l) rest.2)
+
+earlier_stands : (names : List (List ℕ)) (last name : List ℕ) → is_among names last ≡ true → is_among (up_to names last) name ≡ true → name ≢ last → StandsBefore names name last
+earlier_stands [] last name has there different = absurd (true≢false (sym has))
+earlier_stands (n ∷ names) last name has there different =
+    at (bytes_eq last n) refl has there (λ w v. earlier_stands names last name w v different)
+  where
+    next : (b : Bool) → bytes_eq name n ≡ b → is_among names last ≡ true → (b || is_among (up_to names last) name) ≡ true → (is_among names last ≡ true → is_among (up_to names last) name ≡ true → StandsBefore names name last) → StandsBefore (n ∷ names) name last
+    next true e w v later =
+        let rest = split_at names last w in
+        record { before = []; between = rest.0; behind = rest.1; are = ap (λ x. x ∷ names) (sym (same_name name n e)) ∙ ap (λ l. name ∷ l) rest.2 }
+    next false e w v later =
+        let rest = later w v in
+        record { before = n ∷ rest.before; between = rest.between; behind = rest.behind; are = ap (λ l. n ∷ l) rest.are }
+
+    alone : (c : Bool) → bytes_eq name n ≡ c → last ≡ n → (c || false) ≡ true → StandsBefore (n ∷ names) name last
+    alone true f e u = absurd (different (same_name name n f ∙ sym e))
+    alone false f e u = cc
+
+    at : (b : Bool) → bytes_eq last n ≡ b → (b || is_among names last) ≡ true → is_among (cond b (n ∷ []) (n ∷ up_to names last)) name ≡ true → (is_among names last ≡ true → is_among (up_to names last) name ≡ true → StandsBefore names name last) → StandsBefore (n ∷ names) name last
+    at true e w v later = alone (bytes_eq name n) refl (same_name last n e) v
+    at false e w v later = next (bytes_eq name n) refl w v later
+
+-- what a patch needs stands before it
+pub needs_stand_before : (branch : List Catch) (name other : List ℕ) → IsLawfulBranch branch → has_patch branch name ≡ true → NeedsPatch branch name other → StandsBefore (names_of branch) other name
+needs_stand_before branch name other lawful has needs =
+    let own = names_of branch in
+    let there : is_among own name ≡ true = among_once (map name_of branch) name ∙ has in
+    let grown = needs.1.1 in
+    let among : AreAmong (name ∷ []) (up_to own name) = alone_among name (up_to own name) (ends own name there) in
+    let within = all_within (ComeToFront branch) (StickOn branch) (up_to own name) (stuck_up_to branch lawful.patches lawful.has name) (name ∷ []) grown.0 among grown.1 in
+    let earlier = within other (in_order_among branch ((name ∷ []) ++ grown.0) other (ap (λ l. is_among l other) (sym grown.2) ∙ needs.1.2)) in
+    earlier_stands own name other there earlier needs.0
+
+pub arrows_lead_backwards : ArrowsLeadBackwards
+arrows_lead_backwards branch graph lawful is name other arrow =
+    let called : List Node → List (List ℕ) = map (λ (n : Node). n.name) in
+    let own : called graph.patches ≡ names_of branch = ap called is.patches ∙ names_of_nodes branch is.all is.all ∙ is.names in
+    let fact = fact_of (λ (node : Node). (n : List ℕ) → (is_among node.needs n ≡ true) ↔ NeedsDirectly branch node.name n) graph.patches arrow.0 (arrows_are_direct_needs branch graph is) arrow.1 in
+    let direct = subst (λ n. NeedsDirectly branch n other) arrow.2 ((fact other).0 arrow.3) in
+    let there = (is_among_is (called graph.patches) arrow.0.name).0 (has_image (λ (n : Node). n.name) graph.patches arrow.0 arrow.1) in
+    let has = sym (among_once (map name_of branch) name) ∙ ap (λ l. is_among l name) (sym own) ∙ ap (is_among (called graph.patches)) (sym arrow.2) ∙ there in
+    needs_stand_before branch name other lawful has direct.needs
