@@ -14,3 +14,4 @@ pub mod Served
 pub mod ToldLemmas
 pub mod TurnLemmas
 pub mod Turns
+pub mod ViewLemmas

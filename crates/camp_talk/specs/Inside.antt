@@ -3,3 +3,4 @@ pub mod Framing
 pub mod Hearing
 pub mod Parts
 pub mod Said
+pub mod Viewing

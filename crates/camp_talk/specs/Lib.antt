@@ -12,3 +12,4 @@ pub mod Loads
 pub mod Requests
 pub mod Talks
 pub mod Told
+pub mod Views

@@ -76,7 +76,11 @@ fn accepted_text(alloc: Global, book: &Book<State>) -> Result<Vec<u8>, AllocErro
     answer_text(alloc, &Ok(Reply::Done(at)))
 }
 
-fn answer_text(alloc: Global, answer: &Result<Reply, Fault>) -> Result<Vec<u8>, AllocError>
+/// The text of an answer to a call.
+pub(crate) fn answer_text(
+    alloc: Global,
+    answer: &Result<Reply, Fault>,
+) -> Result<Vec<u8>, AllocError>
     requires { HasText answer.now }
     ensures { IfOk result (λ text. text.items ≡ answer_text answer.now) }
 {
@@ -85,8 +89,13 @@ fn answer_text(alloc: Global, answer: &Result<Reply, Fault>) -> Result<Vec<u8>, 
     Ok(text)
 }
 
-// The text of the answer to a command with a fault, by the number of the lines before it.
-fn fault_text(alloc: Global, before: u64, line: u64, kind: FaultKind) -> Result<Vec<u8>, AllocError>
+/// The text of the answer to a command with a fault, by the number of the lines before it.
+pub(crate) fn fault_text(
+    alloc: Global,
+    before: u64,
+    line: u64,
+    kind: FaultKind,
+) -> Result<Vec<u8>, AllocError>
     ensures { IfOk result (λ text. text.items ≡ fault_text (before + line) kind) }
 {
     let mut number = Buffer::new();

@@ -27,6 +27,7 @@ mod told_lines;
 mod told_names;
 mod told_patches;
 mod topics;
+mod views;
 
 pub use camp_repo::{Book, State};
 pub use dialogues::{Conversation, Dialogue, talk};
@@ -39,3 +40,4 @@ pub use requests::answer_request;
 pub use serving::serve;
 pub use talks::turn;
 pub use tellings::answer_question;
+pub use views::answer_view;

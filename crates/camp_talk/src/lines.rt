@@ -1,6 +1,6 @@
 //! The lines of a reader, behind one another.
 ghost use Rattle.std.specs.Io.KnownBytes.{Consumes};
-ghost use Rattle.std.specs.Prelude.{◌≡◌, ◌==◌, ◌+◌, ◌-◌, ◌<◌, ◌≤◌, ◌++◌, [], length, take, drop, IfOk, IfErr};
+ghost use Rattle.std.specs.Prelude.{◌≡◌, ◌==◌, ◌+◌, ◌-◌, ◌<◌, ◌≤◌, ◌++◌, [], length, take, drop, IfOk, IfErr, OnErr};
 ghost use Rattle.std.specs.List.{position_or_len};
 ghost use Rattle.camp_base.specs.Signs.{newline};
 ghost use Rattle.camp_talk.specs.Cutting.{as_read};
@@ -103,9 +103,10 @@ pub(crate) fn unless_interrupted(error: io::Error) -> Result<(), TalkFault>
     }
 }
 
-/// Puts bytes behind others.
+/// Puts bytes behind others. Where there was no memory, the others are as they were.
 pub(crate) fn hold(text: &mut Vec<u8>, bytes: &[u8]) -> Result<(), TalkFault>
     ensures items { IfOk result (λ _. text.new.items ≡ text.old.items ++ bytes.now) }
+    ensures kept { OnErr result (text.new.items ≡ text.old.items) }
     ensures fault { IfErr result IsReading }
 {
     match text.extend_from_slice(bytes) {

@@ -25,8 +25,8 @@ pub fn answer_question(
     answer_at(alloc, book.history(), book.state(), question)
 }
 
-// The text of the answer at the state after a history.
-fn answer_at(
+/// The text of the answer at the state after a history.
+pub(crate) fn answer_at(
     alloc: Global,
     history: &[(u32, Call)],
     state: &State,

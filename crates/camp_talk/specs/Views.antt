@@ -1,0 +1,83 @@
+-- What a view is told: a state is asked the commands of a request, and stays.
+use Rattle.std.specs.Prelude.{◌≡◌, ℕ, ◌+◌, Bool, true, false, List, [], ◌∷◌, ◌++◌, length, Result, Ok, Err, codes}
+use Rattle.std.specs.Fmt.{decimal}
+use Rattle.std.specs.List.{flat_map}
+use Rattle.camp_call.specs.Calls.{is_writing}
+use Rattle.camp_call.specs.declared.calls.Call.{Call}
+use Rattle.camp_repo.specs.Objects.{reply_of}
+use Rattle.camp_repo.specs.States.{Contents}
+use Rattle.camp_repo.specs.Steps.{step}
+use Rattle.camp_script.specs.Lines.{lines_of}
+use Rattle.camp_script.specs.Texts.{reply_text}
+use Rattle.camp_script.specs.declared.faults.LineFault.{LineFault}
+use Rattle.camp_talk.specs.Answers.{fault_text}
+use Rattle.camp_talk.specs.Asking.{asked_by}
+use Rattle.camp_talk.specs.Cutting.{IsCommand, IsLeft}
+use Rattle.camp_talk.specs.Talks.{Exchange}
+use Rattle.camp_talk.specs.Told.{TellsAt}
+use Rattle.camp_talk.specs.declared.questions.Asked.{Asked}
+use Rattle.camp_talk.specs.declared.questions.Asked.TheVariants as asked
+use Rattle.camp_talk.specs.declared.questions.Question.{Question}
+use Rattle.camp_talk.specs.declared.questions.Question.TheVariants as question
+
+-- whether a question asks about the history, which a state does not tell
+abbrev pub is_of_history : Question → Bool
+is_of_history question.History = true
+is_of_history question.Keep = true
+is_of_history other = false
+
+-- whether a command asks for more than a state tells: it would write, or asks about the history
+abbrev pub is_beyond : Asked → Bool
+is_beyond asked.Nothing = false
+is_beyond (asked.Call call) = is_writing call
+is_beyond (asked.Question question) = is_of_history question
+
+-- the fault of such a command, by its line
+abbrev pub beyond_text : ℕ → List ℕ
+beyond_text line = (codes "fault " ++ decimal line ++ codes " not asked of a view") ++ codes "\n"
+
+-- the text of the reply to a call
+abbrev pub shown_reply : Contents → Call → List ℕ
+shown_reply state call = reply_text (reply_of (step state call))
+
+-- what a state tells of what is asked: nothing, where nothing is; of a call its reply; of a question what it is told, for
+-- which no history is needed
+abbrev pub ShowsAsked : Contents → Asked → List ℕ → Type 0
+ShowsAsked state asked.Nothing text = text ≡ []
+ShowsAsked state (asked.Call call) text = text ≡ shown_reply state call
+ShowsAsked state (asked.Question question) text = TellsAt [] state question text
+
+-- what is asked at a line: more than a state tells, or not
+abbrev pub ShowsAt : Bool → Contents → ℕ → Asked → List ℕ → Type 0
+ShowsAt true state line asked text = text ≡ beyond_text line
+ShowsAt false state line asked text = ShowsAsked state asked text
+
+-- what is asked is answered: a fault, by its line, counted from the beginning of the request; what asks for more than a
+-- state tells by a fault of its own; and anything else as a conversation answers it that stands at this state
+abbrev pub Shows : Contents → ℕ → Result Asked LineFault → List ℕ → Type 0
+Shows state before (Err fault) text = text ≡ fault_text (before + fault.line) fault.kind
+Shows state before (Ok asked) text = ShowsAt (is_beyond asked) state (before + 1) asked text
+
+-- a command is answered, by how many lines stand before it, and then its own are counted too
+pub record Sees (state : Contents) (before : ℕ) (said : Exchange) (after : ℕ) : Type 0 where
+  pub shows : Shows state before (asked_by said.command) said.answer
+  pub counts : after ≡ before + length (lines_of said.command)
+
+-- commands are answered one after the other, each at the same state
+abbrev pub SeesAll : Contents → ℕ → List Exchange → ℕ → Type 0
+SeesAll state first [] last = first ≡ last
+SeesAll state first (said ∷ others) last =
+    (next : ℕ) × IsCommand said.command × Sees state first said next × SeesAll state next others last
+
+-- a request is commands, one behind another, and what its end leaves of a last one; the answer is that of each, one behind
+-- another
+pub record AnswersView (state : Contents) (request answer : List ℕ) : Type 0 where
+  pub said : List Exchange
+  pub last : Exchange
+  pub middle : ℕ
+  pub after : ℕ
+  pub sees : SeesAll state 0 said middle
+  pub is : IsLeft last.command
+  pub ends : Sees state middle last after
+  pub asks : request ≡ flat_map (λ exchange. exchange.command) said ++ last.command
+  pub tells : answer ≡ flat_map (λ exchange. exchange.answer) said ++ last.answer

@@ -1,0 +1,137 @@
+//! Requests that are asked of a state, which stays.
+ghost use Rattle.std.specs.Prelude.{◌≡◌, ◌++◌, ◌+◌, List, Ok, Result, IfErr, IfOk, OnErr, true, ℕ};
+ghost use Rattle.camp_script.specs.Gives.{Gives};
+ghost use Rattle.camp_script.specs.declared.faults.LineFault.{LineFault as SaidFault};
+ghost use Rattle.camp_talk.specs.Inside.Said.{IsNotWriting};
+ghost use Rattle.camp_talk.specs.Inside.Viewing.{SeesTurn};
+ghost use Rattle.camp_talk.specs.Talks.{HasRisen};
+ghost use Rattle.camp_talk.specs.Views.{AnswersView, Shows, beyond_text};
+ghost use Rattle.camp_talk.specs.declared.questions.Asked.{Asked as SaidAsked};
+
+use crate::answers::{answer_text, fault_text};
+use crate::lines::hold;
+use crate::questions::{Asked, Question};
+use crate::readings::{count_lines, read_command};
+use crate::tellings::answer_at;
+use crate::{State, TalkFault};
+use camp_repo::{Call, Decided};
+use camp_script::ScriptFault;
+use itoa::Buffer;
+use std::alloc::{AllocError, Global};
+use std::io::BufRead;
+
+/// Appends the answer to a request that is asked of a state: what a conversation answers there, but that a command
+/// which would write, or asks about the history, has a fault of its own. After a fault the answer is as it was.
+pub fn answer_view(
+    alloc: Global,
+    state: &State,
+    request: &[u8],
+    answer: &mut Vec<u8>,
+) -> Result<(), TalkFault>
+    ensures answers { IfOk result (λ _. (text : List ℕ) × (answer.new.items ≡ answer.old.items ++ text)
+        × AnswersView state.now request.now text) }
+    ensures kept { OnErr result (answer.new.items ≡ answer.old.items) }
+    ensures unwritten { IfErr result IsNotWriting }
+{
+    let start = answer.len();
+    let mut reader = request;
+    let mut lines = 0;
+    loop {
+        match see(alloc, state, &mut lines, &mut reader, answer) {
+            Ok(true) => {}
+            Ok(false) => return Ok(()),
+            Err(why) => {
+                answer.truncate(start);
+                return Err(why);
+            }
+        }
+    }
+}
+
+// Reads a command, and puts what a view tells of a state behind an answer. Whether there may be more: else the input
+// has ended. `lines` counts the lines that were read. After a fault the answer is as it was.
+fn see<R: BufRead>(
+    alloc: Global,
+    state: &State,
+    lines: &mut u64,
+    reader: &mut R,
+    answer: &mut Vec<u8>,
+) -> Result<bool, TalkFault>
+    ensures sees { IfOk result (λ more. SeesTurn (R.remaining reader.old) (R.remaining reader.new)
+        answer.old.items answer.new.items state.now lines.old more lines.new) }
+    ensures counts { IfOk result (λ more. more ≡ true → HasRisen lines.old lines.new) }
+    ensures kept { OnErr result (answer.new.items ≡ answer.old.items) }
+    ensures unwritten { IfErr result IsNotWriting }
+{
+    let command = read_command(alloc, reader)?;
+    let Some(after) = lines.checked_add(count_lines(&command.bytes)) else {
+        return Err(TalkFault::Internal);
+    };
+    let Ok(text) = show(alloc, state, *lines, &command.asked) else {
+        return Err(TalkFault::Memory);
+    };
+    hold(answer, &text)?;
+    *lines = after;
+    Ok(command.is_whole)
+}
+
+// What a view tells of a state where this is asked, by the number of the lines before it.
+fn show(
+    alloc: Global,
+    state: &State,
+    before: u64,
+    asked: &Result<Asked, ScriptFault>,
+) -> Result<Vec<u8>, AllocError>
+    ensures { IfOk result (λ text. (reading : Result SaidAsked SaidFault) → Gives asked.now reading →
+        Shows state.now before reading text.items) }
+{
+    match asked {
+        Ok(Asked::Nothing) => Ok(Vec::new(alloc)),
+        Ok(Asked::Call(call)) => show_reply(alloc, state, before, call),
+        Ok(Asked::Question(question)) => show_told(alloc, state, before, question),
+        Err(ScriptFault::Line(fault)) => fault_text(alloc, before, fault.line, fault.kind),
+        Err(ScriptFault::Memory) => Err(AllocError),
+    }
+}
+
+// The text of the reply to a call that asks; that of its fault to one that would write.
+#[tactic(auto, using(crate::proofs::ViewLemmas::leads_on))]
+fn show_reply(alloc: Global, state: &State, before: u64, call: &Call) -> Result<Vec<u8>, AllocError>
+    ensures { IfOk result (λ text. Shows state.now before (Ok (SaidAsked.Call call.now)) text.items) }
+{
+    if call.is_writing() {
+        return beyond_text(alloc, before);
+    }
+    if state.count() == u64::MAX {
+        return Err(AllocError);
+    }
+    match state.decide(call)? {
+        Decided::Answer(reply) => answer_text(alloc, &Ok(reply)),
+        Decided::Next(_) => unreachable!(),
+    }
+}
+
+fn show_told(
+    alloc: Global,
+    state: &State,
+    before: u64,
+    question: &Question,
+) -> Result<Vec<u8>, AllocError>
+    ensures { IfOk result (λ text. Shows state.now before (Ok (SaidAsked.Question question.now)) text.items) }
+{
+    match question {
+        Question::History | Question::Keep => beyond_text(alloc, before),
+        other => answer_at(alloc, &[], state, other),
+    }
+}
+
+// The fault of a command that is not asked of a view, by the number of the lines before it.
+fn beyond_text(alloc: Global, before: u64) -> Result<Vec<u8>, AllocError>
+    ensures { IfOk result (λ text. text.items ≡ beyond_text (before + 1)) }
+{
+    let mut number = Buffer::new();
+    let line = number.format(u128::from(before) + 1);
+    let mut text = format!(in alloc; "fault {line} not asked of a view")?.into_bytes();
+    text.push(b'\n')?;
+    Ok(text)
+}
