@@ -19,7 +19,10 @@ pub mod MarkSteps
 pub mod MissingNames
 pub mod OpenPairs
 pub mod PairSteps
+pub mod PartsArranged
 pub mod PatchFronts
+pub mod PatchesBack
+pub mod PatchesOfLists
 pub mod PlaceSteps
 pub mod PlainGoing
 pub mod PulledNeeds
@@ -30,4 +33,6 @@ pub mod SideLists
 pub mod SideSteps
 pub mod SidesApply
 pub mod Stuck
+pub mod TakenBack
 pub mod TakenNames
+pub mod WalkedPatches

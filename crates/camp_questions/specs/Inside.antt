@@ -1,5 +1,6 @@
 -- What only functions that stay within the crate say.
 pub mod Alongside
+pub mod ByPatch
 pub mod Finding
 pub mod Foresight
 pub mod Graphing
@@ -7,4 +8,6 @@ pub mod Growing
 pub mod OpenPairs
 pub mod Placing
 pub mod Seeing
+pub mod StandingAside
+pub mod TakingBack
 pub mod Walking

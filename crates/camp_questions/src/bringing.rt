@@ -6,10 +6,9 @@ ghost use Rattle.camp_branch.specs.Fields.{names_in};
 ghost use Rattle.camp_repo.specs.Steps.{wanted};
 ghost use Rattle.camp_questions.specs.Along.{TellsAlong};
 ghost use Rattle.camp_questions.specs.Inside.Alongside.{DoNotStand, StandBehind};
-ghost use Rattle.camp_questions.specs.Inside.Growing.{GrowsToFront};
 
 use crate::Unanswered;
-use crate::dependencies::in_order;
+use crate::dependencies::{in_order, stuck_to_front};
 use crate::finding::branch_of;
 use camp_base::Name;
 use camp_branch::{NameSet, set_of};
@@ -35,7 +34,7 @@ pub fn along(state: &State, from: &Name, to: &Name, names: &[Name]) -> Result<Na
     let alloc = theirs.catches().allocator();
     let behind = behind_common(theirs, ours)?;
     let wanted = wanted(alloc, ours, names)?;
-    let grown = grown_behind(alloc, &behind, wanted)?;
+    let grown = stuck_to_front(alloc, &behind, wanted)?;
     Ok(in_order(theirs, &grown)?)
 }
 
@@ -65,23 +64,4 @@ fn wanted(alloc: Global, to: &Branch, names: &[Name]) -> Result<NameSet, AllocEr
     wanted.retain(|name| !to.has_patch(name));
     let set = set_of(alloc, &wanted)?;
     Ok(set)
-}
-
-/// The names, and those that are added until they come to the front of the list. Each that is added
-/// costs an arranging, and one tells that none is left.
-fn grown_behind(
-    alloc: Global,
-    list: &[Shared<Catch>],
-    names: NameSet,
-) -> Result<NameSet, AllocError>
-    ensures { IfOk result (λ grown. GrowsToFront list.now (names_in names) (names_in grown)) }
-{
-    let mut grown = names;
-    loop {
-        match arrange(alloc, list, &grown) {
-            Ok(_) => return Ok(grown),
-            Err(Unmade::Blocked(stuck)) => grown = grown.inserted(stuck.on.name, ())?,
-            Err(Unmade::Memory) => return Err(AllocError),
-        }
-    }
 }

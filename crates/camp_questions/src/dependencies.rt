@@ -3,15 +3,17 @@ ghost use Rattle.camp_branch.specs.Branches.{is_among};
 ghost use Rattle.camp_branch.specs.Fields.{names_in};
 ghost use Rattle.camp_questions.specs.Answers.{Tells};
 ghost use Rattle.camp_questions.specs.Dependencies.{AreHeldBy, AreNeeded, in_order};
-ghost use Rattle.camp_questions.specs.Inside.Growing.{GrowsToFront, GrowsToGo, IsDependence};
+ghost use Rattle.camp_questions.specs.Inside.Growing.{GrowsToFront, GrowsToGo};
 
 use crate::Unanswered;
+use crate::fast::{by_patch, held_in, taken_back};
 use crate::finding::branch_with;
 use camp_base::Name;
-use camp_branch::{Blocked, NameSet, set_of};
-use camp_catch::{Unmade, arrange};
+use camp_branch::{NameSet, set_of};
+use camp_catch::{Catch, Unmade, arrange};
 use camp_repo::{Branch, Names, State};
-use std::alloc::AllocError;
+use camp_share::Shared;
+use std::alloc::{AllocError, Global};
 
 /// What these names need in a branch: these, and each on which bringing them to the front of the branch
 /// sticks. They are told in the order of the branch. A pull into another branch may want others, which
@@ -36,16 +38,36 @@ pub fn held_by(state: &State, branch: &Name, names: &[Name]) -> Result<Names, Un
     Ok(in_order(branch, &held)?)
 }
 
-/// The names, and those that are added until they come to the front of the branch. Each that is added
-/// costs an arranging, and one tells that none is left.
+/// The names, and those that are added until they come to the front of the branch: where all its patches are
+/// plain and have room for sure, those that the names hold in the branch taken back.
 pub(crate) fn grown_to_front(branch: &Branch, names: NameSet) -> Result<NameSet, AllocError>
     ensures { IfOk result (λ grown. GrowsToFront branch.now (names_in names) (names_in grown)) }
 {
     let alloc = branch.catches().allocator();
     let catches = branch.catches().to_vec()?;
+    let patches = by_patch(alloc, &catches)?;
+    let back = taken_back(alloc, &catches, &patches)?;
+    match back {
+        Some(mut back) => {
+            back.reverse();
+            held_in(alloc, &back, names)
+        }
+        None => stuck_to_front(alloc, &catches, names),
+    }
+}
+
+/// The names, and those that are added until they come to the front of a list. Each that is added costs
+/// an arranging, and one tells that none is left.
+pub(crate) fn stuck_to_front(
+    alloc: Global,
+    list: &[Shared<Catch>],
+    names: NameSet,
+) -> Result<NameSet, AllocError>
+    ensures { IfOk result (λ grown. GrowsToFront list.now (names_in names) (names_in grown)) }
+{
     let mut grown = names;
     loop {
-        match arrange(alloc, &catches, &grown) {
+        match arrange(alloc, list, &grown) {
             Ok(_) => return Ok(grown),
             Err(Unmade::Blocked(stuck)) => grown = grown.inserted(stuck.on.name, ())?,
             Err(Unmade::Memory) => return Err(AllocError),
@@ -53,30 +75,14 @@ pub(crate) fn grown_to_front(branch: &Branch, names: NameSet) -> Result<NameSet,
     }
 }
 
-/// The names, and those that are added until they can be taken out of the branch. Each that is added
-/// costs an arranging, and one tells that none is left.
+/// The names, and those that are added until they can be taken out of the branch.
 fn grown_to_go(branch: &Branch, names: NameSet) -> Result<NameSet, AllocError>
     ensures { IfOk result (λ grown. GrowsToGo branch.now (names_in names) (names_in grown)) }
 {
-    let mut grown = names;
-    loop {
-        match branch.without(&grown) {
-            Ok(_) => return Ok(grown),
-            Err(Unmade::Blocked(blocked)) => grown = grown.inserted(dependent(&blocked), ())?,
-            Err(Unmade::Memory) => return Err(AllocError),
-        }
-    }
-}
-
-/// The patch that depends on another.
-fn dependent(blocked: &Blocked) -> Name
-    requires { IsDependence blocked.now }
-    ensures { (on : List ℕ) × (blocked.now ≡ Blocked.Depends result on) }
-{
-    let Blocked::Depends { patch, .. } = blocked else {
-        unreachable!();
-    };
-    *patch
+    let alloc = branch.catches().allocator();
+    let catches = branch.catches().to_vec()?;
+    let patches = by_patch(alloc, &catches)?;
+    held_in(alloc, &patches, names)
 }
 
 /// The names of the patches of a branch that are in a set, in the order of the branch.

@@ -7,6 +7,7 @@ mod common_lines;
 mod contents;
 mod dependencies;
 mod differences;
+mod fast;
 mod faults;
 mod finding;
 mod foresight;

@@ -2,8 +2,6 @@
 use Rattle.std.specs.Prelude.{◌≡◌, ℕ, List, ◌++◌}
 use Rattle.camp_catch.specs.declared.catches.Catch.{Catch}
 use Rattle.camp_branch.specs.Branches.{is_among}
-use Rattle.camp_branch.specs.declared.faults.Blocked.{Blocked}
-use Rattle.camp_branch.specs.declared.faults.Blocked.TheVariants.{Depends}
 use Rattle.camp_questions.specs.Dependencies.{AreAdded, AreHeldIn, CanGo, ComeToFront, StickOn}
 
 -- a set has the names and those that are added
@@ -20,7 +18,3 @@ GrowsToFront branch = Grows (ComeToFront branch) (StickOn branch)
 -- until they can be taken out of a branch
 abbrev pub GrowsToGo : List Catch → List (List ℕ) → List (List ℕ) → Type 0
 GrowsToGo branch = Grows (CanGo branch) (AreHeldIn branch)
-
--- that a patch depends on another is what stops an obliteration
-abbrev pub IsDependence : Blocked → Type 0
-IsDependence blocked = (patch : List ℕ) × (on : List ℕ) × (blocked ≡ Depends patch on)

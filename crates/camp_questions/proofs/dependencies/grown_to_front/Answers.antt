@@ -1,35 +1,34 @@
-use Rattle.camp_questions.proofs.Words.{◌≡◌, ◌∙◌, List, map, refl, subst, slice_cmp, nat_cmp, map_of, Catch, name_of, names_in, ComeToFront, StickOn, Arrange, ArrangeSticks}
-use Rattle.camp_questions.proofs.BranchGrowths.{to_front}
-use Rattle.camp_questions.proofs.Growing.{all_grown, fewer_to_come, one_grown}
+use Rattle.std.proofs.lemmas.Result.{IfOk-weaker}
+use Rattle.std.specs.Prelude.{reverse}
+use Rattle.camp_questions.proofs.Words.{List, ap, ◌≡◌, ◌∙◌, subst, sym, Catch, HasPatches, names_in}
+use Rattle.camp_questions.specs.Inside.ByPatch.{ArePatchesOf, catches_in_order}
+use Rattle.camp_questions.specs.Inside.Growing.{GrowsToFront, GrowsToGo}
+use Rattle.camp_questions.specs.Inside.TakingBack.{AreTakenBack}
+use Rattle.camp_questions.specs.declared.fast.patch_catches.PatchCatches.{PatchCatches}
+use Rattle.camp_questions.proofs.PatchesBack.{needed_taken_back, reversed}
 use Rattle.camp_questions.proofs.dependencies.grown_to_front.Goals as goal
 
-pub returns-in-Ok : goal.returns-in-Ok
-returns-in-Ok c =
+pub by_patch-requires : goal.by_patch-requires
+by_patch-requires c =
     let branch : List Catch = c.args.branch.now in
-    let grown = names_in c.loop-grown.grown in
     let is : c.deref.result.now ≡ branch = c.deref.ensures.value ∙ c.in_ok-catches.ensures.exact ∙ c.catches-2.ensures.value in
-    let front = c.in-Ok.ensures.exact in
-    let first : List Catch = c.in-Ok.field-0.first.items in
-    let rest : List Catch = c.in-Ok.field-0.rest.items in
-    let done : ComeToFront branch grown = (first, rest, subst (λ l. Arrange grown l first rest) is front) in
-    all_grown (map name_of branch) (ComeToFront branch) (StickOn branch) (to_front branch) (names_in c.args.names) grown c.loop-grown.invariant done
+    let lawful = c.catches-2.ensures.lawful in
+    (lawful.patches, subst (λ l. HasPatches l lawful.patches) (sym is) lawful.has)
 
-pub loop-grown-smaller : goal.loop-grown-smaller
-loop-grown-smaller c =
-    let branch : List Catch = c.args.branch.now in
-    let grown = names_in c.loop-grown.grown in
-    let is : c.deref.result.now ≡ branch = c.deref.ensures.value ∙ c.in_ok-catches.ensures.exact ∙ c.catches-2.ensures.value in
-    let on = c.in-Err-Blocked.stuck.on in
-    let stuck = rw c.in-Err-Blocked.field-0-is at c.in-Err-Blocked.ensures.exact in
-    let stops : StickOn branch grown on.name = (c.in-Err-Blocked.stuck.patch, on, subst (λ l. ArrangeSticks grown l c.in-Err-Blocked.stuck.patch on) is stuck, refl) in
-    fewer_to_come (map name_of branch) (ComeToFront branch) (StickOn branch) (to_front branch) (map_of (slice_cmp nat_cmp) c.loop-grown.grown) (map_of (slice_cmp nat_cmp) c.in_ok-grown-in-Err-Blocked.grown) on.name stops c.in_ok-grown-in-Err-Blocked.ensures.exact
+pub held_in-requires : goal.held_in-requires
+held_in-requires c =
+    let taken : AreTakenBack c.deref-3.result.now c.in-Some.back.items = rw c.in-Some.is at c.in_ok-back.ensures in
+    rw (c.deref-in-Some.ensures.value, c.reverse.ensures.items) (reversed c.in-Some.back.items taken.are)
 
-pub loop-grown-preserved : goal.loop-grown-preserved
-loop-grown-preserved c =
+pub returns-in-Some : goal.returns-in-Some
+returns-in-Some c =
     let branch : List Catch = c.args.branch.now in
-    let grown = names_in c.loop-grown.grown in
+    let patches : List PatchCatches = c.in_ok-patches.patches.items in
+    let backs : List PatchCatches = c.in-Some.back.items in
+    let names = names_in c.args.names in
     let is : c.deref.result.now ≡ branch = c.deref.ensures.value ∙ c.in_ok-catches.ensures.exact ∙ c.catches-2.ensures.value in
-    let on = c.in-Err-Blocked.stuck.on in
-    let stuck = rw c.in-Err-Blocked.field-0-is at c.in-Err-Blocked.ensures.exact in
-    let stops : StickOn branch grown on.name = (c.in-Err-Blocked.stuck.patch, on, subst (λ l. ArrangeSticks grown l c.in-Err-Blocked.stuck.patch on) is stuck, refl) in
-    one_grown (map name_of branch) (ComeToFront branch) (StickOn branch) (to_front branch) (names_in c.args.names) (map_of (slice_cmp nat_cmp) c.loop-grown.grown) (map_of (slice_cmp nat_cmp) c.in_ok-grown-in-Err-Blocked.grown) on.name c.loop-grown.invariant stops c.in_ok-grown-in-Err-Blocked.ensures.exact
+    let of = subst (λ l. ArePatchesOf l patches) is c.in_ok-patches.ensures in
+    let taken : AreTakenBack c.deref-3.result.now backs = rw c.in-Some.is at c.in_ok-back.ensures in
+    let taken_so = subst (λ l. AreTakenBack l backs) c.deref-3.ensures.value taken in
+    let turned : c.deref-in-Some.result.now ≡ reverse backs = c.deref-in-Some.ensures.value ∙ c.reverse.ensures.items in
+    IfOk-weaker c.held_in.result (λ grown. GrowsToGo (catches_in_order c.deref-in-Some.result.now) names (names_in grown)) (λ grown. GrowsToFront branch names (names_in grown)) (λ grown grows. needed_taken_back branch patches backs names (names_in grown) of taken_so (subst (λ l. GrowsToGo (catches_in_order l) names (names_in grown)) turned grows)) c.held_in.ensures

@@ -1,31 +1,20 @@
-use Rattle.camp_questions.proofs.Words.{List, map, subst, Err, slice_cmp, nat_cmp, map_of, Catch, name_of, names_in, AreHeldIn, CanGo, ObliterateGives}
-use Rattle.camp_questions.proofs.BranchGrowths.{to_go}
-use Rattle.camp_questions.proofs.Growing.{all_grown, fewer_to_come, one_grown}
+use Rattle.std.proofs.lemmas.Result.{IfOk-weaker}
+use Rattle.camp_questions.proofs.Words.{List, ◌≡◌, ◌∙◌, ap, subst, sym, Catch, HasPatches, names_in}
+use Rattle.camp_questions.specs.Inside.ByPatch.{ArePatches, catches_in_order}
+use Rattle.camp_questions.specs.Inside.Growing.{GrowsToGo}
 use Rattle.camp_questions.proofs.dependencies.grown_to_go.Goals as goal
 
-pub returns-in-Ok : goal.returns-in-Ok
-returns-in-Ok c =
+pub by_patch-requires : goal.by_patch-requires
+by_patch-requires c =
     let branch : List Catch = c.args.branch.now in
-    let grown = names_in c.loop-grown.grown in
-    let done : CanGo branch grown = (c.in-Ok.field-0, c.in-Ok.ensures.exact) in
-    all_grown (map name_of branch) (CanGo branch) (AreHeldIn branch) (to_go branch) (names_in c.args.names) grown c.loop-grown.invariant done
+    let is : c.deref.result.now ≡ branch = c.deref.ensures.value ∙ c.in_ok-catches.ensures.exact ∙ c.catches-2.ensures.value in
+    let lawful = c.catches-2.ensures.lawful in
+    (lawful.patches, subst (λ l. HasPatches l lawful.patches) (sym is) lawful.has)
 
-pub loop-grown-smaller : goal.loop-grown-smaller
-loop-grown-smaller c =
+pub returns : goal.returns
+returns c =
     let branch : List Catch = c.args.branch.now in
-    let grown = names_in c.loop-grown.grown in
-    let patch = c.dependent.result in
-    let on = c.dependent.ensures.0 in
-    let blocked : ObliterateGives branch grown (Err c.in-Err-Blocked.blocked) = rw c.in-Err-Blocked.field-0-is at c.in-Err-Blocked.ensures.exact in
-    let held : AreHeldIn branch grown patch = (on, subst (λ why. ObliterateGives branch grown (Err why)) c.dependent.ensures.1 blocked) in
-    fewer_to_come (map name_of branch) (CanGo branch) (AreHeldIn branch) (to_go branch) (map_of (slice_cmp nat_cmp) c.loop-grown.grown) (map_of (slice_cmp nat_cmp) c.in_ok-grown-in-Err-Blocked.grown) patch held c.in_ok-grown-in-Err-Blocked.ensures.exact
-
-pub loop-grown-preserved : goal.loop-grown-preserved
-loop-grown-preserved c =
-    let branch : List Catch = c.args.branch.now in
-    let grown = names_in c.loop-grown.grown in
-    let patch = c.dependent.result in
-    let on = c.dependent.ensures.0 in
-    let blocked : ObliterateGives branch grown (Err c.in-Err-Blocked.blocked) = rw c.in-Err-Blocked.field-0-is at c.in-Err-Blocked.ensures.exact in
-    let held : AreHeldIn branch grown patch = (on, subst (λ why. ObliterateGives branch grown (Err why)) c.dependent.ensures.1 blocked) in
-    one_grown (map name_of branch) (CanGo branch) (AreHeldIn branch) (to_go branch) (names_in c.args.names) (map_of (slice_cmp nat_cmp) c.loop-grown.grown) (map_of (slice_cmp nat_cmp) c.in_ok-grown-in-Err-Blocked.grown) patch c.loop-grown.invariant held c.in_ok-grown-in-Err-Blocked.ensures.exact
+    let list : c.deref.result.now ≡ branch = c.deref.ensures.value ∙ c.in_ok-catches.ensures.exact ∙ c.catches-2.ensures.value in
+    let names = names_in c.args.names in
+    let whole : catches_in_order c.deref-2.result.now ≡ branch = ap catches_in_order c.deref-2.ensures.value ∙ c.in_ok-patches.ensures.catches ∙ list in
+    IfOk-weaker c.held_in.result (λ grown. GrowsToGo (catches_in_order c.deref-2.result.now) names (names_in grown)) (λ grown. GrowsToGo branch names (names_in grown)) (λ grown grows. subst (λ l. GrowsToGo l names (names_in grown)) whole grows) c.held_in.ensures

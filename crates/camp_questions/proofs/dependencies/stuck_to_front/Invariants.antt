@@ -1,7 +1,7 @@
 use Rattle.camp_questions.proofs.Words.{length, map, name_of, names_in, ComeToFront, StickOn}
 use Rattle.camp_questions.proofs.Growing.{IsGrownSoFar}
 use Rattle.camp_questions.proofs.Growths.{left_of}
-use Rattle.camp_questions.proofs.bringing.grown_behind.Given as goal
+use Rattle.camp_questions.proofs.dependencies.stuck_to_front.Given as goal
 
 abbrev pub invariant-loop-grown : goal.invariant-loop-grown
 invariant-loop-grown l = IsGrownSoFar (ComeToFront l.list) (StickOn l.list) (names_in l.fn.names) (names_in l.grown)

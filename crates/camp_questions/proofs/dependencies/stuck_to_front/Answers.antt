@@ -1,7 +1,7 @@
 use Rattle.camp_questions.proofs.Words.{List, map, refl, slice_cmp, nat_cmp, map_of, Catch, name_of, names_in, ComeToFront, StickOn}
 use Rattle.camp_questions.proofs.BranchGrowths.{to_front}
 use Rattle.camp_questions.proofs.Growing.{all_grown, fewer_to_come, one_grown}
-use Rattle.camp_questions.proofs.bringing.grown_behind.Goals as goal
+use Rattle.camp_questions.proofs.dependencies.stuck_to_front.Goals as goal
 
 pub returns-in-Ok : goal.returns-in-Ok
 returns-in-Ok c =

@@ -1,0 +1,171 @@
+-- Lists of catches that are arranged part by part.
+use Rattle.camp_questions.proofs.Words.{◌≡◌, ◌<◌, ℕ, ◌+◌, ◌-◌, true≢false, false, ◌||◌, arith, get_or, length, take, take_more, List, [], ◌∷◌, ◌++◌, bytes_eq, append-nil, append_assoc, refl, sym, ap, ◌∙◌, subst, inl, inr, AllByRecursion, Key, Catch, AreAlike, Arrange, ArrangeSticks, ArrangesBehind, ComesBefore, SticksBehind, StopsAt, is_among, is_among_is, name_of}
+use Rattle.std.proofs.lemmas.List.{take_all}
+use Rattle.camp_catch.specs.Arranging.{DoNotCommute, IsOf}
+use Rattle.camp_catch.specs.Catches.{catch_key}
+use Rattle.camp_catch.specs.Laws.{KeysPart, keys_of}
+use Rattle.camp_catch.proofs.KeptLabels.{keep_labels}
+use Rattle.camp_catch.proofs.ListResults.{arrange_by_members}
+use Rattle.camp_questions.proofs.BranchGrowths.{contains_alike}
+use Rattle.camp_questions.proofs.PatchFronts.{AreNotOf, all_are, at_first}
+use Rattle.camp_questions.specs.Inside.ByPatch.{AreApart, AreOfPatch}
+use Rattle.camp_questions.specs.Inside.StandingAside.{AllStay, ComeBeforeAll, StickBehind}
+
+module _ (names : List (List ℕ)) where
+  -- what is arranged, and then what is behind it, is arranged together
+  pub arranged_further : (rest list more first others front behind : List Catch) → ArrangesBehind names rest list first others → ArrangesBehind names others more front behind → ArrangesBehind names rest (list ++ more) (first ++ front) behind
+  arranged_further rest [] more first others front behind w v =
+      subst (λ r. ArrangesBehind names r more (first ++ front) behind) w.1 (subst (λ f. ArrangesBehind names others more (f ++ front) behind) (sym w.0) v)
+  arranged_further rest (k ∷ list) more first others front behind (inl w) v =
+      let come = w.1 in
+      inl (w.0, (come.0, come.1, come.2 ++ front, come.3, arranged_further come.1 list more come.2 others front behind come.4 v, ap (λ l. l ++ front) come.5))
+  arranged_further rest (k ∷ list) more first others front behind (inr w) v =
+      inr (w.0, arranged_further (rest ++ k ∷ []) list more first others front behind w.1 v)
+
+  -- what sticks behind what is arranged sticks in the whole
+  pub sticks_further : (rest list more first others : List Catch) (patch on : Key) → ArrangesBehind names rest list first others → SticksBehind names others more patch on → SticksBehind names rest (list ++ more) patch on
+  sticks_further rest [] more first others patch on w stuck =
+      subst (λ r. SticksBehind names r more patch on) w.1 stuck
+  sticks_further rest (k ∷ list) more first others patch on (inl w) stuck =
+      let come = w.1 in
+      inr (inl (w.0, (come.0, come.1, come.3, sticks_further come.1 list more come.2 others patch on come.4 stuck)))
+  sticks_further rest (k ∷ list) more first others patch on (inr w) stuck =
+      inr (inr (w.0, sticks_further (rest ++ k ∷ []) list more first others patch on w.1 stuck))
+
+  -- what sticks does so whatever is behind it
+  pub still_sticks : (rest list more : List Catch) (patch on : Key) → SticksBehind names rest list patch on → SticksBehind names rest (list ++ more) patch on
+  still_sticks rest [] more patch on w = absurd w
+  still_sticks rest (k ∷ list) more patch on (inl w) = inl w
+  still_sticks rest (k ∷ list) more patch on (inr (inl w)) =
+      let come = w.1 in
+      inr (inl (w.0, (come.0, come.1, come.2, still_sticks come.1 list more patch on come.3)))
+  still_sticks rest (k ∷ list) more patch on (inr (inr w)) =
+      inr (inr (w.0, still_sticks (rest ++ k ∷ []) list more patch on w.1))
+
+-- of some catches, two lists have the same names
+abbrev pub AgreeOn : List (List ℕ) → List (List ℕ) → List Catch → Type 0
+AgreeOn names others list =
+    AllByRecursion (λ k. is_among names (name_of k) ≡ is_among others (name_of k)) list
+
+module _ (names others : List (List ℕ)) where
+  still_of : (k : Catch) → is_among names (name_of k) ≡ is_among others (name_of k) → IsOf names k → IsOf others k
+  still_of k same of = (is_among_is others (name_of k)).1 (sym same ∙ (is_among_is names (name_of k)).0 of)
+
+  still_not : (k : Catch) → is_among names (name_of k) ≡ is_among others (name_of k) → ¬ (IsOf names k) → ¬ (IsOf others k)
+  still_not k same never of =
+      never ((is_among_is names (name_of k)).1 (same ∙ (is_among_is others (name_of k)).0 of))
+
+  -- what is arranged goes by which of its catches are of the names
+  pub arranged_alike : (rest list first behind : List Catch) → AgreeOn names others list → ArrangesBehind names rest list first behind → ArrangesBehind others rest list first behind
+  arranged_alike rest [] first behind same w = w
+  arranged_alike rest (k ∷ list) first behind same (inl w) =
+      let come = w.1 in
+      inl (still_of k same.0 w.0, (come.0, come.1, come.2, come.3, arranged_alike come.1 list come.2 behind same.1 come.4, come.5))
+  arranged_alike rest (k ∷ list) first behind same (inr w) =
+      inr (still_not k same.0 w.0, arranged_alike (rest ++ k ∷ []) list first behind same.1 w.1)
+
+  pub sticks_alike : (rest list : List Catch) (patch on : Key) → AgreeOn names others list → SticksBehind names rest list patch on → SticksBehind others rest list patch on
+  sticks_alike rest [] patch on same w = absurd w
+  sticks_alike rest (k ∷ list) patch on same (inl w) = inl (still_of k same.0 w.0, w.1, w.2)
+  sticks_alike rest (k ∷ list) patch on same (inr (inl w)) =
+      let come = w.1 in
+      inr (inl (still_of k same.0 w.0, (come.0, come.1, come.2, sticks_alike come.1 list patch on same.1 come.3)))
+  sticks_alike rest (k ∷ list) patch on same (inr (inr w)) =
+      inr (inr (still_not k same.0 w.0, sticks_alike (rest ++ k ∷ []) list patch on same.1 w.1))
+
+-- a catch of a patch is of its name alone
+pub of_its_name : (name : List ℕ) (k : Catch) → name_of k ≡ name → IsOf (name ∷ []) k
+of_its_name name k is = (is_among_is (name ∷ []) (name_of k)).1 (at_first name [] (name_of k) is)
+
+-- what sticks of one patch is of its name
+pub stuck_name : (name : List ℕ) (rest list : List Catch) (patch on : Key) → AreOfPatch name list → SticksBehind (name ∷ []) rest list patch on → patch.name ≡ name
+stuck_name name rest [] patch on own w = absurd w
+stuck_name name rest (k ∷ list) patch on own (inl w) = ap (λ (key : Key). key.name) w.2 ∙ own.0
+stuck_name name rest (k ∷ list) patch on own (inr (inl w)) =
+    stuck_name name w.1.1 list patch on own.1 w.1.3
+stuck_name name rest (k ∷ list) patch on own (inr (inr w)) =
+    stuck_name name (rest ++ k ∷ []) list patch on own.1 w.1
+
+-- one more catch of a patch has come before what goes
+pub one_came : (name : List ℕ) (rest list first going left : List Catch) (k k' : Catch) → name_of k ≡ name → ArrangesBehind (name ∷ []) rest list first going → ComesBefore going k k' left → ArrangesBehind (name ∷ []) rest (list ++ k ∷ []) (first ++ k' ∷ []) left
+one_came name rest list first going left k k' is so_far comes =
+    arranged_further (name ∷ []) rest list (k ∷ []) first going (k' ∷ []) left so_far (inl (of_its_name name k is, (k', left, [], comes, (refl, refl), refl)))
+
+-- one can not
+pub one_stuck : (name : List ℕ) (rest list more first going : List Catch) (k : Catch) (on : Key) → name_of k ≡ name → ArrangesBehind (name ∷ []) rest list first going → StopsAt going k on → SticksBehind (name ∷ []) rest (list ++ k ∷ more) (catch_key k) on
+one_stuck name rest list more first going k on is so_far stops =
+    sticks_further (name ∷ []) rest list (k ∷ more) first going (catch_key k) on so_far (inl (of_its_name name k is, stops, refl))
+
+-- catches that stay as they are come before what stays too
+pub all_came : (name : List ℕ) (going list : List Catch) → AreOfPatch name list → AllStay going list → ArrangesBehind (name ∷ []) going list list going
+all_came name going [] own stay = (refl, refl)
+all_came name going (k ∷ list) own stay =
+    inl (of_its_name name k own.0, (k, going, list, stay.0, all_came name going list own.1 stay.1, refl))
+
+stopped_by_last : (going : List Catch) (j k : Catch) → DoNotCommute j k → StopsAt (going ++ j ∷ []) k (catch_key j)
+stopped_by_last [] j k never = inr (k, [], (refl, refl), never, refl)
+stopped_by_last (g ∷ going) j k never = inl (stopped_by_last going j k never)
+
+-- where the last of what goes does not commute with the first catch of a patch, the patch sticks
+pub first_stuck : (name : List ℕ) (going list : List Catch) (j k dj dk : Catch) → 0 < length going → 0 < length list → j ≡ get_or going (length going - 1) dj → k ≡ get_or list 0 dk → AreOfPatch name list → DoNotCommute j k → StickBehind name going list
+first_stuck name going [] j k dj dk some more is first own never = absurd (omega (arith, more))
+first_stuck name going (q ∷ list) j k dj dk some more is first own never =
+    let n = length going - 1 in
+    let whole : going ≡ take n going ++ j ∷ [] = sym (take_all (n + 1) going (omega (arith, some))) ∙ take_more going n dj (omega (arith, some)) ∙ ap (λ x. take n going ++ x ∷ []) (sym is) in
+    let stops = stopped_by_last (take n going) j q (subst (DoNotCommute j) first never) in
+    (catch_key q, catch_key j, inl (of_its_name name q own.0, subst (λ l. StopsAt l q (catch_key j)) (sym whole) stops, refl))
+
+-- none of some catches is of the patch alone
+others_of_it : (name : List ℕ) (list : List Catch) → AreApart name list → AreNotOf (name ∷ []) list
+others_of_it name list apart = all_are (λ k other. ap (λ b. b || false) other) list apart
+
+module _ (names : List (List ℕ)) where
+  -- others at the front of a list stay where they are
+  others_first : (rest going list first left : List Catch) → AreNotOf names going → ArrangesBehind names rest (going ++ list) first left → ArrangesBehind names (rest ++ going) list first left
+  others_first rest [] list first left are w =
+      subst (λ r. ArrangesBehind names r list first left) (sym (append-nil rest)) w
+  others_first rest (k ∷ going) list first left are (inl w) =
+      absurd (true≢false (sym ((is_among_is names (name_of k)).0 w.0) ∙ are.0))
+  others_first rest (k ∷ going) list first left are (inr w) =
+      subst (λ r. ArrangesBehind names r list first left) (append_assoc rest (k ∷ []) going) (others_first (rest ++ k ∷ []) going list first left are.1 w.1)
+
+  stuck_behind : (rest going list : List Catch) (patch on : Key) → AreNotOf names going → SticksBehind names rest (going ++ list) patch on → SticksBehind names (rest ++ going) list patch on
+  stuck_behind rest [] list patch on are w =
+      subst (λ r. SticksBehind names r list patch on) (sym (append-nil rest)) w
+  stuck_behind rest (k ∷ going) list patch on are (inl w) =
+      absurd (true≢false (sym ((is_among_is names (name_of k)).0 w.0) ∙ are.0))
+  stuck_behind rest (k ∷ going) list patch on are (inr (inl w)) =
+      absurd (true≢false (sym ((is_among_is names (name_of k)).0 w.0) ∙ are.0))
+  stuck_behind rest (k ∷ going) list patch on are (inr (inr w)) =
+      subst (λ r. SticksBehind names r list patch on) (append_assoc rest (k ∷ []) going) (stuck_behind (rest ++ k ∷ []) going list patch on are.1 w.1)
+
+-- where the patch comes to the front of what goes and its catches, it comes before what goes
+pub comes_before_all : (name : List ℕ) (set : List (List ℕ)) (going list first left : List Catch) → AreAlike set (name ∷ []) → AreApart name going → Arrange set (going ++ list) first left → ComeBeforeAll name going list left
+comes_before_all name set going list first left alike apart w =
+    (first, others_first (name ∷ []) [] going list first left (others_of_it name going apart) (arrange_by_members.arranged set (name ∷ []) (contains_alike set (name ∷ []) alike) (going ++ list) first left w))
+
+-- where it sticks on its way there, it can not
+pub stuck_before_all : (name : List ℕ) (set : List (List ℕ)) (going list : List Catch) (patch on : Key) → AreAlike set (name ∷ []) → AreApart name going → ArrangeSticks set (going ++ list) patch on → StickBehind name going list
+stuck_before_all name set going list patch on alike apart w =
+    (patch, on, stuck_behind (name ∷ []) [] going list patch on (others_of_it name going apart) (arrange_by_members.sticks set (name ∷ []) (contains_alike set (name ∷ []) alike) (going ++ list) patch on w))
+
+-- what holds of all keys of a list holds of those behind what is arranged
+keys_kept : (P : Key → Type 0) (names : List (List ℕ)) (keys first rest : List Key) → KeysPart names keys first rest → AllByRecursion P keys → AllByRecursion P rest
+keys_kept P names [] first rest w all = subst (AllByRecursion P) (sym w.1) tt
+keys_kept P names (key ∷ keys) first rest (inl w) all = keys_kept P names keys w.1.0 rest w.1.1 all.1
+keys_kept P names (key ∷ keys) first rest (inr w) all =
+    subst (AllByRecursion P) (sym w.1.2) (all.0, keys_kept P names keys first w.1.0 w.1.1 all.1)
+
+all_keys : (P : Key → Type 0) (list : List Catch) → AllByRecursion (λ k. P (catch_key k)) list → AllByRecursion P (keys_of list)
+all_keys P [] all = tt
+all_keys P (k ∷ list) all = (all.0, all_keys P list all.1)
+
+of_all_keys : (P : Key → Type 0) (list : List Catch) → AllByRecursion P (keys_of list) → AllByRecursion (λ k. P (catch_key k)) list
+of_all_keys P [] all = tt
+of_all_keys P (k ∷ list) all = (all.0, of_all_keys P list all.1)
+
+-- what is left behind catches of other patches is of other patches
+pub left_apart : (name : List ℕ) (names : List (List ℕ)) (list first left : List Catch) → Arrange names list first left → AreApart name list → AreApart name left
+left_apart name names list first left w apart =
+    let other : Key → Type 0 = λ key. bytes_eq key.name name ≡ false in
+    of_all_keys other left (keys_kept other names (keys_of list) (keys_of first) (keys_of left) (keep_labels.arranged names list first left w) (all_keys other list apart))

@@ -1,0 +1,157 @@
+-- Plain patches, taken back one by one.
+use Rattle.camp_questions.proofs.Words.{◌≡◌, ℕ, false, ◌||◌, List, [], ◌∷◌, ◌++◌, map, bytes_eq, append-nil, refl, sym, ap, ◌∙◌, subst, AllByRecursion, append_assoc, map-append, Catch, is_among, name_of, all_append, or_parts, AreDistinct, Named}
+use Rattle.std.proofs.lemmas.List.{reverse-append}
+use Rattle.std.specs.Prelude.{reverse}
+use Rattle.camp_branch.proofs.Names.{distinct_append, other_way}
+use Rattle.camp_prim.specs.Effect.{inverse_of}
+use Rattle.camp_seq.proofs.ListRuns.{inverse_all-append, inverse_all-cons}
+use Rattle.camp_seq.specs.Running.{inverse_all}
+use Rattle.camp_catch.specs.declared.catches.Catch.TheVariants.{Plain}
+use Rattle.camp_questions.specs.Inside.ByPatch.{AreOfPatch, ArePatches, ArePatchesOf, catches_in_order, names_in_order}
+use Rattle.camp_questions.specs.Inside.Growing.{GrowsToFront, GrowsToGo}
+use Rattle.camp_questions.specs.Inside.TakingBack.{AreInverses, AreTakenBack, HaveRoom}
+use Rattle.camp_questions.specs.declared.fast.patch_catches.PatchCatches.{PatchCatches}
+use Rattle.camp_questions.proofs.TakenBack.{needed_as_held}
+
+reverse-cons : {X : Type 0} (x : X) (xs : List X) → reverse (x ∷ xs) ≡ reverse xs ++ x ∷ []
+reverse-cons x xs = reverse-append (x ∷ []) xs
+
+pub map-reverse : {X Y : Type 0} (f : X → Y) (xs : List X) → map f (reverse xs) ≡ reverse (map f xs)
+map-reverse f [] = refl
+map-reverse f (x ∷ xs) =
+    ap (map f) (reverse-cons x xs) ∙ map-append f (reverse xs) (x ∷ []) ∙ ap (λ l. l ++ f x ∷ []) (map-reverse f xs) ∙ sym (reverse-cons (f x) (map f xs))
+
+all_reversed : {X : Type 0} (P : X → Type 0) (xs : List X) → AllByRecursion P xs → AllByRecursion P (reverse xs)
+all_reversed P [] w = tt
+all_reversed P (x ∷ xs) w =
+    subst (AllByRecursion P) (sym (reverse-cons x xs)) (all_append P (reverse xs) (x ∷ []) (all_reversed P xs w.1) (w.0, tt))
+
+-- a name that is not among others is none of them
+apart_from : (name : List ℕ) (names : List (List ℕ)) → is_among names name ≡ false → AllByRecursion (λ n. is_among (name ∷ []) n ≡ false) names
+apart_from name [] e = tt
+apart_from name (n ∷ names) e =
+    let parts = or_parts (bytes_eq name n) (is_among names name) e in
+    (ap (λ b. b || false) (other_way name n parts.0), apart_from name names parts.1)
+
+distinct_reversed : (names : List (List ℕ)) → AreDistinct names → AreDistinct (reverse names)
+distinct_reversed [] w = tt
+distinct_reversed (n ∷ names) w =
+    subst AreDistinct (sym (reverse-cons n names)) (distinct_append (reverse names) (n ∷ []) (distinct_reversed names w.1) (refl, tt) (all_reversed (λ m. is_among (n ∷ []) m ≡ false) names (apart_from n names w.0)))
+
+-- each of some patches is taken back
+abbrev pub AreAllBack : List PatchCatches → List PatchCatches → Type 0
+AreAllBack [] [] = Unit {0}
+AreAllBack [] (b ∷ backs) = ⊥
+AreAllBack (p ∷ patches) [] = ⊥
+AreAllBack (p ∷ patches) (b ∷ backs) =
+    (b.name ≡ p.name) × AreInverses p.catches.items b.catches.items × AreAllBack patches backs
+
+pub one_back : (patches backs : List PatchCatches) (p b : PatchCatches) → AreAllBack patches backs → b.name ≡ p.name → AreInverses p.catches.items b.catches.items → AreAllBack (patches ++ p ∷ []) (backs ++ b ∷ [])
+one_back [] [] p b w called inverses = (called, inverses, tt)
+one_back [] (c ∷ backs) p b w called inverses = absurd w
+one_back (q ∷ patches) [] p b w called inverses = absurd w
+one_back (q ∷ patches) (c ∷ backs) p b w called inverses =
+    (w.0, w.1, one_back patches backs p b w.2 called inverses)
+
+called_back : (patches backs : List PatchCatches) → AreAllBack patches backs → names_in_order backs ≡ names_in_order patches
+called_back [] [] w = refl
+called_back [] (b ∷ backs) w = absurd w
+called_back (p ∷ patches) [] w = absurd w
+called_back (p ∷ patches) (b ∷ backs) w = λ i. w.0 i ∷ called_back patches backs w.2 i
+
+same_plain : (xs ys : List Named) → map Plain xs ≡ map Plain ys → xs ≡ ys
+same_plain [] [] e = refl
+same_plain [] (y ∷ ys) e = cc
+same_plain (x ∷ xs) [] e = cc
+same_plain (x ∷ xs) (y ∷ ys) e =
+    let head : x ≡ y = cc in
+    let rest : map Plain xs ≡ map Plain ys = cc in
+    λ i. head i ∷ same_plain xs ys rest i
+
+pub catches-append : (backs : List PatchCatches) (b : PatchCatches) → catches_in_order (backs ++ b ∷ []) ≡ catches_in_order backs ++ b.catches.items
+catches-append [] b = append-nil b.catches.items
+catches-append (c ∷ backs) b =
+    ap (λ l. c.catches.items ++ l) (catches-append backs b) ∙ sym (append_assoc c.catches.items (catches_in_order backs) b.catches.items)
+
+-- together they are the inverses of all, the last first
+all_inverses : (patches backs : List PatchCatches) → AreAllBack patches backs → AreInverses (catches_in_order patches) (catches_in_order (reverse backs))
+all_inverses [] [] w = record { forth = []; plain = refl; inverses = refl }
+all_inverses [] (b ∷ backs) w = absurd w
+all_inverses (p ∷ patches) [] w = absurd w
+all_inverses (p ∷ patches) (b ∷ backs) w =
+    let one = w.1 in
+    let rest = all_inverses patches backs w.2 in
+    record {
+      forth = one.forth ++ rest.forth;
+      plain = (λ i. one.plain i ++ rest.plain i) ∙ sym (map-append Plain one.forth rest.forth);
+      inverses =
+          ap catches_in_order (reverse-cons b backs) ∙ catches-append (reverse backs) b ∙ (λ i. rest.inverses i ++ one.inverses i) ∙ sym (map-append Plain (inverse_all rest.forth) (inverse_all one.forth)) ∙ ap (map Plain) (sym (inverse_all-append one.forth rest.forth));
+    }
+
+own_back : (name : List ℕ) (list : List Named) → AreOfPatch name (map Plain list) → AreOfPatch name (map Plain (inverse_all list))
+own_back name [] own = tt
+own_back name (p ∷ list) own =
+    subst (λ l. AreOfPatch name (map Plain l)) (sym (inverse_all-cons p list)) (subst (AreOfPatch name) (sym (map-append Plain (inverse_all list) (inverse_of p ∷ []))) (all_append (λ k. name_of k ≡ name) (map Plain (inverse_all list)) (Plain (inverse_of p) ∷ []) (own_back name list own.1) (own.0, tt)))
+
+abbrev HasOwn : PatchCatches → Type 0
+HasOwn patch = AreOfPatch patch.name patch.catches.items
+
+own_all_back : (patches backs : List PatchCatches) → AreAllBack patches backs → AllByRecursion HasOwn patches → AllByRecursion HasOwn backs
+own_all_back [] [] w own = tt
+own_all_back [] (b ∷ backs) w own = absurd w
+own_all_back (p ∷ patches) [] w own = absurd w
+own_all_back (p ∷ patches) (b ∷ backs) w own =
+    let one = w.1 in
+    let here = own_back p.name one.forth (subst (AreOfPatch p.name) one.plain own.0) in
+    (subst (λ n. AreOfPatch n b.catches.items) (sym w.0) (subst (AreOfPatch p.name) (sym one.inverses) here), own_all_back patches backs w.2 own.1)
+
+-- all patches of a list are taken back
+pub all_back : (list : List Catch) (patches backs : List PatchCatches) → ArePatchesOf list patches → HaveRoom list → AreAllBack patches backs → AreTakenBack patches backs
+all_back list patches backs of room w =
+    let all = all_inverses patches backs w in
+    let same = same_plain all.forth room.forth (sym all.plain ∙ of.catches ∙ room.plain) in
+    record {
+      room = record { forth = room.forth; plain = of.catches ∙ room.plain; room = room.room; room_back = room.room_back };
+      are = record {
+        own = own_all_back patches backs w of.are.own;
+        distinct = subst AreDistinct (sym (called_back patches backs w)) of.are.distinct;
+      };
+      names = called_back patches backs w;
+      inverses = all.inverses ∙ ap (λ l. map Plain (inverse_all l)) same;
+    }
+
+-- the last first, they are patches too
+pub reversed : (patches : List PatchCatches) → ArePatches patches → ArePatches (reverse patches)
+reversed patches are = record {
+  own = all_reversed HasOwn patches are.own;
+  distinct = subst AreDistinct (sym (map-reverse (λ (p : PatchCatches). p.name) patches)) (distinct_reversed (names_in_order patches) are.distinct);
+}
+
+-- what names hold in the patches taken back, they need in the list
+pub needed_taken_back : (list : List Catch) (patches backs : List PatchCatches) (names grown : List (List ℕ)) → ArePatchesOf list patches → AreTakenBack patches backs → GrowsToGo (catches_in_order (reverse backs)) names grown → GrowsToFront list names grown
+needed_taken_back list patches backs names grown of taken grows =
+    let room = taken.room in
+    subst (λ l. GrowsToFront l names grown) (sym room.plain ∙ of.catches) (needed_as_held room.forth names grown room.room room.room_back (subst (λ l. GrowsToGo l names grown) taken.inverses grows))
+
+-- plain catches, each inverted
+pub record AreInvertedSoFar (list back : List Catch) : Type 0 where
+  pub forth : List Named
+  pub plain : list ≡ map Plain forth
+  pub each : back ≡ map Plain (map inverse_of forth)
+
+pub none_inverted : AreInvertedSoFar [] []
+none_inverted = record { forth = []; plain = refl; each = refl }
+
+pub one_inverted : (list back : List Catch) (p : Named) → AreInvertedSoFar list back → AreInvertedSoFar (list ++ Plain p ∷ []) (back ++ Plain (inverse_of p) ∷ [])
+one_inverted list back p so_far = record {
+  forth = so_far.forth ++ p ∷ [];
+  plain = ap (λ l. l ++ Plain p ∷ []) so_far.plain ∙ sym (map-append Plain so_far.forth (p ∷ []));
+  each = ap (λ l. l ++ Plain (inverse_of p) ∷ []) so_far.each ∙ sym (ap (map Plain) (map-append inverse_of so_far.forth (p ∷ [])) ∙ map-append Plain (map inverse_of so_far.forth) (inverse_of p ∷ []));
+}
+
+pub all_inverted : (list back : List Catch) → AreInvertedSoFar list back → AreInverses list (reverse back)
+all_inverted list back so_far = record {
+  forth = so_far.forth;
+  plain = so_far.plain;
+  inverses = ap reverse so_far.each ∙ sym (map-reverse Plain (map inverse_of so_far.forth));
+}

@@ -1,0 +1,39 @@
+-- Lists of catches by the patches that they are of.
+use Rattle.std.specs.Prelude.{◌≡◌, ℕ, zero, suc, ◌==◌, false, cond, List, [], ◌∷◌, map, bytes_eq}
+use Rattle.std.specs.List.{AllByRecursion, flat_map}
+use Rattle.camp_catch.specs.Catches.{catch_key}
+use Rattle.camp_catch.specs.declared.catches.Catch.{Catch}
+use Rattle.camp_branch.specs.Branches.{AreDistinct, name_of, names_of}
+use Rattle.camp_questions.specs.declared.fast.patch_catches.PatchCatches.{PatchCatches}
+
+-- catches are of the patch of this name
+abbrev pub AreOfPatch : List ℕ → List Catch → Type 0
+AreOfPatch name list = AllByRecursion (λ k. name_of k ≡ name) list
+
+-- none of the catches is of the patch of this name
+abbrev pub AreApart : List ℕ → List Catch → Type 0
+AreApart name list = AllByRecursion (λ k. bytes_eq (name_of k) name ≡ false) list
+
+-- the names of some patches
+abbrev pub names_in_order : List PatchCatches → List (List ℕ)
+names_in_order patches = map (λ (patch : PatchCatches). patch.name) patches
+
+-- the catches of some patches, one patch after the other
+abbrev pub catches_in_order : List PatchCatches → List Catch
+catches_in_order patches = flat_map (λ (patch : PatchCatches). patch.catches.items) patches
+
+-- each patch has catches of its own name, and no two patches have one name
+pub record ArePatches (patches : List PatchCatches) : Type 0 where
+  pub own : AllByRecursion (λ (patch : PatchCatches). AreOfPatch patch.name patch.catches.items) patches
+  pub distinct : AreDistinct (names_in_order patches)
+
+-- the patches that a list of catches is of
+pub record ArePatchesOf (list : List Catch) (patches : List PatchCatches) : Type 0 where
+  pub are : ArePatches patches
+  pub catches : catches_in_order patches ≡ list
+  pub names : names_in_order patches ≡ names_of list
+
+-- how many catches stand before the one with which the next patch begins
+abbrev pub until_next : List Catch → ℕ
+until_next [] = zero
+until_next (k ∷ list) = cond ((catch_key k).place == 1) zero (suc (until_next list))

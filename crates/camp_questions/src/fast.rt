@@ -1,0 +1,13 @@
+//! Faster ways to what the definitions say: each gives what growing name by name gives.
+//!
+//! - What is held goes in one walk over the patches of a branch, from the first to the last: one that comes
+//!   before all that go stays, and any other goes too.
+//! - What plain patches need is what they hold in the branch taken back, the last patch first and each
+//!   change inverted. It is so where all have room, both ways. Elsewhere the names grow one by one.
+mod patch_catches;
+mod standing_aside;
+mod taking_back;
+
+pub(crate) use patch_catches::by_patch;
+pub(crate) use standing_aside::held_in;
+pub(crate) use taking_back::taken_back;

@@ -1,0 +1,125 @@
+//! One walk over the patches of a list: those that come before all that go stay, and the others go too.
+ghost use Rattle.std.specs.Prelude.{ℕ, List, IfOk, IsTrue};
+ghost use Rattle.camp_branch.specs.Fields.{names_in};
+ghost use Rattle.camp_catch.specs.Arranging.{ComesBefore, DoNotCommute};
+ghost use Rattle.camp_catch.specs.Commuting.{CommuteCatch};
+ghost use Rattle.camp_questions.specs.Inside.ByPatch.{AreApart, AreOfPatch, ArePatches, catches_in_order};
+ghost use Rattle.camp_questions.specs.Inside.Growing.{GrowsToGo};
+ghost use Rattle.camp_questions.specs.Inside.StandingAside.{AllStay, StandsAside, StickBehind};
+
+use crate::fast::patch_catches::{PatchCatches, append, shared};
+use camp_branch::{NameSet, set_of};
+use camp_catch::{Catch, Unmade, arrange};
+use camp_prim::{commutes, stay};
+use camp_share::Shared;
+use std::alloc::{AllocError, Global};
+use std::slice;
+
+/// The names, and those of the patches that are held by them: one after the other, each that can not
+/// come before those that go.
+pub(crate) fn held_in(
+    alloc: Global,
+    patches: &[PatchCatches],
+    names: NameSet,
+) -> Result<NameSet, AllocError>
+    requires { ArePatches patches.now }
+    ensures { IfOk result (λ held. GrowsToGo (catches_in_order patches.now) (names_in names) (names_in held)) }
+{
+    let mut held = names;
+    let mut going = Vec::new(alloc);
+    for patch in patches {
+        if !held.contains_key(&patch.name) {
+            if stand_aside(alloc, &mut going, patch)? {
+                continue;
+            }
+            held = held.inserted(patch.name, ())?;
+        }
+        append(&mut going, &patch.catches)?;
+    }
+    Ok(held)
+}
+
+/// Whether a patch, which stands behind catches that go, comes before all of them. They are then as that
+/// leaves them, and else as they were. Where its catches stay as they are, or its neighbour stops it, it
+/// takes a look at each; else they are arranged.
+pub(crate) fn stand_aside(
+    alloc: Global,
+    going: &mut Vec<Shared<Catch>>,
+    patch: &PatchCatches,
+) -> Result<bool, AllocError>
+    requires own { AreOfPatch patch.now.name patch.now.catches.items }
+    requires apart { AreApart patch.now.name going.now.items }
+    ensures { IfOk result (λ yes. StandsAside patch.now.name going.old.items patch.now.catches.items yes going.new.items) }
+{
+    if all_stay(going, &patch.catches) {
+        return Ok(true);
+    }
+    if is_stopped(going, &patch.catches) {
+        return Ok(false);
+    }
+    let named = set_of(alloc, slice::from_ref(&patch.name))?;
+    let mut list = shared(alloc, going)?;
+    append(&mut list, &patch.catches)?;
+    match arrange(alloc, &list, &named) {
+        Ok(arranged) => {
+            *going = arranged.rest;
+            Ok(true)
+        }
+        Err(Unmade::Blocked(_)) => Ok(false),
+        Err(Unmade::Memory) => Err(AllocError),
+    }
+}
+
+/// Whether catches come before others, and all stay as they are. Where it says no, they may still come.
+fn all_stay(going: &[Shared<Catch>], catches: &[Shared<Catch>]) -> bool
+    ensures { IsTrue result → AllStay going.now catches.now }
+{
+    for catch in catches {
+        if !stays(going, catch) {
+            return false;
+        }
+    }
+    true
+}
+
+fn stays(going: &[Shared<Catch>], catch: &Catch) -> bool
+    ensures { IsTrue result → ComesBefore going.now catch.now catch.now going.now }
+{
+    for at in (0..going.len()).rev() {
+        if !both_stay(&going[at], catch) {
+            return false;
+        }
+    }
+    true
+}
+
+/// Whether the first catch of a patch can not pass the last of those that go. Where it says no, it may
+/// still not come before all of them.
+fn is_stopped(going: &[Shared<Catch>], catches: &[Shared<Catch>]) -> bool
+    ensures { IsTrue result → (name : List ℕ) → AreOfPatch name catches.now → StickBehind name going.now catches.now }
+{
+    if going.is_empty() || catches.is_empty() {
+        return false;
+    }
+    never_commute(&going[going.len() - 1], &catches[0])
+}
+
+/// Whether two catches do not commute for sure.
+fn never_commute(first: &Catch, second: &Catch) -> bool
+    ensures { IsTrue result → DoNotCommute first.now second.now }
+{
+    match (first, second) {
+        (Catch::Plain(p), Catch::Plain(q)) => !commutes(p, q),
+        _ => false,
+    }
+}
+
+/// Whether two plain catches change places as they are.
+fn both_stay(first: &Catch, second: &Catch) -> bool
+    ensures { IsTrue result → CommuteCatch first.now second.now second.now first.now }
+{
+    match (first, second) {
+        (Catch::Plain(p), Catch::Plain(q)) => stay(p, q),
+        _ => false,
+    }
+}

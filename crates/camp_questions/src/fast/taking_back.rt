@@ -1,0 +1,74 @@
+//! Plain patches, taken back.
+ghost use Rattle.std.specs.Prelude.{IfOk, IfSome, IsTrue};
+ghost use Rattle.camp_questions.specs.Inside.ByPatch.{ArePatchesOf};
+ghost use Rattle.camp_questions.specs.Inside.TakingBack.{AreInverses, AreTakenBack, HaveRoom};
+
+use crate::fast::patch_catches::PatchCatches;
+use camp_catch::Catch;
+use camp_seq::{Seq, has_room, invert_all};
+use camp_share::Shared;
+use std::alloc::{AllocError, Global};
+
+/// The patches, each with the inverses of its changes, the last first. None where one is in conflict, or
+/// they may have no room.
+pub(crate) fn taken_back(
+    alloc: Global,
+    list: &[Shared<Catch>],
+    patches: &[PatchCatches],
+) -> Result<Option<Vec<PatchCatches>>, AllocError>
+    requires { ArePatchesOf list.now patches.now }
+    ensures { IfOk result (λ back. IfSome back (λ back. AreTakenBack patches.now back.items)) }
+{
+    if !have_room(alloc, list)? {
+        return Ok(None);
+    }
+    let mut back = Vec::with_capacity(alloc, patches.len())?;
+    for patch in patches {
+        let catches = inverses(alloc, &patch.catches)?;
+        let Some(catches) = catches else {
+            return Ok(None);
+        };
+        back.push(PatchCatches {
+            name: patch.name,
+            catches,
+        })?;
+    }
+    Ok(Some(back))
+}
+
+/// Whether all catches are plain and have room for sure, and have it taken back.
+fn have_room(alloc: Global, list: &[Shared<Catch>]) -> Result<bool, AllocError>
+    ensures { IfOk result (λ yes. IsTrue yes → HaveRoom list.now) }
+{
+    let mut forth = Seq::with_room(alloc, list.len())?;
+    for catch in list {
+        let Catch::Plain(p) = &**catch else {
+            return Ok(false);
+        };
+        forth.push(p.try_clone()?)?;
+    }
+    if !has_room(&forth) {
+        return Ok(false);
+    }
+    let back = invert_all(&forth)?;
+    Ok(has_room(&back))
+}
+
+/// The inverses of plain catches, the last first. None where one is in conflict.
+fn inverses(
+    alloc: Global,
+    catches: &[Shared<Catch>],
+) -> Result<Option<Vec<Shared<Catch>>>, AllocError>
+    ensures { IfOk result (λ back. IfSome back (λ back. AreInverses catches.now back.items)) }
+{
+    let mut back = Vec::with_capacity(alloc, catches.len())?;
+    for catch in catches {
+        let Catch::Plain(p) = &**catch else {
+            return Ok(None);
+        };
+        let inverse = p.try_clone()?.invert();
+        back.push(Shared::new(alloc, Catch::Plain(inverse))?)?;
+    }
+    back.reverse();
+    Ok(Some(back))
+}
