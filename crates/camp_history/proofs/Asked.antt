@@ -1,5 +1,5 @@
 -- Lemmas on the answers to a call at a seat.
-use Rattle.camp_history.proofs.Words.{length-append, length-map, append-nil, append_assoc, map-append, All-same, Where, Shows, Sequential, IsLawfulObject, Next, Fault, Memory, front_self, HeadId, Seated, asked, history_of, IsSeatOf, IsBaseAt, caller_at, Mark, ◌≡◌, ℕ, suc, ◌+◌, ◌<◌, false, List, [], ◌∷◌, ◌++◌, length, map, All, Option, Some, Result, Ok, Err, IsErrAnd, refl, sym, ◌∙◌, ap, subst, arith, add-one, IsFront, replay, IsLegal, IsAccepted, own, Caller, Ask, AddsNothing, Loses, IsNotBusy, replay_accepted, accepted_at, ask_done, ask_memory, ask_since, loses_more, never_busy_among_own, entry_of, entries_of, DecidesAt, SeesMore, FindsMore, Publishes, LosesOne, Attempts}
+use Rattle.camp_history.proofs.Words.{length-append, length-map, append-nil, append_assoc, All-same, Where, Shows, Sequential, IsLawfulObject, Next, Fault, Memory, front_self, HeadId, Seated, asked, history_of, IsSeatOf, IsBaseAt, caller_at, ◌≡◌, ℕ, suc, ◌+◌, ◌<◌, false, List, [], ◌∷◌, ◌++◌, length, map, All, Option, Some, Result, Ok, Err, IsErrAnd, refl, sym, ◌∙◌, ap, subst, arith, add-one, IsFront, replay, IsLegal, IsAccepted, own, Caller, Ask, AddsNothing, Loses, IsNotBusy, replay_accepted, accepted_at, ask_done, ask_memory, ask_since, loses_more, never_busy_among_own, entry_of, entries_of, DecidesAt, SeesMore, FindsMore, Publishes, LosesOne, Attempts}
 pub use Rattle.camp_history.proofs.Seeing.{all_more, history_more, sees_more_more, sees_more_self}
 
 -- a seat that sees more adds nothing of its own

@@ -1,6 +1,6 @@
 -- Lemmas on versions: how they are tied to a store, and how one goes on from what a seat has seen.
-use Rattle.camp_history.proofs.Words.{Entry, HeadId, IsFront, IsIn, IsSeatOf, IsSound, Known, Leads, Seated, asked, entry_of, entries_of, front_front, front_shorter, history_of, ids, ids_of, length-front, own, told, news, based, bases_in, Begins, Based, IsBaseAt, Share, GoesOn, Adopts, made_of, Mark, SeesMore, ◌≡◌, ℕ, zero, suc, ◌+◌, ◌-◌, ◌<◌, ◌≤◌, List, [], ◌∷◌, ◌++◌, length, map, take, drop, splice, slice_get, slice_index_or, All, Result, Ok, Err, OnOk, OnErr, Option, None, Some, IfSome, MatchOption, refl, sym, ◌∙◌, ap, subst, arith, append-nil, append_assoc, length-append, length-map, map-append, take-append-drop, take_at, take_rest, drop_at, drop-drop, drop-map, same_Some, take_all, drop_all, front_self, Bool, true, false, if◌then◌else◌, All-append, All-drop, All-map, All-push, All-same, All-weaker, Shelves, Shows, Where, turns}
-use Rattle.std.proofs.lemmas.List.{get_or-map, take-append-le}
+use Rattle.camp_history.proofs.Words.{Entry, HeadId, IsFront, IsIn, IsSeatOf, IsSound, Known, Leads, Seated, asked, entry_of, entries_of, front_shorter, history_of, ids, ids_of, length-front, own, told, news, based, bases_in, Begins, Based, IsBaseAt, Share, GoesOn, Adopts, made_of, Mark, SeesMore, ◌≡◌, ℕ, zero, suc, ◌+◌, ◌-◌, ◌<◌, ◌≤◌, List, [], ◌∷◌, ◌++◌, length, map, take, drop, splice, slice_get, slice_index_or, All, Result, Ok, Err, OnOk, OnErr, Option, None, Some, IfSome, MatchOption, refl, sym, ◌∙◌, ap, subst, arith, append-nil, append_assoc, length-append, length-map, map-append, take-append-drop, take_at, take_rest, drop_at, drop-drop, drop-map, same_Some, take_all, drop_all, front_self, Bool, true, false, if◌then◌else◌, All-append, All-drop, All-map, All-push, All-same, All-weaker, Shelves, Shows, Where, turns}
+use Rattle.std.proofs.lemmas.List.{get_or-map}
 use Rattle.std.proofs.Math.Seq.{drop-append-add}
 use Rattle.std.proofs.lemmas.Simd.{map-map}
 use Rattle.boxcar.specs.Slot.{Named}

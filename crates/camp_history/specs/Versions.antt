@@ -1,10 +1,10 @@
 -- What ties a version to the store of its calls and to the version that it was made from, and to a seat that is behind.
 use Rattle.std.specs.Prelude.{◌≡◌, ℕ, ◌<◌, ◌≤◌, List, ◌∷◌, [], ◌++◌, map, length, drop, take, slice_index_or, All, IfSome}
 use Rattle.boxcar.specs.Slot.{Named}
-use Rattle.boxcar.specs.Table.{Shelves, Where, Shows}
+use Rattle.boxcar.specs.Table.{Shelves, Where}
 use Rattle.camp_object.specs.Histories.{IsFront}
 use Rattle.camp_row.specs.Chains as chain
-use Rattle.camp_history.specs.Seats.{HeadId, Seated, Based, IsBaseAt, entry_of, told}
+use Rattle.camp_history.specs.Seats.{Seated, Based, IsBaseAt, entry_of, told}
 use Rattle.camp_history.specs.declared.marks.Mark.{Mark}
 use Rattle.camp_history.specs.declared.versions.Base.{Base}
 use Rattle.camp_history.specs.declared.versions.Origin.{Origin}

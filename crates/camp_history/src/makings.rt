@@ -1,5 +1,5 @@
 //! How versions are made, put into their slots, and handed on.
-ghost use Rattle.std.specs.Prelude.{◌≡◌, ◌<◌, ◌≤◌, ◌++◌, ◌∷◌, [], length, All, Some, IfOk, IfErr, IfSome};
+ghost use Rattle.std.specs.Prelude.{◌≡◌, ◌<◌, ◌≤◌, ◌+◌, ◌*◌, ◌++◌, ◌∷◌, [], length, All, Some, IfOk, IfErr, IfSome};
 ghost use Rattle.boxcar.specs.Table.{Shows};
 ghost use Rattle.camp_object.specs.declared.faults.Fault.TheVariants.{Memory};
 ghost use Rattle.camp_history.specs.Versions.{made_of, Begins};
@@ -48,6 +48,21 @@ impl<State: Object> Seat<State> {
     }
 }
 
+/// The number of the slot of a position, where a version is kept for each so many calls.
+fn slot_of(position: u64, every: u32) -> Option<usize>
+    ensures { IfSome result (λ number. (number + 1) * every ≡ position) }
+{
+    let every = every as u64;
+    if every == 0 || position % every != 0 {
+        return None;
+    }
+    let count = position / every;
+    if count == 0 {
+        return None;
+    }
+    Some((count - 1) as usize)
+}
+
 impl<State: Object> Head<State> {
     ghost use Rattle.camp_object.specs.Histories.{replay};
     ghost use Rattle.camp_history.specs.Seats.{IsBaseAt, IsSeatOf, history_of};
@@ -62,12 +77,7 @@ impl<State: Object> Head<State> {
 
     /// The number of the slot of a position, if a version is kept there.
     fn slot_at(&self, position: u64) -> Option<usize> {
-        let every = self.every as u64;
-        if every == 0 || position % every != 0 {
-            return None;
-        }
-        let number = (position / every).checked_sub(1)?;
-        Some(number as usize)
+        slot_of(position, self.every)
     }
 
     /// The version that a seat noted last.

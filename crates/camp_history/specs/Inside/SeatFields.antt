@@ -3,7 +3,7 @@ use Rattle.std.specs.Prelude.{◌≡◌, ◌<◌, ◌≤◌, ◌++◌, List, len
 use Rattle.camp_object.specs.Objects.{Sequential}
 use Rattle.camp_object.specs.Histories.{replay}
 use Rattle.camp_history.specs.Seats.{Seated, asked, entry_of, most_listed}
-use Rattle.camp_history.specs.Versions.{Begins, based, bases_in}
+use Rattle.camp_history.specs.Versions.{Begins, bases_in}
 use Rattle.camp_history.specs.declared.marks.Mark.{Mark}
 use Rattle.camp_history.specs.declared.seats.Seat.TheInside.{Inside}
 

@@ -1,4 +1,4 @@
-use Rattle.camp_history.proofs.Words.{◌≡◌, ap, ◌∙◌, sym, subst, Begins, Some, IfSome, IsBaseAt, based, slice_index_or}
+use Rattle.camp_history.proofs.Words.{ap, ◌∙◌, sym, subst, Begins, IfSome, IsBaseAt, based, slice_index_or}
 use Rattle.camp_history.proofs.heads.Head.before.Goals as goal
 
 pub agrees-requires : goal.agrees-requires

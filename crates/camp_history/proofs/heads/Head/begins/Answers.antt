@@ -1,4 +1,4 @@
-use Rattle.camp_history.proofs.Words.{◌≡◌, ◌∷◌, ◌∙◌, refl, sym, subst, List, All, All-rest, All-drop, All-same, Shows, Mark, drop, told}
+use Rattle.camp_history.proofs.Words.{◌≡◌, ◌∷◌, refl, sym, subst, All-rest, All-drop, All-same, Shows, Mark, drop}
 use Rattle.camp_history.proofs.Versioned.{Compared, compared_start, compared_step, left_first}
 use Rattle.camp_history.proofs.heads.Head.begins.Goals as goal
 

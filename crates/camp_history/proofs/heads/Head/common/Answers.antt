@@ -1,5 +1,5 @@
 use Rattle.camp_history.proofs.Words.{front_front, front_self, map, told}
-use Rattle.camp_history.proofs.Versioned.{share_of, share_none}
+use Rattle.camp_history.proofs.Versioned.{share_of}
 use Rattle.camp_history.proofs.heads.Head.common.Goals as goal
 
 pub returns-in-Some : goal.returns-in-Some

@@ -1,4 +1,4 @@
-use Rattle.camp_history.proofs.Words.{◌≡◌, [], ◌∷◌, ◌∙◌, refl, sym, ap, subst, List, All, All-rest, All-drop, All-same, Shows, Mark, Entry, drop, told, entry_of, entries_of, IsFront, arith}
+use Rattle.camp_history.proofs.Words.{◌≡◌, [], ◌∷◌, sym, ap, subst, All-rest, All-drop, All-same, Shows, Mark, drop, entries_of, arith}
 use Rattle.camp_row.specs.Chains as chain
 use Rattle.camp_history.proofs.Versioned.{Compared, compared_start, compared_step, compared_end, compared_other_end, same_next, seat_begins, begins_either, begins_asked}
 use Rattle.camp_history.proofs.heads.Head.compare.Goals as goal

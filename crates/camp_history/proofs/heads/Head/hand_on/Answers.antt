@@ -1,4 +1,4 @@
-use Rattle.camp_history.proofs.Words.{◌≡◌, All, All-same, Shows, sym, subst, IfSome, Begins, Option}
+use Rattle.camp_history.proofs.Words.{All-same, Shows, sym, subst, IfSome, Begins}
 use Rattle.camp_history.proofs.heads.Head.hand_on.Goals as goal
 
 pub put_at-handed-requires-clause-version : goal.put_at-handed-requires-clause-version

@@ -1,4 +1,4 @@
-use Rattle.camp_history.proofs.Words.{◌≡◌, All, All-same, ap, ◌∙◌, sym, subst, IsBaseAt, Begins, bases_in, based, marks_in, slice_index_or}
+use Rattle.camp_history.proofs.Words.{All, All-same, ap, ◌∙◌, sym, subst, IsBaseAt, Begins, bases_in, based, slice_index_or}
 use Rattle.camp_history.proofs.Versioned.{all_based}
 use Rattle.camp_history.proofs.heads.Head.has_noted.Goals as goal
 

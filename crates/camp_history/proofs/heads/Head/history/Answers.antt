@@ -1,4 +1,4 @@
-use Rattle.camp_history.proofs.Words.{◌≡◌, ◌∷◌, [], ◌++◌, ◌∙◌, sym, ap, map, drop, All, All-rest, All-same, Shows, Mark, asked, append-nil, append_assoc}
+use Rattle.camp_history.proofs.Words.{◌≡◌, ◌∷◌, [], ◌++◌, ◌∙◌, sym, ap, map, All-rest, All-same, Shows, Mark, asked, append_assoc}
 use Rattle.camp_history.proofs.Versioned.{left_first}
 use Rattle.camp_history.proofs.heads.Head.history.Goals as goal
 

@@ -1,4 +1,4 @@
-use Rattle.camp_history.proofs.Words.{◌≡◌, ◌<◌, ◌-◌, All, All-same, ap, ◌∙◌, sym, subst, arith, length, IsBaseAt, Begins, bases_in, based}
+use Rattle.camp_history.proofs.Words.{◌-◌, All, All-same, ap, ◌∙◌, sym, subst, arith, length, IsBaseAt, Begins, bases_in, based}
 use Rattle.camp_history.proofs.Versioned.{all_based}
 use Rattle.camp_history.proofs.heads.Head.last_noted.Goals as goal
 

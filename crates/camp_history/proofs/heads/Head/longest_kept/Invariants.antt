@@ -1,4 +1,3 @@
-use Rattle.camp_history.proofs.Words.{◌-◌}
 use Rattle.camp_history.proofs.heads.Head.longest_kept.Given as goal
 
 abbrev pub decreases-loop-number : goal.decreases-loop-number

@@ -1,4 +1,4 @@
-use Rattle.camp_history.proofs.Words.{◌≡◌, All, All-same, Shows, ap, is_ok, IsBaseAt, Begins, bases_in, marks_in, based, subst, sym}
+use Rattle.camp_history.proofs.Words.{All, All-same, Shows, ap, is_ok, IsBaseAt, Begins, bases_in, marks_in, subst, sym}
 use Rattle.camp_history.proofs.Versioned.{noted_based}
 use Rattle.camp_history.proofs.heads.Head.note.Goals as goal
 

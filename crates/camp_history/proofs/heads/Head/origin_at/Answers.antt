@@ -1,4 +1,4 @@
-use Rattle.camp_history.proofs.Words.{◌≡◌, List, ℕ, subst, IsMadeFrom}
+use Rattle.camp_history.proofs.Words.{subst, IsMadeFrom}
 use Rattle.camp_history.proofs.Versioned.{some_weaker}
 use Rattle.camp_history.proofs.heads.Head.origin_at.Goals as goal
 

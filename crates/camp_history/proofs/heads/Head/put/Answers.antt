@@ -1,4 +1,4 @@
-use Rattle.camp_history.proofs.Words.{◌≡◌, All, All-same, Shows, sym, subst, IfSome, Begins, ◌∙◌, front_self, map, told}
+use Rattle.camp_history.proofs.Words.{◌≡◌, All-same, Shows, sym, subst, IfSome, Begins, ◌∙◌, front_self, map, told}
 use Rattle.camp_history.proofs.heads.Head.put.Goals as goal
 
 pub put_at-requires-clause-version : goal.put_at-requires-clause-version

@@ -1,4 +1,4 @@
-use Rattle.camp_history.proofs.Words.{◌≡◌, All, All-same, ap, ◌∙◌, sym, subst, IsBaseAt, Begins, bases_in, based}
+use Rattle.camp_history.proofs.Words.{All, All-same, ap, ◌∙◌, sym, subst, IsBaseAt, Begins, bases_in, based}
 use Rattle.camp_history.proofs.Versioned.{all_based, share_of, share_none}
 use Rattle.camp_history.proofs.heads.Head.shared.Goals as goal
 

@@ -1,5 +1,5 @@
-use Rattle.camp_history.proofs.Words.{◌≡◌, sym, ◌∙◌, ap, subst, map, told, front_self, Leads, Begins, SeesMore, IsBaseAt, based}
-use Rattle.camp_history.proofs.Seeing.{sees_same, sees_more_self}
+use Rattle.camp_history.proofs.Words.{◌≡◌, sym, ◌∙◌, ap, subst, map, told, front_self, Leads, Begins, SeesMore}
+use Rattle.camp_history.proofs.Seeing.{sees_same}
 use Rattle.camp_history.proofs.Versioned.{adopts_more, seat_adopted}
 use Rattle.camp_history.proofs.heads.Head.take.Goals as goal
 

@@ -1,4 +1,3 @@
-use Rattle.camp_history.proofs.Words.{◌∙◌, sym, ap}
 use Rattle.camp_history.proofs.Versioned.{all_shown}
 use Rattle.camp_history.proofs.heads.Head.version_of.Goals as goal
 

@@ -1,4 +1,4 @@
-use Rattle.camp_history.proofs.Words.{◌<◌, ◌≤◌, arith}
+use Rattle.camp_history.proofs.Words.{arith}
 use Rattle.camp_history.proofs.Versioned.{left_behind}
 use Rattle.camp_history.proofs.lists.MarksLeft.new.Goals as goal
 

@@ -1,4 +1,4 @@
-use Rattle.camp_history.proofs.Words.{length-map, length-append, replay, Leads, asked, news, GoesOn, Adopts, Seated, seated, marks_in, entry_of, Begins, All, bases_in, Mark, ◌≡◌, ℕ, ◌<◌, ◌≤◌, ◌+◌, ◌-◌, ◌++◌, List, Some, refl, sym, ◌∙◌, ap, map, length, subst, arith}
+use Rattle.camp_history.proofs.Words.{length-map, length-append, Leads, news, GoesOn, Adopts, Seated, seated, marks_in, entry_of, Begins, All, bases_in, ◌≡◌, ◌<◌, ◌+◌, ◌-◌, ◌++◌, refl, sym, ◌∙◌, ap, map, length, subst, arith}
 use Rattle.camp_history.proofs.Seeing.{bases_begin}
 use Rattle.camp_history.proofs.Versioned.{news_within, news_length, adopted_known, adopted_places, adopted_below, begins_within}
 use Rattle.camp_history.proofs.seats.Seat.adopt.Given.{Over}

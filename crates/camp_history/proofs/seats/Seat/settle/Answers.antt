@@ -1,4 +1,4 @@
-use Rattle.camp_history.proofs.Words.{◌≡◌, ◌<◌, ◌++◌, List, All, map, length, length-append, ap, ◌∙◌, sym, subst, arith, Some, splice, replay, asked, entry_of, Begins, bases_in, marks_in}
+use Rattle.camp_history.proofs.Words.{◌≡◌, ◌<◌, ◌++◌, All, map, length, length-append, ap, ◌∙◌, sym, subst, arith, Some, splice, replay, asked, entry_of, Begins, bases_in, marks_in}
 use Rattle.camp_history.proofs.Versioned.{spliced_behind}
 use Rattle.camp_history.proofs.seats.Seat.settle.Given.{Over}
 use Rattle.camp_history.proofs.seats.Seat.settle.Goals as goal

@@ -1,4 +1,4 @@
-use Rattle.camp_history.proofs.Words.{◌≡◌, ◌++◌, ◌∷◌, [], ◌≤◌, List, Some, map, length, ap, sym, ◌∙◌, subst, replay, asked, history_of, most_listed, marks_in, Mark}
+use Rattle.camp_history.proofs.Words.{◌≡◌, ◌++◌, ◌∷◌, [], ◌≤◌, Some, map, length, ap, sym, ◌∙◌, subst, replay, asked, history_of, most_listed, marks_in, Mark}
 use Rattle.camp_history.proofs.Seeing.{one_more, map_more}
 use Rattle.camp_history.proofs.seats.Seat.version_with.Goals as goal
 
