@@ -1,80 +1,43 @@
 -- The graph of a branch, patch by patch.
-use Rattle.camp_questions.proofs.Words.{◌≡◌, ◌<◌, ℕ, ◌+◌, Bool, true, false, cond, not, ◌&&◌, ◌||◌, List, [], ◌∷◌, ◌++◌, map, filter, length, take, drop, get_or, Ok, Some, refl, sym, ap, ◌∙◌, subst, arith, AllByRecursion, list_any, Catch, names_of, AreConflicts, all_append, Contents, catches_of, Drawn, IsGraph, IsGraphOf, Needing, NeedsThese, goes_between, needs_other, node_of, NeedEach, needing, Node, drop_all, drop_more, map-append, take_more, and_true}
+use Rattle.camp_questions.proofs.Words.{◌≡◌, ◌<◌, ℕ, ◌+◌, Bool, cond, List, [], ◌∷◌, ◌++◌, map, filter, length, take, get_or, Ok, Some, refl, sym, ap, ◌∙◌, subst, AllByRecursion, Catch, is_among, name_of, names_of, AreConflicts, all_append, Contents, catches_of, ComeToFront, Drawn, IsGraph, IsGraphOf, Needing, NeedsThese, StickOn, node_of, Node, in_order, map-append, take_more}
 use Rattle.camp_branch.proofs.ConflictsDetermined.{conflicts_are_determined}
-use Rattle.camp_questions.specs.declared.graphs.Needed.{Needed}
-use Rattle.camp_questions.proofs.BranchGrowths.{needs_are_determined}
+use Rattle.camp_questions.specs.declared.needed.Needed.{Needed}
+use Rattle.camp_questions.specs.Inside.Graphing.{NeedEach, marked, needing}
+use Rattle.camp_questions.specs.Inside.Growing.{GrowsToFront}
+use Rattle.camp_questions.specs.Inside.ByPlace.{node_in}
+use Rattle.camp_questions.proofs.BranchGrowths.{needs_are_determined, to_front}
+use Rattle.camp_questions.proofs.Growing.{grown_in_order}
+use Rattle.camp_repo.proofs.ByMembers.{AreAlike}
 
-pub none_needed : (branch : List Catch) (names : List (List ℕ)) (all : List Needed) → all ≡ [] → NeedEach branch (take 0 names) all
+-- so many patches, with what they need in a branch whose patches have these names
+pub record AreNeeded (branch : List Catch) (names done : List (List ℕ)) (all : List Needed) : Type 0 where
+  pub names_are : map (λ (patch : Needed). patch.name) all ≡ done
+  pub needs : AllByRecursion (λ patch. NeedsThese branch (needing names patch)) all
+
+pub none_needed : (branch : List Catch) (names : List (List ℕ)) (all : List Needed) → all ≡ [] → AreNeeded branch names (take 0 names) all
 none_needed branch names all none = rw none (record { names_are = refl; needs = tt })
 
-pub one_needed : (branch : List Catch) (names : List (List ℕ)) (i : ℕ) (n d : List ℕ) (all next : List Needed) (one : Needed) → i < length names → n ≡ get_or names i d → NeedEach branch (take i names) all → NeedsThese branch (needing one) → one.name ≡ n → next ≡ all ++ one ∷ [] → NeedEach branch (take (i + 1) names) next
-one_needed branch names i n d all next one within is each needs called becomes =
-    let more : map needing next ≡ map needing all ++ needing one ∷ [] = ap (map needing) becomes ∙ map-append needing all (one ∷ []) in
-    let called_so : List Needing → List (List ℕ) = map (λ (patch : Needing). patch.name) in
-    record {
-      names_are = ap called_so more ∙ map-append (λ (patch : Needing). patch.name) (map needing all) (needing one ∷ []) ∙ (λ k. each.names_are k ++ (called ∙ is) k ∷ []) ∙ sym (take_more names i d within);
-      needs = subst (AllByRecursion (NeedsThese branch)) (sym more) (all_append (NeedsThese branch) (map needing all) (needing one ∷ []) each.needs (needs, tt));
-    }
+pub one_needed : (branch : List Catch) (names own : List (List ℕ)) (i : ℕ) (n d : List ℕ) (all next : List Needed) (one : Needed) → i < length own → n ≡ get_or own i d → AreNeeded branch names (take i own) all → NeedsThese branch (needing names one) → one.name ≡ n → next ≡ all ++ one ∷ [] → AreNeeded branch names (take (i + 1) own) next
+one_needed branch names own i n d all next one within is each needs called becomes = record {
+  names_are =
+      ap (map (λ (patch : Needed). patch.name)) becomes ∙ map-append (λ (patch : Needed). patch.name) all (one ∷ []) ∙ (λ k. each.names_are k ++ (called ∙ is) k ∷ []) ∙ sym (take_more own i d within);
+  needs = subst (AllByRecursion (λ patch. NeedsThese branch (needing names patch))) (sym becomes) (all_append (λ patch. NeedsThese branch (needing names patch)) all (one ∷ []) each.needs (needs, tt));
+}
 
-pub one_node : (draw : Needing → Node) (all : List Needed) (i : ℕ) (p d : Needed) (nodes next : List Node) (node : Node) → i < length all → p ≡ get_or all i d → nodes ≡ map draw (map needing (take i all)) → node ≡ draw (needing p) → next ≡ nodes ++ node ∷ [] → next ≡ map draw (map needing (take (i + 1) all))
-one_node draw all i p d nodes next node within is so_far drawn becomes =
-    let more : take (i + 1) all ≡ take i all ++ p ∷ [] = take_more all i d within ∙ ap (λ x. take i all ++ x ∷ []) (sym is) in
-    becomes ∙ (λ k. so_far k ++ drawn k ∷ []) ∙ sym (ap (λ l. map draw (map needing l)) more ∙ ap (map draw) (map-append needing (take i all) (p ∷ [])) ∙ map-append draw (map needing (take i all)) (needing p ∷ []))
+pub all_needed : (branch : List Catch) (names own : List (List ℕ)) (all : List Needed) → own ≡ names → AreNeeded branch names own all → NeedEach branch names all
+all_needed branch names own all whole each =
+    record { names_are = each.names_are ∙ whole; needs = each.needs }
 
-filter_again_at : (g : List ℕ → Bool) (x : List ℕ) (b : Bool) (l : List (List ℕ)) → filter g (cond b (x ∷ l) l) ≡ cond (b && g x) (x ∷ filter g l) (filter g l)
-filter_again_at g x true l = refl
-filter_again_at g x false l = refl
+-- the marks of a test mark what passes it
+pub marked_by : (test : List ℕ → Bool) (names : List (List ℕ)) → marked names (map test names) ≡ filter test names
+marked_by test [] = refl
+marked_by test (n ∷ names) = ap (λ l. cond (test n) (n ∷ l) l) (marked_by test names)
 
--- what passes one test and then another passes both
-pub filter_again : (f g : List ℕ → Bool) (names : List (List ℕ)) → filter g (filter f names) ≡ filter (λ name. f name && g name) names
-filter_again f g [] = refl
-filter_again f g (n ∷ names) =
-    filter_again_at g n (f n) (filter f names) ∙ ap (λ l. cond (f n && g n) (n ∷ l) l) (filter_again f g names)
-
-filter_alike : (f g : List ℕ → Bool) → ((name : List ℕ) → f name ≡ g name) → (names : List (List ℕ)) → filter f names ≡ filter g names
-filter_alike f g same [] = refl
-filter_alike f g same (n ∷ names) =
-    (λ i. cond (same n i) (n ∷ filter f names) (filter f names)) ∙ ap (λ l. cond (g n) (n ∷ l) l) (filter_alike f g same names)
-
-all_left : (names : List (List ℕ)) → names ≡ filter (λ name. true) names
-all_left [] = refl
-all_left (n ∷ names) = ap (λ l. n ∷ l) (all_left names)
-
--- a patch that is needed leaves out what it needs
-pub left_out : (patch other : Needing) (names next : List (List ℕ)) → needs_other patch other.name ≡ true → next ≡ filter (λ name. not (needs_other other name)) names → next ≡ filter (λ name. not (goes_between patch name other)) names
-left_out patch other names next needed are =
-    are ∙ filter_alike _ _ (λ name. ap (λ b. not (b && needs_other other name)) (sym needed)) names
-
--- one that is not needed leaves out none
-pub none_left_out : (patch other : Needing) (names : List (List ℕ)) → needs_other patch other.name ≡ false → names ≡ filter (λ name. not (goes_between patch name other)) names
-none_left_out patch other names needless =
-    all_left names ∙ filter_alike _ _ (λ name. ap (λ b. not (b && needs_other other name)) (sym needless)) names
-
--- whether a patch needs another one, and none of some others that it needs does
-abbrev pub needs_past : Needing → List Needing → List ℕ → Bool
-needs_past patch others name = needs_other patch name && not (list_any (goes_between patch name) others)
-
-one_past : (needs between more : Bool) → ((needs && not more) && not between) ≡ (needs && not (between || more))
-one_past true true true = refl
-one_past true true false = refl
-one_past true false more = and_true (not more)
-one_past false between more = refl
-
--- with no other one looked at, what a patch needs is left
-pub left_at_first : (patch : Needing) (all : List Needed) (i : ℕ) (own names : List (List ℕ)) → i ≡ length all → names ≡ filter (needs_other patch) own → names ≡ filter (needs_past patch (map needing (drop i all))) own
-left_at_first patch all i own names whole are =
-    are ∙ filter_alike (needs_other patch) (needs_past patch []) (λ name. sym (and_true (needs_other patch name))) own
-    ∙ ap (λ l. filter (needs_past patch (map needing l)) own) (sym (drop_all i all (omega (arith, whole))))
-
--- one more is looked at
-pub one_left_out : (patch : Needing) (all : List Needed) (left i : ℕ) (p d : Needed) (own names next : List (List ℕ)) → left ≡ i + 1 → i < length all → p ≡ get_or all i d → names ≡ filter (needs_past patch (map needing (drop left all))) own → next ≡ filter (λ name. not (goes_between patch name (needing p))) names → next ≡ filter (needs_past patch (map needing (drop i all))) own
-one_left_out patch all left i p d own names next one within is so_far becomes =
-    let past : List Needed → List ℕ → Bool = λ l. needs_past patch (map needing l) in
-    let between : List ℕ → Bool = λ name. goes_between patch name (needing p) in
-    becomes ∙ ap (filter (λ name. not (between name))) (so_far ∙ ap (λ n. filter (past (drop n all)) own) one)
-    ∙ filter_again (past (drop (i + 1) all)) (λ name. not (between name)) own
-    ∙ filter_alike (λ name. past (drop (i + 1) all) name && not (between name)) (past (p ∷ drop (i + 1) all)) (λ name. one_past (needs_other patch name) (between name) (list_any (goes_between patch name) (map needing (drop (i + 1) all)))) own
-    ∙ ap (λ l. filter (past l) own) (sym (drop_more all i d within ∙ ap (λ x. x ∷ drop (i + 1) all) (sym is)))
+-- what a patch sticks on is marked
+pub grown_needs : (branch : List Catch) (names : List (List ℕ)) (name : List ℕ) (set grown : List (List ℕ)) (one : Needed) → names ≡ names_of branch → AreAlike set (name ∷ []) → GrowsToFront branch set grown → one.name ≡ name → one.needs.items ≡ map (is_among grown) names → NeedsThese branch (needing names one)
+grown_needs branch names name set grown one own alike grows called marks =
+    let told : marked names one.needs.items ≡ in_order branch grown = ap (marked names) marks ∙ marked_by (is_among grown) names ∙ ap (filter (is_among grown)) own in
+    (marked names one.needs.items, grown_in_order (map name_of branch) (ComeToFront branch) (StickOn branch) (to_front branch) branch (one.name ∷ []) set grown (marked names one.needs.items) (λ n. alike n ∙ ap (λ m. is_among (m ∷ []) n) (sym called)) grows told, λ n. refl)
 
 -- what a patch needs in a branch
 abbrev needing_in : List Catch → List ℕ → Needing
@@ -108,11 +71,19 @@ is_drawn branch = record {
 pub is_graph_of : (state : Contents) (branch : List ℕ) (catches : List Catch) (graph : Drawn) → catches_of state.branches branch ≡ Some catches → IsGraph catches graph → IsGraphOf state branch (Ok graph)
 is_graph_of state branch catches graph is w = rw is (graph, refl, w)
 
-pub graph_of_nodes : (branch : List Catch) (names : List (List ℕ)) (all : List Needed) (nodes : List Node) (pairs told : List (List ℕ × List ℕ)) → names ≡ names_of branch → NeedEach branch names all → nodes ≡ map (node_of branch (map needing all)) (map needing all) → AreConflicts branch pairs → told ≡ pairs → IsGraph branch (record { patches = nodes; conflicts = told })
+called_so : (names : List (List ℕ)) (all : List Needed) → map (λ (patch : Needing). patch.name) (map (needing names) all) ≡ map (λ (patch : Needed). patch.name) all
+called_so names [] = refl
+called_so names (p ∷ all) = ap (λ l. p.name ∷ l) (called_so names all)
+
+needs_so : (branch : List Catch) (names : List (List ℕ)) (all : List Needed) → AllByRecursion (λ patch. NeedsThese branch (needing names patch)) all → AllByRecursion (NeedsThese branch) (map (needing names) all)
+needs_so branch names [] w = tt
+needs_so branch names (p ∷ all) w = (w.0, needs_so branch names all w.1)
+
+pub graph_of_nodes : (branch : List Catch) (names : List (List ℕ)) (all : List Needed) (nodes : List Node) (pairs told : List (List ℕ × List ℕ)) → names ≡ names_of branch → NeedEach branch names all → nodes ≡ map (node_in names (map (needing names) all)) (map (needing names) all) → AreConflicts branch pairs → told ≡ pairs → IsGraph branch (record { patches = nodes; conflicts = told })
 graph_of_nodes branch names all nodes pairs told own each drawn are same = record {
-  all = map needing all;
-  names = each.names_are ∙ own;
-  needs = each.needs;
-  patches = drawn;
+  all = map (needing names) all;
+  names = called_so names all ∙ each.names_are ∙ own;
+  needs = needs_so branch names all each.needs;
+  patches = drawn ∙ ap (λ n. map (node_in n (map (needing names) all)) (map (needing names) all)) own;
   conflicts = subst (AreConflicts branch) (sym same) are;
 }

@@ -16,6 +16,7 @@ pub mod LeastHeld
 pub mod LeastNeeds
 pub mod LineNames
 pub mod MarkSteps
+pub mod MarkedNames
 pub mod MissingNames
 pub mod OpenPairs
 pub mod PairSteps
@@ -24,9 +25,11 @@ pub mod PatchFronts
 pub mod PatchesBack
 pub mod PatchesOfLists
 pub mod PlaceSteps
+pub mod PlacedNeeds
 pub mod PlainGoing
 pub mod PulledNeeds
 pub mod ReachedNeeds
+pub mod ReachedPatches
 pub mod SeenLabels
 pub mod ShownPatches
 pub mod SideLists

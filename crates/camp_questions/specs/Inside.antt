@@ -1,6 +1,7 @@
 -- What only functions that stay within the crate say.
 pub mod Alongside
 pub mod ByPatch
+pub mod ByPlace
 pub mod Finding
 pub mod Foresight
 pub mod Graphing

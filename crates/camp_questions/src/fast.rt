@@ -5,9 +5,11 @@
 //! - What plain patches need is what they hold in the branch taken back, the last patch first and each
 //!   change inverted. It is so where all have room, both ways. Elsewhere the names grow one by one.
 mod patch_catches;
+mod reaching;
 mod standing_aside;
 mod taking_back;
 
 pub(crate) use patch_catches::by_patch;
+pub(crate) use reaching::all_reached;
 pub(crate) use standing_aside::held_in;
 pub(crate) use taking_back::taken_back;

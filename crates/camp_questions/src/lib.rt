@@ -15,6 +15,8 @@ mod graph_texts;
 mod graphs;
 mod laws;
 mod marking;
+mod needed;
+mod nodes;
 mod open_conflicts;
 mod places;
 mod showing;

@@ -1,16 +1,59 @@
--- What patches need, as sets.
-use Rattle.std.specs.Prelude.{◌≡◌, ℕ, List, map}
+-- What patches need, marked by places in a branch.
+use Rattle.std.specs.Prelude.{◌≡◌, ◌<◌, ℕ, ◌+◌, Bool, true, false, ◌||◌, cond, List, [], ◌∷◌, map, length, get_or, reverse}
 use Rattle.std.specs.List.{AllByRecursion}
-use Rattle.camp_branch.specs.Fields.{names_in}
+use Rattle.camp_prim.specs.declared.named.Named.{Named}
+use Rattle.camp_seq.specs.Room.{HasRoom}
+use Rattle.camp_seq.specs.Running.{inverse_all}
 use Rattle.camp_catch.specs.declared.catches.Catch.{Catch}
+use Rattle.camp_catch.specs.declared.catches.Catch.TheVariants.{Plain}
+use Rattle.camp_branch.specs.Branches.{names_of}
 use Rattle.camp_questions.specs.Graphs.{Needing, NeedsThese}
-use Rattle.camp_questions.specs.declared.graphs.Needed.{Needed}
+use Rattle.camp_questions.specs.declared.needed.Needed.{Needed}
+use Rattle.camp_questions.specs.declared.fast.patch_catches.PatchCatches.{PatchCatches}
+use Rattle.camp_questions.specs.Inside.ByPatch.{ArePatches, catches_in_order, names_in_order}
 
--- a patch with what it needs as a list
-abbrev pub needing : Needed → Needing
-needing patch = record { name = patch.name; needs = names_in patch.needs }
+-- the names at the places that are marked; behind the last mark none is
+abbrev pub marked : List (List ℕ) → List Bool → List (List ℕ)
+marked [] marks = []
+marked (name ∷ names) [] = []
+marked (name ∷ names) (mark ∷ marks) = cond mark (name ∷ marked names marks) (marked names marks)
+
+-- the places that are marked in one list or in the other, which is no longer
+abbrev pub marked_in_both : List Bool → List Bool → List Bool
+marked_in_both [] more = []
+marked_in_both (mark ∷ marks) [] = mark ∷ marks
+marked_in_both (mark ∷ marks) (other ∷ more) = (mark || other) ∷ marked_in_both marks more
+
+-- a patch with what it needs as a list, in a branch whose patches have these names
+abbrev pub needing : List (List ℕ) → Needed → Needing
+needing names patch = record { name = patch.name; needs = marked names patch.needs.items }
 
 -- the patches of these names, with what they need in a branch
 pub record NeedEach (branch : List Catch) (names : List (List ℕ)) (all : List Needed) : Type 0 where
-  pub names_are : map (λ (patch : Needing). patch.name) (map needing all) ≡ names
-  pub needs : AllByRecursion (NeedsThese branch) (map needing all)
+  pub names_are : map (λ (patch : Needed). patch.name) all ≡ names
+  pub needs : AllByRecursion (λ patch. NeedsThese branch (needing names patch)) all
+
+-- a branch of plain catches with room, by its patches with their catches inverted
+pub record IsInverted (branch : List Catch) (patches : List PatchCatches) : Type 0 where
+  pub forth : List Named
+  pub plain : branch ≡ map Plain forth
+  pub room : HasRoom forth
+  pub room_back : HasRoom (inverse_all forth)
+  pub are : ArePatches patches
+  pub names : names_in_order patches ≡ names_of branch
+  pub inverses : catches_in_order (reverse patches) ≡ map Plain (inverse_all forth)
+
+-- it is known what each of the first patches needs: each is marked up to its own place
+pub record AreKnown (branch : List Catch) (names : List (List ℕ)) (known : List Needed) : Type 0 where
+  pub named : (k : ℕ) (d : Needed) (n : List ℕ) → k < length known → (get_or known k d).name ≡ get_or names k n
+  pub needs : (k : ℕ) (d : Needed) → k < length known → NeedsThese branch (needing names (get_or known k d))
+  pub long : (k : ℕ) (d : Needed) → k < length known → length (get_or known k d).needs.items ≡ k + 1
+
+-- these are the marks of what the patch at a place needs, up to its own place
+pub record AreReached (branch : List Catch) (names : List (List ℕ)) (place : ℕ) (marks : List Bool) : Type 0 where
+  pub long : length marks ≡ place + 1
+  pub needs : (n : List ℕ) → NeedsThese branch (record { name = get_or names place n; needs = marked names marks })
+
+-- all places below one are marked
+abbrev pub AreMarkedBelow : List Bool → ℕ → Type 0
+AreMarkedBelow marks place = (r : ℕ) → r < place → get_or marks r false ≡ true

@@ -1,5 +1,9 @@
-use Rattle.camp_questions.proofs.Words.{List, ◌∙◌, ap, map, subst, Catch, IsGraphOf, node_of, NeedEach, needing, IsErrAnd, Result, Some, ℕ, ◌≡◌, Tells, Unanswered, Memory, Drawn, Contents, catches_of}
+use Rattle.camp_questions.proofs.Words.{List, ◌∙◌, ap, map, subst, sym, Catch, IsGraphOf, IsErrAnd, Result, Some, ℕ, ◌≡◌, Tells, Unanswered, Memory, Drawn, Contents, catches_of, names_of, AreDistinct}
 use Rattle.camp_questions.proofs.Answering.{memory_told}
+use Rattle.camp_branch.proofs.BranchLabels.{names_of_patches}
+use Rattle.camp_questions.specs.Inside.ByPlace.{node_in}
+use Rattle.camp_questions.specs.Inside.Graphing.{NeedEach, needing}
+use Rattle.camp_questions.specs.declared.needed.Needed.{Needed}
 use Rattle.camp_questions.proofs.GraphSteps.{drawn_in, graph_of_nodes, is_drawn, is_graph_of}
 use Rattle.camp_questions.proofs.graphs.graph.Goals as goal
 
@@ -18,12 +22,27 @@ returns-in_err-patches c = record { exact = refused c.args.state.now c.args.bran
 pub returns-in_err-pairs : goal.returns-in_err-pairs
 returns-in_err-pairs c = record { exact = refused c.args.state.now c.args.branch.now c.from_residual-in_err-pairs.result c.in_ok-branch.ensures c.from_residual-in_err-pairs.ensures.1 }
 
+pub all_needed-requires : goal.all_needed-requires
+all_needed-requires c = c.deref.ensures.value ∙ c.in_ok-names.ensures.exact
+
+pub nodes-requires-clause-named : goal.nodes-requires-clause-named
+nodes-requires-clause-named c =
+    ap (map (λ (patch : Needed). patch.name)) c.deref-3.ensures.value ∙ c.in_ok-all.ensures.names_are ∙ c.deref.ensures.value ∙ sym c.deref-2.ensures.value
+
+pub nodes-requires-clause-distinct : goal.nodes-requires-clause-distinct
+nodes-requires-clause-distinct c =
+    let branch : List Catch = c.in_ok-branch.branch.now in
+    let lawful = c.catches.ensures.lawful in
+    subst AreDistinct (sym (c.deref-2.ensures.value ∙ c.in_ok-names.ensures.exact ∙ names_of_patches branch lawful.patches lawful.has)) lawful.has.distinct
+
 pub returns : goal.returns
 returns c =
     let branch : List Catch = c.in_ok-branch.branch.now in
-    let each = subst (λ names. NeedEach branch names c.in_ok-all.all.items) c.deref.ensures.value c.in_ok-all.ensures in
-    let nodes = c.in_ok-patches.ensures ∙ ap (λ all. map (node_of branch (map needing all)) (map needing all)) c.deref-2.ensures.value in
+    let names : List (List ℕ) = c.in_ok-names.names.items in
+    let all = c.in_ok-all.all.items in
+    let each = subst (λ own. NeedEach branch own all) c.deref.ensures.value c.in_ok-all.ensures in
+    let drawn = c.in_ok-patches.ensures ∙ (λ i. map (node_in (c.deref-2.ensures.value i) (map (needing (c.deref-2.ensures.value i)) (c.deref-3.ensures.value i))) (map (needing (c.deref-2.ensures.value i)) (c.deref-3.ensures.value i))) in
     record {
       exact = is_graph_of c.args.state.now c.args.branch.now branch _ c.in_ok-branch.ensures
-          (graph_of_nodes branch c.in_ok-names.names.items c.in_ok-all.all.items c.in_ok-patches.patches.items c.in_ok-pairs.pairs.items c.new.result c.in_ok-names.ensures.exact each nodes c.in_ok-pairs.ensures.exact c.new.ensures.exact);
+          (graph_of_nodes branch names all c.in_ok-patches.patches.items c.in_ok-pairs.pairs.items c.new.result c.in_ok-names.ensures.exact each drawn c.in_ok-pairs.ensures.exact c.new.ensures.exact);
     }

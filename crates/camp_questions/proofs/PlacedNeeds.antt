@@ -1,0 +1,184 @@
+-- Direct needs, found by places.
+use Rattle.camp_questions.proofs.Words.{◌≡◌, ◌<◌, ◌≤◌, ◌==◌, ℕ, zero, suc, ◌+◌, Bool, true, false, true≢false, not, ◌&&◌, ◌||◌, cond, inl, inr, ◌⊎◌, List, [], ◌∷◌, ◌++◌, filter, map, length, take, drop, get_or, bytes_eq, refl, sym, ap, ◌∙◌, subst, arith, AllByRecursion, list_any, drop_all, drop_more, filter-append, map-append, take_more, name_itself, AreDistinct, goes_between, needs_directly, needs_other, all_append}
+use Rattle.std.proofs.lemmas.Bool.{eq-eqb, eqb-true}
+use Rattle.std.proofs.lemmas.List.{get_or-map, length-map, take_all}
+use Rattle.camp_branch.proofs.Names.{filter_image, other_way}
+use Rattle.camp_questions.specs.Graphs.{Needing}
+use Rattle.camp_questions.specs.declared.graphs.Node.{Node}
+use Rattle.camp_questions.specs.declared.needed.Needed.{Needed}
+use Rattle.camp_questions.specs.Inside.Graphing.{needing}
+use Rattle.camp_questions.specs.Inside.ByPlace.{name_at, needs_place, node_in, up_to}
+use Rattle.camp_questions.proofs.MarkedNames.{among_marked, apart_places, get_or_within}
+
+filter_again_at : (g : ℕ → Bool) (x : ℕ) (b : Bool) (l : List ℕ) → filter g (cond b (x ∷ l) l) ≡ cond (b && g x) (x ∷ filter g l) (filter g l)
+filter_again_at g x true l = refl
+filter_again_at g x false l = refl
+
+filter_again : (f g : ℕ → Bool) (l : List ℕ) → filter g (filter f l) ≡ filter (λ k. f k && g k) l
+filter_again f g [] = refl
+filter_again f g (n ∷ l) =
+    filter_again_at g n (f n) (filter f l) ∙ ap (λ t. cond (f n && g n) (n ∷ t) t) (filter_again f g l)
+
+-- tests that agree on so many places pass the same of them
+filter_up_to : (f g : ℕ → Bool) (n : ℕ) → ((k : ℕ) → k < n → f k ≡ g k) → filter f (up_to n) ≡ filter g (up_to n)
+filter_up_to f g zero same = refl
+filter_up_to f g (suc n) same =
+    filter-append f (up_to n) (n ∷ []) ∙ (λ i. filter_up_to f g n (λ k less. same k (omega (arith, less))) i ++ cond (same n (omega arith) i) (n ∷ []) []) ∙ sym (filter-append g (up_to n) (n ∷ []))
+
+pub one_more_place : (f : ℕ → Bool) (n : ℕ) → filter f (up_to (n + 1)) ≡ filter f (up_to n) ++ cond (f n) (n ∷ []) []
+one_more_place f n =
+    let e : n + 1 ≡ suc n = omega arith in
+    ap (λ m. filter f (up_to m)) e ∙ filter-append f (up_to n) (n ∷ [])
+
+-- the names at all places
+names_up_to : (names : List (List ℕ)) (n : ℕ) → n ≤ length names → map (name_at names) (up_to n) ≡ take n names
+names_up_to names zero within = refl
+names_up_to names (suc n) within =
+    let e : n + 1 ≡ suc n = omega arith in
+    map-append (name_at names) (up_to n) (n ∷ []) ∙ ap (λ l. l ++ name_at names n ∷ []) (names_up_to names n (omega (arith, within))) ∙ sym (take_more names n [] (omega (arith, within))) ∙ ap (λ m. take m names) e
+
+-- the names at the places that pass a test of their names
+pub names_that_pass : (test : List ℕ → Bool) (names : List (List ℕ)) (places : List ℕ) → places ≡ filter (λ k. test (name_at names k)) (up_to (length names)) → map (name_at names) places ≡ filter test names
+names_that_pass test names places are =
+    ap (map (name_at names)) are ∙ sym (filter_image (name_at names) test (up_to (length names))) ∙ ap (filter test) (names_up_to names (length names) (omega arith) ∙ take_all (length names) names (omega arith))
+
+all_within_up_to : (n : ℕ) → AllByRecursion (λ k. k < n) (up_to n)
+all_within_up_to n = each n (omega arith)
+  where
+    each : (m : ℕ) → m ≤ n → AllByRecursion (λ k. k < n) (up_to m)
+    each zero le = tt
+    each (suc m) le =
+        all_append (λ k. k < n) (up_to m) (m ∷ []) (each m (omega (arith, le))) ((omega (arith, le)), tt)
+
+all_kept : (P : ℕ → Type 0) (f : ℕ → Bool) (l : List ℕ) → AllByRecursion P l → AllByRecursion P (filter f l)
+all_kept P f [] w = tt
+all_kept P f (k ∷ l) w = at (f k) (all_kept P f l w.1)
+  where
+    at : (b : Bool) → AllByRecursion P (filter f l) → AllByRecursion P (cond b (k ∷ filter f l) (filter f l))
+    at true rest = (w.0, rest)
+    at false rest = rest
+
+pub places_within : (f : ℕ → Bool) (n : ℕ) → AllByRecursion (λ k. k < n) (filter f (up_to n))
+places_within f n = all_kept (λ k. k < n) f (up_to n) (all_within_up_to n)
+
+-- one number is less than another, greater, or the same
+nat_cases : (j k : ℕ) → (j < k) ⊎ ((k < j) ⊎ (j ≡ k))
+nat_cases zero zero = inr (inr refl)
+nat_cases zero (suc k) = inl (omega arith)
+nat_cases (suc j) zero = inr (inl (omega arith))
+nat_cases (suc j) (suc k) = elim (nat_cases j k) [
+  | inl less ↦ inl (omega (arith, less))
+  | inr more ↦ elim more [
+    | inl greater ↦ inr (inl (omega (arith, greater)))
+    | inr same ↦ inr (inr (ap suc same))
+  ]
+]
+
+one_past : (needs between more : Bool) → ((needs && not more) && not between) ≡ (needs && not (between || more))
+one_past true true true = refl
+one_past true true false = refl
+one_past true false true = refl
+one_past true false false = refl
+one_past false between more = refl
+
+and_true : (b : Bool) → b ≡ (b && true)
+and_true true = refl
+and_true false = refl
+
+eqb_itself : (n : ℕ) → (n == n) ≡ true
+eqb_itself n = eq-eqb n n refl
+
+module _ (names : List (List ℕ)) (all : List Needed) (named : map (λ (p : Needed). p.name) all ≡ names) (distinct : AreDistinct names) where
+  long : length all ≡ length names
+  long = sym (length-map all (λ (p : Needed). p.name)) ∙ ap length named
+
+  name_of_patch : (at : ℕ) (p d : Needed) → at < length all → p ≡ get_or all at d → p.name ≡ name_at names at
+  name_of_patch at p d within is =
+      ap (λ (x : Needed). x.name) is ∙ sym (get_or-map (λ (x : Needed). x.name) all at d d.name within) ∙ ap (λ l. get_or l at d.name) named ∙ get_or_within names at d.name [] (omega (arith, within, long))
+
+  same_place : (k at : ℕ) → k < length names → at < length names → bytes_eq (name_at names k) (name_at names at) ≡ (k == at)
+  same_place k at less within = elim (k == at) as (λ b. (k == at) ≡ b → bytes_eq (name_at names k) (name_at names at) ≡ b) [
+    | true ↦ λ e. ap (λ m. bytes_eq (name_at names m) (name_at names at)) (eqb-true k at e) ∙ name_itself (name_at names at)
+    | false ↦ λ e. elim (nat_cases k at) [
+      | inl less_first ↦ apart_places names k at [] distinct less_first within
+      | inr more ↦ elim more [
+        | inl more_than ↦ other_way (name_at names at) (name_at names k) (apart_places names at k [] distinct more_than less)
+        | inr same ↦ absurd (true≢false (sym (ap (λ m. m == at) same ∙ eqb_itself at) ∙ e))
+      ]
+    ]
+  ] refl
+
+  -- whether one needs another, by names and by places
+  pub needs_by_place : (at k : ℕ) (p d : Needed) → at < length all → p ≡ get_or all at d → k < length names → needs_other (needing names p) (name_at names k) ≡ needs_place p.needs.items at k
+  needs_by_place at k p d within is less =
+      (λ i. not ((ap (bytes_eq (name_at names k)) (name_of_patch at p d within is) ∙ same_place k at less (omega (arith, within, long))) i) && among_marked names p.needs.items k [] distinct less i)
+
+  module _ (at : ℕ) (p d : Needed) (within : at < length all) (is : p ≡ get_or all at d) where
+    -- whether the patch needs another, and none of some others that it needs does
+    abbrev pub past : List Needed → ℕ → Bool
+    past others k =
+        needs_directly (map (needing names) others) (needing names p) (name_at names k)
+
+    pub starts_past : (places : List ℕ) (left : ℕ) → left ≡ length all → places ≡ filter (needs_place p.needs.items at) (up_to (length all)) → places ≡ filter (past (drop left all)) (up_to (length names))
+    starts_past places left whole are =
+        are ∙ ap (λ n. filter (needs_place p.needs.items at) (up_to n)) long
+        ∙ filter_up_to (needs_place p.needs.items at) (past []) (length names) (λ k less. sym (needs_by_place at k p d within is less) ∙ and_true (needs_other (needing names p) (name_at names k)))
+        ∙ ap (λ l. filter (past l) (up_to (length names))) (sym (drop_all left all (omega (arith, whole))))
+
+    module _ (places : List ℕ) (left i : ℕ) (q e : Needed) (one : left ≡ i + 1) (inside : i < length all) (there : q ≡ get_or all i e) (so_far : places ≡ filter (past (drop left all)) (up_to (length names))) where
+      behind : drop i all ≡ q ∷ drop (i + 1) all
+      behind = drop_more all i e inside ∙ ap (λ x. x ∷ drop (i + 1) all) (sym there)
+
+      needs_it : needs_other (needing names p) q.name ≡ needs_place p.needs.items at i
+      needs_it =
+          ap (needs_other (needing names p)) (name_of_patch i q e inside there) ∙ needs_by_place at i p d within is (omega (arith, inside, long))
+
+      -- one that it needs leaves out what that needs
+      pub goes_past : (next : List ℕ) → needs_place p.needs.items at i ≡ true → next ≡ filter (λ k. not (needs_place q.needs.items i k)) places → next ≡ filter (past (drop i all)) (up_to (length names))
+      goes_past next needed are =
+          are ∙ ap (filter (λ k. not (needs_place q.needs.items i k))) (so_far ∙ ap (λ m. filter (past (drop m all)) (up_to (length names))) one)
+          ∙ filter_again (past (drop (i + 1) all)) (λ k. not (needs_place q.needs.items i k)) (up_to (length names))
+          ∙ filter_up_to (λ k. past (drop (i + 1) all) k && not (needs_place q.needs.items i k)) (past (q ∷ drop (i + 1) all)) (length names) (λ k less.
+          ap (λ b. past (drop (i + 1) all) k && not b) (sym (ap (λ b. b && needs_other (needing names q) (name_at names k)) (needs_it ∙ needed) ∙ needs_by_place i k q e inside there less))
+          ∙ one_past (needs_other (needing names p) (name_at names k)) (goes_between (needing names p) (name_at names k) (needing names q)) (list_any (goes_between (needing names p) (name_at names k)) (map (needing names) (drop (i + 1) all))))
+          ∙ ap (λ l. filter (past l) (up_to (length names))) (sym behind)
+
+      -- one that it does not need leaves out none
+      pub stays_past : needs_place p.needs.items at i ≡ false → places ≡ filter (past (drop i all)) (up_to (length names))
+      stays_past needless =
+          so_far ∙ ap (λ m. filter (past (drop m all)) (up_to (length names))) one
+          ∙ filter_up_to (past (drop (i + 1) all)) (past (q ∷ drop (i + 1) all)) (length names) (λ k less.
+          ap (λ b. needs_other (needing names p) (name_at names k) && not (b || list_any (goes_between (needing names p) (name_at names k)) (map (needing names) (drop (i + 1) all)))) (sym (ap (λ b. b && needs_other (needing names q) (name_at names k)) (needs_it ∙ needless))))
+          ∙ ap (λ l. filter (past l) (up_to (length names))) (sym behind)
+
+    pub all_past : (places : List ℕ) (left : ℕ) → left ≡ 0 → places ≡ filter (past (drop left all)) (up_to (length names)) → map (name_at names) places ≡ (node_in names (map (needing names) all) (needing names p)).needs
+    all_past places left none so_far =
+        names_that_pass (needs_directly (map (needing names) all) (needing names p)) names places (so_far ∙ ap (λ m. filter (past (drop m all)) (up_to (length names))) none)
+
+    pub places_inside : (places : List ℕ) (left : ℕ) → places ≡ filter (past (drop left all)) (up_to (length names)) → AllByRecursion (λ k. k < length names) places
+    places_inside places left so_far =
+        subst (AllByRecursion (λ k. k < length names)) (sym so_far) (places_within (past (drop left all)) (length names))
+
+-- whether a patch needs the one at a place, and none of some others that it needs does
+abbrev pub left_over : List (List ℕ) → Needed → List Needed → ℕ → Bool
+left_over names p others k =
+    needs_directly (map (needing names) others) (needing names p) (name_at names k)
+
+-- one more patch is drawn
+pub one_node : (draw : Needing → Node) (needing_of : Needed → Needing) (all : List Needed) (i : ℕ) (p d : Needed) (nodes next : List Node) (node : Node) → i < length all → p ≡ get_or all i d → nodes ≡ map draw (map needing_of (take i all)) → node ≡ draw (needing_of p) → next ≡ nodes ++ node ∷ [] → next ≡ map draw (map needing_of (take (i + 1) all))
+one_node draw needing_of all i p d nodes next node within is so_far drawn becomes =
+    let more : take (i + 1) all ≡ take i all ++ p ∷ [] = take_more all i d within ∙ ap (λ x. take i all ++ x ∷ []) (sym is) in
+    becomes ∙ (λ k. so_far k ++ drawn k ∷ []) ∙ sym (ap (λ l. map draw (map needing_of l)) more ∙ ap (map draw) (map-append needing_of (take i all) (p ∷ [])) ∙ map-append draw (map needing_of (take i all)) (needing_of p ∷ []))
+
+-- one more name is told
+pub one_name : (names chosen next : List (List ℕ)) (places : List ℕ) (i p d : ℕ) (n : List ℕ) → i < length places → p ≡ get_or places i d → chosen ≡ map (name_at names) (take i places) → n ≡ name_at names p → next ≡ chosen ++ n ∷ [] → next ≡ map (name_at names) (take (i + 1) places)
+one_name names chosen next places i p d n within is so_far called becomes =
+    let more : take (i + 1) places ≡ take i places ++ p ∷ [] = take_more places i d within ∙ ap (λ x. take i places ++ x ∷ []) (sym is) in
+    becomes ∙ (λ k. so_far k ++ called k ∷ []) ∙ sym (ap (map (name_at names)) more ∙ map-append (name_at names) (take i places) (p ∷ []))
+
+-- what holds of all places holds of the one at an index
+pub at_index : (P : ℕ → Type 0) (places : List ℕ) (i p d : ℕ) → AllByRecursion P places → i < length places → p ≡ get_or places i d → P p
+at_index P [] i p d all within is = absurd (omega (arith, within))
+at_index P (q ∷ places) zero p d all within is = subst P (sym is) all.0
+at_index P (q ∷ places) (suc i) p d all within is =
+    at_index P places i p d all.1 (omega (arith, within)) is

@@ -1,0 +1,414 @@
+-- What a patch needs, found by a walk back from it over the patches taken back.
+use Rattle.camp_questions.proofs.Words.{◌≡◌, ◌<◌, ◌≤◌, ◌⊎◌, ℕ, zero, suc, ◌+◌, ◌-◌, Bool, true, false, not, ◌&&◌, ◌||◌, cond, List, [], ◌∷◌, ◌++◌, bytes_eq, map, length, take, drop, get_or, replicate, None, Some, refl, sym, ap, ◌∙◌, subst, inl, inr, arith, AllByRecursion, append_assoc, length-append, length-replicate, take-append-drop, Catch, ArrangesBehind, has_patch, is_among, is_among_is, name_of, names_of, all_append, name_itself, among_others, other_names, among_once, AreHeldIn, ComeToFront, CanGo, AreAmong, IsPlain, NeedsThese}
+use Rattle.std.proofs.Common.{set}
+use Rattle.std.proofs.lemmas.List.{get_or-map, get_or-reverse, get_or-set_same, get_or_past, length-map, length-set, reverse-append, take_all}
+use Rattle.std.specs.Prelude.{reverse}
+use Rattle.camp_seq.specs.Running.{inverse_all}
+use Rattle.camp_questions.specs.declared.fast.patch_catches.PatchCatches.{PatchCatches}
+use Rattle.camp_questions.specs.Inside.ByPatch.{AreApart, ArePatches, catches_in_order, names_in_order}
+use Rattle.camp_questions.specs.declared.needed.Needed.{Needed}
+use Rattle.camp_questions.specs.Inside.ByPatch.{ArePatchesOf}
+use Rattle.camp_questions.specs.Inside.TakingBack.{AreTakenBack}
+use Rattle.camp_questions.proofs.GraphSteps.{AreNeeded, all_needed, none_needed, one_needed}
+use Rattle.camp_questions.specs.Inside.Graphing.{AreKnown, AreMarkedBelow, AreReached, IsInverted, NeedEach, marked, marked_in_both, needing}
+use Rattle.camp_questions.specs.Inside.StandingAside.{ComeBeforeAll, StickBehind}
+use Rattle.camp_questions.proofs.BranchGrowths.{needs_are_determined, needs_come_first}
+use Rattle.camp_questions.proofs.LeastHeld.{held_within}
+use Rattle.camp_questions.proofs.LeastNeeds.{needs_are_least}
+use Rattle.camp_questions.proofs.MarkedNames.{among_both_marked, among_marked, apart_places, both_long, get_or_within, mark_at, mark_in_both, one_marked, there}
+use Rattle.camp_branch.proofs.Names.{other_way}
+use Rattle.camp_questions.proofs.PartsArranged.{left_apart}
+use Rattle.camp_questions.proofs.PatchFronts.{all_are, both_are}
+use Rattle.camp_questions.proofs.PatchesBack.{reversed}
+use Rattle.camp_questions.proofs.ReachedNeeds.{alone_among}
+use Rattle.camp_questions.proofs.TakenBack.{both_ways, come_back, go_back}
+use Rattle.camp_questions.proofs.WalkedPatches.{HeldAlike, IsWalked, all_before, all_there, can_go_then, held_here, one_more_done, own_at, patches_parted, there_of, walked_alike, walked_aside, walked_on}
+
+-- of patches from the last back to a place, those before the place are still to be walked over
+abbrev pub walked_from : List PatchCatches → ℕ → List Catch
+walked_from patches place = catches_in_order (take (length patches - place) (reverse patches))
+
+length-reverse : {X : Type 0} (xs : List X) → length (reverse xs) ≡ length xs
+length-reverse [] = refl
+length-reverse (x ∷ xs) =
+    let whole : length (reverse (x ∷ xs)) ≡ length (reverse xs ++ x ∷ []) = ap length (reverse-append (x ∷ []) xs) in
+    whole ∙ length_push (reverse xs) x ∙ ap (λ n. n + 1) (length-reverse xs) ∙ one_more_of (length xs)
+  where
+    one_more_of : (n : ℕ) → n + 1 ≡ suc n
+    one_more_of n = omega arith
+
+    length_push : {X : Type 0} (ys : List X) (y : X) → length (ys ++ y ∷ []) ≡ length ys + 1
+    length_push [] y = refl
+    length_push (z ∷ ys) y = let rest = length_push ys y in omega (arith, rest)
+
+module _ (patches : List PatchCatches) (are : ArePatches patches) where
+  abbrev all : List Catch
+  all = catches_in_order (reverse patches)
+
+  abbrev own : List (List ℕ)
+  own = names_in_order patches
+
+  module _ (place : ℕ) (p d : PatchCatches) (within : place < length patches) (is : p ≡ get_or patches place d) where
+    -- from behind, it stands at this place
+    abbrev index : ℕ
+    index = length patches - (place + 1)
+
+    stands_within : index < length (reverse patches)
+    stands_within = let long = length-reverse patches in omega (arith, long, within)
+
+    stands : p ≡ get_or (reverse patches) index d
+    stands =
+        let turned = get_or-reverse patches index d (omega (arith, within)) in
+        let e : length patches - 1 - index ≡ place = omega (arith, within) in
+        is ∙ ap (λ k. get_or patches k d) (sym e) ∙ sym turned
+
+    next : length patches - place ≡ index + 1
+    next = omega (arith, within)
+
+    more_done : walked_from patches place ≡ walked_from patches (place + 1) ++ p.catches.items
+    more_done =
+        ap (λ k. catches_in_order (take k (reverse patches))) next ∙ one_more_done (reverse patches) index p d stands_within stands
+
+  -- the walk goes past a patch that comes before what goes
+  pub back_aside : (held : List (List ℕ)) (place : ℕ) (p d : PatchCatches) (going left : List Catch) → place < length patches → p ≡ get_or patches place d → IsWalked all held (walked_from patches (place + 1)) going → is_among held p.name ≡ false → ComeBeforeAll p.name going p.catches.items left → IsWalked all held (walked_from patches place) left
+  back_aside held place p d going left within is walked free come =
+      subst (λ l. IsWalked all held l left) (sym (more_done place p d within is)) (walked_aside all held (walked_from patches (place + 1)) going walked p.name p.catches.items (there_of (reverse patches) (reversed patches are) (index place p d within is) p d (stands_within place p d within is) (stands place p d within is)) left free come)
+
+  -- and past one that goes
+  pub back_on : (held : List (List ℕ)) (place : ℕ) (p d : PatchCatches) (going : List Catch) → place < length patches → p ≡ get_or patches place d → IsWalked all held (walked_from patches (place + 1)) going → is_among held p.name ≡ true → IsWalked all held (walked_from patches place) (going ++ p.catches.items)
+  back_on held place p d going within is walked goes =
+      subst (λ l. IsWalked all held l (going ++ p.catches.items)) (sym (more_done place p d within is)) (walked_on all held (walked_from patches (place + 1)) going walked p.name p.catches.items (there_of (reverse patches) (reversed patches are) (index place p d within is) p d (stands_within place p d within is) (stands place p d within is)) goes)
+
+  -- one that sticks is held
+  pub back_stuck : (held : List (List ℕ)) (place : ℕ) (p d : PatchCatches) (going : List Catch) → place < length patches → p ≡ get_or patches place d → IsWalked all held (walked_from patches (place + 1)) going → is_among held p.name ≡ false → StickBehind p.name going p.catches.items → AreHeldIn all held p.name
+  back_stuck held place p d going within is walked free stuck =
+      held_here all held (walked_from patches (place + 1)) going walked p.name p.catches.items (there_of (reverse patches) (reversed patches are) (index place p d within is) p d (stands_within place p d within is) (stands place p d within is)) (catches_in_order (drop (index place p d within is + 1) (reverse patches))) (patches_parted (reverse patches) (index place p d within is) p d (stands_within place p d within is) (stands place p d within is)) free stuck
+
+  -- the rest goes, where all of it is held
+  pub walked_down : (held : List (List ℕ)) (place : ℕ) (d : PatchCatches) (going : List Catch) → place ≤ length patches → IsWalked all held (walked_from patches place) going → ((r : ℕ) (n : List ℕ) → r < place → is_among held (get_or own r n) ≡ true) → (left : List Catch) × IsWalked all held (walked_from patches 0) left
+  walked_down held zero d going within walked goes = (going, walked)
+  walked_down held (suc place) d going within walked goes =
+      let p = get_or patches place d in
+      let inside : place < length patches = omega (arith, within) in
+      let e : suc place ≡ place + 1 = omega arith in
+      let here = subst (λ k. IsWalked all held (walked_from patches k) going) e walked in
+      let named = get_or-map (λ (x : PatchCatches). x.name) patches place d d.name inside in
+      let held_too = ap (is_among held) (sym named) ∙ goes place d.name (omega arith) in
+      walked_down held place d (going ++ p.catches.items) (omega (arith, within)) (back_on held place p d going inside refl here held_too) (λ r n less. goes r n (omega (arith, less)))
+
+  from_end : (n : ℕ) → length patches ≡ n → walked_from patches n ≡ []
+  from_end n long =
+      let none : length patches - n ≡ 0 = omega (arith, long) in
+      ap (λ k. catches_in_order (take k (reverse patches))) none ∙ ap catches_in_order (take_none (reverse patches))
+    where
+      take_none : (l : List PatchCatches) → take 0 l ≡ []
+      take_none [] = refl
+      take_none (x ∷ l) = refl
+
+  -- from the first place on, all have been walked over
+  pub whole_walk : walked_from patches 0 ≡ all
+  whole_walk =
+      let long = length-reverse patches in
+      let e : length patches - 0 ≡ length patches = omega arith in
+      ap (λ k. catches_in_order (take k (reverse patches))) e ∙ ap catches_in_order (take_all (length patches) (reverse patches) (omega (arith, long)))
+
+  -- what holds of the names from a place on holds of the catches that have been walked over
+  pub each_walked : (P : List ℕ → Type 0) (left place : ℕ) (d : PatchCatches) → place + left ≡ length patches → ((r : ℕ) (n : List ℕ) → place ≤ r → r < length patches → P (get_or own r n)) → AllByRecursion (λ k. P (name_of k)) (walked_from patches place)
+  each_walked P zero place d whole holds =
+      subst (AllByRecursion (λ k. P (name_of k))) (sym (from_end place (omega (arith, whole)))) tt
+  each_walked P (suc left) place d whole holds =
+      let p = get_or patches place d in
+      let inside : place < length patches = omega (arith, whole) in
+      let behind = each_walked P left (place + 1) d (omega (arith, whole)) (λ r n le less. holds r n (omega (arith, le)) less) in
+      let named = get_or-map (λ (x : PatchCatches). x.name) patches place d d.name inside in
+      let here = subst P named (holds place d.name (omega arith) inside) in
+      let owned = own_at patches place p d inside refl are.own in
+      subst (AllByRecursion (λ k. P (name_of k))) (sym (more_done place p d inside refl)) (all_append (λ k. P (name_of k)) (walked_from patches (place + 1)) p.catches.items behind (all_are (λ k is. subst P (sym is) here) p.catches.items owned))
+
+  -- what goes so far is of other patches than the one at a place
+  pub back_apart : (held : List (List ℕ)) (place : ℕ) (p d : PatchCatches) (going : List Catch) → place < length patches → p ≡ get_or patches place d → IsWalked all held (walked_from patches (place + 1)) going → AreApart p.name going
+  back_apart held place p d going within is walked =
+      let called : p.name ≡ get_or own place d.name = ap (λ (x : PatchCatches). x.name) is ∙ sym (get_or-map (λ (x : PatchCatches). x.name) patches place d d.name within) in
+      let long : length own ≡ length patches = length-map patches (λ (x : PatchCatches). x.name) in
+      let others : AreApart p.name (walked_from patches (place + 1)) = each_walked (λ n. bytes_eq n p.name ≡ false) (length patches - (place + 1)) (place + 1) d (omega (arith, within)) (λ r n le less.
+      ap (bytes_eq (get_or own r n)) called ∙ other_way (get_or own place d.name) (get_or own r n) (ap (λ m. bytes_eq m (get_or own r n)) (get_or_within own place d.name n (omega (arith, within, long))) ∙ apart_places own place r n are.distinct (omega (arith, le)) (omega (arith, less, long)))) in
+      left_apart p.name (other_names all held) (walked_from patches (place + 1)) walked.first going walked.arranged others
+
+  -- they are catches of the list
+  pub walked_there : (place : ℕ) → AllByRecursion (λ k. has_patch all (name_of k) ≡ true) (walked_from patches place)
+  walked_there place =
+      let i = length patches - place in
+      let parts : all ≡ walked_from patches place ++ catches_in_order (drop i (reverse patches)) = ap catches_in_order (sym (take-append-drop i (reverse patches))) ∙ catches_of_parts (take i (reverse patches)) (drop i (reverse patches)) in
+      all_before (λ k. has_patch all (name_of k) ≡ true) (walked_from patches place) (catches_in_order (drop i (reverse patches))) (subst (AllByRecursion (λ k. has_patch all (name_of k) ≡ true)) parts (all_there all))
+    where
+      catches_of_parts : (xs ys : List PatchCatches) → catches_in_order (xs ++ ys) ≡ catches_in_order xs ++ catches_in_order ys
+      catches_of_parts [] ys = refl
+      catches_of_parts (x ∷ xs) ys =
+          ap (λ l. x.catches.items ++ l) (catches_of_parts xs ys) ∙ sym (append_assoc x.catches.items (catches_in_order xs) (catches_in_order ys))
+
+  -- where none of those behind a place are held, all of them stay
+  free_in_front : (names : List (List ℕ)) (list : List Catch) → AllByRecursion (λ k. is_among names (name_of k) ≡ true) list → ArrangesBehind names [] list list []
+  free_in_front names [] are = (refl, refl)
+  free_in_front names (k ∷ list) are =
+      inl ((is_among_is names (name_of k)).1 are.0, (k, [], list, (refl, refl), free_in_front names list are.1, refl))
+
+  pub walked_free : (held : List (List ℕ)) (place : ℕ) → AllByRecursion (λ k. is_among held (name_of k) ≡ false) (walked_from patches place) → IsWalked all held (walked_from patches place) []
+  walked_free held place free = record {
+    first = walked_from patches place;
+    arranged = free_in_front (other_names all held) (walked_from patches place) (both_are (λ k has lacks. among_others all held (name_of k) ∙ (λ i. has i && not (lacks i))) (walked_from patches place) (walked_there place) free);
+  }
+
+-- a walk back from the patch at a place has come to another: what is marked goes, and all who have the patch and come to
+-- the front of the branch have what is marked
+pub record ReachesTo (branch : List Catch) (patches : List PatchCatches) (from : ℕ) (marks : List Bool) (place : ℕ) (going : List Catch) : Type 0 where
+  pub long : length marks ≡ from + 1
+  pub walked : IsWalked (catches_in_order (reverse patches)) (marked (names_in_order patches) marks) (walked_from patches place) going
+  pub least :
+      (others : List (List ℕ)) (n : List ℕ) → is_among others (get_or (names_in_order patches) from n) ≡ true →
+      ComeToFront branch others → AreAmong (marked (names_in_order patches) marks) others
+  pub itself : mark_at marks from ≡ true
+
+module _ (branch : List Catch) (patches : List PatchCatches) (inverted : IsInverted branch patches) (from : ℕ) (inside : from < length patches) where
+  abbrev names : List (List ℕ)
+  names = names_in_order patches
+
+  abbrev back : List Catch
+  back = catches_in_order (reverse patches)
+
+  plain : IsPlain branch
+  plain = record { patches = inverted.forth; are = inverted.plain; room = inverted.room }
+
+  plain_back : IsPlain back
+  plain_back =
+      record { patches = inverse_all inverted.forth; are = inverted.inverses; room = inverted.room_back }
+
+  names_long : length names ≡ length patches
+  names_long = length-map patches (λ (x : PatchCatches). x.name)
+
+  -- the name of the patch at a place is marked where the place is
+  called : (held : List (List ℕ)) (place : ℕ) (p d : PatchCatches) → place < length patches → p ≡ get_or patches place d → is_among held p.name ≡ is_among held (get_or names place d.name)
+  called held place p d within is =
+      ap (λ (x : PatchCatches). is_among held x.name) is ∙ ap (is_among held) (sym (get_or-map (λ (x : PatchCatches). x.name) patches place d d.name within))
+
+  by_place : (marks : List Bool) (place : ℕ) (p d : PatchCatches) → place < length patches → p ≡ get_or patches place d → is_among (marked names marks) p.name ≡ mark_at marks place
+  by_place marks place p d within is =
+      called (marked names marks) place p d within is ∙ among_marked names marks place d.name inverted.are.distinct (omega (arith, within, names_long))
+
+  -- a patch that comes before what goes is passed by
+  pub reaches_aside : (marks : List Bool) (place : ℕ) (p d : PatchCatches) (going left : List Catch) → place < length patches → p ≡ get_or patches place d → ReachesTo branch patches from marks (place + 1) going → mark_at marks place ≡ false → ComeBeforeAll p.name going p.catches.items left → ReachesTo branch patches from marks place left
+  reaches_aside marks place p d going left within is so_far free come = record {
+    long = so_far.long;
+    walked = back_aside patches inverted.are (marked names marks) place p d going left within is so_far.walked (by_place marks place p d within is ∙ free) come;
+    least = so_far.least;
+    itself = so_far.itself;
+  }
+
+  -- one that is marked goes
+  pub reaches_on : (marks : List Bool) (place : ℕ) (p d : PatchCatches) (going : List Catch) → place < length patches → p ≡ get_or patches place d → ReachesTo branch patches from marks (place + 1) going → mark_at marks place ≡ true → ReachesTo branch patches from marks place (going ++ p.catches.items)
+  reaches_on marks place p d going within is so_far goes = record {
+    long = so_far.long;
+    walked = back_on patches inverted.are (marked names marks) place p d going within is so_far.walked (by_place marks place p d within is ∙ goes);
+    least = so_far.least;
+    itself = so_far.itself;
+  }
+
+  -- one that sticks is among all that have the patch and come to the front
+  sticks_within : (marks : List Bool) (place : ℕ) (p d : PatchCatches) (going : List Catch) → place < length patches → p ≡ get_or patches place d → ReachesTo branch patches from marks (place + 1) going → mark_at marks place ≡ false → StickBehind p.name going p.catches.items → (others : List (List ℕ)) (n : List ℕ) → is_among others (get_or names from n) ≡ true → ComeToFront branch others → is_among others p.name ≡ true
+  sticks_within marks place p d going within is so_far free stuck others n has come =
+      let held = marked names marks in
+      let sticks = back_stuck patches inverted.are held place p d going within is so_far.walked (by_place marks place p d within is ∙ free) stuck in
+      let can = subst (λ l. CanGo l others) (sym inverted.inverses) (go_back inverted.forth others (subst (λ l. ComeToFront l others) inverted.plain come)) in
+      held_within back others plain_back can held p.name (so_far.least others n has come) sticks
+
+  -- and so is all that it needs
+  needs_within : (p : List ℕ) (marks : List Bool) → NeedsThese branch (record { name = p; needs = marked names marks }) → (others : List (List ℕ)) → is_among others p ≡ true → ComeToFront branch others → AreAmong (marked names marks) others
+  needs_within p marks these others has come x there =
+      needs_are_least branch (p ∷ []) these.0 others plain these.1 (alone_among p others has) come x (sym (these.2 x) ∙ there)
+
+  or_cases_of : (a b : Bool) → (a || b) ≡ true → (a ≡ true) ⊎ (b ≡ true)
+  or_cases_of true b e = inl refl
+  or_cases_of false b e = inr e
+
+  or_true_last : (b : Bool) → (b || true) ≡ true
+  or_true_last true = refl
+  or_true_last false = refl
+
+  or_false_last : (b : Bool) → (b || false) ≡ b
+  or_false_last true = refl
+  or_false_last false = refl
+
+  -- it goes, and what it needs is marked
+  pub reaches_stuck : (marks row : List Bool) (place : ℕ) (p d : PatchCatches) (going : List Catch) → place < from → p ≡ get_or patches place d → ReachesTo branch patches from marks (place + 1) going → mark_at marks place ≡ false → StickBehind p.name going p.catches.items → length row ≡ place + 1 → NeedsThese branch (record { name = p.name; needs = marked names row }) → is_among (names_of branch) p.name ≡ true → ReachesTo branch patches from (marked_in_both marks row) place (going ++ p.catches.items)
+  reaches_stuck marks row place p d going before is so_far free stuck row_long these own_patch =
+      let within : place < length patches = omega (arith, before, inside) in
+      let fits : length row ≤ length marks = let long = so_far.long in omega (arith, row_long, long, before) in
+      let held = marked names marks in
+      let next = marked names (marked_in_both marks row) in
+      let both : (x : List ℕ) → is_among next x ≡ (is_among held x || is_among (marked names row) x) = λ x. among_both_marked names marks row x fits in
+      let has : is_among (map name_of branch) p.name ≡ true = sym (among_once (map name_of branch) p.name) ∙ own_patch in
+      let needed = needs_come_first branch (p.name ∷ []) these.0 (ap (λ b. cond b None (Some p.name)) has) these.1 in
+      let own_mark : is_among (marked names row) p.name ≡ true = these.2 p.name ∙ needed.1.has p.name (ap (λ b. b || false) (name_itself p.name)) in
+      let alike : HeldAlike back held next (walked_from patches (place + 1)) = both_are (λ k there same. (there, same)) (walked_from patches (place + 1)) (walked_there patches inverted.are (place + 1)) (each_walked patches inverted.are (λ n. is_among next n ≡ is_among held n) (length patches - (place + 1)) (place + 1) d (omega (arith, within)) (λ r n le less.
+      both (get_or names r n) ∙ ap (λ b. is_among held (get_or names r n) || b) (among_marked names row r n inverted.are.distinct (omega (arith, less, names_long)) ∙ get_or_past row r false (omega (arith, row_long, le))) ∙ or_false_last (is_among held (get_or names r n)))) in
+      let now = walked_alike back held next (walked_from patches (place + 1)) going alike so_far.walked in
+      record {
+        long = both_long marks row ∙ so_far.long;
+        walked = back_on patches inverted.are next place p d going within is now (both p.name ∙ ap (λ b. is_among held p.name || b) own_mark ∙ or_true_last (is_among held p.name));
+        least = λ others n among come x there.
+            let sticks = sticks_within marks place p d going within is so_far free stuck others n among come in
+            elim (or_cases_of (is_among held x) (is_among (marked names row) x) (sym (both x) ∙ there)) [
+              | inl e ↦ so_far.least others n among come x e
+              | inr e ↦ needs_within p.name row these others sticks come x e
+            ];
+        itself = mark_in_both marks row from fits ∙ ap (λ b. b || mark_at row from) so_far.itself;
+      }
+
+  -- where all places before are marked, the walk is done
+  pub all_reached : (marks : List Bool) (place : ℕ) (d : PatchCatches) (going : List Catch) → place ≤ from → ReachesTo branch patches from marks place going → ((r : ℕ) → r < place → mark_at marks r ≡ true) → AreReached branch names from marks
+  all_reached marks place d going before so_far below = record {
+    long = so_far.long;
+    needs = λ n.
+        let held = marked names marks in
+        let name = get_or names from n in
+        let down = walked_down patches inverted.are held place d going (omega (arith, before, inside)) so_far.walked (λ r m less. among_marked names marks r m inverted.are.distinct (omega (arith, less, before, inside, names_long)) ∙ below r less) in
+        let can = can_go_then back held (walked_from patches 0) down.0 down.1 (whole_walk patches inverted.are) in
+        let come : ComeToFront branch held = subst (λ l. ComeToFront l held) (sym inverted.plain) (come_back inverted.forth held (subst (λ l. CanGo l held) inverted.inverses can)) in
+        let own_mark : is_among held name ≡ true = among_marked names marks from n inverted.are.distinct (omega (arith, inside, names_long)) ∙ so_far.itself in
+        let needed = needs_are_determined branch (name ∷ []) in
+        let has : is_among (map name_of branch) name ≡ true = sym (among_once (map name_of branch) name) ∙ ap (λ l. is_among l name) (sym inverted.names) ∙ there names from n (omega (arith, inside, names_long)) in
+        let came = needs_come_first branch (name ∷ []) needed.0 (ap (λ b. cond b None (Some name)) has) needed.1 in
+        let first : AreAmong held needed.0 = so_far.least needed.0 n (came.1.has name (ap (λ b. b || false) (name_itself name))) came.0 in
+        let second : AreAmong needed.0 held = needs_are_least branch (name ∷ []) needed.0 held plain needed.1 (alone_among name held own_mark) come in
+        (needed.0, needed.1, λ x. both_ways (is_among held x) (is_among needed.0 x) (first x) (second x));
+  }
+
+  -- at first the patch alone is marked, and goes
+  pub starts_reaching : (marks : List Bool) (p d : PatchCatches) (going : List Catch) → p ≡ get_or patches from d → marks ≡ set (replicate (from + 1) false) from true → going ≡ p.catches.items → ReachesTo branch patches from marks from going
+  starts_reaching marks p d going is first goes =
+      let long : length marks ≡ from + 1 = ap length first ∙ length-set (replicate (from + 1) false) from true ∙ length-replicate (from + 1) false in
+      let held = marked names marks in
+      let mine : mark_at marks from ≡ true = ap (λ l. get_or l from false) first ∙ get_or-set_same (replicate (from + 1) false) from true false (let r = length-replicate (from + 1) false in omega (arith, r)) in
+      let alone : held ≡ p.name ∷ [] = ap (marked names) first ∙ one_marked names from d.name (omega (arith, inside, names_long)) ∙ ap (λ x. x ∷ []) (get_or-map (λ (x : PatchCatches). x.name) patches from d d.name inside ∙ ap (λ (x : PatchCatches). x.name) (sym is)) in
+      let free = each_walked patches inverted.are (λ n. is_among held n ≡ false) (length patches - (from + 1)) (from + 1) d (omega (arith, inside)) (λ r n le less.
+      among_marked names marks r n inverted.are.distinct (omega (arith, less, names_long)) ∙ get_or_past marks r false (omega (arith, long, le))) in
+      let start = walked_free patches inverted.are held (from + 1) free in
+      let on = back_on patches inverted.are held from p d [] inside is start (by_place marks from p d inside is ∙ mine) in
+      record {
+        long = long;
+        walked = subst (λ l. IsWalked back held (walked_from patches from) l) (sym goes) on;
+        least = λ others n has come x there.
+            let same : get_or names from n ≡ p.name = get_or_within names from n d.name (omega (arith, inside, names_long)) ∙ get_or-map (λ (x : PatchCatches). x.name) patches from d d.name inside ∙ ap (λ (x : PatchCatches). x.name) (sym is) in
+            alone_among p.name others (ap (is_among others) (sym same) ∙ has) x (ap (λ l. is_among l x) (sym alone) ∙ there);
+        itself = mine;
+      }
+
+-- a step of the walk back, to a place where what the patches before the own one need is known
+module _ (branch : List Catch) (patches : List PatchCatches) (inverted : IsInverted branch patches) (known : List Needed) (are : AreKnown branch (names_in_order patches) known) (inside : length known < length patches) where
+  module _ (marks : List Bool) (place from : ℕ) (next : from ≡ place + 1) (p : PatchCatches) (going : List Catch) (within : place < length known) (is : p ≡ get_or patches place p) (so_far : ReachesTo branch patches (length known) marks from going) where
+    now : ReachesTo branch patches (length known) marks (place + 1) going
+    now = subst (λ k. ReachesTo branch patches (length known) marks k going) next so_far
+
+    pub step_aside : (left : List Catch) → mark_at marks place ≡ false → ComeBeforeAll p.name going p.catches.items left → ReachesTo branch patches (length known) marks place left
+    step_aside left free come =
+        reaches_aside branch patches inverted (length known) inside marks place p p going left (omega (arith, within, inside)) is now free come
+
+    pub step_on : mark_at marks place ≡ true → ReachesTo branch patches (length known) marks place (going ++ p.catches.items)
+    step_on goes =
+        reaches_on branch patches inverted (length known) inside marks place p p going (omega (arith, within, inside)) is now goes
+
+    pub step_stuck : (q : Needed) → q ≡ get_or known place q → mark_at marks place ≡ false → StickBehind p.name going p.catches.items → ReachesTo branch patches (length known) (marked_in_both marks q.needs.items) place (going ++ p.catches.items)
+    step_stuck q same free stuck =
+        let own_names = names_in_order patches in
+        let long : length own_names ≡ length patches = length-map patches (λ (x : PatchCatches). x.name) in
+        let row_long : length q.needs.items ≡ place + 1 = ap (λ (x : Needed). length x.needs.items) same ∙ are.long place q within in
+        let called : p.name ≡ get_or own_names place p.name = ap (λ (x : PatchCatches). x.name) is ∙ sym (get_or-map (λ (x : PatchCatches). x.name) patches place p p.name (omega (arith, within, inside))) in
+        let of_row : q.name ≡ p.name = ap (λ (x : Needed). x.name) same ∙ are.named place q p.name within ∙ sym called in
+        let these = subst (λ n. NeedsThese branch (record { name = n; needs = marked own_names q.needs.items })) of_row (subst (λ (x : Needed). NeedsThese branch (needing own_names x)) (sym same) (are.needs place q within)) in
+        let has : is_among (names_of branch) p.name ≡ true = ap (λ l. is_among l p.name) (sym inverted.names) ∙ ap (is_among own_names) called ∙ there own_names place p.name (omega (arith, within, inside, long)) in
+        reaches_stuck branch patches inverted (length known) inside marks q.needs.items place p p going within is now free stuck row_long these has
+
+  -- what goes is of other patches than the next
+  pub goes_apart_from : (marks : List Bool) (place from : ℕ) (p : PatchCatches) (going : List Catch) → from ≡ place + 1 → place < length known → p ≡ get_or patches place p → ReachesTo branch patches (length known) marks from going → AreApart p.name going
+  goes_apart_from marks place from p going next within is so_far =
+      let now = subst (λ k. ReachesTo branch patches (length known) marks k going) next so_far in
+      back_apart patches inverted.are (marked (names_in_order patches) marks) place p p going (omega (arith, within, inside)) is now.walked
+
+  pub step_first : (marks : List Bool) (p : PatchCatches) (going : List Catch) → p ≡ get_or patches (length known) p → marks ≡ set (replicate (length known + 1) false) (length known) true → going ≡ p.catches.items → ReachesTo branch patches (length known) marks (length known) going
+  step_first marks p going is first goes =
+      starts_reaching branch patches inverted (length known) inside marks p p going is first goes
+
+  pub step_last : (marks : List Bool) (place below : ℕ) (p : PatchCatches) (going : List Catch) → place ≤ length known → place ≤ below → AreMarkedBelow marks below → ReachesTo branch patches (length known) marks place going → AreReached branch (names_in_order patches) (length known) marks
+  step_last marks place below p going before all_below marked_there so_far =
+      all_reached branch patches inverted (length known) inside marks place p going before so_far (λ r less. marked_there r (omega (arith, less, all_below)))
+
+-- so many patches are known
+pub record AreKnownSoFar (branch : List Catch) (names : List (List ℕ)) (count : ℕ) (all : List Needed) : Type 0 where
+  pub known : AreKnown branch names all
+  pub needed : AreNeeded branch names (take count names) all
+
+get_or_first : (all : List Needed) (one d : Needed) (k : ℕ) → k < length all → get_or (all ++ one ∷ []) k d ≡ get_or all k d
+get_or_first [] one d k within = absurd (omega (arith, within))
+get_or_first (p ∷ all) one d zero within = refl
+get_or_first (p ∷ all) one d (suc k) within = get_or_first all one d k (omega (arith, within))
+
+get_or_last : (all : List Needed) (one d : Needed) (k : ℕ) → k ≡ length all → get_or (all ++ one ∷ []) k d ≡ one
+get_or_last [] one d zero at = refl
+get_or_last [] one d (suc k) at = absurd (omega (arith, at))
+get_or_last (p ∷ all) one d zero at = absurd (omega (arith, at))
+get_or_last (p ∷ all) one d (suc k) at = get_or_last all one d k (omega (arith, at))
+
+first_or_last : (k n : ℕ) → k < n + 1 → (k < n) ⊎ (k ≡ n)
+first_or_last k zero less = inr (omega (arith, less))
+first_or_last zero (suc n) less = inl (omega arith)
+first_or_last (suc k) (suc n) less = elim (first_or_last k n (omega (arith, less))) [
+  | inl w ↦ inl (omega (arith, w))
+  | inr w ↦ inr (ap suc w)
+]
+
+pub none_known : (branch : List Catch) (names : List (List ℕ)) (all : List Needed) → all ≡ [] → AreKnownSoFar branch names 0 all
+none_known branch names all none = rw none (record {
+  known = record { named = λ k d n within. absurd (omega (arith, within)); needs = λ k d within. absurd (omega (arith, within)); long = λ k d within. absurd (omega (arith, within)) };
+  needed = none_needed branch names [] refl;
+})
+
+-- one more
+pub one_known : (branch : List Catch) (names : List (List ℕ)) (count : ℕ) (all next : List Needed) (one : Needed) → length all ≡ count → count < length names → AreKnownSoFar branch names count all → one.name ≡ get_or names count one.name → AreReached branch names count one.needs.items → next ≡ all ++ one ∷ [] → AreKnownSoFar branch names (count + 1) next
+one_known branch names count all next one long within so_far called reached becomes =
+    let many : length next ≡ count + 1 = ap length becomes ∙ length_one all one ∙ ap (λ n. n + 1) long in
+    let needs : NeedsThese branch (needing names one) = subst (λ n. NeedsThese branch (record { name = n; needs = marked names one.needs.items })) (sym called) (reached.needs one.name) in
+    record {
+      known = record {
+        named = λ k d n less. elim (first_or_last k count (omega (arith, less, many))) [
+          | inl w ↦ ap (λ l. (get_or l k d).name) becomes ∙ ap (λ (p : Needed). p.name) (get_or_first all one d k (omega (arith, w, long))) ∙ so_far.known.named k d n (omega (arith, w, long))
+          | inr w ↦ ap (λ l. (get_or l k d).name) becomes ∙ ap (λ (p : Needed). p.name) (get_or_last all one d k (w ∙ sym long)) ∙ called ∙ get_or_within names count one.name n within ∙ ap (λ m. get_or names m n) (sym w)
+        ];
+        needs = λ k d less. elim (first_or_last k count (omega (arith, less, many))) [
+          | inl w ↦ subst (λ p. NeedsThese branch (needing names p)) (sym (ap (λ l. get_or l k d) becomes ∙ get_or_first all one d k (omega (arith, w, long)))) (so_far.known.needs k d (omega (arith, w, long)))
+          | inr w ↦ subst (λ p. NeedsThese branch (needing names p)) (sym (ap (λ l. get_or l k d) becomes ∙ get_or_last all one d k (w ∙ sym long))) needs
+        ];
+        long = λ k d less. elim (first_or_last k count (omega (arith, less, many))) [
+          | inl w ↦ ap (λ l. length (get_or l k d).needs.items) becomes ∙ ap (λ (p : Needed). length p.needs.items) (get_or_first all one d k (omega (arith, w, long))) ∙ so_far.known.long k d (omega (arith, w, long))
+          | inr w ↦ ap (λ l. length (get_or l k d).needs.items) becomes ∙ ap (λ (p : Needed). length p.needs.items) (get_or_last all one d k (w ∙ sym long)) ∙ reached.long ∙ ap (λ m. m + 1) (sym w)
+        ];
+      };
+      needed = one_needed branch names names count one.name one.name all next one within called so_far.needed needs refl becomes;
+    }
+  where
+    length_one : (xs : List Needed) (x : Needed) → length (xs ++ x ∷ []) ≡ length xs + 1
+    length_one xs x = length-append xs (x ∷ [])
+
+pub all_known : (branch : List Catch) (names : List (List ℕ)) (count : ℕ) (all : List Needed) → length names ≤ count → AreKnownSoFar branch names count all → NeedEach branch names all
+all_known branch names count all past so_far =
+    all_needed branch names (take count names) all (take_all count names past) so_far.needed
+
+-- a branch whose patches are taken back
+pub are_inverted : (branch : List Catch) (patches backs : List PatchCatches) → ArePatchesOf branch patches → AreTakenBack patches backs → names_in_order patches ≡ names_of branch → IsInverted branch backs
+are_inverted branch patches backs of taken own = record {
+  forth = taken.room.forth;
+  plain = sym of.catches ∙ taken.room.plain;
+  room = taken.room.room;
+  room_back = taken.room.room_back;
+  are = taken.are;
+  names = taken.names ∙ own;
+  inverses = taken.inverses;
+}

@@ -1,0 +1,112 @@
+use Rattle.camp_questions.proofs.Words.{List, Bool, ℕ, ◌≡◌, ◌<◌, ◌+◌, ◌-◌, ◌++◌, ◌∙◌, ap, arith, false, get_or, length, length-replicate, replicate, subst, sym, true, Catch}
+use Rattle.std.proofs.Common.{set}
+use Rattle.std.proofs.lemmas.List.{get_or_default, length-set, with_items_is}
+use Rattle.camp_questions.specs.Inside.Graphing.{AreMarkedBelow, marked_in_both}
+use Rattle.camp_questions.specs.Inside.StandingAside.{StickBehind}
+use Rattle.camp_questions.specs.declared.fast.patch_catches.PatchCatches.{PatchCatches}
+use Rattle.camp_questions.specs.declared.needed.Needed.{Needed}
+use Rattle.camp_questions.proofs.MarkedNames.{both_long, mark_at, marked_still}
+use Rattle.camp_questions.proofs.ReachedPatches.{goes_apart_from, step_aside, step_first, step_last, step_on, step_stuck}
+use Rattle.camp_questions.proofs.fast.reaching.reached.Goals.{else-not-index, then-not-index+in_ok-stand_aside+else-branch}
+use Rattle.camp_questions.proofs.fast.reaching.reached.Goals as goal
+
+-- a place that was looked up is marked so
+told : (marks : List Bool) (place : ℕ) (r b : Bool) → place < length marks → r ≡ get_or marks place r → r ≡ b → mark_at marks place ≡ b
+told marks place r b within is e = get_or_default marks place false r within ∙ sym is ∙ e
+
+pub loop-all_below-init : goal.loop-all_below-init
+loop-all_below-init c =
+    let own = length c.args.known.now in
+    let filled = c.in_ok-marks.ensures.items_if_clones_equal (λ y e. e) in
+    let first = ap (λ l. set l own true) filled in
+    let marks : List Bool = set c.in_ok-marks.marks.items own true in
+    record {
+      within = omega arith;
+      long = ap length first ∙ length-set (replicate (own + 1) false) own true ∙ length-replicate (own + 1) false;
+      below = λ r less. ap (λ l. get_or l r false) (sym c.deref-2.ensures.value) ∙ c.first_unmarked-all_below.ensures r less;
+      reaches = λ branch inverted known. step_first branch c.args.patches.now inverted c.args.known.now known c.requires.next marks c.index-patches-own.result c.in_ok-going.going.items c.index-patches-own.is first (c.in_ok-going.ensures ∙ c.deref.ensures.value ∙ ap (λ (x : PatchCatches). x.catches.items) (sym c.index-patches-own.is));
+    }
+
+pub stand_aside-requires-clause-apart : goal.stand_aside-requires-clause-apart
+stand_aside-requires-clause-apart c =
+    let given = c.requires.known in
+    let place = c.loop-all_below.place - 1 in
+    let next : c.loop-all_below.place ≡ place + 1 = omega arith in
+    let before = c.loop-all_below.invariant.within in
+    goes_apart_from given.0 c.args.patches.now given.1 c.args.known.now given.2 c.requires.next c.loop-all_below.marks.items place c.loop-all_below.place c.index-patches-place.result c.loop-all_below.going.items next (omega (arith, before)) c.index-patches-place.is (c.loop-all_below.invariant.reaches given.0 given.1 given.2)
+
+pub loop-all_below-preserved-then-branch : goal.loop-all_below-preserved-then-branch
+loop-all_below-preserved-then-branch c =
+    let marks : List Bool = c.loop-all_below.marks.items in
+    let place = c.loop-all_below.place - 1 in
+    let next : c.loop-all_below.place ≡ place + 1 = omega arith in
+    let before = c.loop-all_below.invariant.within in
+    let long = c.loop-all_below.invariant.long in
+    let free = told marks place c.index.result.now false (omega (arith, before, long)) c.index.ensures c.if-not-index.true in
+    let come = rw c.if-branch.true at c.in_ok-stand_aside.ensures in
+    record {
+      within = omega (arith, before);
+      long = long;
+      below = c.loop-all_below.invariant.below;
+      reaches = λ branch inverted known. step_aside branch c.args.patches.now inverted c.args.known.now known c.requires.next marks place c.loop-all_below.place next c.index-patches-place.result c.loop-all_below.going.items (omega (arith, before)) c.index-patches-place.is (c.loop-all_below.invariant.reaches branch inverted known) c.stand_aside.new.going.items free come;
+    }
+
+pub first_unmarked-all_below-requires-then-not-index : goal.first_unmarked-all_below-requires-then-not-index
+first_unmarked-all_below-requires-then-not-index c =
+    let marks : List Bool = c.loop-all_below.marks.items in
+    let row : List Bool = c.index-known-place.result.needs.items in
+    let written = with_items_is c.loop-all_below.marks c.mark_all.new.marks (c.mark_all.auto.marks ∙ ap length c.deref_mut.ensures.value ∙ sym c.loop-all_below.marks.ok.0) in
+    let becomes : c.mark_all.new.marks ≡ marked_in_both marks row = c.mark_all.ensures ∙ (λ i. marked_in_both (c.deref_mut.ensures.value i) ((c.deref-then-not-index.ensures.value ∙ ap (λ (x : Needed). x.needs.items) (sym c.index-known-place.is)) i)) in
+    let known = c.requires.known.2 in
+    let place = c.loop-all_below.place - 1 in
+    let before = c.loop-all_below.invariant.within in
+    let row_long : length row ≡ place + 1 = ap (λ (x : Needed). length x.needs.items) c.index-known-place.is ∙ known.long place c.index-known-place.result (omega (arith, before)) in
+    let long = c.loop-all_below.invariant.long in
+    let still = marked_still marks row c.loop-all_below.all_below (omega (arith, before, row_long, long)) c.loop-all_below.invariant.below in
+    λ r less. ap (λ l. get_or l r false) (c.deref-then-not-index-2.ensures.value ∙ written ∙ becomes) ∙ still r less
+
+pub loop-all_below-preserved : goal.loop-all_below-preserved
+loop-all_below-preserved c =
+    let marks : List Bool = c.loop-all_below.marks.items in
+    let place = c.loop-all_below.place - 1 in
+    let next : c.loop-all_below.place ≡ place + 1 = omega arith in
+    let before = c.loop-all_below.invariant.within in
+    let long = c.loop-all_below.invariant.long in
+    let p : PatchCatches = c.index-patches-place.result in
+    let going : List Catch = c.loop-all_below.going.items in
+    elim c.if-not-index.branch [
+      | then-not-index+in_ok-stand_aside+else-branch w ↦
+          let q : Needed = w.index-known-place.result in
+          let aside : (w.stand_aside.new.going.items ≡ going) × StickBehind p.name going p.catches.items = rw w.if-branch.false at w.in_ok-stand_aside.ensures in
+          let written = with_items_is c.loop-all_below.marks w.mark_all.new.marks (w.mark_all.auto.marks ∙ ap length w.deref_mut.ensures.value ∙ sym c.loop-all_below.marks.ok.0) in
+          let becomes : w.mark_all.new.marks ≡ marked_in_both marks q.needs.items = w.mark_all.ensures ∙ (λ i. marked_in_both (w.deref_mut.ensures.value i) ((w.deref-then-not-index.ensures.value ∙ ap (λ (x : Needed). x.needs.items) (sym w.index-known-place.is)) i)) in
+          let is_marked : c.if-not-index.marks.items ≡ marked_in_both marks q.needs.items = (λ i. (w.marks-is i).items) ∙ written ∙ becomes in
+          let looked : c.if-not-index.marks.items ≡ w.deref-then-not-index-2.result.now = (λ i. (w.marks-is i).items) ∙ sym w.deref-then-not-index-2.ensures.value in
+          let goes : c.append.new.list.items ≡ going ++ p.catches.items = c.in_ok-append.ensures ∙ (λ i. ((λ j. (w.going-is j).items) ∙ aside.0) i ++ c.deref-in-loop-all_below.ensures.value i) in
+          let free = told marks place c.index.result.now false (omega (arith, before, long)) c.index.ensures w.if-not-index.true in
+          record {
+            within = omega (arith, before);
+            long = ap length is_marked ∙ both_long marks q.needs.items ∙ long;
+            below = λ r less. ap (λ l. get_or l r false) looked ∙ w.first_unmarked-all_below-then-not-index.ensures r (subst (λ b. r < b) w.all_below-is less);
+            reaches = λ branch inverted known.
+                let stuck = step_stuck branch c.args.patches.now inverted c.args.known.now known c.requires.next marks place c.loop-all_below.place next p going (omega (arith, before)) c.index-patches-place.is (c.loop-all_below.invariant.reaches branch inverted known) q w.index-known-place.is free aside.1 in
+                rw (is_marked, goes) stuck;
+          }
+      | else-not-index w ↦
+          let same : c.if-not-index.marks.items ≡ marks = λ i. (w.marks-is i).items in
+          let goes : c.append.new.list.items ≡ going ++ p.catches.items = c.in_ok-append.ensures ∙ (λ i. (w.going-is i).items ++ c.deref-in-loop-all_below.ensures.value i) in
+          let mine = told marks place c.index.result.now true (omega (arith, before, long)) c.index.ensures w.if-not-index.false in
+          record {
+            within = omega (arith, before);
+            long = ap length same ∙ long;
+            below = λ r less. ap (λ l. get_or l r false) same ∙ c.loop-all_below.invariant.below r (subst (λ b. r < b) w.all_below-is less);
+            reaches = λ branch inverted known.
+                let on = step_on branch c.args.patches.now inverted c.args.known.now known c.requires.next marks place c.loop-all_below.place next p going (omega (arith, before)) c.index-patches-place.is (c.loop-all_below.invariant.reaches branch inverted known) mine in
+                rw (same, goes) on;
+          }
+    ]
+
+pub returns : goal.returns
+returns c branch inverted known =
+    let before = c.loop-all_below.invariant.within in
+    step_last branch c.args.patches.now inverted c.args.known.now known c.requires.next c.loop-all_below.marks.items c.loop-all_below.place c.loop-all_below.all_below c.index-patches-own.result c.loop-all_below.going.items before (omega arith) c.loop-all_below.invariant.below (c.loop-all_below.invariant.reaches branch inverted known)

@@ -1,0 +1,86 @@
+//! What each patch needs, by a walk back from it that stops where all below are needed.
+ghost use Rattle.std.specs.Prelude.{◌≡◌, ◌<◌, ◌≤◌, List, length, IfOk};
+ghost use Rattle.camp_catch.specs.declared.catches.Catch.{Catch as AnyCatch};
+ghost use Rattle.camp_questions.specs.Inside.ByPatch.{ArePatches, names_in_order};
+ghost use Rattle.camp_questions.specs.Inside.Graphing.{AreKnown, AreMarkedBelow, AreReached, IsInverted, NeedEach, marked_in_both};
+
+use crate::fast::patch_catches::{PatchCatches, append, shared};
+use crate::fast::standing_aside::stand_aside;
+use crate::needed::Needed;
+use std::alloc::{AllocError, Global};
+
+/// What each patch of a branch needs, where the patches are given with their catches inverted.
+pub(crate) fn all_reached(
+    alloc: Global,
+    patches: &[PatchCatches],
+) -> Result<Vec<Needed>, AllocError>
+    requires { (branch : List AnyCatch) × IsInverted branch patches.now }
+    ensures { IfOk result (λ all. (branch : List AnyCatch) → IsInverted branch patches.now → NeedEach branch (names_in_order patches.now) all.items) }
+{
+    let mut all = Vec::with_capacity(alloc, patches.len())?;
+    for patch in patches {
+        let needs = reached(alloc, patches, &all)?;
+        all.push(Needed {
+            name: patch.name,
+            needs,
+        })?;
+    }
+    Ok(all)
+}
+
+/// What the next patch needs, where it is known what those before it need. A walk goes back from it over
+/// the patches before it, and is done where all of them are needed.
+fn reached(
+    alloc: Global,
+    patches: &[PatchCatches],
+    known: &[Needed],
+) -> Result<Vec<bool>, AllocError>
+    requires known { (branch : List AnyCatch) × IsInverted branch patches.now × AreKnown branch (names_in_order patches.now) known.now }
+    requires next { length known.now < length patches.now }
+    ensures { IfOk result (λ marks. (branch : List AnyCatch) → IsInverted branch patches.now → AreKnown branch (names_in_order patches.now) known.now → AreReached branch (names_in_order patches.now) (length known.now) marks.items) }
+{
+    let own = known.len();
+    let mut marks = vec![in alloc; false; own + 1]?;
+    marks[own] = true;
+    let mut going = shared(alloc, &patches[own].catches)?;
+    let mut all_below = first_unmarked(&marks, 0);
+    let mut place = own;
+    while place > all_below {
+        place -= 1;
+        let patch = &patches[place];
+        if !marks[place] {
+            if stand_aside(alloc, &mut going, patch)? {
+                continue;
+            }
+            mark_all(&mut marks, &known[place].needs);
+            all_below = first_unmarked(&marks, all_below);
+        }
+        append(&mut going, &patch.catches)?;
+    }
+    Ok(marks)
+}
+
+/// The first place from one on that is not marked, where all before it are.
+fn first_unmarked(marks: &[bool], from: usize) -> usize
+    requires { AreMarkedBelow marks.now from }
+    ensures { AreMarkedBelow marks.now result }
+{
+    for place in from..marks.len() {
+        if !marks[place] {
+            return place;
+        }
+    }
+    marks.len()
+}
+
+/// Marks the places that are marked in another list, too.
+fn mark_all(marks: &mut [bool], more: &[bool])
+    requires { length more.now ≤ length marks.old }
+    ensures { marks.new ≡ marked_in_both marks.old more.now }
+{
+    for at in 0..more.len() {
+        if more[at] {
+            marks[at] = true;
+        }
+    }
+}

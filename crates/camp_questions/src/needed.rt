@@ -1,0 +1,67 @@
+ghost use Rattle.std.specs.Prelude.{◌≡◌, ℕ, List, map, IfOk};
+ghost use Rattle.camp_branch.specs.Branches.{is_among, names_of};
+ghost use Rattle.camp_branch.specs.Fields.{names_in};
+ghost use Rattle.camp_questions.specs.Inside.Graphing.{NeedEach};
+
+use crate::dependencies::stuck_to_front;
+use crate::fast::{all_reached, by_patch, taken_back};
+use camp_base::Name;
+use camp_branch::{NameSet, set_of};
+use camp_catch::Catch;
+use camp_repo::Branch;
+use camp_share::Shared;
+use std::alloc::{AllocError, Global};
+use std::slice;
+
+/// A patch with what it needs, and itself: whether the patch at each place of its branch is one of
+/// them. Behind the last mark none is.
+#[derive(Drop)]
+pub(crate) struct Needed {
+    pub name: Name,
+    pub needs: Vec<bool>,
+}
+
+/// The patches of a branch, which have these names, with what they need.
+pub(crate) fn all_needed(branch: &Branch, names: &[Name]) -> Result<Vec<Needed>, AllocError>
+    requires { names.now ≡ names_of branch.now }
+    ensures { IfOk result (λ all. NeedEach branch.now names.now all.items) }
+{
+    let alloc = branch.catches().allocator();
+    let catches = branch.catches().to_vec()?;
+    let patches = by_patch(alloc, &catches)?;
+    let back = taken_back(alloc, &catches, &patches)?;
+    match back {
+        Some(back) => all_reached(alloc, &back),
+        None => all_stuck(alloc, &catches, names),
+    }
+}
+
+/// The same by what bringing each to the front sticks on.
+fn all_stuck(
+    alloc: Global,
+    catches: &[Shared<Catch>],
+    names: &[Name],
+) -> Result<Vec<Needed>, AllocError>
+    requires { names.now ≡ names_of catches.now }
+    ensures { IfOk result (λ all. NeedEach catches.now names.now all.items) }
+{
+    let mut all = Vec::with_capacity(alloc, names.len())?;
+    for name in names {
+        let named = set_of(alloc, slice::from_ref(name))?;
+        let grown = stuck_to_front(alloc, catches, named)?;
+        let needs = marks_of(alloc, names, &grown)?;
+        all.push(Needed { name: *name, needs })?;
+    }
+    Ok(all)
+}
+
+/// Which of the names are in a set.
+fn marks_of(alloc: Global, names: &[Name], set: &NameSet) -> Result<Vec<bool>, AllocError>
+    ensures { IfOk result (λ marks. marks.items ≡ map (is_among (names_in set.now)) names.now) }
+{
+    let mut marks = Vec::with_capacity(alloc, names.len())?;
+    for name in names {
+        marks.push(set.contains_key(name))?;
+    }
+    Ok(marks)
+}
