@@ -45,13 +45,13 @@ graphic_is_word_byte x h = grind (arith, nat_tests)
 some_bytes : (n : ℕ) → not (n == 0) ≡ true → nat_lt 0 n ≡ true
 some_bytes n h = grind (arith, nat_tests)
 
-name_is_word : (name : List ℕ) → is_name name ≡ true → is_word name ≡ true
+pub name_is_word : (name : List ℕ) → is_name name ≡ true → is_word name ≡ true
 name_is_word name h =
     let rest = (and_parts (not (length name == 0)) (not (slice_index name 0 == 45) && (nat_le (length name) MAX_NAME_LENGTH && list_all is_name_byte name)) h).1 in
     let bytes = (and_parts (nat_le (length name) MAX_NAME_LENGTH) (list_all is_name_byte name) ((and_parts (not (slice_index name 0 == 45)) _ rest).1)).1 in
     both (nat_lt 0 (length name)) (list_all is_word_byte name) (some_bytes (length name) ((and_parts (not (length name == 0)) _ h).0)) (all_weaker is_name_byte is_word_byte name_byte_is_word_byte name bytes)
 
-path_is_word : (path : List ℕ) → is_path path ≡ true → is_word path ≡ true
+pub path_is_word : (path : List ℕ) → is_path path ≡ true → is_word path ≡ true
 path_is_word [] h = absurd (false≢true h)
 path_is_word (x ∷ path) h =
     let bytes = (and_parts (list_all is_graphic (x ∷ path)) _ ((and_parts (nat_le (length (x ∷ path)) MAX_PATH_LENGTH) _ h).1)).0 in
@@ -90,7 +90,7 @@ follows n closed done (call.Tree branch) room = refl
 follows n closed done (call.Conflicts branch) room = refl
 follows n closed done (call.Names branch) room = refl
 
-names_are_words : (names : List (List ℕ)) → AreNames names → AreWords names
+pub names_are_words : (names : List (List ℕ)) → AreNames names → AreWords names
 names_are_words [] h = tt
 names_are_words (name ∷ names) h = (name_is_word name h.0, names_are_words names h.1)
 
@@ -114,7 +114,7 @@ module _ (n : ℕ) where
   obliterate_asks branch [] a some h = absurd (omega arith)
   obliterate_asks branch (name ∷ names) a some h = passes (name_at n branch) branch _ (named n branch a) ∙ passes (names_at n (name ∷ names)) (name ∷ names) _ (names_read n (name ∷ names) h)
 
-listed_are_words : (names : Option (List (List ℕ))) → IsListed names → AreWords (listed_words names)
+pub listed_are_words : (names : Option (List (List ℕ))) → IsListed names → AreWords (listed_words names)
 listed_are_words None h = tt
 listed_are_words (Some names) h = names_are_words names h.1
 
@@ -122,12 +122,12 @@ abbrev AreLines : Lines → Type 0
 AreLines lines = AllByRecursion (λ line. is_line line ≡ true) lines
 
 -- the first of the lines of a side
-next_line : (sign : ℕ) (line : List ℕ) (lines : Lines) (rest : List ℕ) → (sign == 10) ≡ false → is_line line ≡ true → lines_of (flat_map (signed_line sign) (line ∷ lines) ++ rest) ≡ (sign ∷ line) ∷ lines_of (flat_map (signed_line sign) lines ++ rest)
+pub next_line : (sign : ℕ) (line : List ℕ) (lines : Lines) (rest : List ℕ) → (sign == 10) ≡ false → is_line line ≡ true → lines_of (flat_map (signed_line sign) (line ∷ lines) ++ rest) ≡ (sign ∷ line) ∷ lines_of (flat_map (signed_line sign) lines ++ rest)
 next_line sign line lines rest signed h =
     ap lines_of (ap (λ t. t ++ rest) (flat_map-cons (signed_line sign) line lines) ∙ append_assoc (signed_line sign line) (flat_map (signed_line sign) lines) rest ∙ append_assoc (sign ∷ line) (10 ∷ []) (flat_map (signed_line sign) lines ++ rest))
     ∙ first_line (sign ∷ line) (flat_map (signed_line sign) lines ++ rest) (both (not (sign == 10)) (is_one_line line) (ap not signed) ((and_parts (nat_le (length line) _) (is_one_line line) h).1))
 
-regrouped : (a b c d : List ℕ) → ((a ++ b) ++ c) ++ d ≡ a ++ (b ++ (c ++ d))
+pub regrouped : (a b c d : List ℕ) → ((a ++ b) ++ c) ++ d ≡ a ++ (b ++ (c ++ d))
 regrouped a b c d = simp append_assoc
 
 module _ (closed : List (List Call)) (done : List Call) (begun : OpenRecord) (opened : ℕ) where
@@ -181,7 +181,7 @@ module _ (closed : List (List Call)) (done : List Call) (begun : OpenRecord) (op
 place_asks : (n : ℕ) (edit : Edit) → IsInRange edit → number_at n (decimal edit.line) ≡ Ok edit.line
 place_asks n edit range = numbered n edit.line range.counted (omega (arith, range.within, range.changes))
 
-place_is_word : (edit : Edit) → IsInRange edit → is_word (decimal edit.line) ≡ true
+pub place_is_word : (edit : Edit) → IsInRange edit → is_word (decimal edit.line) ≡ true
 place_is_word edit range = decimal_is_word edit.line (omega (arith, range.within))
 
 -- a record of one change: its line, and the body behind it

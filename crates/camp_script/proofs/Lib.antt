@@ -1,6 +1,7 @@
 mod Common
 pub mod Agreement
 pub mod Asked
+pub mod CalledLines
 pub mod CanonicalCalls
 pub mod CanonicalLines
 pub mod CanonicalNumbers
