@@ -1,0 +1,87 @@
+-- What each export makes of a handle, by what the handle stands for: nothing, a repository or a view. The codes are 0,
+-- done; 1, not open; 2, out of memory.
+use Rattle.std.specs.Prelude.{◌≡◌, ◌⊎◌, ℕ, ℤ, pos, List, [], Option, Some, None, Result, Ok, Err}
+use Rattle.camp_session.specs.Sessions.{Asks, Repository, Sees, Snapshot, Views}
+use Rattle.camp_talk.specs.declared.faults.TalkFault.{TalkFault}
+use Rattle.camp_c.specs.declared.kept.Kept.{Kept}
+use Rattle.camp_c.specs.declared.kept.Kept.TheVariants.{Session, View}
+
+-- what a handle stands for
+abbrev pub Stand : Type 0
+Stand = Option Kept
+
+-- a repository that is new: no call was accepted, and nothing was asked
+abbrev pub new_repository : Repository
+new_repository = record { history = []; answer = [] }
+
+-- nothing is done, and the handle stands for what it did
+abbrev pub IsRefused : Stand → ℤ → Stand → Type 0
+IsRefused old code now = (code ≡ pos 1) × (now ≡ old)
+
+-- a closed handle is opened on a new repository, or there was no memory for that
+abbrev pub OpensRepository : Stand → ℤ → Stand → Type 0
+OpensRepository None code now =
+    ((code ≡ pos 0) × (now ≡ Some (Session new_repository))) ⊎ ((code ≡ pos 2) × (now ≡ None))
+OpensRepository old code now = IsRefused old code now
+
+-- the code that tells how far a text was asked
+abbrev pub code_of : Result (Unit {0}) TalkFault → ℤ
+code_of (Ok done) = pos 0
+code_of (Err why) = pos 2
+
+-- a repository was asked a text
+pub record AsksOne (old : Repository) (text : List ℕ) (code : ℤ) (now : Stand) : Type 0 where
+  pub outcome : Result (Unit {0}) TalkFault
+  pub new : Repository
+  pub asks : Asks old text outcome new
+  pub tells : code ≡ code_of outcome
+  pub stands : now ≡ Some (Session new)
+
+-- the repository of a handle is asked a text; a handle that stands for none stays as it is
+abbrev pub AsksRepository : Stand → List ℕ → ℤ → Stand → Type 0
+AsksRepository (Some (Session old)) text code now = AsksOne old text code now
+AsksRepository old text code now = IsRefused old code now
+
+-- a view was asked a text
+pub record SeesOne (old : Snapshot) (text : List ℕ) (code : ℤ) (now : Stand) : Type 0 where
+  pub outcome : Result (Unit {0}) TalkFault
+  pub new : Snapshot
+  pub sees : Sees old text outcome new
+  pub tells : code ≡ code_of outcome
+  pub stands : now ≡ Some (View new)
+
+-- the view of a handle is asked a text; a handle that stands for none stays as it is
+abbrev pub AsksView : Stand → List ℕ → ℤ → Stand → Type 0
+AsksView (Some (View old)) text code now = SeesOne old text code now
+AsksView old text code now = IsRefused old code now
+
+-- the answer to the text that a repository was asked last
+abbrev pub answer_of : Stand → List ℕ
+answer_of (Some (Session repository)) = repository.answer
+answer_of other = []
+
+-- the answer to the text that a view was asked last
+abbrev pub answer_of_view : Stand → List ℕ
+answer_of_view (Some (View view)) = view.answer
+answer_of_view other = []
+
+-- a view was made of a repository, or there was no memory for that
+abbrev pub OpensOne : Repository → ℤ → Stand → Type 0
+OpensOne repository code now =
+    ((code ≡ pos 0) × (view : Snapshot) × Views repository view × (now ≡ Some (View view)))
+    ⊎ ((code ≡ pos 2) × (now ≡ None))
+
+-- a closed handle is opened on a view of the repository of another
+abbrev pub OpensView : Stand → Stand → ℤ → Stand → Type 0
+OpensView (Some (Session repository)) None code now = OpensOne repository code now
+OpensView other old code now = IsRefused old code now
+
+-- the same state once more, and nothing asked
+abbrev pub again : Snapshot → Snapshot
+again view = record { state = view.state; answer = [] }
+
+-- a closed handle is opened on a view of what another view shows
+abbrev pub OpensViewAgain : Stand → Stand → ℤ → Stand → Type 0
+OpensViewAgain (Some (View view)) None code now =
+    ((code ≡ pos 0) × (now ≡ Some (View (again view)))) ⊎ ((code ≡ pos 2) × (now ≡ None))
+OpensViewAgain other old code now = IsRefused old code now

@@ -1,0 +1,22 @@
+-- What a keeper owns: nothing, or the same as a box of what a handle stands for.
+use Rattle.std.specs.Prelude.{Option, Some, None}
+use Rattle.std.specs.Coded.{coded_option}
+use base.Fml.{Fml, ftrue}
+use base.Stored.{Coded}
+use denote.RawPtr.{Ptr}
+use Rattle.std.specs.Box.Ownership.{box_owns}
+use Rattle.std.specs.Global.{Global}
+use Rattle.std_heap.specs.contracts.GlobalAllocator.TheImpl.{ghosts}
+use Rattle.camp_c.specs.contracts.kept.Kept.{the_row}
+
+-- what a handle stands for while it is open
+abbrev pub Held : Type 0
+Held = the_row.Denot
+
+-- what lies at a pointer that is kept: a box, or nothing
+abbrev pub keeper_owns : Global → Ptr → Option Held → Fml
+keeper_owns alloc at (Some held) = box_owns (ghosts.dealloc_token alloc) the_row at held
+keeper_owns alloc at None = ftrue
+
+abbrev pub held_coded : Coded (Option Held)
+held_coded = coded_option the_row.coded

@@ -1,0 +1,133 @@
+//! What C holds: a pointer to a box, or to nothing.
+ghost use Rattle.std.specs.Prelude.{◌≡◌, Option, Some, None, IsSome, MatchOption, is_some};
+ghost use Rattle.camp_c.specs.Owned.{Held, held_coded, keeper_owns};
+
+use crate::kept::Kept;
+use crate::parts::Parts;
+use std::alloc::Global;
+use std::marker::Model;
+use std::mem;
+
+/// A pointer to the box of what a handle stands for, or to nothing. It can't be let go: what it owns has to
+/// be taken out of it.
+#[repr(C)]
+pub struct Keeper {
+    at: *mut u8,
+    alloc: Global,
+    pub ghost held: { Option Held } by { held_coded },
+}
+
+impl Model for Keeper {
+    ghost also_owns = { λ keeper. keeper_owns keeper.alloc keeper.at keeper.held };
+}
+
+impl Keeper {
+    fn of_parts(parts: Parts<Kept, Global>) -> Keeper
+        ensures { result.held ≡ Some parts.value }
+    {
+        let Parts { ptr, alloc } = parts;
+        Keeper {
+            at: ptr as *mut u8,
+            alloc,
+        }
+    }
+
+    fn into_parts(self) -> Parts<Kept, Global>
+        requires { IsSome self.held }
+        ensures { self.held ≡ Some result.value }
+    {
+        let Keeper { at, alloc } = self;
+        Parts {
+            ptr: at as *mut Kept,
+            alloc,
+        }
+    }
+
+    fn empty(alloc: Global) -> Keeper
+        ensures { result.held ≡ None }
+    {
+        Keeper {
+            at: std::ptr::null_mut(),
+            alloc,
+        }
+    }
+
+    // Lets a keeper of nothing go.
+    fn discard(self)
+        requires { self.held ≡ None }
+    {
+        let Keeper { at: _, alloc: _ } = self;
+    }
+}
+
+unsafe impl Send for Keeper {}
+
+/// What C holds of a repository or a view. One that is all zeros is closed. What it stands for is `held` of
+/// its keeper.
+#[repr(C)]
+pub struct Handle {
+    pub is_open: bool,
+    pub keeper: Keeper,
+    pub ghost tells: { is_open ≡ is_some keeper.held },
+}
+
+impl Handle {
+    pub(crate) fn is_open(&self) -> bool
+        ensures { result ≡ is_some self.now.keeper.held }
+    {
+        self.is_open
+    }
+
+    /// Takes out what a handle stands for. It is closed then.
+    pub(crate) fn take(&mut self, alloc: Global) -> Option<Box<Kept>>
+        ensures closed { self.new.keeper.held ≡ None }
+        ensures kept { MatchOption result (self.old.keeper.held ≡ None) (λ kept. self.old.keeper.held ≡ Some kept.value) }
+    {
+        let Handle { is_open, keeper } = mem::replace(self, Handle::closed(alloc));
+        if is_open {
+            return Some(keeper.into_parts().into_box());
+        }
+        keeper.discard();
+        None
+    }
+
+    /// Opens a closed handle on what stands in a box.
+    pub(crate) fn put(&mut self, kept: Box<Kept>)
+        requires { self.old.keeper.held ≡ None }
+        ensures { self.new.keeper.held ≡ Some kept.value }
+    {
+        let Handle { is_open: _, keeper } = mem::replace(self, Handle::open(kept));
+        keeper.discard();
+    }
+
+    fn open(kept: Box<Kept>) -> Handle
+        ensures { result.keeper.held ≡ Some kept.value }
+    {
+        Handle {
+            is_open: true,
+            keeper: Keeper::of_parts(Parts::of(kept)),
+        }
+    }
+
+    fn closed(alloc: Global) -> Handle
+        ensures { result.keeper.held ≡ None }
+    {
+        Handle {
+            is_open: false,
+            keeper: Keeper::empty(alloc),
+        }
+    }
+}
+
+/// A handle may go to another thread.
+pub(crate) fn sent(handle: Handle) -> Handle
+    ensures { result ≡ handle }
+{
+    passed(handle)
+}
+
+fn passed<T: Send>(value: T) -> T
+    ensures { result ≡ value }
+{
+    value
+}

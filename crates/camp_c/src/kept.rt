@@ -1,0 +1,62 @@
+//! What a handle stands for while it is open.
+ghost use Rattle.std.specs.Prelude.{◌≡◌, Some};
+ghost use Rattle.camp_c.specs.Handles.{AsksRepository, AsksView, answer_of, answer_of_view};
+
+use crate::codes::{CLOSED, DONE, MEMORY};
+use camp_session::{Session, View};
+use std::alloc::Global;
+
+/// What a handle stands for while it is open.
+#[derive(Drop)]
+pub enum Kept {
+    Session(Session),
+    View(View),
+}
+
+impl Kept {
+    /// Asks a repository.
+    pub(crate) fn ask(&mut self, alloc: Global, text: &[u8]) -> i32
+        ensures { AsksRepository (Some self.old) text.now result (Some self.new) }
+    {
+        match self {
+            Kept::Session(session) => match session.ask(alloc, text) {
+                Ok(()) => DONE,
+                Err(_) => MEMORY,
+            },
+            Kept::View(_) => CLOSED,
+        }
+    }
+
+    /// Asks a view.
+    pub(crate) fn ask_view(&mut self, alloc: Global, text: &[u8]) -> i32
+        ensures { AsksView (Some self.old) text.now result (Some self.new) }
+    {
+        match self {
+            Kept::View(view) => match view.ask(alloc, text) {
+                Ok(()) => DONE,
+                Err(_) => MEMORY,
+            },
+            Kept::Session(_) => CLOSED,
+        }
+    }
+
+    /// The answer of a repository.
+    pub(crate) fn answer(&self) -> &[u8]
+        ensures { result.now ≡ answer_of (Some self.now) }
+    {
+        match self {
+            Kept::Session(session) => session.answer(),
+            Kept::View(_) => &[],
+        }
+    }
+
+    /// The answer of a view.
+    pub(crate) fn answer_of_view(&self) -> &[u8]
+        ensures { result.now ≡ answer_of_view (Some self.now) }
+    {
+        match self {
+            Kept::View(view) => view.answer(),
+            Kept::Session(_) => &[],
+        }
+    }
+}

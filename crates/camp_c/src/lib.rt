@@ -1,0 +1,11 @@
+//! camp for C: the exports that `include/camp.h` declares, over the sessions and views of `camp_session`.
+#![tactic(auto)]
+
+mod codes;
+mod handles;
+mod kept;
+mod parts;
+mod repositories;
+mod views;
+
+pub use handles::Handle;

@@ -1,0 +1,135 @@
+//! Views: each shows a repository as it was at one moment, and is asked questions alone.
+ghost use Rattle.std.specs.Prelude.{◌≡◌, ◌++◌, None, Some, length, take, drop, min, IfOk, IsOkAnd};
+ghost use Rattle.camp_c.specs.Handles.{AsksView, OpensView, OpensViewAgain, answer_of_view};
+ghost use Rattle.camp_c.specs.Inside.{Shows};
+ghost use Rattle.camp_c.specs.declared.kept.Kept.TheVariants.{View as OfView};
+
+use crate::codes::{CLOSED, DONE, MEMORY};
+use crate::handles::Handle;
+use crate::kept::Kept;
+use crate::repositories::copy_front;
+use camp_session::View;
+use std::alloc::{AllocError, Global};
+
+/// Opens a closed handle on a view of a repository as it is now.
+#[unsafe(no_mangle)]
+pub extern "C" fn camp_look(alloc: Global, handle: &mut Handle, view: &mut Handle) -> i32
+    ensures same { handle.new.keeper.held ≡ handle.old.keeper.held }
+    ensures opens { OpensView handle.old.keeper.held view.old.keeper.held result view.new.keeper.held }
+{
+    let Some(kept) = handle.take(alloc) else {
+        return CLOSED;
+    };
+    let code = look(alloc, &kept, view);
+    handle.put(kept);
+    code
+}
+
+fn look(alloc: Global, kept: &Kept, handle: &mut Handle) -> i32
+    ensures { OpensView (Some kept.now) handle.old.keeper.held result handle.new.keeper.held }
+{
+    let Kept::Session(session) = kept else {
+        return CLOSED;
+    };
+    if handle.is_open() {
+        return CLOSED;
+    }
+    show(alloc, session.view(alloc), handle)
+}
+
+// Opens a closed handle on a view, if there is one.
+fn show(alloc: Global, view: Result<View, AllocError>, handle: &mut Handle) -> i32
+    requires { handle.old.keeper.held ≡ None }
+    ensures { Shows view result handle.new.keeper.held }
+{
+    match boxed(alloc, view) {
+        Ok(kept) => {
+            handle.put(kept);
+            DONE
+        }
+        Err(_) => MEMORY,
+    }
+}
+
+fn boxed(alloc: Global, view: Result<View, AllocError>) -> Result<Box<Kept>, AllocError>
+    ensures { IfOk result (λ kept. IsOkAnd view (λ view. kept.value ≡ OfView view)) }
+{
+    let view = view?;
+    Ok(Box::new(alloc, Kept::View(view))?)
+}
+
+/// Asks questions of a view. Nothing changes but its answer.
+#[unsafe(no_mangle)]
+pub extern "C" fn camp_view_ask(alloc: Global, view: &mut Handle, text: &[u8]) -> i32
+    ensures { AsksView view.old.keeper.held text.now result view.new.keeper.held }
+{
+    let Some(mut kept) = view.take(alloc) else {
+        return CLOSED;
+    };
+    let code = kept.ask_view(alloc, text);
+    view.put(kept);
+    code
+}
+
+/// How many bytes the answer to the last text has.
+#[unsafe(no_mangle)]
+pub extern "C" fn camp_view_answer_length(alloc: Global, view: &mut Handle) -> usize
+    ensures same { view.new.keeper.held ≡ view.old.keeper.held }
+    ensures length { result ≡ length (answer_of_view view.old.keeper.held) }
+{
+    let Some(kept) = view.take(alloc) else {
+        return 0;
+    };
+    let length = kept.answer_of_view().len();
+    view.put(kept);
+    length
+}
+
+/// Writes as much of the answer to the last text as a buffer takes, and tells how many bytes that is.
+#[unsafe(no_mangle)]
+pub extern "C" fn camp_view_answer(alloc: Global, view: &mut Handle, buffer: &mut [u8]) -> usize
+    ensures same { view.new.keeper.held ≡ view.old.keeper.held }
+    ensures count { result ≡ min (length buffer.old) (length (answer_of_view view.old.keeper.held)) }
+    ensures bytes { buffer.new ≡ take result (answer_of_view view.old.keeper.held) ++ drop result buffer.old }
+{
+    let Some(kept) = view.take(alloc) else {
+        return 0;
+    };
+    let count = copy_front(kept.answer_of_view(), buffer);
+    view.put(kept);
+    count
+}
+
+/// Opens a closed handle on one more view of what a view shows.
+#[unsafe(no_mangle)]
+pub extern "C" fn camp_view_again(alloc: Global, view: &mut Handle, other: &mut Handle) -> i32
+    ensures same { view.new.keeper.held ≡ view.old.keeper.held }
+    ensures opens { OpensViewAgain view.old.keeper.held other.old.keeper.held result other.new.keeper.held }
+{
+    let Some(kept) = view.take(alloc) else {
+        return CLOSED;
+    };
+    let code = look_again(alloc, &kept, other);
+    view.put(kept);
+    code
+}
+
+fn look_again(alloc: Global, kept: &Kept, handle: &mut Handle) -> i32
+    ensures { OpensViewAgain (Some kept.now) handle.old.keeper.held result handle.new.keeper.held }
+{
+    let Kept::View(view) = kept else {
+        return CLOSED;
+    };
+    if handle.is_open() {
+        return CLOSED;
+    }
+    show(alloc, view.again(alloc), handle)
+}
+
+/// Closes a view.
+#[unsafe(no_mangle)]
+pub extern "C" fn camp_view_close(alloc: Global, view: &mut Handle)
+    ensures { view.new.keeper.held ≡ None }
+{
+    let _kept = view.take(alloc);
+}

@@ -1,0 +1,61 @@
+//! Repositories that are asked texts.
+ghost use Rattle.std.specs.Prelude.{◌≡◌, [], IfOk};
+ghost use Rattle.camp_session.specs.Sessions.{Asks, Views};
+
+use crate::View;
+use camp_talk::{Book, State, TalkFault, answer_request};
+use std::alloc::{AllocError, Global};
+use std::marker::Model;
+
+/// A repository, and the answer to the text that it was asked last.
+#[derive(Drop)]
+pub struct Session {
+    book: Book<State>,
+    answer: Vec<u8>,
+}
+
+impl Model for Session {
+    ghost use Rattle.std.specs.Coded.{codes};
+    ghost use Rattle.camp_session.specs.Sessions.{Repository};
+
+    ghost Value = { Repository };
+
+    ghost coded = { Prim.hlevel codes };
+
+    ghost view = { λ session. record { history = session.book; answer = session.answer.items } };
+}
+
+impl Session {
+    /// A new repository: one branch `main` without a patch.
+    pub fn new(alloc: Global) -> Result<Session, AllocError>
+        ensures new { IfOk result (λ session. session ≡ record { history = []; answer = [] }) }
+    {
+        let book = Book::new(alloc)?;
+        Ok(Session {
+            book,
+            answer: Vec::new(alloc),
+        })
+    }
+
+    /// Asks the commands of a text, which is a conversation of its own.
+    pub fn ask(&mut self, alloc: Global, text: &[u8]) -> Result<(), TalkFault>
+        ensures asks { Asks self.old text.now result self.new }
+    {
+        self.answer.clear();
+        answer_request(alloc, &mut self.book, text, &mut self.answer)
+    }
+
+    /// The answer to the text that was asked last; at first there is none.
+    pub fn answer(&self) -> &[u8]
+        ensures answer { result.now ≡ self.now.answer }
+    {
+        &self.answer
+    }
+
+    /// A view of the repository as it is now. It shares the state, and takes a count.
+    pub fn view(&self, alloc: Global) -> Result<View, AllocError>
+        ensures view { IfOk result (Views self.now) }
+    {
+        View::of(alloc, self.book.state())
+    }
+}
