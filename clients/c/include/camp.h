@@ -1,0 +1,96 @@
+/* camp: a repository of named patches, embedded in a program.
+ *
+ * A repository stands behind a handle of the type camp, a view of it behind one of the type camp_view. Each handle
+ * begins as zeros, which is closed: CAMP_CLOSED. A handle is opened, asked, and closed:
+ *
+ *     camp repository = CAMP_CLOSED;
+ *     if (camp_open(&repository) != CAMP_DONE) ...
+ *     camp_ask(&repository, (const uint8_t *)"names main\n", 11);
+ *     size_t length = camp_answer_length(&repository);
+ *     camp_answer(&repository, buffer, length);
+ *     camp_close(&repository);
+ *
+ * Threads: a handle serves one call at a time; where threads share one, put your own lock round it. A view shares
+ * nothing that a call writes with its repository or with other views. So each may be used on a thread of its own, with
+ * no lock, while the repository goes on. Handles may be moved to other threads.
+ *
+ * Memory: comes from malloc, realloc and free. A call that finds none answers CAMP_MEMORY and never ends the program.
+ *
+ * Pointers: text and buffer point to length bytes, and are not null, also where length is 0. What a call is handed does
+ * not overlap: two handles are two structs, and neither lies in the text or the buffer. Leave the members of a handle
+ * alone; a handle that is copied is still one handle.
+ */
+#ifndef CAMP_H
+#define CAMP_H
+
+#include <stdbool.h>
+#include <stddef.h>
+#include <stdint.h>
+
+#ifdef __cplusplus
+extern "C" {
+#endif
+
+/* A repository, or closed. */
+typedef struct camp {
+    bool is_open;
+    void *at;
+} camp;
+
+/* A view of a repository as it was at one moment, or closed. */
+typedef struct camp_view {
+    bool is_open;
+    void *at;
+} camp_view;
+
+#define CAMP_CLOSED {false, NULL}
+
+enum {
+    CAMP_DONE = 0,     /* it was done */
+    CAMP_NOT_OPEN = 1, /* the handle is closed, or the one to be opened is open; nothing has changed */
+    CAMP_MEMORY = 2    /* there was not enough memory */
+};
+
+/* Opens a closed handle on a new repository: one branch `main` without patches.
+ * CAMP_NOT_OPEN: it is open already, and stays as it is. CAMP_MEMORY: it stays closed. */
+int32_t camp_open(camp *repository);
+
+/* Asks the commands of a text, which is a conversation of its own: docs/shell.md has the commands and their answers. The
+ * answer is that of each command, one behind another; a refusal or a fault is an answer as any other. A body that is not
+ * ended has its fault; lines count from 1 in each text.
+ * CAMP_MEMORY: commands at the front were answered as far as the answer goes; if the last of them has no whole answer,
+ * it may have been done. Ask `history`, or ask one command at a time. */
+int32_t camp_ask(camp *repository, const uint8_t *text, size_t length);
+
+/* How many bytes the answer to the last text has; 0 where the handle is closed. */
+size_t camp_answer_length(camp *repository);
+
+/* Writes as much of that answer as the buffer takes, from its beginning, and tells how many bytes that is. */
+size_t camp_answer(camp *repository, uint8_t *buffer, size_t length);
+
+/* Closes a handle. One that is closed stays so. */
+void camp_close(camp *repository);
+
+/* Opens a closed handle on a view of a repository as it is now. That takes a count, whatever the repository holds.
+ * CAMP_NOT_OPEN: the repository is closed, or the view is open. CAMP_MEMORY: the view stays closed. */
+int32_t camp_look(camp *repository, camp_view *view);
+
+/* Asks the questions of a text of a view. A command that would write, or that asks about the history (`history`, `keep`),
+ * is answered by the fault `not asked of a view`. Nothing but the answer changes.
+ * CAMP_MEMORY: the answer is empty. */
+int32_t camp_view_ask(camp_view *view, const uint8_t *text, size_t length);
+
+size_t camp_view_answer_length(camp_view *view);
+
+size_t camp_view_answer(camp_view *view, uint8_t *buffer, size_t length);
+
+/* Opens a closed handle on one more view of what a view shows. */
+int32_t camp_view_again(camp_view *view, camp_view *other);
+
+void camp_view_close(camp_view *view);
+
+#ifdef __cplusplus
+}
+#endif
+
+#endif
