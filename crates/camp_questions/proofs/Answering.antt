@@ -49,16 +49,16 @@ wants_memory ComesTo (Err (Refused refusal)) is never = cc
 wants_memory ComesTo (Err Memory) is never = never
 
 -- an answer is no refusal
-no_refusal : {A : Type 0} (refusal : Refusal) (answer : A) (is : AnswerOf A) → is ≡ Err refusal → is ≡ Ok answer → ⊥
+pub no_refusal : {A : Type 0} (refusal : Refusal) (answer : A) (is : AnswerOf A) → is ≡ Err refusal → is ≡ Ok answer → ⊥
 no_refusal refusal answer is e f = cc
 
 -- a question about a branch that is there goes on with its catches
-goes_on : {A : Type 0} (state : Contents) (branch : List ℕ) (catches : List Catch) (GoesOn : List Catch → AnswerOf A → Type 0) (answer : AnswerOf A) → catches_of state.branches branch ≡ Some catches → OfBranch state branch GoesOn answer → GoesOn catches answer
+pub goes_on : {A : Type 0} (state : Contents) (branch : List ℕ) (catches : List Catch) (GoesOn : List Catch → AnswerOf A → Type 0) (answer : AnswerOf A) → catches_of state.branches branch ≡ Some catches → OfBranch state branch GoesOn answer → GoesOn catches answer
 goes_on state branch catches GoesOn answer found w =
     subst (λ o. MatchOption o (answer ≡ Err (NoBranch branch)) (λ c. GoesOn c answer)) found w
 
 -- and one about patches that it has
-goes_on_with : {A : Type 0} (catches : List Catch) (names : List (List ℕ)) (GoesOn : AnswerOf A → Type 0) (answer : AnswerOf A) → first_lacked catches names ≡ None → OfPatches catches names GoesOn answer → GoesOn answer
+pub goes_on_with : {A : Type 0} (catches : List Catch) (names : List (List ℕ)) (GoesOn : AnswerOf A → Type 0) (answer : AnswerOf A) → first_lacked catches names ≡ None → OfPatches catches names GoesOn answer → GoesOn answer
 goes_on_with catches names GoesOn answer has w =
     subst (λ o. MatchOption o (GoesOn answer) (λ name. answer ≡ Err (NoPatch name))) has w
 

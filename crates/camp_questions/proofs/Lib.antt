@@ -21,9 +21,11 @@ pub mod MissingNames
 pub mod OpenPairs
 pub mod PairSteps
 pub mod PartsArranged
+pub mod PassedChanges
 pub mod PatchFronts
 pub mod PatchesBack
 pub mod PatchesOfLists
+pub mod Picturing
 pub mod PlaceSteps
 pub mod PlacedNeeds
 pub mod PlainGoing
@@ -34,6 +36,7 @@ pub mod SeenLabels
 pub mod ShownPatches
 pub mod SideLists
 pub mod SideSteps
+pub mod SidesAccepted
 pub mod SidesApply
 pub mod Stuck
 pub mod TakenBack

@@ -6,6 +6,7 @@ pub mod Finding
 pub mod Foresight
 pub mod Graphing
 pub mod Growing
+pub mod Moving
 pub mod OpenPairs
 pub mod Placing
 pub mod Seeing

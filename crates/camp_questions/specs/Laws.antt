@@ -1,11 +1,12 @@
 -- The laws of questions.
-use Rattle.std.specs.Prelude.{◌≡◌, ◌≢◌, ◌↔◌, ◌≤◌, ℕ, ◌+◌, ◌-◌, true, false, List, [], ◌∷◌, ◌++◌, map, length, None, Some, Ok, Err}
+use Rattle.std.specs.Prelude.{◌≡◌, ◌≢◌, ◌⊎◌, ◌↔◌, ◌≤◌, ℕ, ◌+◌, ◌-◌, true, false, List, [], ◌∷◌, ◌++◌, map, length, None, Some, Ok, Err}
 use Rattle.std.specs.Prelude.{Contains}
 use Rattle.std.specs.FinMap.{get}
 use Rattle.std.specs.List.{All, AllByRecursion}
 use Rattle.camp_base.specs.Trees.{Files, Lines}
-use Rattle.camp_prim.specs.Effect.{flipped}
+use Rattle.camp_prim.specs.Effect.{Applies, flipped}
 use Rattle.camp_prim.specs.Hunks.{Edit}
+use Rattle.camp_prim.specs.Swaps.{path_of}
 use Rattle.camp_prim.specs.declared.labels.Key.{Key}
 use Rattle.camp_prim.specs.declared.named.Named.{Named}
 use Rattle.camp_prim.specs.declared.primitives.Primitive.{Primitive}
@@ -18,14 +19,14 @@ use Rattle.camp_branch.specs.Pulling.{PullGives}
 use Rattle.camp_branch.specs.declared.faults.Blocked.TheVariants as blocked
 use Rattle.camp_call.specs.declared.calls.Call.{Call}
 use Rattle.camp_call.specs.declared.calls.Call.TheVariants as call
-use Rattle.camp_call.specs.declared.replies.Refusal.TheVariants.{Depends, NoPatch, NothingToDo}
+use Rattle.camp_call.specs.declared.replies.Refusal.TheVariants.{Depends, NoPatch, NothingToDo, TooLarge}
 use Rattle.camp_call.specs.declared.replies.Reply.TheVariants as reply
 use Rattle.camp_object.specs.declared.objects.Decided.TheVariants.{Next}
 use Rattle.camp_repo.specs.Lawful.{IsLawfulState}
 use Rattle.camp_repo.specs.Laws.{Has}
 use Rattle.camp_repo.specs.Objects.{replies_to, reply_of, state_behind}
-use Rattle.camp_repo.specs.States.{Contents}
-use Rattle.camp_repo.specs.Steps.{refused, step}
+use Rattle.camp_repo.specs.States.{Contents, stands}
+use Rattle.camp_repo.specs.Steps.{has_long_file, is_too_large, refused, step}
 use Rattle.camp_questions.specs.Along.{AreAlong}
 use Rattle.camp_questions.specs.Annotations.{Known, behind_hunk, names_of_lines}
 use Rattle.camp_questions.specs.Dependencies.{AreHeldIn, CanGo, ComeToFront, HeldBy, Needs, StickOn}
@@ -193,6 +194,27 @@ abbrev pub SidesApply : Type 0
 SidesApply =
     (branch : List Catch) (tree : Files) (name : List ℕ) (side : List Named) → LeadsTo branch tree → IsSideIn branch name side →
     (after : Files) × AppliesEach (changes_in side) tree after
+
+-- from a tree on, none of some changes leaves a file that is longer than a record leaves
+abbrev pub KeepFilesShort : List Primitive → Files → Type 0
+KeepFilesShort [] tree = Unit {0}
+KeepFilesShort (change ∷ changes) tree =
+    (next : Files) → Applies change tree next → (has_long_file (path_of change) next ≡ false) × KeepFilesShort changes next
+
+-- the changes of a side are accepted under a name that no branch has, where they are not too many for a patch or for the
+-- branch, and no side of a hunk and no file gets too long; and where they are refused, they are too large
+pub record SidesAreAccepted : Type 0 where
+  pub within :
+      (state : Contents) (branch name new_name : List ℕ) (catches : List Catch) (tree : Files) (side : List Named) →
+      IsLawfulState state → Has state branch catches → LeadsTo catches tree → IsSideIn catches name side →
+      stands state.branches new_name ≡ false → is_too_large catches (changes_in side) ≡ false →
+      KeepFilesShort (changes_in side) tree →
+      (next : Contents) × (step state (call.Record branch new_name (changes_in side)) ≡ Next next)
+  pub else_too_large :
+      (state : Contents) (branch name new_name : List ℕ) (catches : List Catch) (side : List Named) →
+      IsLawfulState state → Has state branch catches → IsSideIn catches name side → stands state.branches new_name ≡ false →
+      ((next : Contents) × (step state (call.Record branch new_name (changes_in side)) ≡ Next next))
+      ⊎ (step state (call.Record branch new_name (changes_in side)) ≡ refused TooLarge)
 
 -- a pull of what comes along is refused neither for a patch that is not there nor for one that another stands on
 abbrev pub AlongIsEnough : Type 0

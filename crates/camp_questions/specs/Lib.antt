@@ -12,6 +12,7 @@ pub mod Inside
 pub mod Laws
 pub mod Marks
 pub mod OpenConflicts
+pub mod Pictures
 pub mod Places
 pub mod Showing
 pub mod Sides

@@ -1,23 +1,32 @@
-ghost use Rattle.std.specs.Prelude.{◌≡◌, ◌++◌, IfOk, OnOk, codes, string_bytes};
+ghost use Rattle.std.specs.Prelude.{◌≡◌, ◌++◌, ◌&&◌, IfOk, OnOk, bytes_eq, codes, string_bytes};
 ghost use Rattle.std.specs.List.{flat_map};
-ghost use Rattle.camp_questions.specs.GraphTexts.{arrow_text, conflict_text, graph_text, node_text, quoted};
+ghost use Rattle.camp_questions.specs.GraphTexts.{arrow_text, conflict_style, conflict_text, graph_text, heading, is_pair_among, node_text, quoted};
 
-use crate::{Node, PatchGraph};
+use crate::{Node, Picture};
 use camp_base::Name;
 use std::alloc::{AllocError, Global};
 use std::fmt::Write;
 
-/// A graph in DOT, which Graphviz draws: an arrow leads from a patch to each that it needs directly,
-/// and a dashed line joins two that are in conflict.
-pub fn graph_text(alloc: Global, graph: &PatchGraph) -> Result<String, AllocError>
-    ensures exact { IfOk result (λ text. string_bytes text ≡ graph_text graph.now) }
+/// A picture in DOT, which Graphviz draws: an arrow leads from a patch to each that it needs directly,
+/// and a line joins two that are in conflict, bold where it is open and dashed where it is settled.
+pub fn graph_text(alloc: Global, picture: &Picture) -> Result<String, AllocError>
+    ensures exact { IfOk result (λ text. string_bytes text ≡ graph_text picture.now) }
 {
     let mut text = String::new(alloc);
-    text.push_str("digraph {\n")?;
-    append_nodes(&mut text, graph.patches())?;
-    append_conflicts(&mut text, graph.conflicts().pairs())?;
+    append_heading(&mut text)?;
+    append_nodes(&mut text, picture.patches())?;
+    let unsettled = picture.unsettled().pairs();
+    append_conflicts(&mut text, unsettled, picture.conflicts().pairs())?;
     text.push_str("}\n")?;
     Ok(text)
+}
+
+fn append_heading(text: &mut String) -> Result<(), AllocError>
+    ensures { OnOk result (string_bytes text.new ≡ string_bytes text.old ++ heading) }
+{
+    text.push_str(
+        "digraph {\n  rankdir=LR;\n  node [shape=box, style=rounded, height=0.3];\n  edge [color=gray50, arrowsize=0.6];\n",
+    )
 }
 
 fn append_nodes(text: &mut String, nodes: &[Node]) -> Result<(), AllocError>
@@ -48,19 +57,59 @@ fn append_needs(text: &mut String, name: &Name, needs: &[Name]) -> Result<(), Al
     Ok(())
 }
 
-fn append_conflicts(text: &mut String, pairs: &[(Name, Name)]) -> Result<(), AllocError>
-    ensures { OnOk result (string_bytes text.new ≡ string_bytes text.old ++ flat_map conflict_text pairs.now) }
+fn append_conflicts(
+    text: &mut String,
+    unsettled: &[(Name, Name)],
+    pairs: &[(Name, Name)],
+) -> Result<(), AllocError>
+    ensures { OnOk result (string_bytes text.new ≡ string_bytes text.old ++ flat_map (conflict_text unsettled.now) pairs.now) }
 {
     for pair in pairs {
-        append_conflict(text, pair)?;
+        append_conflict(text, unsettled, pair)?;
     }
     Ok(())
 }
 
-fn append_conflict(text: &mut String, pair: &(Name, Name)) -> Result<(), AllocError>
-    ensures { OnOk result (string_bytes text.new ≡ string_bytes text.old ++ conflict_text pair.now) }
+fn append_conflict(
+    text: &mut String,
+    unsettled: &[(Name, Name)],
+    pair: &(Name, Name),
+) -> Result<(), AllocError>
+    ensures { OnOk result (string_bytes text.new ≡ string_bytes text.old ++ conflict_text unsettled.now pair.now) }
 {
-    append_arrow(text, &pair.0, &pair.1, " [dir=none, style=dashed];")
+    let style = conflict_style(is_among(unsettled, pair));
+    append_arrow(text, &pair.0, &pair.1, style)
+}
+
+/// How a conflict is drawn that is open, or settled.
+fn conflict_style(is_open: bool) -> &'static str
+    ensures { result.now ≡ conflict_style is_open }
+{
+    if is_open {
+        " [dir=none, constraint=false, color=red, style=bold];"
+    } else {
+        " [dir=none, constraint=false, color=rosybrown2, style=dashed];"
+    }
+}
+
+fn is_among(pairs: &[(Name, Name)], pair: &(Name, Name)) -> bool
+    ensures { result ≡ is_pair_among pairs.now pair.now }
+{
+    for other in pairs {
+        if is_same(pair, other) {
+            return true;
+        }
+    }
+    false
+}
+
+fn is_same(pair: &(Name, Name), other: &(Name, Name)) -> bool
+    ensures { result ≡ (bytes_eq pair.now.0 other.now.0 && bytes_eq pair.now.1 other.now.1) }
+{
+    if pair.0 != other.0 {
+        return false;
+    }
+    pair.1 == other.1
 }
 
 fn append_arrow(

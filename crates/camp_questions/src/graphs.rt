@@ -47,6 +47,15 @@ impl PatchGraph {
     {
         &self.conflicts
     }
+
+    /// The patches and the pairs, given away.
+    pub fn into_parts(self) -> (Vec<Node>, Conflicts)
+        ensures patches { result.0.items ≡ self.patches }
+        ensures conflicts { result.1 ≡ self.conflicts }
+    {
+        let PatchGraph { patches, conflicts } = self;
+        (patches, conflicts)
+    }
 }
 
 /// The patches of a branch in its order, what each needs directly, and which are in conflict.

@@ -1,4 +1,4 @@
-ghost use Rattle.camp_questions.specs.Laws.{AlongIsEnough, ArrowsAreDirectNeeds, ArrowsLeadBackwards, ForeseenComes, HeldCanGo, HeldIsDetermined, HeldIsLeast, LinesHaveNames, MissingIsPulled, NeedsAndHeldAreOne, NeedsAreDetermined, NeedsAreLeast, NeedsAreReached, NeedsCanBePulled, NeedsComeFirst, RecordedIsShown, SidesApply};
+ghost use Rattle.camp_questions.specs.Laws.{AlongIsEnough, ArrowsAreDirectNeeds, ArrowsLeadBackwards, ForeseenComes, HeldCanGo, HeldIsDetermined, HeldIsLeast, LinesHaveNames, MissingIsPulled, NeedsAndHeldAreOne, NeedsAreDetermined, NeedsAreLeast, NeedsAreReached, NeedsCanBePulled, NeedsComeFirst, RecordedIsShown, SidesApply, SidesAreAccepted};
 
 /// A pull without names that is accepted brings what is missing, in this order; where nothing is
 /// missing, it is refused as having nothing to do.
@@ -77,6 +77,12 @@ pub fn needs_are_reached()
 /// The changes of a side apply to the tree of the branch, one after the other.
 pub fn sides_apply()
     ensures law { SidesApply }
+{}
+
+/// The changes of a side are accepted where they are recorded within the limits; and where they are refused
+/// under a new name, they are too large.
+pub fn sides_are_accepted()
+    ensures law { SidesAreAccepted }
 {}
 
 /// A pull of what comes along is refused neither for a patch that is not there nor for one that

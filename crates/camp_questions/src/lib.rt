@@ -18,6 +18,8 @@ mod marking;
 mod needed;
 mod nodes;
 mod open_conflicts;
+mod passing;
+mod pictures;
 mod places;
 mod showing;
 mod sides;
@@ -36,9 +38,10 @@ pub use laws::{
     along_is_enough, arrows_are_direct_needs, arrows_lead_backwards, foreseen_comes, held_can_go,
     held_is_determined, held_is_least, lines_have_names, missing_is_pulled, needs_and_held_are_one,
     needs_are_determined, needs_are_least, needs_are_reached, needs_can_be_pulled,
-    needs_come_first, recorded_is_shown, sides_apply,
+    needs_come_first, recorded_is_shown, sides_apply, sides_are_accepted,
 };
 pub use marking::{Marked, MarkedFile, Place, Version, marks};
 pub use open_conflicts::open_pairs;
+pub use pictures::{Picture, picture_of};
 pub use showing::{Shown, show};
 pub use sides::{Said, side};

@@ -13,6 +13,7 @@ ghost use Rattle.camp_questions.specs.Sides.{AreSeen, ComesBehind, IsSide, IsSid
 
 use crate::Unanswered;
 use crate::finding::branch_with;
+use crate::passing::seen_before;
 use camp_base::Name;
 use camp_catch::{Catch, Conflictor};
 use camp_ctx::{Contexted, CtxSet};
@@ -87,44 +88,54 @@ pub(crate) fn labels_seen(branch: &Branch) -> Result<CtxSet, AllocError>
     let mut undone = Seq::empty(alloc);
     let mut seen = CtxSet::empty(alloc);
     for at in (0..catches.len()).rev() {
-        seen = with_told(seen, &catches[at], &undone)?;
+        seen = with_told(alloc, seen, &catches[at], &undone)?;
         append_inverse(&mut undone, catches[at].effect())?;
     }
     Ok(seen)
 }
 
 /// The labels that are seen, and those that a catch tells too.
-fn with_told(seen: CtxSet, catch: &Catch, undone: &Seq) -> Result<CtxSet, AllocError>
+fn with_told(alloc: Global, seen: CtxSet, catch: &Catch, undone: &Seq) -> Result<CtxSet, AllocError>
     ensures { IfOk result (λ next. (key : AnyKey) →
         SeenToo undone.now (get seen key) (told_by catch.now key) (get next key)) }
 {
     match catch {
         Catch::Plain(_) => Ok(seen),
-        Catch::Conflictor(k) => with_conflictor(seen, k, undone),
+        Catch::Conflictor(k) => with_conflictor(alloc, seen, k, undone),
     }
 }
 
-fn with_conflictor(was: CtxSet, k: &Conflictor, undone: &Seq) -> Result<CtxSet, AllocError>
+fn with_conflictor(
+    alloc: Global,
+    was: CtxSet,
+    k: &Conflictor,
+    undone: &Seq,
+) -> Result<CtxSet, AllocError>
     ensures { IfOk result (λ next. (key : AnyKey) →
         SeenToo undone.now (get was key) (told_by (catch.Conflictor k.now) key) (get next key)) }
 {
-    let mut seen = with_label(was, &k.identity, undone)?;
+    let mut seen = with_label(alloc, was, &k.identity, undone)?;
     for index in 0..k.conflicts.len() {
         if let Some(member) = k.conflicts.at(index) {
-            seen = with_label(seen, member, undone)?;
+            seen = with_label(alloc, seen, member, undone)?;
         }
     }
     Ok(seen)
 }
 
 /// The labels that are seen, and one more, unless it is seen already.
-fn with_label(seen: CtxSet, x: &Contexted, undone: &Seq) -> Result<CtxSet, AllocError>
+fn with_label(
+    alloc: Global,
+    seen: CtxSet,
+    x: &Contexted,
+    undone: &Seq,
+) -> Result<CtxSet, AllocError>
     ensures { IfOk result (AllSeenToo undone.now (x.now ∷ []) seen) }
 {
     if is_seen(&seen, &x.key()) {
         return Ok(seen);
     }
-    let added = Contexted::add(undone, x)?;
+    let added = seen_before(alloc, undone.items(), x)?;
     let next = seen.insert(&added)?;
     Ok(next)
 }

@@ -9,10 +9,10 @@ six_are_enough word (a ∷ b ∷ []) = refl
 six_are_enough word (a ∷ b ∷ c ∷ words) = refl
 
 pub short : (word : List ℕ) (result : Result (Option Question) ScriptFault) (words all : List (List ℕ)) → words ≡ take 6 all
-    → bytes_eq word (codes "needs") ≡ false → bytes_eq word (codes "held") ≡ false → bytes_eq word (codes "along") ≡ false
+    → bytes_eq word (codes "needs") ≡ false → bytes_eq word (codes "held") ≡ false → bytes_eq word (codes "along") ≡ false → bytes_eq word (codes "graph") ≡ false
     → Gives result (short_question word words) → Gives result (question_of word all)
-short word result words all first other neither nor given =
+short word result words all first other neither nor never given =
     subst (Gives result)
     (ap (short_question word) first ∙ six_are_enough word all
-    ∙ sym (cond-false _ _ _ other ∙ cond-false _ _ _ neither ∙ cond-false _ _ _ nor))
+    ∙ sym (cond-false _ _ _ other ∙ cond-false _ _ _ neither ∙ cond-false _ _ _ nor ∙ cond-false _ _ _ never))
     given

@@ -32,6 +32,12 @@ branch_and_names (branch ∷ name ∷ names) =
     name_at 1 branch >>= λ branch. names_at 1 (name ∷ names) >>= λ names. Ok (branch, names)
 branch_and_names others = fault_at 1 WrongNumberOfWords
 
+-- a branch, and any number of names
+abbrev pub branch_and_any_names : List (List ℕ) → Result (List ℕ × List (List ℕ)) LineFault
+branch_and_any_names (branch ∷ names) =
+    name_at 1 branch >>= λ branch. names_at 1 names >>= λ names. Ok (branch, names)
+branch_and_any_names others = fault_at 1 WrongNumberOfWords
+
 -- two branches, and a name at least
 abbrev pub branches_and_names : List (List ℕ) → Result (List ℕ × List ℕ × List (List ℕ)) LineFault
 branches_and_names (from ∷ to ∷ name ∷ names) =
@@ -133,8 +139,7 @@ short_question word words =
     then (two_names words >>= λ pair. Ok (Some (question.Show pair.0 pair.1)))
     else (if bytes_eq word (codes "annotate")
     then (branch_and_path words >>= λ pair. Ok (Some (question.Annotate pair.0 pair.1)))
-    else (if bytes_eq word (codes "graph") then (branch_alone words >>= λ branch. Ok (Some (question.Graph branch)))
-    else conflict_question word words)))
+    else conflict_question word words))
 
 -- any but `whatif`
 abbrev pub question_of : List ℕ → List (List ℕ) → Result (Option Question) LineFault
@@ -145,7 +150,9 @@ question_of word words =
     then (branch_and_names words >>= λ pair. Ok (Some (question.Held pair.0 pair.1)))
     else (if bytes_eq word (codes "along")
     then (branches_and_names words >>= λ three. Ok (Some (question.Along three.0 three.1 three.2)))
-    else short_question word words))
+    else (if bytes_eq word (codes "graph")
+    then (branch_and_any_names words >>= λ pair. Ok (Some (question.Graph pair.0 pair.1)))
+    else short_question word words)))
 
 -- ---- what a command asks
 

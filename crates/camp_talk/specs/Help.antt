@@ -42,7 +42,7 @@ summary topic.Annotate = page (codes "annotate BRANCH PATH: the lines of a file,
 summary topic.Open = page (codes "open BRANCH: the pairs of patches in conflict that nothing has settled yet" ∷ [])
 summary topic.Side = page (codes "side BRANCH NAME: the changes that a patch in conflict says" ∷ [])
 summary topic.Marks = page (codes "marks BRANCH PATH: a file with the open sides of its conflicts" ∷ [])
-summary topic.Graph = page (codes "graph BRANCH: how the patches hang together, for Graphviz" ∷ [])
+summary topic.Graph = page (codes "graph BRANCH [NAME ..]: how the patches hang together, for Graphviz" ∷ [])
 summary topic.WhatIf = page (codes "whatif COMMAND: what a command would be answered; nothing changes" ∷ [])
 summary topic.History = page (codes "history: the accepted commands" ∷ [])
 summary topic.Keep = page (codes "keep: a script that gives the repository back" ∷ [])
@@ -70,7 +70,10 @@ details topic.Side = page (
 details topic.Marks = page (
     codes "Lines behind =. At each place conflict SIDES LINES, and what stands there; then of each" ∷
     codes "patch side NAME LINES, and behind + what it would put there." ∷ [])
-details topic.Graph = page (codes "An arrow leads to what a patch needs directly; a dashed line joins two in conflict." ∷ [])
+details topic.Graph = page (
+    codes "Where patches are named: these, what they need, and what needs them." ∷
+    codes "An arrow leads to what a patch needs directly; a line joins two in conflict, which is red" ∷
+    codes "and bold where it is open, and dashed and pale where it is settled." ∷ [])
 details topic.WhatIf = page (codes "If it would be accepted: the conflicts and the files that its branch would have, too." ∷ [])
 details topic.History = page (codes "Of each its number, its seat, which is 0, and its words." ∷ [])
 details other = []

@@ -17,9 +17,9 @@ use Rattle.camp_questions.specs.Differences.{IsMissing}
 use Rattle.camp_questions.specs.Files.{IsFile, branch_names}
 use Rattle.camp_questions.specs.Foresight.{Foresees}
 use Rattle.camp_questions.specs.GraphTexts.{graph_text}
-use Rattle.camp_questions.specs.Graphs.{Drawn, IsGraphOf}
 use Rattle.camp_questions.specs.Marks.{AreMarked}
 use Rattle.camp_questions.specs.OpenConflicts.{AreOpen}
+use Rattle.camp_questions.specs.Pictures.{IsPictured, Picture}
 use Rattle.camp_questions.specs.Places.{File as MarkedFile, Place}
 use Rattle.camp_questions.specs.Showing.{IsShown, Patch}
 use Rattle.camp_questions.specs.Sides.{IsSide}
@@ -105,9 +105,9 @@ marks_told marked.NoFile = no_file_told
 marks_told (marked.File file) =
     counted (codes "marks") (marked_lines file)
 
--- a graph in DOT
-abbrev pub graph_told : Drawn → List ℕ
-graph_told graph = counted (codes "graph") (graph_text graph)
+-- a picture in DOT
+abbrev pub graph_told : Picture → List ℕ
+graph_told picture = counted (codes "graph") (graph_text picture)
 
 -- NAME =LINE: a line of a file behind the name of the patch that put it there
 abbrev pub annotated_line : List ℕ × List ℕ → List ℕ
@@ -162,7 +162,7 @@ TellsAt history state (question.Marks branch path) text = IsTold marks_told (Are
 TellsAt history state (question.File branch path) text = IsTold file_told (IsFile state branch path) text
 TellsAt history state question.Branches text =
     text ≡ names_told (codes "branches") (branch_names state)
-TellsAt history state (question.Graph branch) text = IsTold graph_told (IsGraphOf state branch) text
+TellsAt history state (question.Graph branch names) text = IsTold graph_told (IsPictured state branch names) text
 TellsAt history state (question.WhatIf call) text =
     (seen : Foreseen) × Foresees state call seen × (text ≡ foreseen_told seen)
 TellsAt history state question.History text = text ≡ history_text history

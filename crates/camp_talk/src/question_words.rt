@@ -1,7 +1,7 @@
 //! The words of questions.
 ghost use Rattle.std.specs.Prelude.{◌≡◌, map};
 ghost use Rattle.camp_script.specs.Gives.{Gives};
-ghost use Rattle.camp_talk.specs.Asking.{branch_alone, branch_and_names, branch_and_path, branches_and_names, conflict_question, plain_question, question_of, short_question, two_names};
+ghost use Rattle.camp_talk.specs.Asking.{branch_alone, branch_and_any_names, branch_and_names, branch_and_path, branches_and_names, conflict_question, plain_question, question_of, short_question, two_names};
 
 use crate::questions::Question;
 use crate::topics::help_topic;
@@ -40,6 +40,10 @@ pub(crate) fn read_question(
         let (from, to, names) = branches_and_names(alloc, words)?;
         return Ok(Some(Question::Along { from, to, names }));
     }
+    if word == b"graph".as_slice() {
+        let (branch, names) = branch_and_any_names(alloc, words)?;
+        return Ok(Some(Question::Graph { branch, names }));
+    }
     let words = first_words(words);
     short_question(alloc, word, words.as_slice())
 }
@@ -62,10 +66,6 @@ fn short_question(
     if word == b"annotate".as_slice() {
         let (branch, path) = branch_and_path(alloc, words)?;
         return Ok(Some(Question::Annotate { branch, path }));
-    }
-    if word == b"graph".as_slice() {
-        let branch = branch_alone(words)?;
-        return Ok(Some(Question::Graph(branch)));
     }
     conflict_question(alloc, word, words)
 }
@@ -130,6 +130,17 @@ fn branch_and_names(alloc: Global, mut words: Words<'_>) -> Result<(Name, Names)
     if words.again().next().is_none() {
         return Err(fault(FaultKind::WrongNumberOfWords));
     }
+    let branch = name_at(1, branch)?;
+    let names = names_at(alloc, 1, words)?;
+    Ok((branch, names))
+}
+
+fn branch_and_any_names(alloc: Global, mut words: Words<'_>) -> Result<(Name, Names), ScriptFault>
+    ensures { Gives result (branch_and_any_names words.entry) }
+{
+    let Some(branch) = words.next() else {
+        return Err(fault(FaultKind::WrongNumberOfWords));
+    };
     let branch = name_at(1, branch)?;
     let names = names_at(alloc, 1, words)?;
     Ok((branch, names))

@@ -27,8 +27,9 @@ pub enum Question {
     File { branch: Name, path: Path },
     /// The branches.
     Branches,
-    /// The patches of a branch, what each needs directly, and which are in conflict.
-    Graph(Name),
+    /// The patches of a branch, what each needs directly, and which are in conflict: all of them, or where
+    /// some are named, these, what they need and what needs them.
+    Graph { branch: Name, names: Names },
     /// What a call would be answered, and how its branch would stand then.
     WhatIf(Call),
     /// The accepted calls.

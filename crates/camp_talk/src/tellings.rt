@@ -48,7 +48,7 @@ pub(crate) fn answer_at(
         Question::Marks { branch, path } => tell_marks(alloc, state, branch, path),
         Question::File { branch, path } => tell_file(alloc, state, branch, path),
         Question::Branches => tell_branches(alloc, state),
-        Question::Graph(branch) => tell_graph(alloc, state, branch),
+        Question::Graph { branch, names } => { tell_graph(alloc, state, branch, names.as_slice()) }
         Question::WhatIf(call) => tell_foreseen(alloc, state, call),
         Question::History => tell_history(alloc, history),
         Question::Keep => tell_kept(alloc, history),

@@ -110,7 +110,7 @@ fn summary(topic: Topic) -> &'static str
         }
         Topic::Side => "side BRANCH NAME: the changes that a patch in conflict says\n",
         Topic::Marks => "marks BRANCH PATH: a file with the open sides of its conflicts\n",
-        Topic::Graph => "graph BRANCH: how the patches hang together, for Graphviz\n",
+        Topic::Graph => "graph BRANCH [NAME ..]: how the patches hang together, for Graphviz\n",
         Topic::WhatIf => "whatif COMMAND: what a command would be answered; nothing changes\n",
         Topic::History => "history: the accepted commands\n",
         Topic::Keep => "keep: a script that gives the repository back\n",
@@ -152,7 +152,9 @@ fn details(topic: Topic) -> &'static str
             patch side NAME LINES, and behind + what it would put there.\n"
         }
         Topic::Graph => {
-            "An arrow leads to what a patch needs directly; a dashed line joins two in conflict.\n"
+            "Where patches are named: these, what they need, and what needs them.\n\
+            An arrow leads to what a patch needs directly; a line joins two in conflict, which is red\n\
+            and bold where it is open, and dashed and pale where it is settled.\n"
         }
         Topic::WhatIf => {
             "If it would be accepted: the conflicts and the files that its branch would have, too.\n"

@@ -1,0 +1,92 @@
+-- How the parts of a picture are gathered.
+use Rattle.camp_questions.proofs.Words.{◌≡◌, ◌<◌, ◌≤◌, ◌+◌, ◌&&◌, ℕ, Bool, true, false, cond, List, [], ◌∷◌, ◌++◌, map, filter, take, drop, length, get_or, Result, Ok, Err, Some, refl, sym, ap, ◌∙◌, subst, arith, append-nil, drop_all, drop_more, filter-append, map-append, take_more, Unanswered, Refused, Memory, Contents, catches_of, Catch, IsFound, is_among, first_lacked, Node, Drawn, IsGraph, IsGraphOf, Tells, AnswerOf, ◌==◌, true≢false, eqb-true}
+use Rattle.camp_call.specs.declared.replies.Refusal.{Refusal}
+use Rattle.camp_questions.proofs.Answering.{goes_on, goes_on_with, no_refusal, open_not_refused}
+use Rattle.camp_questions.specs.Answers.{OfPatches, TellsOrWants}
+use Rattle.camp_questions.specs.OpenConflicts.{AreOpen, AreOpenIn}
+use Rattle.camp_questions.specs.Pictures.{IsPictured, Picture, drawn_about, hangs_on, kept_node, part_with, whole_picture, with_needing, with_needing_one, with_needs, with_needs_of}
+
+-- one more patch, from the last, brings what it needs
+pub one_brought : (nodes : List Node) (i at : ℕ) (node d : Node) (names was next : List (List ℕ)) → i + 1 ≡ at → i < length nodes → node ≡ get_or nodes i d → was ≡ with_needs (drop at nodes) names → next ≡ with_needs_of node was → next ≡ with_needs (drop i nodes) names
+one_brought nodes i at node d names was next follows within is so_far becomes =
+    let here : drop i nodes ≡ node ∷ drop at nodes = drop_more nodes i d within ∙ (λ k. sym is k ∷ drop (follows k) nodes) in
+    becomes ∙ ap (with_needs_of node) so_far ∙ sym (ap (λ l. with_needs l names) here)
+
+-- one more, from the first, joins
+pub one_joined : (nodes : List Node) (i : ℕ) (node d : Node) (was next aim : List (List ℕ)) → i < length nodes → node ≡ get_or nodes i d → with_needing (drop i nodes) was ≡ aim → next ≡ with_needing_one was node → with_needing (drop (i + 1) nodes) next ≡ aim
+one_joined nodes i node d was next aim within is so_far becomes =
+    let here : drop i nodes ≡ node ∷ drop (i + 1) nodes = drop_more nodes i d within ∙ ap (λ n. n ∷ drop (i + 1) nodes) (sym is) in
+    ap (with_needing (drop (i + 1) nodes)) becomes ∙ sym (ap (λ l. with_needing l was) here) ∙ so_far
+
+kept_alone : (keeps : List ℕ → Bool) (node : Node) → map (kept_node keeps) (filter (λ (n : Node). keeps n.name) (node ∷ [])) ≡ cond (keeps node.name) (kept_node keeps node ∷ []) []
+kept_alone keeps node = elim (keeps node.name) as (λ b. map (kept_node keeps) (cond b (node ∷ []) []) ≡ cond b (kept_node keeps node ∷ []) []) [
+  | true ↦ refl
+  | false ↦ refl
+]
+
+put_behind : (b : Bool) (left : List Node) (node : Node) → cond b (left ++ node ∷ []) left ≡ left ++ cond b (node ∷ []) []
+put_behind true left node = refl
+put_behind false left node = sym (append-nil left)
+
+-- one more is kept, or not
+pub one_kept : (keeps : List ℕ → Bool) (nodes : List Node) (i : ℕ) (node d : Node) (left next : List Node) → i < length nodes → node ≡ get_or nodes i d → left ≡ map (kept_node keeps) (filter (λ (n : Node). keeps n.name) (take i nodes)) → next ≡ cond (keeps node.name) (left ++ kept_node keeps node ∷ []) left → next ≡ map (kept_node keeps) (filter (λ (n : Node). keeps n.name) (take (i + 1) nodes))
+one_kept keeps nodes i node d left next within is so_far becomes =
+    let test : Node → Bool = λ n. keeps n.name in
+    let more : take (i + 1) nodes ≡ take i nodes ++ node ∷ [] = take_more nodes i d within ∙ ap (λ n. take i nodes ++ n ∷ []) (sym is) in
+    becomes ∙ put_behind (keeps node.name) left (kept_node keeps node) ∙ (λ k. so_far k ++ sym (kept_alone keeps node) k)
+    ∙ sym (ap (λ l. map (kept_node keeps) (filter test l)) more ∙ ap (map (kept_node keeps)) (filter-append test (take i nodes) (node ∷ [])) ∙ map-append (kept_node keeps) (filter test (take i nodes)) (filter test (node ∷ [])))
+
+-- the part of a picture that is made of its kept parts
+pub part_made : (keeps others : List ℕ → Bool) (nodes left : List Node) (pairs kept unsettled : List (List ℕ × List ℕ)) → ((name : List ℕ) → others name ≡ keeps name) → left ≡ map (kept_node others) (filter (λ (n : Node). others n.name) nodes) → kept ≡ filter (λ pair. others pair.0 && others pair.1) pairs
+    → record { patches = left; conflicts = kept; unsettled = unsettled } ≡ part_with keeps (record { patches = nodes; conflicts = pairs; unsettled = unsettled })
+part_made keeps others nodes left pairs kept unsettled same are pairs_are =
+    (λ i. record { patches = are i; conflicts = pairs_are i; unsettled = unsettled })
+    ∙ ap (λ f. part_with f (record { patches = nodes; conflicts = pairs; unsettled = unsettled })) (λ i name. same name i)
+
+-- what was answered, or else this
+answer_or : {A : Type 0} → A → AnswerOf A → A
+answer_or other (Ok answer) = answer
+answer_or other (Err refusal) = other
+
+one_answer : {A : Type 0} (a b : A) (is : AnswerOf A) → is ≡ Ok a → is ≡ Ok b → a ≡ b
+unfolding answer_or
+one_answer a b is e f = ap (answer_or a) (sym e ∙ f)
+
+module _ (state : Contents) (branch : List ℕ) (names : List (List ℕ)) (catches : List Catch) (found : IsFound state branch names catches) where
+  abbrev Goes : List Catch → AnswerOf Picture → Type 0
+  Goes c answer =
+      (graph : Drawn) × (pairs : List (List ℕ × List ℕ)) × (answer ≡ Ok (drawn_about names (whole_picture graph pairs)))
+      × IsGraph c graph × AreOpenIn c pairs
+
+  pub is_pictured : (graph : Drawn) (pairs : List (List ℕ × List ℕ)) (told : Picture) → IsGraphOf state branch (Ok graph) → AreOpen state branch (Ok pairs) → told ≡ drawn_about names (whole_picture graph pairs) → IsPictured state branch names (Ok told)
+  is_pictured graph pairs told first second is =
+      let on = goes_on state branch catches (λ c answer. (graph : Drawn) × (answer ≡ Ok graph) × IsGraph c graph) (Ok graph) found.is first in
+      let open_on = goes_on state branch catches (λ c answer. (pairs : List (List ℕ × List ℕ)) × (answer ≡ Ok pairs) × AreOpenIn c pairs) (Ok pairs) found.is second in
+      rw found.is (rw found.has (on.0, open_on.0, ap Ok is ∙ (λ i. Ok (drawn_about names (whole_picture (one_answer graph on.0 (Ok graph) refl on.1 i) (one_answer pairs open_on.0 (Ok pairs) refl open_on.1 i)))), on.2, open_on.2))
+
+  pub picture_not_refused : (refusal : Refusal) → ¬ (IsPictured state branch names (Err refusal))
+  picture_not_refused refusal w =
+      let on = goes_on state branch catches (λ c. OfPatches c names (Goes c)) (Err refusal) found.is w in
+      let told = goes_on_with catches names (Goes catches) (Err refusal) found.has on in
+      no_refusal refusal (drawn_about names (whole_picture told.0 told.1)) (Err refusal) refl told.2
+
+  pub graph_fails : (why : Unanswered) → Tells (IsGraphOf state branch) (Err why) → TellsOrWants (IsPictured state branch names) (Err why)
+  graph_fails (Refused refusal) w =
+      let on = goes_on state branch catches (λ c answer. (graph : Drawn) × (answer ≡ Ok graph) × IsGraph c graph) (Err refusal) found.is w in
+      absurd (no_refusal refusal on.0 (Err refusal) refl on.1)
+  graph_fails Memory w = picture_not_refused
+
+  pub open_fails : (why : Unanswered) → TellsOrWants (AreOpen state branch) (Err why) → TellsOrWants (IsPictured state branch names) (Err why)
+  open_fails (Refused refusal) w = absurd (open_not_refused state branch catches found.is refusal w)
+  open_fails Memory w = picture_not_refused
+
+-- with no patch named the whole is drawn
+pub all_drawn : (names : List (List ℕ)) (whole : Picture) (test : Bool) → test ≡ (length names == 0) → test ≡ true → whole ≡ drawn_about names whole
+all_drawn [] whole test counts is = refl
+all_drawn (name ∷ names) whole test counts is =
+    let none : length (name ∷ names) ≡ 0 = eqb-true _ _ (sym counts ∙ is) in absurd (omega (arith, none))
+
+-- and else what hangs on those that are
+pub part_drawn : (names : List (List ℕ)) (whole told : Picture) (test : Bool) → test ≡ (length names == 0) → test ≡ false → told ≡ part_with (hangs_on whole.patches names) whole → told ≡ drawn_about names whole
+part_drawn [] whole told test counts is drawn = absurd (true≢false (sym counts ∙ is))
+part_drawn (name ∷ names) whole told test counts is drawn = drawn

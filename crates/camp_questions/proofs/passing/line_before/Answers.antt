@@ -1,0 +1,20 @@
+use Rattle.camp_questions.proofs.Words.{sym, ◌∙◌, subst, true≢false}
+use Rattle.camp_prim.specs.Effect.{InRange}
+use Rattle.camp_questions.proofs.PassedChanges.{if_some, passes_elsewhere, passes_hunk}
+use Rattle.camp_questions.specs.Inside.Moving.{ComesBefore, Passes}
+use Rattle.camp_questions.proofs.passing.line_before.Goals as goal
+
+pub returns-then-not-is_in_file-clause-passes : goal.returns-then-not-is_in_file-clause-passes
+returns-then-not-is_in_file-clause-passes c =
+    passes_elsewhere c.args.change.now c.args.patch.now c.args.hunk.now c.args.line (c.is_other.ensures c.if-not-is_other.false) (λ e. true≢false (sym (c.is_in_file.ensures.is.1 e) ∙ c.if-not-is_in_file.true)) c.is_in_file.ensures.range c.requires
+
+pub returns-in-Hunk-clause-passes : goal.returns-in-Hunk-clause-passes
+returns-in-Hunk-clause-passes c =
+    let change = c.args.change.now in
+    let patch = c.args.patch.now in
+    let hunk = c.args.hunk.now in
+    let line = c.args.line in
+    let other = c.in-Hunk.other in
+    let own = subst InRange c.in-Hunk.is c.is_in_file.ensures.range in
+    if_some (Passes other hunk line) (ComesBefore change patch hunk line) c.line_past.result
+    (λ next passes. passes_hunk change patch other hunk line next (c.is_other.ensures c.if-not-is_other.false) c.in-Hunk.is own c.requires passes) c.line_past.ensures

@@ -1,0 +1,252 @@
+//! Labels as they are seen from before changes. Most changes pass a label by, and at most move it to another
+//! line. Where one does more, it is added as the rules say.
+ghost use Rattle.std.specs.Prelude.{◌≡◌, ◌+◌, ◌-◌, ◌<◌, ◌≤◌, ◌↔◌, [], drop, length, IfOk, IfSome, IsTrue};
+ghost use Rattle.camp_base.specs.Limits.{greatest_reach};
+ghost use Rattle.camp_ctx.specs.Adding.{AddsAll};
+ghost use Rattle.camp_ctx.specs.Contexts.{bare};
+ghost use Rattle.camp_prim.specs.Effect.{InRange};
+ghost use Rattle.camp_prim.specs.Hunks.{IsInRange};
+ghost use Rattle.camp_prim.specs.Labels.{SameKey};
+ghost use Rattle.camp_prim.specs.Swaps.{at_line, path_of};
+ghost use Rattle.camp_prim.specs.declared.primitives.Primitive.TheVariants as primitive;
+ghost use Rattle.camp_questions.specs.Inside.Moving.{ComesBefore, Passes, hunk_at};
+
+use camp_base::Line;
+use camp_ctx::{Contexted, join};
+use camp_prim::{Hunk, Lines, Named, Primitive};
+use camp_seq::Seq;
+use std::alloc::{AllocError, Global};
+
+/// The greatest sum of a hunk's line and the numbers of its old and of its new lines.
+const MOST_REACH: usize = 1 << 30;
+
+/// What is seen behind changes, as it is seen before them. Where nothing passes by, ever more changes are
+/// added at once.
+pub(crate) fn seen_before(
+    alloc: Global,
+    changes: &[Named],
+    x: &Contexted,
+) -> Result<Contexted, AllocError>
+    ensures { IfOk result (λ y. AddsAll changes.now x.now y) }
+{
+    let mut seen = x.try_clone()?;
+    let mut left = changes.len();
+    let mut most = 1;
+    while left > 0 {
+        let (stop, passed) = passed_by(alloc, &changes[..left], &seen)?;
+        most = next_most(most, stop == left);
+        let from = stop.saturating_sub(most);
+        seen = added(alloc, &changes[from..stop], &passed)?;
+        left = from;
+    }
+    Ok(seen)
+}
+
+/// How many changes are added at once: one behind some that passed by, and else twice as many as before.
+fn next_most(most: usize, none_passed: bool) -> usize
+    requires { 1 ≤ most }
+    ensures { 1 ≤ result }
+{
+    if none_passed {
+        most.saturating_mul(2)
+    } else {
+        1
+    }
+}
+
+fn added(alloc: Global, changes: &[Named], x: &Contexted) -> Result<Contexted, AllocError>
+    ensures { IfOk result (λ y. AddsAll changes.now x.now y) }
+{
+    let list = join(alloc, changes, &[])?;
+    Contexted::add(&list, x)
+}
+
+/// How far a label is passed by changes, from the last to the first: where that ends, and what it is there.
+fn passed_by(
+    alloc: Global,
+    changes: &[Named],
+    x: &Contexted,
+) -> Result<(usize, Contexted), AllocError>
+    ensures within { IfOk result (λ found. found.0 ≤ length changes.now) }
+    ensures added { IfOk result (λ found. AddsAll (drop found.0 changes.now) x.now found.1) }
+{
+    let Some(hunk) = hunk_alone(x) else {
+        return Ok((stays_from(changes, x), x.try_clone()?));
+    };
+    let (stop, line) = moves_from(changes, x.patch(), hunk);
+    let moved = moved_to(alloc, x, hunk, line)?;
+    Ok((stop, moved))
+}
+
+/// From which place on changes leave a label as it is.
+fn stays_from(changes: &[Named], x: &Contexted) -> usize
+    ensures within { result ≤ length changes.now }
+    ensures added { AddsAll (drop result changes.now) x.now x.now }
+{
+    for at in (0..changes.len()).rev() {
+        if !x.stays_behind(&changes[at]) {
+            return at + 1;
+        }
+    }
+    0
+}
+
+/// The hunk of a label that has no context.
+fn hunk_alone(x: &Contexted) -> Option<&Hunk>
+    ensures none { IfSome result (λ hunk. x.now.context ≡ []) }
+    ensures is { IfSome result (λ hunk. x.now.patch.prim ≡ primitive.Hunk hunk.now) }
+{
+    if !x.context().items().is_empty() {
+        return None;
+    }
+    match &x.patch().prim {
+        Primitive::Hunk(hunk) => Some(hunk),
+        _ => None,
+    }
+}
+
+/// From which place on changes are passed by a hunk, from the last to the first, and the line to which it
+/// comes there.
+fn moves_from(changes: &[Named], patch: &Named, hunk: &Hunk) -> (usize, u32)
+    requires { patch.now.prim ≡ primitive.Hunk hunk.now }
+    ensures within { result.0 ≤ length changes.now }
+    ensures range { IsInRange (at_line result.1 hunk.now) }
+    ensures added { AddsAll (drop result.0 changes.now) (bare patch.now) (bare (hunk_at patch.now hunk.now result.1)) }
+{
+    let mut line = hunk.line();
+    for at in (0..changes.len()).rev() {
+        match line_before(&changes[at], patch, hunk, line) {
+            Some(next) => line = next,
+            None => return (at + 1, line),
+        }
+    }
+    (0, line)
+}
+
+/// The line to which a hunk at a line comes before a change. None where it can't pass, or just may not.
+fn line_before(change: &Named, patch: &Named, hunk: &Hunk, line: u32) -> Option<u32>
+    requires { IsInRange (at_line line hunk.now) }
+    ensures range { IfSome result (λ next. IsInRange (at_line next hunk.now)) }
+    ensures passes { IfSome result (λ next. ComesBefore change.now patch.now hunk.now line next) }
+{
+    if !is_other(change, patch) {
+        return None;
+    }
+    if !is_in_file(&change.prim, hunk) {
+        return Some(line);
+    }
+    match &change.prim {
+        Primitive::Hunk(other) => line_past(other, hunk, line),
+        _ => None,
+    }
+}
+
+fn is_other(change: &Named, patch: &Named) -> bool
+    ensures { IsTrue result → ¬ (SameKey change.now patch.now) }
+{
+    if change.name != patch.name {
+        return true;
+    }
+    change.place != patch.place
+}
+
+fn is_in_file(change: &Primitive, hunk: &Hunk) -> bool
+    ensures is { IsTrue result ↔ (path_of change.now ≡ hunk.now.path) }
+    ensures range { InRange change.now }
+{
+    change.path() == hunk.path()
+}
+
+/// The line to which a hunk at a line comes before another hunk of its file, where lines stand between the
+/// two.
+fn line_past(other: &Hunk, hunk: &Hunk, line: u32) -> Option<u32>
+    requires range { IsInRange (at_line line hunk.now) }
+    requires path { other.now.path ≡ hunk.now.path }
+    ensures { IfSome result (λ next. Passes other.now hunk.now line next) }
+{
+    if other.line() as usize + other.new().len() < line as usize {
+        return line_below(other, hunk, line);
+    }
+    if line as usize + hunk.old().len() < other.line() as usize {
+        return line_above(other, hunk, line);
+    }
+    None
+}
+
+fn line_below(other: &Hunk, hunk: &Hunk, line: u32) -> Option<u32>
+    requires range { IsInRange (at_line line hunk.now) }
+    requires path { other.now.path ≡ hunk.now.path }
+    requires below { other.now.line + length other.now.new < line }
+    ensures { IfSome result (λ next. Passes other.now hunk.now line next) }
+{
+    let gap = line - other.line() - other.new().len() as u32;
+    let next = other.line() as usize + other.old().len() + gap as usize;
+    if next + hunk.old().len() + hunk.new().len() > MOST_REACH {
+        return None;
+    }
+    Some(next as u32)
+}
+
+fn line_above(other: &Hunk, hunk: &Hunk, line: u32) -> Option<u32>
+    requires range { IsInRange (at_line line hunk.now) }
+    requires path { other.now.path ≡ hunk.now.path }
+    requires above { line + length hunk.now.old < other.now.line }
+    ensures { IfSome result (λ next. Passes other.now hunk.now line next) }
+{
+    if !stays_in_range(other, hunk, line) {
+        return None;
+    }
+    Some(line)
+}
+
+/// Whether a hunk below another one at a line is in range behind it, too.
+fn stays_in_range(other: &Hunk, hunk: &Hunk, line: u32) -> bool
+    requires range { IsInRange (at_line line hunk.now) }
+    requires above { line + length hunk.now.old < other.now.line }
+    ensures own { IsInRange other.now }
+    ensures within { IsTrue result → (line + length hunk.now.new + (other.now.line - line - length hunk.now.old)
+        + length other.now.old + length other.now.new ≤ greatest_reach) }
+{
+    let gap = other.line() - line - hunk.old().len() as u32;
+    let behind = line as usize + hunk.new().len() + gap as usize;
+    behind + other.old().len() + other.new().len() <= MOST_REACH
+}
+
+/// A label without a context whose hunk moves to a line.
+fn moved_to(alloc: Global, x: &Contexted, hunk: &Hunk, line: u32) -> Result<Contexted, AllocError>
+    requires none { x.now.context ≡ [] }
+    requires is { x.now.patch.prim ≡ primitive.Hunk hunk.now }
+    requires range { IsInRange (at_line line hunk.now) }
+    ensures { IfOk result (λ y. y ≡ bare (hunk_at x.now.patch hunk.now line)) }
+{
+    if line == hunk.line() {
+        return x.try_clone();
+    }
+    let moved = hunk_moved(alloc, hunk, line)?;
+    let mut patch = x.patch().try_clone()?;
+    patch.prim = moved;
+    Contexted::new(alloc, Seq::empty(alloc), patch)
+}
+
+fn hunk_moved(alloc: Global, hunk: &Hunk, line: u32) -> Result<Primitive, AllocError>
+    requires { IsInRange (at_line line hunk.now) }
+    ensures { IfOk result (λ moved. moved ≡ primitive.Hunk (at_line line hunk.now)) }
+{
+    let path = hunk.path().try_clone()?;
+    let old = lines_of(alloc, hunk.old())?;
+    let new = lines_of(alloc, hunk.new())?;
+    let Some(moved) = Primitive::hunk(path, line, old, new) else {
+        unreachable!();
+    };
+    Ok(moved)
+}
+
+fn lines_of(alloc: Global, lines: &[Line]) -> Result<Lines, AllocError>
+    ensures { IfOk result (λ side. side ≡ lines.now) }
+{
+    let mut copied = Vec::with_capacity(alloc, lines.len())?;
+    for line in lines {
+        copied.push(line.try_clone()?)?;
+    }
+    Lines::new(alloc, copied)
+}

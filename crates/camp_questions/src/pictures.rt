@@ -1,0 +1,231 @@
+//! Pictures of branches.
+ghost use Rattle.std.specs.Prelude.{◌≡◌, ◌++◌, ◌∷◌, ◌&&◌, [], ℕ, List, IfOk, OnOk, filter, map, if◌then◌else◌};
+ghost use Rattle.std.specs.List.{list_any};
+ghost use Rattle.camp_branch.specs.Branches.{is_among};
+ghost use Rattle.camp_branch.specs.Fields.{has_name, names_in};
+ghost use Rattle.camp_questions.specs.Answers.{TellsOrWants};
+ghost use Rattle.camp_questions.specs.Pictures.{IsPictured, drawn_about, hangs_on, kept_node, whole_picture, with_needing, with_needing_one, with_needs, with_needs_of};
+
+use crate::finding::branch_with;
+use crate::{Node, PatchGraph, Unanswered, graph, open_pairs};
+use camp_base::Name;
+use camp_branch::{NameSet, set_of};
+use camp_repo::{Conflicts, Names, State};
+use std::alloc::{AllocError, Global};
+use std::marker::Model;
+
+/// What is drawn of a branch: patches, what each needs directly, which are in conflict, and which of these
+/// conflicts are open.
+#[derive(Drop)]
+pub struct Picture {
+    patches: Vec<Node>,
+    conflicts: Conflicts,
+    unsettled: Conflicts,
+}
+
+impl Model for Picture {
+    ghost use Rattle.camp_questions.specs.Pictures.{Picture};
+
+    ghost Value = { Picture };
+
+    ghost view = { λ picture. record {
+      patches = picture.patches.items;
+      conflicts = picture.conflicts;
+      unsettled = picture.unsettled;
+    } };
+}
+
+impl Picture {
+    /// The patches, in the order of the branch.
+    pub fn patches(&self) -> &[Node]
+        ensures value { result.now ≡ self.now.patches }
+    {
+        &self.patches
+    }
+
+    /// The pairs of patches that are in conflict.
+    pub fn conflicts(&self) -> &Conflicts
+        ensures value { result.now ≡ self.now.conflicts }
+    {
+        &self.conflicts
+    }
+
+    /// The pairs of patches of the branch that are in an open conflict.
+    pub fn unsettled(&self) -> &Conflicts
+        ensures value { result.now ≡ self.now.unsettled }
+    {
+        &self.unsettled
+    }
+}
+
+/// The picture of a branch. Where patches are named, it has these, what they need, and what needs them.
+pub fn picture_of(state: &State, branch: &Name, names: &[Name]) -> Result<Picture, Unanswered>
+    ensures exact { TellsOrWants (IsPictured state.now branch.now names.now) result }
+{
+    let found = branch_with(state, branch, names)?;
+    let alloc = found.catches().allocator();
+    let whole = graph(state, branch)?;
+    let unsettled = open_pairs(state, branch)?;
+    let picture = drawn_about(alloc, names, whole, unsettled)?;
+    Ok(picture)
+}
+
+/// The whole picture, or the part of it with what patches need, and what needs them.
+fn drawn_about(
+    alloc: Global,
+    names: &[Name],
+    whole: PatchGraph,
+    unsettled: Conflicts,
+) -> Result<Picture, AllocError>
+    ensures { IfOk result (λ picture. picture ≡ drawn_about names.now (whole_picture whole unsettled)) }
+{
+    let (patches, conflicts) = whole.into_parts();
+    if names.is_empty() {
+        return Ok(Picture {
+            patches,
+            conflicts,
+            unsettled,
+        });
+    }
+    let kept = hanging_on(alloc, &patches, names)?;
+    let nodes = kept_nodes(alloc, &kept, &patches)?;
+    let pairs = kept_pairs(alloc, &kept, conflicts.pairs())?;
+    Ok(Picture {
+        patches: nodes,
+        conflicts: Conflicts::new(pairs),
+        unsettled,
+    })
+}
+
+/// The names of patches, of what they need, and of what needs them.
+fn hanging_on(alloc: Global, nodes: &[Node], names: &[Name]) -> Result<NameSet, AllocError>
+    ensures { IfOk result (λ set. (name : List ℕ) → is_among (names_in set) name ≡ hangs_on nodes.now names.now name) }
+{
+    let mut all = needed(alloc, nodes, names)?;
+    let needing = needing(alloc, nodes, names)?;
+    all.extend_from_slice(&needing)?;
+    let set = set_of(alloc, &all)?;
+    Ok(set)
+}
+
+/// The names, and what they need, from the last patch to the first.
+fn needed(alloc: Global, nodes: &[Node], names: &[Name]) -> Result<Vec<Name>, AllocError>
+    ensures { IfOk result (λ needed. needed.items ≡ with_needs nodes.now names.now) }
+{
+    let mut needed = Vec::from_slice(alloc, names)?;
+    for at in (0..nodes.len()).rev() {
+        bring_needs(&mut needed, &nodes[at])?;
+    }
+    Ok(needed)
+}
+
+/// Puts what a patch needs directly behind names, where it is one of them.
+fn bring_needs(names: &mut Vec<Name>, node: &Node) -> Result<(), AllocError>
+    ensures { OnOk result (names.new.items ≡ with_needs_of node.now names.old.items) }
+{
+    if !has(names, &node.name) {
+        return Ok(());
+    }
+    names.extend_from_slice(node.needs.as_slice())?;
+    Ok(())
+}
+
+/// The names, and what needs them, from the first patch to the last.
+fn needing(alloc: Global, nodes: &[Node], names: &[Name]) -> Result<Vec<Name>, AllocError>
+    ensures { IfOk result (λ needing. needing.items ≡ with_needing nodes.now names.now) }
+{
+    let mut needing = Vec::from_slice(alloc, names)?;
+    for node in nodes {
+        join_needing(&mut needing, node)?;
+    }
+    Ok(needing)
+}
+
+/// Puts a patch behind names, where it needs one of them directly.
+fn join_needing(names: &mut Vec<Name>, node: &Node) -> Result<(), AllocError>
+    ensures { OnOk result (names.new.items ≡ with_needing_one names.old.items node.now) }
+{
+    if !needs_one(names, node.needs.as_slice()) {
+        return Ok(());
+    }
+    names.push(node.name)?;
+    Ok(())
+}
+
+/// Whether one of what a patch needs is among names.
+fn needs_one(names: &[Name], needs: &[Name]) -> bool
+    ensures { result ≡ list_any (is_among names.now) needs.now }
+{
+    for on in needs {
+        if has(names, on) {
+            return true;
+        }
+    }
+    false
+}
+
+fn has(names: &[Name], name: &Name) -> bool
+    ensures { result ≡ is_among names.now name.now }
+{
+    for other in names {
+        if name == other {
+            return true;
+        }
+    }
+    false
+}
+
+/// The patches of names that are kept, with the arrows between these.
+fn kept_nodes(alloc: Global, kept: &NameSet, nodes: &[Node]) -> Result<Vec<Node>, AllocError>
+    ensures { IfOk result (λ left. left.items ≡ map (kept_node (has_name kept.now)) (filter (λ node. has_name kept.now node.name) nodes.now)) }
+{
+    let mut left = Vec::new(alloc);
+    for node in nodes {
+        push_kept(&mut left, kept, node)?;
+    }
+    Ok(left)
+}
+
+fn push_kept(left: &mut Vec<Node>, kept: &NameSet, node: &Node) -> Result<(), AllocError>
+    ensures { OnOk result (left.new.items ≡
+        (if has_name kept.now node.now.name then left.old.items ++ kept_node (has_name kept.now) node.now ∷ [] else left.old.items)) }
+{
+    if !kept.contains_key(&node.name) {
+        return Ok(());
+    }
+    let needs = kept_names(kept.allocator(), kept, node.needs.as_slice())?;
+    left.push(Node {
+        name: node.name,
+        needs: Names::new(needs),
+    })?;
+    Ok(())
+}
+
+fn kept_names(alloc: Global, kept: &NameSet, names: &[Name]) -> Result<Vec<Name>, AllocError>
+    ensures { IfOk result (λ left. left.items ≡ filter (has_name kept.now) names.now) }
+{
+    let mut left = Vec::from_slice(alloc, names)?;
+    left.retain(|name| kept.contains_key(name));
+    Ok(left)
+}
+
+fn kept_pairs(
+    alloc: Global,
+    kept: &NameSet,
+    pairs: &[(Name, Name)],
+) -> Result<Vec<(Name, Name)>, AllocError>
+    ensures { IfOk result (λ left. left.items ≡ filter (λ pair. has_name kept.now pair.0 && has_name kept.now pair.1) pairs.now) }
+{
+    let mut left = Vec::from_slice(alloc, pairs)?;
+    left.retain(|pair| are_kept(kept, pair));
+    Ok(left)
+}
+
+fn are_kept(kept: &NameSet, pair: &(Name, Name)) -> bool
+    ensures { result ≡ (has_name kept.now pair.now.0 && has_name kept.now pair.now.1) }
+{
+    if !kept.contains_key(&pair.0) {
+        return false;
+    }
+    kept.contains_key(&pair.1)
+}
