@@ -4,6 +4,7 @@ pub mod CountLemmas
 pub mod Cuts
 pub mod Firsts
 pub mod FrameLemmas
+pub mod HelpLemmas
 pub mod LineReads
 pub mod Loading
 pub mod PairLemmas

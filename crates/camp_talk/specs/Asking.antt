@@ -5,10 +5,12 @@ use Rattle.camp_talk.specs.Cutting.{lines_in, script_in}
 use Rattle.camp_script.specs.Faults.{fault_at}
 use Rattle.camp_script.specs.Lines.{words_of}
 use Rattle.camp_script.specs.Words.{◌>>=◌, name_at, names_at, no_words, one_word, path_at, two_words}
-use Rattle.camp_script.specs.declared.faults.FaultKind.TheVariants.{UnknownCommand, WrongNumberOfWords}
+use Rattle.camp_script.specs.declared.faults.FaultKind.TheVariants.{BadNumber, UnknownCommand, WrongNumberOfWords}
 use Rattle.camp_script.specs.declared.faults.LineFault.{LineFault}
 use Rattle.camp_talk.specs.declared.questions.Asked.{Asked}
 use Rattle.camp_talk.specs.declared.questions.Asked.TheVariants as asked
+use Rattle.camp_talk.specs.declared.questions.Reason.{Reason}
+use Rattle.camp_talk.specs.declared.questions.Reason.TheVariants as reason
 use Rattle.camp_talk.specs.declared.questions.Question.{Question}
 use Rattle.camp_talk.specs.declared.questions.Question.TheVariants as question
 use Rattle.camp_talk.specs.declared.questions.Topic.{Topic}
@@ -101,10 +103,49 @@ topic_of (Some topic ∷ others) = Ok topic
 abbrev pub topic_at : List ℕ → Result Topic LineFault
 topic_at word = topic_of (call_topic word ∷ patch_topic word ∷ other_topic word ∷ [])
 
--- what help is asked for: one command, or else all
+-- the reason of a number of a refusal, from 8 on
+abbrev pub later_reason : List ℕ → Option Reason
+later_reason number =
+    if bytes_eq number (codes "8") then Some reason.NothingToDo
+    else (if bytes_eq number (codes "9") then Some reason.TooLarge
+    else (if bytes_eq number (codes "10") then Some reason.DoesNotApply
+    else (if bytes_eq number (codes "11") then Some reason.Depends
+    else (if bytes_eq number (codes "12") then Some reason.Diverged
+    else (if bytes_eq number (codes "13") then Some reason.NoMerge
+    else (if bytes_eq number (codes "14") then Some reason.SameBranch
+    else None))))))
+
+-- the reason of a number of a refusal
+abbrev pub reason_at : List ℕ → Option Reason
+reason_at number =
+    if bytes_eq number (codes "1") then Some reason.BadName
+    else (if bytes_eq number (codes "2") then Some reason.BadPath
+    else (if bytes_eq number (codes "3") then Some reason.BadLine
+    else (if bytes_eq number (codes "4") then Some reason.NoBranch
+    else (if bytes_eq number (codes "5") then Some reason.BranchExists
+    else (if bytes_eq number (codes "6") then Some reason.PatchExists
+    else (if bytes_eq number (codes "7") then Some reason.NoPatch
+    else later_reason number))))))
+
+-- the refusal of a reason; a number that has none is a bad one
+abbrev pub reason_topic : Option Reason → Result Topic LineFault
+reason_topic None = fault_at 1 BadNumber
+reason_topic (Some reason) = Ok (topic.Refusal reason)
+
+-- the refusal that help is asked for by `refused` and its number
+abbrev pub refusal_topic : List ℕ → List ℕ → Result Topic LineFault
+refusal_topic word number =
+    if bytes_eq word (codes "refused") then reason_topic (reason_at number) else fault_at 1 WrongNumberOfWords
+
+-- what help is asked for by one word: all refusals, or a command
+abbrev pub word_topic : List ℕ → Result Topic LineFault
+word_topic word = if bytes_eq word (codes "refused") then Ok topic.Refusals else topic_at word
+
+-- what help is asked for: a refusal, all refusals, one command, or else all
 abbrev pub help_line : List (List ℕ) → Result Topic LineFault
 help_line [] = Ok topic.Commands
-help_line (word ∷ []) = topic_at word
+help_line (word ∷ []) = word_topic word
+help_line (word ∷ number ∷ []) = refusal_topic word number
 help_line others = fault_at 1 WrongNumberOfWords
 
 -- ---- the question that a first word and those behind it ask, if they ask one

@@ -1,12 +1,10 @@
 -- What is told of commands.
 use Rattle.std.specs.Prelude.{ℕ, List, [], ◌∷◌, ◌++◌, codes}
 use Rattle.std.specs.List.{flat_map}
+use Rattle.camp_talk.specs.Pages.{page}
+use Rattle.camp_talk.specs.Refusals.{reasons, refusal_text, saying}
 use Rattle.camp_talk.specs.declared.questions.Topic.{Topic}
 use Rattle.camp_talk.specs.declared.questions.Topic.TheVariants as topic
-
--- lines, each with its LF
-abbrev pub page : List (List ℕ) → List ℕ
-page lines = flat_map (λ line. line ++ codes "\n") lines
 
 -- the commands, in the order in which they are told
 abbrev pub commands : List Topic
@@ -18,6 +16,8 @@ commands =
 -- how a command is written, and what it does, in a line for each of its forms
 abbrev pub summary : Topic → List ℕ
 summary topic.Commands = []
+summary topic.Refusals = []
+summary (topic.Refusal reason) = []
 summary topic.Branch = page (codes "branch NEW FROM: make a branch that is a copy of another" ∷ [])
 summary topic.Record = page (
     codes "record BRANCH NAME add PATH: record a patch that adds a file" ∷
@@ -48,7 +48,9 @@ summary topic.History = page (codes "history: the accepted commands" ∷ [])
 summary topic.Keep = page (codes "keep: a script that gives the repository back" ∷ [])
 summary topic.Help = page (
     codes "help: all commands" ∷
-    codes "help COMMAND: more about one" ∷ [])
+    codes "help COMMAND: more about one" ∷
+    codes "help refused: what the refusals say" ∷
+    codes "help refused NUMBER: one of them, and what can be done" ∷ [])
 
 -- more about a command, where there is more to tell
 abbrev pub details : Topic → List ℕ
@@ -81,6 +83,8 @@ details other = []
 -- a command as one writes it
 abbrev pub example : Topic → List ℕ
 example topic.Commands = []
+example topic.Refusals = []
+example (topic.Refusal reason) = []
 example topic.Branch = page (codes "branch anna main" ∷ [])
 example topic.Record = page (
     codes "record main hello edit notes 1" ∷
@@ -108,7 +112,13 @@ example topic.History = page (codes "history" ∷ [])
 example topic.Keep = page (codes "keep" ∷ [])
 example topic.Help = page (codes "help record" ∷ [])
 
--- what is told of all commands, and of each
+-- what is told of a command
+abbrev pub command_text : Topic → List ℕ
+command_text command = summary command ++ details command ++ page (codes "Example:" ∷ []) ++ example command
+
+-- what is told of all commands, of all refusals, and of each
 abbrev pub help_text : Topic → List ℕ
 help_text topic.Commands = flat_map summary commands
-help_text command = summary command ++ details command ++ page (codes "Example:" ∷ []) ++ example command
+help_text topic.Refusals = flat_map saying reasons
+help_text (topic.Refusal reason) = refusal_text reason
+help_text command = command_text command

@@ -9,6 +9,8 @@ pub mod Help
 pub mod Inside
 pub mod Laws
 pub mod Loads
+pub mod Pages
+pub mod Refusals
 pub mod Requests
 pub mod Talks
 pub mod Told

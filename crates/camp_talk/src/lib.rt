@@ -26,6 +26,7 @@ mod told_histories;
 mod told_lines;
 mod told_names;
 mod told_patches;
+mod told_refusals;
 mod topics;
 mod views;
 
@@ -35,7 +36,7 @@ pub use faults::{LoadFault, TalkFault};
 pub use frames::{FrameFault, FramedConversation};
 pub use laws::{counts_are_told, requests_are_served_in_turn};
 pub use loads::load;
-pub use questions::{Question, Topic};
+pub use questions::{Question, Reason, Topic};
 pub use requests::answer_request;
 pub use serving::serve;
 pub use talks::turn;

@@ -40,10 +40,12 @@ pub enum Question {
     Help(Topic),
 }
 
-/// What is asked for help on: all commands, or one.
+/// What is asked for help on: all commands, or one; all refusals, or one.
 #[derive(Clone, Copy, PartialEq, Eq, Debug)]
 pub enum Topic {
     Commands,
+    Refusals,
+    Refusal(Reason),
     Branch,
     Record,
     Pull,
@@ -67,6 +69,25 @@ pub enum Topic {
     History,
     Keep,
     Help,
+}
+
+/// Why something is refused, in the order of the numbers: the first is 1.
+#[derive(Clone, Copy, PartialEq, Eq, Debug)]
+pub enum Reason {
+    BadName,
+    BadPath,
+    BadLine,
+    NoBranch,
+    BranchExists,
+    PatchExists,
+    NoPatch,
+    NothingToDo,
+    TooLarge,
+    DoesNotApply,
+    Depends,
+    Diverged,
+    NoMerge,
+    SameBranch,
 }
 
 /// What a command asks.

@@ -1,11 +1,12 @@
 //! What is told of commands.
 ghost use Rattle.std.specs.Prelude.{◌≡◌, ◌++◌, IfOk};
 ghost use Rattle.std.specs.List.{flat_map};
-ghost use Rattle.camp_talk.specs.Help.{commands, details, example, help_text, summary};
+ghost use Rattle.camp_talk.specs.Help.{command_text, commands, details, example, help_text, summary};
 ghost use Rattle.camp_talk.specs.Told.{help_told};
 
 use crate::Topic;
 use crate::told::counted;
+use crate::told_refusals::{all_sayings, refusal_text};
 use std::alloc::{AllocError, Global};
 
 /// How commands are written.
@@ -19,9 +20,17 @@ pub(crate) fn tell_help(alloc: Global, topic: Topic) -> Result<Vec<u8>, AllocErr
 fn help_text(alloc: Global, topic: Topic) -> Result<Vec<u8>, AllocError>
     ensures { IfOk result (λ text. text.items ≡ help_text topic) }
 {
-    if topic == Topic::Commands {
-        return all_summaries(alloc);
+    match topic {
+        Topic::Commands => all_summaries(alloc),
+        Topic::Refusals => all_sayings(alloc),
+        Topic::Refusal(reason) => refusal_text(alloc, reason),
+        _ => command_text(alloc, topic),
     }
+}
+
+fn command_text(alloc: Global, topic: Topic) -> Result<Vec<u8>, AllocError>
+    ensures { IfOk result (λ text. text.items ≡ command_text topic) }
+{
     let mut text = Vec::new(alloc);
     text.extend_from_slice(summary(topic).as_bytes())?;
     text.extend_from_slice(details(topic).as_bytes())?;
@@ -77,7 +86,7 @@ fn summary(topic: Topic) -> &'static str
     ensures { result.now ≡ summary topic }
 {
     match topic {
-        Topic::Commands => "",
+        Topic::Commands | Topic::Refusals | Topic::Refusal(_) => "",
         Topic::Branch => "branch NEW FROM: make a branch that is a copy of another\n",
         Topic::Record => {
             "record BRANCH NAME add PATH: record a patch that adds a file\n\
@@ -116,7 +125,9 @@ fn summary(topic: Topic) -> &'static str
         Topic::Keep => "keep: a script that gives the repository back\n",
         Topic::Help => {
             "help: all commands\n\
-            help COMMAND: more about one\n"
+            help COMMAND: more about one\n\
+            help refused: what the refusals say\n\
+            help refused NUMBER: one of them, and what can be done\n"
         }
     }
 }
@@ -169,7 +180,7 @@ fn example(topic: Topic) -> &'static str
     ensures { result.now ≡ example topic }
 {
     match topic {
-        Topic::Commands => "",
+        Topic::Commands | Topic::Refusals | Topic::Refusal(_) => "",
         Topic::Branch => "branch anna main\n",
         Topic::Record => "record main hello edit notes 1\n+hello\nend\n",
         Topic::Pull => "pull anna main\n",

@@ -1,0 +1,59 @@
+-- What is told of refusals.
+use Rattle.std.specs.Prelude.{ℕ, List, [], ◌∷◌, ◌++◌, codes}
+use Rattle.camp_talk.specs.Pages.{page}
+use Rattle.camp_talk.specs.declared.questions.Reason.{Reason}
+use Rattle.camp_talk.specs.declared.questions.Reason.TheVariants as reason
+
+-- why something is refused, in the order of the numbers
+abbrev pub reasons : List Reason
+reasons =
+    reason.BadName ∷ reason.BadPath ∷ reason.BadLine ∷ reason.NoBranch ∷ reason.BranchExists ∷ reason.PatchExists
+    ∷ reason.NoPatch ∷ reason.NothingToDo ∷ reason.TooLarge ∷ reason.DoesNotApply ∷ reason.Depends ∷ reason.Diverged ∷ reason.NoMerge ∷ reason.SameBranch ∷ []
+
+-- how a refusal is written, and what it says; the first three are told as faults
+abbrev pub saying : Reason → List ℕ
+saying reason.BadName = page (codes "1: a word is no name; it is told as the fault bad name" ∷ [])
+saying reason.BadPath = page (codes "2: a word is no path; it is told as the fault bad path" ∷ [])
+saying reason.BadLine = page (codes "3: a line is too long; it is told as the fault bad line" ∷ [])
+saying reason.NoBranch = page (codes "refused 4 BRANCH: there is no such branch" ∷ [])
+saying reason.BranchExists = page (codes "refused 5 BRANCH: there is such a branch already" ∷ [])
+saying reason.PatchExists = page (codes "refused 6 NAME: some branch has a patch of this name" ∷ [])
+saying reason.NoPatch = page (codes "refused 7 NAME: the branch has no such patch" ∷ [])
+saying reason.NothingToDo = page (codes "refused 8: nothing to do, TO has all that would be pulled" ∷ [])
+saying reason.TooLarge = page (codes "refused 9: a limit would be passed" ∷ [])
+saying reason.DoesNotApply = page (codes "refused 10: a change does not apply to the files as they are" ∷ [])
+saying reason.Depends = page (codes "refused 11 PATCH ON: PATCH stands on ON" ∷ [])
+saying reason.Diverged = page (codes "refused 12 NAME: two branches have this patch in forms that do not agree" ∷ [])
+saying reason.NoMerge = page (codes "refused 13 LEFT RIGHT: LEFT of TO and RIGHT of FROM do not merge" ∷ [])
+saying reason.SameBranch = page (codes "refused 14 BRANCH: a branch does not pull from itself" ∷ [])
+
+-- what can be done about it
+abbrev pub cure : Reason → List ℕ
+cure reason.BadName = page (codes "A name has 1 to 40 of a to z, 0 to 9 and -, and begins with no -. Write it so." ∷ [])
+cure reason.BadPath = page (
+    codes "A path has 1 to 200 printing ASCII characters and no blank. Between its / no part is" ∷
+    codes "empty, . or .. and so it begins and ends with no /." ∷ [])
+cure reason.BadLine = page (codes "A line of a body has 4096 bytes at most behind its sign. Cut it in two." ∷ [])
+cure reason.NoBranch = page (codes "branches tells which there are; branch makes one." ∷ [])
+cure reason.BranchExists = page (codes "Take another name." ∷ [])
+cure reason.PatchExists = page (codes "Take another name. To have that patch here, pull it." ∷ [])
+cure reason.NoPatch = page (codes "names tells which it has; missing tells what another branch has." ∷ [])
+cure reason.NothingToDo = page (codes "There is nothing to mend." ∷ [])
+cure reason.TooLarge = page (
+    codes "The limits: 256 branches, 4096 changes in a branch, 65535 lines in a side of an edit," ∷
+    codes "1000000 lines in a file. Cut the edit or the patch in parts, or record on a new branch." ∷ [])
+cure reason.DoesNotApply = page (
+    codes "add wants no file, remove a file without lines, and an edit its old lines at LINE." ∷
+    codes "file BRANCH PATH tells what is there." ∷ [])
+cure reason.Depends = page (
+    codes "Pull ON too: along tells all that a pull has to list. Or obliterate PATCH too: held" ∷
+    codes "tells all that has to go." ∷ [])
+cure reason.Diverged = page (
+    codes "Or it can't be brought before what one of them alone has. Obliterate it in one of them," ∷
+    codes "with what stands on it, and pull again." ∷ [])
+cure reason.NoMerge = page (codes "Pull without RIGHT, or obliterate LEFT in TO first." ∷ [])
+cure reason.SameBranch = page (codes "Name another branch." ∷ [])
+
+-- what is told of a refusal
+abbrev pub refusal_text : Reason → List ℕ
+refusal_text reason = saying reason ++ cure reason

@@ -1,0 +1,115 @@
+//! What is told of refusals.
+ghost use Rattle.std.specs.Prelude.{◌≡◌, IfOk};
+ghost use Rattle.std.specs.List.{flat_map};
+ghost use Rattle.camp_talk.specs.Refusals.{cure, reasons, refusal_text, saying};
+
+use crate::questions::Reason;
+use std::alloc::{AllocError, Global};
+
+/// What each refusal says.
+pub(crate) fn all_sayings(alloc: Global) -> Result<Vec<u8>, AllocError>
+    ensures { IfOk result (λ text. text.items ≡ flat_map saying reasons) }
+{
+    let mut text = Vec::new(alloc);
+    let reasons = reasons();
+    for reason in &reasons {
+        text.extend_from_slice(saying(*reason).as_bytes())?;
+    }
+    Ok(text)
+}
+
+/// What a refusal says, and what can be done about it.
+pub(crate) fn refusal_text(alloc: Global, reason: Reason) -> Result<Vec<u8>, AllocError>
+    ensures { IfOk result (λ text. text.items ≡ refusal_text reason) }
+{
+    let mut text = Vec::new(alloc);
+    text.extend_from_slice(saying(reason).as_bytes())?;
+    text.extend_from_slice(cure(reason).as_bytes())?;
+    Ok(text)
+}
+
+// Why something is refused, in the order of the numbers.
+fn reasons() -> [Reason; 14]
+    ensures { result ≡ reasons }
+{
+    [
+        Reason::BadName,
+        Reason::BadPath,
+        Reason::BadLine,
+        Reason::NoBranch,
+        Reason::BranchExists,
+        Reason::PatchExists,
+        Reason::NoPatch,
+        Reason::NothingToDo,
+        Reason::TooLarge,
+        Reason::DoesNotApply,
+        Reason::Depends,
+        Reason::Diverged,
+        Reason::NoMerge,
+        Reason::SameBranch,
+    ]
+}
+
+// How a refusal is written, and what it says.
+fn saying(reason: Reason) -> &'static str
+    ensures { result.now ≡ saying reason }
+{
+    match reason {
+        Reason::BadName => "1: a word is no name; it is told as the fault bad name\n",
+        Reason::BadPath => "2: a word is no path; it is told as the fault bad path\n",
+        Reason::BadLine => "3: a line is too long; it is told as the fault bad line\n",
+        Reason::NoBranch => "refused 4 BRANCH: there is no such branch\n",
+        Reason::BranchExists => "refused 5 BRANCH: there is such a branch already\n",
+        Reason::PatchExists => "refused 6 NAME: some branch has a patch of this name\n",
+        Reason::NoPatch => "refused 7 NAME: the branch has no such patch\n",
+        Reason::NothingToDo => "refused 8: nothing to do, TO has all that would be pulled\n",
+        Reason::TooLarge => "refused 9: a limit would be passed\n",
+        Reason::DoesNotApply => "refused 10: a change does not apply to the files as they are\n",
+        Reason::Depends => "refused 11 PATCH ON: PATCH stands on ON\n",
+        Reason::Diverged => {
+            "refused 12 NAME: two branches have this patch in forms that do not agree\n"
+        }
+        Reason::NoMerge => "refused 13 LEFT RIGHT: LEFT of TO and RIGHT of FROM do not merge\n",
+        Reason::SameBranch => "refused 14 BRANCH: a branch does not pull from itself\n",
+    }
+}
+
+// What can be done about a refusal.
+fn cure(reason: Reason) -> &'static str
+    ensures { result.now ≡ cure reason }
+{
+    match reason {
+        Reason::BadName => {
+            "A name has 1 to 40 of a to z, 0 to 9 and -, and begins with no -. Write it so.\n"
+        }
+        Reason::BadPath => {
+            "A path has 1 to 200 printing ASCII characters and no blank. Between its / no part is\n\
+            empty, . or .. and so it begins and ends with no /.\n"
+        }
+        Reason::BadLine =>
+            "A line of a body has 4096 bytes at most behind its sign. Cut it in two.\n",
+        Reason::NoBranch => "branches tells which there are; branch makes one.\n",
+        Reason::BranchExists => "Take another name.\n",
+        Reason::PatchExists => "Take another name. To have that patch here, pull it.\n",
+        Reason::NoPatch => "names tells which it has; missing tells what another branch has.\n",
+        Reason::NothingToDo => "There is nothing to mend.\n",
+        Reason::TooLarge => {
+            "The limits: 256 branches, 4096 changes in a branch, 65535 lines in a side of an edit,\n\
+            1000000 lines in a file. Cut the edit or the patch in parts, or record on a new branch.\n"
+        }
+        Reason::DoesNotApply => {
+            "add wants no file, remove a file without lines, and an edit its old lines at LINE.\n\
+            file BRANCH PATH tells what is there.\n"
+        }
+        Reason::Depends => {
+            "Pull ON too: along tells all that a pull has to list. Or obliterate PATCH too: held\n\
+            tells all that has to go.\n"
+        }
+        Reason::Diverged => {
+            "Or it can't be brought before what one of them alone has. Obliterate it in one of them,\n\
+            with what stands on it, and pull again.\n"
+        }
+        Reason::NoMerge => "Pull without RIGHT, or obliterate LEFT in TO first.\n",
+        Reason::SameBranch => "Name another branch.\n",
+    }
+}
