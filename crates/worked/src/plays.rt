@@ -14,7 +14,6 @@ use crate::plays::faults::PlayFault;
 use crate::plays::runs::{append_again, joined, run, run_of};
 use crate::plays::seatings::Seating;
 use crate::schedules::blocks::play_block;
-use crate::values::calls::find;
 use crate::wants::Wants;
 use bstr::ByteSlice;
 use camp_head::HeadFault;
@@ -30,33 +29,18 @@ pub(crate) struct Stage {
     seating: Option<Seating>,
 }
 
-/// What a line says that is no command.
-#[derive(Clone, Copy)]
-enum Word {
-    Book,
-    Head,
-    History,
-    Meet,
-    Seen,
-    Adopted,
-    HandOn,
-}
-
-const WORDS: [(&[u8], Word); 7] = [
-    (b"book", Word::Book),
-    (b"head", Word::Head),
-    (b"history", Word::History),
-    (b"meet", Word::Meet),
-    (b"seen", Word::Seen),
-    (b"adopted", Word::Adopted),
-    (b"hand-on", Word::HandOn),
-];
-
 /// Whether an entry is none of a table of values: it begins with one of these words, or is a run, a schedule
 /// or a command.
 pub(crate) fn is_play(line: &[u8]) -> bool {
     let (word, _) = split_word(line);
-    find(&WORDS, word).is_some() || is_run(line) || is_command(line)
+    is_word(word) || is_run(line) || is_command(line)
+}
+
+fn is_word(word: &[u8]) -> bool {
+    matches!(
+        word,
+        b"book" | b"head" | b"history" | b"meet" | b"seen" | b"adopted" | b"hand-on"
+    )
 }
 
 /// The first word of a line, and what stands behind it.
@@ -138,28 +122,15 @@ impl Stage {
         wants: &mut Wants,
     ) -> Result<(), PlayFault> {
         let (word, rest) = split_word(line);
-        match find(&WORDS, word) {
-            Some(word) => self.do_word(alloc, word, rest, text, wants),
-            None => Err(NO_LINE),
-        }
-    }
-
-    fn do_word(
-        &mut self,
-        alloc: Global,
-        word: Word,
-        rest: &[u8],
-        text: &mut Vec<u8>,
-        wants: &mut Wants,
-    ) -> Result<(), PlayFault> {
         match word {
-            Word::Book => self.begin(alloc, wants),
-            Word::Head => self.open(alloc, rest, text, wants),
-            Word::History => self.tell_history(rest, text, wants),
-            Word::Meet => self.meet(rest, text, wants),
-            Word::Seen => self.tell_seen(alloc, rest, text, wants),
-            Word::Adopted => self.tell_adopted(alloc, rest, text, wants),
-            Word::HandOn => self.seating()?.hand_on(number(rest)?, wants),
+            b"book" => self.begin(alloc, wants),
+            b"head" => self.open(alloc, rest, text, wants),
+            b"history" => self.tell_history(rest, text, wants),
+            b"meet" => self.meet(rest, text, wants),
+            b"seen" => self.tell_seen(alloc, rest, text, wants),
+            b"adopted" => self.tell_adopted(alloc, rest, text, wants),
+            b"hand-on" => self.seating()?.hand_on(number(rest)?, wants),
+            _ => Err(NO_LINE),
         }
     }
 

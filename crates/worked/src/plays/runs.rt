@@ -1,7 +1,6 @@
 //! Books and heads: scripts that are run in one thread, over a lock or over a head.
 use crate::plays::faults::PlayFault;
 use crate::plays::ranks::ranked;
-use crate::values::calls::find;
 use crate::wants::Wants;
 use camp_run::{NoGate, RunFault, run_book, run_head, run_locked};
 use std::alloc::{AllocError, Global};
@@ -41,14 +40,13 @@ pub(crate) fn run_of(line: &[u8]) -> Option<Manner> {
 }
 
 fn way_of(line: &[u8]) -> Option<Way> {
-    find(&WAYS, line)
+    match line {
+        b"run book" => Some(Way::Book),
+        b"run locked" => Some(Way::Locked),
+        b"run head" => Some(Way::Head),
+        _ => None,
+    }
 }
-
-pub(crate) const WAYS: [(&[u8], Way); 3] = [
-    (b"run book", Way::Book),
-    (b"run locked", Way::Locked),
-    (b"run head", Way::Head),
-];
 
 /// Runs a script, again where the run, or its writer, wanted memory and nothing was written, and appends
 /// what it writes.

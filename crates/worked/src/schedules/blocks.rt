@@ -12,7 +12,6 @@ use crate::schedules::scripts::{append_clients, append_race};
 use crate::schedules::{
     counts_of_drawn, counts_over_head, counts_over_lock, output_of_each, output_over_head,
 };
-use crate::values::calls::find;
 use crate::wants::Wants;
 use bstr::ByteSlice;
 use std::alloc::Global;
@@ -60,20 +59,6 @@ fn between<'a>(line: &'a [u8], front: &[u8], end: &[u8]) -> Option<&'a [u8]> {
     line.strip_prefix(front)?.strip_suffix(end)
 }
 
-/// The words that lines begin with which are no lines of the script.
-#[derive(Clone, Copy)]
-enum Word {
-    Wait,
-    Clients,
-    Race,
-}
-
-const WORDS: [(&[u8], Word); 3] = [
-    (b"wait", Word::Wait),
-    (b"clients", Word::Clients),
-    (b"race", Word::Race),
-];
-
 /// Where seats wait for each other, and a script.
 #[derive(Drop)]
 struct Block {
@@ -98,11 +83,11 @@ impl Block {
 
     fn read_line(&mut self, line: &[u8]) -> Result<(), PlayFault> {
         let (word, rest) = split_word(line);
-        match find(&WORDS, word) {
-            Some(Word::Wait) => self.delays.push(rest),
-            Some(Word::Clients) => Ok(append_clients(&mut self.script, numbers_of(rest)?)?),
-            Some(Word::Race) => Ok(append_race(&mut self.script, numbers_of(rest)?)?),
-            None => append_line(&mut self.script, line),
+        match word {
+            b"wait" => self.delays.push(rest),
+            b"clients" => Ok(append_clients(&mut self.script, numbers_of(rest)?)?),
+            b"race" => Ok(append_race(&mut self.script, numbers_of(rest)?)?),
+            _ => append_line(&mut self.script, line),
         }
     }
 

@@ -1,6 +1,6 @@
 //! Readers and writers that serve a few bytes a call, are interrupted, and fail at each of their calls.
 use crate::plays::faults::PlayFault;
-use crate::plays::runs::{WAYS, Way, run_way};
+use crate::plays::runs::{Way, run_way};
 use crate::schedules::output_of;
 use camp_run::RunFault;
 use std::alloc::Global;
@@ -250,8 +250,8 @@ fn end_each_way<R: Threads + Wait + Sync>(
     served: usize,
     told: &mut Told,
 ) -> Result<(), PlayFault> {
-    for (_, way) in &WAYS {
-        end_one_way(rt, alloc, plan, *way, served, told)?;
+    for way in [Way::Book, Way::Locked, Way::Head] {
+        end_one_way(rt, alloc, plan, way, served, told)?;
     }
     Ok(())
 }

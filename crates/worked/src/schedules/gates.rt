@@ -2,7 +2,6 @@
 use crate::plays::commands::number;
 use crate::plays::faults::PlayFault;
 use crate::plays::split_word;
-use crate::values::calls::find;
 use bstr::ByteSlice;
 use camp_run::Gate;
 use std::alloc::Global;
@@ -18,12 +17,6 @@ enum Kind {
     Exchange,
     After,
 }
-
-const KINDS: [(&[u8], Kind); 3] = [
-    (b"before", Kind::Before),
-    (b"exchange", Kind::Exchange),
-    (b"after", Kind::After),
-];
 
 /// What a gate is told: of a call by its number, of an exchange by how many its call has lost.
 #[derive(Clone, Copy, PartialEq, Eq)]
@@ -135,8 +128,17 @@ fn moment_of(words: &[u8]) -> Result<Moment, PlayFault> {
     let (kind, rest) = split_word(words);
     let (seat, count) = split_word(rest);
     Ok(Moment {
-        kind: find(&KINDS, kind).ok_or(NO_DELAY)?,
+        kind: kind_of(kind)?,
         seat: number(seat)?,
         number: number(count)?,
     })
+}
+
+fn kind_of(word: &[u8]) -> Result<Kind, PlayFault> {
+    match word {
+        b"before" => Ok(Kind::Before),
+        b"exchange" => Ok(Kind::Exchange),
+        b"after" => Ok(Kind::After),
+        _ => Err(NO_DELAY),
+    }
 }

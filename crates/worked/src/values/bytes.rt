@@ -1,59 +1,22 @@
 //! Which bytes, and how many, names, paths and lines may have.
 
 use crate::tables::Table;
-use crate::values::arguments::One;
-use crate::values::calls::{Asked, CallLine, ask, find};
+use crate::values::calls::CallLine;
 use crate::values::results::{Outcome, none, word};
 use crate::wants::Wants;
 use camp_base::{BaseFault, Line, Name, Path};
 use camp_notation::{NotationError, word_text};
 use std::alloc::Global;
 
-/// The calls on bytes.
-#[derive(Clone, Copy)]
-pub(crate) enum ByteCall {
-    Kind(OfKind),
-}
-
-const CALLS: [(&[u8], ByteCall); 3] = [
-    (b"bytes_alone", ByteCall::Kind(OfKind::Alone)),
-    (b"bytes_within", ByteCall::Kind(OfKind::Within)),
-    (b"lengths", ByteCall::Kind(OfKind::Lengths)),
-];
-
-impl ByteCall {
-    /// The call of a name.
-    pub(crate) fn of(name: &[u8]) -> Option<ByteCall> {
-        find(&CALLS, name)
-    }
-
-    /// Reads the arguments of a line, and makes the call.
-    pub(crate) fn ask(self, asked: CallLine<'_>, wants: &mut Wants) -> Outcome {
-        match self {
-            ByteCall::Kind(call) => ask(asked, wants, call),
-        }
-    }
-}
-
-/// Which bytes, or how many, a value of a kind may have.
-#[derive(Clone, Copy)]
-pub(crate) enum OfKind {
-    Alone,
-    Within,
-    Lengths,
-}
-
-impl Asked for OfKind {
-    type On = One<Vec<u8>>;
-
-    fn answer(self, table: &Table, on: &One<Vec<u8>>) -> Outcome {
-        let word = &on.first;
-        match self {
-            OfKind::Alone => bytes_alone(table, word),
-            OfKind::Within => bytes_within(table, word),
-            OfKind::Lengths => lengths(table, word),
-        }
-    }
+/// The result of a call on a kind of value that is made of bytes.
+pub(crate) fn answer(line: CallLine<'_>, wants: &mut Wants) -> Option<Outcome> {
+    let outcome = match line.name {
+        b"bytes_alone" => line.one(wants, bytes_alone),
+        b"bytes_within" => line.one(wants, bytes_within),
+        b"lengths" => line.one(wants, lengths),
+        _ => return None,
+    };
+    Some(outcome)
 }
 
 /// A kind of value that is made of bytes.
@@ -65,74 +28,35 @@ enum Kind {
 }
 
 /// The bytes that may stand alone in a name, a path or a line, all 256 of them tried.
-fn bytes_alone(table: &Table, kind: &Vec<u8>) -> Outcome {
-    match kind_of(kind) {
-        Some(kind) => bytes_text(table, alone(table.alloc(), kind)),
-        None => word(table, "no kind"),
-    }
-}
-
-fn bytes_text(table: &Table, bytes: Result<Vec<u8>, NotationError>) -> Outcome {
-    match bytes {
-        Ok(bytes) => Ok(word_text(table.alloc(), &bytes)?),
-        Err(why) => Err(why),
-    }
-}
-
-fn alone(alloc: Global, kind: Kind) -> Result<Vec<u8>, NotationError> {
-    let mut bytes = Vec::new(alloc);
-    for byte in 0..=255 {
-        if is_made(alloc, kind, &[byte])? {
-            bytes.push(byte)?;
-        }
-    }
-    Ok(bytes)
+fn bytes_alone(table: &Table, word: &Vec<u8>) -> Outcome {
+    bytes_text(table, word, false)
 }
 
 /// The bytes that may stand between two letters of a name, a path or a line.
-fn bytes_within(table: &Table, kind: &Vec<u8>) -> Outcome {
-    match kind_of(kind) {
-        Some(kind) => bytes_text(table, within(table.alloc(), kind)),
-        None => word(table, "no kind"),
-    }
+fn bytes_within(table: &Table, word: &Vec<u8>) -> Outcome {
+    bytes_text(table, word, true)
 }
 
-fn within(alloc: Global, kind: Kind) -> Result<Vec<u8>, NotationError> {
-    let mut bytes = Vec::new(alloc);
-    for byte in 0..=255 {
-        if is_made(alloc, kind, &[b'a', byte, b'z'])? {
-            bytes.push(byte)?;
-        }
-    }
-    Ok(bytes)
+fn bytes_text(table: &Table, word: &[u8], is_within: bool) -> Outcome {
+    let Some(kind) = Kind::of(word) else {
+        return no_kind(table);
+    };
+    let bytes = kind.bytes(table.alloc(), is_within)?;
+    Ok(word_text(table.alloc(), &bytes)?)
+}
+
+fn no_kind(table: &Table) -> Outcome {
+    word(table, "no kind")
 }
 
 /// From how many to how many bytes a name, a path or a line may have, up to 5,000 tried. It is told
 /// where there are gaps.
-fn lengths(table: &Table, kind: &Vec<u8>) -> Outcome {
-    match kind_of(kind) {
-        Some(kind) => lengths_text(table, lengths_of(table.alloc(), kind)),
-        None => word(table, "no kind"),
-    }
-}
-
-fn lengths_text(table: &Table, lengths: Result<Vec<u32>, NotationError>) -> Outcome {
-    match lengths {
-        Ok(lengths) => range_text(table, &lengths),
-        Err(why) => Err(why),
-    }
-}
-
-fn lengths_of(alloc: Global, kind: Kind) -> Result<Vec<u32>, NotationError> {
-    let mut bytes = Vec::new(alloc);
-    let mut lengths = Vec::new(alloc);
-    for length in 0..=5_000 {
-        if is_made(alloc, kind, &bytes)? {
-            lengths.push(length)?;
-        }
-        bytes.push(b'a')?;
-    }
-    Ok(lengths)
+fn lengths(table: &Table, word: &Vec<u8>) -> Outcome {
+    let Some(kind) = Kind::of(word) else {
+        return no_kind(table);
+    };
+    let lengths = kind.lengths(table.alloc())?;
+    range_text(table, &lengths)
 }
 
 fn range_text(table: &Table, numbers: &[u32]) -> Outcome {
@@ -148,49 +72,54 @@ fn range_text(table: &Table, numbers: &[u32]) -> Outcome {
     Ok(format!(in table.alloc(); "{first} to {last}{gaps}")?)
 }
 
-const KINDS: [(&[u8], Kind); 3] = [
-    (b"name", Kind::Name),
-    (b"path", Kind::Path),
-    (b"line", Kind::Line),
-];
-
-fn kind_of(word: &[u8]) -> Option<Kind> {
-    find(&KINDS, word)
-}
-
-/// Whether such a value is made of these bytes, and has them.
-fn is_made(alloc: Global, kind: Kind, bytes: &[u8]) -> Result<bool, NotationError> {
-    match kind {
-        Kind::Name => is_name(bytes),
-        Kind::Path => is_path(alloc, bytes),
-        Kind::Line => is_line(alloc, bytes),
+impl Kind {
+    fn of(word: &[u8]) -> Option<Kind> {
+        match word {
+            b"name" => Some(Kind::Name),
+            b"path" => Some(Kind::Path),
+            b"line" => Some(Kind::Line),
+            _ => None,
+        }
     }
-}
 
-fn is_name(bytes: &[u8]) -> Result<bool, NotationError> {
-    match Name::new(bytes) {
-        Ok(name) => Ok(name.bytes() == bytes),
-        Err(why) => refuses(why),
+    fn bytes(self, alloc: Global, is_within: bool) -> Result<Vec<u8>, NotationError> {
+        let mut bytes = Vec::new(alloc);
+        for byte in 0..=255 {
+            let is_one = if is_within {
+                self.is_made(alloc, &[b'a', byte, b'z'])?
+            } else {
+                self.is_made(alloc, &[byte])?
+            };
+            if is_one {
+                bytes.push(byte)?;
+            }
+        }
+        Ok(bytes)
     }
-}
 
-fn is_path(alloc: Global, bytes: &[u8]) -> Result<bool, NotationError> {
-    match Path::new(alloc, bytes) {
-        Ok(path) => Ok(path.bytes() == bytes),
-        Err(why) => refuses(why),
+    fn lengths(self, alloc: Global) -> Result<Vec<u32>, NotationError> {
+        let mut bytes = Vec::new(alloc);
+        let mut lengths = Vec::new(alloc);
+        for length in 0..=5_000 {
+            if self.is_made(alloc, &bytes)? {
+                lengths.push(length)?;
+            }
+            bytes.push(b'a')?;
+        }
+        Ok(lengths)
     }
-}
 
-fn is_line(alloc: Global, bytes: &[u8]) -> Result<bool, NotationError> {
-    match Line::new(alloc, bytes) {
-        Ok(line) => Ok(line.bytes() == bytes),
-        Err(why) => refuses(why),
-    }
-}
-
-fn refuses(why: BaseFault) -> Result<bool, NotationError> {
-    match why {
-        BaseFault::Memory => Err(NotationError::Memory),
-        _ => Ok(false),
+    /// Whether such a value is made of these bytes, and has them.
+    fn is_made(self, alloc: Global, bytes: &[u8]) -> Result<bool, NotationError> {
+        let made = match self {
+            Kind::Name => Name::new(bytes).map(|name| name.bytes() == bytes),
+            Kind::Path => Path::new(alloc, bytes).map(|path| path.bytes() == bytes),
+            Kind::Line => Line::new(alloc, bytes).map(|line| line.bytes() == bytes),
+        };
+        match made {
+            Ok(is_same) => Ok(is_same),
+            Err(BaseFault::Memory) => Err(NotationError::Memory),
+            Err(_) => Ok(false),
+        }
     }
 }

@@ -1,19 +1,11 @@
 //! Values: the calls, looked for among those on one kind of value after the other.
 use crate::tables::Table;
-use crate::values::arguments::Arguments;
-use crate::values::bases::BaseCall;
-use crate::values::bytes::ByteCall;
-use crate::values::catch_lists::CatchListCall;
-use crate::values::catches::CatchCall;
-use crate::values::clients::ClientCall;
-use crate::values::contexts::ContextCall;
-use crate::values::lists::ListCall;
-use crate::values::primitives::PrimitiveCall;
+use crate::values::arguments::{Argument, Arguments, One, Three, Two};
 use crate::values::results::{Outcome, word};
-use crate::values::sets::SetCall;
-use crate::values::shares::ShareCall;
 use crate::values::splits::split;
-use crate::values::trees::TreeCall;
+use crate::values::{
+    bases, bytes, catch_lists, catches, clients, contexts, lists, primitives, sets, shares, trees,
+};
 use crate::wants::Wants;
 use camp_notation::NotationError;
 
@@ -27,56 +19,106 @@ pub(crate) struct CallLine<'a> {
 
 /// The result of a call, which is looked for among the calls on one kind of value after the other.
 pub(crate) fn answer(line: CallLine<'_>, wants: &mut Wants) -> Outcome {
-    if let Some(call) = BaseCall::of(line.name) {
-        return call.ask(line, wants);
+    if let Some(outcome) = bases::answer(line, wants) {
+        return outcome;
     }
-    if let Some(call) = ByteCall::of(line.name) {
-        return call.ask(line, wants);
+    if let Some(outcome) = bytes::answer(line, wants) {
+        return outcome;
     }
-    if let Some(call) = TreeCall::of(line.name) {
-        return call.ask(line, wants);
+    if let Some(outcome) = trees::answer(line, wants) {
+        return outcome;
     }
-    if let Some(call) = PrimitiveCall::of(line.name) {
-        return call.ask(line, wants);
+    if let Some(outcome) = primitives::answer(line, wants) {
+        return outcome;
     }
-    if let Some(call) = ListCall::of(line.name) {
-        return call.ask(line, wants);
+    if let Some(outcome) = lists::answer(line, wants) {
+        return outcome;
     }
-    if let Some(call) = ContextCall::of(line.name) {
-        return call.ask(line, wants);
+    if let Some(outcome) = contexts::answer(line, wants) {
+        return outcome;
     }
-    if let Some(call) = SetCall::of(line.name) {
-        return call.ask(line, wants);
+    if let Some(outcome) = sets::answer(line, wants) {
+        return outcome;
     }
-    if let Some(call) = CatchCall::of(line.name) {
-        return call.ask(line, wants);
+    if let Some(outcome) = catches::answer(line, wants) {
+        return outcome;
     }
-    if let Some(call) = CatchListCall::of(line.name) {
-        return call.ask(line, wants);
+    if let Some(outcome) = catch_lists::answer(line, wants) {
+        return outcome;
     }
-    if let Some(call) = ShareCall::of(line.name) {
-        return call.ask(line, wants);
+    if let Some(outcome) = shares::answer(line, wants) {
+        return outcome;
     }
-    if let Some(call) = ClientCall::of(line.name) {
-        return call.ask(line, wants);
+    if let Some(outcome) = clients::answer(line, wants) {
+        return outcome;
     }
     word(line.table, "no such call")
-}
-
-/// The call of a name.
-pub(crate) fn find<C: Copy>(calls: &[(&[u8], C)], name: &[u8]) -> Option<C> {
-    for (word, call) in calls {
-        if *word == name {
-            return Some(*call);
-        }
-    }
-    None
 }
 
 impl<'a> CallLine<'a> {
     /// Whether the first argument is written as a catch.
     pub(crate) fn is_of_catches(self) -> bool {
         matches!(self.text.first(), Some(b'[' | b'('))
+    }
+
+    /// The result of a call, whose arguments are read from the line. It is made again where it wanted memory
+    /// and left its arguments as they were.
+    pub(crate) fn ask<A: Arguments, F: Fn(&Table, &A) -> Outcome>(
+        self,
+        wants: &mut Wants,
+        call: F,
+    ) -> Outcome
+        requires { F.IsAlwaysCallable call }
+    {
+        let on = self.read::<A>(wants)?;
+        match call(self.table, &on) {
+            Err(NotationError::Memory) => {
+                if self.has_kept(&on, wants)? {
+                    call(self.table, &on)
+                } else {
+                    word(self.table, "out of memory, and other arguments")
+                }
+            }
+            outcome => outcome,
+        }
+    }
+
+    /// The result of a call with one argument.
+    pub(crate) fn one<A: Argument, F: Fn(&Table, &A) -> Outcome>(
+        self,
+        wants: &mut Wants,
+        call: F,
+    ) -> Outcome
+        requires { F.IsAlwaysCallable call }
+    {
+        self.ask(wants, |table: &Table, on: &One<A>| call(table, &on.first))
+    }
+
+    /// The result of a call with two arguments.
+    pub(crate) fn two<A: Argument, B: Argument, F: Fn(&Table, &A, &B) -> Outcome>(
+        self,
+        wants: &mut Wants,
+        call: F,
+    ) -> Outcome
+        requires { F.IsAlwaysCallable call }
+    {
+        self.ask(wants, |table: &Table, on: &Two<A, B>| {
+            call(table, &on.first, &on.rest.first)
+        })
+    }
+
+    /// The result of a call with three arguments.
+    pub(crate) fn three<
+        A: Argument,
+        B: Argument,
+        C: Argument,
+        F: Fn(&Table, &A, &B, &C) -> Outcome,
+    >(self, wants: &mut Wants, call: F) -> Outcome
+        requires { F.IsAlwaysCallable call }
+    {
+        self.ask(wants, |table: &Table, on: &Three<A, B, C>| {
+            call(table, &on.first, &on.rest.first, &on.rest.rest.first)
+        })
     }
 
     /// The arguments, read again where that wanted memory.
@@ -104,33 +146,5 @@ impl<'a> CallLine<'a> {
         wants.note();
         let texts = split(self.table.alloc(), self.text)?;
         arguments.are_kept(self.table, &texts)
-    }
-
-    /// What is told of arguments that a call has changed.
-    fn changed(self) -> Outcome {
-        word(self.table, "out of memory, and other arguments")
-    }
-}
-
-/// The calls on arguments of one kind.
-pub(crate) trait Asked: Copy {
-    type On: Arguments;
-
-    /// The result of the call.
-    fn answer(self, table: &Table, on: &Self::On) -> Outcome;
-}
-
-/// The result of a call. It is made again where it wanted memory and left its arguments as they were.
-pub(crate) fn ask<C: Asked>(line: CallLine<'_>, wants: &mut Wants, call: C) -> Outcome {
-    let on = line.read::<C::On>(wants)?;
-    match call.answer(line.table, &on) {
-        Err(NotationError::Memory) => {
-            if line.has_kept(&on, wants)? {
-                call.answer(line.table, &on)
-            } else {
-                line.changed()
-            }
-        }
-        outcome => outcome,
     }
 }

@@ -1,7 +1,7 @@
 //! Values: the calls on lists of catches.
 use crate::tables::Table;
-use crate::values::arguments::{One, Then, Two};
-use crate::values::calls::{Asked, CallLine, ask, find};
+use crate::values::arguments::Then;
+use crate::values::calls::CallLine;
 use crate::values::results::{Outcome, catch_list_text, joined, key_text};
 use crate::wants::Wants;
 use camp_base::Name;
@@ -11,90 +11,28 @@ use camp_prim::{Key, Label};
 use camp_share::{Shared, SharedMap};
 use std::alloc::AllocError;
 
-/// The calls on lists of catches.
-#[derive(Clone, Copy)]
-pub(crate) enum CatchListCall {
-    Read,
-    Labels(OfLabels),
-    MergeLists,
-}
-
-const CALLS: [(&[u8], CatchListCall); 4] = [
-    (b"read_catches", CatchListCall::Read),
-    (b"arrange", CatchListCall::Labels(OfLabels::Arrange)),
-    (b"align", CatchListCall::Labels(OfLabels::Align)),
-    (b"merge_lists", CatchListCall::MergeLists),
-];
-
-impl CatchListCall {
-    /// The call of a name.
-    pub(crate) fn of(name: &[u8]) -> Option<CatchListCall> {
-        find(&CALLS, name)
-    }
-
-    /// Reads the arguments of a line, and makes the call.
-    pub(crate) fn ask(self, asked: CallLine<'_>, wants: &mut Wants) -> Outcome {
-        match self {
-            CatchListCall::Read => ask(asked, wants, Read),
-            CatchListCall::Labels(call) => ask(asked, wants, call),
-            CatchListCall::MergeLists => ask(asked, wants, MergeLists),
-        }
-    }
-}
-
-/// A list of catches.
-#[derive(Clone, Copy)]
-pub(crate) struct Read;
-
-impl Asked for Read {
-    type On = One<Catches>;
-
-    fn answer(self, table: &Table, on: &One<Catches>) -> Outcome {
-        catch_list_text(table, &on.first)
-    }
-}
-
-/// Calls on a list of catches and the labels that stand behind it.
-#[derive(Clone, Copy)]
-pub(crate) enum OfLabels {
-    Arrange,
-    Align,
-}
-
-impl Asked for OfLabels {
-    type On = Then<Catches, Vec<Label>>;
-
-    fn answer(self, table: &Table, on: &Then<Catches, Vec<Label>>) -> Outcome {
-        match self {
-            OfLabels::Arrange => arranged(table, &on.first, &on.rest),
-            OfLabels::Align => aligned(table, &on.first, &on.rest),
-        }
-    }
-}
-
-/// Two lists of catches merged.
-#[derive(Clone, Copy)]
-pub(crate) struct MergeLists;
-
-impl Asked for MergeLists {
-    type On = Two<Catches, Catches>;
-
-    fn answer(self, table: &Table, on: &Two<Catches, Catches>) -> Outcome {
-        merged(table, &on.first, &on.rest.first)
-    }
+/// The result of a call on lists of catches.
+pub(crate) fn answer(line: CallLine<'_>, wants: &mut Wants) -> Option<Outcome> {
+    let outcome = match line.name {
+        b"read_catches" => line.one(wants, read),
+        b"arrange" => line.ask(wants, arranged),
+        b"align" => line.ask(wants, aligned),
+        b"merge_lists" => line.two(wants, merged),
+        _ => return None,
+    };
+    Some(outcome)
 }
 
 type Catches = Vec<Shared<Catch>>;
 
-fn arranged(table: &Table, list: &Catches, labels: &[Label]) -> Outcome {
-    match names(table, labels) {
-        Ok(names) => arranged_by(table, list, &names),
-        Err(_) => Err(NotationError::Memory),
-    }
+fn read(table: &Table, list: &Catches) -> Outcome {
+    catch_list_text(table, list)
 }
 
-fn arranged_by(table: &Table, list: &Catches, names: &SharedMap<Name, ()>) -> Outcome {
-    match arrange(table.alloc(), list, names) {
+/// A list of catches, and the labels that stand behind it.
+fn arranged(table: &Table, on: &Then<Catches, Vec<Label>>) -> Outcome {
+    let names = names(table, &on.rest)?;
+    match arrange(table.alloc(), &on.first, &names) {
         Ok(arranged) => arranged_text(table, &arranged),
         Err(Unmade::Blocked(stuck)) => Ok(stuck_on(table, stuck)?),
         Err(Unmade::Memory) => Err(NotationError::Memory),
@@ -113,15 +51,9 @@ fn stuck_on(table: &Table, stuck: Stuck) -> Result<String, AllocError> {
     format!(in table.alloc(); "stuck {patch} on {on}")
 }
 
-fn aligned(table: &Table, list: &Catches, labels: &[Label]) -> Outcome {
-    match keys(table, labels) {
-        Ok(order) => aligned_by(table, list, &order),
-        Err(_) => Err(NotationError::Memory),
-    }
-}
-
-fn aligned_by(table: &Table, list: &Catches, order: &[Key]) -> Outcome {
-    match align(table.alloc(), list, order) {
+fn aligned(table: &Table, on: &Then<Catches, Vec<Label>>) -> Outcome {
+    let order = keys(table, &on.rest)?;
+    match align(table.alloc(), &on.first, &order) {
         Ok(aligned) => catch_list_text(table, &aligned),
         Err(Unmade::Blocked(key)) => Ok(stuck(table, key)?),
         Err(Unmade::Memory) => Err(NotationError::Memory),

@@ -1,8 +1,8 @@
 //! Clients of another object than the repository: numbers, each of which is inserted once. And the words of
 //! the faults of runs, and of the refusals of pulls.
 use crate::tables::Table;
-use crate::values::arguments::{End, Four, Three, Two};
-use crate::values::calls::{Asked, CallLine, ask, find};
+use crate::values::arguments::{End, Four};
+use crate::values::calls::CallLine;
 use crate::values::numbers::Numbers;
 use crate::values::results::{Outcome, joined, none, yes_or_no};
 use crate::wants::Wants;
@@ -17,101 +17,46 @@ use camp_script::{ScriptFault, WriteFault, append_reply};
 use std::alloc::{AllocError, Global};
 use std::io::ErrorKind;
 
-/// The calls on clients, and on the words of faults.
-#[derive(Clone, Copy)]
-pub(crate) enum ClientCall {
-    Serial,
-    HasExactly,
-    FaultWords,
-    PullRefusals,
-}
-
-const CALLS: [(&[u8], ClientCall); 4] = [
-    (b"serial", ClientCall::Serial),
-    (b"has_exactly", ClientCall::HasExactly),
-    (b"run_faults", ClientCall::FaultWords),
-    (b"pull_refusals", ClientCall::PullRefusals),
-];
-
-impl ClientCall {
-    /// The call of a name.
-    pub(crate) fn of(name: &[u8]) -> Option<ClientCall> {
-        find(&CALLS, name)
-    }
-
-    /// Reads the arguments of a line, and makes the call.
-    pub(crate) fn ask(self, asked: CallLine<'_>, wants: &mut Wants) -> Outcome {
-        match self {
-            ClientCall::Serial => ask(asked, wants, Serial),
-            ClientCall::HasExactly => ask(asked, wants, HasExactly),
-            ClientCall::FaultWords => ask(asked, wants, FaultWords),
-            ClientCall::PullRefusals => ask(asked, wants, PullRefusals),
-        }
-    }
+/// The result of a call on clients, or on the words of faults.
+pub(crate) fn answer(line: CallLine<'_>, wants: &mut Wants) -> Option<Outcome> {
+    let outcome = match line.name {
+        b"serial" => line.three(wants, serial_answers),
+        b"has_exactly" => line.ask(wants, has_exactly_told),
+        b"run_faults" => line.ask(wants, fault_words),
+        b"pull_refusals" => line.two(wants, pull_refusals),
+        _ => return None,
+    };
+    Some(outcome)
 }
 
 /// The answers to three sections one after the other, each of which inserts numbers; the last one then asks
 /// for them.
-#[derive(Clone, Copy)]
-pub(crate) struct Serial;
-
-impl Asked for Serial {
-    type On = Three<Numbers, Numbers, Numbers>;
-
-    fn answer(self, table: &Table, on: &Three<Numbers, Numbers, Numbers>) -> Outcome {
-        let lists = [&on.first, &on.rest.first, &on.rest.rest.first];
-        let sections = sections_of(table.alloc(), lists)?;
-        answers_text(table, &sections)
-    }
+fn serial_answers(table: &Table, first: &Numbers, second: &Numbers, third: &Numbers) -> Outcome {
+    let sections = sections_of(table.alloc(), [first, second, third])?;
+    answers_text(table, &sections)
 }
 
 /// Whether a history, in which seat 0 inserts 5 and then seat 1 inserts 3, has exactly what two sections
 /// tell: each inserts a number, and is told its position, or with 0 that it is there.
-#[derive(Clone, Copy)]
-pub(crate) struct HasExactly;
-
-impl Asked for HasExactly {
-    type On = Four<u32, u32, u32, u32>;
-
-    fn answer(self, table: &Table, on: &Four<u32, u32, u32, u32>) -> Outcome {
-        let (first, second) = (on.first, on.rest.first);
-        let (told, other) = (on.rest.rest.first, on.rest.rest.rest.first);
-        let fits = fits(table.alloc(), [first, second], [told, other])?;
-        yes_or_no(table, fits)
-    }
-}
-
-/// The words of every fault of a run, of a section over a lock, of a head, of a call and of a script.
-#[derive(Clone, Copy)]
-pub(crate) struct FaultWords;
-
-impl Asked for FaultWords {
-    type On = End;
-
-    fn answer(self, table: &Table, _on: &End) -> Outcome {
-        fault_words(table)
-    }
+fn has_exactly_told(table: &Table, on: &Four<u32, u32, u32, u32>) -> Outcome {
+    let (first, second) = (on.first, on.rest.first);
+    let (told, other) = (on.rest.rest.first, on.rest.rest.rest.first);
+    let fits = fits(table.alloc(), [first, second], [told, other])?;
+    yes_or_no(table, fits)
 }
 
 /// The texts of the refusals of a pull that name two patches, or the first of them.
-#[derive(Clone, Copy)]
-pub(crate) struct PullRefusals;
-
-impl Asked for PullRefusals {
-    type On = Two<Name, Name>;
-
-    fn answer(self, table: &Table, on: &Two<Name, Name>) -> Outcome {
-        let (left, right) = (on.first, on.rest.first);
-        let depends = Refusal::Depends {
-            patch: left,
-            on: right,
-        };
-        let mut text = refusal_text(table.alloc(), depends)?;
-        for refusal in [Refusal::Diverged(left), Refusal::NoMerge { left, right }] {
-            text = joined(text, "; ", &refusal_text(table.alloc(), refusal)?)?;
-        }
-        Ok(text)
+fn pull_refusals(table: &Table, left: &Name, right: &Name) -> Outcome {
+    let (left, right) = (*left, *right);
+    let depends = Refusal::Depends {
+        patch: left,
+        on: right,
+    };
+    let mut text = refusal_text(table.alloc(), depends)?;
+    for refusal in [Refusal::Diverged(left), Refusal::NoMerge { left, right }] {
+        text = joined(text, "; ", &refusal_text(table.alloc(), refusal)?)?;
     }
+    Ok(text)
 }
 
 fn sections_of(alloc: Global, lists: [&Numbers; 3]) -> Result<Vec<Vec<NumberCall>>, AllocError> {
@@ -164,7 +109,8 @@ fn reply(at: u32) -> Result<NumberReply, Fault> {
     }
 }
 
-fn fault_words(table: &Table) -> Outcome {
+/// The words of every fault of a run, of a section over a lock, of a head, of a call and of a script.
+fn fault_words(table: &Table, _nothing: &End) -> Outcome {
     let (foreign, read, write) = (RunFault::Foreign, RunFault::Read, RunFault::Write);
     let (lock, head) = (LockFault::Foreign, HeadFault::BadSize);
     let script = WriteFault::Write(ErrorKind::BrokenPipe.into());
