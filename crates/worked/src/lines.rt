@@ -92,7 +92,7 @@ fn play<R: Threads + Wait + Sync>(
     match entry {
         [line] if !is_play(line) => {
             let answer = answer(table, line, wants);
-            text_again(table.alloc(), line, &answer, wants)
+            wants.again(|| text_of(table.alloc(), line, &answer))
         }
         _ => stage.play(rt, table.alloc(), entry, wants),
     }
@@ -106,39 +106,14 @@ fn answer(table: &mut Table, line: &[u8], wants: &mut Wants) -> Answer {
             Ok(Some(calls::answer(call, wants)?))
         }
         None => {
-            learn(table, line, wants)?;
+            wants.again(|| table.learn(line))?;
             Ok(None)
         }
     }
 }
 
-fn learn(table: &mut Table, line: &[u8], wants: &mut Wants) -> Result<(), NotationError> {
-    match table.learn(line) {
-        Err(NotationError::Memory) => {
-            wants.note();
-            table.learn(line)
-        }
-        learned => learned,
-    }
-}
-
 /// A result of a call, or in which words the line is refused.
 type Answer = Result<Option<String>, NotationError>;
-
-fn text_again(
-    alloc: Global,
-    line: &[u8],
-    answer: &Answer,
-    wants: &mut Wants,
-) -> Result<Vec<u8>, AllocError> {
-    match text_of(alloc, line, answer) {
-        Ok(text) => Ok(text),
-        Err(_) => {
-            wants.note();
-            text_of(alloc, line, answer)
-        }
-    }
-}
 
 fn text_of(alloc: Global, line: &[u8], answer: &Answer) -> Result<Vec<u8>, AllocError> {
     let mut text = Vec::from_slice(alloc, line)?;

@@ -68,7 +68,7 @@ impl Stage {
         entry: &[&[u8]],
         wants: &mut Wants,
     ) -> Result<Vec<u8>, AllocError> {
-        let mut text = echo_again(alloc, entry, wants)?;
+        let mut text = wants.again(|| joined(alloc, entry))?;
         if let Err(fault) = self.answer(rt, alloc, entry, &mut text, wants) {
             append_fault(alloc, &mut text, fault)?;
         }
@@ -157,7 +157,7 @@ impl Stage {
     }
 
     fn begin(&mut self, alloc: Global, wants: &mut Wants) -> Result<(), PlayFault> {
-        self.book = books::book_again(alloc, wants)?;
+        self.book = wants.again(|| Book::new(alloc))?;
         self.seating = None;
         Ok(())
     }
@@ -169,7 +169,8 @@ impl Stage {
         text: &mut Vec<u8>,
         wants: &mut Wants,
     ) -> Result<(), PlayFault> {
-        match heads::open(alloc, sizes_of(sizes)?, wants) {
+        let sizes = sizes_of(sizes)?;
+        match wants.again(|| Seating::new(alloc, sizes)) {
             Ok(seating) => {
                 self.seating = Some(seating);
                 Ok(())
@@ -224,16 +225,6 @@ fn sizes_of(words: &[u8]) -> Result<[u32; 4], PlayFault> {
     let mut sizes = [0; 4];
     read_numbers(words, &mut sizes)?;
     Ok(sizes)
-}
-
-fn echo_again(alloc: Global, entry: &[&[u8]], wants: &mut Wants) -> Result<Vec<u8>, AllocError> {
-    match joined(alloc, entry) {
-        Ok(text) => Ok(text),
-        Err(_) => {
-            wants.note();
-            joined(alloc, entry)
-        }
-    }
 }
 
 fn append_fault(alloc: Global, text: &mut Vec<u8>, fault: PlayFault) -> Result<(), AllocError> {

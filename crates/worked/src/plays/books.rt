@@ -32,7 +32,7 @@ fn ask_once(
     text: &mut Vec<u8>,
     wants: &mut Wants,
 ) -> Result<(), PlayFault> {
-    let call = call_again(alloc, command, time, wants)?;
+    let call = wants.again(|| command.call(alloc, time))?;
     let answer = ask_again(book, command.seat, &call, wants);
     if time == command.count {
         append_answer(text, answer, wants)
@@ -60,22 +60,6 @@ fn append_answer(
     }
 }
 
-/// The call of a command, read again where that wanted memory.
-pub(crate) fn call_again(
-    alloc: Global,
-    command: Command<'_>,
-    time: u32,
-    wants: &mut Wants,
-) -> Result<Call, PlayFault> {
-    match command.call(alloc, time) {
-        Err(PlayFault::Memory) => {
-            wants.note();
-            command.call(alloc, time)
-        }
-        read => read,
-    }
-}
-
 /// Asks a book, and asks it again where the call wanted memory and left the book as it was.
 fn ask_again(
     book: &mut Book<State>,
@@ -83,7 +67,7 @@ fn ask_again(
     call: &Call,
     wants: &mut Wants,
 ) -> Result<Answer, PlayFault> {
-    let before = state_again(book, wants)?;
+    let before = wants.again(|| book.state().try_clone())?;
     ask_beside(book, &before, seat, call, wants)
 }
 
@@ -110,16 +94,6 @@ fn ask_beside(
 
 fn is_kept(book: &Book<State>, before: &State, length: usize) -> bool {
     book.history().len() == length && is_same_state(book.state(), before, book.history())
-}
-
-fn state_again(book: &Book<State>, wants: &mut Wants) -> Result<State, AllocError> {
-    match book.state().try_clone() {
-        Ok(state) => Ok(state),
-        Err(_) => {
-            wants.note();
-            book.state().try_clone()
-        }
-    }
 }
 
 /// Appends an answer, again where that wanted memory and left the text as it was.
@@ -156,16 +130,5 @@ fn expect_kept(text: &[u8], length: usize) -> Result<(), PlayFault> {
         Ok(())
     } else {
         Err(PlayFault::Wrong("out of memory, and another text"))
-    }
-}
-
-/// A new book.
-pub(crate) fn book_again(alloc: Global, wants: &mut Wants) -> Result<Book<State>, AllocError> {
-    match Book::new(alloc) {
-        Ok(book) => Ok(book),
-        Err(_) => {
-            wants.note();
-            Book::new(alloc)
-        }
     }
 }

@@ -1,30 +1,15 @@
 //! Books and heads: a head that is asked commands at its seats.
-use crate::plays::books::{Answer, append_history_again, call_again, pass_over};
+use crate::plays::books::{Answer, append_history_again, pass_over};
 use crate::plays::commands::Command;
 use crate::plays::faults::PlayFault;
 use crate::plays::runs::append_again;
 use crate::plays::seatings::{Seating, Seen};
 use crate::wants::Wants;
-use camp_head::{Fault, HeadFault};
+use camp_head::Fault;
 use camp_repo::Call;
 use camp_script::write_reply;
 use std::alloc::{AllocError, Global};
 use std::sync::Wait;
-
-/// A head with its seats, made again where that wanted memory.
-pub(crate) fn open(
-    alloc: Global,
-    sizes: [u32; 4],
-    wants: &mut Wants,
-) -> Result<Seating, HeadFault> {
-    match Seating::new(alloc, sizes) {
-        Err(HeadFault::Memory) => {
-            wants.note();
-            Seating::new(alloc, sizes)
-        }
-        made => made,
-    }
-}
 
 /// Asks a command at a seat, each of its times, and writes the last answer behind a text.
 pub(crate) fn ask<R: Wait>(
@@ -50,7 +35,7 @@ fn ask_once<R: Wait>(
     text: &mut Vec<u8>,
     wants: &mut Wants,
 ) -> Result<(), PlayFault> {
-    let call = call_again(alloc, command, time, wants)?;
+    let call = wants.again(|| command.call(alloc, time))?;
     let answer = ask_again(rt, seating, command.seat, &call, wants);
     if time == command.count {
         write_answer(alloc, text, answer, wants)
@@ -133,13 +118,7 @@ pub(crate) fn tell_seen(
     wants: &mut Wants,
 ) -> Result<(), PlayFault> {
     let seen = seating.seen(number)?;
-    let words = match seen_text(alloc, seen) {
-        Ok(words) => words,
-        Err(_) => {
-            wants.note();
-            seen_text(alloc, seen)?
-        }
-    };
+    let words = wants.again(|| seen_text(alloc, seen))?;
     append_again(text, words.as_bytes(), wants)
 }
 
@@ -157,13 +136,7 @@ pub(crate) fn tell_adopted(
     wants: &mut Wants,
 ) -> Result<(), PlayFault> {
     let adopted = seating.adopted(number)?;
-    let words = match adopted_text(alloc, adopted) {
-        Ok(words) => words,
-        Err(_) => {
-            wants.note();
-            adopted_text(alloc, adopted)?
-        }
-    };
+    let words = wants.again(|| adopted_text(alloc, adopted))?;
     append_again(text, words.as_bytes(), wants)
 }
 
@@ -178,20 +151,6 @@ pub(crate) fn tell_history(
     text: &mut Vec<u8>,
     wants: &mut Wants,
 ) -> Result<(), PlayFault> {
-    let history = history_again(seating, number, wants)?;
+    let history = wants.again(|| seating.history(number))?;
     append_history_again(text, &history, wants)
-}
-
-fn history_again(
-    seating: &Seating,
-    number: u32,
-    wants: &mut Wants,
-) -> Result<Vec<(u32, Call)>, PlayFault> {
-    match seating.history(number) {
-        Err(PlayFault::Memory) => {
-            wants.note();
-            seating.history(number)
-        }
-        told => told,
-    }
 }

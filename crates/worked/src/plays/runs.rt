@@ -58,7 +58,7 @@ pub(crate) fn run<R: Threads + Wait + Sync>(
     text: &mut Vec<u8>,
     wants: &mut Wants,
 ) -> Result<(), PlayFault> {
-    let script = script_again(alloc, lines, wants)?;
+    let script = wants.again(|| joined(alloc, lines))?;
     let mut written = Vec::new(alloc);
     match run_once(rt, alloc, how, &script, &mut written) {
         Ok(()) => append_told(alloc, how, text, &written, wants),
@@ -110,28 +110,8 @@ fn append_told(
     if !how.is_ranked {
         return append_again(text, written, wants);
     }
-    let told = ranked_again(alloc, written, wants)?;
+    let told = wants.again(|| ranked(alloc, written))?;
     append_again(text, &told, wants)
-}
-
-fn ranked_again(alloc: Global, written: &[u8], wants: &mut Wants) -> Result<Vec<u8>, AllocError> {
-    match ranked(alloc, written) {
-        Ok(told) => Ok(told),
-        Err(_) => {
-            wants.note();
-            ranked(alloc, written)
-        }
-    }
-}
-
-fn script_again(alloc: Global, lines: &[&[u8]], wants: &mut Wants) -> Result<Vec<u8>, AllocError> {
-    match joined(alloc, lines) {
-        Ok(script) => Ok(script),
-        Err(_) => {
-            wants.note();
-            joined(alloc, lines)
-        }
-    }
 }
 
 /// Lines as one text.
@@ -150,9 +130,5 @@ pub(crate) fn append_again(
     written: &[u8],
     wants: &mut Wants,
 ) -> Result<(), PlayFault> {
-    if text.extend_from_slice(written).is_err() {
-        wants.note();
-        text.extend_from_slice(written)?;
-    }
-    Ok(())
+    Ok(wants.again(|| text.extend_from_slice(written))?)
 }

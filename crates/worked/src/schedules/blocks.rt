@@ -176,24 +176,8 @@ pub(crate) fn play_block<R: Threads + Wait + Sync>(
     text: &mut Vec<u8>,
     wants: &mut Wants,
 ) -> Result<(), PlayFault> {
-    match play_once(rt, alloc, lines) {
-        Err(PlayFault::Memory) => {
-            wants.note();
-            append_told(text, play_once(rt, alloc, lines), wants)
-        }
-        told => append_told(text, told, wants),
-    }
-}
-
-fn append_told(
-    text: &mut Vec<u8>,
-    told: Result<Vec<u8>, PlayFault>,
-    wants: &mut Wants,
-) -> Result<(), PlayFault> {
-    match told {
-        Ok(told) => append_again(text, &told, wants),
-        Err(fault) => Err(fault),
-    }
+    let told = wants.again(|| play_once(rt, alloc, lines))?;
+    append_again(text, &told, wants)
 }
 
 fn play_once<R: Threads + Wait + Sync>(

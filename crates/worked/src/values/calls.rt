@@ -70,7 +70,7 @@ impl<'a> CallLine<'a> {
     ) -> Outcome
         requires { F.IsAlwaysCallable call }
     {
-        let on = self.read::<A>(wants)?;
+        let on = wants.again(|| self.read::<A>())?;
         match call(self.table, &on) {
             Err(NotationError::Memory) => {
                 if self.has_kept(&on, wants)? {
@@ -121,18 +121,7 @@ impl<'a> CallLine<'a> {
         })
     }
 
-    /// The arguments, read again where that wanted memory.
-    fn read<A: Arguments>(self, wants: &mut Wants) -> Result<A, NotationError> {
-        match self.read_once::<A>() {
-            Err(NotationError::Memory) => {
-                wants.note();
-                self.read_once::<A>()
-            }
-            read => read,
-        }
-    }
-
-    fn read_once<A: Arguments>(self) -> Result<A, NotationError> {
+    fn read<A: Arguments>(self) -> Result<A, NotationError> {
         let texts = split(self.table.alloc(), self.text)?;
         A::read(self.table, &texts)
     }
