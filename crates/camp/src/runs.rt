@@ -6,14 +6,15 @@ ghost use Rattle.camp_run.specs.Runs.{Runs};
 ghost use Rattle.camp_run.specs.Serial.{IsSerial};
 
 use camp_options::Options;
-use camp_run::{NoGate, RunFault, run_book, run_head};
+use camp_run::{RunFault, Turns, run_book, run_head};
 use std::alloc::Global;
 use std::io::{Read, Write};
 use std::sync::Wait;
 use std::thread::Threads;
+use std::time::Clock;
 
 /// Runs the script that a reader gives in the way that the options ask for.
-pub(crate) fn run<T: Threads + Wait + Sync, R: Read, W: Write>(
+pub(crate) fn run<T: Threads + Wait + Sync + Clock, R: Read, W: Write>(
     rt: &T,
     alloc: Global,
     asked: &Options,
@@ -36,7 +37,7 @@ pub(crate) fn run<T: Threads + Wait + Sync, R: Read, W: Write>(
             writer,
             asked.history,
             asked.tries,
-            &NoGate,
+            &Turns::new(rt),
         )
     }
 }

@@ -9,6 +9,7 @@ mod inputs;
 mod laws;
 mod locks;
 mod outputs;
+mod turns;
 
 pub use books::run_book;
 pub use camp_head::{Gate, NoGate};
@@ -19,3 +20,4 @@ pub use laws::{
     shared_section_is_serial,
 };
 pub use locks::run_locked;
+pub use turns::Turns;
