@@ -11,10 +11,11 @@
  *     camp_close(&repository);
  *
  * Threads: a handle serves one call at a time; where threads share one, put your own lock round it. A view shares
- * nothing that a call writes with its repository or with other views. So each may be used on a thread of its own, with
- * no lock, while the repository goes on. Handles may be moved to other threads.
+ * nothing but counts with its repository and with other views. So each may be used on a thread of its own, with no
+ * lock, while the repository goes on. Handles may be moved to other threads.
  *
- * Memory: comes from malloc, realloc and free. A call that finds none answers CAMP_MEMORY and never ends the program.
+ * Memory: comes from malloc, realloc and free. A call that finds none answers CAMP_MEMORY, or
+ * CAMP_DONE and `memory` for a command that was not done, and never ends the program.
  *
  * Pointers: text and buffer point to length bytes, and are not null, also where length is 0. What a call is handed does
  * not overlap: two handles are two structs, and neither lies in the text or the buffer. Leave the members of a handle
@@ -46,8 +47,8 @@ typedef struct camp_view {
 #define CAMP_CLOSED {false, NULL}
 
 enum {
-    CAMP_DONE = 0,     /* it was done */
-    CAMP_NOT_OPEN = 1, /* the handle is closed, or the one to be opened is open; nothing has changed */
+    CAMP_DONE = 0,     /* each command has its answer */
+    CAMP_NOT_OPEN = 1, /* the handle is closed or of the other kind, or the one to be opened is open; nothing has changed */
     CAMP_MEMORY = 2    /* there was not enough memory */
 };
 
@@ -58,8 +59,8 @@ int32_t camp_open(camp *repository);
 /* Asks the commands of a text, which is a conversation of its own: docs/shell.md has the commands and their answers. The
  * answer is that of each command, one behind another; a refusal or a fault is an answer as any other. A body that is not
  * ended has its fault; lines count from 1 in each text.
- * CAMP_MEMORY: commands at the front were answered as far as the answer goes; if the last of them has no whole answer,
- * it may have been done. Ask `history`, or ask one command at a time. */
+ * CAMP_MEMORY: commands at the front were answered as far as the answer goes, and one more may have been done. Where you
+ * have to know, ask one command at a time, and `history` afterwards. */
 int32_t camp_ask(camp *repository, const uint8_t *text, size_t length);
 
 /* How many bytes the answer to the last text has; 0 where the handle is closed. */
