@@ -10,7 +10,7 @@ pub use Rattle.boxcar.specs.Table.{Shelves, Shows, Where}
 pub use Rattle.camp_history.specs.Inside.SeatFields.{marks_in, seated}
 pub use Rattle.camp_history.specs.Inside.Steps.{Attempts, DecidesAt, Decision, FindsMore, LosesOne, Publishes, SeesMore, SeesNext, entries_of}
 pub use Rattle.camp_history.specs.Seats.{Based, HeadId, IsBaseAt, IsSeatOf, Seated, asked, caller_at, entry_of, history_of, most_listed, told, unseen}
-pub use Rattle.camp_history.specs.Versions.{Adopts, Begins, GoesOn, IsIn, IsMadeFrom, Share, based, bases_in, ids, ids_of, made_of, news}
+pub use Rattle.camp_history.specs.Versions.{Adopts, Begins, GoesOn, IsFound, IsIn, IsMadeFrom, Share, based, bases_in, ids, ids_of, made_of, news}
 pub use Rattle.camp_history.specs.declared.marks.Mark.{Mark}
 pub use Rattle.camp_object.proofs.Fronts.{front_append, front_front, front_self, front_shorter, length-front}
 pub use Rattle.camp_object.specs.Asking.{AddsNothing, Ask, Caller, IsNotBusy, Loses}

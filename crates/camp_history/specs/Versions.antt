@@ -39,6 +39,14 @@ pub record IsMadeFrom {State Call Reply : Type 0} (ids : List ℕ) (origin : Ori
   pub from : IfSome origin.from (λ base. IsBaseAt ids (based base))
   pub begins : IfSome origin.from (λ base. Begins base.version.value origin.version.version.value)
 
+-- a version that lies in a slot, of so many calls: more than one number, and at most another
+pub record IsFound {State Call Reply : Type 0} (ids : List ℕ) (seen reach : ℕ) (origin : Origin State Call Reply) (len : ℕ)
+    : Type 0 where
+  pub lies : IsMadeFrom ids origin
+  pub length_is : len ≡ length origin.version.version.value
+  pub beyond : seen < len
+  pub within : len ≤ reach
+
 -- so many calls a seat and a version have in common at their beginnings
 pub record Share {Call : Type 0} (seat version : List (Mark Call)) (count : ℕ) : Type 0 where
   pub same : take count (map told seat) ≡ take count (map told version)

@@ -111,7 +111,7 @@ impl<State: Object> Head<State> {
     ghost use Rattle.camp_object.specs.Histories.{IsLegal};
     ghost use Rattle.camp_row.specs.Known.{Leads};
     ghost use Rattle.camp_history.specs.Seats.{IsBaseAt, IsSeatOf, history_of, told};
-    ghost use Rattle.camp_history.specs.Versions.{IsMadeFrom, based};
+    ghost use Rattle.camp_history.specs.Versions.{IsFound, IsMadeFrom, based};
     ghost use Rattle.camp_history.specs.Inside.Steps.{entries_of, SeesMore};
 
     /// The slot of a number.
@@ -295,41 +295,39 @@ impl<State: Object> Head<State> {
         let _noted = seat.bases.push(base);
     }
 
-    /// How many calls the version of a slot has, if there is one: more than so many, and at most so many.
-    fn length_at(&self, number: usize, seen: u64, reach: u64) -> Option<u64>
-        ensures beyond { IfSome result (λ len. seen < len) }
-        ensures within { IfSome result (λ len. len ≤ reach) }
+    /// The version of a slot and its length, if there is one that is longer than one number and at most
+    /// as long as another.
+    fn found_at(&self, number: usize, seen: u64, reach: u64) -> Option<(&Origin<State>, u64)>
+        ensures { IfSome result (λ found. IsFound self.now.slots seen reach found.0.now found.1) }
     {
         let origin = self.origin_at(number)?;
         let len = self.version_of(&origin.version)?.len() as u64;
         if seen < len && len <= reach {
-            Some(len)
+            Some((origin, len))
         } else {
             None
         }
     }
 
-    /// The slot of the longest version of those that seats handed on beyond one position and not beyond
-    /// another, and how long that is.
-    fn longest_handed_on(&self, seen: u64, reach: u64) -> Option<(usize, u64)>
-        ensures beyond { IfSome result (λ found. seen < found.1) }
-        ensures within { IfSome result (λ found. found.1 ≤ reach) }
+    /// The longest version of those that seats handed on beyond one position and not beyond another, and its
+    /// length.
+    fn longest_handed_on(&self, seen: u64, reach: u64) -> Option<(&Origin<State>, u64)>
+        ensures { IfSome result (λ found. IsFound self.now.slots seen reach found.0.now found.1) }
     {
         let mut longest = None;
         let mut most = seen;
         for number in self.kept_count()..self.origins.len() {
-            if let Some(len) = self.length_at(number, most, reach) {
-                most = len;
-                longest = Some((number, len));
+            if let Some(found) = self.found_at(number, most, reach) {
+                most = found.1;
+                longest = Some(found);
             }
         }
         longest
     }
 
     /// The same of those that were kept at positions.
-    fn longest_kept(&self, seen: u64, reach: u64) -> Option<(usize, u64)>
-        ensures beyond { IfSome result (λ found. seen < found.1) }
-        ensures within { IfSome result (λ found. found.1 ≤ reach) }
+    fn longest_kept(&self, seen: u64, reach: u64) -> Option<(&Origin<State>, u64)>
+        ensures { IfSome result (λ found. IsFound self.now.slots seen reach found.0.now found.1) }
     {
         let every = self.every as u64;
         if every == 0 {
@@ -339,17 +337,16 @@ impl<State: Object> Head<State> {
         let mut number = (reach / every).min(self.kept_count() as u64);
         while number > first {
             number -= 1;
-            if let Some(len) = self.length_at(number as usize, seen, reach) {
-                return Some((number as usize, len));
+            if let Some(found) = self.found_at(number as usize, seen, reach) {
+                return Some(found);
             }
         }
         None
     }
 
     /// The same of all.
-    fn longest(&self, seen: u64, reach: u64) -> Option<(usize, u64)>
-        ensures beyond { IfSome result (λ found. seen < found.1) }
-        ensures within { IfSome result (λ found. found.1 ≤ reach) }
+    fn longest(&self, seen: u64, reach: u64) -> Option<(&Origin<State>, u64)>
+        ensures { IfSome result (λ found. IsFound self.now.slots seen reach found.0.now found.1) }
     {
         if reach <= seen {
             return None;
@@ -386,23 +383,21 @@ impl<State: Object> Head<State> {
         Ok(())
     }
 
-    /// A seat takes over the version of a slot, if it goes on from what the seat has seen. Tells whether it did.
+    /// A seat takes over a version of a slot, if it goes on from what the seat has seen. Tells whether it did.
     fn adopt_at(
         &self,
         seat: &mut Seat<State>,
         trail: &mut Trail,
-        number: usize,
+        origin: &Origin<State>,
     ) -> Result<bool, AllocError>
         requires of { IsSeatOf self.now seat.old }
         requires leads { Leads seat.old.known seat.old.known.seen trail.old }
+        requires made { IsMadeFrom self.now.slots origin.now }
         ensures of { IsSeatOf self.now seat.new }
         ensures more { SeesMore seat.old seat.new }
         ensures ahead { seat.new.known.ahead ≡ seat.old.known.ahead }
         ensures leads { Leads seat.new.known seat.new.known.seen trail.new }
     {
-        let Some(origin) = self.origin_at(number) else {
-            return Ok(false);
-        };
         let Some(version) = self.version_of(&origin.version) else {
             return Ok(false);
         };
@@ -425,8 +420,8 @@ impl<State: Object> Head<State> {
     {
         let seen = seat.position();
         let mut reach = seen.saturating_add(trail.len() as u64);
-        while let Some((number, len)) = self.longest(seen, reach) {
-            if self.adopt_at(seat, trail, number)? {
+        while let Some((origin, len)) = self.longest(seen, reach) {
+            if self.adopt_at(seat, trail, origin)? {
                 return Ok(());
             }
             reach = len - 1;

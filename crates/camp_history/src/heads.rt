@@ -1,4 +1,5 @@
-ghost use Rattle.std.specs.Prelude.{◌≡◌, ◌==◌, ◌≤◌, ◌↔◌, ◌*◌, ◌/◌, if◌then◌else◌, [], map, All, IfOk, IfErr, IsOk, IsTrue};
+ghost use Rattle.std.specs.Prelude.{◌≡◌, ◌≤◌, ◌↔◌, [], map, All, IfOk, IfErr, IsOk, IsTrue};
+ghost use Rattle.camp_history.specs.Inside.HeadFields.{slots_handed_on, slots_kept};
 ghost use Rattle.camp_history.specs.Opening.{IsInRange};
 ghost use Rattle.camp_history.specs.Seats.{unseen};
 ghost use Rattle.camp_object.specs.declared.faults.Fault.TheVariants.{Memory};
@@ -54,7 +55,7 @@ fn is_in_range(seats: u32, per_seat: u32, tries: u32, every: u32) -> bool
 /// A slot for each position up to `seats * per_seat` that is a multiple of `every`; none for 0.
 pub(crate) fn slot_count(seats: u32, per_seat: u32, every: u32) -> usize
     requires { (seats ≤ most_seats) × (per_seat ≤ most_cells) }
-    ensures exact { result ≡ (if every == 0 then 0 else (seats * per_seat) / every) }
+    ensures exact { result ≡ slots_kept seats per_seat every }
     ensures few { result ≤ 4194304 }
 {
     let most = seats as usize * per_seat as usize;
@@ -63,7 +64,7 @@ pub(crate) fn slot_count(seats: u32, per_seat: u32, every: u32) -> usize
 
 /// A slot for each seat; none where no versions are kept.
 fn handing_count(seats: u32, every: u32) -> usize
-    ensures { result ≡ (if every == 0 then 0 else seats) }
+    ensures { result ≡ slots_handed_on seats every }
 {
     if every == 0 { 0 } else { seats as usize }
 }

@@ -1,7 +1,7 @@
 //! How versions are made, put into their slots, and handed on.
-ghost use Rattle.std.specs.Prelude.{◌≡◌, ◌<◌, ◌≤◌, ◌+◌, ◌*◌, ◌++◌, ◌∷◌, [], length, All, Some, IfOk, IfErr, IfSome};
-ghost use Rattle.boxcar.specs.Table.{Shows};
+ghost use Rattle.std.specs.Prelude.{◌≡◌, ◌≤◌, ℕ, ◌++◌, ◌∷◌, [], Some, IfOk, IfErr, IfSome, MatchOption};
 ghost use Rattle.camp_object.specs.declared.faults.Fault.TheVariants.{Memory};
+ghost use Rattle.camp_history.specs.Inside.HeadFields.{IsSlotFor};
 ghost use Rattle.camp_history.specs.Versions.{made_of, Begins};
 
 use crate::heads::{Head, slot_count};
@@ -50,7 +50,7 @@ impl<State: Object> Seat<State> {
 
 /// The number of the slot of a position, where a version is kept for each so many calls.
 fn slot_of(position: u64, every: u32) -> Option<usize>
-    ensures { IfSome result (λ number. (number + 1) * every ≡ position) }
+    ensures { MatchOption result ((number : ℕ) → ¬ (IsSlotFor position every number)) (IsSlotFor position every) }
 {
     let every = every as u64;
     if every == 0 || position % every != 0 {
@@ -75,11 +75,6 @@ impl<State: Object> Head<State> {
         slot_count(self.row.seats(), self.row.per_seat(), self.every)
     }
 
-    /// The number of the slot of a position, if a version is kept there.
-    fn slot_at(&self, position: u64) -> Option<usize> {
-        slot_of(position, self.every)
-    }
-
     /// The version that a seat noted last.
     fn last_noted(&self, seat: &Seat<State>) -> Option<Base<State>>
         requires { IsSeatOf self.now seat.now }
@@ -89,21 +84,22 @@ impl<State: Object> Head<State> {
         Some(seat.bases.last()?.again())
     }
 
-    /// Puts a version into the slot of a number, with what it was made from, if there is none yet.
+    /// Puts a version of all that a seat has seen into the slot of a number, with what it was made from, if
+    /// there is none yet.
     fn put_at(
         &self,
         number: usize,
+        seat: &Seat<State>,
         version: Version<State>,
-        from: Option<Base<State>>,
     ) -> Option<Base<State>>
-        requires version { All (λ mark. Shows self.now.store mark.call) version }
-        requires from { IfSome from (λ base. IsBaseAt self.now.slots (based base)) }
-        requires begins { IfSome from (λ base. Begins base.version.value version) }
+        requires seat { IsSeatOf self.now seat.now }
+        requires is { version ≡ seat.now.marks }
         ensures base { IfSome result (λ base. IsBaseAt self.now.slots (based base)) }
         ensures is { IfSome result (λ base. base.version.value ≡ version) }
     {
         let slot = self.slot(number)?;
         let origin = self.origin_slot(number)?;
+        let from = self.last_noted(seat);
         let Ok(shown) = slot.set_written(version) else {
             return None;
         };
@@ -130,7 +126,7 @@ impl<State: Object> Head<State> {
             return Ok(());
         }
         let version = seat.version()?;
-        let _handed = self.put_at(number, version, self.last_noted(seat));
+        let _handed = self.put_at(number, seat, version);
         Ok(())
     }
 
@@ -144,7 +140,7 @@ impl<State: Object> Head<State> {
         requires { replay State.object (history_of seat.now ++ (seat.now.known.number, call.now.value) ∷ []) ≡ Some next.now }
         ensures { IfOk result (λ made. IfSome made (λ version. version ≡ made_of seat.now call.now)) }
     {
-        if self.slot_at(seat.position().saturating_add(1)).is_none() {
+        if slot_of(seat.position().saturating_add(1), self.every).is_none() {
             return Ok(None);
         }
         Ok(Some(seat.version_with(call, next)?))
@@ -161,11 +157,10 @@ impl<State: Object> Head<State> {
         let Some(version) = made else {
             return;
         };
-        let Some(number) = self.slot_at(seat.position()) else {
+        let Some(number) = slot_of(seat.position(), self.every) else {
             return;
         };
-        let from = self.last_noted(seat);
-        if let Some(base) = self.put_at(number, version, from) {
+        if let Some(base) = self.put_at(number, seat, version) {
             self.note(seat, base);
         }
     }

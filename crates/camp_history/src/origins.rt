@@ -1,5 +1,5 @@
 //! The rules of slots: what a version and its origin keep, on whatever thread they are read.
-ghost use Rattle.std.specs.Prelude.{◌≡◌, All, IfOk};
+ghost use Rattle.std.specs.Prelude.{◌≡◌, length, All, IfOk};
 ghost use Rattle.camp_history.specs.Versions.{ids_of, IsIn, IsMadeFrom};
 
 use crate::versions::{OfStore, Origin, Slot, Version};
@@ -34,7 +34,8 @@ pub(crate) fn origins_of<State: Object>(
     alloc: Global,
     slots: &Vec<Slot<State>>,
 ) -> Result<Vec<OriginSlot<State>>, AllocError>
-    ensures { IfOk result (λ origins. All (λ origin. origin.tag ≡ ids_of slots.now.items) origins.items) }
+    ensures of { IfOk result (λ origins. All (λ origin. origin.tag ≡ ids_of slots.now.items) origins.items) }
+    ensures count { IfOk result (λ origins. length origins.items ≡ length slots.now.items) }
 {
     let mut origins = Vec::with_capacity(alloc, slots.len())?;
     for _ in 0..slots.len() {

@@ -1,5 +1,5 @@
 //! What a seat that is behind takes over.
-ghost use Rattle.std.specs.Prelude.{◌≡◌, All, IfOk};
+ghost use Rattle.std.specs.Prelude.{◌≡◌, length, All, IfOk};
 ghost use Rattle.camp_history.specs.Versions.{ids};
 
 use crate::marks::Mark;
@@ -77,7 +77,8 @@ pub(crate) fn slots_of<State: Object>(
     calls: &boxcar::Vec<State::Call>,
     count: usize,
 ) -> Result<Vec<Slot<State>>, AllocError>
-    ensures { IfOk result (λ slots. All (λ slot. slot.tag ≡ ids calls.now) slots.items) }
+    ensures of { IfOk result (λ slots. All (λ slot. slot.tag ≡ ids calls.now) slots.items) }
+    ensures count { IfOk result (λ slots. length slots.items ≡ count) }
 {
     let mut slots = Vec::with_capacity(alloc, count)?;
     for _ in 0..count {

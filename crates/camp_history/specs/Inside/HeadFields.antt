@@ -1,5 +1,5 @@
 -- How a head lies in its fields.
-use Rattle.std.specs.Prelude.{◌≡◌, ◌<◌, All}
+use Rattle.std.specs.Prelude.{◌≡◌, ◌==◌, ◌<◌, ℕ, ◌+◌, ◌*◌, ◌/◌, if◌then◌else◌, length, All}
 use Rattle.camp_history.specs.Seats.{HeadId}
 use Rattle.camp_history.specs.Versions.{ids, ids_of}
 use Rattle.camp_history.specs.declared.heads.Head.TheInside.{Inside}
@@ -8,8 +8,25 @@ abbrev pub head_id : {State Call Reply : Type 0} → Inside State Call Reply →
 head_id head =
     record { row = head.row; store = head.calls; slots = ids_of head.versions.items; tries = head.tries }
 
--- a call is tried at least once, versions lie in slots for the head's store, and origins in those for its versions
+-- how many slots there are for positions: one for each up to the last that is a multiple of `every`, and none for 0
+abbrev pub slots_kept : (seats per_seat every : ℕ) → ℕ
+slots_kept seats per_seat every = if every == 0 then 0 else (seats * per_seat) / every
+
+-- how many there are for what seats hand on: one for each seat, and none where no versions are kept
+abbrev pub slots_handed_on : (seats every : ℕ) → ℕ
+slots_handed_on seats every = if every == 0 then 0 else seats
+
+-- the slot of this number is for this position, where a version is kept for each so many calls
+abbrev pub IsSlotFor : (position every number : ℕ) → Type 0
+IsSlotFor position every number = (0 < every) × ((number + 1) * every ≡ position)
+
+-- a call is tried at least once; versions lie in slots for the head's store, of which there is one for each position at
+-- which one is kept and one for each seat; and origins lie in as many for its versions
 pub record IsHead {State Call Reply : Type 0} (head : Inside State Call Reply) : Type 0 where
   pub tries : 0 < head.tries
   pub slots : All (λ slot. slot.tag ≡ ids head.calls) head.versions.items
+  pub slot_count :
+      length head.versions.items
+      ≡ slots_kept head.row.seats head.row.per_seat head.every + slots_handed_on head.row.seats head.every
   pub origins : All (λ slot. slot.tag ≡ ids_of head.versions.items) head.origins.items
+  pub origin_count : length head.origins.items ≡ length head.versions.items
