@@ -12,6 +12,7 @@ pub mod ForeseenCalls
 pub mod GraphSteps
 pub mod Growing
 pub mod Growths
+pub mod HangingParts
 pub mod LeastHeld
 pub mod LeastNeeds
 pub mod LineNames

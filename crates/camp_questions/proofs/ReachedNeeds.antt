@@ -13,7 +13,7 @@ alone_among name others has n there = at (bytes_eq n name) refl there
     at true e w = ap (is_among others) (same_name n name e) ∙ has
     at false e w = cc
 
-reached_through : {graph : Drawn} {a b c : List ℕ} → IsReached graph a b → IsReached graph b c → IsReached graph a c
+pub reached_through : {graph : Drawn} {a b c : List ℕ} → IsReached graph a b → IsReached graph b c → IsReached graph a c
 reached_through itself w = w
 reached_through (along arrow rest) w = along arrow (reached_through rest w)
 

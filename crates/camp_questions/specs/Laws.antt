@@ -33,6 +33,7 @@ use Rattle.camp_questions.specs.Dependencies.{AreHeldIn, CanGo, ComeToFront, Hel
 use Rattle.camp_questions.specs.Differences.{missing_in}
 use Rattle.camp_questions.specs.Foresight.{Foresees}
 use Rattle.camp_questions.specs.Graphs.{Drawn, IsGraph}
+use Rattle.camp_questions.specs.Pictures.{hangs_on}
 use Rattle.camp_questions.specs.Showing.{changes_in, patch_in}
 use Rattle.camp_questions.specs.Sides.{IsSideIn}
 use Rattle.camp_questions.specs.declared.foresight.Foreseen.{Foreseen}
@@ -188,6 +189,17 @@ NeedsAreReached =
     (branch : List Catch) (graph : Drawn) (name : List ℕ) (needed : List (List ℕ)) → IsLawfulBranch branch →
     IsPlain branch → IsGraph branch graph → has_patch branch name ≡ true → Needs branch (name ∷ []) needed →
     (other : List ℕ) → (is_among needed other ≡ true) ↔ IsReached graph name other
+
+-- along arrows, a patch is reached from one of some names, or one of these is reached from it
+abbrev pub HangTogether : Drawn → List (List ℕ) → List ℕ → Type 0
+HangTogether graph names other =
+    (name : List ℕ) × (is_among names name ≡ true) × (IsReached graph name other ⊎ IsReached graph other name)
+
+-- in the graph of a lawful branch, what hangs on some patches is what is reached from one of them, and what reaches one
+abbrev pub PartsAreReached : Type 0
+PartsAreReached =
+    (branch : List Catch) (graph : Drawn) (names : List (List ℕ)) → IsLawfulBranch branch → IsGraph branch graph →
+    (other : List ℕ) → (hangs_on graph.patches names other ≡ true) ↔ HangTogether graph names other
 
 -- the changes of a side apply, one after the other, to the tree that the branch leads to
 abbrev pub SidesApply : Type 0

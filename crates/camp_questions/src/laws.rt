@@ -1,4 +1,4 @@
-ghost use Rattle.camp_questions.specs.Laws.{AlongIsEnough, ArrowsAreDirectNeeds, ArrowsLeadBackwards, ForeseenComes, HeldCanGo, HeldIsDetermined, HeldIsLeast, LinesHaveNames, MissingIsPulled, NeedsAndHeldAreOne, NeedsAreDetermined, NeedsAreLeast, NeedsAreReached, NeedsCanBePulled, NeedsComeFirst, RecordedIsShown, SidesApply, SidesAreAccepted};
+ghost use Rattle.camp_questions.specs.Laws.{AlongIsEnough, ArrowsAreDirectNeeds, ArrowsLeadBackwards, ForeseenComes, HeldCanGo, HeldIsDetermined, HeldIsLeast, LinesHaveNames, MissingIsPulled, NeedsAndHeldAreOne, NeedsAreDetermined, NeedsAreLeast, NeedsAreReached, NeedsCanBePulled, NeedsComeFirst, PartsAreReached, RecordedIsShown, SidesApply, SidesAreAccepted};
 
 /// A pull without names that is accepted brings what is missing, in this order; where nothing is
 /// missing, it is refused as having nothing to do.
@@ -72,6 +72,12 @@ pub fn arrows_are_direct_needs()
 /// what is reached from it along the arrows.
 pub fn needs_are_reached()
     ensures law { NeedsAreReached }
+{}
+
+/// In the graph of a lawful branch, what hangs on some patches is what is reached from one of them along
+/// the arrows, and what reaches one of them.
+pub fn parts_are_reached()
+    ensures law { PartsAreReached }
 {}
 
 /// The changes of a side apply to the tree of the branch, one after the other.
