@@ -1,12 +1,15 @@
 mod Words
 pub mod CallLines
+pub mod CanonicalCommands
 pub mod CountLemmas
 pub mod Cuts
+pub mod Failing
 pub mod Firsts
 pub mod FrameLemmas
 pub mod HelpLemmas
 pub mod LineReads
 pub mod Loading
+pub mod LoadingKept
 pub mod PairLemmas
 pub mod Parts
 pub mod QuestionWords

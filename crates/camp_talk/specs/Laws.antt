@@ -1,12 +1,31 @@
--- The laws of answers.
-use Rattle.std.specs.Prelude.{◌≡◌, ◌≢◌, ◌<◌, ◌^◌, ℕ, List, ◌∷◌, ◌++◌, length}
+-- The laws of answers, and of what is loaded.
+use Rattle.std.specs.Prelude.{◌≡◌, ◌≢◌, ◌↔◌, ◌⊎◌, ◌<◌, ◌≤◌, ◌^◌, ℕ, true, List, [], ◌∷◌, ◌++◌, length, map, Option, Some, Result, Ok, Err}
 use Rattle.std.specs.Fmt.{decimal}
-use Rattle.std.specs.List.{All}
+use Rattle.std.specs.List.{All, AllByRecursion}
 use Rattle.camp_base.specs.Signs.{newline, space}
+use Rattle.camp_call.specs.declared.calls.Call.{Call}
+use Rattle.camp_call.specs.declared.replies.Refusal.{Refusal}
+use Rattle.camp_call.specs.declared.replies.Reply.TheVariants.{Refused}
+use Rattle.camp_object.specs.Histories.{IsFront, replay}
+use Rattle.camp_repo.specs.Objects.{repository}
+use Rattle.camp_repo.specs.States.{Contents}
+use Rattle.camp_script.specs.Canonical.{IsScriptCall, call_text}
+use Rattle.camp_script.specs.Keeping.{calls_of, kept_text}
 use Rattle.camp_script.specs.Lines.{lines_of}
+use Rattle.camp_script.specs.Texts.{reply_text}
+use Rattle.camp_script.specs.declared.faults.LineFault.{LineFault}
+use Rattle.camp_talk.specs.Answers.{Answers, Standing, memory_text}
+use Rattle.camp_talk.specs.Asking.{asked_by}
+use Rattle.camp_talk.specs.Cutting.{longest_read}
 use Rattle.camp_talk.specs.Dialogues.{Leads}
+use Rattle.camp_talk.specs.Entries.{Entries}
 use Rattle.camp_talk.specs.Frames.{Counter, ServesAt, ServesInTurn}
+use Rattle.camp_talk.specs.Loads.{Loads, tells_failure}
 use Rattle.camp_talk.specs.Told.{counted}
+use Rattle.camp_talk.specs.declared.faults.LoadFault.{LoadFault}
+use Rattle.camp_talk.specs.declared.faults.LoadFault.TheVariants.{Answer, Memory, Talk}
+use Rattle.camp_talk.specs.declared.questions.Asked.{Asked}
+use Rattle.camp_talk.specs.declared.questions.Asked.TheVariants as asked
 
 -- the first line of a counted text has the word and says how many lines follow, and these are the lines of the text
 abbrev pub CountsAreTold : Type 0
@@ -19,3 +38,40 @@ abbrev pub RequestsAreServedInTurn : Type 0
 RequestsAreServedInTurn =
     (first last : Counter) (over : List Counter) → Leads ServesAt first over last →
     ServesInTurn first.left last.left first.held last.held first.history last.history
+
+-- what is asked has a fault, or this text is that of a refusal
+abbrev pub Failed : Result Asked LineFault → List ℕ → Type 0
+Failed (Err fault) text = Unit {0}
+Failed (Ok asked.Nothing) text = ⊥
+Failed (Ok (asked.Call call)) text = (refusal : Refusal) × (text ≡ reply_text (Refused refusal))
+Failed (Ok (asked.Question question)) text = (refusal : Refusal) × (text ≡ reply_text (Refused refusal))
+
+-- an answer tells of failure exactly where its command has a fault, it is a refusal, or memory ran out
+abbrev pub FailuresAreTold : Type 0
+FailuresAreTold =
+    (before : Standing) (command text : List ℕ) (after : Standing) → Answers before command text after →
+    (tells_failure text ≡ true) ↔ (Failed (asked_by command) text ⊎ (text ≡ memory_text))
+
+-- no line of the text of a call is longer than a conversation reads
+abbrev pub IsReadWhole : Call → Type 0
+IsReadWhole call = AllByRecursion (λ line. length line ≤ longest_read) (lines_of (call_text call))
+
+-- the calls of a history, all at seat 0
+abbrev pub at_seat_0 : Entries → Entries
+at_seat_0 history = map (λ call. (0, call)) (calls_of history)
+
+-- what a load of the text that keeps a history comes to: Ok, and its calls are there, and its state; or memory or the
+-- reader ended it, and its first calls are there; and no command is told not to be done
+abbrev pub ComesBack : Entries → Contents → Result (Unit {0}) LoadFault → Entries → Type 0
+ComesBack history state (Ok done) now = (now ≡ at_seat_0 history) × (replay repository now ≡ Some state)
+ComesBack history state (Err (Answer line text)) now = ⊥
+ComesBack history state (Err (Memory line)) now = IsFront now (at_seat_0 history)
+ComesBack history state (Err (Talk why)) now = IsFront now (at_seat_0 history)
+
+-- so it is for each history that leads to a state, however many its calls are, where a script can ask each of them
+abbrev pub KeptIsLoaded : Type 0
+KeptIsLoaded =
+    (history : Entries) (state : Contents) → replay repository history ≡ Some state →
+    AllByRecursion IsScriptCall (calls_of history) → AllByRecursion IsReadWhole (calls_of history) →
+    (rest : Option (List ℕ)) (result : Result (Unit {0}) LoadFault) (now : Entries) →
+    Loads (Some (kept_text history)) rest [] result now → ComesBack history state result now

@@ -1,12 +1,23 @@
-ghost use Rattle.camp_talk.specs.Laws.{CountsAreTold, RequestsAreServedInTurn};
+ghost use Rattle.camp_talk.specs.Laws.{CountsAreTold, FailuresAreTold, KeptIsLoaded, RequestsAreServedInTurn};
 
 /// The first line of an answer that is counted tells how many lines follow.
 pub fn counts_are_told()
     ensures law { CountsAreTold }
 {}
 
+/// An answer tells of failure exactly where its command has a fault, it is a refusal, or memory ran out.
+pub fn failures_are_told()
+    ensures law { FailuresAreTold }
+{}
+
 /// Where requests are served one after the other, as by the turns of a framed conversation, the n-th answer that
 /// was written is that of the n-th request that was read, after the requests before it.
 pub fn requests_are_served_in_turn()
     ensures law { RequestsAreServedInTurn }
+{}
+
+/// What `keep` wrote of a history, or `append_script`, is loaded by `load`: its calls are accepted again, and come
+/// to its state, however many they are. A load that does not come to its end has accepted the first of them.
+pub fn kept_is_loaded()
+    ensures law { KeptIsLoaded }
 {}

@@ -34,7 +34,7 @@ pub use camp_repo::{Book, State};
 pub use dialogues::{Conversation, Dialogue, talk};
 pub use faults::{LoadFault, TalkFault};
 pub use frames::{FrameFault, FramedConversation};
-pub use laws::{counts_are_told, requests_are_served_in_turn};
+pub use laws::{counts_are_told, failures_are_told, kept_is_loaded, requests_are_served_in_turn};
 pub use loads::load;
 pub use questions::{Question, Reason, Topic};
 pub use requests::answer_request;

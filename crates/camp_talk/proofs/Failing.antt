@@ -1,0 +1,112 @@
+-- An answer tells of failure exactly where its command has a fault, it was refused, or memory ran out.
+use Rattle.camp_talk.proofs.Words.{◌≡◌, ◌⊎◌, inl, inr, ℕ, Bool, true, false, List, [], ◌∷◌, ◌++◌, Option, None, Some, Result, Ok, Err, codes, refl, sym, ap, subst, ◌∙◌, true≢false, LineFault, reply_text, Answers, Standing, Tells, asked_by, Entries, tells_failure, Asked}
+use Rattle.std.specs.Prelude.{◌↔◌}
+use Rattle.camp_base.specs.Trees.{Lines}
+use Rattle.camp_call.specs.declared.replies.Refusal.{Refusal}
+use Rattle.camp_call.specs.declared.replies.Refusal.TheVariants.{NoBranch, BranchExists, PatchExists, NoPatch, NothingToDo, TooLarge, DoesNotApply, Depends, Diverged, NoMerge, SameBranch}
+use Rattle.camp_call.specs.declared.replies.Reply.{Reply}
+use Rattle.camp_call.specs.declared.replies.Reply.TheVariants as reply
+use Rattle.camp_questions.specs.Answers.{AnswerOf}
+use Rattle.camp_questions.specs.declared.annotations.Annotated.{Annotated}
+use Rattle.camp_questions.specs.declared.annotations.Annotated.TheVariants as annotated
+use Rattle.camp_questions.specs.declared.marking.Marked.{Marked}
+use Rattle.camp_questions.specs.declared.marking.Marked.TheVariants as marked
+use Rattle.camp_repo.specs.States.{Contents}
+use Rattle.camp_talk.specs.Laws.{Failed, FailuresAreTold}
+use Rattle.camp_talk.specs.Told.{IsTold, TellsAt, annotated_told, file_told, marks_told, told}
+use Rattle.camp_talk.specs.declared.questions.Asked.TheVariants as asked
+use Rattle.camp_talk.specs.declared.questions.Question.{Question}
+use Rattle.camp_talk.specs.declared.questions.Question.TheVariants as question
+
+-- a text tells of failure exactly where it is that of a refusal
+abbrev Refuses : List ℕ → Type 0
+Refuses text =
+    (tells_failure text ≡ true) ↔ ((refusal : Refusal) × (text ≡ reply_text (reply.Refused refusal)))
+
+refused_fails : (refusal : Refusal) → tells_failure (reply_text (reply.Refused refusal)) ≡ true
+refused_fails (NoBranch branch) = refl
+refused_fails (BranchExists branch) = refl
+refused_fails (PatchExists name) = refl
+refused_fails (NoPatch name) = refl
+refused_fails NothingToDo = refl
+refused_fails TooLarge = refl
+refused_fails DoesNotApply = refl
+refused_fails (Depends patch on) = refl
+refused_fails (Diverged name) = refl
+refused_fails (NoMerge left right) = refl
+refused_fails (SameBranch branch) = refl
+
+refused : (refusal : Refusal) → Refuses (reply_text (reply.Refused refusal))
+refused refusal = (λ e. (refusal, refl), λ w. refused_fails refusal)
+
+-- one that tells of none is that of no refusal
+plain : (text : List ℕ) → tells_failure text ≡ false → Refuses text
+plain text none = (
+  λ e. absurd (true≢false (sym e ∙ none)),
+  λ w. absurd (true≢false (sym (refused_fails w.0) ∙ sym (ap tells_failure w.1) ∙ none)),
+)
+
+reply_fails : (answer : Reply) → Refuses (reply_text answer)
+reply_fails (reply.Done at) = plain (reply_text (reply.Done at)) refl
+reply_fails (reply.Refused refusal) = refused refusal
+reply_fails (reply.Tree tree) = plain (reply_text (reply.Tree tree)) refl
+reply_fails (reply.Conflicts pairs) = plain (reply_text (reply.Conflicts pairs)) refl
+reply_fails (reply.Names names) = plain (reply_text (reply.Names names)) refl
+
+module _ {A : Type 0} (text_of : A → List ℕ) (none : (answer : A) → tells_failure (text_of answer) ≡ false) where
+  answer_fails : (answer : AnswerOf A) → Refuses (told text_of answer)
+  answer_fails (Ok answer) = plain (text_of answer) (none answer)
+  answer_fails (Err refusal) = refused refusal
+
+  told_fails : (ComesTo : AnswerOf A → Type 0) (text : List ℕ) → IsTold text_of ComesTo text → Refuses text
+  told_fails ComesTo text is = subst Refuses (sym is.tells) (answer_fails is.answer)
+
+annotated_plain : (answer : Annotated) → tells_failure (annotated_told answer) ≡ false
+annotated_plain (annotated.File lines names) = refl
+annotated_plain annotated.NoFile = refl
+
+marks_plain : (answer : Marked) → tells_failure (marks_told answer) ≡ false
+marks_plain (marked.File file) = refl
+marks_plain marked.NoFile = refl
+
+file_plain : (lines : Option Lines) → tells_failure (file_told lines) ≡ false
+file_plain None = refl
+file_plain (Some lines) = refl
+
+question_fails : (history : Entries) (state : Contents) (q : Question) (text : List ℕ) → TellsAt history state q text → Refuses text
+question_fails history state (question.Needs branch names) text is = told_fails _ (λ answer. refl) _ text is
+question_fails history state (question.Held branch names) text is = told_fails _ (λ answer. refl) _ text is
+question_fails history state (question.Missing from to) text is = told_fails _ (λ answer. refl) _ text is
+question_fails history state (question.Show branch name) text is = told_fails _ (λ answer. refl) _ text is
+question_fails history state (question.Annotate branch path) text is = told_fails _ annotated_plain _ text is
+question_fails history state (question.Along from to names) text is = told_fails _ (λ answer. refl) _ text is
+question_fails history state (question.Open branch) text is = told_fails _ (λ answer. refl) _ text is
+question_fails history state (question.Side branch name) text is = told_fails _ (λ answer. refl) _ text is
+question_fails history state (question.Marks branch path) text is = told_fails _ marks_plain _ text is
+question_fails history state (question.File branch path) text is = told_fails _ file_plain _ text is
+question_fails history state question.Branches text is = subst Refuses (sym is) (plain _ refl)
+question_fails history state (question.Graph branch names) text is = told_fails _ (λ answer. refl) _ text is
+question_fails history state (question.WhatIf call) text is = subst Refuses (sym is.2) (plain _ refl)
+question_fails history state question.History text is = subst Refuses (sym is) (plain _ refl)
+question_fails history state question.Keep text is = subst Refuses (sym is) (plain _ refl)
+question_fails history state (question.Help topic) text is = subst Refuses (sym is) (plain _ refl)
+
+-- what is answered to what is asked
+asked_fails : (before : Standing) (a : Result Asked LineFault) (text : List ℕ) (now : Entries) → Tells before a text now → (tells_failure text ≡ true) ↔ Failed a text
+asked_fails before (Err fault) text now tells = (λ e. tt, λ w. ap tells_failure tells.0)
+asked_fails before (Ok asked.Nothing) text now tells = (λ e. true≢false (sym e ∙ ap tells_failure tells.0), λ w. absurd w)
+asked_fails before (Ok (asked.Call call)) text now tells = subst Refuses (sym tells.tells) (reply_fails tells.reply)
+asked_fails before (Ok (asked.Question q)) text now tells = question_fails before.history tells.0.0 q text tells.0.2
+
+pub failures_are_told : FailuresAreTold
+failures_are_told before command text after answers = elim answers.tells [
+  | inl tells ↦
+      let both = asked_fails before (asked_by command) text after.history tells in (
+        λ e. inl (both.0 e),
+        λ w. elim w [
+          | inl failed ↦ both.1 failed
+          | inr none ↦ ap tells_failure none
+        ],
+      )
+  | inr want ↦ (λ e. inr want.0, λ w. ap tells_failure want.0)
+]

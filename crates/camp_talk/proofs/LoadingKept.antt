@@ -1,0 +1,263 @@
+-- The text that keeps a history is loaded, call by call.
+use Rattle.camp_talk.proofs.Words.{◌≡◌, ◌≤◌, ◌⊎◌, inl, inr, ℕ, ◌+◌, Bool, true, false, List, [], ◌∷◌, ◌++◌, length, map, drop, Option, None, Some, Result, Ok, Err, refl, sym, ap, subst, ◌∙◌, arith, append_assoc, append-nil, map-append, drop-append_seam, true≢false, flat_map, All, All-head, All-tail, Consumes, Call, LineFault, reply_text, Answers, Standing, Tells, TellsWant, asked_by, Entries, Exchange, Follow, IsCommand, IsLeft, ReadsCommand, Done, Fails, TellsSuccess, Wants, tells_failure, Asked}
+use Rattle.std.proofs.Common.{IsSome}
+use Rattle.std.proofs.lemmas.List.Concat.{flat_map-cons}
+use Rattle.std.specs.List.{AllByRecursion}
+use Rattle.std.specs.Option.{option_and_then}
+use Rattle.camp_call.specs.declared.replies.Reply.{Reply}
+use Rattle.camp_call.specs.declared.replies.Reply.TheVariants as reply
+use Rattle.camp_object.specs.Asking.{Ask, alone_at}
+use Rattle.camp_object.specs.Histories.{IsAccepted, IsAnswered, IsFront, IsLegal, replay, run}
+use Rattle.camp_object.proofs.Replays.{legal_front, replay_more, some_is_some}
+use Rattle.camp_repo.specs.Objects.{repository}
+use Rattle.camp_repo.specs.States.{Contents, initial}
+use Rattle.camp_script.specs.Canonical.{IsScriptCall, call_text, section_text}
+use Rattle.camp_script.specs.Keeping.{calls_of, kept_text}
+use Rattle.camp_talk.specs.Laws.{ComesBack, IsReadWhole, KeptIsLoaded, at_seat_0}
+use Rattle.camp_talk.specs.Loads.{Ends, EndsWell, Loads}
+use Rattle.camp_talk.specs.declared.faults.LoadFault.{LoadFault}
+use Rattle.camp_talk.specs.declared.faults.LoadFault.TheVariants.{Answer, Memory, Talk}
+use Rattle.camp_talk.specs.declared.questions.Asked.TheVariants as asked
+use Rattle.camp_talk.proofs.CanonicalCommands.{asks_call, is_command, left_is, not_empty, one_command}
+
+-- ---- an accepted call is done
+
+abbrev alone : List Call → Entries
+alone calls = map (λ call. (0, call)) calls
+
+module _ (seen now : Entries) (c : Call) (accepted : IsAccepted repository seen c) where
+  not_answered : {A : Type 0} (answer : Reply) → now ≡ seen → IsAnswered repository now c answer → A
+  not_answered answer same answered =
+      let here : IsAccepted repository now c = subst (λ history. IsAccepted repository history c) (sym same) accepted in
+      let none : IsSome (option_and_then (λ (state : Contents). repository.after state c) (Some answered.state)) = subst (λ (found : Option Contents). IsSome (option_and_then (λ state. repository.after state c) found)) answered.replays here in
+      absurd (true≢false (sym (subst (λ (found : Option Contents). IsSome found) answered.stays none)))
+
+  -- it ends the history, and its answer tells no failure
+  accepts : (answer : Reply) (text : List ℕ) → text ≡ reply_text answer → Ask repository (alone_at 0) seen c (Ok answer) now → (now ≡ seen ++ (0, c) ∷ []) × (tells_failure text ≡ false)
+  accepts (reply.Done at) text tells asks = (
+    asks.says.ends ∙ ap (λ (history : Entries). history ++ (0, c) ∷ []) (asks.says.exact refl),
+    ap tells_failure tells,
+  )
+  accepts (reply.Refused refusal) text tells asks = not_answered (reply.Refused refusal) (asks.says.0.exact refl) asks.says.1
+  accepts (reply.Tree tree) text tells asks = not_answered (reply.Tree tree) (asks.says.0.exact refl) asks.says.1
+  accepts (reply.Conflicts pairs) text tells asks = not_answered (reply.Conflicts pairs) (asks.says.0.exact refl) asks.says.1
+  accepts (reply.Names names) text tells asks = not_answered (reply.Names names) (asks.says.0.exact refl) asks.says.1
+
+-- the text of a call is answered
+module _ (c : Call) (can : IsScriptCall c) (short : IsReadWhole c) (before : Standing) (text : List ℕ) (now : Entries) (accepted : IsAccepted repository before.history c) where
+  answered_so : Tells before (asked_by (call_text c)) text now → (now ≡ before.history ++ (0, c) ∷ []) × (tells_failure text ≡ false)
+  answered_so tells =
+      let replies = subst (λ (asked : Result Asked LineFault). Tells before asked text now) (asks_call c can short) tells in
+      accepts before.history now c accepted replies.reply text replies.tells replies.asks
+
+  done_so : Tells before (asked_by (call_text c)) text now ⊎ TellsWant before text now → TellsSuccess text → now ≡ before.history ++ (0, c) ∷ []
+  done_so (inl tells) well = (answered_so tells).0
+  done_so (inr want) well = absurd (true≢false (ap tells_failure (sym want.0) ∙ well))
+
+-- ---- calls that are accepted one behind another
+
+abbrev AcceptedFrom : Entries → List Call → Type 0
+AcceptedFrom before [] = Unit {0}
+AcceptedFrom before (c ∷ calls) = IsAccepted repository before c × AcceptedFrom (before ++ (0, c) ∷ []) calls
+
+accepted_from : (before : Entries) (calls : List Call) → IsLegal repository (before ++ alone calls) → AcceptedFrom before calls
+accepted_from before [] legal = tt
+accepted_from before (c ∷ calls) legal =
+    let makes : (before ++ (0, c) ∷ []) ++ alone calls ≡ before ++ alone (c ∷ calls) = append_assoc before ((0, c) ∷ []) (alone calls) in
+    let here : IsLegal repository (before ++ (0, c) ∷ []) = legal_front repository (record { rest = alone calls; makes = makes }) legal in (
+      subst (λ (found : Option Contents). IsSome found) (replay_more repository before (0, c)) here,
+      accepted_from (before ++ (0, c) ∷ []) calls (subst (λ (history : Entries). IsLegal repository history) (sym makes) legal),
+    )
+
+run_at_seat_0 : (history : Entries) (from : Option Contents) → run repository from (at_seat_0 history) ≡ run repository from history
+run_at_seat_0 [] from = refl
+run_at_seat_0 (entry ∷ history) from =
+    run_at_seat_0 history (option_and_then (λ state. repository.after state entry.1) from)
+
+-- ---- what a load has come to
+
+-- some calls are done, and the text of the others is left
+record Walked (calls : List Call) (before after : Entries) (left : List ℕ) : Type 0 where
+  done : List Call
+  more : List Call
+  parts : calls ≡ done ++ more
+  history : after ≡ before ++ alone done
+  left_is : left ≡ section_text more
+  can : AllByRecursion IsScriptCall more
+  short : AllByRecursion IsReadWhole more
+  accepted : AcceptedFrom after more
+
+abbrev commands_of : List Exchange → List ℕ
+commands_of said = flat_map (λ exchange. exchange.command) said
+
+-- the call whose text stands first was read
+behind_first : (c : Call) (calls : List Call) (command rest : List ℕ) → IsScriptCall c → IsReadWhole c → IsCommand command → section_text (c ∷ calls) ≡ command ++ rest
+    → (command ≡ call_text c) × (section_text calls ≡ rest)
+behind_first c calls command rest can short is same =
+    let cons : section_text (c ∷ calls) ≡ call_text c ++ section_text calls = flat_map-cons call_text c calls in
+    let all : command ++ rest ≡ call_text c ++ section_text calls = sym same ∙ cons in
+    let one = one_command command (call_text c) rest (section_text calls) is (is_command c can short) all in (
+      one,
+      sym (drop-append_seam (call_text c) (section_text calls)) ∙ ap (drop (length (call_text c))) (sym all ∙ ap (λ bytes. bytes ++ rest) one) ∙ drop-append_seam (call_text c) rest,
+    )
+
+walk : (said : List Exchange) (first last : Standing) (calls : List Call) (left : List ℕ) → Follow first said last → All (λ exchange. TellsSuccess exchange.answer) said
+    → section_text calls ≡ commands_of said ++ left → AllByRecursion IsScriptCall calls → AllByRecursion IsReadWhole calls → AcceptedFrom first.history calls → Walked calls first.history last.history left
+walk [] first last calls left follow well same can short accepted =
+    let history : last.history ≡ first.history = ap (λ (standing : Standing). standing.history) (sym follow) in
+    record {
+      done = [];
+      more = calls;
+      parts = refl;
+      history = history ∙ sym (append-nil first.history);
+      left_is = sym same;
+      can = can;
+      short = short;
+      accepted = subst (λ (h : Entries). AcceptedFrom h calls) (sym history) accepted;
+    }
+walk (exchange ∷ others) first last [] left follow well same can short accepted =
+    let cons : commands_of (exchange ∷ others) ≡ exchange.command ++ commands_of others = flat_map-cons (λ (e : Exchange). e.command) exchange others in
+    absurd (not_empty exchange.command (commands_of others ++ left) follow.1 (sym (append_assoc exchange.command (commands_of others) left) ∙ ap (λ bytes. bytes ++ left) (sym cons) ∙ sym same))
+walk (exchange ∷ others) first last (c ∷ calls) left follow well same can short accepted =
+    let cons : commands_of (exchange ∷ others) ≡ exchange.command ++ commands_of others = flat_map-cons (λ (e : Exchange). e.command) exchange others in
+    let next = follow.0 in
+    let step = behind_first c calls exchange.command (commands_of others ++ left) can.0 short.0 follow.1 (same ∙ ap (λ bytes. bytes ++ left) cons ∙ append_assoc exchange.command (commands_of others) left) in
+    let tells = subst (λ (command : List ℕ). Tells first (asked_by command) exchange.answer next.history ⊎ TellsWant first exchange.answer next.history) step.0 follow.2.tells in
+    let grown : next.history ≡ first.history ++ (0, c) ∷ [] = done_so c can.0 short.0 first exchange.answer next.history accepted.0 tells (All-head (λ (e : Exchange). TellsSuccess e.answer) exchange others well) in
+    let more = walk others next last calls left follow.3 (All-tail (λ (e : Exchange). TellsSuccess e.answer) exchange others well) step.1 can.1 short.1 (subst (λ (h : Entries). AcceptedFrom h calls) (sym grown) accepted.1) in
+    record {
+      done = c ∷ more.done;
+      more = more.more;
+      parts = ap (λ (cs : List Call). c ∷ cs) more.parts;
+      history = more.history ∙ ap (λ (h : Entries). h ++ alone more.done) grown ∙ append_assoc first.history ((0, c) ∷ []) (alone more.done);
+      left_is = more.left_is;
+      can = more.can;
+      short = more.short;
+      accepted = more.accepted;
+    }
+
+-- ---- how it ends
+
+-- the command that was read is that of the next call, or there is none and it is empty
+record NextOf (more : List Call) (command : List ℕ) : Type 0 where
+  is : ((more ≡ []) × (command ≡ [])) ⊎ ((c : Call) × (others : List Call) × (more ≡ c ∷ others) × (command ≡ call_text c))
+
+empty_section : (calls : List Call) → AllByRecursion IsScriptCall calls → AllByRecursion IsReadWhole calls → section_text calls ≡ [] → calls ≡ []
+empty_section [] can short none = refl
+empty_section (c ∷ calls) can short none =
+    absurd (not_empty (call_text c) (section_text calls) (is_command c can.0 short.0) (sym (flat_map-cons call_text c calls) ∙ none))
+
+whole_next : (more : List Call) (command rest : List ℕ) → AllByRecursion IsScriptCall more → AllByRecursion IsReadWhole more → IsCommand command → section_text more ≡ command ++ rest → NextOf more command
+whole_next [] command rest can short is same = absurd (not_empty command rest is (sym same))
+whole_next (c ∷ others) command rest can short is same =
+    record { is = inr (c, others, refl, (behind_first c others command rest can.0 short.0 is same).0) }
+
+-- at the end of the input it is the last one
+record LastOf (more : List Call) (command : List ℕ) : Type 0 where
+  is : ((more ≡ []) × (command ≡ [])) ⊎ ((c : Call) × (more ≡ c ∷ []) × (command ≡ call_text c))
+
+left_next : (more : List Call) (command : List ℕ) → AllByRecursion IsScriptCall more → AllByRecursion IsReadWhole more → IsLeft command → section_text more ≡ command → LastOf more command
+left_next [] command can short is same = record { is = inl (refl, sym same) }
+left_next (c ∷ others) command can short is same =
+    let cons : section_text (c ∷ others) ≡ call_text c ++ section_text others = flat_map-cons call_text c others in
+    let none = left_is (call_text c) (section_text others) (is_command c can.0 short.0) (subst (λ (bytes : List ℕ). IsLeft bytes) (sym same ∙ cons) is) in
+    let last = empty_section others can.1 short.1 none in
+    record { is = inr (c, ap (λ (cs : List Call). c ∷ cs) last, sym same ∙ cons ∙ ap (λ bytes. call_text c ++ bytes) none ∙ append-nil (call_text c)) }
+
+module _ (calls : List Call) (middle : Standing) (left : List ℕ) (walked : Walked calls [] middle.history left) where
+  first_done : IsFront middle.history (alone calls)
+  first_done = record {
+    rest = alone walked.more;
+    makes = ap (λ (h : Entries). h ++ alone walked.more) walked.history ∙ sym (map-append (λ (c : Call). (0, c)) walked.done walked.more) ∙ ap alone (sym walked.parts);
+  }
+
+  all_done : walked.more ≡ [] → middle.history ≡ alone calls
+  all_done none =
+      walked.history ∙ ap alone (sym (append-nil walked.done) ∙ ap (λ (cs : List Call). walked.done ++ cs) (sym none) ∙ sym walked.parts)
+
+  one_done : (c : Call) → walked.more ≡ c ∷ [] → middle.history ++ (0, c) ∷ [] ≡ alone calls
+  one_done c one =
+      ap (λ (h : Entries). h ++ (0, c) ∷ []) walked.history ∙ sym (map-append (λ (d : Call). (0, d)) walked.done (c ∷ []))
+      ∙ ap alone (ap (λ (cs : List Call). walked.done ++ cs) (sym one) ∙ sym walked.parts)
+
+  facts : (c : Call) (others : List Call) → walked.more ≡ c ∷ others → IsScriptCall c × IsReadWhole c × IsAccepted repository middle.history c
+  facts c others one = (
+    (subst (λ (cs : List Call). AllByRecursion IsScriptCall cs) one walked.can).0,
+    (subst (λ (cs : List Call). AllByRecursion IsReadWhole cs) one walked.short).0,
+    (subst (λ (cs : List Call). AcceptedFrom middle.history cs) one walked.accepted).0,
+  )
+
+  -- the input has ended, and what it left was done
+  ends_well : (rest : Option (List ℕ)) (now : Entries) → EndsWell (Some left) rest middle now → now ≡ alone calls
+  ends_well None now ends = absurd ends.reads.0
+  ends_well (Some rest) now ends =
+      let command = ends.said.command in
+      let all : left ≡ command = ends.reads.0 ∙ ap (λ (bytes : List ℕ). command ++ bytes) ends.reads.2 ∙ append-nil command in
+      by (left_next walked.more command walked.can walked.short ends.reads.1 (sym walked.left_is ∙ all)).is
+    where
+      nothing : (command : List ℕ) → command ≡ [] → Tells middle (asked_by command) ends.said.answer ends.after.history ⊎ TellsWant middle ends.said.answer ends.after.history → ends.after.history ≡ middle.history
+      nothing command none (inl tells) =
+          (subst (λ (bytes : List ℕ). Tells middle (asked_by bytes) ends.said.answer ends.after.history) none tells).1
+      nothing command none (inr want) = want.1
+
+      by : ((walked.more ≡ []) × (ends.said.command ≡ [])) ⊎ ((c : Call) × (walked.more ≡ c ∷ []) × (ends.said.command ≡ call_text c)) → now ≡ alone calls
+      by (inl (none, empty)) = ends.same ∙ nothing ends.said.command empty ends.answers.tells ∙ all_done none
+      by (inr (c, one, is)) =
+          let (can, short, accepted) = facts c [] one in
+          let tells = subst (λ (command : List ℕ). Tells middle (asked_by command) ends.said.answer ends.after.history ⊎ TellsWant middle ends.said.answer ends.after.history) is ends.answers.tells in
+          ends.same ∙ done_so c can short middle ends.said.answer ends.after.history accepted tells ends.well ∙ one_done c one
+
+  -- a command that was not done is none of these
+  fails_never : (rest : Option (List ℕ)) (line : ℕ) (text : List ℕ) (now : Entries) → Fails (Some left) rest middle line text now → ⊥
+  fails_never rest line text now fails = from fails.whole rest fails.reads
+    where
+      by : (command : List ℕ) → fails.command ≡ command → ((walked.more ≡ []) × (command ≡ [])) ⊎ ((c : Call) × (others : List Call) × (walked.more ≡ c ∷ others) × (command ≡ call_text c)) → ⊥
+      by command same (inl (none, empty)) =
+          let tells = subst (λ (bytes : List ℕ). Tells middle (asked_by bytes) text now) (same ∙ empty) fails.tells in
+          absurd (true≢false (sym fails.failure ∙ ap tells_failure tells.0))
+      by command same (inr (c, others, one, is)) =
+          let (can, short, accepted) = facts c others one in
+          let tells = subst (λ (bytes : List ℕ). Tells middle (asked_by bytes) text now) (same ∙ is) fails.tells in
+          absurd (true≢false (sym fails.failure ∙ (answered_so c can short middle text now accepted tells).1))
+
+      wider : (command : List ℕ) → ((walked.more ≡ []) × (command ≡ [])) ⊎ ((c : Call) × (walked.more ≡ c ∷ []) × (command ≡ call_text c))
+          → ((walked.more ≡ []) × (command ≡ [])) ⊎ ((c : Call) × (others : List Call) × (walked.more ≡ c ∷ others) × (command ≡ call_text c))
+      wider command (inl none) = inl none
+      wider command (inr (c, one, is)) = inr (c, [], one, is)
+
+      from : (whole : Bool) (rest : Option (List ℕ)) → ReadsCommand (Some left) rest whole fails.command → ⊥
+      from true None reads = absurd reads.0
+      from true (Some rest) reads =
+          by fails.command refl (whole_next walked.more fails.command rest walked.can walked.short reads.1 (sym walked.left_is ∙ reads.0)).is
+      from false None reads = absurd reads.0
+      from false (Some rest) reads =
+          let all : left ≡ fails.command = reads.0 ∙ ap (λ (bytes : List ℕ). fails.command ++ bytes) reads.2 ∙ append-nil fails.command in
+          by fails.command refl (wider fails.command (left_next walked.more fails.command walked.can walked.short reads.1 (sym walked.left_is ∙ all)).is)
+
+module _ (history : Entries) (state : Contents) (replays : replay repository history ≡ Some state) (can : AllByRecursion IsScriptCall (calls_of history)) (short : AllByRecursion IsReadWhole (calls_of history)) where
+  abbrev calls : List Call
+  calls = calls_of history
+
+  back : replay repository (at_seat_0 history) ≡ Some state
+  back = run_at_seat_0 history (Some initial) ∙ replays
+
+  walked : (left : List ℕ) (middle : Standing) → Done (Some (kept_text history)) (Some left) (record { history = []; lines = 0 }) middle → Walked calls [] middle.history left
+  walked left middle done =
+      walk done.said (record { history = []; lines = 0 }) middle calls left done.follow done.well (sym (append-nil (section_text calls)) ∙ done.reads) can short (accepted_from [] calls (some_is_some back))
+
+  ended : (left rest : Option (List ℕ)) (middle : Standing) (result : Result (Unit {0}) LoadFault) (now : Entries)
+      → Done (Some (kept_text history)) left (record { history = []; lines = 0 }) middle → Ends left rest middle result now → ComesBack history state result now
+  ended None rest middle result now done ends = absurd done.reads
+  ended (Some left) rest middle (Ok unit) now done ends =
+      let all = ends_well calls middle left (walked left middle done) rest now ends in
+      (all, ap (replay repository) all ∙ back)
+  ended (Some left) rest middle (Err (Answer line text)) now done ends =
+      fails_never calls middle left (walked left middle done) rest line text.items now ends
+  ended (Some left) rest middle (Err (Memory line)) now done ends =
+      subst (λ (h : Entries). IsFront h (at_seat_0 history)) (sym ends.same) (first_done calls middle left (walked left middle done))
+  ended (Some left) rest middle (Err (Talk why)) now done ends =
+      subst (λ (h : Entries). IsFront h (at_seat_0 history)) (sym ends.1) (first_done calls middle left (walked left middle done))
+
+pub kept_is_loaded : KeptIsLoaded
+kept_is_loaded history state replays can short rest result now loads =
+    ended history state replays can short loads.left rest loads.middle result now loads.done loads.ends
