@@ -7,6 +7,7 @@ pub mod Arrows
 pub mod BackwardArrows
 pub mod BranchGrowths
 pub mod CommonSteps
+pub mod FileMarks
 pub mod Foreseeing
 pub mod ForeseenCalls
 pub mod GraphSteps

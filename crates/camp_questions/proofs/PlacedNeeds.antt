@@ -1,7 +1,7 @@
 -- Direct needs, found by places.
-use Rattle.camp_questions.proofs.Words.{◌≡◌, ◌<◌, ◌≤◌, ◌==◌, ℕ, zero, suc, ◌+◌, Bool, true, false, true≢false, not, ◌&&◌, ◌||◌, cond, inl, inr, ◌⊎◌, List, [], ◌∷◌, ◌++◌, filter, map, length, take, drop, get_or, bytes_eq, refl, sym, ap, ◌∙◌, subst, arith, AllByRecursion, list_any, drop_all, drop_more, filter-append, map-append, take_more, name_itself, AreDistinct, goes_between, needs_directly, needs_other, all_append}
+use Rattle.camp_questions.proofs.Words.{◌≡◌, ◌<◌, ◌≤◌, ◌==◌, ℕ, zero, suc, ◌+◌, ◌-◌, Bool, true, false, true≢false, not, ◌&&◌, ◌||◌, cond, inl, inr, ◌⊎◌, List, [], ◌∷◌, ◌++◌, filter, map, length, take, drop, get_or, bytes_eq, append-nil, refl, sym, ap, ◌∙◌, subst, arith, AllByRecursion, list_any, drop_all, drop_more, filter-append, map-append, take_more, name_itself, AreDistinct, goes_between, needs_directly, needs_other, all_append}
 use Rattle.std.proofs.lemmas.Bool.{eq-eqb, eqb-true}
-use Rattle.std.proofs.lemmas.List.{get_or-map, length-map, take_all}
+use Rattle.std.proofs.lemmas.List.{get_or-map, get_or_past, length-map, take_all}
 use Rattle.camp_branch.proofs.Names.{filter_image, other_way}
 use Rattle.camp_questions.specs.Graphs.{Needing}
 use Rattle.camp_questions.specs.declared.graphs.Node.{Node}
@@ -42,6 +42,14 @@ pub names_that_pass : (test : List ℕ → Bool) (names : List (List ℕ)) (plac
 names_that_pass test names places are =
     ap (map (name_at names)) are ∙ sym (filter_image (name_at names) test (up_to (length names))) ∙ ap (filter test) (names_up_to names (length names) (omega arith) ∙ take_all (length names) names (omega arith))
 
+-- places behind one that do not pass change nothing
+filter_behind : (f : ℕ → Bool) (end left : ℕ) → ((k : ℕ) → end ≤ k → k < end + left → f k ≡ false) → filter f (up_to (end + left)) ≡ filter f (up_to end)
+filter_behind f end zero none =
+    let e : end + 0 ≡ end = omega arith in ap (λ n. filter f (up_to n)) e
+filter_behind f end (suc left) none =
+    let e : end + suc left ≡ (end + left) + 1 = omega arith in
+    ap (λ n. filter f (up_to n)) e ∙ one_more_place f (end + left) ∙ ap (λ b. filter f (up_to (end + left)) ++ cond b ((end + left) ∷ []) []) (none (end + left) (omega arith) (omega arith)) ∙ append-nil (filter f (up_to (end + left))) ∙ filter_behind f end left (λ k past less. none k past (omega (arith, less)))
+
 all_within_up_to : (n : ℕ) → AllByRecursion (λ k. k < n) (up_to n)
 all_within_up_to n = each n (omega arith)
   where
@@ -60,6 +68,48 @@ all_kept P f (k ∷ l) w = at (f k) (all_kept P f l w.1)
 
 pub places_within : (f : ℕ → Bool) (n : ℕ) → AllByRecursion (λ k. k < n) (filter f (up_to n))
 places_within f n = all_kept (λ k. k < n) f (up_to n) (all_within_up_to n)
+
+-- the first of the places is the least
+first_joined : (l : List ℕ) (n : ℕ) (b : Bool) → AllByRecursion (λ k. get_or l 0 0 ≤ k) l → AllByRecursion (λ k. k < n) l → AllByRecursion (λ k. get_or (l ++ cond b (n ∷ []) []) 0 0 ≤ k) (l ++ cond b (n ∷ []) [])
+first_joined [] n true least within = (omega arith, tt)
+first_joined [] n false least within = tt
+first_joined (j ∷ l) n b least within = all_append (λ k. j ≤ k) (j ∷ l) (cond b (n ∷ []) []) least (last b)
+  where
+    last : (b : Bool) → AllByRecursion (λ k. j ≤ k) (cond b (n ∷ []) [])
+    last true = let less = within.0 in (omega (arith, less), tt)
+    last false = tt
+
+pub first_is_least : (f : ℕ → Bool) (n : ℕ) → AllByRecursion (λ k. get_or (filter f (up_to n)) 0 0 ≤ k) (filter f (up_to n))
+first_is_least f zero = tt
+first_is_least f (suc n) =
+    subst (λ l. AllByRecursion (λ k. get_or l 0 0 ≤ k) l) (sym (filter-append f (up_to n) (n ∷ []))) (first_joined (filter f (up_to n)) n (f n) (first_is_least f n) (places_within f n))
+
+and_false : (b : Bool) → (b && false) ≡ false
+and_false true = refl
+and_false false = refl
+
+-- behind the last mark none is needed
+none_behind : (marks : List Bool) (at k : ℕ) → length marks ≤ k → needs_place marks at k ≡ false
+none_behind marks at k past =
+    ap (λ b. not (k == at) && b) (get_or_past marks k false past) ∙ and_false (not (k == at))
+
+-- marks that end before all places leave out none of them
+none_left_out : (marks : List Bool) (at : ℕ) (places : List ℕ) → AllByRecursion (λ k. length marks ≤ k) places → filter (λ k. not (needs_place marks at k)) places ≡ places
+none_left_out marks at [] past = refl
+none_left_out marks at (k ∷ places) past =
+    (λ i. cond (not (none_behind marks at k past.0 i)) (k ∷ filter (λ k. not (needs_place marks at k)) places) (filter (λ k. not (needs_place marks at k)) places)) ∙ ap (λ l. k ∷ l) (none_left_out marks at places past.1)
+
+-- where the first of the places, which is the least, is behind the marks, all are
+all_behind_marks : (marks : List Bool) (places : List ℕ) (first : ℕ) → length marks ≤ first → AllByRecursion (λ k. first ≤ k) places → AllByRecursion (λ k. length marks ≤ k) places
+all_behind_marks marks [] first past least = tt
+all_behind_marks marks (k ∷ places) first past least =
+    let behind = least.0 in
+    ((omega (arith, past, behind)), all_behind_marks marks places first past least.1)
+
+pub ends_before : (marks : List Bool) (at : ℕ) (places : List ℕ) (first : ℕ) → first ≡ get_or places 0 first → length marks ≤ first → AllByRecursion (λ k. get_or places 0 0 ≤ k) places → filter (λ k. not (needs_place marks at k)) places ≡ places
+ends_before marks at [] first is past least = refl
+ends_before marks at (k ∷ places) first is past least =
+    none_left_out marks at (k ∷ places) (all_behind_marks marks (k ∷ places) first past (subst (λ f. AllByRecursion (λ j. f ≤ j) (k ∷ places)) (sym is) least))
 
 -- one number is less than another, greater, or the same
 nat_cases : (j k : ℕ) → (j < k) ⊎ ((k < j) ⊎ (j ≡ k))
@@ -150,6 +200,24 @@ module _ (names : List (List ℕ)) (all : List Needed) (named : map (λ (p : Nee
           ∙ filter_up_to (past (drop (i + 1) all)) (past (q ∷ drop (i + 1) all)) (length names) (λ k less.
           ap (λ b. needs_other (needing names p) (name_at names k) && not (b || list_any (goes_between (needing names p) (name_at names k)) (map (needing names) (drop (i + 1) all)))) (sym (ap (λ b. b && needs_other (needing names q) (name_at names k)) (needs_it ∙ needless))))
           ∙ ap (λ l. filter (past l) (up_to (length names))) (sym behind)
+
+    skipped : (places : List ℕ) (end left : ℕ) → ((k : ℕ) → end ≤ k → k < length all → length p.needs.items ≤ k) → end + left ≤ length all → places ≡ filter (past (drop (end + left) all)) (up_to (length names)) → places ≡ filter (past (drop end all)) (up_to (length names))
+    skipped places end zero behind inside so_far =
+        let e : end + 0 ≡ end = omega arith in
+        so_far ∙ ap (λ m. filter (past (drop m all)) (up_to (length names))) e
+    skipped places end (suc left) behind inside so_far =
+        let i = end + left in
+        let here : i < length all = omega (arith, inside) in
+        skipped places end left behind (omega (arith, inside)) (stays_past places (end + suc left) i (get_or all i p) p (omega arith) here refl so_far (none_behind p.needs.items at i (behind i (omega arith) here)))
+
+    -- the patches behind its marks are not needed, so what they need matters not
+    pub starts_at : (places : List ℕ) (end : ℕ) → end ≤ length all → ((k : ℕ) → end ≤ k → k < length all → length p.needs.items ≤ k) → places ≡ filter (needs_place p.needs.items at) (up_to end) → places ≡ filter (past (drop end all)) (up_to (length names))
+    starts_at places end inside behind are =
+        let test = needs_place p.needs.items at in
+        let left = length all - end in
+        let whole : end + left ≡ length all = omega (arith, inside) in
+        let none : filter test (up_to (end + left)) ≡ filter test (up_to end) = filter_behind test end left (λ k far less. none_behind p.needs.items at k (behind k far (omega (arith, less, whole)))) in
+        skipped places end left behind (omega (arith, whole)) (starts_past places (end + left) whole (are ∙ sym none ∙ ap (λ n. filter test (up_to n)) whole))
 
     pub all_past : (places : List ℕ) (left : ℕ) → left ≡ 0 → places ≡ filter (past (drop left all)) (up_to (length names)) → map (name_at names) places ≡ (node_in names (map (needing names) all) (needing names p)).needs
     all_past places left none so_far =

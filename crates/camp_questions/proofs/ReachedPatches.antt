@@ -22,7 +22,7 @@ use Rattle.camp_questions.proofs.PatchFronts.{all_are, both_are}
 use Rattle.camp_questions.proofs.PatchesBack.{reversed}
 use Rattle.camp_questions.proofs.ReachedNeeds.{alone_among}
 use Rattle.camp_questions.proofs.TakenBack.{both_ways, come_back, go_back}
-use Rattle.camp_questions.proofs.WalkedPatches.{HeldAlike, IsWalked, all_before, all_there, can_go_then, held_here, one_more_done, own_at, patches_parted, there_of, walked_alike, walked_aside, walked_on}
+use Rattle.camp_questions.proofs.WalkedPatches.{HeldAlike, IsWalked, all_before, all_behind, all_there, can_go_then, held_here, one_more_done, own_at, patches_parted, there_of, walked_alike, walked_aside, walked_on}
 
 -- of patches from the last back to a place, those before the place are still to be walked over
 abbrev pub walked_from : List PatchCatches → ℕ → List Catch
@@ -68,6 +68,14 @@ module _ (patches : List PatchCatches) (are : ArePatches patches) where
     more_done : walked_from patches place ≡ walked_from patches (place + 1) ++ p.catches.items
     more_done =
         ap (λ k. catches_in_order (take k (reverse patches))) next ∙ one_more_done (reverse patches) index p d stands_within stands
+
+    -- what holds of all catches holds of those of the patch
+    pub catches_at : (P : Catch → Type 0) → AllByRecursion P all → AllByRecursion P p.catches.items
+    catches_at P holds =
+        let i = index in
+        let done = catches_in_order (take i (reverse patches)) in
+        let rest = catches_in_order (drop (i + 1) (reverse patches)) in
+        all_before P p.catches.items rest (all_behind P done (p.catches.items ++ rest) (subst (AllByRecursion P) (patches_parted (reverse patches) i p d stands_within stands) holds))
 
   -- the walk goes past a patch that comes before what goes
   pub back_aside : (held : List (List ℕ)) (place : ℕ) (p d : PatchCatches) (going left : List Catch) → place < length patches → p ≡ get_or patches place d → IsWalked all held (walked_from patches (place + 1)) going → is_among held p.name ≡ false → ComeBeforeAll p.name going p.catches.items left → IsWalked all held (walked_from patches place) left

@@ -152,7 +152,7 @@ pub all_before : (P : Catch → Type 0) (xs ys : List Catch) → AllByRecursion 
 all_before P [] ys w = tt
 all_before P (x ∷ xs) ys w = (w.0, all_before P xs ys w.1)
 
-all_behind : (P : Catch → Type 0) (xs ys : List Catch) → AllByRecursion P (xs ++ ys) → AllByRecursion P ys
+pub all_behind : (P : Catch → Type 0) (xs ys : List Catch) → AllByRecursion P (xs ++ ys) → AllByRecursion P ys
 all_behind P [] ys w = w
 all_behind P (x ∷ xs) ys w = all_behind P xs ys w.1
 

@@ -2,6 +2,7 @@
 pub mod Alongside
 pub mod ByPatch
 pub mod ByPlace
+pub mod ChangedFiles
 pub mod Finding
 pub mod Foresight
 pub mod Graphing

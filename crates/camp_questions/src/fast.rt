@@ -4,6 +4,10 @@
 //!   before all that go stays, and any other goes too.
 //! - What plain patches need is what they hold in the branch taken back, the last patch first and each
 //!   change inverted. It is so where all have room, both ways. Elsewhere the names grow one by one.
+//! - A patch of plain changes to other files than those of all that go comes before them as it is. Files
+//!   are told apart by small numbers.
+mod changed_files;
+mod going;
 mod patch_catches;
 mod reaching;
 mod standing_aside;

@@ -1,5 +1,5 @@
 //! The patches of a graph, found by their places.
-ghost use Rattle.std.specs.Prelude.{◌≡◌, ◌<◌, ◌==◌, ◌&&◌, ◌||◌, ℕ, Bool, List, [], not, map, filter, length, get_or, IfOk};
+ghost use Rattle.std.specs.Prelude.{◌≡◌, ◌<◌, ◌≤◌, ◌==◌, ◌&&◌, ◌||◌, ℕ, Bool, List, [], not, map, filter, length, get_or, IfOk};
 ghost use Rattle.std.specs.List.{AllByRecursion};
 ghost use Rattle.camp_branch.specs.Branches.{AreDistinct};
 ghost use Rattle.camp_questions.specs.Inside.Graphing.{needing};
@@ -46,8 +46,9 @@ fn direct_needs(
     ensures { IfOk result (λ needs.
         needs ≡ (node_in names.now (map (needing names.now) all.now) (needing names.now patch.now)).needs) }
 {
-    let mut places = needed_places(alloc, &patch.needs, at, all.len())?;
-    let mut left = all.len();
+    let end = patch.needs.len().min(all.len());
+    let mut places = needed_places(alloc, &patch.needs, at, end)?;
+    let mut left = end;
     while left > 0 {
         left -= 1;
         if needs(&patch.needs, at, left) {
@@ -83,10 +84,18 @@ fn needs(marks: &[bool], at: usize, place: usize) -> bool
     place != at && place < marks.len() && marks[place]
 }
 
-/// Leaves out the places of what the patch at a place needs.
+/// Leaves out the places of what the patch at a place needs. Where its marks end before the first of the
+/// places, that is none.
 fn leave_out(places: &mut Vec<usize>, marks: &[bool], at: usize)
+    requires { AllByRecursion (λ place. get_or places.old.items 0 0 ≤ place) places.old.items }
     ensures { places.new.items ≡ filter (λ place. not (needs_place marks.now at place)) places.old.items }
 {
+    if places.is_empty() {
+        return;
+    }
+    if marks.len() <= places[0] {
+        return;
+    }
     places.retain(|place| !needs(marks, at, *place));
 }
 

@@ -2,10 +2,12 @@
 ghost use Rattle.std.specs.Prelude.{◌≡◌, ◌<◌, ◌≤◌, List, length, IfOk};
 ghost use Rattle.camp_catch.specs.declared.catches.Catch.{Catch as AnyCatch};
 ghost use Rattle.camp_questions.specs.Inside.ByPatch.{ArePatches, names_in_order};
+ghost use Rattle.camp_questions.specs.Inside.ChangedFiles.{AreFilesOf};
 ghost use Rattle.camp_questions.specs.Inside.Graphing.{AreKnown, AreMarkedBelow, AreReached, IsInverted, NeedEach, marked_in_both};
 
-use crate::fast::patch_catches::{PatchCatches, append, shared};
-use crate::fast::standing_aside::stand_aside;
+use crate::fast::changed_files::{PatchFiles, files_of};
+use crate::fast::going::{comes_before, go_too, going_first};
+use crate::fast::patch_catches::PatchCatches;
 use crate::needed::Needed;
 use std::alloc::{AllocError, Global};
 
@@ -17,9 +19,10 @@ pub(crate) fn all_reached(
     requires { (branch : List AnyCatch) × IsInverted branch patches.now }
     ensures { IfOk result (λ all. (branch : List AnyCatch) → IsInverted branch patches.now → NeedEach branch (names_in_order patches.now) all.items) }
 {
+    let files = files_of(alloc, patches)?;
     let mut all = Vec::with_capacity(alloc, patches.len())?;
     for patch in patches {
-        let needs = reached(alloc, patches, &all)?;
+        let needs = reached(alloc, patches, &files, &all)?;
         all.push(Needed {
             name: patch.name,
             needs,
@@ -33,8 +36,11 @@ pub(crate) fn all_reached(
 fn reached(
     alloc: Global,
     patches: &[PatchCatches],
+    files: &[PatchFiles],
     known: &[Needed],
 ) -> Result<Vec<bool>, AllocError>
+    requires files { AreFilesOf patches.now files.now }
+    requires each { length files.now ≡ length patches.now }
     requires known { (branch : List AnyCatch) × IsInverted branch patches.now × AreKnown branch (names_in_order patches.now) known.now }
     requires next { length known.now < length patches.now }
     ensures { IfOk result (λ marks. (branch : List AnyCatch) → IsInverted branch patches.now → AreKnown branch (names_in_order patches.now) known.now → AreReached branch (names_in_order patches.now) (length known.now) marks.items) }
@@ -42,20 +48,21 @@ fn reached(
     let own = known.len();
     let mut marks = vec![in alloc; false; own + 1]?;
     marks[own] = true;
-    let mut going = shared(alloc, &patches[own].catches)?;
+    let mut going = going_first(alloc, &patches[own], &files[own])?;
     let mut all_below = first_unmarked(&marks, 0);
     let mut place = own;
     while place > all_below {
         place -= 1;
         let patch = &patches[place];
+        let changed = &files[place];
         if !marks[place] {
-            if stand_aside(alloc, &mut going, patch)? {
+            if comes_before(alloc, &mut going, patch, changed)? {
                 continue;
             }
             mark_all(&mut marks, &known[place].needs);
             all_below = first_unmarked(&marks, all_below);
         }
-        append(&mut going, &patch.catches)?;
+        go_too(&mut going, patch, changed)?;
     }
     Ok(marks)
 }

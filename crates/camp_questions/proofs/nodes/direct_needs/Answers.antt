@@ -1,8 +1,9 @@
-use Rattle.camp_questions.proofs.Words.{List, ◌≡◌, ◌+◌, ◌-◌, ◌<◌, ◌∙◌, ap, arith, filter, get_or, length, map, not, refl, sym, true, false, ℕ}
+use Rattle.camp_questions.proofs.Words.{List, ◌≡◌, ◌+◌, ◌-◌, ◌<◌, ◌≤◌, ◌∙◌, AllByRecursion, ap, arith, drop, filter, get_or, length, map, not, subst, sym, true, false, ℕ}
+use Rattle.std.specs.Prelude.{min}
 use Rattle.std.proofs.lemmas.List.{get_or_default}
 use Rattle.camp_questions.specs.Inside.ByPlace.{name_at, needs_place, up_to}
 use Rattle.camp_questions.specs.declared.needed.Needed.{Needed}
-use Rattle.camp_questions.proofs.PlacedNeeds.{all_past, goes_past, places_inside, starts_past, stays_past}
+use Rattle.camp_questions.proofs.PlacedNeeds.{all_past, first_is_least, goes_past, left_over, places_inside, starts_at, stays_past}
 use Rattle.camp_questions.proofs.nodes.direct_needs.Goals as goal
 
 pub loop-left-init : goal.loop-left-init
@@ -10,10 +11,18 @@ loop-left-init c =
     let names : List (List ℕ) = c.args.names.now in
     let all : List Needed = c.args.all.now in
     let p : Needed = c.args.patch.now in
+    let end = c.min-end.result in
+    let least : end ≡ min (length p.needs.items) (length all) = c.min-end.ensures ∙ ap (λ n. min n (length all)) (c.len.ensures ∙ p.needs.ok.0) in
     record {
-      within = omega arith;
-      places = starts_past names all c.requires.named c.requires.distinct c.args.at p p c.requires.within c.requires.is c.in_ok-places.places.items (length all) refl (c.in_ok-places.ensures ∙ ap (λ m. filter (needs_place m c.args.at) (up_to (length all))) c.deref.ensures.value);
+      within = omega (arith, least);
+      places = starts_at names all c.requires.named c.requires.distinct c.args.at p p c.requires.within c.requires.is c.in_ok-places.places.items end (omega (arith, least)) (λ k past less. omega (arith, past, less, least)) (c.in_ok-places.ensures ∙ ap (λ m. filter (needs_place m c.args.at) (up_to end)) c.deref.ensures.value);
     }
+
+pub leave_out-requires : goal.leave_out-requires
+leave_out-requires c =
+    let names : List (List ℕ) = c.args.names.now in
+    let p : Needed = c.args.patch.now in
+    subst (λ l. AllByRecursion (λ k. get_or l 0 0 ≤ k) l) (sym c.loop-left.invariant.places) (first_is_least (left_over names p (drop c.loop-left.left c.args.all.now)) (length names))
 
 pub loop-left-preserved-then-needs : goal.loop-left-preserved-then-needs
 loop-left-preserved-then-needs c =

@@ -1,9 +1,11 @@
 use Rattle.camp_questions.proofs.Words.{List, ◌≡◌, ◌+◌, ◌++◌, [], ◌∷◌, ◌∙◌, ap, arith, length, length-append, refl, subst, sym, ℕ, Catch}
 use Rattle.std.proofs.lemmas.List.{get_or-map, length-map}
 use Rattle.camp_questions.specs.Inside.ByPatch.{names_in_order}
+use Rattle.camp_questions.specs.Inside.ChangedFiles.{AreFilesOf}
 use Rattle.camp_questions.specs.Inside.Graphing.{AreKnown, AreReached}
 use Rattle.camp_questions.specs.declared.fast.patch_catches.PatchCatches.{PatchCatches}
 use Rattle.camp_questions.specs.declared.needed.Needed.{Needed}
+use Rattle.camp_questions.proofs.FileMarks.{as_many_files}
 use Rattle.camp_questions.proofs.ReachedPatches.{all_known, none_known, one_known}
 use Rattle.camp_questions.proofs.fast.reaching.all_reached.Goals as goal
 
@@ -15,12 +17,20 @@ loop-patch-init c = record {
 
 pub reached-requires-clause-known : goal.reached-requires-clause-known
 reached-requires-clause-known c =
-    (c.requires.0, c.requires.1, subst (AreKnown c.requires.0 (names_in_order c.args.patches.now)) (sym c.deref.ensures.value) (c.loop-patch.invariant.known c.requires.0 c.requires.1).known)
+    (c.requires.0, c.requires.1, subst (AreKnown c.requires.0 (names_in_order c.args.patches.now)) (sym c.deref-in-loop-patch.ensures.value) (c.loop-patch.invariant.known c.requires.0 c.requires.1).known)
 
 pub reached-requires-clause-next : goal.reached-requires-clause-next
 reached-requires-clause-next c =
-    let same = ap length c.deref.ensures.value in
+    let same = ap length c.deref-in-loop-patch.ensures.value in
     let count = c.loop-patch.invariant.count in omega (arith, same, count)
+
+pub reached-requires-clause-files : goal.reached-requires-clause-files
+reached-requires-clause-files c =
+    subst (AreFilesOf c.args.patches.now) (sym c.deref.ensures.value) c.in_ok-files.ensures
+
+pub reached-requires-clause-each : goal.reached-requires-clause-each
+reached-requires-clause-each c =
+    ap length c.deref.ensures.value ∙ as_many_files c.args.patches.now c.in_ok-files.files.items c.in_ok-files.ensures
 
 pub loop-patch-preserved : goal.loop-patch-preserved
 loop-patch-preserved c =
@@ -36,8 +46,8 @@ loop-patch-preserved c =
       count = ap length c.in_ok-push.ensures.items ∙ length-append all (one ∷ []) ∙ ap (λ n. n + 1) c.loop-patch.invariant.count;
       known = λ branch inverted.
           let so_far = c.loop-patch.invariant.known branch inverted in
-          let reached = c.in_ok-needs.ensures branch inverted (subst (AreKnown branch names) (sym c.deref.ensures.value) so_far.known) in
-          let here = subst (λ n. AreReached branch names n one.needs.items) (ap length c.deref.ensures.value ∙ c.loop-patch.invariant.count) reached in
+          let reached = c.in_ok-needs.ensures branch inverted (subst (AreKnown branch names) (sym c.deref-in-loop-patch.ensures.value) so_far.known) in
+          let here = subst (λ n. AreReached branch names n one.needs.items) (ap length c.deref-in-loop-patch.ensures.value ∙ c.loop-patch.invariant.count) reached in
           one_known branch names i all c.push.new.self.items one c.loop-patch.invariant.count (omega (arith, long)) so_far called here c.in_ok-push.ensures.items;
     }
 

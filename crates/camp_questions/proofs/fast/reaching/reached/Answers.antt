@@ -1,13 +1,15 @@
 use Rattle.camp_questions.proofs.Words.{List, Bool, ℕ, ◌≡◌, ◌<◌, ◌+◌, ◌-◌, ◌++◌, ◌∙◌, ap, arith, false, get_or, length, length-replicate, replicate, subst, sym, true, Catch}
 use Rattle.std.proofs.Common.{set}
 use Rattle.std.proofs.lemmas.List.{get_or_default, length-set, with_items_is}
-use Rattle.camp_questions.specs.Inside.Graphing.{AreMarkedBelow, marked_in_both}
+use Rattle.camp_questions.specs.Inside.ChangedFiles.{GoMarked}
+use Rattle.camp_questions.specs.Inside.Graphing.{marked_in_both}
 use Rattle.camp_questions.specs.Inside.StandingAside.{StickBehind}
 use Rattle.camp_questions.specs.declared.fast.patch_catches.PatchCatches.{PatchCatches}
 use Rattle.camp_questions.specs.declared.needed.Needed.{Needed}
+use Rattle.camp_questions.proofs.FileMarks.{files_at, ready_at}
 use Rattle.camp_questions.proofs.MarkedNames.{both_long, mark_at, marked_still}
 use Rattle.camp_questions.proofs.ReachedPatches.{goes_apart_from, step_aside, step_first, step_last, step_on, step_stuck}
-use Rattle.camp_questions.proofs.fast.reaching.reached.Goals.{else-not-index, then-not-index+in_ok-stand_aside+else-branch}
+use Rattle.camp_questions.proofs.fast.reaching.reached.Goals.{else-not-index, then-not-index+in_ok-comes_before+else-branch}
 use Rattle.camp_questions.proofs.fast.reaching.reached.Goals as goal
 
 -- a place that was looked up is marked so
@@ -23,17 +25,60 @@ loop-all_below-init c =
     record {
       within = omega arith;
       long = ap length first ∙ length-set (replicate (own + 1) false) own true ∙ length-replicate (own + 1) false;
-      below = λ r less. ap (λ l. get_or l r false) (sym c.deref-2.ensures.value) ∙ c.first_unmarked-all_below.ensures r less;
-      reaches = λ branch inverted known. step_first branch c.args.patches.now inverted c.args.known.now known c.requires.next marks c.index-patches-own.result c.in_ok-going.going.items c.index-patches-own.is first (c.in_ok-going.ensures ∙ c.deref.ensures.value ∙ ap (λ (x : PatchCatches). x.catches.items) (sym c.index-patches-own.is));
+      going = c.in_ok-going.ensures.marked;
+      below = λ r less. ap (λ l. get_or l r false) (sym c.deref.ensures.value) ∙ c.first_unmarked-all_below.ensures r less;
+      reaches = λ branch inverted known. step_first branch c.args.patches.now inverted c.args.known.now known c.requires.next marks c.index-patches-own.result c.in_ok-going.going.catches.items c.index-patches-own.is first c.in_ok-going.ensures.catches;
     }
 
-pub stand_aside-requires-clause-apart : goal.stand_aside-requires-clause-apart
-stand_aside-requires-clause-apart c =
+-- the own patch, and one before it
+pub going_first-requires-clause-plain : goal.going_first-requires-clause-plain
+going_first-requires-clause-plain c =
+    let given = c.requires.known in
+    ready_at given.0 c.args.patches.now given.1 (length c.args.known.now) c.index-patches-own.result c.index-patches-own.result c.requires.next c.index-patches-own.is
+
+pub going_first-requires-clause-files : goal.going_first-requires-clause-files
+going_first-requires-clause-files c =
+    files_at c.args.patches.now c.args.files.now c.requires.files c.requires.each (length c.args.known.now) c.index-patches-own.result c.index-patches-own.result c.index-files-own.result c.index-files-own.result c.requires.next c.index-patches-own.is c.index-files-own.is
+
+pub comes_before-requires-clause-plain : goal.comes_before-requires-clause-plain
+comes_before-requires-clause-plain c =
+    let given = c.requires.known in
+    let before = c.loop-all_below.invariant.within in
+    let next = c.requires.next in
+    ready_at given.0 c.args.patches.now given.1 (c.loop-all_below.place - 1) c.index-patches-place.result c.index-patches-place.result (omega (arith, before, next)) c.index-patches-place.is
+
+pub comes_before-requires-clause-files : goal.comes_before-requires-clause-files
+comes_before-requires-clause-files c =
+    let before = c.loop-all_below.invariant.within in
+    let next = c.requires.next in
+    files_at c.args.patches.now c.args.files.now c.requires.files c.requires.each (c.loop-all_below.place - 1) c.index-patches-place.result c.index-patches-place.result c.index-files-place.result c.index-files-place.result (omega (arith, before, next)) c.index-patches-place.is c.index-files-place.is
+
+pub go_too-requires-clause-marked : goal.go_too-requires-clause-marked
+go_too-requires-clause-marked c = elim c.if-not-index.branch [
+  | then-not-index+in_ok-comes_before+else-branch w ↦ subst GoMarked (sym w.going-is) w.in_ok-comes_before.ensures.marked
+  | else-not-index w ↦ subst GoMarked (sym w.going-is) c.loop-all_below.invariant.going
+]
+
+pub go_too-requires-clause-plain : goal.go_too-requires-clause-plain
+go_too-requires-clause-plain c =
+    let given = c.requires.known in
+    let before = c.loop-all_below.invariant.within in
+    let next = c.requires.next in
+    ready_at given.0 c.args.patches.now given.1 (c.loop-all_below.place - 1) c.index-patches-place.result c.index-patches-place.result (omega (arith, before, next)) c.index-patches-place.is
+
+pub go_too-requires-clause-files : goal.go_too-requires-clause-files
+go_too-requires-clause-files c =
+    let before = c.loop-all_below.invariant.within in
+    let next = c.requires.next in
+    files_at c.args.patches.now c.args.files.now c.requires.files c.requires.each (c.loop-all_below.place - 1) c.index-patches-place.result c.index-patches-place.result c.index-files-place.result c.index-files-place.result (omega (arith, before, next)) c.index-patches-place.is c.index-files-place.is
+
+pub comes_before-requires-clause-apart : goal.comes_before-requires-clause-apart
+comes_before-requires-clause-apart c =
     let given = c.requires.known in
     let place = c.loop-all_below.place - 1 in
     let next : c.loop-all_below.place ≡ place + 1 = omega arith in
     let before = c.loop-all_below.invariant.within in
-    goes_apart_from given.0 c.args.patches.now given.1 c.args.known.now given.2 c.requires.next c.loop-all_below.marks.items place c.loop-all_below.place c.index-patches-place.result c.loop-all_below.going.items next (omega (arith, before)) c.index-patches-place.is (c.loop-all_below.invariant.reaches given.0 given.1 given.2)
+    goes_apart_from given.0 c.args.patches.now given.1 c.args.known.now given.2 c.requires.next c.loop-all_below.marks.items place c.loop-all_below.place c.index-patches-place.result c.loop-all_below.going.catches.items next (omega (arith, before)) c.index-patches-place.is (c.loop-all_below.invariant.reaches given.0 given.1 given.2)
 
 pub loop-all_below-preserved-then-branch : goal.loop-all_below-preserved-then-branch
 loop-all_below-preserved-then-branch c =
@@ -43,12 +88,13 @@ loop-all_below-preserved-then-branch c =
     let before = c.loop-all_below.invariant.within in
     let long = c.loop-all_below.invariant.long in
     let free = told marks place c.index.result.now false (omega (arith, before, long)) c.index.ensures c.if-not-index.true in
-    let come = rw c.if-branch.true at c.in_ok-stand_aside.ensures in
+    let come = rw c.if-branch.true at c.in_ok-comes_before.ensures.aside in
     record {
       within = omega (arith, before);
       long = long;
       below = c.loop-all_below.invariant.below;
-      reaches = λ branch inverted known. step_aside branch c.args.patches.now inverted c.args.known.now known c.requires.next marks place c.loop-all_below.place next c.index-patches-place.result c.loop-all_below.going.items (omega (arith, before)) c.index-patches-place.is (c.loop-all_below.invariant.reaches branch inverted known) c.stand_aside.new.going.items free come;
+      going = c.in_ok-comes_before.ensures.marked;
+      reaches = λ branch inverted known. step_aside branch c.args.patches.now inverted c.args.known.now known c.requires.next marks place c.loop-all_below.place next c.index-patches-place.result c.loop-all_below.going.catches.items (omega (arith, before)) c.index-patches-place.is (c.loop-all_below.invariant.reaches branch inverted known) c.comes_before.new.going.catches.items free come;
     }
 
 pub first_unmarked-all_below-requires-then-not-index : goal.first_unmarked-all_below-requires-then-not-index
@@ -73,33 +119,35 @@ loop-all_below-preserved c =
     let before = c.loop-all_below.invariant.within in
     let long = c.loop-all_below.invariant.long in
     let p : PatchCatches = c.index-patches-place.result in
-    let going : List Catch = c.loop-all_below.going.items in
+    let going : List Catch = c.loop-all_below.going.catches.items in
     elim c.if-not-index.branch [
-      | then-not-index+in_ok-stand_aside+else-branch w ↦
+      | then-not-index+in_ok-comes_before+else-branch w ↦
           let q : Needed = w.index-known-place.result in
-          let aside : (w.stand_aside.new.going.items ≡ going) × StickBehind p.name going p.catches.items = rw w.if-branch.false at w.in_ok-stand_aside.ensures in
+          let aside : (w.comes_before.new.going.catches.items ≡ going) × StickBehind p.name going p.catches.items = rw w.if-branch.false at w.in_ok-comes_before.ensures.aside in
           let written = with_items_is c.loop-all_below.marks w.mark_all.new.marks (w.mark_all.auto.marks ∙ ap length w.deref_mut.ensures.value ∙ sym c.loop-all_below.marks.ok.0) in
           let becomes : w.mark_all.new.marks ≡ marked_in_both marks q.needs.items = w.mark_all.ensures ∙ (λ i. marked_in_both (w.deref_mut.ensures.value i) ((w.deref-then-not-index.ensures.value ∙ ap (λ (x : Needed). x.needs.items) (sym w.index-known-place.is)) i)) in
           let is_marked : c.if-not-index.marks.items ≡ marked_in_both marks q.needs.items = (λ i. (w.marks-is i).items) ∙ written ∙ becomes in
           let looked : c.if-not-index.marks.items ≡ w.deref-then-not-index-2.result.now = (λ i. (w.marks-is i).items) ∙ sym w.deref-then-not-index-2.ensures.value in
-          let goes : c.append.new.list.items ≡ going ++ p.catches.items = c.in_ok-append.ensures ∙ (λ i. ((λ j. (w.going-is j).items) ∙ aside.0) i ++ c.deref-in-loop-all_below.ensures.value i) in
+          let goes : c.go_too.new.going.catches.items ≡ going ++ p.catches.items = c.in_ok-go_too.ensures.catches ∙ ap (λ l. l ++ p.catches.items) ((λ i. (w.going-is i).catches.items) ∙ aside.0) in
           let free = told marks place c.index.result.now false (omega (arith, before, long)) c.index.ensures w.if-not-index.true in
           record {
             within = omega (arith, before);
             long = ap length is_marked ∙ both_long marks q.needs.items ∙ long;
             below = λ r less. ap (λ l. get_or l r false) looked ∙ w.first_unmarked-all_below-then-not-index.ensures r (subst (λ b. r < b) w.all_below-is less);
+            going = c.in_ok-go_too.ensures.marked;
             reaches = λ branch inverted known.
                 let stuck = step_stuck branch c.args.patches.now inverted c.args.known.now known c.requires.next marks place c.loop-all_below.place next p going (omega (arith, before)) c.index-patches-place.is (c.loop-all_below.invariant.reaches branch inverted known) q w.index-known-place.is free aside.1 in
                 rw (is_marked, goes) stuck;
           }
       | else-not-index w ↦
           let same : c.if-not-index.marks.items ≡ marks = λ i. (w.marks-is i).items in
-          let goes : c.append.new.list.items ≡ going ++ p.catches.items = c.in_ok-append.ensures ∙ (λ i. (w.going-is i).items ++ c.deref-in-loop-all_below.ensures.value i) in
+          let goes : c.go_too.new.going.catches.items ≡ going ++ p.catches.items = c.in_ok-go_too.ensures.catches ∙ (λ i. (w.going-is i).catches.items ++ p.catches.items) in
           let mine = told marks place c.index.result.now true (omega (arith, before, long)) c.index.ensures w.if-not-index.false in
           record {
             within = omega (arith, before);
             long = ap length same ∙ long;
             below = λ r less. ap (λ l. get_or l r false) same ∙ c.loop-all_below.invariant.below r (subst (λ b. r < b) w.all_below-is less);
+            going = c.in_ok-go_too.ensures.marked;
             reaches = λ branch inverted known.
                 let on = step_on branch c.args.patches.now inverted c.args.known.now known c.requires.next marks place c.loop-all_below.place next p going (omega (arith, before)) c.index-patches-place.is (c.loop-all_below.invariant.reaches branch inverted known) mine in
                 rw (same, goes) on;
@@ -109,4 +157,4 @@ loop-all_below-preserved c =
 pub returns : goal.returns
 returns c branch inverted known =
     let before = c.loop-all_below.invariant.within in
-    step_last branch c.args.patches.now inverted c.args.known.now known c.requires.next c.loop-all_below.marks.items c.loop-all_below.place c.loop-all_below.all_below c.index-patches-own.result c.loop-all_below.going.items before (omega arith) c.loop-all_below.invariant.below (c.loop-all_below.invariant.reaches branch inverted known)
+    step_last branch c.args.patches.now inverted c.args.known.now known c.requires.next c.loop-all_below.marks.items c.loop-all_below.place c.loop-all_below.all_below c.index-patches-own.result c.loop-all_below.going.catches.items before (omega arith) c.loop-all_below.invariant.below (c.loop-all_below.invariant.reaches branch inverted known)

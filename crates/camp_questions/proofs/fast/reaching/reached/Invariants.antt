@@ -1,5 +1,6 @@
 use Rattle.camp_questions.proofs.Words.{◌≡◌, ◌≤◌, ◌+◌, length, List, Catch}
 use Rattle.camp_questions.specs.Inside.ByPatch.{names_in_order}
+use Rattle.camp_questions.specs.Inside.ChangedFiles.{GoMarked}
 use Rattle.camp_questions.specs.Inside.Graphing.{AreKnown, AreMarkedBelow, IsInverted}
 use Rattle.camp_questions.proofs.ReachedPatches.{ReachesTo}
 use Rattle.camp_questions.proofs.fast.reaching.reached.Given as goal
@@ -9,7 +10,8 @@ invariant-loop-all_below l = record {
   within : l.place ≤ length l.known;
   long : length l.marks.items ≡ length l.known + 1;
   below : AreMarkedBelow l.marks.items l.all_below;
-  reaches : (branch : List Catch) → IsInverted branch l.patches → AreKnown branch (names_in_order l.patches) l.known → ReachesTo branch l.patches (length l.known) l.marks.items l.place l.going.items;
+  going : GoMarked l.going;
+  reaches : (branch : List Catch) → IsInverted branch l.patches → AreKnown branch (names_in_order l.patches) l.known → ReachesTo branch l.patches (length l.known) l.marks.items l.place l.going.catches.items;
 }
 
 abbrev pub decreases-loop-all_below : goal.decreases-loop-all_below

@@ -1,0 +1,58 @@
+-- The files that catches change, told apart by small numbers.
+use Rattle.std.specs.Prelude.{◌≡◌, ℕ, ◌+◌, ◌*◌, ◌%◌, ◌==◌, Bool, true, false, ◌||◌, List, [], ◌∷◌, map, length, get_or}
+use Rattle.std.specs.List.{AllByRecursion, list_any}
+use Rattle.camp_prim.specs.Effect.{InRange}
+use Rattle.camp_prim.specs.Swaps.{path_of}
+use Rattle.camp_catch.specs.declared.catches.Catch.{Catch}
+use Rattle.camp_catch.specs.declared.catches.Catch.TheVariants.{Plain}
+use Rattle.camp_questions.specs.declared.fast.changed_files.PatchFiles.{PatchFiles}
+use Rattle.camp_questions.specs.declared.fast.going.Going.{Going}
+use Rattle.camp_questions.specs.declared.fast.patch_catches.PatchCatches.{PatchCatches}
+
+-- how many numbers there are
+abbrev pub how_many : ℕ
+how_many = 4_093
+
+-- the number of bytes behind others that have a number
+abbrev pub number_behind : ℕ → List ℕ → ℕ
+number_behind number [] = number
+number_behind number (byte ∷ bytes) = number_behind ((number * 31 + byte) % how_many) bytes
+
+-- the number of the file of a path: files of several paths may have one, and those of one path have
+abbrev pub file_number : List ℕ → ℕ
+file_number path = number_behind 0 path
+
+-- the number of the file that a plain catch changes
+abbrev pub number_of : Catch → ℕ
+number_of (Plain p) = file_number (path_of p.prim)
+number_of (Catch.Conflictor k) = 0
+
+-- of each patch the numbers of the files that its catches change
+abbrev pub AreFilesOf : List PatchCatches → List PatchFiles → Type 0
+AreFilesOf patches files =
+    map (λ (files : PatchFiles). files.numbers.items) files
+    ≡ map (λ (patch : PatchCatches). map number_of patch.catches.items) patches
+
+-- whether a number is marked
+abbrev pub is_marked : List Bool → ℕ → Bool
+is_marked marks number = get_or marks number false
+
+-- marked are these numbers, and what was marked before
+abbrev pub AreMarkedToo : List Bool → List ℕ → List Bool → Type 0
+AreMarkedToo old numbers new =
+    (number : ℕ) → is_marked new number ≡ (is_marked old number || list_any (λ other. number == other) numbers)
+
+-- a catch is plain, and its primitive is in range
+abbrev pub IsPlainInRange : Catch → Type 0
+IsPlainInRange (Plain p) = InRange p.prim
+IsPlainInRange (Catch.Conflictor k) = ⊥
+
+-- a catch is plain and in range, and the number of its file is marked
+abbrev pub IsMarkedPlain : List Bool → Catch → Type 0
+IsMarkedPlain marks (Plain p) = InRange p.prim × (is_marked marks (file_number (path_of p.prim)) ≡ true)
+IsMarkedPlain marks (Catch.Conflictor k) = ⊥
+
+-- these catches go, and their files are marked
+pub record GoMarked (going : Going) : Type 0 where
+  pub long : length going.files.items ≡ how_many
+  pub marked : AllByRecursion (IsMarkedPlain going.files.items) going.catches.items

@@ -1,0 +1,94 @@
+//! The files that catches change, told apart by small numbers: those of one path have one number.
+ghost use Rattle.std.specs.Prelude.{◌≡◌, ◌<◌, List, map, length, not, IfOk};
+ghost use Rattle.std.specs.List.{AllByRecursion, list_any};
+ghost use Rattle.camp_questions.specs.Inside.ChangedFiles.{AreFilesOf, AreMarkedToo, file_number, is_marked, number_of};
+
+use crate::fast::patch_catches::PatchCatches;
+use camp_base::Path;
+use camp_catch::Catch;
+use camp_share::Shared;
+use std::alloc::{AllocError, Global};
+
+/// How many numbers there are. Files that share one are taken for one file, which costs a closer look.
+pub(crate) const NUMBERS: usize = 4093;
+
+/// The files that a patch changes, by their numbers: one for each of its catches.
+#[derive(Drop)]
+pub(crate) struct PatchFiles {
+    pub numbers: Vec<usize>,
+}
+
+/// The files that each of some patches changes.
+pub(crate) fn files_of(
+    alloc: Global,
+    patches: &[PatchCatches],
+) -> Result<Vec<PatchFiles>, AllocError>
+    ensures { IfOk result (λ files. AreFilesOf patches.now files.items) }
+{
+    let mut files = Vec::with_capacity(alloc, patches.len())?;
+    for patch in patches {
+        let numbers = numbers_of(alloc, &patch.catches)?;
+        files.push(PatchFiles { numbers })?;
+    }
+    Ok(files)
+}
+
+fn numbers_of(alloc: Global, catches: &[Shared<Catch>]) -> Result<Vec<usize>, AllocError>
+    ensures { IfOk result (λ numbers. numbers.items ≡ map number_of catches.now) }
+{
+    let mut numbers = Vec::with_capacity(alloc, catches.len())?;
+    for catch in catches {
+        numbers.push(number_of(catch))?;
+    }
+    Ok(numbers)
+}
+
+/// The number of the file that a plain catch changes.
+fn number_of(catch: &Catch) -> usize
+    ensures { result ≡ number_of catch.now }
+{
+    match catch {
+        Catch::Plain(p) => file_number(p.prim.path()),
+        Catch::Conflictor(_) => 0,
+    }
+}
+
+/// The number of the file of a path.
+fn file_number(path: &Path) -> usize
+    ensures { result ≡ file_number path.now }
+{
+    let bytes = path.bytes();
+    let mut number = 0;
+    for byte in bytes {
+        number = (number * 31 + *byte as usize) % NUMBERS;
+    }
+    number
+}
+
+/// Whether none of these numbers is marked.
+pub(crate) fn are_unmarked(marks: &[bool], numbers: &[usize]) -> bool
+    ensures { result ≡ not (list_any (is_marked marks.now) numbers.now) }
+{
+    for number in numbers {
+        if is_marked(marks, *number) {
+            return false;
+        }
+    }
+    true
+}
+
+fn is_marked(marks: &[bool], number: usize) -> bool
+    ensures { result ≡ is_marked marks.now number }
+{
+    number < marks.len() && marks[number]
+}
+
+/// Marks these numbers, too.
+pub(crate) fn mark_numbers(marks: &mut [bool], numbers: &[usize])
+    requires { AllByRecursion (λ number. number < length marks.old) numbers.now }
+    ensures { AreMarkedToo marks.old numbers.now marks.new }
+{
+    for number in numbers {
+        marks[*number] = true;
+    }
+}

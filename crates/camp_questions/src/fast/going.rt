@@ -1,0 +1,78 @@
+//! Catches that go, and the patches before them.
+ghost use Rattle.std.specs.Prelude.{◌≡◌, ◌++◌, map, IfOk, OnOk};
+ghost use Rattle.std.specs.List.{AllByRecursion};
+ghost use Rattle.camp_questions.specs.Inside.ByPatch.{AreApart, AreOfPatch};
+ghost use Rattle.camp_questions.specs.Inside.ChangedFiles.{GoMarked, IsPlainInRange, number_of};
+ghost use Rattle.camp_questions.specs.Inside.StandingAside.{StandsAside};
+
+use crate::fast::changed_files::{NUMBERS, PatchFiles, are_unmarked, mark_numbers};
+use crate::fast::patch_catches::{PatchCatches, append};
+use crate::fast::standing_aside::stand_aside;
+use camp_catch::Catch;
+use camp_share::Shared;
+use std::alloc::{AllocError, Global};
+
+/// Plain catches that go, and the files that they change: whether each number is that of one.
+#[derive(Drop)]
+pub(crate) struct Going {
+    pub catches: Vec<Shared<Catch>>,
+    pub files: Vec<bool>,
+}
+
+/// The catches of a patch, which go.
+pub(crate) fn going_first(
+    alloc: Global,
+    patch: &PatchCatches,
+    files: &PatchFiles,
+) -> Result<Going, AllocError>
+    requires plain { AllByRecursion IsPlainInRange patch.now.catches.items }
+    requires files { files.now.numbers.items ≡ map number_of patch.now.catches.items }
+    ensures marked { IfOk result (λ going. GoMarked going) }
+    ensures catches { IfOk result (λ going. going.catches.items ≡ patch.now.catches.items) }
+{
+    let mut going = Going {
+        catches: Vec::new(alloc),
+        files: vec![in alloc; false; NUMBERS]?,
+    };
+    go_too(&mut going, patch, files)?;
+    Ok(going)
+}
+
+/// The catches of a patch go too.
+pub(crate) fn go_too(
+    going: &mut Going,
+    patch: &PatchCatches,
+    files: &PatchFiles,
+) -> Result<(), AllocError>
+    requires marked { GoMarked going.old }
+    requires plain { AllByRecursion IsPlainInRange patch.now.catches.items }
+    requires files { files.now.numbers.items ≡ map number_of patch.now.catches.items }
+    ensures marked { OnOk result (GoMarked going.new) }
+    ensures catches { OnOk result (going.new.catches.items ≡ going.old.catches.items ++ patch.now.catches.items) }
+{
+    append(&mut going.catches, &patch.catches)?;
+    mark_numbers(&mut going.files, &files.numbers);
+    Ok(())
+}
+
+/// Whether a patch, which stands behind catches that go, comes before all of them. They are then as that
+/// leaves them, and else as they were. A patch that changes no file of theirs is passed at a look.
+pub(crate) fn comes_before(
+    alloc: Global,
+    going: &mut Going,
+    patch: &PatchCatches,
+    files: &PatchFiles,
+) -> Result<bool, AllocError>
+    requires marked { GoMarked going.old }
+    requires own { AreOfPatch patch.now.name patch.now.catches.items }
+    requires apart { AreApart patch.now.name going.now.catches.items }
+    requires plain { AllByRecursion IsPlainInRange patch.now.catches.items }
+    requires files { files.now.numbers.items ≡ map number_of patch.now.catches.items }
+    ensures marked { OnOk result (GoMarked going.new) }
+    ensures aside { IfOk result (λ yes. StandsAside patch.now.name going.old.catches.items patch.now.catches.items yes going.new.catches.items) }
+{
+    if are_unmarked(&going.files, &files.numbers) {
+        return Ok(true);
+    }
+    stand_aside(alloc, &mut going.catches, patch)
+}
