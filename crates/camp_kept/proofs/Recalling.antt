@@ -1,9 +1,7 @@
 -- Calls by their texts, and what a file tells of them.
-use Rattle.std.proofs.Common.{◌≡◌, inl, inr, ◌≤◌, Bool, true, false, cond, List, [], ◌∷◌, ◌++◌, length, map, refl, sym, ◌∙◌, ap, subst, arith, append-nil, append_assoc, Result, Ok, Err, count_by, IsSome, IfOk, IfErr, IfSome, Option, None, Some, ◌≢◌, ◌+◌, ℕ, take, drop, Vec, Global, option_to_list}
+use Rattle.std.proofs.Common.{◌≡◌, inl, inr, ◌≤◌, Bool, true, false, cond, List, [], ◌∷◌, ◌++◌, length, map, refl, sym, ◌∙◌, ap, subst, arith, append_assoc, Result, Ok, Err, IsSome, IfOk, IfErr, IfSome, Option, None, Some, ◌≢◌, ◌+◌, ℕ, take, drop, Vec, Global, option_to_list}
 use Rattle.std.specs.List.{AllByRecursion}
 use Rattle.std.proofs.lemmas.List.{map-append}
-use Rattle.std.proofs.lemmas.List.Concat.{flat_map-cons}
-use Rattle.camp_call.specs.Calls.{is_writing}
 use Rattle.camp_call.specs.declared.calls.Call.{Call}
 use Rattle.camp_kept.specs.Accepting.{AreAccepted, alone}
 use Rattle.camp_kept.specs.Keeping.{AreTexts, Tells, call_texts, title}
@@ -12,35 +10,17 @@ use Rattle.camp_object.specs.Histories.{IsAccepted, IsFront, IsLegal}
 use Rattle.camp_object.proofs.Replays.{legal_front, replay_more}
 use Rattle.camp_repo.specs.Objects.{repository}
 use Rattle.camp_repo.specs.States.{Contents}
-use Rattle.camp_script.specs.Canonical.{IsScriptCall, call_text, script_text, section_text}
+use Rattle.camp_script.specs.Canonical.{IsScriptCall, call_text}
 use Rattle.camp_script.specs.Keeping.{calls_of}
 use Rattle.camp_script.specs.Reading.{script_of}
 use Rattle.camp_script.specs.declared.faults.LineFault.{LineFault}
-use Rattle.camp_script.proofs.CanonicalCalls.{reads_back}
+use Rattle.camp_script.proofs.CalledLines.{text_reads}
 use Rattle.camp_script.proofs.Writable.{read_is_writable}
 use Rattle.camp_store.specs.Blocks.{Stands}
 use Rattle.camp_store.specs.Logs.{texts_of}
 use Rattle.camp_store.proofs.BlockLemmas.{stands_once}
 use Rattle.std.proofs.lemmas.List.{take-append-drop}
 use Rattle.std.proofs.lemmas.Option.{same_Some}
-
-at_most_one : (b : Bool) → cond {A = ℕ} b 1 0 ≤ 1
-at_most_one true = omega arith
-at_most_one false = omega arith
-
-few_writes : (c : Call) → count_by is_writing (c ∷ []) ≤ 65_536
-few_writes c = let one = at_most_one (is_writing c) in omega arith
-
--- the text of a call that a script can ask is a script of this call
-pub text_reads : (c : Call) → IsScriptCall c → script_of (call_text c) ≡ Ok ((c ∷ []) ∷ [])
-text_reads c can =
-    let e : script_text ((c ∷ []) ∷ []) ≡ call_text c =
-    append-nil (section_text (c ∷ [])) ∙ flat_map-cons call_text c [] ∙ append-nil (call_text c) in
-    ap script_of (sym e)
-    ∙ reads_back ((c ∷ []) ∷ []) (record {
-      calls = ((can, tt), tt);
-      limits = record { has_opening = omega arith; sections_within = omega arith; writes_within = (few_writes c, tt) };
-    })
 
 abbrev first_call : Call → Result (List (List Call)) LineFault → Call
 first_call c (Ok []) = c
