@@ -6,6 +6,7 @@ pub mod Cuts
 pub mod Failing
 pub mod Firsts
 pub mod FrameLemmas
+pub mod Growing
 pub mod HelpLemmas
 pub mod LineReads
 pub mod Loading

@@ -1,0 +1,117 @@
+-- What serving a request over what is kept leads to.
+use Rattle.std.proofs.Common.{◌≡◌, ◌⊎◌, inl, inr, ℕ, Bool, true, false, List, [], ◌∷◌, ◌++◌, Option, None, Some, Result, Ok, Err, map, refl, sym, ◌∙◌, ap, subst}
+use Rattle.std.proofs.KnownBytes.{Keeps-refl}
+use Rattle.std.specs.Io.KnownBytes.{Appends, Keeps}
+use Rattle.camp_call.specs.declared.calls.Call.{Call}
+use Rattle.camp_kept.specs.Keeping.{AreFirst, Holds, IsStoreOf, calls_in, disk_in, store_texts}
+use Rattle.camp_kept.specs.declared.faults.KeptFault.{KeptFault}
+use Rattle.camp_kept.specs.declared.kept.Kept.{Kept}
+use Rattle.camp_kept_talk.specs.Going.{AllAreKept, MayBeKept, Settles}
+use Rattle.camp_kept_talk.specs.Laws.{KeptRequestsAreServedInTurn}
+use Rattle.camp_kept_talk.specs.Serving.{KeptCounter, MayKeep, ServesKept, ServesKeptAt}
+use Rattle.camp_kept_talk.specs.declared.faults.StoredFault.{StoredFault}
+use Rattle.camp_kept_talk.specs.declared.faults.StoredFault.TheVariants as fault
+use Rattle.camp_kept_talk.proofs.Answering.{calls_front}
+use Rattle.camp_object.specs.Histories.{IsFront}
+use Rattle.camp_script.specs.Keeping.{calls_of}
+use Rattle.camp_store.specs.Logs.{KeepsTexts}
+use Rattle.camp_talk.specs.Dialogues.{Leads}
+use Rattle.camp_talk.specs.Entries.{Entries}
+use Rattle.camp_talk.specs.Frames.{Counter, Serves, ServesAt, WritesNot, framed}
+use Rattle.camp_talk.specs.Requests.{AnswersRequest}
+use Rattle.camp_talk.specs.Talks.{AppendsSome}
+use Rattle.camp_talk.specs.declared.frames.FrameFault.{FrameFault}
+use Rattle.camp_talk.proofs.Growing.{serves_grow}
+use Rattle.camp_talk.proofs.Served.{served_in_turn as served_so}
+
+module _ {D : Type 0} (seen : D → List ℕ) (may_leave : D → List ℕ → Type 0) (a b before : Option (List ℕ)) (old asked : Kept D) (held : List ℕ)
+    (same_log : asked.log ≡ old.log) (same_count : asked.count ≡ old.count) (holds : Holds seen may_leave (calls_in old) old) where
+  -- asking the book moves no disk
+  holds_asked : Holds seen may_leave (calls_in old) asked
+  holds_asked = record {
+    accepted = holds.accepted;
+    keeps = subst (λ log. KeepsTexts seen may_leave (store_texts (calls_in old)) log) (sym same_log) holds.keeps;
+    count_is = same_count ∙ holds.count_is;
+  }
+
+  -- there is no more
+  pub serves_no_more : Serves a b (Some []) (Some held) old.book (Ok false) asked.book → ServesKept seen may_leave a b before before old (Ok false) asked
+  serves_no_more serves = (
+    record { reads = serves.reads; ends = serves.ends; keeps = Keeps-refl before; same = serves.same },
+    subst (λ (h : Entries). Holds seen may_leave (calls_of h) asked) (sym serves.same) holds_asked,
+  )
+
+  module _ (came : Result Bool FrameFault) (serves : Serves a b (Some []) (Some held) old.book came asked.book) where
+    first_asked : AreFirst (calls_in old) asked
+    first_asked = calls_front old.book asked.book (serves_grow a b (Some []) (Some held) old.book came asked.book serves)
+
+    module _ (new : Kept D) (same : new.book ≡ asked.book) where
+      pub all_kept : AllAreKept seen may_leave asked new → Holds seen may_leave (calls_in new) new
+      all_kept keeps =
+          subst (λ (h : Entries). Holds seen may_leave (calls_of h) new) (sym same) (keeps (calls_in old) first_asked holds_asked)
+
+      pub may_keep : MayBeKept seen may_leave asked new → MayKeep seen may_leave old new
+      may_keep may c leaves =
+          subst (λ (h : Entries). IsStoreOf (calls_in old) c ⊎ IsStoreOf (calls_of h) c) (sym same)
+          (may (calls_in old) first_asked holds_asked c leaves)
+
+  module _ (serves : Serves a b (Some []) (Some held) old.book (Ok true) asked.book) (new : Kept D) (same : new.book ≡ asked.book) (now : List ℕ) (after : Option (List ℕ)) where
+    -- an answer is written behind the calls
+    pub serves_so : (done : Unit {0}) → Settles seen may_leave asked held before (Ok done) new now after → ServesKept seen may_leave a b before after old (Ok true) new
+    serves_so done settles = (
+      record {
+        service = serves.service;
+        is = serves.is;
+        reads = serves.reads;
+        answers = subst (λ (h : Entries). AnswersRequest old.book serves.service.request serves.service.answer h) (sym same) serves.answers;
+        writes = subst (λ (l : List ℕ). Appends before after l) serves.writes settles.2;
+      },
+      all_kept (Ok true) serves new same settles.0,
+    )
+
+    -- or not
+    pub serves_not : (why : StoredFault) → Settles seen may_leave asked held before (Err why) new now after → ServesKept seen may_leave a b before after old (Err why) new
+    serves_not (fault.Kept why) settles = (settles.1, may_keep (Ok true) serves new same settles.0)
+    serves_not (fault.Talk why) settles = absurd settles
+    serves_not (fault.Frame why) settles = absurd settles
+    serves_not (fault.Write error) settles = (
+      record {
+        service = serves.service;
+        is = serves.is;
+        reads = serves.reads;
+        answers = subst (λ (h : Entries). AnswersRequest old.book serves.service.request serves.service.answer h) (sym same) serves.answers;
+        writes = subst (λ (l : List ℕ). AppendsSome before after l) serves.writes settles.1;
+      },
+      all_kept (Ok true) serves new same settles.0,
+    )
+
+  module _ (why : FrameFault) (serves : Serves a b (Some []) (Some held) old.book (Err why) asked.book) (new : Kept D) (same : new.book ≡ asked.book) where
+    -- a request could not be served
+    pub serves_none : (told : FrameFault) → AllAreKept seen may_leave asked new → ServesKept seen may_leave a b before before old (Err (fault.Frame told)) new
+    serves_none told keeps = (
+      Keeps-refl before,
+      record { why = why; frame = held; serves = subst (λ (h : Entries). Serves a b (Some []) (Some held) old.book (Err why) h) (sym same) serves },
+      all_kept (Err why) serves new same keeps,
+    )
+
+    pub serves_unkept : (told : KeptFault) → MayBeKept seen may_leave asked new → ServesKept seen may_leave a b before before old (Err (fault.Kept told)) new
+    serves_unkept told may = (Keeps-refl before, may_keep (Err why) serves new same may)
+
+-- where requests are served, whatever is kept
+abbrev counter : {D : Type 0} → KeptCounter D → Counter
+counter place = record { left = place.left; held = place.held; history = place.kept.book }
+
+-- turns over what is kept are turns, and keep all calls
+turns_too : {D : Type 0} (seen : D → List ℕ) (may_leave : D → List ℕ → Type 0) (first last : KeptCounter D) (over : List (KeptCounter D))
+    → Holds seen may_leave (calls_in first.kept) first.kept → Leads (ServesKeptAt seen may_leave) first over last
+    → Leads ServesAt (counter first) (map counter over) (counter last) × Holds seen may_leave (calls_in last.kept) last.kept
+turns_too {D = D} seen may_leave first last [] holds leads =
+    (ap counter leads, subst (λ (place : KeptCounter D). Holds seen may_leave (calls_in place.kept) place.kept) leads holds)
+turns_too seen may_leave first last (next ∷ over) holds leads =
+    let one = leads.0 holds in
+    let others = turns_too seen may_leave next last over one.1 leads.1 in ((one.0, others.0), others.1)
+
+pub served_in_turn : {D : Type 0} (seen : D → List ℕ) (may_leave : D → List ℕ → Type 0) → KeptRequestsAreServedInTurn seen may_leave
+served_in_turn seen may_leave first last over holds leads =
+    let turns = turns_too seen may_leave first last over holds leads in
+    (served_so (counter first) (counter last) (map counter over) turns.0, turns.1)

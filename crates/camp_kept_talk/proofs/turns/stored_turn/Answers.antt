@@ -1,0 +1,10 @@
+use Rattle.camp_kept_talk.proofs.turns.stored_turn.Goals as goal
+
+pub returns-in-Ok-clause-goes : goal.returns-in-Ok-clause-goes
+returns-in-Ok-clause-goes g c remaining old first goes =
+    let settled = rw c.in-Ok.is at (c.settle_first.ensures.goes remaining (g.R.Read.remaining c.args.reader.now) old first goes) in
+    c.turn_on.ensures.goes remaining old first settled
+
+pub returns-in-Err-clause-goes : goal.returns-in-Err-clause-goes
+returns-in-Err-clause-goes g c remaining old first goes =
+    rw c.in-Err.is at (c.settle_first.ensures.goes remaining (g.R.Read.remaining c.args.reader.now) old first goes)

@@ -1,0 +1,98 @@
+-- How a conversation goes on whose answers are held back.
+use Rattle.std.specs.Prelude.{◌≡◌, ◌⊎◌, ℕ, Bool, true, false, List, [], Option, Some, Result, Ok, Err}
+use Rattle.std.specs.Io.KnownBytes.{Appends, Keeps}
+use Rattle.camp_call.specs.declared.calls.Call.{Call}
+use Rattle.camp_kept.specs.Keeping.{AreFirst, Holds, IsStoreOf, calls_in, disk_in}
+use Rattle.camp_kept.specs.declared.kept.Kept.{Kept}
+use Rattle.camp_kept_talk.specs.Promises.{Promises, Told}
+use Rattle.camp_kept_talk.specs.declared.faults.StoredFault.{StoredFault}
+use Rattle.camp_kept_talk.specs.declared.faults.StoredFault.TheVariants as fault
+use Rattle.camp_object.specs.Histories.{IsFront}
+use Rattle.camp_script.specs.Keeping.{calls_of}
+use Rattle.camp_talk.specs.Answers.{Standing}
+use Rattle.camp_talk.specs.Talks.{AppendsSome, EndsSo}
+use Rattle.camp_talk.specs.Talks.{Holds as HoldsSo}
+
+-- the writer failed
+abbrev pub IsUnwritten : StoredFault → Type 0
+IsUnwritten (fault.Kept why) = ⊥
+IsUnwritten (fault.Talk why) = ⊥
+IsUnwritten (fault.Frame why) = ⊥
+IsUnwritten (fault.Write error) = Unit {0}
+
+module _ {D : Type 0} (seen : D → List ℕ) (may_leave : D → List ℕ → Type 0) where
+  -- all accepted calls are on the disk, if some first of them were
+  abbrev pub AllAreKept : Kept D → Kept D → Type 0
+  AllAreKept old new = (calls : List Call) → AreFirst calls old → Holds seen may_leave calls old → Holds seen may_leave (calls_in old) new
+
+  -- a crash leaves a store of those that were on the disk, or of all
+  abbrev pub MayBeKept : Kept D → Kept D → Type 0
+  MayBeKept old new =
+      (calls : List Call) → AreFirst calls old → Holds seen may_leave calls old → (c : List ℕ) → may_leave (disk_in new) c → IsStoreOf calls c ⊎ IsStoreOf (calls_in old) c
+
+  -- answers that were held back go to a writer. Ok: all calls are kept, and then the answers were written, no more and no
+  -- less. Kept: nothing was written. Write: all calls are kept, and a front of the answers was written.
+  abbrev pub Settles : Kept D → List ℕ → Option (List ℕ) → Result (Unit {0}) StoredFault → Kept D → List ℕ → Option (List ℕ) → Type 0
+  Settles old held before (Ok done) new now after = AllAreKept old new × (now ≡ []) × Appends before after held
+  Settles old held before (Err (fault.Kept why)) new now after = MayBeKept old new × Keeps before after
+  Settles old held before (Err (fault.Talk why)) new now after = ⊥
+  Settles old held before (Err (fault.Frame why)) new now after = ⊥
+  Settles old held before (Err (fault.Write error)) new now after = AllAreKept old new × AppendsSome before after held
+
+  module _ (remaining rest old now : Option (List ℕ)) (held : List ℕ) (first last : Standing) (kept : Kept D) where
+    -- commands were answered up to a place, and all calls that were accepted until then are on the disk; what answers
+    -- those behind it is held back
+    pub record Goes : Type 0 where
+      pub middle : Standing
+      pub left : Option (List ℕ)
+      pub told : HoldsSo remaining left old now first middle
+      pub behind : HoldsSo left rest (Some []) (Some held) middle last
+      pub calls : List Call
+      pub holds : Holds seen may_leave calls kept
+      pub since : IsFront (calls_of middle.history) calls
+      pub within : IsFront calls (calls_of last.history)
+
+  -- a turn has led no further: what answers the commands behind the place is held back, perhaps in part
+  pub record Stays (remaining old now : Option (List ℕ)) (held : List ℕ) (first : Standing) (kept : Kept D) : Type 0 where
+    pub middle : Standing
+    pub last : Standing
+    pub left : Option (List ℕ)
+    pub right : Option (List ℕ)
+    pub told : HoldsSo remaining left old now first middle
+    pub behind : Told left right (Some []) (Some held) middle last
+    pub calls : List Call
+    pub holds : Holds seen may_leave calls kept
+    pub since : IsFront (calls_of middle.history) calls
+    pub within : IsFront calls (calls_of last.history)
+    pub is : last.history ≡ kept.book
+
+  -- a conversation has stopped at a fault: the promise holds; and unless they could not be kept, all accepted calls are on
+  -- the disk
+  abbrev pub StopsSo : (remaining old now : Option (List ℕ)) → Standing → StoredFault → Kept D → Type 0
+  StopsSo remaining old now first (fault.Kept why) kept = Promises seen may_leave remaining old now first kept
+  StopsSo remaining old now first (fault.Talk why) kept =
+      Promises seen may_leave remaining old now first kept × Holds seen may_leave (calls_in kept) kept
+  StopsSo remaining old now first (fault.Frame why) kept = ⊥
+  StopsSo remaining old now first (fault.Write error) kept =
+      Promises seen may_leave remaining old now first kept × Holds seen may_leave (calls_in kept) kept
+
+  -- where a turn has led
+  abbrev pub Comes : (remaining rest old now : Option (List ℕ)) → List ℕ → Standing → Standing → Result Bool StoredFault → Kept D → Type 0
+  Comes remaining rest old now held first last (Ok true) kept = Goes remaining rest old now held first last kept
+  Comes remaining rest old now held first last (Ok false) kept =
+      Promises seen may_leave remaining old now first kept × EndsSo remaining rest old now first (Ok false) last.history
+      × Holds seen may_leave (calls_in kept) kept
+  Comes remaining rest old now held first last (Err why) kept = StopsSo remaining old now first why kept
+
+  -- where settling has led
+  abbrev pub ComesSettled : (remaining rest old now : Option (List ℕ)) → List ℕ → Standing → Standing → Result (Unit {0}) StoredFault → Kept D → Type 0
+  ComesSettled remaining rest old now held first last (Ok done) kept = Goes remaining rest old now held first last kept
+  ComesSettled remaining rest old now held first last (Err why) kept = StopsSo remaining old now first why kept
+
+  -- a conversation over what is kept, from where it begins: the promise holds. At Ok it was held to its end, and all
+  -- accepted calls are on the disk.
+  abbrev pub TalksKept : (remaining rest old now : Option (List ℕ)) → Standing → Result (Unit {0}) StoredFault → Kept D → Type 0
+  TalksKept remaining rest old now first (Ok done) kept =
+      Promises seen may_leave remaining old now first kept × EndsSo remaining rest old now first (Ok false) kept.book
+      × Holds seen may_leave (calls_in kept) kept
+  TalksKept remaining rest old now first (Err why) kept = StopsSo remaining old now first why kept

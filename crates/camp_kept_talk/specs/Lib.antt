@@ -1,0 +1,4 @@
+pub mod Going
+pub mod Laws
+pub mod Promises
+pub mod Serving

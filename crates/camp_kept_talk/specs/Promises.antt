@@ -1,0 +1,35 @@
+-- What a conversation promises whose calls are kept: nothing that was answered is lost.
+use Rattle.std.specs.Prelude.{◌≡◌, ℕ, List, [], ◌∷◌, Option}
+use Rattle.std.specs.List.{flat_map}
+use Rattle.std.specs.Io.KnownBytes.{Consumes}
+use Rattle.camp_call.specs.declared.calls.Call.{Call}
+use Rattle.camp_kept.specs.Keeping.{IsStoreOf, calls_in, disk_in}
+use Rattle.camp_kept.specs.declared.kept.Kept.{Kept}
+use Rattle.camp_object.specs.Histories.{IsFront}
+use Rattle.camp_script.specs.Keeping.{calls_of}
+use Rattle.camp_talk.specs.Answers.{Answers, Standing}
+use Rattle.camp_talk.specs.Talks.{AppendsSome, Exchange}
+
+-- commands were answered one after the other, each where the one before it left the conversation
+abbrev pub Answered : Standing → List Exchange → Standing → Type 0
+Answered first [] last = first ≡ last
+Answered first (said ∷ others) last =
+    (next : Standing) × Answers first said.command said.answer next × Answered next others last
+
+-- commands were read, and of their answers these bytes were written: all, or a front
+pub record Told (remaining left old new : Option (List ℕ)) (first last : Standing) : Type 0 where
+  pub said : List Exchange
+  pub answered : Answered first said last
+  pub reads : Consumes remaining left (flat_map (λ exchange. exchange.command) said)
+  pub writes : AppendsSome old new (flat_map (λ exchange. exchange.answer) said)
+
+-- by what a read of a disk returns, and what a crash may leave of it
+module _ {D : Type 0} (seen : D → List ℕ) (may_leave : D → List ℕ → Type 0) where
+  -- nothing but answers to commands was written; and whatever a crash leaves is a store of calls that begin with all
+  -- those that were accepted up to the last of these commands, and that are a beginning of those that were accepted
+  pub record Promises (remaining old new : Option (List ℕ)) (first : Standing) (kept : Kept D) : Type 0 where
+    pub left : Option (List ℕ)
+    pub last : Standing
+    pub told : Told remaining left old new first last
+    pub crash : (c : List ℕ) → may_leave (disk_in kept) c
+        → (calls : List Call) × IsStoreOf calls c × IsFront (calls_of last.history) calls × IsFront calls (calls_in kept)

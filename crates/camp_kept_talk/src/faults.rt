@@ -1,0 +1,35 @@
+ghost use Rattle.std.specs.Prelude.{◌≡◌};
+ghost use Rattle.camp_kept_talk.specs.declared.faults.StoredFault.TheVariants as fault;
+
+use camp_kept::KeptFault;
+use camp_talk::{FrameFault, TalkFault};
+use std::io;
+
+/// Why a conversation that stores ended before its input did.
+#[derive(Clone, Copy, Debug)]
+pub enum StoredFault {
+    /// The accepted calls were not kept. None of the answers that were held back was written.
+    Kept(KeptFault),
+    /// No more commands could be read, or there was no memory for an answer. All accepted calls are kept.
+    Talk(TalkFault),
+    /// A request could not be read, or not be answered whole. All accepted calls are kept.
+    Frame(FrameFault),
+    /// The writer failed, with this error. All accepted calls are kept, and a front of the answers was written.
+    Write(io::Error),
+}
+
+impl From<KeptFault> for StoredFault {
+    ghost from_gives = { λ why result. result ≡ fault.Kept why };
+
+    fn from(why: KeptFault) -> StoredFault {
+        StoredFault::Kept(why)
+    }
+}
+
+impl From<TalkFault> for StoredFault {
+    ghost from_gives = { λ why result. result ≡ fault.Talk why };
+
+    fn from(why: TalkFault) -> StoredFault {
+        StoredFault::Talk(why)
+    }
+}

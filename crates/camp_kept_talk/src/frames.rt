@@ -1,0 +1,93 @@
+//! Requests in frames over a repository that is kept.
+ghost use Rattle.std.specs.Prelude.{◌≡◌, ◌-◌, ◌^◌, true, IfOk};
+ghost use Rattle.camp_kept.specs.Keeping.{Holds, calls_in, disk_in};
+ghost use Rattle.camp_kept_talk.specs.Serving.{ServesKept};
+ghost use Rattle.camp_talk.specs.Talks.{HasRisen};
+
+use crate::StoredFault;
+use crate::settling::settle;
+use camp_kept::{Disk, Kept};
+use camp_talk::{Dialogue, FrameFault, TalkFault, serve};
+use std::alloc::Global;
+use std::io::{BufRead, Write};
+
+/// Reads a request in its frame and answers it; keeps all accepted calls; and then writes the frame of the answer.
+/// Whether there may be more: else the input has ended. `served` counts the requests that were served.
+pub fn serve_kept<D: Disk, R: BufRead, W: Write>(
+    alloc: Global,
+    kept: &mut Kept<D>,
+    served: &mut u64,
+    reader: &mut R,
+    writer: &mut W,
+) -> Result<bool, StoredFault>
+    ensures serves { Holds D.Disk.seen D.Disk.may_leave (calls_in kept.old) kept.old
+        → ServesKept D.Disk.seen D.Disk.may_leave (R.remaining reader.old) (R.remaining reader.new) (W.contents writer.old) (W.contents writer.new)
+        kept.old result kept.new }
+    ensures counts { IfOk result (λ more. more ≡ true → HasRisen served.old served.new) }
+    ensures clean { D.Disk.is_clean (disk_in kept.new) ≡ D.Disk.is_clean (disk_in kept.old) }
+{
+    let mut frame = Vec::new(alloc);
+    match serve(alloc, &mut kept.book, served, reader, &mut frame) {
+        Ok(true) => match settle(alloc, kept, &mut frame, writer) {
+            Ok(()) => Ok(true),
+            Err(fault) => Err(fault),
+        },
+        Ok(false) => Ok(false),
+        Err(why) => match kept.commit(alloc) {
+            Ok(()) => Err(StoredFault::Frame(without_room(why))),
+            Err(fault) => Err(StoredFault::Kept(fault)),
+        },
+    }
+}
+
+// Why a request could not be served whose answer goes to memory: that it can't go there is want of memory.
+fn without_room(why: FrameFault) -> FrameFault {
+    match why {
+        FrameFault::Talk(TalkFault::Write(_)) => FrameFault::Talk(TalkFault::Memory),
+        other => other,
+    }
+}
+
+/// Requests in frames: they are answered over what is kept, one after the other.
+#[derive(Drop)]
+pub struct FramedStore<D: Disk, R, W> {
+    alloc: Global,
+    kept: Kept<D>,
+    /// How many requests were served.
+    served: u64,
+    reader: R,
+    writer: W,
+}
+
+impl<D: Disk, R: BufRead, W: Write> FramedStore<D, R, W> {
+    /// Before the first request.
+    pub fn new(alloc: Global, kept: Kept<D>, reader: R, writer: W) -> FramedStore<D, R, W> {
+        FramedStore {
+            alloc,
+            kept,
+            served: 0,
+            reader,
+            writer,
+        }
+    }
+}
+
+impl<D: Disk, R: BufRead, W: Write> Dialogue for FramedStore<D, R, W> {
+    type Fault = StoredFault;
+
+    ghost comes_to = { λ old result new. Holds D.Disk.seen D.Disk.may_leave (calls_in old.kept) old.kept
+        → ServesKept D.Disk.seen D.Disk.may_leave (R.remaining old.reader) (R.remaining new.reader) (W.contents old.writer) (W.contents new.writer)
+        old.kept result new.kept };
+
+    ghost left = { λ it. 2 ^ 64 - it.served };
+
+    fn turn(&mut self) -> Result<bool, StoredFault> {
+        serve_kept(
+            self.alloc,
+            &mut self.kept,
+            &mut self.served,
+            &mut self.reader,
+            &mut self.writer,
+        )
+    }
+}

@@ -1,0 +1,27 @@
+//! Whether a command stands ready.
+use bstr::ByteSlice;
+
+/// Whether bytes begin with a whole command: with a line that is one, or with what ends its body or its group behind
+/// it. Of some that do it says no. Only a line with the word `edit` or `group` takes others with it.
+pub(crate) fn begin_with_command(bytes: &[u8]) -> bool {
+    let Some(feed) = bytes.find(b"\n") else {
+        return false;
+    };
+    let (line, behind) = bytes.split_at(feed);
+    if line.find(b"group").is_some() {
+        return have_group(behind);
+    }
+    line.find(b"edit").is_none() || behind.find(b"\nend\n").is_some()
+}
+
+// A line `done` behind a line `end` ends a group, whatever stands before; and so does the first one where there is no
+// edit.
+fn have_group(bytes: &[u8]) -> bool {
+    if bytes.find(b"\nend\ndone\n").is_some() {
+        return true;
+    }
+    match bytes.find(b"\ndone\n") {
+        Some(done) => (&bytes[..done]).find(b"edit").is_none(),
+        None => false,
+    }
+}

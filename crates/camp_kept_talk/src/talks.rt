@@ -1,0 +1,38 @@
+//! Conversations over a repository that is kept.
+ghost use Rattle.std.specs.Prelude.{◌≡◌};
+ghost use Rattle.std.specs.Io.Buffered.{reader_remaining};
+ghost use Rattle.camp_kept.specs.Keeping.{Holds, calls_in, disk_in};
+ghost use Rattle.camp_kept_talk.specs.Going.{TalksKept};
+
+use crate::StoredFault;
+use crate::readiness::begin_with_command;
+use crate::turns::{HeldBack, stored_turn};
+use camp_kept::{Disk, Kept};
+use std::alloc::Global;
+use std::io::{BufReader, Read, Write};
+
+/// Answers the commands of a reader, one after the other, until the input ends. Answers are held back until all calls
+/// that were accepted before them are kept: before more has to be read for the next command, behind 256 accepted calls
+/// or a mebibyte of answers, and at the end.
+pub fn talk_kept<D: Disk, R: Read, W: Write>(
+    alloc: Global,
+    kept: &mut Kept<D>,
+    reader: &mut BufReader<R>,
+    writer: &mut W,
+) -> Result<(), StoredFault>
+    ensures promises { Holds D.Disk.seen D.Disk.may_leave (calls_in kept.old) kept.old
+        → TalksKept D.Disk.seen D.Disk.may_leave (reader_remaining R.remaining reader.old) (reader_remaining R.remaining reader.new) (W.contents writer.old) (W.contents writer.new)
+        (record { history = kept.old.book; lines = 0 }) result kept.new }
+    ensures clean { D.Disk.is_clean (disk_in kept.new) ≡ D.Disk.is_clean (disk_in kept.old) }
+{
+    let mut held = HeldBack::new(alloc);
+    while stored_turn(
+        alloc,
+        kept,
+        &mut held,
+        begin_with_command(reader.buffer()),
+        reader,
+        writer,
+    )? {}
+    Ok(())
+}

@@ -1,0 +1,136 @@
+//! Turns of a conversation whose answers are held back.
+ghost use Rattle.std.specs.Prelude.{◌≡◌, [], true, IfOk, List, Option, ℕ};
+ghost use Rattle.camp_kept.specs.Keeping.{disk_in};
+ghost use Rattle.camp_kept_talk.specs.Going.{Comes, ComesSettled, Goes};
+ghost use Rattle.camp_talk.specs.Answers.{Standing};
+ghost use Rattle.camp_talk.specs.Talks.{HasRisen};
+
+use crate::StoredFault;
+use crate::settling::settle;
+use camp_kept::{Disk, Kept};
+use camp_talk::{TalkFault, turn};
+use std::alloc::Global;
+use std::io::{BufRead, Write};
+
+/// The most calls that are accepted before they are kept.
+const MAX_CALLS: usize = 256;
+
+/// The most bytes of answers that are held back.
+const MAX_ANSWERS: usize = 1 << 20;
+
+/// What a conversation holds back.
+#[derive(Drop)]
+pub struct HeldBack {
+    /// The answers that are not written yet, one behind the other.
+    pub answers: Vec<u8>,
+    /// How many lines were read.
+    pub lines: u64,
+}
+
+impl HeldBack {
+    /// Nothing, before the first line.
+    pub fn new(alloc: Global) -> HeldBack
+        ensures none { result.answers.items ≡ [] }
+        ensures first { result.lines ≡ 0 }
+    {
+        HeldBack {
+            answers: Vec::new(alloc),
+            lines: 0,
+        }
+    }
+}
+
+/// Takes a turn: reads a command, asks it of the book, and holds its answer back. Whether there may be more. Where no
+/// command stands ready, or much is held back, all of it is settled first; and so it is at the end of the input.
+pub fn stored_turn<D: Disk, R: BufRead, W: Write>(
+    alloc: Global,
+    kept: &mut Kept<D>,
+    held: &mut HeldBack,
+    is_ready: bool,
+    reader: &mut R,
+    writer: &mut W,
+) -> Result<bool, StoredFault>
+    ensures goes { (remaining old : Option (List ℕ)) (first : Standing)
+        → Goes D.Disk.seen D.Disk.may_leave remaining (R.remaining reader.old) old (W.contents writer.old) held.old.answers.items first
+        (record { history = kept.old.book; lines = held.old.lines }) kept.old
+        → Comes D.Disk.seen D.Disk.may_leave remaining (R.remaining reader.new) old (W.contents writer.new) held.new.answers.items first
+        (record { history = kept.new.book; lines = held.new.lines }) result kept.new }
+    ensures counts { IfOk result (λ more. more ≡ true → HasRisen held.old.lines held.new.lines) }
+    ensures clean { D.Disk.is_clean (disk_in kept.new) ≡ D.Disk.is_clean (disk_in kept.old) }
+{
+    match settle_first(alloc, kept, held, is_ready, writer) {
+        Ok(()) => turn_on(alloc, kept, held, reader, writer),
+        Err(why) => Err(why),
+    }
+}
+
+// Settles what is held back, where no command stands ready or much waits.
+fn settle_first<D: Disk, W: Write>(
+    alloc: Global,
+    kept: &mut Kept<D>,
+    held: &mut HeldBack,
+    is_ready: bool,
+    writer: &mut W,
+) -> Result<(), StoredFault>
+    ensures goes { (remaining rest old : Option (List ℕ)) (first : Standing)
+        → Goes D.Disk.seen D.Disk.may_leave remaining rest old (W.contents writer.old) held.old.answers.items first
+        (record { history = kept.old.book; lines = held.old.lines }) kept.old
+        → ComesSettled D.Disk.seen D.Disk.may_leave remaining rest old (W.contents writer.new) held.new.answers.items first
+        (record { history = kept.new.book; lines = held.new.lines }) result kept.new }
+    ensures lines { held.new.lines ≡ held.old.lines }
+    ensures clean { D.Disk.is_clean (disk_in kept.new) ≡ D.Disk.is_clean (disk_in kept.old) }
+{
+    if may_wait(kept, held, is_ready) {
+        return Ok(());
+    }
+    settle(alloc, kept, &mut held.answers, writer)
+}
+
+// Whether what is held back may wait: a command stands ready, and not much waits.
+fn may_wait<D: Disk>(kept: &Kept<D>, held: &HeldBack, is_ready: bool) -> bool {
+    is_ready && kept.waiting() < MAX_CALLS && held.answers.len() < MAX_ANSWERS
+}
+
+// Reads a command and asks it. Where there is no more behind it, all is settled.
+fn turn_on<D: Disk, R: BufRead, W: Write>(
+    alloc: Global,
+    kept: &mut Kept<D>,
+    held: &mut HeldBack,
+    reader: &mut R,
+    writer: &mut W,
+) -> Result<bool, StoredFault>
+    ensures goes { (remaining old : Option (List ℕ)) (first : Standing)
+        → Goes D.Disk.seen D.Disk.may_leave remaining (R.remaining reader.old) old (W.contents writer.old) held.old.answers.items first
+        (record { history = kept.old.book; lines = held.old.lines }) kept.old
+        → Comes D.Disk.seen D.Disk.may_leave remaining (R.remaining reader.new) old (W.contents writer.new) held.new.answers.items first
+        (record { history = kept.new.book; lines = held.new.lines }) result kept.new }
+    ensures counts { IfOk result (λ more. more ≡ true → HasRisen held.old.lines held.new.lines) }
+    ensures clean { D.Disk.is_clean (disk_in kept.new) ≡ D.Disk.is_clean (disk_in kept.old) }
+{
+    let turned = turn(
+        alloc,
+        &mut kept.book,
+        &mut held.lines,
+        reader,
+        &mut held.answers,
+    );
+    match turned {
+        Ok(true) => Ok(true),
+        Ok(false) => match settle(alloc, kept, &mut held.answers, writer) {
+            Ok(()) => Ok(false),
+            Err(fault) => Err(fault),
+        },
+        Err(why) => match settle(alloc, kept, &mut held.answers, writer) {
+            Ok(()) => Err(StoredFault::Talk(without_room(why))),
+            Err(fault) => Err(fault),
+        },
+    }
+}
+
+// Why a turn could not be taken whose answer is held back: that it can't be held is want of memory.
+fn without_room(why: TalkFault) -> TalkFault {
+    match why {
+        TalkFault::Write(_) => TalkFault::Memory,
+        other => other,
+    }
+}
