@@ -1,13 +1,13 @@
 -- Direct needs, found by places.
-use Rattle.camp_questions.proofs.Words.{◌≡◌, ◌<◌, ◌≤◌, ◌==◌, ℕ, zero, suc, ◌+◌, ◌-◌, Bool, true, false, true≢false, not, ◌&&◌, ◌||◌, cond, inl, inr, ◌⊎◌, List, [], ◌∷◌, ◌++◌, filter, map, length, take, drop, get_or, bytes_eq, append-nil, refl, sym, ap, ◌∙◌, subst, arith, AllByRecursion, list_any, drop_all, drop_more, filter-append, map-append, take_more, name_itself, AreDistinct, goes_between, needs_directly, needs_other, all_append}
+use Rattle.camp_questions.proofs.Words.{◌≡◌, ◌≢◌, ◌<◌, ◌≤◌, ◌==◌, ℕ, zero, suc, ◌+◌, ◌-◌, Bool, true, false, true≢false, not, ◌&&◌, ◌||◌, cond, inl, inr, ◌⊎◌, List, [], ◌∷◌, ◌++◌, filter, map, length, take, drop, get_or, bytes_eq, append-nil, refl, sym, ap, ◌∙◌, subst, arith, AllByRecursion, list_any, drop_all, drop_more, filter-append, map-append, take_more, name_itself, AreDistinct, goes_between, needs_directly, needs_other, all_append}
 use Rattle.std.proofs.lemmas.Bool.{eq-eqb, eqb-true}
-use Rattle.std.proofs.lemmas.List.{get_or-map, get_or_past, length-map, take_all}
+use Rattle.std.proofs.lemmas.List.{get_or-map, get_or_default, get_or_past, length-map, take_all}
 use Rattle.camp_branch.proofs.Names.{filter_image, other_way}
 use Rattle.camp_questions.specs.Graphs.{Needing}
 use Rattle.camp_questions.specs.declared.graphs.Node.{Node}
 use Rattle.camp_questions.specs.declared.needed.Needed.{Needed}
 use Rattle.camp_questions.specs.Inside.Graphing.{needing}
-use Rattle.camp_questions.specs.Inside.ByPlace.{name_at, needs_place, node_in, up_to}
+use Rattle.camp_questions.specs.Inside.ByPlace.{AreSettled, EndInPlace, name_at, needs_place, node_in, up_to}
 use Rattle.camp_questions.proofs.MarkedNames.{among_marked, apart_places, get_or_within}
 
 filter_again_at : (g : ℕ → Bool) (x : ℕ) (b : Bool) (l : List ℕ) → filter g (cond b (x ∷ l) l) ≡ cond (b && g x) (x ∷ filter g l) (filter g l)
@@ -89,7 +89,7 @@ and_false true = refl
 and_false false = refl
 
 -- behind the last mark none is needed
-none_behind : (marks : List Bool) (at k : ℕ) → length marks ≤ k → needs_place marks at k ≡ false
+pub none_behind : (marks : List Bool) (at k : ℕ) → length marks ≤ k → needs_place marks at k ≡ false
 none_behind marks at k past =
     ap (λ b. not (k == at) && b) (get_or_past marks k false past) ∙ and_false (not (k == at))
 
@@ -106,10 +106,41 @@ all_behind_marks marks (k ∷ places) first past least =
     let behind = least.0 in
     ((omega (arith, past, behind)), all_behind_marks marks places first past least.1)
 
+all_from_less : (least first : ℕ) (places : List ℕ) → least ≤ first → AllByRecursion (λ k. first ≤ k) places → AllByRecursion (λ k. least ≤ k) places
+all_from_less least first [] less all = tt
+all_from_less least first (k ∷ places) less all =
+    let behind = all.0 in
+    ((omega (arith, less, behind)), all_from_less least first places less all.1)
+
 pub ends_before : (marks : List Bool) (at : ℕ) (places : List ℕ) (first : ℕ) → first ≡ get_or places 0 first → length marks ≤ first → AllByRecursion (λ k. get_or places 0 0 ≤ k) places → filter (λ k. not (needs_place marks at k)) places ≡ places
 ends_before marks at [] first is past least = refl
 ends_before marks at (k ∷ places) first is past least =
     none_left_out marks at (k ∷ places) (all_behind_marks marks (k ∷ places) first past (subst (λ f. AllByRecursion (λ j. f ≤ j) (k ∷ places)) (sym is) least))
+
+-- none from a place on, and none at the one before
+pub none_from : (f : ℕ → Bool) (end count before : ℕ) → end ≡ before + 1 → ((k : ℕ) → end ≤ k → k < count → f k ≡ false) → f before ≡ false → (k : ℕ) → before ≤ k → k < count → f k ≡ false
+none_from f end count before next none here k far less = at (k == before) refl
+  where
+    not_same : (a b : ℕ) → (a == b) ≡ false → a ≢ b
+    not_same a b e same = true≢false (sym (eq-eqb a b same) ∙ e)
+
+    at : (b : Bool) → (k == before) ≡ b → f k ≡ false
+    at true e = ap f (eqb-true k before e) ∙ here
+    at false e = none k (omega (arith, far, next, not_same k before e)) less
+
+-- one more patch has marks that end in its place
+pub one_ends : (all : List Needed) (i : ℕ) (q : Needed) → i < length all → q ≡ get_or all i q → length q.needs.items ≤ i + 1 → ((k : ℕ) (d : Needed) → k < i → length (get_or all k d).needs.items ≤ k + 1) → (k : ℕ) (d : Needed) → k < i + 1 → length (get_or all k d).needs.items ≤ k + 1
+one_ends all i q within is ends so_far k d less = at (k == i) refl
+  where
+    not_same : (a b : ℕ) → (a == b) ≡ false → a ≢ b
+    not_same a b e same = true≢false (sym (eq-eqb a b same) ∙ e)
+
+    at : (b : Bool) → (k == i) ≡ b → length (get_or all k d).needs.items ≤ k + 1
+    at true e =
+        let same = eqb-true k i e in
+        let long : length (get_or all k d).needs.items ≡ length q.needs.items = ap (λ m. length (get_or all m d).needs.items) same ∙ ap (λ (x : Needed). length x.needs.items) (get_or_default all i d q within ∙ sym is) in
+        omega (arith, long, same, ends)
+    at false e = so_far k d (omega (arith, less, not_same k i e))
 
 -- one number is less than another, greater, or the same
 nat_cases : (j k : ℕ) → (j < k) ⊎ ((k < j) ⊎ (j ≡ k))
@@ -201,23 +232,45 @@ module _ (names : List (List ℕ)) (all : List Needed) (named : map (λ (p : Nee
           ap (λ b. needs_other (needing names p) (name_at names k) && not (b || list_any (goes_between (needing names p) (name_at names k)) (map (needing names) (drop (i + 1) all)))) (sym (ap (λ b. b && needs_other (needing names q) (name_at names k)) (needs_it ∙ needless))))
           ∙ ap (λ l. filter (past l) (up_to (length names))) (sym behind)
 
-    skipped : (places : List ℕ) (end left : ℕ) → ((k : ℕ) → end ≤ k → k < length all → length p.needs.items ≤ k) → end + left ≤ length all → places ≡ filter (past (drop (end + left) all)) (up_to (length names)) → places ≡ filter (past (drop end all)) (up_to (length names))
-    skipped places end zero behind inside so_far =
+    skipped : (places : List ℕ) (end left : ℕ) → ((k : ℕ) → end ≤ k → k < length all → needs_place p.needs.items at k ≡ false) → end + left ≤ length all → places ≡ filter (past (drop (end + left) all)) (up_to (length names)) → places ≡ filter (past (drop end all)) (up_to (length names))
+    skipped places end zero none inside so_far =
         let e : end + 0 ≡ end = omega arith in
         so_far ∙ ap (λ m. filter (past (drop m all)) (up_to (length names))) e
-    skipped places end (suc left) behind inside so_far =
+    skipped places end (suc left) none inside so_far =
         let i = end + left in
         let here : i < length all = omega (arith, inside) in
-        skipped places end left behind (omega (arith, inside)) (stays_past places (end + suc left) i (get_or all i p) p (omega arith) here refl so_far (none_behind p.needs.items at i (behind i (omega arith) here)))
+        skipped places end left none (omega (arith, inside)) (stays_past places (end + suc left) i (get_or all i p) p (omega arith) here refl so_far (none i (omega arith) here))
 
-    -- the patches behind its marks are not needed, so what they need matters not
-    pub starts_at : (places : List ℕ) (end : ℕ) → end ≤ length all → ((k : ℕ) → end ≤ k → k < length all → length p.needs.items ≤ k) → places ≡ filter (needs_place p.needs.items at) (up_to end) → places ≡ filter (past (drop end all)) (up_to (length names))
-    starts_at places end inside behind are =
+    -- the patches from the end of what it needs on are not needed, so what they need matters not
+    pub starts_at : (places : List ℕ) (end : ℕ) → end ≤ length all → ((k : ℕ) → end ≤ k → k < length all → needs_place p.needs.items at k ≡ false) → places ≡ filter (needs_place p.needs.items at) (up_to end) → places ≡ filter (past (drop end all)) (up_to (length names))
+    starts_at places end inside none are =
         let test = needs_place p.needs.items at in
         let left = length all - end in
         let whole : end + left ≡ length all = omega (arith, inside) in
-        let none : filter test (up_to (end + left)) ≡ filter test (up_to end) = filter_behind test end left (λ k far less. none_behind p.needs.items at k (behind k far (omega (arith, less, whole)))) in
-        skipped places end left behind (omega (arith, whole)) (starts_past places (end + left) whole (are ∙ sym none ∙ ap (λ n. filter test (up_to n)) whole))
+        let behind : filter test (up_to (end + left)) ≡ filter test (up_to end) = filter_behind test end left (λ k far less. none k far (omega (arith, less, whole))) in
+        skipped places end left none (omega (arith, whole)) (starts_past places (end + left) whole (are ∙ sym behind ∙ ap (λ n. filter test (up_to n)) whole))
+
+    settled_past : (places : List ℕ) (left : ℕ) → EndInPlace all → left ≤ length all → AllByRecursion (λ k. left ≤ k) places → places ≡ filter (past (drop left all)) (up_to (length names)) → places ≡ filter (past (drop 0 all)) (up_to (length names))
+    settled_past places zero ends inside behind so_far = so_far
+    settled_past places (suc i) ends inside behind so_far =
+        let q = get_or all i p in
+        let here : i < length all = omega (arith, inside) in
+        let end = ends i p here in
+        let one : suc i ≡ i + 1 = omega arith in
+        let rest = settled_past places i ends (omega (arith, inside)) (all_from_less i (suc i) places (omega arith) behind) in
+        let out = none_left_out q.needs.items i places (all_behind_marks q.needs.items places (suc i) (omega (arith, end)) behind) in
+        elim (needs_place p.needs.items at i) as (λ b. needs_place p.needs.items at i ≡ b → places ≡ filter (past (drop 0 all)) (up_to (length names))) [
+          | true ↦ λ e. rest (goes_past places (suc i) i q p one here refl so_far places e (sym out))
+          | false ↦ λ e. rest (stays_past places (suc i) i q p one here refl so_far e)
+        ] refl
+
+    -- where no patch before a place leaves out one of the places that are left, they are all
+    pub ends_settled : (in_place : Bool) (places : List ℕ) (left settled : ℕ) → (in_place ≡ true → EndInPlace all) → left ≤ settled → left ≤ length all → AreSettled in_place places settled → places ≡ filter (past (drop left all)) (up_to (length names)) → places ≡ filter (past (drop 0 all)) (up_to (length names))
+    ends_settled in_place places left settled ends less inside (inl none) so_far =
+        let e : left ≡ 0 = omega (arith, less, none) in
+        so_far ∙ ap (λ m. filter (past (drop m all)) (up_to (length names))) e
+    ends_settled in_place places left settled ends less inside (inr are) so_far =
+        settled_past places left (ends are.0) inside (all_from_less left settled places less are.1) so_far
 
     pub all_past : (places : List ℕ) (left : ℕ) → left ≡ 0 → places ≡ filter (past (drop left all)) (up_to (length names)) → map (name_at names) places ≡ (node_in names (map (needing names) all) (needing names p)).needs
     all_past places left none so_far =

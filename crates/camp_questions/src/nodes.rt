@@ -1,9 +1,9 @@
 //! The patches of a graph, found by their places.
-ghost use Rattle.std.specs.Prelude.{◌≡◌, ◌<◌, ◌≤◌, ◌==◌, ◌&&◌, ◌||◌, ℕ, Bool, List, [], not, map, filter, length, get_or, IfOk};
+ghost use Rattle.std.specs.Prelude.{◌≡◌, ◌<◌, ◌≤◌, ◌==◌, ◌&&◌, ◌||◌, ℕ, Bool, List, [], false, not, map, filter, length, get_or, IfOk, IsTrue};
 ghost use Rattle.std.specs.List.{AllByRecursion};
 ghost use Rattle.camp_branch.specs.Branches.{AreDistinct};
 ghost use Rattle.camp_questions.specs.Inside.Graphing.{needing};
-ghost use Rattle.camp_questions.specs.Inside.ByPlace.{name_at, needs_place, node_in, up_to};
+ghost use Rattle.camp_questions.specs.Inside.ByPlace.{AreSettled, EndInPlace, name_at, needs_place, node_in, up_to};
 ghost use Rattle.camp_questions.specs.declared.needed.Needed.{Needed as AnyNeeded};
 
 use crate::graphs::Node;
@@ -19,9 +19,10 @@ pub(crate) fn nodes(alloc: Global, names: &[Name], all: &[Needed]) -> Result<Vec
     ensures { IfOk result (λ nodes. nodes.items ≡ map (node_in names.now (map (needing names.now) all.now)) (map (needing names.now) all.now)) }
 {
     let mut nodes = Vec::with_capacity(alloc, all.len())?;
+    let in_place = end_in_place(all);
     for at in 0..all.len() {
         let patch = &all[at];
-        let needs = direct_needs(alloc, names, all, at, patch)?;
+        let needs = direct_needs(alloc, names, all, in_place, at, patch)?;
         nodes.push(Node {
             name: patch.name,
             needs,
@@ -30,33 +31,79 @@ pub(crate) fn nodes(alloc: Global, names: &[Name], all: &[Needed]) -> Result<Vec
     Ok(nodes)
 }
 
+/// Whether the marks of each patch end at its own place.
+fn end_in_place(all: &[Needed]) -> bool
+    ensures { IsTrue result → EndInPlace all.now }
+{
+    for at in 0..all.len() {
+        if all[at].needs.len() > at + 1 {
+            return false;
+        }
+    }
+    true
+}
+
 /// What a patch, which stands at a place, needs directly: all that it needs, without what others need that it needs.
-/// The last of these are looked at first, since mostly they leave little of what stands before them.
+/// The last of these are looked at first, since mostly they leave little of what stands before them. Where
+/// the marks of each end in its place, those before the first that is left leave out none.
 fn direct_needs(
     alloc: Global,
     names: &[Name],
     all: &[Needed],
+    in_place: bool,
     at: usize,
     patch: &Needed,
 ) -> Result<Names, AllocError>
     requires within { at < length all.now }
     requires is { patch.now ≡ get_or all.now at patch.now }
+    requires ends { IsTrue in_place → EndInPlace all.now }
     requires named { map (λ (patch : AnyNeeded). patch.name) all.now ≡ names.now }
     requires distinct { AreDistinct names.now }
     ensures { IfOk result (λ needs.
         needs ≡ (node_in names.now (map (needing names.now) all.now) (needing names.now patch.now)).needs) }
 {
-    let end = patch.needs.len().min(all.len());
-    let mut places = needed_places(alloc, &patch.needs, at, end)?;
-    let mut left = end;
-    while left > 0 {
+    let mut left = end_of_needed(&patch.needs, at, all.len());
+    let mut places = needed_places(alloc, &patch.needs, at, left)?;
+    let mut settled = 0;
+    while left > settled {
         left -= 1;
         if needs(&patch.needs, at, left) {
             leave_out(&mut places, &all[left].needs, left);
+            settled = settled_before(&places, in_place);
         }
     }
     let names = names_at(alloc, names, &places)?;
     Ok(Names::new(names))
+}
+
+/// The place behind the last one, of so many patches, that the patch at a place needs.
+fn end_of_needed(marks: &[bool], at: usize, count: usize) -> usize
+    ensures within { result ≤ count }
+    ensures none { (place : ℕ) → result ≤ place → place < count → needs_place marks.now at place ≡ false }
+{
+    let mut end = marks.len().min(count);
+    while end > 0 {
+        if needs(marks, at, end - 1) {
+            return end;
+        }
+        end -= 1;
+    }
+    end
+}
+
+/// A place before which no patch leaves out one of these places: the first of them, where the marks of
+/// each patch end in its place.
+fn settled_before(places: &[usize], in_place: bool) -> usize
+    requires { AllByRecursion (λ place. get_or places.now 0 0 ≤ place) places.now }
+    ensures { AreSettled in_place places.now result }
+{
+    if places.is_empty() {
+        return 0;
+    }
+    if in_place {
+        return places[0];
+    }
+    0
 }
 
 /// The places of so many patches that the patch at a place needs, whose marks these are.

@@ -1,0 +1,21 @@
+use Rattle.camp_questions.proofs.Words.{◌≡◌, ◌-◌, ◌∙◌, arith, length, sym}
+use Rattle.std.specs.Prelude.{min}
+use Rattle.camp_questions.specs.Inside.ByPlace.{needs_place}
+use Rattle.camp_questions.proofs.PlacedNeeds.{none_behind, none_from}
+use Rattle.camp_questions.proofs.nodes.end_of_needed.Goals as goal
+
+pub loop-end-init : goal.loop-end-init
+loop-end-init c =
+    let least : c.min-end.result ≡ min (length c.args.marks.now) c.args.count = c.min-end.ensures in
+    record {
+      within = omega (arith, least);
+      none = λ k far less. none_behind c.args.marks.now c.args.at k (omega (arith, least, far, less));
+    }
+
+pub loop-end-preserved : goal.loop-end-preserved
+loop-end-preserved c =
+    let before = c.loop-end.invariant.within in
+    record {
+      within = omega (arith, before);
+      none = none_from (needs_place c.args.marks.now c.args.at) c.loop-end.end c.args.count (c.loop-end.end - 1) (omega arith) c.loop-end.invariant.none (sym c.needs.ensures ∙ c.if-needs.false);
+    }
