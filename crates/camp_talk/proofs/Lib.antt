@@ -16,6 +16,7 @@ pub mod Parts
 pub mod QuestionWords
 pub mod RequestLemmas
 pub mod Served
+pub mod Skipped
 pub mod ToldLemmas
 pub mod TurnLemmas
 pub mod Turns

@@ -78,7 +78,7 @@ module _ {a b : Option (List ℕ)} {before after : Standing} where
         → line ≡ before.lines + 1 → Wants a b before line after.history
     one_wants {said} {whole} {line} {error} told is at =
         let hears = subst (λ (said : Result (Vec ℕ Z) E). Hears a b before whole said after) is told in
-        record { whole = whole; command = hears.command; reads = hears.reads; at = at; same = hears.says }
+        record { whole = whole; command = hears.command; reads = hears.reads; at = at; asks = hears.says.0; same = hears.says.1 }
 
 -- ---- commands
 

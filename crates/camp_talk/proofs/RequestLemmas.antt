@@ -1,9 +1,15 @@
 -- What a request is answered, from the turns that are taken.
-use Rattle.camp_talk.proofs.Words.{◌≡◌, inl, inr, ℕ, false, List, [], ◌++◌, Some, Err, append-nil, append_assoc, flat_map, refl, sym, ap, ◌∙◌, Breaks, Entries, Exchange, Exchanges, Holds, Standing, Stops, Turns}
+use Rattle.camp_talk.proofs.Words.{◌≡◌, ◌⊎◌, inl, inr, ℕ, Bool, true, false, List, [], ◌++◌, Some, Err, append-nil, append_assoc, flat_map, refl, sym, ap, ◌∙◌, Breaks, Entries, Exchange, Exchanges, Holds, IsCommand, IsLeft, ReadsCommand, Standing, Stops, Turns}
 use Rattle.camp_talk.proofs.Firsts.{command_read}
 use Rattle.camp_talk.specs.Requests.{AnswersRequest, AnswersSome}
 use Rattle.camp_talk.specs.declared.faults.TalkFault.{TalkFault}
 use Rattle.camp_talk.specs.declared.faults.TalkFault.TheVariants.{Internal, Memory, Read, Write}
+
+-- a command that was read is whole, or else nothing is left behind it
+asked_one : {left rest : List ℕ} (whole : Bool) (command : List ℕ) → ReadsCommand (Some left) (Some rest) whole command
+    → IsCommand command ⊎ (IsLeft command × (rest ≡ []))
+asked_one true command (reads, is) = inl is
+asked_one false command (reads, is, ends) = inr (is, ends)
 
 module _ (history : Entries) (request left rest old held new : List ℕ) (middle last : Standing) where
   abbrev first : Standing
@@ -76,10 +82,11 @@ module _ (history : Entries) (request left rest old held new : List ℕ) (middle
               tells = refl;
               leaves = inr (record {
                 last = stops.said;
+                more = rest;
+                is = asked_one stops.whole stops.said.command stops.reads;
                 behind = stops.behind;
                 answers = stops.answers;
                 same = ap (λ (standing : Standing). standing.history) stops.same;
-                more = rest;
                 asks = command_read (Some left) (Some rest) stops.whole stops.said.command stops.reads;
                 unsaid = unsaid;
                 tells = is;

@@ -1,7 +1,8 @@
 -- Turns of a conversation, one behind another.
-use Rattle.camp_talk.proofs.Words.{refl, sym, ap, subst, ◌∙◌, append-nil, flat_map, flat_map-append, Gives, lines_of, LineFault, ScriptFault, Answers, Standing, Tells, TellsWant, asked_by, IsCommand, IsLeft, Entries, IsReading, IsSaid, IsWriting, said_text, Asked, ◌≡◌, ◌≤◌, ◌⊎◌, inl, inr, ℕ, ◌+◌, ◌^◌, true, List, [], ◌∷◌, ◌++◌, length, Option, Result, Ok, Err, Vec, IfOk, OnErr, Appends, Consumes, Appends-nil, Appends-trans, Consumes-nil, Consumes-trans, Exchange, Exchanges, Follow, Holds, ReadsNone, ReadsTooMuch, ReadsWithin, Stops, Turns}
+use Rattle.camp_talk.proofs.Words.{refl, sym, ap, subst, ◌∙◌, ◌≢◌, ⊎_elim, cases_Bool, append-nil, flat_map, flat_map-append, Gives, lines_of, LineFault, ScriptFault, Answers, Standing, Tells, TellsWant, asked_by, IsCommand, IsLeft, Entries, IsReading, IsSaid, IsWriting, is_silent, said_text, Asked, ◌≡◌, ◌≤◌, ◌⊎◌, inl, inr, ℕ, ◌+◌, ◌^◌, true, List, [], ◌∷◌, ◌++◌, length, Option, Result, Ok, Err, Vec, IfOk, OnErr, Appends, Consumes, Appends-nil, Appends-trans, Consumes-nil, Consumes-trans, Exchange, Exchanges, Follow, Holds, ReadsNone, ReadsTooMuch, ReadsWithin, Stops, Turns}
 use Rattle.std.specs.Io.KnownBytes.{Keeps}
 use Rattle.camp_talk.specs.declared.faults.TalkFault.{TalkFault}
+use Rattle.camp_talk.specs.declared.questions.Asked.TheVariants as asked
 use Rattle.camp_talk.specs.declared.faults.TalkFault.TheVariants.{Internal, Memory, Read, Write}
 
 -- what is said is what a command is answered
@@ -10,15 +11,17 @@ module _ {Z E : Type 0} (before : Standing) (now : Entries) (command : List ℕ)
   pub said_so : (said : Result (Vec ℕ Z) E)
       → IfOk said (λ text. (reading : Result Asked LineFault) → Gives asked reading
       → Tells before reading text.items now)
-      → OnErr said (now ≡ before.history) → IsSaid before command said now
-  said_so (Ok text) tells kept = tells (asked_by command) gives
-  said_so (Err error) tells kept = kept
+      → OnErr said (now ≡ before.history) → OnErr said (asked ≢ Ok asked.Nothing)
+      → (is_silent command ≡ true → asked ≡ Ok asked.Nothing) → IsSaid before command said now
+  said_so (Ok text) tells kept something silent = tells (asked_by command) gives
+  said_so (Err error) tells kept something silent =
+      (⊎_elim (λ is. absurd (something (silent is))) (λ says. says) (cases_Bool (is_silent command)), kept)
 
 module _ {Z E : Type 0} (before after : Standing) (command : List ℕ) where
   answered_by : (said : Result (Vec ℕ Z) E) → IsSaid before command said after.history
-      → Tells before (asked_by command) (said_text said) after.history ⊎ TellsWant before (said_text said) after.history
+      → Tells before (asked_by command) (said_text said) after.history ⊎ TellsWant before command (said_text said) after.history
   answered_by (Ok text) says = inl says
-  answered_by (Err error) says = inr (refl, says)
+  answered_by (Err error) says = inr (says.0, refl, says.1)
 
   pub answered : (said : Result (Vec ℕ Z) E) → IsSaid before command said after.history
       → after.lines ≡ before.lines + length (lines_of command) → Answers before command (said_text said) after

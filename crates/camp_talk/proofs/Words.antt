@@ -11,13 +11,13 @@ pub use Rattle.std.specs.Prelude.{bytes_eq, slice_set}
 pub use Rattle.camp_call.specs.declared.calls.Call.{Call}
 pub use Rattle.camp_script.proofs.LineLemmas.{lines-feed, lines-other, lines_without_end}
 pub use Rattle.camp_script.specs.Gives.{Gives, IsFaultOf}
-pub use Rattle.camp_script.specs.Lines.{is_blank, lines_of, without_end, words_of}
+pub use Rattle.camp_script.specs.Lines.{is_blank, is_skipped, lines_of, without_end, words_of}
 pub use Rattle.camp_script.specs.Pieces.{Piece, begins_edit, begins_with, pieces, up_to}
 pub use Rattle.camp_script.specs.Reading.{script_of, script_of_lines}
 pub use Rattle.camp_script.specs.Texts.{name_text, reply_text}
 pub use Rattle.camp_script.specs.declared.faults.LineFault.{LineFault}
 pub use Rattle.camp_script.specs.declared.faults.ScriptFault.{ScriptFault}
-pub use Rattle.camp_talk.specs.Answers.{Answers, Standing, Tells, TellsWant}
+pub use Rattle.camp_talk.specs.Answers.{Answers, Standing, Tells, TellsWant, is_silent}
 pub use Rattle.camp_talk.specs.Asking.{asked_by, asked_of, first_of, question_of, short_question}
 pub use Rattle.camp_talk.specs.Cutting.{IsCommand, IsLeft, TakesAll, as_read, body_of, call_line, call_lines, ends_body, ends_group, entries_of, entry_lines, group_of, lines_in, script_in, taken, taken_at, taken_by}
 pub use Rattle.camp_talk.specs.Entries.{Entries}

@@ -1,16 +1,17 @@
 -- What answers a command, by where a conversation stands.
-use Rattle.std.specs.Prelude.{◌≡◌, ◌⊎◌, ℕ, ◌+◌, List, [], ◌++◌, length, Result, Ok, Err, codes}
+use Rattle.std.specs.Prelude.{◌≡◌, ◌⊎◌, ℕ, ◌+◌, Bool, false, List, [], ◌++◌, length, Result, Ok, Err, codes}
 use Rattle.std.specs.Fmt.{decimal}
 use Rattle.camp_call.specs.declared.calls.Call.{Call}
 use Rattle.camp_call.specs.declared.replies.Reply.{Reply}
 use Rattle.camp_object.specs.Asking.{Ask, alone_at}
 use Rattle.camp_repo.specs.Objects.{repository}
 use Rattle.camp_script.specs.Faults.{kind_words}
-use Rattle.camp_script.specs.Lines.{lines_of}
+use Rattle.camp_script.specs.Lines.{is_skipped, lines_of, words_of}
 use Rattle.camp_script.specs.Texts.{reply_text}
 use Rattle.camp_script.specs.declared.faults.FaultKind.{FaultKind}
 use Rattle.camp_script.specs.declared.faults.LineFault.{LineFault}
-use Rattle.camp_talk.specs.Asking.{asked_by}
+use Rattle.camp_talk.specs.Asking.{asked_by, first_of}
+use Rattle.camp_talk.specs.Cutting.{lines_in}
 use Rattle.camp_talk.specs.Entries.{Entries}
 use Rattle.camp_talk.specs.Told.{TellsQuestion}
 use Rattle.camp_talk.specs.declared.questions.Asked.{Asked}
@@ -43,11 +44,15 @@ Tells before (Ok asked.Nothing) text now = (text ≡ []) × (now ≡ before.hist
 Tells before (Ok (asked.Call call)) text now = Replies before.history call text now
 Tells before (Ok (asked.Question question)) text now = TellsQuestion before.history question text × (now ≡ before.history)
 
--- memory ran out, and that is told: nothing has changed
-abbrev pub TellsWant : Standing → List ℕ → Entries → Type 0
-TellsWant before text now = (text ≡ memory_text) × (now ≡ before.history)
+-- whether a command asks nothing, by its first line: that is blank, or a comment, or there is none
+abbrev pub is_silent : List ℕ → Bool
+is_silent command = is_skipped (words_of (first_of (lines_in command)))
+
+-- memory ran out for a command that asks something, and that is told: nothing has changed
+abbrev pub TellsWant : Standing → List ℕ → List ℕ → Entries → Type 0
+TellsWant before command text now = (is_silent command ≡ false) × (text ≡ memory_text) × (now ≡ before.history)
 
 -- a command is answered: what it asks is, unless memory ran out; and its lines were read
 pub record Answers (before : Standing) (command text : List ℕ) (after : Standing) : Type 0 where
-  pub tells : Tells before (asked_by command) text after.history ⊎ TellsWant before text after.history
+  pub tells : Tells before (asked_by command) text after.history ⊎ TellsWant before command text after.history
   pub counts : after.lines ≡ before.lines + length (lines_of command)

@@ -2,7 +2,7 @@
 use Rattle.std.specs.Prelude.{◌≡◌, ℕ, ◌+◌, Bool, true, false, ◌||◌, ◌==◌, List, Option, Result, Ok, Err, codes}
 use Rattle.std.specs.List.{All, flat_map, starts_with}
 use Rattle.std.specs.Io.KnownBytes.{Consumes}
-use Rattle.camp_talk.specs.Answers.{Answers, Standing, Tells, memory_text}
+use Rattle.camp_talk.specs.Answers.{Answers, Standing, Tells, is_silent, memory_text}
 use Rattle.camp_talk.specs.Asking.{asked_by}
 use Rattle.camp_talk.specs.Entries.{Entries}
 use Rattle.camp_talk.specs.Talks.{Exchange, Follow, ReadsCommand, ReadsNone}
@@ -56,6 +56,7 @@ module _ (remaining rest : Option (List ℕ)) where
     pub whole : Bool
     pub command : List ℕ
     pub reads : ReadsCommand remaining rest whole command
+    pub asks : is_silent command ≡ false
     pub at : line ≡ before.lines + 1
     pub same : now ≡ before.history
 

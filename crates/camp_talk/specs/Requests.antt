@@ -2,7 +2,7 @@
 use Rattle.std.specs.Prelude.{◌≡◌, ◌⊎◌, ℕ, List, [], ◌++◌}
 use Rattle.std.specs.List.{flat_map}
 use Rattle.camp_talk.specs.Answers.{Answers, Standing}
-use Rattle.camp_talk.specs.Cutting.{IsLeft}
+use Rattle.camp_talk.specs.Cutting.{IsCommand, IsLeft}
 use Rattle.camp_talk.specs.Entries.{Entries}
 use Rattle.camp_talk.specs.Talks.{Exchange, Follow}
 
@@ -20,13 +20,14 @@ pub record AnswersRequest (history : Entries) (request answer : List ℕ) (now :
   pub asks : request ≡ flat_map (λ exchange. exchange.command) said ++ last.command
   pub tells : answer ≡ flat_map (λ exchange. exchange.answer) said ++ last.answer
 
--- the command that stands next in a request was asked, and a front of its answer is there
+-- the command that stands next in a request was asked, or what its end leaves of one, and a front of its answer is there
 pub record AsksOneMore (middle : Standing) (rest front : List ℕ) (now : Entries) : Type 0 where
   pub last : Exchange
+  pub more : List ℕ
+  pub is : IsCommand last.command ⊎ (IsLeft last.command × (more ≡ []))
   pub behind : Standing
   pub answers : Answers middle last.command last.answer behind
   pub same : now ≡ behind.history
-  pub more : List ℕ
   pub asks : rest ≡ last.command ++ more
   pub unsaid : List ℕ
   pub tells : last.answer ≡ front ++ unsaid

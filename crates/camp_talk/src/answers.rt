@@ -1,5 +1,5 @@
 //! The answers to commands.
-ghost use Rattle.std.specs.Prelude.{◌≡◌, ◌+◌, Result, Ok, IfOk, OnErr, MatchResult, length, ℕ};
+ghost use Rattle.std.specs.Prelude.{◌≡◌, ◌≢◌, ◌+◌, Result, Ok, IfOk, OnErr, MatchResult, length, ℕ};
 ghost use Rattle.std.specs.Io.KnownBytes.{Appends};
 ghost use Rattle.camp_script.specs.Gives.{Gives};
 ghost use Rattle.camp_script.specs.Texts.{HasText, answer_text};
@@ -20,7 +20,7 @@ use std::alloc::{AllocError, Global};
 use std::io::Write;
 
 /// The text of the answer to what a command asks, by the number of the lines before it. Where memory runs
-/// out the book stays.
+/// out the book stays; where nothing is asked none is wanted.
 pub(crate) fn answer(
     alloc: Global,
     book: &mut Book<State>,
@@ -30,6 +30,7 @@ pub(crate) fn answer(
     ensures text { IfOk result (λ text. (reading : Result SaidAsked SaidFault) → Gives asked.now reading →
         Tells (record { history = book.old; lines = before }) reading text.items book.new) }
     ensures kept { OnErr result (book.new ≡ book.old) }
+    ensures nothing { OnErr result (asked.now ≢ Ok SaidAsked.Nothing) }
 {
     match asked {
         Ok(asked) => answer_asked(alloc, book, asked),
@@ -42,6 +43,7 @@ fn answer_asked(alloc: Global, book: &mut Book<State>, asked: &Asked) -> Result<
     ensures text { IfOk result (λ text. (before : ℕ) →
         Tells (record { history = book.old; lines = before }) (Ok asked.now) text.items book.new) }
     ensures kept { OnErr result (book.new ≡ book.old) }
+    ensures nothing { OnErr result (asked.now ≢ SaidAsked.Nothing) }
 {
     match asked {
         Asked::Nothing => Ok(Vec::new(alloc)),

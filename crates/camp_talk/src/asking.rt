@@ -2,7 +2,7 @@
 ghost use Rattle.std.specs.Prelude.{◌≡◌, ◌≤◌, List, Result, length};
 ghost use Rattle.camp_call.specs.declared.calls.Call.{Call as SaidCall};
 ghost use Rattle.camp_script.specs.Gives.{Gives};
-ghost use Rattle.camp_script.specs.Lines.{lines_of, words_of};
+ghost use Rattle.camp_script.specs.Lines.{is_skipped, lines_of, words_of};
 ghost use Rattle.camp_script.specs.declared.faults.LineFault.{LineFault as SaidFault};
 ghost use Rattle.camp_talk.specs.Asking.{asked_in, asked_with, call_in, first_of, foreseen_in};
 ghost use Rattle.camp_talk.specs.Cutting.{call_line, script_in};
@@ -32,6 +32,16 @@ fn call_line(line: &[u8]) -> &[u8]
         return behind_word(line);
     }
     line
+}
+
+/// Whether a line asks nothing: it has no word, or the first begins with `#`.
+pub(crate) fn is_skipped(line: &[u8]) -> bool
+    ensures { result ≡ is_skipped (words_of line.now) }
+{
+    match Words::new(line).next() {
+        Some(word) => word.first() == Some(&b'#'),
+        None => true,
+    }
 }
 
 /// What a command asks, by the script that its call is.

@@ -1,14 +1,15 @@
 //! A command of a reader, and what it asks.
-ghost use Rattle.std.specs.Prelude.{◌≡◌, length, IfOk, IfErr};
+ghost use Rattle.std.specs.Prelude.{◌≡◌, length, Ok, true, IfOk, IfErr};
 ghost use Rattle.camp_script.specs.Gives.{Gives};
-ghost use Rattle.camp_script.specs.Lines.{lines_of};
-ghost use Rattle.camp_talk.specs.Asking.{asked_of};
+ghost use Rattle.camp_script.specs.Lines.{is_skipped, lines_of, words_of};
+ghost use Rattle.camp_talk.specs.Asking.{asked_of, first_of};
 ghost use Rattle.camp_talk.specs.Cutting.{script_in, taken_at};
 ghost use Rattle.camp_talk.specs.Inside.Parts.{IsReading, ReadsHeld, ReadsPart, StopsIn, last_part};
 ghost use Rattle.camp_talk.specs.Talks.{ReadsWithin};
+ghost use Rattle.camp_talk.specs.declared.questions.Asked.{Asked as SaidAsked};
 
 use crate::TalkFault;
-use crate::asking::{read_asked, read_script_in};
+use crate::asking::{first_line, is_skipped, read_asked, read_script_in};
 use crate::commands::{read_body, read_group};
 use crate::lines::read_line;
 use crate::questions::Asked;
@@ -39,6 +40,8 @@ pub(crate) fn read_command<R: BufRead>(alloc: Global, reader: &mut R) -> Result<
     ensures command { IfOk result (λ command.
         ReadsHeld (R.remaining reader.old) (R.remaining reader.new) command.is_whole command.bytes.items) }
     ensures asked { IfOk result (λ command. Gives command.asked (asked_of (lines_of command.bytes.items))) }
+    ensures silent { IfOk result (λ command. is_skipped (words_of (first_of (lines_of command.bytes.items))) ≡ true →
+        command.asked ≡ Ok SaidAsked.Nothing) }
     ensures fault { IfErr result IsReading }
     ensures within { IfErr result (λ why. ReadsWithin (R.remaining reader.old) (R.remaining reader.new)) }
 {
@@ -47,7 +50,11 @@ pub(crate) fn read_command<R: BufRead>(alloc: Global, reader: &mut R) -> Result<
         is_whole,
         script,
     } = read_lines(alloc, reader)?;
-    let asked = read_asked(alloc, &bytes, script);
+    let asked = if is_skipped(first_line(&bytes)) {
+        Ok(Asked::Nothing)
+    } else {
+        read_asked(alloc, &bytes, script)
+    };
     Ok(Command {
         bytes,
         is_whole,

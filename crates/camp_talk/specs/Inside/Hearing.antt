@@ -2,7 +2,7 @@
 use Rattle.std.specs.Prelude.{◌≡◌, ℕ, ◌+◌, Bool, true, false, List, length, Option, Result, Ok, Err, Vec}
 use Rattle.std.specs.Io.KnownBytes.{Consumes}
 use Rattle.camp_script.specs.Lines.{lines_of}
-use Rattle.camp_talk.specs.Answers.{Answers, Standing, Tells}
+use Rattle.camp_talk.specs.Answers.{Answers, Standing, Tells, is_silent}
 use Rattle.camp_talk.specs.Asking.{asked_by}
 use Rattle.camp_talk.specs.Cutting.{IsCommand}
 use Rattle.camp_talk.specs.Entries.{Entries}
@@ -10,10 +10,10 @@ use Rattle.camp_talk.specs.Loads.{Ends, TellsSuccess}
 use Rattle.camp_talk.specs.Talks.{Exchange, ReadsCommand}
 use Rattle.camp_talk.specs.declared.faults.LoadFault.{LoadFault}
 
--- what a command asks is answered by this text; or there was no memory, and nothing has changed
+-- what a command asks is answered by this text; or it asks something, there was no memory, and nothing has changed
 abbrev pub IsSaid : {Z E : Type 0} → Standing → List ℕ → Result (Vec ℕ Z) E → Entries → Type 0
 IsSaid before command (Ok text) now = Tells before (asked_by command) text.items now
-IsSaid before command (Err error) now = now ≡ before.history
+IsSaid before command (Err error) now = (is_silent command ≡ false) × (now ≡ before.history)
 
 module _ (remaining rest : Option (List ℕ)) (before : Standing) where
   -- a command was read, whole or as far as the input has it, and this is said to it

@@ -1,6 +1,7 @@
-use Rattle.camp_talk.proofs.Words.{◌≡◌, ◌+◌, ℕ, List, length, ap, subst, ◌∙◌, arith, rules, Gives, lines_of, Standing, as_read, length-map, asked_of}
+use Rattle.camp_talk.proofs.Words.{◌≡◌, ◌+◌, ℕ, List, length, true, Ok, first_of, is_silent, is_skipped, words_of, ap, subst, ◌∙◌, arith, rules, Gives, lines_of, Standing, as_read, length-map, asked_of}
 use Rattle.camp_talk.proofs.Firsts.{command_left, command_read}
 use Rattle.camp_talk.proofs.Turns.{reads_none, reads_too_much, said_so}
+use Rattle.camp_talk.specs.declared.questions.Asked.TheVariants as asked
 use Rattle.camp_talk.proofs.talks.hear.Goals as goal
 use Rattle.camp_talk.proofs.talks.hear.Given.{Over}
 use Rattle.camp_talk.proofs.talks.hear.Goals.{After-count_lines}
@@ -35,9 +36,12 @@ returns-clause-hears g c =
     let then = (goal.at.returns-clause-hears g c).After-count_lines in
     let counts : after ≡ c.args.lines + length (lines_of read.command) = omega (arith, lines g then) in
     let gives = subst (λ (ls : List (List ℕ)). Gives command.asked (asked_of ls)) read.lines c.in_ok-command.ensures.asked in
+    let silent : is_silent read.command ≡ true → command.asked ≡ Ok asked.Nothing =
+    subst (λ (ls : List (List ℕ)). is_skipped (words_of (first_of ls)) ≡ true → command.asked ≡ Ok asked.Nothing) read.lines c.in_ok-command.ensures.silent in
     record {
       command = read.command;
       reads = read.reads;
-      says = said_so before c.answer.new.book read.command command.asked gives c.answer.result c.answer.ensures.text c.answer.ensures.kept;
+      says = said_so before c.answer.new.book read.command command.asked gives c.answer.result c.answer.ensures.text c.answer.ensures.kept
+          c.answer.ensures.nothing silent;
       counts = counts;
     }

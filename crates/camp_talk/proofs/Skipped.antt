@@ -1,0 +1,55 @@
+-- A line that is skipped asks nothing, and takes no other with it.
+use Rattle.camp_talk.proofs.Words.{◌≡◌, ℕ, ◌==◌, Bool, true, false, cond, List, [], ◌∷◌, codes, Ok, refl, sym, ap, ◌∙◌, eqb-true, bytes_eq, begins_with, is_skipped, words_of, script_of_lines, asked_of, first_of, call_line, TakesAll, taken, taken_by}
+use Rattle.std.specs.Prelude.{slice_index}
+use Rattle.camp_script.proofs.Agreement.{reads_as_defined}
+use Rattle.camp_script.specs.Behind.{behind_word}
+use Rattle.camp_script.specs.Commands.{Nothing, command_of}
+use Rattle.camp_script.specs.Inside.Progress.{start}
+use Rattle.camp_script.specs.Inside.Steps.{obeyed, read_from}
+use Rattle.camp_script.specs.Words.{◌>>=◌}
+use Rattle.camp_talk.specs.Asking.{asked_with}
+use Rattle.camp_talk.specs.declared.questions.Asked.TheVariants as asked
+
+-- the first word of a comment
+number_sign : (word : List ℕ) → (slice_index word 0 == 35) ≡ true → (rest : List ℕ) × (word ≡ 35 ∷ rest)
+number_sign [] is = absurd is
+number_sign (byte ∷ rest) is = (rest, ap (λ (b : ℕ). b ∷ rest) (eqb-true byte 35 is))
+
+-- ---- by the words of a line that is skipped
+
+no_foresight : (words : List (List ℕ)) → is_skipped words ≡ true → begins_with (codes "whatif") words ≡ false
+no_foresight [] is = refl
+no_foresight (word ∷ words) is =
+    let (rest, sign) = number_sign word is in ap (λ (w : List ℕ). bytes_eq w (codes "whatif")) sign
+
+no_command : (words : List (List ℕ)) → is_skipped words ≡ true → command_of 1 words ≡ Ok Nothing
+no_command [] is = refl
+no_command (word ∷ words) is = let (rest, sign) = number_sign word is in ap (λ (w : List ℕ). command_of 1 (w ∷ words)) sign
+
+nothing_asked : (words : List (List ℕ)) → is_skipped words ≡ true → asked_with words (Ok ([] ∷ [])) ≡ Ok asked.Nothing
+nothing_asked [] is = refl
+nothing_asked (word ∷ words) is =
+    let (rest, sign) = number_sign word is in ap (λ (w : List ℕ). asked_with (w ∷ words) (Ok ([] ∷ []))) sign
+
+-- ---- by the line
+
+module _ (line : List ℕ) (skipped : is_skipped (words_of line) ≡ true) where
+  -- as a script it has no call
+  no_call : script_of_lines (call_line line ∷ []) ≡ Ok ([] ∷ [])
+  no_call =
+      ap (λ b. script_of_lines (cond b (behind_word line) line ∷ [])) (no_foresight (words_of line) skipped)
+      ∙ sym (reads_as_defined (line ∷ []))
+      ∙ ap (λ asked. obeyed 1 start asked >>= λ next. read_from 2 next []) (no_command (words_of line) skipped)
+
+  alone : (rest : List (List ℕ)) → taken line rest ≡ rest → rest ≡ []
+  alone rest all = sym all ∙ ap (λ script. taken_by script rest) no_call
+
+  asks_nothing : asked_of (line ∷ []) ≡ Ok asked.Nothing
+  asks_nothing = ap (asked_with (words_of line)) no_call ∙ nothing_asked (words_of line) skipped
+
+-- a command whose first line is skipped
+pub silent_asks_nothing : (lines : List (List ℕ)) → TakesAll lines → is_skipped (words_of (first_of lines)) ≡ true
+    → asked_of lines ≡ Ok asked.Nothing
+silent_asks_nothing [] all skipped = refl
+silent_asks_nothing (line ∷ rest) all skipped =
+    ap (λ (ls : List (List ℕ)). asked_of (line ∷ ls)) (alone line skipped rest all) ∙ asks_nothing line skipped
