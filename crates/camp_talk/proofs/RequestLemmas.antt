@@ -6,10 +6,10 @@ use Rattle.camp_talk.specs.declared.faults.TalkFault.{TalkFault}
 use Rattle.camp_talk.specs.declared.faults.TalkFault.TheVariants.{Internal, Memory, Read, Write}
 
 -- a command that was read is whole, or else nothing is left behind it
-asked_one : {left rest : List ℕ} (whole : Bool) (command : List ℕ) → ReadsCommand (Some left) (Some rest) whole command
+asked_one : (left rest : List ℕ) (whole : Bool) (command : List ℕ) → ReadsCommand (Some left) (Some rest) whole command
     → IsCommand command ⊎ (IsLeft command × (rest ≡ []))
-asked_one true command (reads, is) = inl is
-asked_one false command (reads, is, ends) = inr (is, ends)
+asked_one left rest true command (reads, is) = inl is
+asked_one left rest false command (reads, is, ends) = inr (is, ends)
 
 module _ (history : Entries) (request left rest old held new : List ℕ) (middle last : Standing) where
   abbrev first : Standing
@@ -83,7 +83,7 @@ module _ (history : Entries) (request left rest old held new : List ℕ) (middle
               leaves = inr (record {
                 last = stops.said;
                 more = rest;
-                is = asked_one stops.whole stops.said.command stops.reads;
+                is = asked_one left rest stops.whole stops.said.command stops.reads;
                 behind = stops.behind;
                 answers = stops.answers;
                 same = ap (λ (standing : Standing). standing.history) stops.same;

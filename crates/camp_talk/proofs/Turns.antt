@@ -2,7 +2,7 @@
 use Rattle.camp_talk.proofs.Words.{refl, sym, ap, subst, ◌∙◌, ◌≢◌, ⊎_elim, cases_Bool, append-nil, flat_map, flat_map-append, Gives, lines_of, LineFault, ScriptFault, Answers, Standing, Tells, TellsWant, asked_by, IsCommand, IsLeft, Entries, IsReading, IsSaid, IsWriting, is_silent, said_text, Asked, ◌≡◌, ◌≤◌, ◌⊎◌, inl, inr, ℕ, ◌+◌, ◌^◌, true, List, [], ◌∷◌, ◌++◌, length, Option, Result, Ok, Err, Vec, IfOk, OnErr, Appends, Consumes, Appends-nil, Appends-trans, Consumes-nil, Consumes-trans, Exchange, Exchanges, Follow, Holds, ReadsNone, ReadsTooMuch, ReadsWithin, Stops, Turns}
 use Rattle.std.specs.Io.KnownBytes.{Keeps}
 use Rattle.camp_talk.specs.declared.faults.TalkFault.{TalkFault}
-use Rattle.camp_talk.specs.declared.questions.Asked.TheVariants as asked
+use Rattle.camp_talk.specs.declared.questions.Asked.TheVariants.{Nothing}
 use Rattle.camp_talk.specs.declared.faults.TalkFault.TheVariants.{Internal, Memory, Read, Write}
 
 -- what is said is what a command is answered
@@ -11,8 +11,8 @@ module _ {Z E : Type 0} (before : Standing) (now : Entries) (command : List ℕ)
   pub said_so : (said : Result (Vec ℕ Z) E)
       → IfOk said (λ text. (reading : Result Asked LineFault) → Gives asked reading
       → Tells before reading text.items now)
-      → OnErr said (now ≡ before.history) → OnErr said (asked ≢ Ok asked.Nothing)
-      → (is_silent command ≡ true → asked ≡ Ok asked.Nothing) → IsSaid before command said now
+      → OnErr said (now ≡ before.history) → OnErr said (asked ≢ Ok Nothing)
+      → (is_silent command ≡ true → asked ≡ Ok Nothing) → IsSaid before command said now
   said_so (Ok text) tells kept something silent = tells (asked_by command) gives
   said_so (Err error) tells kept something silent =
       (⊎_elim (λ is. absurd (something (silent is))) (λ says. says) (cases_Bool (is_silent command)), kept)
