@@ -108,5 +108,5 @@ failures_are_told before command text after answers = elim answers.tells [
           | inr none ↦ ap tells_failure none
         ],
       )
-  | inr want ↦ (λ e. inr want.0, λ w. ap tells_failure want.0)
+  | inr want ↦ (λ e. inr want.1, λ w. ap tells_failure want.1)
 ]

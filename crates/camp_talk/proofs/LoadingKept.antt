@@ -50,9 +50,9 @@ module _ (c : Call) (can : IsScriptCall c) (short : IsReadWhole c) (before : Sta
       let replies = subst (λ (asked : Result Asked LineFault). Tells before asked text now) (asks_call c can short) tells in
       accepts before.history now c accepted replies.reply text replies.tells replies.asks
 
-  done_so : Tells before (asked_by (call_text c)) text now ⊎ TellsWant before text now → TellsSuccess text → now ≡ before.history ++ (0, c) ∷ []
+  done_so : Tells before (asked_by (call_text c)) text now ⊎ TellsWant before (call_text c) text now → TellsSuccess text → now ≡ before.history ++ (0, c) ∷ []
   done_so (inl tells) well = (answered_so tells).0
-  done_so (inr want) well = absurd (true≢false (ap tells_failure (sym want.0) ∙ well))
+  done_so (inr want) well = absurd (true≢false (ap tells_failure (sym want.1) ∙ well))
 
 -- ---- calls that are accepted one behind another
 
@@ -122,7 +122,7 @@ walk (exchange ∷ others) first last (c ∷ calls) left follow well same can sh
     let cons : commands_of (exchange ∷ others) ≡ exchange.command ++ commands_of others = flat_map-cons (λ (e : Exchange). e.command) exchange others in
     let next = follow.0 in
     let step = behind_first c calls exchange.command (commands_of others ++ left) can.0 short.0 follow.1 (same ∙ ap (λ bytes. bytes ++ left) cons ∙ append_assoc exchange.command (commands_of others) left) in
-    let tells = subst (λ (command : List ℕ). Tells first (asked_by command) exchange.answer next.history ⊎ TellsWant first exchange.answer next.history) step.0 follow.2.tells in
+    let tells = subst (λ (command : List ℕ). Tells first (asked_by command) exchange.answer next.history ⊎ TellsWant first command exchange.answer next.history) step.0 follow.2.tells in
     let grown : next.history ≡ first.history ++ (0, c) ∷ [] = done_so c can.0 short.0 first exchange.answer next.history accepted.0 tells (All-head (λ (e : Exchange). TellsSuccess e.answer) exchange others well) in
     let more = walk others next last calls left follow.3 (All-tail (λ (e : Exchange). TellsSuccess e.answer) exchange others well) step.1 can.1 short.1 (subst (λ (h : Entries). AcceptedFrom h calls) (sym grown) accepted.1) in
     record {
@@ -195,16 +195,16 @@ module _ (calls : List Call) (middle : Standing) (left : List ℕ) (walked : Wal
       let all : left ≡ command = ends.reads.0 ∙ ap (λ (bytes : List ℕ). command ++ bytes) ends.reads.2 ∙ append-nil command in
       by (left_next walked.more command walked.can walked.short ends.reads.1 (sym walked.left_is ∙ all)).is
     where
-      nothing : (command : List ℕ) → command ≡ [] → Tells middle (asked_by command) ends.said.answer ends.after.history ⊎ TellsWant middle ends.said.answer ends.after.history → ends.after.history ≡ middle.history
+      nothing : (command : List ℕ) → command ≡ [] → Tells middle (asked_by command) ends.said.answer ends.after.history ⊎ TellsWant middle command ends.said.answer ends.after.history → ends.after.history ≡ middle.history
       nothing command none (inl tells) =
           (subst (λ (bytes : List ℕ). Tells middle (asked_by bytes) ends.said.answer ends.after.history) none tells).1
-      nothing command none (inr want) = want.1
+      nothing command none (inr want) = want.2
 
       by : ((walked.more ≡ []) × (ends.said.command ≡ [])) ⊎ ((c : Call) × (walked.more ≡ c ∷ []) × (ends.said.command ≡ call_text c)) → now ≡ alone calls
       by (inl (none, empty)) = ends.same ∙ nothing ends.said.command empty ends.answers.tells ∙ all_done none
       by (inr (c, one, is)) =
           let (can, short, accepted) = facts c [] one in
-          let tells = subst (λ (command : List ℕ). Tells middle (asked_by command) ends.said.answer ends.after.history ⊎ TellsWant middle ends.said.answer ends.after.history) is ends.answers.tells in
+          let tells = subst (λ (command : List ℕ). Tells middle (asked_by command) ends.said.answer ends.after.history ⊎ TellsWant middle command ends.said.answer ends.after.history) is ends.answers.tells in
           ends.same ∙ done_so c can short middle ends.said.answer ends.after.history accepted tells ends.well ∙ one_done c one
 
   -- a command that was not done is none of these
