@@ -24,9 +24,9 @@ tells_grow before (Ok asked.Nothing) text now tells = front_same before.history 
 tells_grow before (Ok (asked.Call call)) text now replies = replies.asks.grows
 tells_grow before (Ok (asked.Question question)) text now tells = front_same before.history now tells.1
 
-grows_so : (before : Standing) (command text : List ℕ) (now : Entries) → Tells before (asked_by command) text now ⊎ TellsWant before text now → IsFront before.history now
+grows_so : (before : Standing) (command text : List ℕ) (now : Entries) → Tells before (asked_by command) text now ⊎ TellsWant before command text now → IsFront before.history now
 grows_so before command text now (inl tells) = tells_grow before (asked_by command) text now tells
-grows_so before command text now (inr want) = front_same before.history now want.1
+grows_so before command text now (inr want) = front_same before.history now want.2
 
 pub answers_grow : (before : Standing) (command text : List ℕ) (after : Standing) → Answers before command text after → IsFront before.history after.history
 answers_grow before command text after answers = grows_so before command text after.history answers.tells
