@@ -1,6 +1,6 @@
 -- What was answered to a question, and what comes of a call that goes by it.
-use Rattle.camp_uses.proofs.Words.{◌≡◌, ◌≢◌, ◌<◌, ◌||◌, ◌⊎◌, inl, inr, ℕ, Bool, true, false, not, ◌&&◌, List, [], ◌∷◌, ◌++◌, map, length, Option, None, Some, MatchOption, Result, Ok, Err, IsErrAnd, bytes_eq, refl, sym, ap, ◌∙◌, subst, arith, same_Some, Catch, has_patch, is_among, name_of, names_of, other_names}
-use Rattle.camp_uses.proofs.Words.{Outcome, Reply, Next, Answer, AcceptedCallsHaveEffect, Has, Contents, catches_of, Decision, becomes, first_lacked, is_empty, is_full_with, pull_wanted, refused, refused_if, step, wanted, with_patches, IsShown, Patch, patch_in, GoesWithHeld, HasThem, IsRefusal, MayRefuse, MayRefuseFor, PullsWithNeeds}
+use Rattle.camp_uses.proofs.Words.{◌≡◌, ◌≢◌, ◌<◌, ◌||◌, ◌⊎◌, inl, inr, ℕ, Bool, true, false, not, ◌&&◌, List, [], ◌∷◌, ◌++◌, map, length, map-append, Option, None, Some, MatchOption, Result, Ok, Err, IsErrAnd, bytes_eq, refl, sym, ap, ◌∙◌, subst, arith, same_Some, Catch, has_patch, is_among, name_of, names_of, other_names}
+use Rattle.camp_uses.proofs.Words.{Outcome, Reply, Next, Answer, AcceptedCallsHaveEffect, Has, Contents, catches_of, Decision, becomes, first_lacked, is_empty, is_full_with, pull_wanted, refused, refused_if, step, wanted, with_patches, IsShown, Patch, patch_in, GoesWithHeld, HasThem, IsRefusal, MayRefuse, MayRefuseFor, PullsAlong}
 use Rattle.std.specs.Option.{option_map_or}
 use Rattle.std.proofs.lemmas.List.Folds.{list_any-append}
 use Rattle.camp_branch.specs.declared.faults.Blocked.TheVariants as blocked
@@ -9,15 +9,16 @@ use Rattle.camp_branch.proofs.NamesKept.{among_kept, among_once}
 use Rattle.camp_call.specs.declared.calls.Call.TheVariants as call
 use Rattle.camp_call.specs.declared.replies.Reply.TheVariants as reply
 use Rattle.camp_call.specs.declared.replies.Refusal.{Refusal}
-use Rattle.camp_call.specs.declared.replies.Refusal.TheVariants.{NoBranch, NoPatch, NothingToDo, SameBranch, TooLarge}
+use Rattle.camp_call.specs.declared.replies.Refusal.TheVariants.{Depends, Diverged, NoBranch, NoPatch, NothingToDo, SameBranch, TooLarge}
 use Rattle.camp_repo.specs.Lawful.{IsLawfulState}
 use Rattle.camp_repo.specs.Outcomes.{pulled}
+use Rattle.camp_questions.specs.Along.{AlongOr, AreAlong, ComesAlong, OfTwo, TellsAlong}
 use Rattle.camp_questions.specs.Answers.{AnswerOf, OfBranch, OfPatches, Tells}
-use Rattle.camp_questions.specs.Dependencies.{AreHeldBy, AreNeeded, HeldBy, Needs}
-use Rattle.camp_questions.specs.Laws.{HeldCanGo, NeedsComeFirst}
+use Rattle.camp_questions.specs.Dependencies.{AreHeldBy, HeldBy}
+use Rattle.camp_questions.specs.Laws.{AlongIsEnough, HeldCanGo}
 use Rattle.camp_questions.specs.declared.faults.Unanswered.{Unanswered}
 use Rattle.camp_questions.specs.declared.faults.Unanswered.TheVariants.{Refused, Memory}
-use Rattle.camp_questions.proofs.BranchGrowths.{none_lacked}
+use Rattle.camp_questions.proofs.BranchGrowths.{none_lacked, none_lacked_among}
 use Rattle.camp_questions.proofs.Growths.{in_order_there}
 
 -- a question for patches of a branch
@@ -88,13 +89,80 @@ relates : (Relates : List Catch → List (List ℕ) → List (List ℕ) → Type
 relates Relates names catches answer w =
     subst (Relates catches names) (same_answer (Ok answer) w.0 answer w.1 refl) w.2
 
--- the question is refused as the pull is
-pub needs_refused : (state : Contents) (from to : List ℕ) (names : List (List ℕ)) (why : Unanswered) → Tells (AreNeeded state from names) (Err why) → MayRefuse state from to names why
-needs_refused state from to names Memory told = tt
-needs_refused state from to names (Refused refusal) told = elim (refused_by state from names (Related Needs names) (Err refusal) refusal refl (never_related Needs names refusal) told) [
-  | inl w ↦ subst (MayRefuseFor state from to names) (sym w.1) w.0
-  | inr w ↦ subst (MayRefuseFor state from to names) (sym w.4) (w.0, w.2, w.3)
-]
+-- both branches are there, and this comes along
+record IsAlong (state : Contents) (from to : List ℕ) (names told : List (List ℕ)) : Type 0 where
+  theirs : List Catch
+  ours : List Catch
+  from_has : Has state from theirs
+  to_has : Has state to ours
+  all : first_lacked theirs names ≡ None
+  comes : ComesAlong theirs ours names told
+
+module _ (state : Contents) (from to : List ℕ) (names : List (List ℕ)) where
+  -- what is asked of the catches of two branches
+  abbrev Between : List Catch → List Catch → AnswerOf (List (List ℕ)) → Type 0
+  Between theirs ours = OfTwo from to (OfPatches theirs names (AlongOr theirs ours names))
+
+  -- it is refused so
+  abbrev Refusing : Refusal → AnswerOf (List (List ℕ))
+  Refusing refusal = Err refusal
+
+  -- for what the question is refused between two branches
+  may_refuse : (refusal : Refusal) (theirs ours : List Catch) (o : Option (List ℕ)) → Has state from theirs → first_lacked theirs names ≡ o → MatchOption o (AlongOr theirs ours names (Err refusal)) (λ name. Refusing refusal ≡ Err (NoPatch name)) → MayRefuseFor state from to names refusal
+  may_refuse refusal theirs ours (Some name) has lacks e =
+      subst (MayRefuseFor state from to names) (same_refusal (Refusing refusal) (NoPatch name) refusal e refl) (theirs, has, lacks)
+  may_refuse refusal theirs ours None has lacks (inl w) = apart (Err refusal) w.0 refusal w.1 refl
+  may_refuse refusal theirs ours None has lacks (inr w) =
+      subst (MayRefuseFor state from to names) (same_refusal (Refusing refusal) (Diverged w.0) refusal w.1 refl) tt
+
+  between_refused : (refusal : Refusal) (theirs ours : List Catch) → Has state from theirs → Between theirs ours (Err refusal) → MayRefuseFor state from to names refusal
+  between_refused refusal theirs ours has (inl w) =
+      subst (MayRefuseFor state from to names) (same_refusal (Refusing refusal) (SameBranch to) refusal w.1 refl) w.0
+  between_refused refusal theirs ours has (inr w) =
+      may_refuse refusal theirs ours (first_lacked theirs names) has refl w.1
+
+  into_refused : (refusal : Refusal) (theirs : List Catch) → Has state from theirs → (o : Option (List Catch)) → catches_of state.branches to ≡ o → MatchOption o (Refusing refusal ≡ Err (NoBranch to)) (λ ours. Between theirs ours (Err refusal)) → MayRefuseFor state from to names refusal
+  into_refused refusal theirs has None lacks e =
+      subst (MayRefuseFor state from to names) (same_refusal (Refusing refusal) (NoBranch to) refusal e refl) lacks
+  into_refused refusal theirs has (Some ours) is w = between_refused refusal theirs ours has w
+
+  from_refused : (refusal : Refusal) (o : Option (List Catch)) → catches_of state.branches from ≡ o → MatchOption o (Refusing refusal ≡ Err (NoBranch from)) (λ theirs. OfBranch state to (λ ours. Between theirs ours) (Err refusal)) → MayRefuseFor state from to names refusal
+  from_refused refusal None lacks e =
+      subst (MayRefuseFor state from to names) (same_refusal (Refusing refusal) (NoBranch from) refusal e refl) lacks
+  from_refused refusal (Some theirs) is w = into_refused refusal theirs is (catches_of state.branches to) refl w
+
+  -- the question is refused as the pull is
+  pub along_refused : (why : Unanswered) → TellsAlong state from to names (Err why) → MayRefuse state from to names why
+  along_refused Memory told = tt
+  along_refused (Refused refusal) told = from_refused refusal (catches_of state.branches from) refl told
+
+  found_between : (told : List (List ℕ)) (theirs ours : List Catch) (o : Option (List ℕ)) → Has state from theirs → Has state to ours → first_lacked theirs names ≡ o → MatchOption o (AlongOr theirs ours names (Ok told)) (λ name. Ok told ≡ Err (NoPatch name)) → IsAlong state from to names told
+  found_between told theirs ours (Some name) from_has to_has lacks e = apart (Ok told) told (NoPatch name) refl e
+  found_between told theirs ours None from_has to_has lacks (inl w) = record {
+    theirs = theirs;
+    ours = ours;
+    from_has = from_has;
+    to_has = to_has;
+    all = lacks;
+    comes = subst (ComesAlong theirs ours names) (same_answer (Ok told) w.0 told w.1 refl) w.2;
+  }
+  found_between told theirs ours None from_has to_has lacks (inr w) = apart (Ok told) told (Diverged w.0) refl w.1
+
+  found_two : (told : List (List ℕ)) (theirs ours : List Catch) → Has state from theirs → Has state to ours → Between theirs ours (Ok told) → IsAlong state from to names told
+  found_two told theirs ours from_has to_has (inl w) = apart (Ok told) told (SameBranch to) refl w.1
+  found_two told theirs ours from_has to_has (inr w) =
+      found_between told theirs ours (first_lacked theirs names) from_has to_has refl w.1
+
+  found_into : (told : List (List ℕ)) (theirs : List Catch) → Has state from theirs → (o : Option (List Catch)) → catches_of state.branches to ≡ o → MatchOption o (Ok told ≡ Err (NoBranch to)) (λ ours. Between theirs ours (Ok told)) → IsAlong state from to names told
+  found_into told theirs has None lacks e = apart (Ok told) told (NoBranch to) refl e
+  found_into told theirs has (Some ours) is w = found_two told theirs ours has is w
+
+  found_from : (told : List (List ℕ)) (o : Option (List Catch)) → catches_of state.branches from ≡ o → MatchOption o (Ok told ≡ Err (NoBranch from)) (λ theirs. OfBranch state to (λ ours. Between theirs ours) (Ok told)) → IsAlong state from to names told
+  found_from told None lacks e = apart (Ok told) told (NoBranch from) refl e
+  found_from told (Some theirs) is w = found_into told theirs is (catches_of state.branches to) refl w
+
+  found_along : (told : List (List ℕ)) → AreAlong state from to names (Ok told) → IsAlong state from to names told
+  found_along told w = found_from told (catches_of state.branches from) refl w
 
 -- a pull is accepted, or refused for what it may be
 abbrev AnswersSo : Contents → List ℕ → List ℕ → List (List ℕ) → Decision → Type 0
@@ -112,85 +180,116 @@ is_refusal state from to names (reply.Tree tree) w = absurd w
 is_refusal state from to names (reply.Conflicts pairs) w = absurd w
 is_refusal state from to names (reply.Names listed) w = absurd w
 
-module _ (state : Contents) (from to : List ℕ) (names needed : List (List ℕ)) (theirs : List Catch) (has : Has state from theirs) (all : first_lacked theirs needed ≡ None) where
-  by_outcome : (outcome : Outcome) → AnswersSo state from to names (becomes state to outcome)
-  by_outcome (Ok catches) = tt
-  by_outcome (Err (blocked.Depends patch on)) = tt
-  by_outcome (Err (blocked.Diverged name)) = tt
-  by_outcome (Err (blocked.NoMerge left right)) = tt
+-- a list without a name has none
+none_among : {A : Type 0} (names : List (List ℕ)) (n : List ℕ) → is_empty names ≡ true → is_among names n ≡ true → A
+none_among [] n none among = cc
+none_among (name ∷ names) n none among = cc
 
-  by_tests : (none full : Bool) (outcome : Outcome) → AnswersSo state from to names (refused_if none NothingToDo (refused_if full TooLarge (becomes state to outcome)))
-  by_tests true full outcome = tt
-  by_tests false true outcome = tt
-  by_tests false false outcome = by_outcome outcome
+-- a list has the patches of its front
+front_has : (front rest : List Catch) (n : List ℕ) → has_patch front n ≡ true → has_patch (front ++ rest) n ≡ true
+front_has front rest n has =
+    ap (λ names. is_among names n) (map-append name_of front rest) ∙ list_any-append (bytes_eq n) (map name_of front) _ ∙ ap (λ b. b || is_among (map name_of rest) n) has
 
-  by_lacked : (ours : List Catch) (o : Option (List ℕ)) → o ≡ None → AnswersSo state from to names (option_map_or (λ name. refused (NoPatch name)) o (pull_wanted state to theirs ours (wanted ours needed)))
-  by_lacked ours None e =
-      by_tests (is_empty (wanted ours needed)) (is_full_with ours theirs (wanted ours needed)) (pulled theirs ours (wanted ours needed))
-  by_lacked ours (Some name) e = cc
+-- the same of a decision that is not refused for a patch that another stands on
+abbrev UnlessHeld : Contents → List ℕ → List ℕ → List (List ℕ) → Decision → Type 0
+UnlessHeld state from to names decision =
+    ((patch on : List ℕ) → ¬ (decision ≡ refused (Depends patch on))) → AnswersSo state from to names decision
 
-  by_two : (ours : List Catch) (b : Bool) → bytes_eq from to ≡ b → AnswersSo state from to names (refused_if b (SameBranch to) (with_patches theirs needed (pull_wanted state to theirs ours (wanted ours needed))))
-  by_two ours true e = same_name from to e
-  by_two ours false e = by_lacked ours (first_lacked theirs needed) all
+module _ (state : Contents) (from to : List ℕ) (names told : List (List ℕ)) (along : IsAlong state from to names told) where
+  -- a name that the branch lacks is told
+  is_told : (n : List ℕ) → is_among names n ≡ true → has_patch along.ours n ≡ false → is_among told n ≡ true
+  is_told n among lacks =
+      let all = wanted along.ours names ++ along.comes.3.0 in
+      let is_wanted : is_among (wanted along.ours names) n ≡ true = among_kept (λ name. not (has_patch along.ours name)) names n ∙ (λ i. among i && not (lacks i)) in
+      let is_one : is_among all n ≡ true = list_any-append (bytes_eq n) (wanted along.ours names) _ ∙ ap (λ b. b || is_among along.comes.3.0 n) is_wanted in
+      let is_theirs : is_among (names_of along.theirs) n ≡ true = among_once (map name_of along.theirs) n ∙ none_lacked_among along.theirs names along.all n among in
+      ap (λ l. is_among l n) along.comes.3.2 ∙ among_kept (is_among all) (names_of along.theirs) n ∙ (λ i. is_theirs i && is_one i)
 
-  by_ours : (o : Option (List Catch)) → catches_of state.branches to ≡ o → AnswersSo state from to names (option_map_or (λ ours. refused_if (bytes_eq from to) (SameBranch to) (with_patches theirs needed (pull_wanted state to theirs ours (wanted ours needed)))) o (refused (NoBranch to)))
-  by_ours None e = e
-  by_ours (Some ours) e = by_two ours (bytes_eq from to) refl
+  -- where nothing that is told is wanted, the branch has the patches
+  none_wanted : is_empty (wanted along.ours told) ≡ true → HasThem along.ours names
+  none_wanted none n among = by_patch (has_patch along.ours n) refl
+    where
+      by_patch : (b : Bool) → has_patch along.ours n ≡ b → b ≡ true
+      by_patch true e = refl
+      by_patch false e =
+          none_among (wanted along.ours told) n none (among_kept (λ name. not (has_patch along.ours name)) told n ∙ (λ i. is_told n among e i && not (e i)))
 
-  answers_so : AnswersSo state from to names (step state (call.Pull from to (Some needed)))
-  answers_so = rw has (by_ours (catches_of state.branches to) refl)
+  none_left : first_lacked along.theirs told ≡ None
+  none_left =
+      none_lacked along.theirs told (λ n among. in_order_there along.theirs (wanted along.ours names ++ along.comes.3.0) n (ap (λ l. is_among l n) (sym along.comes.3.2) ∙ among))
 
--- of names that are needed, a branch lacks none
-own_needs : (theirs : List Catch) (names needed : List (List ℕ)) → Needs theirs names needed → first_lacked theirs needed ≡ None
-own_needs theirs names needed needs =
-    none_lacked theirs needed (λ n among. in_order_there theirs (names ++ needs.0) n (ap (λ l. is_among l n) (sym needs.2) ∙ among))
+  by_outcome : (outcome : Outcome) → UnlessHeld state from to names (becomes state to outcome)
+  by_outcome (Ok catches) free = tt
+  by_outcome (Err (blocked.Depends patch on)) free = absurd (free patch on refl)
+  by_outcome (Err (blocked.Diverged name)) free = tt
+  by_outcome (Err (blocked.NoMerge left right)) free = tt
 
-module _ (state : Contents) (from to : List ℕ) (names needed : List (List ℕ)) (told : AreNeeded state from names (Ok needed)) where
-  found : IsAnswered state from names (Related Needs names) (Ok needed)
-  found = answered state from names (Related Needs names) (Ok needed) needed refl told
+  by_tests : (none full : Bool) (outcome : Outcome) → is_empty (wanted along.ours told) ≡ none → UnlessHeld state from to names (refused_if none NothingToDo (refused_if full TooLarge (becomes state to outcome)))
+  by_tests true full outcome e free = (along.ours, along.to_has, none_wanted e)
+  by_tests false true outcome e free = tt
+  by_tests false false outcome e free = by_outcome outcome free
 
-  needs_these : Needs found.catches names needed
-  needs_these = relates Needs names found.catches needed found.is
+  by_lacked : (o : Option (List ℕ)) → o ≡ None → UnlessHeld state from to names (option_map_or (λ name. refused (NoPatch name)) o (pull_wanted state to along.theirs along.ours (wanted along.ours told)))
+  by_lacked None e free =
+      by_tests (is_empty (wanted along.ours told)) (is_full_with along.ours along.theirs (wanted along.ours told)) (pulled along.theirs along.ours (wanted along.ours told)) refl free
+  by_lacked (Some name) e free = cc
 
-  pub pull_answers : AnswersSo state from to names (step state (call.Pull from to (Some needed)))
-  pull_answers =
-      answers_so state from to names needed found.catches found.has (own_needs found.catches names needed needs_these)
+  by_two : (b : Bool) → bytes_eq from to ≡ b → UnlessHeld state from to names (refused_if b (SameBranch to) (with_patches along.theirs told (pull_wanted state to along.theirs along.ours (wanted along.ours told))))
+  by_two true e free = same_name from to e
+  by_two false e free = by_lacked (first_lacked along.theirs told) none_left free
+
+  answers_unless : UnlessHeld state from to names (step state (call.Pull from to (Some told)))
+  answers_unless = rw along.from_has (rw along.to_has (by_two (bytes_eq from to) refl))
+
+module _ (state : Contents) (from to : List ℕ) (names told : List (List ℕ)) (enough : AlongIsEnough) (is : AreAlong state from to names (Ok told)) where
+  found : IsAlong state from to names told
+  found = found_along state from to names told is
+
+  pull_answers : AnswersSo state from to names (step state (call.Pull from to (Some told)))
+  pull_answers = answers_unless state from to names told found (enough state from to names told is).1
 
   -- an answer to the pull is a refusal
-  pub pull_told : (told : Reply) → Answer told ≡ step state (call.Pull from to (Some needed)) → IsRefusal told
-  pull_told told e = is_refusal state from to names told (subst (AnswersSo state from to names) (sym e) pull_answers)
+  pub pull_told : (reply : Reply) → Answer reply ≡ step state (call.Pull from to (Some told)) → IsRefusal reply
+  pull_told reply e = is_refusal state from to names reply (subst (AnswersSo state from to names) (sym e) pull_answers)
 
   -- and it is refused for what it may be
-  pub pull_refused : (told : Reply) (refusal : Refusal) → Answer told ≡ step state (call.Pull from to (Some needed)) → told ≡ reply.Refused refusal → MayRefuseFor state from to names refusal
-  pull_refused told refusal e is =
-      subst (λ r. AnswersSo state from to names (Answer r)) is (subst (AnswersSo state from to names) (sym e) pull_answers)
+  pub pull_refused : (answer : Reply) (refusal : Refusal) → Answer answer ≡ step state (call.Pull from to (Some told)) → answer ≡ reply.Refused refusal → MayRefuseFor state from to names refusal
+  pull_refused answer refusal e is_so =
+      subst (λ r. AnswersSo state from to names (Answer r)) is_so (subst (AnswersSo state from to names) (sym e) pull_answers)
 
   either_way : (h : Bool) → (h || (true && (true && not h))) ≡ true
   either_way true = refl
   either_way false = refl
 
   -- what an accepted pull brings
-  pub pull_brings : NeedsComeFirst → AcceptedCallsHaveEffect → (next : Contents) → IsLawfulState state → Next next ≡ step state (call.Pull from to (Some needed)) → PullsWithNeeds state from to names next
-  pull_brings first effect next lawful e =
-      let pulls = effect state (call.Pull from to (Some needed)) next lawful (sym e) in
+  pub pull_brings : AcceptedCallsHaveEffect → (next : Contents) → IsLawfulState state → Next next ≡ step state (call.Pull from to (Some told)) → PullsAlong state from to names next
+  pull_brings effect next lawful e =
+      let pulls = effect state (call.Pull from to (Some told)) next lawful (sym e) in
       let ours = pulls.ours in
-      let same : pulls.theirs ≡ found.catches = same_Some pulls.theirs found.catches (sym pulls.from_has ∙ found.has) in
-      let come = (first found.catches names needed found.all needs_these).1.has in
-      let has_needed : HasThem (ours ++ pulls.taken) needed = λ n among.
-      let wanted_so : is_among (wanted ours needed) n ≡ (true && not (has_patch ours n)) = among_kept (λ name. not (has_patch ours name)) needed n ∙ ap (λ b. b && not (has_patch ours n)) among in
-      let theirs_has : is_among (names_of pulls.theirs) n ≡ true = among_once (map name_of pulls.theirs) n ∙ ap (λ l. has_patch l n) same ∙ in_order_there found.catches (names ++ needs_these.0) n (ap (λ l. is_among l n) (sym needs_these.2) ∙ among) in
-      sym (among_once (map name_of (ours ++ pulls.taken)) n) ∙ ap (λ l. is_among l n) pulls.named ∙ list_any-append (bytes_eq n) (names_of ours) _ ∙ (λ i. among_once (map name_of ours) n i || (among_kept (is_among (wanted ours needed)) (names_of pulls.theirs) n ∙ (λ j. theirs_has j && wanted_so j)) i) ∙ either_way (has_patch ours n) in
+      let same : pulls.theirs ≡ found.theirs = same_Some pulls.theirs found.theirs (sym pulls.from_has ∙ found.from_has) in
+      let own : ours ≡ found.ours = same_Some ours found.ours (sym pulls.to_has ∙ found.to_has) in
+      let has_told : HasThem (ours ++ pulls.taken) told = λ n among.
+      let wanted_so : is_among (wanted ours told) n ≡ (true && not (has_patch ours n)) = among_kept (λ name. not (has_patch ours name)) told n ∙ ap (λ b. b && not (has_patch ours n)) among in
+      let theirs_has : is_among (names_of pulls.theirs) n ≡ true = among_once (map name_of pulls.theirs) n ∙ ap (λ l. has_patch l n) same ∙ in_order_there found.theirs (wanted found.ours names ++ found.comes.3.0) n (ap (λ l. is_among l n) (sym found.comes.3.2) ∙ among) in
+      sym (among_once (map name_of (ours ++ pulls.taken)) n) ∙ ap (λ l. is_among l n) pulls.named ∙ list_any-append (bytes_eq n) (names_of ours) _ ∙ (λ i. among_once (map name_of ours) n i || (among_kept (is_among (wanted ours told)) (names_of pulls.theirs) n ∙ (λ j. theirs_has j && wanted_so j)) i) ∙ either_way (has_patch ours n) in
       record {
-        theirs = found.catches;
-        from_has = found.has;
-        needed = needed;
-        needs = needs_these;
+        theirs = found.theirs;
+        from_has = found.from_has;
+        ours = found.ours;
+        to_has = found.to_has;
+        told = told;
+        comes = found.comes;
         pulls = pulls;
         new = ours ++ pulls.taken;
         becomes = pulls.becomes;
-        has_names = λ n among. has_needed n (come n among);
-        has_needed = has_needed;
+        has_names = λ n among. has_name ours pulls.taken own has_told n among (has_patch ours n) refl;
+        has_told = has_told;
       }
+    where
+      has_name : (ours taken : List Catch) → ours ≡ found.ours → HasThem (ours ++ taken) told → (n : List ℕ) → is_among names n ≡ true → (b : Bool) → has_patch ours n ≡ b → has_patch (ours ++ taken) n ≡ true
+      has_name ours taken own has_told n among true e = front_has ours taken n e
+      has_name ours taken own has_told n among false e =
+          has_told n (is_told state from to names told found n among (ap (λ l. has_patch l n) (sym own) ∙ e))
 
 not_none : (names : List (List ℕ)) → 0 < length names → names ≢ []
 not_none names some e = let none : length names ≡ 0 = ap length e in absurd (omega (some, none, arith))

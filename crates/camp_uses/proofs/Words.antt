@@ -1,5 +1,6 @@
 -- The words that most proofs of this crate use.
 pub use Rattle.std.proofs.Common.{Bool, Err, IfOk, IfSome, IsErrAnd, IsSome, List, MatchOption, None, Ok, OnOk, Option, Result, Some, [], ap, append-nil, arith, bytes_eq, false, inl, inr, length, map, not, refl, subst, sym, true, ℕ, ◌&&◌, ◌++◌, ◌<◌, ◌∙◌, ◌∷◌, ◌≡◌, ◌≢◌, ◌≤◌, ◌⊎◌, ◌||◌}
+pub use Rattle.std.proofs.lemmas.List.{map-append}
 pub use Rattle.std.proofs.lemmas.Option.{same_Some}
 pub use Rattle.std.specs.List.{AllByRecursion}
 pub use Rattle.camp_base.specs.Answers.{Answers, AnswersByTrial, FindsPair}
@@ -33,4 +34,4 @@ pub use Rattle.camp_script.specs.Keeping.{CanStand, calls_of, kept_text}
 pub use Rattle.camp_script.specs.Reading.{script_of}
 pub use Rattle.camp_script.specs.declared.faults.LineFault.{LineFault}
 pub use Rattle.camp_seq.specs.Merging.{CleanMerge}
-pub use Rattle.camp_uses.specs.Questioned.{GoesWithHeld, HasThem, IsRefusal, MayRefuse, MayRefuseFor, PullsWithNeeds}
+pub use Rattle.camp_uses.specs.Questioned.{GoesWithHeld, HasThem, IsRefusal, MayRefuse, MayRefuseFor, PullsAlong}

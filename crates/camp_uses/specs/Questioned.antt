@@ -14,8 +14,9 @@ use Rattle.camp_call.specs.declared.replies.Reply.{Reply}
 use Rattle.camp_call.specs.declared.replies.Reply.TheVariants as reply
 use Rattle.camp_repo.specs.Laws.{Has, Pulls}
 use Rattle.camp_repo.specs.States.{Contents, catches_of}
+use Rattle.camp_questions.specs.Along.{ComesAlong}
 use Rattle.camp_questions.specs.Answers.{AnswerOf, OfBranch, OfPatches}
-use Rattle.camp_questions.specs.Dependencies.{HeldBy, Needs}
+use Rattle.camp_questions.specs.Dependencies.{HeldBy}
 use Rattle.camp_questions.specs.Showing.{patch_in}
 use Rattle.camp_questions.specs.declared.faults.Unanswered.{Unanswered}
 use Rattle.camp_questions.specs.declared.faults.Unanswered.TheVariants.{Refused, Memory}
@@ -28,29 +29,32 @@ IsRefusal told = (refusal : Refusal) × (told ≡ reply.Refused refusal)
 abbrev pub HasThem : List Catch → List (List ℕ) → Type 0
 HasThem catches names = (name : List ℕ) → is_among names name ≡ true → has_patch catches name ≡ true
 
--- just the patches of some names, and what these need in another branch, were pulled: the branch has its own patches, and
--- then those of them that it lacked, and so all of them
-pub record PullsWithNeeds (state : Contents) (from to : List ℕ) (names : List (List ℕ)) (next : Contents) : Type 0 where
+-- just what comes along with the patches of some names was pulled: the branch has its own patches, and then those that
+-- came along, and so all that were named
+pub record PullsAlong (state : Contents) (from to : List ℕ) (names : List (List ℕ)) (next : Contents) : Type 0 where
   pub theirs : List Catch
   pub from_has : Has state from theirs
-  pub needed : List (List ℕ)
-  pub needs : Needs theirs names needed
-  pub pulls : Pulls from to (Some needed) state next
+  pub ours : List Catch
+  pub to_has : Has state to ours
+  pub told : List (List ℕ)
+  pub comes : ComesAlong theirs ours names told
+  pub pulls : Pulls from to (Some told) state next
   pub new : List Catch
   pub becomes : Has next to new
   pub has_names : HasThem new names
-  pub has_needed : HasThem new needed
+  pub has_told : HasThem new told
 
--- for what a pull of patches with all that they need may be refused: for want of a patch only where the other branch
--- lacks one that is named
+-- for what a pull of patches with all that come along may be refused: for want of a patch only where the other branch
+-- lacks one that is named, as having nothing to do only where all that are named are there, and never for a patch that
+-- another one stands on
 abbrev pub MayRefuseFor : Contents → List ℕ → List ℕ → List (List ℕ) → Refusal → Type 0
 MayRefuseFor state from to names (NoBranch name) = catches_of state.branches name ≡ None
 MayRefuseFor state from to names (NoPatch name) =
     (theirs : List Catch) × Has state from theirs × (first_lacked theirs names ≡ Some name)
 MayRefuseFor state from to names (SameBranch name) = from ≡ to
-MayRefuseFor state from to names NothingToDo = Unit {0}
+MayRefuseFor state from to names NothingToDo = (ours : List Catch) × Has state to ours × HasThem ours names
 MayRefuseFor state from to names TooLarge = Unit {0}
-MayRefuseFor state from to names (Depends patch on) = Unit {0}
+MayRefuseFor state from to names (Depends patch on) = ⊥
 MayRefuseFor state from to names (Diverged name) = Unit {0}
 MayRefuseFor state from to names (NoMerge left right) = Unit {0}
 MayRefuseFor state from to names (BranchExists name) = ⊥

@@ -1,36 +1,36 @@
 //! Callers of `camp_questions`.
 ghost use Rattle.std.specs.Prelude.{◌≡◌, ◌-◌, ◌^◌, ◌<◌, length, IfErr, IfOk};
 ghost use Rattle.camp_questions.specs.Answers.{Tells};
-ghost use Rattle.camp_uses.specs.Questioned.{GoesWithHeld, IsReadBack, IsRefusal, MayRefuse, PullsWithNeeds};
+ghost use Rattle.camp_uses.specs.Questioned.{GoesWithHeld, IsReadBack, IsRefusal, MayRefuse, PullsAlong};
 
 use crate::calls::record;
 use camp_base::Name;
-use camp_questions::{Unanswered, held_by, held_can_go, needs, needs_come_first, show};
+use camp_questions::{Unanswered, along, along_is_enough, held_by, held_can_go, show};
 use camp_repo::{Call, Decided, Refusal, Reply, State, accepted_calls_have_effect};
 use camp_script::{Script, append_accepted, canonical_text_reads_back, read_script};
 use std::alloc::Global;
 
-/// Pulls patches with all that they need. Where that is accepted, the branch that is pulled into has
-/// the patches, and all that they need; and for want of a patch it is refused only where the other
-/// branch lacks one of these.
-pub fn pull_with_needs(
+/// Pulls patches with all that come along. Where that is accepted, the branch that is pulled into has
+/// the patches, and all that came along; it is never refused for a patch that another one stands on, and
+/// for want of a patch only where the other branch lacks one of these.
+pub fn pull_along(
     state: &State,
     from: &Name,
     to: &Name,
     names: &[Name],
 ) -> Result<State, Unanswered>
     requires { state.now.count < 2 ^ 64 - 1 }
-    ensures accepted { IfOk result (λ next. PullsWithNeeds state.now from.now to.now names.now next) }
+    ensures accepted { IfOk result (λ next. PullsAlong state.now from.now to.now names.now next) }
     ensures refused { IfErr result (λ why. MayRefuse state.now from.now to.now names.now why) }
 {
-    needs_come_first();
+    along_is_enough();
     accepted_calls_have_effect();
-    let needed = needs(state, from, names)?;
+    let told = along(state, from, to, names)?;
     let _lawful = state.count();
     let call = Call::Pull {
         from: *from,
         to: *to,
-        names: Some(needed),
+        names: Some(told),
     };
     match state.decide(&call)? {
         Decided::Next(next) => Ok(next),
