@@ -183,5 +183,5 @@ fn stands_at(lines: &SharedList<Line>, line: u32, old: &[Line]) -> bool
     if from > lines.len() {
         return false;
     }
-    lines.has_at(from, old)
+    old.is_empty() || lines.has_at(from, old)
 }
