@@ -1,6 +1,5 @@
 -- Contexted patches that change other files do not conflict.
-use Rattle.std.specs.List.{AllByRecursion}
-use Rattle.camp_ctx.proofs.Words.{◌≡◌, ◌∙◌, Bool, true, false, cond, List, [], ◌∷◌, ◌++◌, map, refl, sym, ap, subst, inl, inr, label_of, key_of, Label, Named, inverse_of, Swap, Norm, Fronts, Splits, CleanMerge, common_labels, has_label, Conflict, ContextedPatch, whole}
+use Rattle.camp_ctx.proofs.Words.{◌≡◌, ◌∙◌, Bool, true, false, cond, List, [], ◌∷◌, map, refl, sym, ap, subst, inl, inr, label_of, key_of, Label, Named, inverse_of, Swap, Norm, Fronts, Splits, CleanMerge, common_labels, has_label, Conflict, ContextedPatch, whole}
 use Rattle.camp_prim.specs.Effect.{InRange}
 use Rattle.camp_prim.specs.Swaps.{ChangePlaces, path_of}
 use Rattle.camp_prim.specs.declared.primitives.Primitive.{Primitive}
@@ -112,8 +111,3 @@ no_conflict x y w never =
     let own = norm_elsewhere t s u first w in
     let all = turned_all v u (norm_elsewhere u t v second (turned_all u t own)) in
     never v u (record { common = []; s1 = u; t1 = v; first = none_split _ s u none first; second = none_split _ t v none second; merge = rows u v all })
-
--- what holds of a list and of one more element
-pub and_last : (P : Named → Type 0) (s : List Named) (p : Named) → AllByRecursion P s → P p → AllByRecursion P (s ++ p ∷ [])
-and_last P [] p all one = (one, tt)
-and_last P (q ∷ s) p all one = (all.0, and_last P s p all.1 one)

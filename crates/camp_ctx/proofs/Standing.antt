@@ -1,7 +1,10 @@
 -- What stays as it is where a primitive passes it as it is.
-use Rattle.camp_ctx.proofs.Words.{◌≡◌, ◌∙◌, ℕ, suc, ◌<◌, ◌≤◌, length, Some, None, Bool, true, false, cond, List, [], ◌∷◌, ◌++◌, map, refl, sym, ap, subst, inl, inr, arith, slice_get, entries, get-entries, len, len-entries, find, eq_by_cmp, inverse_of, label_of, key_of, key_cmp, Swap, Key, Label, Named, inverse_of-inverse_of, Norm, Splits, Parts, Passes, passes_row, chain_is_ordered, Adds, PassesBy}
+use Rattle.camp_ctx.proofs.Words.{◌≡◌, ◌∙◌, ℕ, suc, ◌<◌, ◌≤◌, length, Some, None, Bool, true, false, cond, List, [], ◌∷◌, ◌++◌, map, refl, sym, ap, subst, inl, inr, arith, slice_get, none-some, same_Some, entries, get-entries, len, len-entries, find, eq_by_cmp, inverse_of, label_of, key_of, key_cmp, Swap, Key, Label, Named, inverse_of-inverse_of, Norm, Splits, Parts, Passes, passes_row, chain_is_ordered, Adds, PassesBy}
+use Rattle.std.proofs.lemmas.List.Folds.{list_any-append}
+use Rattle.std.proofs.Common.{◌||◌}
+use Rattle.camp_prim.specs.Labels.{label_cmp}
 use Rattle.camp_ctx.proofs.Words.{commute, MergesBehindCommon, common_labels, has_label, Conflict, ChangesAt, ContextedPatches, EachMember, ContextedPatch, whole}
-use Rattle.camp_ctx.specs.Inside.Apart.{NoCleanMerge}
+use Rattle.camp_ctx.specs.Inside.Apart.{LacksLabels, NoCleanMerge}
 use Rattle.camp_ctx.proofs.CommonLabels.{IsIn, in_from_fronts, in_from_has}
 use Rattle.camp_ctx.proofs.ConflictSteps.{conflicts_from, merges_as_the_rests}
 use Rattle.camp_ctx.proofs.SetSteps.{members_of}
@@ -75,13 +78,44 @@ merge_aside_told x t others own first back none copy turned theirs passes also o
     subst (λ l. MergesBehindCommon l t t l) list
     (merges_aside back t (subst (λ l. Passes back l l back) theirs passes) (subst (λ l. Norm l l) also ordered))
 
--- patches without a context, with other labels, conflict where they do not merge
-pub clashes : (x y : ContextedPatch) (s t : List Named) (label : Label) → x.context ≡ [] → y.context ≡ [] → s ≡ x.patch ∷ [] → t ≡ y.patch ∷ [] → label ≡ label_of x.patch → has_label t label ≡ false → NoCleanMerge s t → Conflict x y
-clashes x y s t label none also is theirs own other never t' s' w =
-    let first : s ≡ whole x = is ∙ ap (λ c. c ++ x.patch ∷ []) (sym none) in
-    let second : t ≡ whole y = theirs ∙ ap (λ c. c ++ y.patch ∷ []) (sym also) in
-    let labels : common_labels s t ≡ cond (has_label t label) (label_of x.patch ∷ []) [] = ap (λ list. common_labels list t) is ∙ ap (λ l. cond (has_label t l) (label_of x.patch ∷ []) []) (sym own) in
-    let nothing : common_labels s t ≡ [] = labels ∙ ap (λ b. cond b (label_of x.patch ∷ []) []) other in
-    let front = no_split (common_labels s t) s nothing (subst (λ list. Norm list list) (sym is) (chain_is_ordered (x.patch ∷ []) (tt, tt))) in
-    let behind = no_split (common_labels s t) t nothing (subst (λ list. Norm list list) (sym theirs) (chain_is_ordered (y.patch ∷ []) (tt, tt))) in
-    conflicts_from s t x y first second (merges_as_the_rests s t (common_labels s t) refl [] [] s t front behind refl None (λ pair. never pair.0 pair.1)) t' s' w
+-- a label that the context has, and one that the patch has or neither
+module _ (x : ContextedPatch) (c : List Named) (l m : Label) (found : Bool) (is : c ≡ x.context) (same : m ≡ l) (tells : found ≡ has_label c m) where
+  both_told : has_label (whole x) l ≡ (found || has_label (x.patch ∷ []) l)
+  both_told =
+      list_any-append (λ p. eq_by_cmp label_cmp (label_of p) l) x.context (x.patch ∷ [])
+      ∙ ap (λ b. b || has_label (x.patch ∷ []) l) (sym (tells ∙ ap (λ s. has_label s m) is ∙ ap (has_label x.context) same))
+
+  pub named_by_context : found ≡ true → true ≡ has_label (whole x) l
+  named_by_context has = sym (both_told ∙ ap (λ b. b || has_label (x.patch ∷ []) l) has)
+
+  pub named_by_patch : (t : List Named) (told : Bool) → found ≡ false → t ≡ x.patch ∷ [] → told ≡ has_label t m → told ≡ has_label (whole x) l
+  named_by_patch t told lacks own tells_too =
+      tells_too ∙ ap (λ s. has_label s m) own ∙ ap (has_label (x.patch ∷ [])) same ∙ sym (both_told ∙ ap (λ b. b || has_label (x.patch ∷ []) l) lacks)
+
+-- lists of which no label of the one is in the other have none in common
+pub none_in_common : (s t : List Named) → LacksLabels s t → common_labels s t ≡ []
+none_in_common [] t lacks = refl
+none_in_common (p ∷ s) t lacks =
+    ap (λ b. cond b (label_of p ∷ common_labels s t) (common_labels s t)) lacks.0 ∙ none_in_common s t lacks.1
+
+-- the first of a context is the first of the whole
+pub first_of_context : (x : ContextedPatch) (s : List Named) (p : Named) → s ≡ x.context → Some p ≡ slice_get s 0 → (rest : List Named) × (whole x ≡ p ∷ rest)
+first_of_context x [] p is there = absurd (none-some p (sym there))
+first_of_context x (q ∷ s) p is there =
+    (s ++ x.patch ∷ [], ap (λ c. c ++ x.patch ∷ []) (sym is) ∙ ap (λ y. y ∷ s ++ x.patch ∷ []) (sym (same_Some p q there)))
+
+-- lists do not merge where their first primitives do not
+pub firsts_stop : (s t rest more : List Named) (p q : Named) → s ≡ p ∷ rest → t ≡ q ∷ more → NoCleanMerge (p ∷ []) (q ∷ []) → NoCleanMerge s t
+firsts_stop s t rest more p q first second never = rw (first, second) (λ t' s' w.
+    let row = w.3 in
+    never (row.0 ∷ []) (row.1 ∷ []) (row.0 ∷ [], row.1, [], (row.0, row.1, [], row.3, (refl, refl), refl), (refl, refl), refl))
+
+-- contexted patches in normal order without a label in common conflict where they do not merge
+pub clashes : (x y : ContextedPatch) → LacksLabels (whole x) (whole y) → Norm (whole x) (whole x) → Norm (whole y) (whole y) → NoCleanMerge (whole x) (whole y) → Conflict x y
+clashes x y lacks own other never t' s' w =
+    let s = whole x in
+    let t = whole y in
+    let nothing = none_in_common s t lacks in
+    let front = no_split (common_labels s t) s nothing own in
+    let behind = no_split (common_labels s t) t nothing other in
+    conflicts_from s t x y refl refl (merges_as_the_rests s t (common_labels s t) refl [] [] s t front behind refl None (λ pair. never pair.0 pair.1)) t' s' w

@@ -10,8 +10,9 @@
 //!   not conflict with it: the two merge with nothing in common. No list is made of it.
 //! - Contexted patches that change other files, under other absolute labels, do not conflict: their normal
 //!   orders change other files too, and merge as they are. No list is made of them.
-//! - Two patches without a context and with different labels have nothing in common, and each is its own
-//!   normal order. So they conflict just where the inverse of the one does not swap with the other.
+//! - Two contexted patches without a label in common, each of which is its own normal order, conflict where
+//!   the inverse of the first primitive of the one does not swap with the first of the other. No list is made
+//!   of them.
 //! - Two lists with no label in common merge as they stand where each is its own normal order: a split
 //!   takes nothing off. Where their first primitives do not merge, the lists do not, and neither is copied.
 mod conflicts;

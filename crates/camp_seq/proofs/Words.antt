@@ -8,7 +8,6 @@ pub use Rattle.std.proofs.lemmas.List.{append-nil, append_assoc, at_drop_all, dr
 pub use Rattle.camp_base.specs.Trees.{Files}
 pub use Rattle.camp_prim.proofs.LabelOrder.{label_ties, label_total, less_from_lt, less_or_not, less_unless, not_above, not_below, not_below_both, not_less_where, same_label}
 pub use Rattle.camp_seq.specs.Equivalence.{Exchanges, backwards, exchanged, same, through, ◌~◌}
-pub use Rattle.camp_seq.specs.Inside.Ascending.{Ascends}
 pub use Rattle.camp_prim.proofs.SwapDecided.{Decided, decided_by, same_or_not, swap_or_not}
 pub use Rattle.std.proofs.lemmas.List.Elements.{All-cons, All-drop, All-head, All-more, All-nil, All-same, All-tail, All-take, All-weaker, Contains-append_right, Contains-get_or}
 pub use Rattle.std.specs.Bool.{then_some}

@@ -1,15 +1,20 @@
 -- Lists that do not merge, and primitives that have nothing to do with each other.
-use Rattle.std.specs.Prelude.{◌≢◌, List}
+use Rattle.std.specs.Prelude.{◌≡◌, ◌≢◌, List, false}
 use Rattle.std.specs.List.{AllByRecursion}
 use Rattle.camp_prim.specs.Effect.{InRange}
-use Rattle.camp_prim.specs.Labels.{SameKey}
+use Rattle.camp_prim.specs.Labels.{label_of, SameKey}
 use Rattle.camp_prim.specs.Swaps.{path_of}
 use Rattle.camp_prim.specs.declared.named.Named.{Named}
 use Rattle.camp_seq.specs.Merging.{CleanMerge}
+use Rattle.camp_ctx.specs.Conflicts.{has_label}
 
 -- two lists do not merge cleanly
 abbrev pub NoCleanMerge : List Named → List Named → Type 0
 NoCleanMerge s t = (t' s' : List Named) → ¬ (CleanMerge s t t' s')
+
+-- no label of the one list is in the other
+abbrev pub LacksLabels : List Named → List Named → Type 0
+LacksLabels s t = AllByRecursion (λ p. has_label t (label_of p) ≡ false) s
 
 -- two primitives change other files, under other absolute labels
 pub record Elsewhere (p q : Named) : Type 0 where

@@ -1,35 +1,81 @@
 //! Conflicts and merges that a look tells.
-ghost use Rattle.std.specs.Prelude.{◌≡◌, ◌↔◌, [], IfOk, IsTrue};
+ghost use Rattle.std.specs.Prelude.{◌≡◌, ◌↔◌, List, [], ◌∷◌, IfOk, IsTrue};
 ghost use Rattle.camp_base.specs.Answers.{FindsPair};
+ghost use Rattle.camp_prim.specs.Labels.{label_of};
+ghost use Rattle.camp_prim.specs.declared.named.Named.{Named as AnyNamed};
 ghost use Rattle.camp_seq.specs.Merging.{CleanMerge};
 ghost use Rattle.camp_seq.specs.NormalOrder.{Norm};
-ghost use Rattle.camp_ctx.specs.Conflicts.{Conflict, MergesBehindCommon};
+ghost use Rattle.camp_ctx.specs.Conflicts.{has_label, Conflict, MergesBehindCommon};
 ghost use Rattle.camp_ctx.specs.Contexts.{whole};
-ghost use Rattle.camp_ctx.specs.Inside.Apart.{NoCleanMerge};
+ghost use Rattle.camp_ctx.specs.Inside.Apart.{LacksLabels, NoCleanMerge};
 
 use crate::Contexted;
 use crate::conflicts::has_label;
 use camp_prim::{Label, Named};
-use camp_seq::{Seq, can_swap, clean_merge, is_own_order, stays_past};
+use camp_seq::{Seq, can_swap, clean_merge, is_own_order, is_own_order_with, stays_past};
 use std::alloc::AllocError;
 use std::slice;
 
-/// Whether a look tells that two patches without a context conflict: they have other labels, and don't
-/// merge. Where it says no, they may still do.
+/// Whether a look tells that two contexted patches conflict: they have no label in common, each is its own
+/// normal order, and their first primitives don't merge. Where it says no, they may still do.
 pub(crate) fn clash(x: &Contexted, y: &Contexted) -> Result<bool, AllocError>
     ensures { IfOk result (λ yes. IsTrue yes → Conflict x.now y.now) }
 {
-    if !has_no_context(x) {
+    let first = slice::from_ref(first_of(x));
+    let second = slice::from_ref(first_of(y));
+    if !stop_each_other(first, second)? {
         return Ok(false);
     }
-    if !has_no_context(y) {
+    if !have_no_common_label(x, y) {
         return Ok(false);
     }
-    let second = slice::from_ref(y.patch());
-    if has_label(second, &x.patch().label()) {
+    if !is_own_order_with(x.context().items(), x.patch()) {
         return Ok(false);
     }
-    Ok(stop_each_other(slice::from_ref(x.patch()), second)?)
+    Ok(is_own_order_with(y.context().items(), y.patch()))
+}
+
+/// The first primitive of the context, or the patch where there is none.
+fn first_of(x: &Contexted) -> &Named
+    ensures { (rest : List AnyNamed) × (whole x.now ≡ result.now ∷ rest) }
+{
+    match x.context().items().first() {
+        Some(p) => p,
+        None => x.patch(),
+    }
+}
+
+/// Whether no label of a contexted patch is in another.
+fn have_no_common_label(x: &Contexted, y: &Contexted) -> bool
+    ensures { IsTrue result → LacksLabels (whole x.now) (whole y.now) }
+{
+    if names(y, x.patch()) {
+        return false;
+    }
+    names_none(y, x.context().items())
+}
+
+/// Whether a contexted patch has none of the labels of a list.
+fn names_none(y: &Contexted, s: &[Named]) -> bool
+    ensures { IsTrue result → LacksLabels s.now (whole y.now) }
+{
+    for at in (0..s.len()).rev() {
+        if names(y, &s[at]) {
+            return false;
+        }
+    }
+    true
+}
+
+/// Whether a contexted patch has the label of a primitive.
+fn names(y: &Contexted, p: &Named) -> bool
+    ensures { result ≡ has_label (whole y.now) (label_of p.now) }
+{
+    let label = p.label();
+    if has_label(y.context().items(), &label) {
+        return true;
+    }
+    has_label(slice::from_ref(y.patch()), &label)
 }
 
 /// Whether a look tells that a patch without a context merges with a list, and both stay as they are.

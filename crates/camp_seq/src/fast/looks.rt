@@ -1,48 +1,66 @@
 //! Looks that tell what the way by the rule would come to. They take no memory.
-ghost use Rattle.std.specs.Prelude.{List, IsTrue};
-ghost use Rattle.camp_prim.specs.Labels.{label_of};
+ghost use Rattle.std.specs.Prelude.{◌<◌, List, [], ◌∷◌, ◌++◌, length, IfSome, IsTrue};
 ghost use Rattle.camp_prim.specs.declared.named.Named.{Named};
-ghost use Rattle.camp_seq.specs.Inside.Ascending.{Ascends};
-ghost use Rattle.camp_seq.specs.Inside.Insertions.{StartsAfter};
+ghost use Rattle.camp_seq.specs.Inside.NextInOrder.{IsInOrder, StaysLast};
 ghost use Rattle.camp_seq.specs.NormalOrder.{Norm};
 ghost use Rattle.camp_seq.specs.Passing.{Passes};
 
-use crate::chains::{can_swap, is_chain};
+use crate::chains::can_swap;
 use crate::orders::is_less;
 use camp_prim::{Label, Named, stay};
 
-/// A quick test by one look at each two neighbours. True: the list is in normal order. False: it may or may
-/// not be. It takes no memory.
-#[tactic(auto, using(crate::proofs::OwnOrders::ascending_is_ordered, crate::proofs::OwnOrders::chain_is_ordered))]
+/// A quick test by one look at each element: its label is not less than any before it, or it does not swap
+/// with the one before it. True: the list is in normal order. False: it may or may not be. It takes no
+/// memory.
 pub fn is_own_order(items: &[Named]) -> bool
     ensures sound { IsTrue result → Norm items.now items.now }
 {
-    if ascends(items) {
+    if items.is_empty() {
         return true;
     }
-    is_chain(items)
+    greatest_in_order(items).is_some()
 }
 
-/// Whether no label is greater than the one behind it.
-fn ascends(items: &[Named]) -> bool
-    ensures { IsTrue result → Ascends items.now }
+/// The same of a list with one more element behind it.
+pub fn is_own_order_with(items: &[Named], last: &Named) -> bool
+    ensures sound { IsTrue result → Norm (items.now ++ last.now ∷ []) (items.now ++ last.now ∷ []) }
 {
-    for at in (0..items.len()).rev() {
-        if !starts_after(&items[at].label(), &items[at + 1..]) {
-            return false;
+    if items.is_empty() {
+        return true;
+    }
+    match greatest_in_order(items) {
+        None => false,
+        Some(greatest) => greatest_with(greatest, &items[items.len() - 1], last).is_some(),
+    }
+}
+
+/// The greatest label of a list, where a look at each element tells that it is its own normal order.
+fn greatest_in_order(items: &[Named]) -> Option<Label>
+    requires { 0 < length items.now }
+    ensures { IfSome result (IsInOrder items.now) }
+{
+    let mut greatest = items[0].label();
+    for at in 1..items.len() {
+        match greatest_with(greatest, &items[at - 1], &items[at]) {
+            None => return None,
+            Some(more) => greatest = more,
         }
     }
-    true
+    Some(greatest)
 }
 
-/// Whether the first label of a list is not less than this one, or there is none.
-fn starts_after(label: &Label, s: &[Named]) -> bool
-    ensures { IsTrue result → StartsAfter label.now s.now }
+/// The greatest label with that of one more element, where it stays behind the others.
+fn greatest_with(greatest: Label, last: &Named, x: &Named) -> Option<Label>
+    ensures { IfSome result (StaysLast greatest last.now x.now) }
 {
-    match s.first() {
-        None => true,
-        Some(q) => !is_less(&q.label(), label),
+    let label = x.label();
+    if !is_less(&label, &greatest) {
+        return Some(label);
     }
+    if can_swap(last, x) {
+        return None;
+    }
+    Some(greatest)
 }
 
 /// Whether a primitive passes a list, and all stay as they are. Where it says no, they may still do.

@@ -1,5 +1,6 @@
 use Rattle.camp_ctx.proofs.Words.{whole}
-use Rattle.camp_ctx.proofs.Elsewhere.{and_last, no_conflict}
+use Rattle.camp_seq.proofs.OwnOrders.{and_last}
+use Rattle.camp_ctx.proofs.Elsewhere.{no_conflict}
 use Rattle.camp_ctx.specs.Inside.Apart.{IsElsewhere}
 use Rattle.camp_ctx.proofs.fast.elsewhere.are_elsewhere.Goals as goal
 

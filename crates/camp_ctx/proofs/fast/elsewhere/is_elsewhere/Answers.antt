@@ -1,4 +1,4 @@
-use Rattle.camp_ctx.proofs.Elsewhere.{and_last}
+use Rattle.camp_seq.proofs.OwnOrders.{and_last}
 use Rattle.camp_ctx.specs.Inside.Apart.{Elsewhere}
 use Rattle.camp_ctx.proofs.fast.elsewhere.is_elsewhere.Goals as goal
 

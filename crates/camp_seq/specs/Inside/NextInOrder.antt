@@ -1,0 +1,25 @@
+-- Lists that are their own normal order by a look at each element.
+use Rattle.std.specs.Prelude.{◌≡◌, ◌≢◌, ◌⊎◌, List}
+use Rattle.std.specs.List.{AllByRecursion}
+use Rattle.std.specs.declared.cmp.Ordering.TheVariants.{Less}
+use Rattle.camp_prim.specs.Labels.{label_of, label_cmp}
+use Rattle.camp_prim.specs.declared.labels.Label.{Label}
+use Rattle.camp_prim.specs.declared.named.Named.{Named}
+use Rattle.camp_seq.specs.Chains.{CanSwap}
+use Rattle.camp_seq.specs.NormalOrder.{Norm}
+
+-- x behind others, of which `last` is the last, and `greatest` the greatest label: its own label is not less, and is the
+-- greatest now, or it is less, and x does not swap with the last
+abbrev pub StaysLast : Label → Named → Named → Label → Type 0
+StaysLast greatest last x more =
+    ((label_cmp (label_of x) greatest ≢ Less) × (more ≡ label_of x))
+    ⊎ ((label_cmp (label_of x) greatest ≡ Less) × ¬ (CanSwap last x) × (more ≡ greatest))
+
+-- no label of the list is greater
+abbrev pub NoneAbove : Label → List Named → Type 0
+NoneAbove label s = AllByRecursion (λ p. label_cmp label (label_of p) ≢ Less) s
+
+-- a list that is its own normal order, and its greatest label
+pub record IsInOrder (s : List Named) (greatest : Label) : Type 0 where
+  pub ordered : Norm s s
+  pub above : NoneAbove greatest s
