@@ -1,5 +1,5 @@
--- What a conflictor gains behind another one, where neither has an effect.
-use Rattle.std.proofs.Common.{◌≡◌, ◌==◌, ◌∙◌, Bool, List, [], ◌∷◌, ◌++◌, length, true, refl, sym, ap, subst, arith, eqb-true}
+-- What two conflictors without an effect gain from each other.
+use Rattle.std.proofs.Common.{◌≡◌, ◌==◌, ◌∙◌, ◌↔◌, Bool, IsTrue, List, [], ◌∷◌, ◌++◌, append-nil, false, inl, inr, length, true, refl, sym, ap, subst, arith, eqb-true}
 use Rattle.camp_prim.specs.declared.named.Named.{Named}
 use Rattle.std.specs.List.{fold}
 use Rattle.std.proofs.lemmas.Grind.{fold-append}
@@ -8,12 +8,16 @@ use Rattle.camp_ctx.specs.Adding.{AddsAll}
 use Rattle.camp_ctx.specs.Conflicts.{Conflict}
 use Rattle.camp_ctx.specs.Contexts.{ContextedPatch, ContextedPatches, with_member}
 use Rattle.camp_ctx.proofs.SetChanges.{unchanged}
-use Rattle.camp_catch.specs.Conflictors.{Becomes, with_conflicts}
-use Rattle.camp_catch.specs.Inside.InPlace.{Gains, MergesBehind, with_gained}
-use Rattle.camp_catch.specs.Inside.TwoConflictors.{EffectsMerge, TellsConflict}
+use Rattle.camp_catch.specs.Conflictors.{Becomes, joined_by, with_conflicts}
+use Rattle.camp_catch.specs.Inside.InPlace.{MergesBehind, MergesInPlace, with_gained}
+use Rattle.camp_catch.specs.Inside.Meetings.{EachGains}
+use Rattle.camp_catch.specs.Inside.TwoConflictors.{EffectsMerge, JoinEachOther, TellsConflict}
+use Rattle.camp_catch.specs.Merging.{TwoConflictors}
+use Rattle.camp_catch.specs.Catches.{catch_key}
 use Rattle.camp_catch.specs.declared.catches.Catch.{Catch}
+use Rattle.camp_catch.specs.declared.catches.Catch.TheVariants.{Plain}
 use Rattle.camp_catch.specs.declared.catches.Conflictor.{Conflictor}
-use Rattle.camp_catch.proofs.MergeSteps.{joined_behind}
+use Rattle.camp_catch.proofs.MergeSteps.{two_from}
 
 -- what has no element is nothing
 pub is_nothing : (s items : List Named) (test : Bool) → test ≡ (length items == 0) → test ≡ true → items ≡ s → s ≡ []
@@ -39,31 +43,76 @@ none_merge = record {
   own_effect = refl;
 }
 
-module _ (j k : Conflictor) (none : j.effect ≡ []) (also : k.effect ≡ []) (conflict : Conflict j.identity k.identity) where
-  tells : (ys : ContextedPatches) → TellsConflict j (with_conflicts ys k) true
-  tells ys = record {
-    x = j.identity;
-    y = k.identity;
-    own_sees = subst (λ s. AddsAll s j.identity j.identity) (sym none) refl;
-    sees = subst (λ s. AddsAll s k.identity k.identity) (sym also) refl;
-    tells = (λ yes. conflict, λ found. refl);
-  }
+module _ (j k : Conflictor) (none : j.effect ≡ []) (also : k.effect ≡ []) where
+  -- whatever their sets are
+  module _ (xs ys : ContextedPatches) (found : Bool) (is : IsTrue found ↔ Conflict j.identity k.identity) where
+    tells : TellsConflict (with_conflicts xs j) (with_conflicts ys k) found
+    tells = record {
+      x = j.identity;
+      y = k.identity;
+      own_sees = subst (λ s. AddsAll s j.identity j.identity) (sym none) refl;
+      sees = subst (λ s. AddsAll s k.identity k.identity) (sym also) refl;
+      tells = is;
+    }
 
-  stays : (ys : ContextedPatches) → Becomes (λ t. t ≡ []) (AddsAll []) (AddsAll []) (with_conflicts ys k) (with_conflicts ys k)
-  stays ys = record { effect = also; conflicts = unchanged ys; identity = refl }
+    effects : EffectsMerge j.effect k.effect [] []
+    effects = subst (λ r. EffectsMerge r k.effect [] []) (sym none) (subst (λ s. EffectsMerge [] s [] []) (sym also) none_merge)
 
-  effects : EffectsMerge j.effect k.effect [] []
-  effects = subst (λ r. EffectsMerge r k.effect [] []) (sym none) (subst (λ s. EffectsMerge [] s [] []) (sym also) none_merge)
+    stays : Becomes (λ t. t ≡ []) (AddsAll []) (AddsAll []) (with_conflicts ys k) (with_conflicts ys k)
+    stays = record { effect = also; conflicts = unchanged ys; identity = refl }
 
-  -- the second gains the first one's identity
-  pub gains : (l : ContextedPatch) → l ≡ j.identity → Gains (Catch.Conflictor j) (Catch.Conflictor k) l
-  gains l is gained =
-      let ys = fold with_member k.conflicts gained in
-      joined_behind j (with_conflicts ys k) [] [] true (with_conflicts ys k) effects (tells ys) (stays ys) refl l (subst (λ s. AddsAll (inverse_all s) j.identity l) (sym also) is) _
-      (ap (λ zs. with_conflicts zs k) (fold-append with_member k.conflicts gained (l ∷ [])))
+    own_stays : Becomes (λ t. t ≡ []) (AddsAll (inverse_all k.effect)) (AddsAll (inverse_all k.effect)) (with_conflicts xs j) (with_conflicts xs j)
+    own_stays = subst (λ s. Becomes (λ t. t ≡ []) (AddsAll (inverse_all s)) (AddsAll (inverse_all s)) (with_conflicts xs j) (with_conflicts xs j)) (sym also) (record { effect = none; conflicts = unchanged xs; identity = refl })
 
--- a catch that has gained one more stands behind the other one
-pub behind_by_gain : (j k lent now : Catch) (l : ContextedPatch) (gained more : List ContextedPatch) → lent ≡ k → Gains j lent l → more ≡ gained ++ l ∷ [] → with_gained gained k ≡ now → MergesBehind j now (with_gained more k)
-behind_by_gain j k lent now l gained more same gain is view =
-    subst (λ x. MergesBehind j x (with_gained more k)) view
-    (subst (λ xs. MergesBehind j (with_gained gained k) (with_gained xs k)) (sym is) (subst (λ c. Gains j c l) same gain gained))
+    merge_by : (k' j' : Catch) → JoinEachOther found (with_conflicts ys k) (with_conflicts xs j) k' j' → TwoConflictors (with_conflicts xs j) (with_conflicts ys k) k' j'
+    merge_by k' j' each =
+        two_from (with_conflicts xs j) (with_conflicts ys k) [] [] found (with_conflicts ys k) (with_conflicts xs j) k' j' effects tells stays own_stays each
+
+  -- where they do not conflict, neither gains
+  pub none_gains : ¬ (Conflict j.identity k.identity) → EachGains (Catch.Conflictor j) (Catch.Conflictor k) [] []
+  none_gains apart before beside =
+      let xs = fold with_member j.conflicts before in
+      let ys = fold with_member k.conflicts beside in
+      let never : ¬ (IsTrue false) = λ yes. cc in
+      merge_by xs ys false (λ yes. absurd (never yes), λ found. absurd (apart found)) _ _ (record {
+        joined = with_conflicts ys k;
+        own_joined = with_conflicts xs j;
+        joins = inr (never, refl);
+        own_joins = inr (never, refl);
+        after = ap (λ zs. Catch.Conflictor (with_conflicts zs k)) (fold-append with_member k.conflicts beside []);
+        beside = ap (λ zs. Catch.Conflictor (with_conflicts zs j)) (fold-append with_member j.conflicts before []);
+      })
+
+  -- where they do, each gains the other's identity
+  pub each_gains : Conflict j.identity k.identity → (l i : ContextedPatch) → l ≡ j.identity → i ≡ k.identity → EachGains (Catch.Conflictor j) (Catch.Conflictor k) (l ∷ []) (i ∷ [])
+  each_gains conflict l i first second before beside =
+      let xs = fold with_member j.conflicts before in
+      let ys = fold with_member k.conflicts beside in
+      merge_by xs ys true (λ yes. conflict, λ found. refl) _ _ (record {
+        joined = joined_by l (with_conflicts ys k);
+        own_joined = joined_by i (with_conflicts xs j);
+        joins = inl (refl, ap (λ m. joined_by m (with_conflicts ys k)) first);
+        own_joins = inl (refl, ap (λ m. joined_by m (with_conflicts xs j)) second);
+        after = ap (λ zs. Catch.Conflictor (with_conflicts zs k)) (fold-append with_member k.conflicts beside (l ∷ []));
+        beside = ap (λ zs. Catch.Conflictor (with_conflicts zs j)) (fold-append with_member j.conflicts before (i ∷ []));
+      })
+
+-- two catches that have gained, each in its place
+pub met : (j k j-now k-now : Catch) (before beside these those more most : List ContextedPatch) → EachGains j k these those → more ≡ before ++ those → most ≡ beside ++ these → with_gained before j ≡ j-now → with_gained beside k ≡ k-now → MergesInPlace (j-now, k-now) (with_gained more j, with_gained most k)
+met j k j-now k-now before beside these those more most gains is also view k-view =
+    rw (is, also, ← view, ← k-view) (gains before beside)
+
+-- one that has gained stands behind the other one
+pub met_behind : (j k j-now k-now : Catch) (before beside these those most : List ContextedPatch) → EachGains j k these those → most ≡ beside ++ these → with_gained before j ≡ j-now → with_gained beside k ≡ k-now → MergesBehind j-now k-now (with_gained most k)
+met_behind j k j-now k-now before beside these those most gains also view k-view =
+    (with_gained (before ++ those) j, rw (also, ← view, ← k-view) (gains before beside))
+
+-- what a catch gains leaves its label
+pub same_key : (gained : List ContextedPatch) (catch : Catch) → catch_key (with_gained gained catch) ≡ catch_key catch
+same_key gained (Plain a) = refl
+same_key gained (Catch.Conflictor k) = refl
+
+-- two that do not gain stay as they are by now
+pub met_aside : (j k j-now k-now : Catch) (before beside : List ContextedPatch) → EachGains j k [] [] → with_gained before j ≡ j-now → with_gained beside k ≡ k-now → MergesInPlace (j-now, k-now) (j-now, k-now)
+met_aside j k j-now k-now before beside gains view k-view =
+    rw (← view, ← k-view) (rw (append-nil before, append-nil beside) at (gains before beside))

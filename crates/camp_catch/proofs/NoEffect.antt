@@ -1,13 +1,13 @@
--- Two conflictors without an effect change places as they are.
-use Rattle.std.proofs.Common.{◌≡◌, ◌≢◌, All, List, [], None, refl, subst, sym}
+-- Two conflictors without an effect change places as they are, but for their sets.
+use Rattle.std.proofs.Common.{◌≡◌, ◌≢◌, All, [], None, refl, subst, sym}
 use Rattle.std.specs.FinMap.{get}
-use Rattle.camp_prim.specs.declared.named.Named.{Named}
 use Rattle.camp_seq.specs.Running.{inverse_all}
 use Rattle.camp_ctx.specs.Adding.{AddsAll}
 use Rattle.camp_ctx.specs.Contexts.{ContextedPatches, context_key, patch_key}
 use Rattle.camp_ctx.proofs.SetChanges.{unchanged}
 use Rattle.camp_catch.specs.Commuting.{EffectsPass, TwoConflictorsApart}
-use Rattle.camp_catch.specs.Conflictors.{Becomes}
+use Rattle.camp_catch.specs.Conflictors.{Becomes, joined_by, with_conflicts}
+use Rattle.camp_catch.specs.Inside.Pairs.{JoinsBehindEffects}
 use Rattle.camp_catch.specs.declared.catches.Catch.{Catch}
 use Rattle.camp_catch.specs.declared.catches.Conflictor.{Conflictor}
 
@@ -41,6 +41,20 @@ apart_without_effect j k none also apart unseen = record {
   becomes = record { effect = also; conflicts = unchanged k.conflicts; identity = refl };
   own = j;
   own_becomes = subst (λ s. Becomes (λ t. t ≡ []) (AddsAll (inverse_all s)) (AddsAll (inverse_all s)) j j) (sym also) (stays j none);
+  second = refl;
+  first = refl;
+}
+
+-- the first leaves the set of the second, which joins its own
+pub joins_without_effect : (j k : Conflictor) (zs : ContextedPatches) → j.effect ≡ [] → k.effect ≡ [] → JoinsBehindEffects j k zs (Catch.Conflictor (with_conflicts zs k)) (Catch.Conflictor (joined_by k.identity j))
+joins_without_effect j k zs none also = record {
+  effect = [];
+  rr' = [];
+  effects = subst (λ r. EffectsPass r k.effect zs [] []) (sym none) (subst (λ s. EffectsPass [] s zs [] []) (sym also) (none_pass zs));
+  moved = with_conflicts zs k;
+  becomes = record { effect = also; conflicts = unchanged zs; identity = refl };
+  own = joined_by k.identity j;
+  joined = record { moved = j; becomes = subst (λ s. Becomes (λ t. t ≡ []) (AddsAll (inverse_all s)) (AddsAll (inverse_all s)) j j) (sym also) (stays j none); is = refl };
   second = refl;
   first = refl;
 }

@@ -23,17 +23,17 @@ stops_plainly (j ∷ s) k on (inr w) =
     inr (Plain w.0, map Plain w.1, comes_plainly s k w.0 w.1 w.2, (λ k' j' both. w.3 both.b' both.a' both.swap), w.4)
 
 -- a catch does not both come and stop
-not_both : {A : Type 0} (s : List Named) (k : Named) (k' : Catch) (list' : List Catch) (on : Key) → ComesBefore (map Plain s) (Plain k) k' list' → StopsAt (map Plain s) (Plain k) on → A
+pub not_both : {A : Type 0} (s : List Named) (k : Named) (k' : Catch) (list' : List Catch) (on : Key) → ComesBefore (map Plain s) (Plain k) k' list' → StopsAt (map Plain s) (Plain k) on → A
 not_both s k k' list' on comes stops =
     absurd ((lists_succeed_or_stick.comes_before (map Plain s) (Plain k)).1 (k', list', comes) (on, stops))
 
-one_at_end : (s : List Named) (k : Named) → map Plain s ++ Plain k ∷ [] ≡ map Plain (s ++ k ∷ [])
+pub one_at_end : (s : List Named) (k : Named) → map Plain s ++ Plain k ∷ [] ≡ map Plain (s ++ k ∷ [])
 one_at_end s k = sym (map-append Plain s (k ∷ []))
 
-at_end : (s : List Named) (k : Named) (list : List Named) → s ++ k ∷ list ≡ (s ++ k ∷ []) ++ list
+pub at_end : (s : List Named) (k : Named) (list : List Named) → s ++ k ∷ list ≡ (s ++ k ∷ []) ++ list
 at_end s k list = sym (append_assoc s (k ∷ []) list)
 
-room_left : (s list : List Named) (k first : Named) (rest : List Named) → HasRoom ((s ++ k ∷ []) ++ list) → Precedes s k first rest → HasRoom (rest ++ list)
+pub room_left : (s list : List Named) (k first : Named) (rest : List Named) → HasRoom ((s ++ k ∷ []) ++ list) → Precedes s k first rest → HasRoom (rest ++ list)
 room_left s list k first rest room w =
     room_behind first (rest ++ list) (room_of_equivalent _ _ (before (s ++ k ∷ []) (first ∷ rest) list (came s k first rest w)) room)
 
@@ -81,7 +81,7 @@ what_stops_comes_along patches names others room within patch on sticks comes =
     walk names others within [] [] patches [] room (refl, refl) comes.0 comes.1 comes.2 patch on sticks
 
 -- parts of a list are what it is arranged to
-arranged_of_parts : (names : List (List ℕ)) (r list f t : List Named) → AreOthers names r → Parted names (r ++ list) f t → ArrangesBehind names (map Plain r) (map Plain list) (map Plain f) (map Plain t)
+pub arranged_of_parts : (names : List (List ℕ)) (r list f t : List Named) → AreOthers names r → Parted names (r ++ list) f t → ArrangesBehind names (map Plain r) (map Plain list) (map Plain f) (map Plain t)
 arranged_of_parts names r [] f t are p =
     let stay = others_stay names r f t are (subst (λ l. Parted names l f t) (append-nil r) p) in
     (ap (map Plain) stay.0, ap (map Plain) stay.1)

@@ -1,5 +1,6 @@
 -- Words that serve only private functions.
 pub mod InPlace
+pub mod Meetings
 pub mod Pairs
 pub mod Seen
 pub mod TwoConflictors

@@ -7,8 +7,7 @@ ghost use Rattle.camp_catch.specs.MergingLists.{MergeLists, MergeSticks, MergesW
 ghost use Rattle.camp_catch.specs.Catches.{catch_key};
 ghost use Rattle.camp_catch.specs.declared.catches.Catch.{Catch as AnyCatch};
 
-use crate::fast::{merge_as_they_are, merge_behind_all};
-use crate::moves::copies;
+use crate::fast::{Gaining, all_gaining, merge_as_they_are, merge_behind_all};
 use crate::{Catch, Unmade, merge};
 use camp_prim::Key;
 use camp_share::{Share, Shared};
@@ -36,7 +35,7 @@ pub fn merge_lists(
     let Some((last, front)) = p.split_last() else {
         return Ok(merged);
     };
-    let mut beside = copies(alloc, q)?;
+    let mut beside = all_gaining(alloc, q)?;
     for catch in front {
         let after = merge_with_all(alloc, &mut beside, catch)?;
         merged.push(after)?;
@@ -49,24 +48,25 @@ pub fn merge_lists(
 /// One catch as it is after a list, and the list as it is after the catch, each in its place.
 fn merge_with_all(
     alloc: Global,
-    q: &mut [Shared<Catch>],
+    q: &mut [Gaining],
     k: &Shared<Catch>,
 ) -> Result<Shared<Catch>, Unmade<NoMerge>>
     ensures exact { ComesTo (λ answer. MatchResult answer
         (λ after. MergesWithAll q.old k.now after q.new)
         (λ stuck. SticksWithin q.old k.now stuck.left stuck.right)) result }
 {
-    let mut after = k.share()?;
+    let mut after = Gaining::new(alloc, k.share()?);
     for j in q.iter_mut() {
-        if !merge_one(alloc, j, &mut after)? {
+        if !j.meet(&mut after)? {
             return Err(Unmade::Blocked(no_merge(j, &after)));
         }
     }
-    Ok(after)
+    let settled = after.settled()?;
+    Ok(settled)
 }
 
 /// Merges `j` and the `k` of the same state, where each stays in its place in memory.
-fn merge_one(
+pub(crate) fn merge_one(
     alloc: Global,
     j: &mut Shared<Catch>,
     k: &mut Shared<Catch>,
@@ -85,7 +85,7 @@ fn merge_one(
     Ok(true)
 }
 
-pub(crate) fn no_merge(j: &Catch, k: &Catch) -> NoMerge
+pub(crate) fn no_merge(j: &Gaining, k: &Gaining) -> NoMerge
     ensures { result ≡ record { left = catch_key j.now; right = catch_key k.now } }
 {
     NoMerge {

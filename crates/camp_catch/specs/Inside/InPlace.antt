@@ -1,5 +1,5 @@
 -- What moving catches inside a list answers and leaves.
-use Rattle.std.specs.Prelude.{◌≡◌, ◌≢◌, ℕ, List, [], ◌∷◌, ◌++◌, length, All, fold}
+use Rattle.std.specs.Prelude.{◌≡◌, ◌≢◌, ℕ, List, ◌∷◌, ◌++◌, length, All, fold}
 use Rattle.camp_prim.specs.declared.labels.Key.{Key}
 use Rattle.camp_ctx.specs.Contexts.{ContextedPatch, with_member}
 use Rattle.camp_catch.specs.Arranging.{ComesFirst}
@@ -26,10 +26,6 @@ MergesBehind j k k' = (j' : Catch) × MergeCatch j k k' j'
 abbrev pub with_gained : List ContextedPatch → Catch → Catch
 with_gained gained (Plain a) = Plain a
 with_gained gained (Catch.Conflictor k) = Catch.Conflictor (with_conflicts (fold with_member k.conflicts gained) k)
-
--- behind the j of the same state, k gains l, and nothing else of it changes, whatever it has gained before
-abbrev pub Gains : Catch → Catch → ContextedPatch → Type 0
-Gains j k l = (gained : List ContextedPatch) → MergesBehind j (with_gained gained k) (with_gained (gained ++ l ∷ []) k)
 
 -- no catch has this absolute label
 abbrev pub Lacks : Key → List Catch → Type 0

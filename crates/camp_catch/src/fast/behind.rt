@@ -19,18 +19,17 @@ use std::alloc::{AllocError, Global};
 /// One catch as it is after a list, where nobody reads what the list becomes.
 pub(crate) fn merge_behind_all(
     alloc: Global,
-    q: &[Shared<Catch>],
+    q: &[Gaining],
     k: &Shared<Catch>,
 ) -> Result<Shared<Catch>, Unmade<NoMerge>>
     ensures exact { ComesTo (λ answer. MatchResult answer
         (λ after. (q' : List AnyCatch) × MergesWithAll q.now k.now after q')
         (λ stuck. SticksWithin q.now k.now stuck.left stuck.right)) result }
 {
-    let mut after = Gaining::new(alloc, k)?;
+    let mut after = Gaining::new(alloc, k.share()?);
     for j in q {
         if !after.go_behind(j)? {
-            let stuck = after.settled()?;
-            return Err(Unmade::Blocked(no_merge(j, &stuck)));
+            return Err(Unmade::Blocked(no_merge(j, &after)));
         }
     }
     let settled = after.settled()?;

@@ -1,12 +1,16 @@
-//! A catch that goes behind others one by one, and gains conflicts on the way.
-ghost use Rattle.std.specs.Prelude.{◌≡◌, IfOk, IfSome};
+//! Catches that go behind others one by one, and gain conflicts on the way.
+ghost use Rattle.std.specs.Prelude.{◌≡◌, IfOk};
 ghost use Rattle.camp_base.specs.Answers.{Changes};
-ghost use Rattle.camp_catch.specs.Inside.InPlace.{Gains, MergesBehind, with_gained};
+ghost use Rattle.camp_catch.specs.Catches.{catch_key};
+ghost use Rattle.camp_catch.specs.Inside.InPlace.{MergesBehind, MergesInPlace, with_gained};
+ghost use Rattle.camp_catch.specs.Inside.Meetings.{MeetAs};
 ghost use Rattle.camp_catch.specs.declared.catches.Catch.{Catch as AnyCatch};
 
 use crate::fast::behind::merge_behind;
+use crate::merging_lists::merge_one;
 use crate::{Catch, Conflictor};
 use camp_ctx::{Contexted, conflict};
+use camp_prim::Key;
 use camp_share::{Share, Shared};
 use std::alloc::{AllocError, Global};
 use std::marker::Model;
@@ -31,15 +35,33 @@ impl Model for Gaining {
     ghost view = { λ gaining. with_gained gaining.gained.items gaining.catch };
 }
 
+/// How two catches of one state meet, as far as a look tells.
+#[derive(Drop)]
+pub(crate) enum Meeting {
+    /// Both stay as they are.
+    Aside,
+    /// The second gains this of the first, and the first that of the second, and nothing else changes.
+    Conflict(Contexted, Contexted),
+    /// A look does not tell.
+    Unknown,
+}
+
 impl Gaining {
     /// A catch that has gained nothing.
-    pub(crate) fn new(alloc: Global, catch: &Shared<Catch>) -> Result<Gaining, AllocError>
-        ensures { IfOk result (λ gaining. gaining ≡ catch.now) }
+    pub(crate) fn new(alloc: Global, catch: Shared<Catch>) -> Gaining
+        ensures { result ≡ catch }
     {
-        Ok(Gaining {
-            catch: catch.share()?,
+        Gaining {
+            catch,
             gained: Vec::new(alloc),
-        })
+        }
+    }
+
+    /// The absolute label.
+    pub(crate) fn key(&self) -> Key
+        ensures { result ≡ catch_key self.now }
+    {
+        self.catch.key()
     }
 
     /// The catch as it is by now.
@@ -54,51 +76,104 @@ impl Gaining {
         Shared::new(alloc, catch)
     }
 
-    /// Goes behind the `j` of the same state.
-    pub(crate) fn go_behind(&mut self, j: &Catch) -> Result<bool, AllocError>
+    /// Merges with the `k` of the same state, where each stays in its place in memory.
+    pub(crate) fn meet(&mut self, k: &mut Gaining) -> Result<bool, AllocError>
+        ensures exact { IfOk result (λ done. Changes MergesInPlace (self.old, k.old) done (self.new, k.new)) }
+    {
+        match meeting_of(&self.catch, &k.catch)? {
+            Meeting::Aside => Ok(true),
+            Meeting::Conflict(first, second) => {
+                k.gained.push(first)?;
+                self.gained.push(second)?;
+                Ok(true)
+            }
+            Meeting::Unknown => merge_settled(self, k),
+        }
+    }
+
+    /// Goes behind the `j` of the same state, where nobody reads what that becomes.
+    pub(crate) fn go_behind(&mut self, j: &Gaining) -> Result<bool, AllocError>
         ensures exact { IfOk result (λ done. Changes (MergesBehind j.now) self.old done self.new) }
     {
-        let gain = gain_of(j, &self.catch)?;
-        if let Some(identity) = gain {
-            self.gained.push(identity)?;
-            return Ok(true);
+        match meeting_of(&j.catch, &self.catch)? {
+            Meeting::Aside => Ok(true),
+            Meeting::Conflict(first, _) => {
+                self.gained.push(first)?;
+                Ok(true)
+            }
+            Meeting::Unknown => settle_behind(j, self),
         }
-        let alloc = *self.gained.allocator();
-        let settled = self.settled()?;
-        let Some(next) = merge_behind(alloc, j, &settled)? else {
-            return Ok(false);
-        };
-        *self = Gaining::new(alloc, &next)?;
-        Ok(true)
     }
 }
 
-/// What the `k` of the same state gains behind `j`, where a look tells that nothing else changes.
-fn gain_of(j: &Catch, k: &Catch) -> Result<Option<Contexted>, AllocError>
-    ensures { IfOk result (λ found. IfSome found (Gains j.now k.now)) }
+/// These catches, each of which has gained nothing.
+pub(crate) fn all_gaining(alloc: Global, list: &[Shared<Catch>]) -> Result<Vec<Gaining>, AllocError>
+    ensures { IfOk result (λ copy. copy.items ≡ list.now) }
+{
+    let mut copy = Vec::with_capacity(alloc, list.len())?;
+    for catch in list {
+        copy.push(Gaining::new(alloc, catch.share()?))?;
+    }
+    Ok(copy)
+}
+
+/// Merges two catches of one state, whose sets are made first.
+fn merge_settled(j: &mut Gaining, k: &mut Gaining) -> Result<bool, AllocError>
+    ensures exact { IfOk result (λ done. Changes MergesInPlace (j.old, k.old) done (j.new, k.new)) }
+{
+    let alloc = *j.gained.allocator();
+    let mut first = j.settled()?;
+    let mut second = k.settled()?;
+    if !merge_one(alloc, &mut first, &mut second)? {
+        return Ok(false);
+    }
+    *j = Gaining::new(alloc, first);
+    *k = Gaining::new(alloc, second);
+    Ok(true)
+}
+
+/// Lets `k` go behind the `j` of the same state. Their sets are made first.
+fn settle_behind(j: &Gaining, k: &mut Gaining) -> Result<bool, AllocError>
+    ensures exact { IfOk result (λ done. Changes (MergesBehind j.now) k.old done k.new) }
+{
+    let alloc = *k.gained.allocator();
+    let first = j.settled()?;
+    let second = k.settled()?;
+    let Some(next) = merge_behind(alloc, &first, &second)? else {
+        return Ok(false);
+    };
+    *k = Gaining::new(alloc, next);
+    Ok(true)
+}
+
+/// How two catches of one state meet, whatever they have gained.
+fn meeting_of(j: &Catch, k: &Catch) -> Result<Meeting, AllocError>
+    ensures { IfOk result (MeetAs j.now k.now) }
 {
     match (j, k) {
-        (Catch::Conflictor(j), Catch::Conflictor(k)) => identity_gained(j, k),
-        _ => Ok(None),
+        (Catch::Conflictor(j), Catch::Conflictor(k)) => meeting_of_two(j, k),
+        _ => Ok(Meeting::Unknown),
     }
 }
 
-/// The identity of the first, where the two have no effect and conflict.
-fn identity_gained(j: &Conflictor, k: &Conflictor) -> Result<Option<Contexted>, AllocError>
-    ensures { IfOk result (λ found. IfSome found (Gains (AnyCatch.Conflictor j.now) (AnyCatch.Conflictor k.now))) }
+/// How two conflictors of one state meet: where they have no effect, each gains the other's identity if
+/// they conflict.
+fn meeting_of_two(j: &Conflictor, k: &Conflictor) -> Result<Meeting, AllocError>
+    ensures { IfOk result (MeetAs (AnyCatch.Conflictor j.now) (AnyCatch.Conflictor k.now)) }
 {
     if !j.effect.items().is_empty() {
-        return Ok(None);
+        return Ok(Meeting::Unknown);
     }
     if !k.effect.items().is_empty() {
-        return Ok(None);
+        return Ok(Meeting::Unknown);
     }
     let in_conflict = conflict(&j.identity, &k.identity)?;
     if !in_conflict {
-        return Ok(None);
+        return Ok(Meeting::Aside);
     }
-    let identity = j.identity.try_clone()?;
-    Ok(Some(identity))
+    let first = j.identity.try_clone()?;
+    let second = k.identity.try_clone()?;
+    Ok(Meeting::Conflict(first, second))
 }
 
 /// A catch in conflict with these too, where it is a conflictor.

@@ -52,10 +52,7 @@ fn comes_before_as_it_is(j: &Conflictor, b: &Named) -> Result<bool, AllocError>
 fn pass_without_effect(j: &Conflictor, k: &Conflictor) -> bool
     ensures { IsTrue result → TwoConflictorsApart j.now k.now (AnyCatch.Conflictor k.now) (AnyCatch.Conflictor j.now) }
 {
-    if !has_no_effect(j) {
-        return false;
-    }
-    if !has_no_effect(k) {
+    if !have_no_effects(j, k) {
         return false;
     }
     if !lacks_key(k.identity.context().items(), &j.identity.key()) {
@@ -81,6 +78,17 @@ pub(crate) fn merge_as_they_are(alloc: Global, j: &Catch, k: &Catch) -> Result<b
         (Catch::Conflictor(j), Catch::Plain(b)) => stand_aside(alloc, b, j),
         _ => Ok(false),
     }
+}
+
+/// Whether two conflictors have no effect.
+pub(crate) fn have_no_effects(j: &Conflictor, k: &Conflictor) -> bool
+    ensures first { IsTrue result → j.now.effect ≡ [] }
+    ensures second { IsTrue result → k.now.effect ≡ [] }
+{
+    if !has_no_effect(j) {
+        return false;
+    }
+    has_no_effect(k)
 }
 
 /// Whether a conflictor has no effect.
