@@ -61,6 +61,13 @@ one_recorded list next name place i changes change d k aim within item is pushed
     let there : drop i changes ≡ change ∷ drop (i + 1) changes = drop_more changes i d within ∙ ap (λ x. x ∷ drop (i + 1) changes) (sym item) in
     (λ j. pushed j ++ rest) ∙ append_assoc list (k ∷ []) rest ∙ ap (λ x. list ++ x ∷ rest) is ∙ ap (λ l. list ++ recorded name place l) (sym there) ∙ so_far
 
+-- a patch of one change is one catch
+pub one_alone : (catches next : List Catch) (name : List ℕ) (changes : List Primitive) (change d : Primitive) (k : Catch) → length changes ≡ 1 → change ≡ slice_index_or changes 0 d → k ≡ Plain (record { name = name; place = 1; inverse = false; prim = change }) → next ≡ catches ++ k ∷ [] → next ≡ catches ++ recorded name 1 changes
+one_alone catches next name [] change d k one item is pushed = absurd (omega (arith, one))
+one_alone catches next name (c ∷ []) change d k one item is pushed =
+    pushed ∙ ap (λ x. catches ++ x ∷ []) (is ∙ ap (λ p. Plain (record { name = name; place = 1; inverse = false; prim = p })) item)
+one_alone catches next name (c ∷ more ∷ changes) change d k one item is pushed = absurd (omega (arith, one))
+
 spliced_at_end : (catches taken : List Catch) (n : ℕ) → n ≡ length catches → splice catches n n taken ≡ catches ++ taken
 spliced_at_end catches taken n is =
     (λ i. take_all n catches (omega (is, arith)) i ++ (taken ++ drop_all n catches (omega (is, arith)) i)) ∙ ap (λ t. catches ++ t) (append-nil taken)

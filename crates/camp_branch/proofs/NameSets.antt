@@ -4,6 +4,21 @@ use Rattle.camp_branch.proofs.BranchFields.{Names, contains_more}
 use Rattle.camp_branch.proofs.Names.{same_name}
 pub use Rattle.std.proofs.Math.Bool.{and-false as and_false, and-true as and_true}
 
+-- a name comes into a set, which may have it
+abbrev pub with_name : Names → List ℕ → Names
+with_name names added = cond (contains_key names added) names (insert names added tt)
+
+has_already : (h e : Bool) → (e ≡ true → h ≡ true) → h ≡ (h || e)
+has_already true e has = refl
+has_already false true has = has refl
+has_already false false has = refl
+
+pub contains_with : (names : Names) (added name : List ℕ) → contains_key (with_name names added) name ≡ (contains_key names name || bytes_eq name added)
+contains_with names added name =
+    cond_both (contains_key names added) names (insert names added tt) (λ (m : Names). contains_key m name ≡ (contains_key names name || bytes_eq name added))
+    (λ e. has_already (contains_key names name) (bytes_eq name added) (λ same. ap (contains_key names) (same_name name added same) ∙ e))
+    (λ e. contains_more names added name)
+
 -- what a set lists
 abbrev pub Entries : Type 0
 Entries = List (List ℕ × Unit {0})
@@ -70,10 +85,10 @@ module _ (names all : Names) (list : List Catch) (i : ℕ) (k d : Catch) (named 
   here name =
       ap (λ r. contains_key all name || (is_among (map name_of r) name && contains_key names name)) (sym (stands_at list i d k within is)) ∙ inv name
 
-  pub one_held : (next : Names) → contains_key names named ≡ true → next ≡ insert all named tt → IsGrownBy names next (drop (i + 1) list) aim
+  pub one_held : (next : Names) → contains_key names named ≡ true → next ≡ with_name all named → IsGrownBy names next (drop (i + 1) list) aim
   one_held next e becomes name =
       let rest = is_among (map name_of (drop (i + 1) list)) name in
-      ap (λ m. contains_key m name || (rest && contains_key names name)) (becomes ∙ ap (λ n. insert all n tt) called) ∙ ap (λ b. b || (rest && contains_key names name)) (contains_more all (name_of k) name) ∙ held (contains_key all name) (bytes_eq name (name_of k)) rest (contains_key names name) (this_one true e name) ∙ here name
+      ap (λ m. contains_key m name || (rest && contains_key names name)) (becomes ∙ ap (with_name all) called) ∙ ap (λ b. b || (rest && contains_key names name)) (contains_with all (name_of k) name) ∙ held (contains_key all name) (bytes_eq name (name_of k)) rest (contains_key names name) (this_one true e name) ∙ here name
 
   pub one_not_held : contains_key names named ≡ false → IsGrownBy names all (drop (i + 1) list) aim
   one_not_held e name =
@@ -88,14 +103,22 @@ pub or_none : (b : Bool) → (b || false) ≡ b
 or_none true = refl
 or_none false = refl
 
+joined : (set next : Names) (n : List ℕ) (rest : List (List ℕ)) (aim : List ℕ → Bool) → IsFilled set (n ∷ rest) aim → ((name : List ℕ) → contains_key next name ≡ (contains_key set name || bytes_eq name n)) → IsFilled next rest aim
+joined set next n rest aim inv has name =
+    ap (λ b. b || is_among rest name) (has name) ∙ or_assoc (contains_key set name) (bytes_eq name n) (is_among rest name) ∙ inv name
+
 pub one_more : (set next : Names) (n : List ℕ) (rest : List (List ℕ)) (aim : List ℕ → Bool) → IsFilled set (n ∷ rest) aim → next ≡ insert set n tt → IsFilled next rest aim
-one_more set next n rest aim inv becomes name =
-    ap (λ m. contains_key m name || is_among rest name) becomes ∙ ap (λ b. b || is_among rest name) (contains_more set n name) ∙ or_assoc (contains_key set name) (bytes_eq name n) (is_among rest name) ∙ inv name
+one_more set next n rest aim inv becomes =
+    joined set next n rest aim inv (λ name. ap (λ m. contains_key m name) becomes ∙ contains_more set n name)
+
+pub one_added : (set next : Names) (n : List ℕ) (rest : List (List ℕ)) (aim : List ℕ → Bool) → IsFilled set (n ∷ rest) aim → next ≡ with_name set n → IsFilled next rest aim
+one_added set next n rest aim inv becomes =
+    joined set next n rest aim inv (λ name. ap (λ m. contains_key m name) becomes ∙ contains_with set n name)
 
 -- the name at a place comes into the set
-pub one_listed : (set next : Names) (names : List (List ℕ)) (i : ℕ) (n d : List ℕ) (aim : List ℕ → Bool) → IsFilled set (drop i names) aim → i < length names → n ≡ get_or names i d → next ≡ insert set n tt → IsFilled next (drop (i + 1) names) aim
+pub one_listed : (set next : Names) (names : List (List ℕ)) (i : ℕ) (n d : List ℕ) (aim : List ℕ → Bool) → IsFilled set (drop i names) aim → i < length names → n ≡ get_or names i d → next ≡ with_name set n → IsFilled next (drop (i + 1) names) aim
 one_listed set next names i n d aim inv within is becomes =
-    one_more set next n (drop (i + 1) names) aim
+    one_added set next n (drop (i + 1) names) aim
     (λ name. ap (λ r. contains_key set name || is_among r name) (sym (stands_at names i d n within is)) ∙ inv name) becomes
 
 -- at first all are still to come

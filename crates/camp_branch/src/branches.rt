@@ -272,6 +272,10 @@ fn with_recorded(
     ensures { IfOk result (λ list. list ≡ catches.now ++ recorded name.now 1 changes.now) }
 {
     let alloc = catches.allocator();
+    if changes.len() == 1 {
+        let only = plain(alloc, name, 1, &changes[0])?;
+        return Ok(catches.pushed(only)?);
+    }
     let mut new = Vec::with_capacity(alloc, changes.len())?;
     let mut place = 1;
     for change in changes {

@@ -4,8 +4,8 @@
 //! n of the other, are those. All their patches are common, so they come to the front of both by
 //! themselves, and come into order by moves inside the front alone: arranging, aligning and comparing
 //! leave them as they are, and go on behind them. Catches that are the same in both are passed by. How far
-//! fronts of the same labels reach from there is guessed by sums over the labels; that they agree is then
-//! found out by aligning them, and where they do not, the plain pull tells why.
+//! fronts of the same labels reach from there is guessed by sums over the labels; that they agree, where they
+//! reach at all, is then found out by aligning them, and where they do not, the plain pull tells why.
 ghost use Rattle.std.specs.Prelude.{◌+◌, ◌≤◌, drop, length, IfOk};
 ghost use Rattle.camp_branch.specs.Agreeing.{Agree, ReachesAll};
 ghost use Rattle.camp_branch.specs.Inside.Alike.{DifferBehind};
@@ -32,6 +32,9 @@ pub(crate) fn agreed(
     prove!(from.len() <= usize::MAX);
     let start = known + same_behind(from, to, known);
     let more = alike_in_labels(from, to, start);
+    if more == 0 {
+        return Ok(start);
+    }
     let theirs = from.range_to_vec(start, start + more)?;
     let ours = to.range_to_vec(start, start + more)?;
     match same_front(alloc, &theirs, &ours) {

@@ -1,11 +1,11 @@
-ghost use Rattle.std.specs.Prelude.{◌≡◌, ◌&&◌, ◌||◌, ℕ, List, not, map, IfOk};
+ghost use Rattle.std.specs.Prelude.{◌≡◌, ◌&&◌, ◌||◌, ℕ, List, not, map, IfOk, OnOk};
 ghost use Rattle.camp_branch.specs.Branches.{is_among, name_of};
 ghost use Rattle.camp_branch.specs.Fields.{has_name, names_in};
 ghost use Rattle.camp_branch.specs.Inside.Fronts.{front_of};
 
 use camp_base::Name;
 use camp_catch::Catch;
-use camp_share::{Share, Shared, SharedList, SharedMap};
+use camp_share::{MapBuilder, Share, Shared, SharedList, SharedMap};
 use std::alloc::{AllocError, Global};
 
 /// Names of patches, each once.
@@ -15,11 +15,11 @@ pub type NameSet = SharedMap<Name, ()>;
 pub fn set_of(alloc: Global, names: &[Name]) -> Result<NameSet, AllocError>
     ensures exact { IfOk result (λ set. (name : List ℕ) → is_among (names_in set) name ≡ is_among names.now name) }
 {
-    let mut set = SharedMap::new(alloc);
+    let mut set = MapBuilder::from_map(&SharedMap::new(alloc))?;
     for name in names {
-        set = set.inserted(*name, ())?;
+        set.insert_if_absent(*name, ())?;
     }
-    Ok(set)
+    Ok(set.into_map()?)
 }
 
 /// The names but for those that are to go.
@@ -46,29 +46,29 @@ pub(crate) fn common(
         ((is_among (map name_of list.now) name && has_name other_names.now name)
         || (is_among (map name_of others.now) name && has_name names.now name))) }
 {
-    let none = SharedMap::new(names.allocator());
-    let first = with_those_in(&none, list, other_names)?;
-    Ok(with_those_in(&first, others, names)?)
+    let mut both = MapBuilder::from_map(&SharedMap::new(names.allocator()))?;
+    add_those_in(list, other_names, &mut both)?;
+    add_those_in(others, names, &mut both)?;
+    Ok(both.into_map()?)
 }
 
-/// The names of a set, and those of the patches of catches that stand in another.
-fn with_those_in(
-    set: &NameSet,
+/// Adds the names of the patches of catches that stand in a set to others.
+fn add_those_in(
     list: &[Shared<Catch>],
     names: &NameSet,
-) -> Result<NameSet, AllocError>
-    ensures { IfOk result (λ all. (name : List ℕ) → has_name all name ≡
-        (has_name set.now name || (is_among (map name_of list.now) name && has_name names.now name))) }
+    all: &mut MapBuilder<Name, ()>,
+) -> Result<(), AllocError>
+    ensures { OnOk result ((name : List ℕ) → has_name all.new name ≡
+        (has_name all.old name || (is_among (map name_of list.now) name && has_name names.now name))) }
 {
-    let mut all = set.share()?;
     for catch in list {
         let name = catch.name();
         if !names.contains_key(name) {
             continue;
         }
-        all = all.inserted(*name, ())?;
+        all.insert_if_absent(*name, ())?;
     }
-    Ok(all)
+    Ok(())
 }
 
 /// The names, and those of the patches that catches are of.

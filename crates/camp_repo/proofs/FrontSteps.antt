@@ -1,5 +1,5 @@
 -- What is known of fronts stays so while branches grow.
-use Rattle.std.proofs.Common.{◌≡◌, ℕ, zero, suc, pred, List, [], ◌∷◌, ◌++◌, length, zip, slice_get, Some, Result, Ok, Err, IfOk, refl, sym, ap, ◌∙◌, subst, append-nil}
+use Rattle.std.proofs.Common.{◌≡◌, ℕ, zero, suc, pred, List, [], ◌∷◌, ◌++◌, length, zip, slice_get, slice_set, Some, Result, Ok, Err, IfOk, refl, sym, ap, ◌∙◌, subst, append-nil}
 use Rattle.camp_repo.proofs.Words.{none-some, same_Some, Catch, Agree, AgreesIn, AllHold, catches_in, placed, Branches}
 use Rattle.std.specs.List.{AllByRecursion, remove}
 use Rattle.camp_branch.proofs.AgreedFronts.{agree_grown, agree_itself, agree_none}
@@ -17,6 +17,11 @@ all_but P (x ∷ xs) (suc i) all = (all.0, all_but P xs i all.1)
 
 pub all_without : {X : Type 0} (P : X → Type 0) (xs ys : List X) (i : ℕ) → ys ≡ remove xs i → AllByRecursion P xs → AllByRecursion P ys
 all_without P xs ys i is all = subst (AllByRecursion P) (sym is) (all_but P xs i all)
+
+all_set : {X : Type 0} (P : X → Type 0) (xs : List X) (i : ℕ) (x : X) → AllByRecursion P xs → P x → AllByRecursion P (slice_set xs i x)
+all_set P [] i x all is = tt
+all_set P (y ∷ xs) zero x all is = (is, all.1)
+all_set P (y ∷ xs) (suc i) x all is = (all.0, all_set P xs i x all.1 is)
 
 pub all_same : {X : Type 0} (P : X → Type 0) (xs ys : List X) → ys ≡ xs → AllByRecursion P xs → AllByRecursion P ys
 all_same P xs ys is all = subst (AllByRecursion P) (sym is) all
@@ -133,19 +138,20 @@ zip_catches [] (b ∷ bs) e = cc
 zip_catches (n ∷ ns) [] e = cc
 zip_catches (n ∷ ns) (b ∷ bs) e = ap (λ t. b ∷ t) (zip_catches ns bs (ap pred e))
 
--- what holds where all of a list does
-abbrev pub HoldWith : {E : Type 0} → List KnownFront → Result (List KnownFront) E → Type 0
-HoldWith {E} known result = IfOk result (λ all. RestHold known all)
+-- what holds where all of a list does, and one more
+abbrev pub HoldWithOne : {E : Type 0} → List KnownFront → KnownFront → Result (List KnownFront) E → Type 0
+HoldWithOne {E} known front result =
+    IfOk result (λ all. (branches : List (List Catch)) → AllByRecursion (AgreesIn branches) known → AgreesIn branches front → AllByRecursion (AgreesIn branches) all)
 
-pub copy_holds : {E : Type 0} (known : List KnownFront) (result : Result (List KnownFront) E) → IfOk result (λ copy. copy ≡ known) → HoldWith known result
-copy_holds known (Ok all) is = λ branches w. all_same (AgreesIn branches) known all is w
-copy_holds known (Err error) is = tt
+pub replaced_hold : {E : Type 0} (known : List KnownFront) (i : ℕ) (front : KnownFront) (result : Result (List KnownFront) E) → IfOk result (λ list. list ≡ slice_set known i front) → HoldWithOne known front result
+replaced_hold known i front (Ok all) is = λ branches w new.
+    all_same (AgreesIn branches) (slice_set known i front) all is (all_set (AgreesIn branches) known i front w new)
+replaced_hold known i front (Err error) is = tt
 
-pub removed_hold : {E : Type 0} (known : List KnownFront) (i : ℕ) (result : Result (List KnownFront) E) → IfOk result (λ list. list ≡ remove known i) → HoldWith known result
-removed_hold known i (Ok all) is = λ branches w. all_without (AgreesIn branches) known all i is w
-removed_hold known i (Err error) is = tt
+pub removed_hold : (known others : List KnownFront) (i : ℕ) → others ≡ remove known i → RestHold known others
+removed_hold known others i is branches w = all_without (AgreesIn branches) known others i is w
 
-pub pushed_hold : {E : Type 0} (known others : List KnownFront) (front : KnownFront) → RestHold known others → (result : Result (List KnownFront) E) → IfOk result (λ list. list ≡ others ++ front ∷ []) → IfOk result (λ all. (branches : List (List Catch)) → AllByRecursion (AgreesIn branches) known → AgreesIn branches front → AllByRecursion (AgreesIn branches) all)
+pub pushed_hold : {E : Type 0} (known others : List KnownFront) (front : KnownFront) → RestHold known others → (result : Result (List KnownFront) E) → IfOk result (λ list. list ≡ others ++ front ∷ []) → HoldWithOne known front result
 pushed_hold known others front hold (Ok all) is = λ branches w new.
     all_same (AgreesIn branches) (others ++ front ∷ []) all is (all_with (AgreesIn branches) others front (hold branches w) new)
 pushed_hold known others front hold (Err error) is = tt

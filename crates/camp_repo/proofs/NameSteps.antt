@@ -2,11 +2,11 @@
 use Rattle.std.proofs.Common.{◌≡◌, ◌<◌, ◌≤◌, ◌+◌, ℕ, arith, suc, Bool, true, false, not, cond, ◌||◌, ◌&&◌, true≢false, None, Some, List, [], ◌∷◌, ◌++◌, take, drop, length, map, is_some, get_or, bytes_eq, refl, sym, ap, ◌∙◌}
 use Rattle.std.proofs.lemmas.List.{length-append, take-append-drop}
 use Rattle.std.proofs.lemmas.List.Elements.{filter-append}
-use Rattle.std.specs.FinMap.{contains_key, empty, get-empty, insert, keys}
+use Rattle.std.specs.FinMap.{contains_key, empty, get-empty, keys}
 use Rattle.camp_repo.proofs.Words.{nat_cmp, slice_cmp, Catch, stands_at, has_patch, is_among, name_of, names_of, Agree, AreLacked, catches_named, first_lacked, wanted}
 use Rattle.camp_branch.proofs.AgreedFronts.{agreed_has, split_has}
-use Rattle.camp_branch.proofs.BranchFields.{Names, contains_more}
-use Rattle.camp_branch.proofs.NameSets.{and_false, has_listed, one_more, or_none}
+use Rattle.camp_branch.proofs.BranchFields.{Names}
+use Rattle.camp_branch.proofs.NameSets.{and_false, has_listed, one_added, or_none, with_name}
 pub use Rattle.camp_branch.proofs.NameSets.{IsFilled, all_filled, first_from, none_filled, one_listed}
 use Rattle.camp_branch.proofs.Names.{name_itself, or_true}
 use Rattle.camp_branch.proofs.NamesKept.{among_kept, among_once}
@@ -21,9 +21,9 @@ wanted_from ours names i n d b within is has =
     turned false = refl
 
 -- the name at a place is lacked, and comes into the set
-pub one_wanted : (ours : List Catch) (set next : Names) (names : List (List ℕ)) (i : ℕ) (n d : List ℕ) (aim : List ℕ → Bool) → IsFilled set (wanted ours (drop i names)) aim → i < length names → n ≡ get_or names i d → has_patch ours n ≡ false → next ≡ insert set n tt → IsFilled next (wanted ours (drop (i + 1) names)) aim
+pub one_wanted : (ours : List Catch) (set next : Names) (names : List (List ℕ)) (i : ℕ) (n d : List ℕ) (aim : List ℕ → Bool) → IsFilled set (wanted ours (drop i names)) aim → i < length names → n ≡ get_or names i d → has_patch ours n ≡ false → next ≡ with_name set n → IsFilled next (wanted ours (drop (i + 1) names)) aim
 one_wanted ours set next names i n d aim inv within is has becomes =
-    one_more set next n (wanted ours (drop (i + 1) names)) aim
+    one_added set next n (wanted ours (drop (i + 1) names)) aim
     (λ name. ap (λ r. contains_key set name || is_among r name) (sym (wanted_from ours names i n d false within is has)) ∙ inv name) becomes
 
 -- the name at a place is not lacked
@@ -94,10 +94,10 @@ wanted_step ours rest more k b steps has =
     turned false = refl
 
 -- the patch of the next catch is lacked, and its name comes into the set
-pub catch_wanted : (ours : List Catch) (set next : Names) (rest more : List Catch) (k : Catch) (n : List ℕ) (aim : List ℕ → Bool) → IsFilled set (wanted ours (map name_of rest)) aim → rest ≡ k ∷ more → n ≡ name_of k → has_patch ours n ≡ false → next ≡ insert set n tt → IsFilled next (wanted ours (map name_of more)) aim
+pub catch_wanted : (ours : List Catch) (set next : Names) (rest more : List Catch) (k : Catch) (n : List ℕ) (aim : List ℕ → Bool) → IsFilled set (wanted ours (map name_of rest)) aim → rest ≡ k ∷ more → n ≡ name_of k → has_patch ours n ≡ false → next ≡ with_name set n → IsFilled next (wanted ours (map name_of more)) aim
 catch_wanted ours set next rest more k n aim inv steps called has becomes =
-    one_more set next (name_of k) (wanted ours (map name_of more)) aim
-    (λ name. ap (λ r. contains_key set name || is_among r name) (sym (wanted_step ours rest more k false steps (ap (has_patch ours) (sym called) ∙ has))) ∙ inv name) (becomes ∙ ap (λ m. insert set m tt) called)
+    one_added set next (name_of k) (wanted ours (map name_of more)) aim
+    (λ name. ap (λ r. contains_key set name || is_among r name) (sym (wanted_step ours rest more k false steps (ap (has_patch ours) (sym called) ∙ has))) ∙ inv name) (becomes ∙ ap (with_name set) called)
 
 -- the patch of the next catch is not lacked
 pub catch_passed : (ours : List Catch) (set : Names) (rest more : List Catch) (k : Catch) (n : List ℕ) (aim : List ℕ → Bool) → IsFilled set (wanted ours (map name_of rest)) aim → rest ≡ k ∷ more → n ≡ name_of k → has_patch ours n ≡ true → IsFilled set (wanted ours (map name_of more)) aim

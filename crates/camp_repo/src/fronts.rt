@@ -26,7 +26,7 @@ impl Share for KnownFront {
 }
 
 /// How long fronts of pairs of branches are known to agree. Where there are too many pairs, the one that
-/// came first goes.
+/// came first goes. What is learned of a pair once more stands where it stood before.
 #[derive(Drop)]
 pub(crate) struct KnownFronts {
     fronts: SharedList<KnownFront>,
@@ -116,8 +116,8 @@ fn is_of(front: &KnownFront, from: usize, to: usize) -> bool
     front.to == to
 }
 
-/// What is known, and of two branches how long their fronts agree. Where there are too many pairs,
-/// the one that came first goes.
+/// What is known, and of two branches how long their fronts agree, where that stood if they had one.
+/// Where there are too many pairs, the one that came first goes.
 fn with_front(
     known: &SharedList<KnownFront>,
     from: usize,
@@ -127,8 +127,15 @@ fn with_front(
     ensures { IfOk result (λ all. (branches : List (List Catch)) → AllByRecursion (AgreesIn branches) known.now
         → AgreesIn branches (record { from = from; to = to; long = long }) → AllByRecursion (AgreesIn branches) all) }
 {
-    let others = others(known, from, to)?;
-    others.pushed(KnownFront { from, to, long })
+    let front = KnownFront { from, to, long };
+    if let Some(at) = place_of(known, from, to) {
+        return known.replaced(at, front);
+    }
+    if known.len() < MAX_PAIRS {
+        return known.pushed(front);
+    }
+    let others = known.without(0)?;
+    others.pushed(front)
 }
 
 /// What is known, and what of it holds of a copy of a branch too, where there is room for more.
@@ -173,24 +180,6 @@ fn of_copy(front: &KnownFront, of: usize, copy: usize) -> Option<KnownFront>
         });
     }
     None
-}
-
-/// What is known of other branches, with room for one more pair.
-fn others(
-    known: &SharedList<KnownFront>,
-    from: usize,
-    to: usize,
-) -> Result<SharedList<KnownFront>, AllocError>
-    ensures { IfOk result (λ others. (branches : List (List Catch)) → AllByRecursion (AgreesIn branches) known.now
-        → AllByRecursion (AgreesIn branches) others) }
-{
-    if let Some(at) = place_of(known, from, to) {
-        return known.without(at);
-    }
-    if known.len() < MAX_PAIRS {
-        return known.share();
-    }
-    known.without(0)
 }
 
 /// The place of what is known of two branches.

@@ -9,7 +9,7 @@ ghost use Rattle.camp_repo.specs.Steps.{catches_named, is_full_with, listed, wan
 use crate::{Branch, MAX_CATCHES, Names};
 use camp_base::Name;
 use camp_branch::NameSet;
-use camp_share::SharedMap;
+use camp_share::{MapBuilder, SharedMap};
 use std::alloc::AllocError;
 
 /// The first listed name of which a branch has no patch; where there is no list, none.
@@ -57,15 +57,15 @@ fn wanted_behind(ours: &Branch, theirs: &Branch, long: usize) -> Result<NameSet,
     ensures { IfOk result (λ set. (name : List ℕ) →
         is_among (names_in set) name ≡ is_among (wanted ours.now (names_of theirs.now)) name) }
 {
-    let mut set = SharedMap::new(ours.catches().allocator());
+    let mut set = MapBuilder::from_map(&SharedMap::new(ours.catches().allocator()))?;
     for catch in theirs.catches().iter_from(long) {
         let name = catch.name();
         if ours.has_patch(name) {
             continue;
         }
-        set = set.inserted(*name, ())?;
+        set.insert_if_absent(*name, ())?;
     }
-    Ok(set)
+    Ok(set.into_map()?)
 }
 
 /// The names of which a branch has no patch.
@@ -73,14 +73,14 @@ fn wanted_of(branch: &Branch, names: &[Name]) -> Result<NameSet, AllocError>
     ensures { IfOk result (λ set. (name : List ℕ) →
         is_among (names_in set) name ≡ is_among (wanted branch.now names.now) name) }
 {
-    let mut set = SharedMap::new(branch.catches().allocator());
+    let mut set = MapBuilder::from_map(&SharedMap::new(branch.catches().allocator()))?;
     for name in names {
         if branch.has_patch(name) {
             continue;
         }
-        set = set.inserted(*name, ())?;
+        set.insert_if_absent(*name, ())?;
     }
-    Ok(set)
+    Ok(set.into_map()?)
 }
 
 /// Whether a branch would be too long with the catches of these names of another, which it lacks.

@@ -15,6 +15,10 @@ returns-in-Ok c =
       as_they_are = reaches_all from to c.args.known c.same_behind.result _ most (omega arith);
     }
 
+pub returns-then-more-eq0-clause-agree : goal.returns-then-more-eq0-clause-agree
+returns-then-more-eq0-clause-agree c =
+    agree_with_alike c.args.from.now c.args.to.now c.args.known c.same_behind.result c.requires c.same_behind.ensures.most.alike
+
 pub returns-in-Err-Blocked-clause-agree : goal.returns-in-Err-Blocked-clause-agree
 returns-in-Err-Blocked-clause-agree c =
     agree_with_alike c.args.from.now c.args.to.now c.args.known c.same_behind.result c.requires c.same_behind.ensures.most.alike
