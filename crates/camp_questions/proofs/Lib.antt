@@ -6,6 +6,7 @@ pub mod Answering
 pub mod Arrows
 pub mod BackwardArrows
 pub mod BranchGrowths
+pub mod BroughtLines
 pub mod CommonSteps
 pub mod FileMarks
 pub mod Foreseeing
@@ -31,6 +32,7 @@ pub mod Picturing
 pub mod PlaceSteps
 pub mod PlacedNeeds
 pub mod PlainGoing
+pub mod PlainLabels
 pub mod PulledNeeds
 pub mod ReachedNeeds
 pub mod ReachedPatches
@@ -41,6 +43,8 @@ pub mod SideSteps
 pub mod SidesAccepted
 pub mod SidesApply
 pub mod Stuck
+pub mod SwappedNames
 pub mod TakenBack
 pub mod TakenNames
 pub mod WalkedPatches
+pub mod ZippedLines

@@ -37,10 +37,10 @@ alike_at : (m : Files) (q path : List ℕ) (x : Option Lines) (b : Bool) → lin
 alike_at m q path x true alike e = alike ∙ ap (λ p. lines_or_none (get m p)) (sym (same_path path q e))
 alike_at m q path x false alike e = refl
 
-alike : (m : Files) (q path : List ℕ) (x : Option Lines) → lines_or_none x ≡ lines_or_none (get m q) → lines_or_none (get (with_file m q x) path) ≡ lines_or_none (get m path)
+pub alike : (m : Files) (q path : List ℕ) (x : Option Lines) → lines_or_none x ≡ lines_or_none (get m q) → lines_or_none (get (with_file m q x) path) ≡ lines_or_none (get m path)
 alike m q path x same = ap lines_or_none (get-with_file m q x path) ∙ alike_at m q path x _ same refl
 
-other_path : (a b : List ℕ) → bytes_eq a b ≡ false → a ≢ b
+pub other_path : (a b : List ℕ) → bytes_eq a b ≡ false → a ≢ b
 other_path a b e same = true≢false (sym ((bytes_eq-Decides a b).1 same) ∙ e)
 
 -- a hunk takes lines away that are there
@@ -51,7 +51,7 @@ stands_within path hunk old new known same w are =
     let parts : length w.lines ≡ length s.before + length hunk.old + length s.after = ap length s.was ∙ length-append (s.before ++ hunk.old) s.after ∙ ap (λ n. n + length s.after) (length-append s.before hunk.old) in
     omega (arith, found, parts, s.at)
 
-hunk_counts : (path name : List ℕ) (key : Key) (hunk : Edit) (old new : Files) (known : Known) → hunk.path ≡ path → Splices hunk.path hunk.line hunk.old hunk.new old new → AreKnownIn path old known → AreKnownIn path new (behind_hunk name key hunk known)
+pub hunk_counts : (path name : List ℕ) (key : Key) (hunk : Edit) (old new : Files) (known : Known) → hunk.path ≡ path → Splices hunk.path hunk.line hunk.old hunk.new old new → AreKnownIn path old known → AreKnownIn path new (behind_hunk name key hunk known)
 hunk_counts path name key hunk old new known same w are =
     let found : length known.names ≡ length w.lines = are ∙ ap (λ p. length (lines_or_none (get old p))) (sym same) ∙ ap (λ o. length (lines_or_none o)) w.found in
     let s = w.splices in

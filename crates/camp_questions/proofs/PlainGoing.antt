@@ -1,40 +1,12 @@
 -- Plain catches that go take along what can not come before them; and what goes comes to the front of the list taken back.
 use Rattle.camp_prim.proofs.SwapLaws.{inverse}
-use Rattle.camp_seq.proofs.ListRuns.{inverse_all-append, inverse_all-cons, inverse_all-inverse_all}
-use Rattle.camp_catch.proofs.Words.{Contains, List, [], among_or_not, ap, append-nil, before, bytes_or_not, inl, inr, map, map-append, refl, room_behind, room_of_equivalent, subst, sym, ℕ, ◌++◌, ◌∙◌, ◌∷◌, ◌≡◌, append_assoc, Key, Named, inverse_of, inverse_of-inverse_of, passes_push, room_before, Passes, Precedes, HasRoom, inverse_all, Arrange, ArrangesBehind, ComesBefore, SticksBehind, StopsAt}
+use Rattle.camp_seq.proofs.ListRuns.{inverse_all-append, inverse_all-cons}
+use Rattle.camp_catch.proofs.Words.{Contains, List, [], ap, append-nil, inl, inr, map, refl, subst, sym, ℕ, ◌++◌, ◌∙◌, ◌∷◌, ◌≡◌, append_assoc, Key, Named, inverse_of, passes_push, room_before, Passes, Precedes, HasRoom, inverse_all, Arrange, ArrangesBehind, SticksBehind}
 use Rattle.camp_catch.specs.declared.catches.Catch.{Catch}
 use Rattle.camp_catch.specs.declared.catches.Catch.TheVariants.{Plain}
-use Rattle.camp_catch.proofs.ListResults.{lists_are_unique, lists_succeed_or_stick}
-use Rattle.camp_catch.proofs.PlainArranging.{came_plainly, comes_plainly}
-use Rattle.camp_catch.proofs.PlainFronts.{AreOthers, Parted, came, comes_past_parts, first_comes, one_more, one_other, others_and_one, others_stay}
-
--- a catch does not both come and stop
-not_both : {A : Type 0} (s : List Named) (k : Named) (k' : Catch) (list' : List Catch) (on : Key) → ComesBefore (map Plain s) (Plain k) k' list' → StopsAt (map Plain s) (Plain k) on → A
-not_both s k k' list' on comes stops =
-    absurd ((lists_succeed_or_stick.comes_before (map Plain s) (Plain k)).1 (k', list', comes) (on, stops))
-
-one_at_end : (s : List Named) (k : Named) → map Plain s ++ Plain k ∷ [] ≡ map Plain (s ++ k ∷ [])
-one_at_end s k = sym (map-append Plain s (k ∷ []))
-
-at_end : (s : List Named) (k : Named) (list : List Named) → s ++ k ∷ list ≡ (s ++ k ∷ []) ++ list
-at_end s k list = sym (append_assoc s (k ∷ []) list)
-
-room_left : (s list : List Named) (k first : Named) (rest : List Named) → HasRoom ((s ++ k ∷ []) ++ list) → Precedes s k first rest → HasRoom (rest ++ list)
-room_left s list k first rest room w =
-    room_behind first (rest ++ list) (room_of_equivalent _ _ (before (s ++ k ∷ []) (first ∷ rest) list (came s k first rest w)) room)
-
--- parts of a list are what it is arranged to
-arranged_of_parts : (names : List (List ℕ)) (r list f t : List Named) → AreOthers names r → Parted names (r ++ list) f t → ArrangesBehind names (map Plain r) (map Plain list) (map Plain f) (map Plain t)
-arranged_of_parts names r [] f t are p =
-    let stay = others_stay names r f t are (subst (λ l. Parted names l f t) (append-nil r) p) in
-    (ap (map Plain) stay.0, ap (map Plain) stay.1)
-arranged_of_parts names r (k ∷ list) f t are p = elim (among_or_not bytes_or_not names k.name) [
-  | inl of ↦
-      let come = first_comes names r list f t k of are p in
-      inl (of, (Plain come.first, map Plain come.others, map Plain come.rest, comes_plainly r k come.first come.others come.comes, arranged_of_parts names come.others list come.rest t come.are come.parted, ap (map Plain) come.is))
-  | inr never ↦
-      inr (never, subst (λ l. ArrangesBehind names l (map Plain list) (map Plain f) (map Plain t)) (sym (one_at_end r k)) (arranged_of_parts names (r ++ k ∷ []) list f t (others_and_one names r k are never) (subst (λ l. Parted names l f t) (at_end r k list) p)))
-]
+use Rattle.camp_catch.proofs.ListResults.{lists_are_unique}
+use Rattle.camp_catch.proofs.PlainArranging.{arranged_of_parts, at_end, came_plainly, comes_plainly, not_both, one_at_end, room_left}
+use Rattle.camp_catch.proofs.PlainFronts.{Parted, comes_past_parts, one_more, one_other}
 
 module _ (names others : List (List ℕ)) (within : (name : List ℕ) → Contains others name → Contains names name) where
   -- two walks to the front: that of the others, which are fewer, comes to its end, and the one of the names sticks

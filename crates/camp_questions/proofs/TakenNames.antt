@@ -1,9 +1,13 @@
 -- The names that are kept under the absolute labels of hunks, as a finite map.
-use Rattle.camp_questions.proofs.Words.{◌≡◌, ℕ, cond, List, [], ◌∷◌, Some, refl, sym, ap, ◌∙◌, eq_by_cmp, key_cmp, Key, find, get, get-from_entries, get-insert, insert, same_map, key_ties, key_total, kept_in}
+use Rattle.camp_questions.proofs.Words.{◌≡◌, ℕ, true, cond, List, [], ◌∷◌, Some, refl, sym, ap, ◌∙◌, eq_by_cmp, key_cmp, Key, find, get, get-from_entries, get-insert, insert, same_map, key_ties, key_total, kept_in}
 use Rattle.std.specs.BTreeMap as tree
 use Rattle.std.specs.BTreeMap.{BTreeMap, is_at}
-use Rattle.std.specs.Cmp.{eq_by_cmp_equiv}
+use Rattle.std.specs.Cmp.{Equal-is, eq_by_cmp_equiv}
 use Rattle.std.specs.Map.{lookup}
+
+-- labels that compare as equal are one
+pub same_key : (a b : Key) → eq_by_cmp key_cmp a b ≡ true → a ≡ b
+same_key a b e = key_ties a b ((Equal-is (key_cmp a b)).0 e)
 
 listed_under : (entries : List (Key × List (List ℕ))) (key : Key) → find key_cmp key entries ≡ lookup (is_at (key_cmp key)) entries
 listed_under [] key = refl

@@ -1,6 +1,7 @@
 -- What two lists of lines have in common at their ends.
-use Rattle.std.specs.Prelude.{ℕ, zero, suc, [], ◌∷◌, reverse, bytes_eq, if◌then◌else◌}
+use Rattle.std.specs.Prelude.{ℕ, zero, suc, ◌-◌, [], ◌∷◌, length, take, drop, reverse, bytes_eq, if◌then◌else◌}
 use Rattle.camp_base.specs.Trees.{Lines}
+use Rattle.camp_prim.specs.Hunks.{Edit}
 
 -- how many lines are the same at the front of both
 abbrev pub common_front : Lines → Lines → ℕ
@@ -11,3 +12,11 @@ common_front (line ∷ lines) (other ∷ others) = if bytes_eq line other then s
 -- how many at the end of both
 abbrev pub common_end : Lines → Lines → ℕ
 common_end lines others = common_front (reverse lines) (reverse others)
+
+-- the lines that a hunk brings: its new ones but for those that stand on both of its sides at their front, and behind
+-- that at their end
+abbrev pub brought_by : Edit → Lines
+brought_by hunk =
+    let front = common_front hunk.old hunk.new in
+    let end = common_end (drop front hunk.old) (drop front hunk.new) in
+    take (length hunk.new - front - end) (drop front hunk.new)

@@ -2,15 +2,20 @@
 use Rattle.std.specs.Prelude.{◌≡◌, ◌≢◌, ◌⊎◌, ◌↔◌, ◌≤◌, ℕ, ◌+◌, ◌-◌, true, false, List, [], ◌∷◌, ◌++◌, map, length, None, Some, Ok, Err}
 use Rattle.std.specs.Prelude.{Contains}
 use Rattle.std.specs.FinMap.{get}
-use Rattle.std.specs.List.{All, AllByRecursion}
+use Rattle.std.specs.List.{All, AllByRecursion, AllZip, flat_map}
 use Rattle.camp_base.specs.Trees.{Files, Lines}
 use Rattle.camp_prim.specs.Effect.{Applies, flipped}
 use Rattle.camp_prim.specs.Hunks.{Edit}
+use Rattle.camp_prim.specs.Labels.{SameKey}
 use Rattle.camp_prim.specs.Swaps.{path_of}
 use Rattle.camp_prim.specs.declared.labels.Key.{Key}
 use Rattle.camp_prim.specs.declared.named.Named.{Named}
 use Rattle.camp_prim.specs.declared.primitives.Primitive.{Primitive}
+use Rattle.camp_prim.specs.declared.primitives.Primitive.TheVariants.{Add, Remove, Hunk}
+use Rattle.camp_seq.specs.Equivalence.{◌~◌}
 use Rattle.camp_seq.specs.Room.{HasRoom}
+use Rattle.camp_catch.specs.Arranging.{Align}
+use Rattle.camp_catch.specs.Catches.{effect_of}
 use Rattle.camp_catch.specs.declared.catches.Catch.{Catch}
 use Rattle.camp_catch.specs.declared.catches.Catch.TheVariants.{Plain}
 use Rattle.camp_branch.specs.Branches.{first_lacked, IsLawfulBranch as IsLawfulBranch, LeadsTo, has_patch, is_among, names_of, recorded}
@@ -28,7 +33,8 @@ use Rattle.camp_repo.specs.Objects.{replies_to, reply_of, state_behind}
 use Rattle.camp_repo.specs.States.{Contents, stands}
 use Rattle.camp_repo.specs.Steps.{has_long_file, is_too_large, refused, step}
 use Rattle.camp_questions.specs.Along.{AreAlong}
-use Rattle.camp_questions.specs.Annotations.{Known, behind_hunk, names_of_lines}
+use Rattle.camp_questions.specs.Annotations.{Annotates, Known, behind_hunk, names_of_lines}
+use Rattle.camp_questions.specs.CommonLines.{brought_by}
 use Rattle.camp_questions.specs.Dependencies.{AreHeldIn, CanGo, ComeToFront, HeldBy, Needs, StickOn}
 use Rattle.camp_questions.specs.Differences.{missing_in}
 use Rattle.camp_questions.specs.Foresight.{Foresees}
@@ -36,6 +42,8 @@ use Rattle.camp_questions.specs.Graphs.{Drawn, IsGraph}
 use Rattle.camp_questions.specs.Pictures.{hangs_on}
 use Rattle.camp_questions.specs.Showing.{changes_in, patch_in}
 use Rattle.camp_questions.specs.Sides.{IsSideIn}
+use Rattle.camp_questions.specs.declared.annotations.Annotated.{Annotated}
+use Rattle.camp_questions.specs.declared.annotations.Annotated.TheVariants.{File}
 use Rattle.camp_questions.specs.declared.foresight.Foreseen.{Foreseen}
 use Rattle.camp_questions.specs.declared.foresight.Standing.{Standing}
 use Rattle.camp_questions.specs.declared.graphs.Node.{Node}
@@ -135,6 +143,54 @@ pub record LinesHaveNames : Type 0 where
       (name other : List ℕ) (key : Key) (hunk : Edit) (known : Known) →
       hunk.line - 1 + length hunk.old ≤ length known.names →
       (behind_hunk other key (flipped hunk) (behind_hunk name key hunk known)).names ≡ known.names
+
+-- a line is among those that a hunk of a file brings, which is among the changes that a patch has in a branch
+pub record IsBrought (branch : List Catch) (path name line : List ℕ) : Type 0 where
+  pub hunk : Edit
+  pub change : Contains (patch_in branch name).changes (Hunk hunk)
+  pub file : hunk.path ≡ path
+  pub brings : Contains (brought_by hunk) line
+
+-- a hunk of the file of another one puts back the lines that this took away
+abbrev pub PutsBack : Edit → Primitive → Type 0
+PutsBack hunk (Add path) = Unit {0}
+PutsBack hunk (Remove path) = Unit {0}
+PutsBack hunk (Hunk other) = other.path ≡ hunk.path → other.new ≡ hunk.old
+
+-- whatever comes again under the absolute label of a hunk puts back the lines that the hunk took away
+abbrev pub ComeAgainAsInverses : List Named → Type 0
+ComeAgainAsInverses [] = Unit {0}
+ComeAgainAsInverses (p ∷ s) =
+    ((hunk : Edit) → p.prim ≡ Hunk hunk → AllByRecursion (λ q. SameKey p q → PutsBack hunk q.prim) s)
+    × ComeAgainAsInverses s
+
+-- each line that is told of the file of a path was brought by a hunk of the patch whose name it has
+abbrev pub EachIsBrought : List Catch → List ℕ → Type 0
+EachIsBrought branch path =
+    (lines : Lines) (names : List (List ℕ)) → Annotates branch path (File lines names) →
+    AllZip (IsBrought branch path) names lines
+
+-- each line was brought by its patch where the effects of a branch come again as inverses; so do those of a lawful
+-- branch with plain catches alone
+pub record LinesAreBrought : Type 0 where
+  pub come_again :
+      (branch : List Catch) (path : List ℕ) → ComeAgainAsInverses (flat_map effect_of branch) → EachIsBrought branch path
+  pub plain :
+      (patches : List Named) (path : List ℕ) → IsLawfulBranch (map Plain patches) → EachIsBrought (map Plain patches) path
+
+-- two branches tell the same of each path: the same lines, with the same names
+abbrev pub AnnotateAlike : List Catch → List Catch → Type 0
+AnnotateAlike branch other =
+    (path : List ℕ) (told : Annotated) → Annotates branch path told ↔ Annotates other path told
+
+-- plain patches tell the same in whatever order they come: where they become others by swaps of neighbours, and where
+-- they are brought into the order of some labels, as a pull does with those that two branches have
+pub record OrderKeepsNames : Type 0 where
+  pub swapped :
+      (patches others : List Named) → patches ~ others → AnnotateAlike (map Plain patches) (map Plain others)
+  pub aligned :
+      (patches : List Named) (order : List Key) (other : List Catch) → Align order (map Plain patches) other →
+      AnnotateAlike (map Plain patches) other
 
 -- a patch is shown, in the state after its record, with the changes that were recorded
 abbrev pub RecordedIsShown : Type 0

@@ -40,7 +40,8 @@ hangs_on nodes names name = is_among (with_needs nodes names ++ with_needing nod
 abbrev pub kept_node : (List ℕ → Bool) → Node → Node
 kept_node keeps node = record { name = node.name; needs = filter keeps node.needs }
 
--- the part of a picture with patches of some names alone, and with the arrows and the pairs between these
+-- the part of a picture with patches of some names alone, with the arrows and the pairs between these; which pairs are
+-- open is told of all
 abbrev pub part_with : (List ℕ → Bool) → Picture → Picture
 part_with keeps whole =
     record {

@@ -1,4 +1,4 @@
-ghost use Rattle.camp_questions.specs.Laws.{AlongIsEnough, ArrowsAreDirectNeeds, ArrowsLeadBackwards, ForeseenComes, HeldCanGo, HeldIsDetermined, HeldIsLeast, LinesHaveNames, MissingIsPulled, NeedsAndHeldAreOne, NeedsAreDetermined, NeedsAreLeast, NeedsAreReached, NeedsCanBePulled, NeedsComeFirst, PartsAreReached, RecordedIsShown, SidesApply, SidesAreAccepted};
+ghost use Rattle.camp_questions.specs.Laws.{AlongIsEnough, ArrowsAreDirectNeeds, ArrowsLeadBackwards, ForeseenComes, HeldCanGo, HeldIsDetermined, HeldIsLeast, LinesAreBrought, LinesHaveNames, MissingIsPulled, NeedsAndHeldAreOne, NeedsAreDetermined, NeedsAreLeast, NeedsAreReached, NeedsCanBePulled, NeedsComeFirst, OrderKeepsNames, PartsAreReached, RecordedIsShown, SidesApply, SidesAreAccepted};
 
 /// A pull without names that is accepted brings what is missing, in this order; where nothing is
 /// missing, it is refused as having nothing to do.
@@ -56,6 +56,17 @@ pub fn needs_and_held_are_one()
 /// undone, all lines have the names that they had.
 pub fn lines_have_names()
     ensures law { LinesHaveNames }
+{}
+
+/// Each line of a file was brought by a hunk of the patch whose name it has, where what comes again under
+/// a label puts back what was taken away. In a lawful branch with plain catches alone none comes again.
+pub fn lines_are_brought()
+    ensures law { LinesAreBrought }
+{}
+
+/// Plain patches give the files the same lines, with the same names, in whatever order they come.
+pub fn order_keeps_names()
+    ensures law { OrderKeepsNames }
 {}
 
 /// A patch is shown, in the state after its record, with the changes that were recorded.

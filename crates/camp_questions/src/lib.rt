@@ -36,9 +36,10 @@ pub use graph_texts::graph_text;
 pub use graphs::{Node, PatchGraph, graph};
 pub use laws::{
     along_is_enough, arrows_are_direct_needs, arrows_lead_backwards, foreseen_comes, held_can_go,
-    held_is_determined, held_is_least, lines_have_names, missing_is_pulled, needs_and_held_are_one,
-    needs_are_determined, needs_are_least, needs_are_reached, needs_can_be_pulled,
-    needs_come_first, parts_are_reached, recorded_is_shown, sides_apply, sides_are_accepted,
+    held_is_determined, held_is_least, lines_are_brought, lines_have_names, missing_is_pulled,
+    needs_and_held_are_one, needs_are_determined, needs_are_least, needs_are_reached,
+    needs_can_be_pulled, needs_come_first, order_keeps_names, parts_are_reached, recorded_is_shown,
+    sides_apply, sides_are_accepted,
 };
 pub use marking::{Marked, MarkedFile, Place, Version, marks};
 pub use open_conflicts::open_pairs;
