@@ -20,16 +20,19 @@ pub texts_grow : (calls all : List Call) (front : IsFront calls all) → store_t
 texts_grow calls all front =
     ap (λ (l : List (List ℕ)). title ∷ l) (sym (map-append call_text calls front.rest)) ∙ ap (λ (l : List Call). store_texts l) front.makes
 
+some_texts : (calls : List Call) → store_texts calls ≡ [] → ⊥
+some_texts calls none = absurd (omega (arith, ap (λ (l : List (List ℕ)). length l) none))
+
 -- a file that stands for the texts of calls tells them
 pub stands_told : (calls : List Call) (file : List ℕ) → Stands (store_texts calls) file → Tells calls file
-stands_told calls file stands = record { texts = store_texts calls; are = inl refl; stands = stands }
+stands_told calls file stands = record { texts = store_texts calls; are = inl refl; stands = stands; short = λ none. absurd (some_texts calls none) }
 
 -- what a crash leaves of a store that grows
 pub is_either : (calls all : List Call) (new : List (List ℕ)) → AreAccepted calls → AreAccepted all → store_texts calls ++ new ≡ store_texts all
     → (c : List ℕ) → IsBeforeOrAfter (store_texts calls) new c → IsStoreOf calls c ⊎ IsStoreOf all c
-is_either calls all new one more grows c (inl before) = inl (record { tells = stands_told calls c before; accepted = one })
+is_either calls all new one more grows c (inl before) = inl (record { stands = before; accepted = one })
 is_either calls all new one more grows c (inr after) =
-    inr (record { tells = stands_told all c (subst (λ (ts : List (List ℕ)). Stands ts c) grows after); accepted = more })
+    inr (record { stands = subst (λ (ts : List (List ℕ)). Stands ts c) grows after; accepted = more })
 
 -- one call more
 pub call_texts-push : (history : List (ℕ × Call)) (entry : ℕ × Call) → call_texts (calls_of (history ++ entry ∷ [])) ≡ call_texts (calls_of history) ++ call_text entry.1 ∷ []
@@ -49,7 +52,7 @@ slice_is history calls front k is =
 pub holds_leave : {D : Type 0} (seen : D → List ℕ) (may_leave : D → List ℕ → Type 0) (calls : List Call) (kept : Kept D) → Holds seen may_leave calls kept
     → (c : List ℕ) → may_leave (disk_in kept) c → IsStoreOf calls c
 holds_leave seen may_leave calls kept holds c now = record {
-  tells = stands_told calls c (kept_stands seen may_leave (store_texts calls) (disk_in kept) kept.log.length kept.log.digest holds.keeps c now);
+  stands = kept_stands seen may_leave (store_texts calls) (disk_in kept) kept.log.length kept.log.digest holds.keeps c now;
   accepted = holds.accepted;
 }
 

@@ -3,3 +3,4 @@ mod Listing
 mod Opening
 mod Recalling
 mod Refusing
+mod Reopening

@@ -1,17 +1,32 @@
 -- What a file tells that is opened.
-use Rattle.std.proofs.Common.{◌≡◌, inl, inr, ℕ, List, [], ◌∷◌, refl, sym, ◌∙◌, subst}
+use Rattle.std.proofs.Common.{◌≡◌, inl, inr, ℕ, List, [], ◌∷◌, ◌≤◌, length, refl, sym, ◌∙◌, ap, subst}
 use Rattle.camp_call.specs.declared.calls.Call.{Call}
-use Rattle.camp_kept.specs.Keeping.{AreTexts, Tells, store_texts, title}
+use Rattle.camp_kept.specs.Keeping.{AreTexts, Tells, most_unbegun, store_texts, title}
+use Rattle.camp_kept.proofs.Committing.{stands_told}
 use Rattle.camp_kept.proofs.Recalling.{no_texts}
-use Rattle.camp_store.specs.Blocks.{Stands}
-use Rattle.camp_store.specs.Logs.{IsBeforeOrAfter}
-use Rattle.camp_store.proofs.BlockLemmas.{stands_once}
+use Rattle.camp_store.specs.Blocks.{AreBlocks, Stands, first_digest}
+use Rattle.camp_store.specs.Logs.{IsBeforeOrAfter, KeepsTexts, disk_of, texts_of}
+use Rattle.camp_store.specs.Readings.{IsReading}
+use Rattle.camp_store.specs.declared.logs.Log.{Log}
+use Rattle.camp_store.specs.declared.readings.Reading.{Reading}
+use Rattle.camp_store.proofs.BlockLemmas.{kept_stands, stands_once}
 
 -- a file that stands for the same texts as one that tells calls tells them too
-pub tells_too : (texts : List (List ℕ)) (calls : List Call) (file : List ℕ) → Stands texts file → Tells calls file → (c : List ℕ) → Stands texts c → Tells calls c
-tells_too texts calls file stands told c now =
+pub tells_too : (texts : List (List ℕ)) (calls : List Call) (file : List ℕ) → Stands texts file → Tells calls file → (c : List ℕ) → Stands texts c
+    → (texts ≡ [] → length c ≤ most_unbegun) → Tells calls c
+tells_too texts calls file stands told c now short =
     let same : told.texts ≡ texts = sym (stands_once texts told.texts file stands told.stands) in
-    record { texts = texts; are = subst (λ (ts : List (List ℕ)). AreTexts ts calls) same told.are; stands = now }
+    record { texts = texts; are = subst (λ (ts : List (List ℕ)). AreTexts ts calls) same told.are; stands = now; short = short }
+
+-- a file of no texts that tells calls is short
+pub told_short : (texts : List (List ℕ)) (calls : List Call) (file : List ℕ) → Stands texts file → Tells calls file → texts ≡ [] → length file ≤ most_unbegun
+told_short texts calls file stands told none = told.short (sym (stands_once texts told.texts file stands told.stands) ∙ none)
+
+-- the blocks of no texts have no bytes
+pub no_bytes : (file : List ℕ) (reading : Reading) → IsReading file reading → texts_of reading.texts.items ≡ [] → reading.length ≡ 0
+no_bytes file reading is none =
+    let front : is.front ≡ [] = subst (λ (ts : List (List ℕ)). AreBlocks first_digest ts is.front) none is.are in
+    is.length_is ∙ ap length front
 
 -- texts that are a store, one of them at least, or none
 pub a_store : (text : List ℕ) (texts : List (List ℕ)) (calls : List Call) → AreTexts (text ∷ texts) calls → text ∷ texts ≡ store_texts calls
@@ -23,21 +38,25 @@ no_calls calls (inl are) = absurd (no_texts title _ (sym are))
 no_calls calls (inr none) = none.1
 
 -- while a title is put
-pub titled_or_not : (c : List ℕ) → IsBeforeOrAfter [] (store_texts []) c → Tells [] c
-titled_or_not c (inl before) = record { texts = []; are = inr (refl, refl); stands = before }
-titled_or_not c (inr after) = record { texts = store_texts []; are = inl refl; stands = after }
+pub titled_or_not : (c : List ℕ) → length c ≤ most_unbegun → IsBeforeOrAfter [] (store_texts []) c → Tells [] c
+titled_or_not c short (inl before) = record { texts = []; are = inr (refl, refl); stands = before; short = λ none. short }
+titled_or_not c short (inr after) = stands_told [] c after
+
+-- and where none is
+pub still_begun : {D : Type 0} (seen : D → List ℕ) (may_leave : D → List ℕ → Type 0) (log : Log D) → KeepsTexts seen may_leave [] log → length (seen (disk_of log)) ≤ most_unbegun
+    → (c : List ℕ) → may_leave (disk_of log) c → Tells [] c
+still_begun seen may_leave log keeps short c now =
+    titled_or_not c (subst (λ (f : List ℕ). length f ≤ most_unbegun) (sym (keeps.durable c now)) short)
+    (inl (kept_stands seen may_leave [] (disk_of log) log.length log.digest keeps c now))
 
 -- a file that has become a store tells what it told before
 pub told_again : (texts : List (List ℕ)) (calls others : List Call) → AreTexts texts calls → AreTexts texts others → (c : List ℕ) → Stands (store_texts others) c → Tells calls c
 told_again texts calls others (inl are) (inl were) c stands =
-    record { texts = store_texts calls; are = inl refl; stands = subst (λ (ts : List (List ℕ)). Stands ts c) (sym were ∙ are) stands }
+    stands_told calls c (subst (λ (ts : List (List ℕ)). Stands ts c) (sym were ∙ are) stands)
 told_again texts calls others (inl are) (inr none) c stands = absurd (no_texts title _ (sym are ∙ none.0))
 told_again texts calls others (inr none) (inl were) c stands = absurd (no_texts title _ (sym were ∙ none.0))
-told_again texts calls others (inr none) (inr nor) c stands = record {
-  texts = store_texts calls;
-  are = inl refl;
-  stands = subst (λ (l : List Call). Stands (store_texts l) c) (nor.1 ∙ sym none.1) stands;
-}
+told_again texts calls others (inr none) (inr nor) c stands =
+    stands_told calls c (subst (λ (l : List Call). Stands (store_texts l) c) (nor.1 ∙ sym none.1) stands)
 
 -- the texts of what was told, as they were read
 pub as_read : (texts : List (List ℕ)) (calls : List Call) (file : List ℕ) → Stands texts file → Tells calls file → AreTexts texts calls

@@ -1,5 +1,5 @@
 -- Calls by their texts, and what a file tells of them.
-use Rattle.std.proofs.Common.{◌≡◌, inl, inr, ◌≤◌, Bool, true, false, cond, List, [], ◌∷◌, ◌++◌, length, map, refl, sym, ◌∙◌, ap, subst, arith, append_assoc, Result, Ok, Err, IsSome, IfOk, IfErr, IfSome, Option, None, Some, ◌≢◌, ◌+◌, ℕ, take, drop, Vec, Global, option_to_list}
+use Rattle.std.proofs.Common.{◌≡◌, inl, inr, Bool, true, false, List, [], ◌∷◌, ◌++◌, length, map, refl, sym, ◌∙◌, ap, subst, arith, append_assoc, Result, Ok, Err, IsSome, IfOk, IfErr, IfSome, Option, None, Some, ◌≢◌, ℕ, Vec, Global, option_to_list}
 use Rattle.std.specs.List.{AllByRecursion}
 use Rattle.std.proofs.lemmas.List.{map-append}
 use Rattle.camp_call.specs.declared.calls.Call.{Call}
@@ -17,9 +17,7 @@ use Rattle.camp_script.specs.declared.faults.LineFault.{LineFault}
 use Rattle.camp_script.proofs.CalledLines.{text_reads}
 use Rattle.camp_script.proofs.Writable.{read_is_writable}
 use Rattle.camp_store.specs.Blocks.{Stands}
-use Rattle.camp_store.specs.Logs.{texts_of}
 use Rattle.camp_store.proofs.BlockLemmas.{stands_once}
-use Rattle.std.proofs.lemmas.List.{take-append-drop}
 use Rattle.std.proofs.lemmas.Option.{same_Some}
 
 abbrev first_call : Call → Result (List (List Call)) LineFault → Call
@@ -32,11 +30,11 @@ first_call c (Err fault) = c
 pub one_call : (c d : Call) → IsScriptCall c → IsScriptCall d → call_text c ≡ call_text d → c ≡ d
 one_call c d can could same = ap (first_call c) (sym (text_reads c can) ∙ ap script_of same ∙ text_reads d could)
 
-abbrev first_text : List (List ℕ) → List ℕ
+abbrev pub first_text : List (List ℕ) → List ℕ
 first_text [] = []
 first_text (text ∷ texts) = text
 
-abbrev other_texts : List (List ℕ) → List (List ℕ)
+abbrev pub other_texts : List (List ℕ) → List (List ℕ)
 other_texts [] = []
 other_texts (text ∷ texts) = texts
 
@@ -170,12 +168,6 @@ recalled texts history asked =
       are = inl (ap (λ (l : List (List ℕ)). title ∷ l) (asked.texts_are ∙ ap call_texts (sym calls)));
       can = subst (λ (l : List Call). AllByRecursion IsScriptCall l) (sym calls) asked.can;
     }
-
--- the texts of a list around one of its texts
-pub around : (vs : List (Vec ℕ Global)) (i : ℕ) (v : Vec ℕ Global) → take (i + 1) vs ≡ take i vs ++ v ∷ [] → texts_of vs ≡ texts_of (take i vs) ++ v.items ∷ texts_of (drop (i + 1) vs)
-around vs i v next =
-    ap texts_of (sym (take-append-drop (i + 1) vs) ∙ ap (λ (l : List (Vec ℕ Global)). l ++ drop (i + 1) vs) next ∙ append_assoc (take i vs) (v ∷ []) (drop (i + 1) vs))
-    ∙ map-append (λ (t : Vec ℕ Global). t.items) (take i vs) (v ∷ drop (i + 1) vs)
 
 abbrev items_of : List (Vec Call Global) → List (List Call)
 items_of sections = map (λ section. section.items) sections

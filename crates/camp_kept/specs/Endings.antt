@@ -1,7 +1,7 @@
 -- What stands behind the texts of a file.
-use Rattle.std.specs.Prelude.{◌≡◌, ℕ, ◌+◌, ◌==◌, List, [], ◌∷◌, ◌++◌, length, if◌then◌else◌}
+use Rattle.std.specs.Prelude.{◌≡◌, ◌≤◌, ℕ, ◌+◌, ◌==◌, List, [], ◌∷◌, ◌++◌, length, if◌then◌else◌}
 use Rattle.camp_call.specs.declared.calls.Call.{Call}
-use Rattle.camp_kept.specs.Keeping.{AreTexts}
+use Rattle.camp_kept.specs.Keeping.{AreTexts, most_unbegun}
 use Rattle.camp_kept.specs.declared.inspections.Inspection.{Inspection}
 use Rattle.camp_store.specs.Blocks.{AreBlocks, IsEnd, chain, closed_gate, first_digest}
 
@@ -18,6 +18,8 @@ pub record LeavesOut (texts : List (List ℕ)) (file : List ℕ) (count : ℕ) :
   pub are : AreBlocks first_digest texts front
   pub ends : IsEnd end
   pub count_is : count ≡ uncounted end
+  -- a file without a text is one of few bytes
+  pub short : texts ≡ [] → length file ≤ most_unbegun
 
 -- what is told of a file: how many calls it tells, what the digests of their texts come to, and how many of its bytes
 -- count for nothing

@@ -1,5 +1,5 @@
 -- What a store says of the accepted calls of a repository.
-use Rattle.std.specs.Prelude.{◌≡◌, ◌⊎◌, ℕ, List, [], ◌∷◌, length, map, codes}
+use Rattle.std.specs.Prelude.{◌≡◌, ◌⊎◌, ◌≤◌, ℕ, List, [], ◌∷◌, length, map, codes}
 use Rattle.camp_call.specs.declared.calls.Call.{Call}
 use Rattle.camp_kept.specs.Accepting.{AreAccepted}
 use Rattle.camp_kept.specs.declared.kept.Kept.{Kept}
@@ -13,6 +13,10 @@ use Rattle.camp_store.specs.Logs.{KeepsTexts, disk_of}
 abbrev pub title : List ℕ
 title = codes "camp store 1\n"
 
+-- the most bytes of a file without a text that is a store which is being made
+abbrev pub most_unbegun : ℕ
+most_unbegun = 64
+
 -- the texts of calls, each as a script has it
 abbrev pub call_texts : List Call → List (List ℕ)
 call_texts calls = map call_text calls
@@ -25,15 +29,16 @@ store_texts calls = title ∷ call_texts calls
 abbrev pub AreTexts : List (List ℕ) → List Call → Type 0
 AreTexts texts calls = (texts ≡ store_texts calls) ⊎ ((texts ≡ []) × (calls ≡ []))
 
--- the file tells these calls: it stands for the texts of their store
+-- the file tells these calls: it stands for the texts of their store; or for no texts, with few bytes, and tells none
 pub record Tells (calls : List Call) (file : List ℕ) : Type 0 where
   pub texts : List (List ℕ)
   pub are : AreTexts texts calls
   pub stands : Stands texts file
+  pub short : texts ≡ [] → length file ≤ most_unbegun
 
--- the file is a store of these calls: it tells them, and each is accepted in its turn
+-- the file is a store of these calls: it stands for its title and their texts, and each is accepted in its turn
 pub record IsStoreOf (calls : List Call) (file : List ℕ) : Type 0 where
-  pub tells : Tells calls file
+  pub stands : Stands (store_texts calls) file
   pub accepted : AreAccepted calls
 
 -- by what a read of a disk returns, and what a crash may leave of it

@@ -2,4 +2,5 @@ pub mod Accepting
 pub mod Endings
 pub mod Faults
 pub mod Keeping
+pub mod Laws
 pub mod Replaying

@@ -1,7 +1,7 @@
 //! What is kept.
 ghost use Rattle.std.specs.Prelude.{◌≡◌, ◌⊎◌, ◌-◌, List, length, IfErr, IfOk, IsTrue, OnOk, ℕ};
 ghost use Rattle.camp_call.specs.declared.calls.Call.{Call};
-ghost use Rattle.camp_kept.specs.Faults.{IsRefusal};
+ghost use Rattle.camp_kept.specs.Faults.{IsUnkept, IsUnopened};
 ghost use Rattle.camp_kept.specs.declared.faults.KeptFault.TheVariants as fault;
 ghost use Rattle.camp_kept.specs.Keeping.{IsStoreOf, LeavesTold};
 
@@ -31,7 +31,7 @@ impl<D: Disk> Kept<D> {
         ensures holds { IfOk result (λ kept. IsTrue (D.Disk.is_clean (disk_in kept)) → Holds D.Disk.seen D.Disk.may_leave (calls_in kept) kept) }
         ensures told { IfOk result (λ kept. IsTrue (D.Disk.is_clean (disk_in kept)) → (texts : List (List ℕ))
             × AreTexts texts (calls_in kept) × LeavesOut texts (D.Disk.seen disk) (left_out_in kept)) }
-        ensures refused { IfErr result (λ e. IsTrue (D.Disk.is_clean e.1) → IsRefusal e.0 (D.Disk.seen disk)) }
+        ensures refused { IfErr result (λ e. IsTrue (D.Disk.is_clean e.1) → IsUnopened (D.Disk.is_usable disk) e.0 (D.Disk.seen disk)) }
         // A crash leaves what was told before.
         ensures crash { IfOk result (λ kept. (calls : List Call) → LeavesTold D.Disk.seen D.Disk.may_leave calls disk
             → IsTrue (D.Disk.is_clean (disk_in kept)) → LeavesTold D.Disk.seen D.Disk.may_leave calls (disk_in kept)) }
@@ -81,6 +81,7 @@ impl<D: Disk> Kept<D> {
         ensures book { self.new.book ≡ self.old.book }
         // Where memory runs out nothing has changed.
         ensures memory { IfErr result (λ why. why ≡ fault.Memory → self.new ≡ self.old) }
+        ensures unkept { IfErr result IsUnkept }
         ensures clean { D.Disk.is_clean (disk_in self.new) ≡ D.Disk.is_clean (disk_in self.old) }
     {
         let history = self.book.history();

@@ -4,6 +4,7 @@
 mod faults;
 mod inspections;
 mod kept;
+mod laws;
 mod openings;
 mod replays;
 mod texts;
@@ -13,6 +14,7 @@ pub use camp_store::Disk;
 pub use faults::KeptFault;
 pub use inspections::{Inspection, inspect};
 pub use kept::Kept;
+pub use laws::stores_are_opened;
 
 /// The most bytes of a file that has no title yet: more than a store has that is being made.
 const MAX_UNBEGUN: usize = 64;

@@ -1,12 +1,12 @@
 //! What is done when a store is opened.
-ghost use Rattle.std.specs.Prelude.{◌≡◌, [], List, ℕ, IfErr, IfOk, IsTrue};
+ghost use Rattle.std.specs.Prelude.{◌≡◌, ◌≤◌, [], List, ℕ, length, IfErr, IfOk, IsTrue};
 ghost use Rattle.camp_call.specs.declared.calls.Call.{Call};
 ghost use Rattle.camp_kept.specs.Endings.{LeavesOut};
-ghost use Rattle.camp_kept.specs.Faults.{IsRefusal};
-ghost use Rattle.camp_kept.specs.Keeping.{AreTexts, Tells, store_texts};
+ghost use Rattle.camp_kept.specs.Faults.{IsRefusal, IsUnopened, IsUntitled};
+ghost use Rattle.camp_kept.specs.Keeping.{AreTexts, Tells, most_unbegun, store_texts};
 ghost use Rattle.camp_kept.specs.declared.faults.KeptFault.TheVariants as fault;
 ghost use Rattle.camp_kept.specs.Replaying.{AreRecalled};
-ghost use Rattle.camp_store.specs.Logs.{KeepsTexts, disk_of, texts_of};
+ghost use Rattle.camp_store.specs.Logs.{IsOpen, KeepsTexts, disk_of, texts_of};
 ghost use Rattle.camp_store.specs.Readings.{IsReading};
 ghost use Rattle.sqlite_disk.specs.Disk.{Only};
 
@@ -24,7 +24,9 @@ pub(crate) fn recover<D: Disk>(
 ) -> Result<(Reading, Book<State>), KeptFault>
     ensures reading { IfOk result (λ r. IsTrue (D.Disk.is_clean disk.new) → IsReading (D.Disk.seen disk.old) r.0) }
     ensures recalled { IfOk result (λ r. AreRecalled (texts_of r.0.texts.items) r.1) }
-    ensures refused { IfErr result (λ why. IsTrue (D.Disk.is_clean disk.new) → IsRefusal why (D.Disk.seen disk.old)) }
+    ensures refused { IfErr result (λ why. IsTrue (D.Disk.is_clean disk.new) → IsUnopened (D.Disk.is_usable disk.old) why (D.Disk.seen disk.old)) }
+    ensures short { IfOk result (λ r. texts_of r.0.texts.items ≡ [] → r.0.behind ≤ most_unbegun) }
+    ensures usable { IfOk result (λ _. IsTrue (D.Disk.is_usable disk.new)) }
     ensures seen { D.Disk.seen disk.new ≡ D.Disk.seen disk.old }
     ensures crash { (c : List ℕ) → D.Disk.may_leave disk.new c → D.Disk.may_leave disk.old c }
     ensures settled { IfOk result (λ r. Only (D.Disk.seen disk.new) (D.Disk.may_leave disk.new)) }
@@ -39,6 +41,7 @@ pub(crate) fn recover<D: Disk>(
 pub(crate) fn recall(alloc: Global, reading: &Reading) -> Result<Book<State>, KeptFault>
     ensures recalled { IfOk result (AreRecalled (texts_of reading.now.texts.items)) }
     ensures refused { IfErr result (λ why. (file : List ℕ) → IsReading file reading.now → IsRefusal why file) }
+    ensures short { IfOk result (λ _. texts_of reading.now.texts.items ≡ [] → reading.now.behind ≤ most_unbegun) }
 {
     let book = replay(alloc, &reading.texts)?;
     if reading.texts.is_empty() && reading.behind > MAX_UNBEGUN {
@@ -49,7 +52,8 @@ pub(crate) fn recall(alloc: Global, reading: &Reading) -> Result<Book<State>, Ke
 
 /// How many bytes of a file count for nothing.
 pub(crate) fn left_out(reading: &Reading) -> usize
-    ensures { (file : List ℕ) → IsReading file reading.now → LeavesOut (texts_of reading.now.texts.items) file result }
+    ensures { (file : List ℕ) → IsReading file reading.now → (texts_of reading.now.texts.items ≡ [] → reading.now.behind ≤ most_unbegun)
+        → LeavesOut (texts_of reading.now.texts.items) file result }
 {
     if reading.is_closed && reading.behind > 0 {
         reading.behind - 1
@@ -69,10 +73,11 @@ pub(crate) fn begin<D: Disk>(
         → KeepsTexts D.Disk.seen D.Disk.may_leave (store_texts calls) new) }
     ensures crash { IfErr result (λ e. (calls : List Call) → AreTexts (texts_of texts.now) calls
         → KeepsTexts D.Disk.seen D.Disk.may_leave (texts_of texts.now) log
+        → (texts_of texts.now ≡ [] → length (D.Disk.seen (disk_of log)) ≤ most_unbegun)
         → (c : List ℕ) → D.Disk.may_leave e.1 c → Tells calls c) }
     ensures clean { IfOk result (λ new. D.Disk.is_clean (disk_of new) ≡ D.Disk.is_clean (disk_of log)) }
     ensures clean_err { IfErr result (λ e. D.Disk.is_clean e.1 ≡ D.Disk.is_clean (disk_of log)) }
-    ensures unrefused { IfErr result (λ e. (file : List ℕ) → IsRefusal e.0 file) }
+    ensures untitled { IfErr result (λ e. KeepsTexts D.Disk.seen D.Disk.may_leave (texts_of texts.now) log → IsOpen D.Disk.is_usable log → IsUntitled e.0) }
 {
     if !texts.is_empty() {
         return Ok(log);
@@ -84,10 +89,10 @@ fn put_title<D: Disk>(alloc: Global, mut log: Log<D>) -> Result<Log<D>, (KeptFau
     ensures keeps { IfOk result (λ new. KeepsTexts D.Disk.seen D.Disk.may_leave [] log
         → KeepsTexts D.Disk.seen D.Disk.may_leave (store_texts []) new) }
     ensures crash { IfErr result (λ e. KeepsTexts D.Disk.seen D.Disk.may_leave [] log
-        → (c : List ℕ) → D.Disk.may_leave e.1 c → Tells [] c) }
+        → length (D.Disk.seen (disk_of log)) ≤ most_unbegun → (c : List ℕ) → D.Disk.may_leave e.1 c → Tells [] c) }
     ensures clean { IfOk result (λ new. D.Disk.is_clean (disk_of new) ≡ D.Disk.is_clean (disk_of log)) }
     ensures clean_err { IfErr result (λ e. D.Disk.is_clean e.1 ≡ D.Disk.is_clean (disk_of log)) }
-    ensures unrefused { IfErr result (λ e. (file : List ℕ) → IsRefusal e.0 file) }
+    ensures untitled { IfErr result (λ e. KeepsTexts D.Disk.seen D.Disk.may_leave [] log → IsOpen D.Disk.is_usable log → IsUntitled e.0) }
 {
     match title_texts(alloc) {
         Ok(texts) => match log.put(alloc, &texts) {

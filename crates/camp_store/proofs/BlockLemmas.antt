@@ -1,8 +1,8 @@
 -- What files of blocks stand for.
-use Rattle.std.proofs.Common.{◌≡◌, ◌≢◌, ◌⊎◌, inl, inr, ℕ, ◌<◌, ◌-◌, List, [], ◌∷◌, ◌++◌, length, drop, Vec, refl, sym, ◌∙◌, ap, subst, arith, append_assoc, length-append}
-use Rattle.std.proofs.lemmas.List.{append-nil, length-map, map-append}
+use Rattle.std.proofs.Common.{◌≡◌, ◌≢◌, ◌⊎◌, inl, inr, ℕ, ◌<◌, ◌-◌, ◌+◌, List, [], ◌∷◌, ◌++◌, length, take, drop, Vec, refl, sym, ◌∙◌, ap, subst, arith, append_assoc, length-append}
+use Rattle.std.proofs.lemmas.List.{append-nil, length-map, map-append, take-append-drop}
 use Rattle.std.specs.declared.alloc.Global.{Global}
-use Rattle.camp_store.specs.Blocks.{AllFit, AreBlocks, IsBlock, IsEnd, Stands, blocks, body, chain, closed_gate, digest_behind, first_digest, head, open_gate}
+use Rattle.camp_store.specs.Blocks.{AllFit, AreBlocks, Fits, IsBlock, IsEnd, Stands, blocks, body, chain, closed_gate, digest_behind, first_digest, head, open_gate}
 use Rattle.camp_store.specs.Logs.{Keeps, texts_of}
 use Rattle.camp_store.specs.Readings.{DamageIsNoStore, IsDamaged, IsReading}
 use Rattle.camp_store.specs.declared.readings.Reading.{Reading}
@@ -69,6 +69,17 @@ block_pushed before ts text bytes is =
 
 pub texts_of-push : (vs : List (Vec ℕ Global)) (v : Vec ℕ Global) → texts_of (vs ++ v ∷ []) ≡ texts_of vs ++ v.items ∷ []
 texts_of-push vs v = map-append (λ text. text.items) vs (v ∷ [])
+
+-- the texts of a list around one of its texts
+pub around : (vs : List (Vec ℕ Global)) (i : ℕ) (v : Vec ℕ Global) → take (i + 1) vs ≡ take i vs ++ v ∷ [] → texts_of vs ≡ texts_of (take i vs) ++ v.items ∷ texts_of (drop (i + 1) vs)
+around vs i v next =
+    ap texts_of (sym (take-append-drop (i + 1) vs) ∙ ap (λ (l : List (Vec ℕ Global)). l ++ drop (i + 1) vs) next ∙ append_assoc (take i vs) (v ∷ []) (drop (i + 1) vs))
+    ∙ map-append (λ (t : Vec ℕ Global). t.items) (take i vs) (v ∷ drop (i + 1) vs)
+
+-- where all fit, one of them does
+pub fits_between : (ts us : Texts) (text : List ℕ) → AllFit (ts ++ text ∷ us) → Fits text
+fits_between [] us text all = all.0
+fits_between (t ∷ ts) us text all = fits_between ts us text all.1
 
 -- one block
 pub one_block : (before text rest bytes : List ℕ) → IsBlock before text rest bytes → (front : List ℕ) × (bytes ≡ front ++ rest) × AreBlocks before (text ∷ []) front

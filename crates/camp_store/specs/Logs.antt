@@ -1,10 +1,10 @@
 -- A log: texts that are kept in a file.
-use Rattle.std.specs.Prelude.{◌≡◌, ◌⊎◌, ◌<◌, ℕ, Bool, false, not, List, [], ◌∷◌, ◌++◌, length, map, Vec}
+use Rattle.std.specs.Prelude.{◌≡◌, ◌⊎◌, ◌<◌, ◌≤◌, ◌+◌, ◌^◌, ℕ, Bool, false, not, IsTrue, List, [], ◌∷◌, ◌++◌, length, map, Vec}
 use Rattle.std.specs.declared.alloc.Global.{Global}
 use Rattle.sqlite_disk.specs.Disk.{Only}
 use Rattle.camp_store.specs.Blocks.{AllFit, AreBlocks, Stands, blocks, chain, closed_gate, first_digest}
 use Rattle.camp_store.specs.declared.faults.StoreFault.{StoreFault}
-use Rattle.camp_store.specs.declared.faults.StoreFault.TheVariants.{Damaged, Disk, Memory, TooLong}
+use Rattle.camp_store.specs.declared.faults.StoreFault.TheVariants.{Damaged, Disk, Failed, Memory, TooLong}
 use Rattle.camp_store.specs.declared.logs.Log.{Log}
 
 -- texts as a caller holds them
@@ -45,11 +45,40 @@ may_go_on log = not log.has_failed
 abbrev pub KeepsTexts : {D : Type 0} → (D → List ℕ) → (D → List ℕ → Type 0) → List (List ℕ) → Log D → Type 0
 KeepsTexts seen may_leave texts log = Keeps seen may_leave texts log.disk log.length log.digest
 
--- a text is refused before anything is asked of the disk
-abbrev pub IsRefused : StoreFault → Type 0
-IsRefused Memory = Unit {0}
-IsRefused TooLong = Unit {0}
-IsRefused other = ⊥
+-- texts are refused before anything is asked of the disk: memory has run out, or one of them can't stand in a block
+abbrev pub IsRefused : List (List ℕ) → StoreFault → Type 0
+IsRefused texts Memory = Unit {0}
+IsRefused texts TooLong = ¬ (AllFit texts)
+IsRefused texts other = ⊥
+
+-- why no gate could be closed: the disk has failed now; or it had failed before, and may not be used
+abbrev pub IsOfClosing : Bool → StoreFault → Type 0
+IsOfClosing usable (Disk error) = Unit {0}
+IsOfClosing usable Failed = usable ≡ false
+IsOfClosing usable other = ⊥
+
+-- where the blocks of these texts would end, and the gate behind them
+abbrev pub end_with : {D : Type 0} → Log D → List (List ℕ) → ℕ
+end_with log texts = log.length + length (blocks log.digest texts) + 1
+
+-- what is written ends at a byte: where the file had no more than so many bytes, and that byte is none behind them, no
+-- crash leaves more
+abbrev pub StaysWithin : {D : Type 0} → (D → List ℕ) → (D → List ℕ → Type 0) → ℕ → D → D → Type 0
+StaysWithin seen may_leave end old new =
+    (most : ℕ) → length (seen old) ≤ most → end ≤ most → (c : List ℕ) → may_leave new c → length c ≤ most
+
+-- a log has not failed, and its disk may be used
+abbrev pub IsOpen : {D : Type 0} → (D → Bool) → Log D → Type 0
+IsOpen is_usable log = (log.has_failed ≡ false) × IsTrue (is_usable log.disk)
+
+-- why a batch is not put. Memory has run out, or the disk has failed now; TooLong: a text can't stand in a block, or the
+-- file would have no length below 2^64; Failed: that was so before
+abbrev pub IsOfPutting : {D : Type 0} → (D → Bool) → Log D → List (List ℕ) → StoreFault → Type 0
+IsOfPutting is_usable log texts Memory = Unit {0}
+IsOfPutting is_usable log texts (Disk error) = Unit {0}
+IsOfPutting is_usable log texts TooLong = ¬ (AllFit texts) ⊎ (2 ^ 64 ≤ end_with log texts)
+IsOfPutting is_usable log texts (Damaged count at) = ⊥
+IsOfPutting is_usable log texts Failed = ¬ (IsOpen is_usable log)
 
 -- what a batch that is not acknowledged leaves: the log as it was; or, where the disk has failed, one that does not go on
 abbrev pub LeavesAfter : {D : Type 0} → StoreFault → Log D → Log D → Type 0

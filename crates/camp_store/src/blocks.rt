@@ -63,7 +63,7 @@ pub(crate) fn encode(
     ensures bytes { IfOk result (λ r. r.0.items ≡ blocks before.now (texts_of texts.now) ++ closed_gate ∷ []) }
     ensures digest { IfOk result (λ r. r.1 ≡ chain before.now (texts_of texts.now)) }
     ensures fit { IfOk result (λ r. AllFit (texts_of texts.now)) }
-    ensures refused { IfErr result (λ why. IsRefused why) }
+    ensures refused { IfErr result (IsRefused (texts_of texts.now)) }
 {
     let mut bytes = Vec::new(alloc);
     let mut digest = *before;

@@ -1,7 +1,7 @@
 ghost use Rattle.std.specs.Prelude.{◌≡◌, ◌<◌, ◌+◌, ◌-◌, ◌^◌, ◌++◌, List, ℕ, Err, false, length, IfOk, IfErr, IsTrue, OnOk};
 ghost use Rattle.sqlite_disk.specs.Disk.{Only};
 ghost use Rattle.camp_store.specs.Blocks.{Stands, chain};
-ghost use Rattle.camp_store.specs.Logs.{IsBatch, IsBeforeOrAfter, Keeps, texts_of};
+ghost use Rattle.camp_store.specs.Logs.{IsBatch, IsBeforeOrAfter, IsOfClosing, Keeps, StaysWithin, texts_of};
 ghost use Rattle.camp_store.specs.declared.faults.StoreFault.TheVariants as fault;
 ghost use Rattle.camp_store.specs.Readings.{IsReading};
 
@@ -27,6 +27,10 @@ fn close<D: Disk>(disk: &mut D, reading: &Reading) -> Result<(), StoreFault>
     ensures crash { IsReading (D.Disk.seen disk.old) reading.now → Only (D.Disk.seen disk.old) (D.Disk.may_leave disk.old)
         → (c : List ℕ) → D.Disk.may_leave disk.new c → Stands (texts_of reading.now.texts.items) c }
     ensures clean { D.Disk.is_clean disk.new ≡ D.Disk.is_clean disk.old }
+    ensures long { Only (D.Disk.seen disk.old) (D.Disk.may_leave disk.old)
+        → StaysWithin D.Disk.seen D.Disk.may_leave (reading.now.length + 1) disk.old disk.new }
+    ensures usable { OnOk result (IsTrue (D.Disk.is_usable disk.old) → IsTrue (D.Disk.is_usable disk.new)) }
+    ensures fault { IfErr result (IsOfClosing (D.Disk.is_usable disk.old)) }
 {
     if reading.is_closed {
         return Ok(());
@@ -39,7 +43,7 @@ fn close<D: Disk>(disk: &mut D, reading: &Reading) -> Result<(), StoreFault>
 }
 
 impl<D: Disk> Log<D> {
-    ghost use Rattle.camp_store.specs.Logs.{KeepsTexts, LeavesAfter, disk_of, may_go_on};
+    ghost use Rattle.camp_store.specs.Logs.{IsOfPutting, IsOpen, KeepsTexts, LeavesAfter, disk_of, end_with, may_go_on};
 
     /// Goes on with a file that was read. It writes no more than a closed gate behind the texts, where none stands.
     pub fn open(mut disk: D, reading: &Reading) -> Result<Log<D>, (StoreFault, D)>
@@ -50,6 +54,13 @@ impl<D: Disk> Log<D> {
             → (c : List ℕ) → D.Disk.may_leave e.1 c → Stands (texts_of reading.now.texts.items) c) }
         ensures clean { IfOk result (λ log. D.Disk.is_clean (disk_of log) ≡ D.Disk.is_clean disk) }
         ensures clean_err { IfErr result (λ e. D.Disk.is_clean e.1 ≡ D.Disk.is_clean disk) }
+        // It makes a short file no longer than the gate does.
+        ensures long { IfOk result (λ log. Only (D.Disk.seen disk) (D.Disk.may_leave disk)
+            → StaysWithin D.Disk.seen D.Disk.may_leave (reading.now.length + 1) disk (disk_of log)) }
+        ensures long_err { IfErr result (λ e. Only (D.Disk.seen disk) (D.Disk.may_leave disk)
+            → StaysWithin D.Disk.seen D.Disk.may_leave (reading.now.length + 1) disk e.1) }
+        ensures usable { IfOk result (λ log. IsTrue (D.Disk.is_usable disk) → IsOpen D.Disk.is_usable log) }
+        ensures fault { IfErr result (λ e. IsOfClosing (D.Disk.is_usable disk) e.0) }
     {
         match close(&mut disk, reading) {
             Ok(()) => Ok(Log {
@@ -84,8 +95,11 @@ impl<D: Disk> Log<D> {
         // A crash leaves the texts from before the call, with all of the new ones or none.
         ensures crash { (old : List (List ℕ)) → KeepsTexts D.Disk.seen D.Disk.may_leave old self.old
             → (c : List ℕ) → D.Disk.may_leave (disk_of self.new) c → IsBeforeOrAfter old (texts_of texts.now) c }
+        ensures long { (old : List (List ℕ)) → KeepsTexts D.Disk.seen D.Disk.may_leave old self.old
+            → StaysWithin D.Disk.seen D.Disk.may_leave (end_with self.old (texts_of texts.now)) (disk_of self.old) (disk_of self.new) }
         ensures clean { D.Disk.is_clean (disk_of self.new) ≡ D.Disk.is_clean (disk_of self.old) }
         ensures fault { IfErr result (λ why. LeavesAfter why self.old self.new) }
+        ensures refused { IfErr result (IsOfPutting D.Disk.is_usable self.old (texts_of texts.now)) }
         ensures stopped { may_go_on self.old ≡ false → (result ≡ Err fault.Failed) × (self.new ≡ self.old) }
     {
         if self.has_failed || !self.disk.may_be_used() {
@@ -124,6 +138,8 @@ fn write_batch<D: Disk>(disk: &mut D, at: usize, bytes: &[u8]) -> io::Result<()>
     ensures crash { (old new : List (List ℕ)) (digest : List ℕ) → IsBatch digest new bytes.now
         → Keeps D.Disk.seen D.Disk.may_leave old disk.old at digest
         → (c : List ℕ) → D.Disk.may_leave disk.new c → IsBeforeOrAfter old new c }
+    ensures long { Only (D.Disk.seen disk.old) (D.Disk.may_leave disk.old)
+        → StaysWithin D.Disk.seen D.Disk.may_leave (at + length bytes.now) disk.old disk.new }
     ensures clean { D.Disk.is_clean disk.new ≡ D.Disk.is_clean disk.old }
 {
     settle(disk, at + 1, &bytes[1..])?;

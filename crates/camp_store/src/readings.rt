@@ -1,6 +1,6 @@
 ghost use Rattle.std.specs.Prelude.{◌≡◌, List, ℕ, IfErr, IfOk, IsTrue};
 ghost use Rattle.sqlite_disk.specs.Disk.{Only};
-ghost use Rattle.camp_store.specs.Readings.{IsDamage, IsReading};
+ghost use Rattle.camp_store.specs.Readings.{IsDamage, IsOfBytes, IsOfReading, IsReading};
 
 use crate::blocks::{Digest, first_block, is_closed, is_end};
 use crate::disks::read_all;
@@ -26,6 +26,7 @@ pub struct Reading {
 pub fn decode(alloc: Global, bytes: &[u8]) -> Result<Reading, StoreFault>
     ensures reading { IfOk result (λ reading. IsReading bytes.now reading) }
     ensures damaged { IfErr result (λ why. IsDamage why bytes.now) }
+    ensures fault { IfErr result IsOfBytes }
 {
     let mut texts = Vec::new(alloc);
     let mut digest = [0; 32];
@@ -58,6 +59,7 @@ pub fn read<D: Disk>(alloc: Global, disk: &mut D) -> Result<Reading, StoreFault>
     ensures usable { IfOk result (λ _. IsTrue (D.Disk.is_usable disk.new)) }
     ensures reading { IfOk result (λ reading. IsTrue (D.Disk.is_clean disk.new) → IsReading (D.Disk.seen disk.old) reading) }
     ensures damaged { IsTrue (D.Disk.is_clean disk.new) → IfErr result (λ why. IsDamage why (D.Disk.seen disk.old)) }
+    ensures fault { IfErr result (IsOfReading (D.Disk.is_usable disk.old)) }
     ensures seen { D.Disk.seen disk.new ≡ D.Disk.seen disk.old }
     ensures crash { (c : List ℕ) → D.Disk.may_leave disk.new c → D.Disk.may_leave disk.old c }
     ensures settled { IfOk result (λ _. Only (D.Disk.seen disk.new) (D.Disk.may_leave disk.new)) }

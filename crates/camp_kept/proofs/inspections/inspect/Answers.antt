@@ -7,7 +7,7 @@ use Rattle.camp_kept.proofs.inspections.inspect.Goals as goal
 
 pub returns-in_err-reading-clause-refused : goal.returns-in_err-reading-clause-refused
 returns-in_err-reading-clause-refused c =
-    refused_at_once c.from_residual.result c.in_err-reading.field-0.0 c.args.bytes.now c.from_residual.ensures.1 c.in_err-reading.ensures.damaged
+    refused_at_once c.from_residual.result c.in_err-reading.field-0.0 c.args.bytes.now c.from_residual.ensures.1 c.in_err-reading.ensures.fault c.in_err-reading.ensures.damaged
 
 pub returns-clause-told : goal.returns-clause-told
 returns-clause-told c = record {
@@ -16,5 +16,5 @@ returns-clause-told c = record {
   are = c.in_ok-book.ensures.recalled.are;
   count_is = ap length c.history.ensures.value ∙ counted c.in_ok-book.book;
   digest_is = c.in_ok-reading.ensures.reading.digest_is;
-  leaves = c.left_out.ensures c.args.bytes.now c.in_ok-reading.ensures.reading;
+  leaves = c.left_out.ensures c.args.bytes.now c.in_ok-reading.ensures.reading c.in_ok-book.ensures.short;
 }

@@ -10,7 +10,15 @@ returns-clause-crash g c =
     let zero : length c.args.texts.now ≡ 0 = search rules in
     let none : texts_of c.args.texts.now ≡ [] = ap texts_of (nothing c.args.texts.now zero) in
     if_err _ _ c.put_title.result
-    (λ e crash calls are keeps f now.
+    (λ e crash calls are keeps short f now.
     subst (λ l. Tells l f) (sym (no_calls calls (subst (λ ts. AreTexts ts calls) none are)))
-    (crash (subst (λ ts. KeepsTexts g.D.Disk.seen g.D.Disk.may_leave ts c.args.log) none keeps) f now))
+    (crash (subst (λ ts. KeepsTexts g.D.Disk.seen g.D.Disk.may_leave ts c.args.log) none keeps) (short none) f now))
     c.put_title.ensures.crash
+
+pub returns-clause-untitled : goal.returns-clause-untitled
+returns-clause-untitled g c =
+    let zero : length c.args.texts.now ≡ 0 = search rules in
+    let none : texts_of c.args.texts.now ≡ [] = ap texts_of (nothing c.args.texts.now zero) in
+    if_err _ _ c.put_title.result
+    (λ e untitled keeps may. untitled (subst (λ ts. KeepsTexts g.D.Disk.seen g.D.Disk.may_leave ts c.args.log) none keeps) may)
+    c.put_title.ensures.untitled

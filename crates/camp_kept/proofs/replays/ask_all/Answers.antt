@@ -2,11 +2,11 @@ use Rattle.std.proofs.Common.{rules, ◌≡◌, ◌+◌, ◌∙◌, true, false,
 use Rattle.std.proofs.lemmas.List.{take_more}
 use Rattle.camp_kept.specs.Keeping.{title}
 use Rattle.camp_kept.specs.Replaying.{AreAsked, AsksAgain}
-use Rattle.camp_kept.proofs.Recalling.{around, asked_more}
+use Rattle.camp_kept.proofs.Recalling.{asked_more}
 use Rattle.camp_kept.proofs.Refusing.{not_accepted}
 use Rattle.camp_store.specs.Blocks.{Stands}
 use Rattle.camp_store.specs.Logs.{texts_of}
-use Rattle.camp_store.proofs.BlockLemmas.{texts_of-push}
+use Rattle.camp_store.proofs.BlockLemmas.{around, texts_of-push}
 use Rattle.camp_kept.proofs.replays.ask_all.Goals as goal
 
 pub returns-then-not-branch-clause-refused : goal.returns-then-not-branch-clause-refused

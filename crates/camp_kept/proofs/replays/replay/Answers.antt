@@ -8,12 +8,12 @@ use Rattle.camp_store.specs.Logs.{texts_of}
 use Rattle.camp_kept.proofs.replays.replay.Goals as goal
 
 pub returns-then-not-is_title-clause-refused : goal.returns-then-not-is_title-clause-refused
-returns-then-not-is_title-clause-refused c file stands others titled =
+returns-then-not-is_title-clause-refused c file stands =
     let first = c.in-Some.first.now in
     let e : texts_of c.args.texts.now ≡ first.items ∷ texts_of c.in-Some.others.now = ap texts_of c.in-Some.ensures.cases.0 in
     let no : c.is_title.result ≡ false = search rules in
     let other : first.items ≢ title = λ is. true≢false (sym (c.is_title.ensures.1 (c.deref.ensures.value ∙ is)) ∙ no) in
-    another_title first.items (texts_of c.in-Some.others.now) other file (subst (λ ts. Stands ts file) e stands) others titled
+    another_title first.items (texts_of c.in-Some.others.now) other file (subst (λ ts. Stands ts file) e stands)
 
 pub returns-clause-recalled : goal.returns-clause-recalled
 returns-clause-recalled c =

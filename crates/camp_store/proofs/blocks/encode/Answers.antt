@@ -1,8 +1,8 @@
-use Rattle.std.proofs.Common.{rules, ◌≡◌, ◌+◌, [], ◌∷◌, ◌++◌, length, take, sym, subst, ap, ◌∙◌}
+use Rattle.std.proofs.Common.{rules, ◌≡◌, ◌+◌, [], ◌∷◌, ◌++◌, length, take, drop, sym, subst, ap, ◌∙◌}
 use Rattle.std.proofs.lemmas.List.{take_more}
 use Rattle.camp_store.specs.Blocks.{AllFit, Fits, blocks, chain, digest_behind, head, open_gate}
 use Rattle.camp_store.specs.Logs.{texts_of}
-use Rattle.camp_store.proofs.BlockLemmas.{block_pushed, chain-append, fit-append, texts_of-push}
+use Rattle.camp_store.proofs.BlockLemmas.{around, block_pushed, chain-append, fit-append, fits_between, texts_of-push}
 use Rattle.camp_store.proofs.blocks.encode.Goals as goal
 
 pub loop-text-preserved : goal.loop-text-preserved
@@ -28,3 +28,12 @@ loop-text-preserved c =
       digest ∙ sym (chain-append before ts (x.items ∷ [])) ∙ ap (λ l. chain before l) (sym texts),
       subst AllFit (sym texts) (fit-append ts (x.items ∷ []) c.loop-text.invariant.2 (fits, tt)),
     )
+
+pub returns-in_default-clause-refused : goal.returns-in_default-clause-refused
+returns-in_default-clause-refused c all =
+    let xs = c.args.texts.now in
+    let i = c.loop-text.text-index in
+    let x = c.text-item.result in
+    let next : take (i + 1) xs ≡ take i xs ++ x ∷ [] = search (rules, take_more) in
+    let fits : Fits x.items = fits_between (texts_of (take i xs)) (texts_of (drop (i + 1) xs)) x.items (subst AllFit (around xs i x next) all) in
+    search (rules, fits)

@@ -1,4 +1,4 @@
-use Rattle.std.proofs.Common.{IfErr, sym, ◌∙◌, subst}
+use Rattle.std.proofs.Common.{IfErr, ◌∙◌, subst}
 use Rattle.camp_store.specs.Readings.{IsDamage}
 use Rattle.camp_store.proofs.readings.read.Goals as goal
 
