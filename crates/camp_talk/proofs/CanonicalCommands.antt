@@ -1,5 +1,5 @@
 -- The canonical text of a call is a command, which asks just this call; and no other command stands before it.
-use Rattle.camp_talk.proofs.Words.{◌≡◌, ℕ, suc, ◌+◌, ◌≤◌, Bool, true, false, cond, ◌==◌, nat_lt, List, [], ◌∷◌, ◌++◌, length, length-append, map, drop, codes, Result, Ok, Err, refl, sym, ap, subst, ◌∙◌, arith, append_assoc, append-nil, map-append, length-map, ⊎_elim, cases_Bool, bytes_eq, flat_map, onto_first, lines-feed, lines-other, Call, LineFault, lines_of, words_of, begins_with, begins_edit, script_of_lines, IsCommand, IsLeft, TakesAll, as_read, body_of, call_line, call_lines, ends_body, ends_group, entries_of, group_of, lines_in, script_in, taken, taken_by, asked_by, asked_of, first_of, Asked}
+use Rattle.camp_talk.proofs.Words.{◌≡◌, ℕ, suc, ◌+◌, ◌≤◌, Bool, true, false, cond, ◌==◌, nat_lt, List, [], ◌∷◌, ◌++◌, length, length-append, map, drop, codes, Result, Ok, refl, sym, ap, subst, ◌∙◌, arith, append_assoc, append-nil, map-append, length-map, ⊎_elim, cases_Bool, flat_map, onto_first, lines-feed, lines-other, Call, LineFault, lines_of, words_of, begins_with, begins_edit, script_of_lines, IsCommand, IsLeft, TakesAll, as_read, body_of, call_line, ends_body, group_of, lines_in, script_in, taken, taken_by, asked_by, asked_of, first_of}
 use Rattle.std.specs.List.{AllByRecursion, join_with_byte}
 use Rattle.std.proofs.lemmas.Bool.{cond-true}
 use Rattle.std.proofs.lemmas.Bool.Decides.{nat_tests}
@@ -10,7 +10,7 @@ use Rattle.camp_prim.specs.declared.primitives.Primitive.TheVariants.{Add, Remov
 use Rattle.camp_script.specs.Behind.{behind_word}
 use Rattle.camp_script.specs.Canonical.{IsChange, IsScriptCall, call_text, change_head}
 use Rattle.camp_script.specs.Pieces.{begins_group}
-use Rattle.camp_script.proofs.CanonicalLines.{AreWords, words_of-joined}
+use Rattle.camp_script.proofs.CanonicalLines.{words_of-joined}
 use Rattle.camp_script.proofs.CalledLines.{FirstIs, body_lines, change_lines, ends_called, first_alone, first_words_of, head_are, lines_behind, lines_called, record_rest, record_words, regrouped_lines, text_reads, words_called}
 use Rattle.camp_talk.specs.Asking.{asked_with}
 use Rattle.camp_talk.specs.Laws.{IsReadWhole}

@@ -1,5 +1,5 @@
 -- An answer tells of failure exactly where its command has a fault, it was refused, or memory ran out.
-use Rattle.camp_talk.proofs.Words.{◌≡◌, ◌⊎◌, inl, inr, ℕ, Bool, true, false, List, [], ◌∷◌, ◌++◌, Option, None, Some, Result, Ok, Err, codes, refl, sym, ap, subst, ◌∙◌, true≢false, LineFault, reply_text, Answers, Standing, Tells, asked_by, Entries, tells_failure, Asked}
+use Rattle.camp_talk.proofs.Words.{◌≡◌, inl, inr, ℕ, true, false, List, Option, None, Some, Result, Ok, Err, refl, sym, ap, subst, ◌∙◌, true≢false, LineFault, reply_text, Standing, Tells, asked_by, Entries, tells_failure, Asked}
 use Rattle.std.specs.Prelude.{◌↔◌}
 use Rattle.camp_base.specs.Trees.{Lines}
 use Rattle.camp_call.specs.declared.replies.Refusal.{Refusal}
@@ -97,6 +97,7 @@ asked_fails before (Err fault) text now tells = (λ e. tt, λ w. ap tells_failur
 asked_fails before (Ok asked.Nothing) text now tells = (λ e. true≢false (sym e ∙ ap tells_failure tells.0), λ w. absurd w)
 asked_fails before (Ok (asked.Call call)) text now tells = subst Refuses (sym tells.tells) (reply_fails tells.reply)
 asked_fails before (Ok (asked.Question q)) text now tells = question_fails before.history tells.0.0 q text tells.0.2
+asked_fails before (Ok asked.Why) text now tells = (λ e. true≢false (sym e ∙ ap tells_failure tells.0), λ w. absurd w)
 
 pub failures_are_told : FailuresAreTold
 failures_are_told before command text after answers = elim answers.tells [

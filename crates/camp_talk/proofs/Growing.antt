@@ -23,6 +23,7 @@ tells_grow before (Err fault) text now tells = front_same before.history now tel
 tells_grow before (Ok asked.Nothing) text now tells = front_same before.history now tells.1
 tells_grow before (Ok (asked.Call call)) text now replies = replies.asks.grows
 tells_grow before (Ok (asked.Question question)) text now tells = front_same before.history now tells.1
+tells_grow before (Ok asked.Why) text now tells = front_same before.history now tells.1
 
 grows_so : (before : Standing) (command text : List ℕ) (now : Entries) → Tells before (asked_by command) text now ⊎ TellsWant before command text now → IsFront before.history now
 grows_so before command text now (inl tells) = tells_grow before (asked_by command) text now tells
@@ -40,14 +41,14 @@ follow_grow first (exchange ∷ said) last (next, command, answers, follow) =
 request_grows : (before : Entries) (request answer : List ℕ) (now : Entries) → AnswersRequest before request answer now → IsFront before now
 request_grows before request answer now answers =
     subst (λ (l : Entries). IsFront before l) (sym answers.same)
-    (front_front (follow_grow (record { history = before; lines = 0 }) answers.said answers.middle answers.follow)
+    (front_front (follow_grow (record { history = before; lines = 0; cause = [] }) answers.said answers.middle answers.follow)
     (answers_grow answers.middle answers.last.command answers.last.answer answers.after answers.answers))
 
 some_grow : (before : Entries) (request answer : List ℕ) (now : Entries) → AnswersSome before request answer now → IsFront before now
 some_grow before request answer now some = ends some.leaves
   where
     so_far : IsFront before some.middle.history
-    so_far = follow_grow (record { history = before; lines = 0 }) some.said some.middle some.follow
+    so_far = follow_grow (record { history = before; lines = 0; cause = [] }) some.said some.middle some.follow
 
     ends : ((now ≡ some.middle.history) × (some.front ≡ [])) ⊎ AsksOneMore some.middle some.rest some.front now → IsFront before now
     ends (inl still) = subst (λ (l : Entries). IsFront before l) (sym still.0) so_far

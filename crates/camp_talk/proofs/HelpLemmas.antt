@@ -31,6 +31,7 @@ of_command topic.File all refusals refusal = refl
 of_command topic.Branches all refusals refusal = refl
 of_command topic.Graph all refusals refusal = refl
 of_command topic.WhatIf all refusals refusal = refl
+of_command topic.Why all refusals refusal = refl
 of_command topic.History all refusals refusal = refl
 of_command topic.Keep all refusals refusal = refl
 of_command topic.Help all refusals refusal = refl

@@ -11,6 +11,7 @@ pub mod HelpLemmas
 pub mod LineReads
 pub mod Loading
 pub mod LoadingKept
+pub mod NotDone
 pub mod PairLemmas
 pub mod Parts
 pub mod QuestionWords
@@ -21,3 +22,4 @@ pub mod ToldLemmas
 pub mod TurnLemmas
 pub mod Turns
 pub mod ViewLemmas
+pub mod Whys

@@ -24,6 +24,7 @@ module _ (before : Standing) (text : List ℕ) (now : Entries) (fails : tells_fa
   by_asked (Ok asked.Nothing) tells = tells.1
   by_asked (Ok (asked.Call call)) tells = by_reply call tells.reply tells.tells tells.asks
   by_asked (Ok (asked.Question question)) tells = tells.1
+  by_asked (Ok asked.Why) tells = tells.1
 
 pub failure_keeps : (before : Standing) (asked : Result Asked LineFault) (text : List ℕ) (now : Entries)
     → Tells before asked text now → tells_failure text ≡ true → now ≡ before.history
@@ -68,10 +69,10 @@ module _ {a b : Option (List ℕ)} {before after : Standing} where
           whole = whole;
           command = hears.command;
           reads = hears.reads;
-          tells = hears.says;
+          tells = hears.says.0;
           failure = failure;
           at = at;
-          same = failure_keeps before (asked_by hears.command) text.items after.history hears.says failure;
+          same = failure_keeps before (asked_by hears.command) text.items after.history hears.says.0 failure;
         }
 
     pub one_wants : {said : Result (Vec ℕ Z) E} {whole : Bool} {line : ℕ} {error : E} → Hears a b before whole said after → said ≡ Err error

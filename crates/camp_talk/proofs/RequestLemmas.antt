@@ -13,7 +13,7 @@ asked_one left rest false command (reads, is, ends) = inr (is, ends)
 
 module _ (history : Entries) (request left rest old held new : List ℕ) (middle last : Standing) where
   abbrev first : Standing
-  first = record { history = history; lines = 0 }
+  first = record { history = history; lines = 0; cause = [] }
 
   -- behind the last command
   pub request_answered : Holds (Some request) (Some left) (Some old) (Some held) first middle

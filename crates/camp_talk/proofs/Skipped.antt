@@ -1,5 +1,5 @@
 -- A line that is skipped asks nothing, and takes no other with it.
-use Rattle.camp_talk.proofs.Words.{◌≡◌, ℕ, ◌==◌, Bool, true, false, true≢false, cond, List, [], ◌∷◌, codes, Ok, refl, sym, ap, ◌∙◌, eqb-true, bytes_eq, begins_with, is_skipped, words_of, script_of_lines, asked_of, first_of, call_line, TakesAll, taken, taken_by}
+use Rattle.camp_talk.proofs.Words.{◌≡◌, ℕ, ◌==◌, true, false, true≢false, cond, List, [], ◌∷◌, codes, Ok, refl, sym, ap, ◌∙◌, eqb-true, bytes_eq, begins_with, is_skipped, words_of, script_of_lines, asked_of, first_of, call_line, TakesAll, taken, taken_by}
 use Rattle.std.specs.Prelude.{slice_index}
 use Rattle.camp_script.proofs.Agreement.{reads_as_defined}
 use Rattle.camp_script.specs.Behind.{behind_word}

@@ -1,37 +1,57 @@
 -- Turns of a conversation, one behind another.
-use Rattle.camp_talk.proofs.Words.{refl, sym, ap, subst, ◌∙◌, ◌≢◌, ⊎_elim, cases_Bool, append-nil, flat_map, flat_map-append, Gives, lines_of, LineFault, ScriptFault, Answers, Standing, Tells, TellsWant, asked_by, IsCommand, IsLeft, Entries, IsReading, IsSaid, IsWriting, is_silent, said_text, Asked, ◌≡◌, ◌≤◌, ◌⊎◌, inl, inr, ℕ, ◌+◌, ◌^◌, true, List, [], ◌∷◌, ◌++◌, length, Option, Result, Ok, Err, Vec, IfOk, OnErr, Appends, Consumes, Appends-nil, Appends-trans, Consumes-nil, Consumes-trans, Exchange, Exchanges, Follow, Holds, ReadsNone, ReadsTooMuch, ReadsWithin, Stops, Turns}
+use Rattle.camp_talk.proofs.Words.{refl, sym, ap, subst, ◌∙◌, ◌≢◌, ⊎_elim, cases_Bool, append-nil, flat_map, flat_map-append, Gives, lines_of, LineFault, ScriptFault, Answers, Standing, Tells, TellsWant, asked_by, IsCommand, IsLeft, Entries, IsReading, IsSaid, IsWriting, Learns, LearnsOf, lines_in, is_silent, said_text, Asked, ◌≡◌, ◌≤◌, ◌⊎◌, inl, inr, ℕ, ◌+◌, ◌^◌, Bool, true, false, List, [], ◌∷◌, ◌++◌, length, Option, Result, Ok, Err, Vec, IfOk, OnErr, Appends, Consumes, Appends-nil, Appends-trans, Consumes-nil, Consumes-trans, Exchange, Exchanges, Follow, Holds, ReadsNone, ReadsTooMuch, ReadsWithin, Stops, Turns}
 use Rattle.std.specs.Io.KnownBytes.{Keeps}
+use Rattle.camp_talk.specs.Answers.{LearnsAt}
+use Rattle.camp_talk.specs.Inside.Hearing.{LearnsWith}
+use Rattle.camp_talk.specs.Whys.{is_failure}
 use Rattle.camp_talk.specs.declared.faults.TalkFault.{TalkFault}
 use Rattle.camp_talk.specs.declared.questions.Asked.TheVariants.{Nothing}
 use Rattle.camp_talk.specs.declared.faults.TalkFault.TheVariants.{Internal, Memory, Read, Write}
 
+-- what is kept by the lines of a command is what is kept of it
+learns_so : (before : Standing) (command text cause : List ℕ) (fails : Bool)
+    → LearnsWith fails before (lines_in command) (asked_by command) text cause → LearnsAt fails before command text cause
+learns_so before command text cause true learns = learns
+learns_so before command text cause false learns = learns
+
 -- what is said is what a command is answered
-module _ {Z E : Type 0} (before : Standing) (now : Entries) (command : List ℕ) (asked : Result Asked ScriptFault)
-    (gives : Gives asked (asked_by command)) where
+module _ {Z E : Type 0} (before : Standing) (now : Entries) (cause command : List ℕ) (lines : List (List ℕ))
+    (asked : Result Asked ScriptFault) (gives : Gives asked (asked_by command)) (same : lines ≡ lines_in command) where
   pub said_so : (said : Result (Vec ℕ Z) E)
       → IfOk said (λ text. (reading : Result Asked LineFault) → Gives asked reading
       → Tells before reading text.items now)
-      → OnErr said (now ≡ before.history) → OnErr said (asked ≢ Ok Nothing)
-      → (is_silent command ≡ true → asked ≡ Ok Nothing) → IsSaid before command said now
-  said_so (Ok text) tells kept something silent = tells (asked_by command) gives
-  said_so (Err error) tells kept something silent =
-      (⊎_elim (λ is. absurd (something (silent is))) (λ says. says) (cases_Bool (is_silent command)), kept)
+      → IfOk said (λ text. (reading : Result Asked LineFault) → Gives asked reading
+      → LearnsOf before lines reading text.items cause)
+      → OnErr said (now ≡ before.history) → OnErr said (cause ≡ before.cause) → OnErr said (asked ≢ Ok Nothing)
+      → (is_silent command ≡ true → asked ≡ Ok Nothing) → IsSaid before command said now cause
+  said_so (Ok text) tells learns kept stays something silent = (
+    tells (asked_by command) gives,
+    learns_so before command text.items cause (is_failure text.items)
+        (subst (λ (ls : List (List ℕ)). LearnsOf before ls (asked_by command) text.items cause) same (learns (asked_by command) gives)),
+  )
+  said_so (Err error) tells learns kept stays something silent =
+      (⊎_elim (λ is. absurd (something (silent is))) (λ says. says) (cases_Bool (is_silent command)), kept, stays)
 
 module _ {Z E : Type 0} (before after : Standing) (command : List ℕ) where
-  answered_by : (said : Result (Vec ℕ Z) E) → IsSaid before command said after.history
+  answered_by : (said : Result (Vec ℕ Z) E) → IsSaid before command said after.history after.cause
       → Tells before (asked_by command) (said_text said) after.history ⊎ TellsWant before command (said_text said) after.history
-  answered_by (Ok text) says = inl says
+  answered_by (Ok text) says = inl says.0
   answered_by (Err error) says = inr (says.0, refl, says.1)
 
-  pub answered : (said : Result (Vec ℕ Z) E) → IsSaid before command said after.history
+  learned_by : (said : Result (Vec ℕ Z) E) → IsSaid before command said after.history after.cause
+      → Learns before command (said_text said) after.cause
+  learned_by (Ok text) says = says.1
+  learned_by (Err error) says = says.2
+
+  pub answered : (said : Result (Vec ℕ Z) E) → IsSaid before command said after.history after.cause
       → after.lines ≡ before.lines + length (lines_of command) → Answers before command (said_text said) after
-  answered said says counts = record { tells = answered_by said says; counts = counts }
+  answered said says counts = record { tells = answered_by said says; counts = counts; learns = learned_by said says }
 
-abbrev pub at_lines : ℕ → Entries → Standing
-at_lines lines history = record { history = history; lines = lines }
+abbrev pub at_lines : ℕ → Entries → List ℕ → Standing
+at_lines lines history cause = record { history = history; lines = lines; cause = cause }
 
-pub same_standing : (lines : ℕ) (a b : Entries) → a ≡ b → at_lines lines a ≡ at_lines lines b
-same_standing lines a b same = ap (at_lines lines) same
+pub same_standing : (lines : ℕ) (a b : Entries) (c d : List ℕ) → a ≡ b → c ≡ d → at_lines lines a c ≡ at_lines lines b d
+same_standing lines a b c d same kept = (λ j. at_lines lines (same j) (kept j))
 
 -- no command was read
 module _ (a b : Option (List ℕ)) (before : Standing) where

@@ -17,11 +17,11 @@ pub use Rattle.camp_script.specs.Reading.{script_of, script_of_lines}
 pub use Rattle.camp_script.specs.Texts.{name_text, reply_text}
 pub use Rattle.camp_script.specs.declared.faults.LineFault.{LineFault}
 pub use Rattle.camp_script.specs.declared.faults.ScriptFault.{ScriptFault}
-pub use Rattle.camp_talk.specs.Answers.{Answers, Standing, Tells, TellsWant, is_silent}
+pub use Rattle.camp_talk.specs.Answers.{Answers, Learns, Standing, Tells, TellsWant, is_silent}
 pub use Rattle.camp_talk.specs.Asking.{asked_by, asked_of, first_of, question_of, short_question}
 pub use Rattle.camp_talk.specs.Cutting.{IsCommand, IsLeft, TakesAll, as_read, body_of, call_line, call_lines, ends_body, ends_group, entries_of, entry_lines, group_of, lines_in, script_in, taken, taken_at, taken_by}
 pub use Rattle.camp_talk.specs.Entries.{Entries}
-pub use Rattle.camp_talk.specs.Inside.Hearing.{DoesOne, Hears, IsSaid, LoadsOne}
+pub use Rattle.camp_talk.specs.Inside.Hearing.{DoesOne, Hears, IsSaid, LearnsOf, LoadsOne}
 pub use Rattle.camp_talk.specs.Inside.Parts.{Ends, EndsAt, IsLine, IsLonger, IsReading, ReadsHeld, ReadsLine, ReadsLines, ReadsPart, StopsAtLine, StopsIn, Takes, ended, entry_part, feed_of, last_part, last_seen, seen_of, with_last}
 pub use Rattle.camp_talk.specs.Inside.Said.{IsNotWriting, IsWriting, said_text}
 pub use Rattle.camp_talk.specs.Loads.{Done, Fails, TellsSuccess, Wants, tells_failure}

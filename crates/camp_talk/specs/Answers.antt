@@ -1,10 +1,12 @@
 -- What answers a command, by where a conversation stands.
-use Rattle.std.specs.Prelude.{◌≡◌, ◌⊎◌, ℕ, ◌+◌, Bool, false, List, [], ◌++◌, length, Result, Ok, Err, codes}
+use Rattle.std.specs.Prelude.{◌≡◌, ◌⊎◌, ℕ, ◌+◌, Bool, true, false, List, [], ◌++◌, length, Some, Result, Ok, Err, codes}
 use Rattle.std.specs.Fmt.{decimal}
 use Rattle.camp_call.specs.declared.calls.Call.{Call}
 use Rattle.camp_call.specs.declared.replies.Reply.{Reply}
 use Rattle.camp_object.specs.Asking.{Ask, alone_at}
+use Rattle.camp_object.specs.Histories.{replay}
 use Rattle.camp_repo.specs.Objects.{repository}
+use Rattle.camp_repo.specs.States.{Contents}
 use Rattle.camp_script.specs.Faults.{kind_words}
 use Rattle.camp_script.specs.Lines.{is_skipped, lines_of, words_of}
 use Rattle.camp_script.specs.Texts.{reply_text}
@@ -14,13 +16,16 @@ use Rattle.camp_talk.specs.Asking.{asked_by, first_of}
 use Rattle.camp_talk.specs.Cutting.{lines_in}
 use Rattle.camp_talk.specs.Entries.{Entries}
 use Rattle.camp_talk.specs.Told.{TellsQuestion}
+use Rattle.camp_talk.specs.Whys.{cause_of, is_failure, why_told}
 use Rattle.camp_talk.specs.declared.questions.Asked.{Asked}
 use Rattle.camp_talk.specs.declared.questions.Asked.TheVariants as asked
 
--- where a conversation stands: the calls that were accepted, and how many lines were read
+-- where a conversation stands: the calls that were accepted, how many lines were read, and the lines that tell the cause
+-- of the last fault or refusal; none, where there was none
 pub record Standing : Type 0 where
   pub history : Entries
   pub lines : ℕ
+  pub cause : List ℕ
 
 -- the answer to a command with a fault: its line, and what is wrong with it
 abbrev pub fault_text : ℕ → FaultKind → List ℕ
@@ -37,12 +42,25 @@ pub record Replies (seen : Entries) (call : Call) (text : List ℕ) (now : Entri
   pub tells : text ≡ reply_text reply
 
 -- what is asked is answered: a fault, by its line, counted from the beginning of the conversation; nothing, where
--- nothing is asked; a call, by its reply; a question, by what it is told. Only a call can lengthen the history.
+-- nothing is asked; a call, by its reply; a question, by what it is told; `why`, by the cause of the last
+-- fault or refusal. Only a call can lengthen the history.
 abbrev pub Tells : Standing → Result Asked LineFault → List ℕ → Entries → Type 0
 Tells before (Err fault) text now = (text ≡ fault_text (before.lines + fault.line) fault.kind) × (now ≡ before.history)
 Tells before (Ok asked.Nothing) text now = (text ≡ []) × (now ≡ before.history)
 Tells before (Ok (asked.Call call)) text now = Replies before.history call text now
 Tells before (Ok (asked.Question question)) text now = TellsQuestion before.history question text × (now ≡ before.history)
+Tells before (Ok asked.Why) text now = (text ≡ why_told before.cause) × (now ≡ before.history)
+
+-- what is kept for `why`: of an answer that is a fault or a refusal its cause, at the state that the command met; and
+-- behind any other what was kept before
+abbrev pub LearnsAt : Bool → Standing → List ℕ → List ℕ → List ℕ → Type 0
+LearnsAt true before command text cause =
+    (state : Contents) × (replay repository before.history ≡ Some state) × (cause ≡ cause_of before.cause state command text)
+LearnsAt false before command text cause = cause ≡ before.cause
+
+-- by the text of the answer
+abbrev pub Learns : Standing → List ℕ → List ℕ → List ℕ → Type 0
+Learns before command text cause = LearnsAt (is_failure text) before command text cause
 
 -- whether a command asks nothing, by its first line: that is blank, or a comment, or there is none
 abbrev pub is_silent : List ℕ → Bool
@@ -52,7 +70,9 @@ is_silent command = is_skipped (words_of (first_of (lines_in command)))
 abbrev pub TellsWant : Standing → List ℕ → List ℕ → Entries → Type 0
 TellsWant before command text now = (is_silent command ≡ false) × (text ≡ memory_text) × (now ≡ before.history)
 
--- a command is answered: what it asks is, unless memory ran out; and its lines were read
+-- a command is answered: what it asks is, unless memory ran out; its lines were read; and where it was not done, the
+-- cause is kept
 pub record Answers (before : Standing) (command text : List ℕ) (after : Standing) : Type 0 where
   pub tells : Tells before (asked_by command) text after.history ⊎ TellsWant before command text after.history
   pub counts : after.lines ≡ before.lines + length (lines_of command)
+  pub learns : Learns before command text after.cause

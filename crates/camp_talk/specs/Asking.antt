@@ -1,5 +1,5 @@
--- What a command asks: nothing, a call, or a question.
-use Rattle.std.specs.Prelude.{ℕ, List, [], ◌∷◌, Option, None, Some, Result, Ok, bytes_eq, codes, if◌then◌else◌}
+-- What a command asks: nothing, a call, a question, or the cause of the last fault or refusal.
+use Rattle.std.specs.Prelude.{ℕ, List, [], ◌∷◌, Option, None, Some, Result, Ok, Bool, ◌||◌, bytes_eq, codes, if◌then◌else◌}
 use Rattle.camp_call.specs.declared.calls.Call.{Call}
 use Rattle.camp_talk.specs.Cutting.{lines_in, script_in}
 use Rattle.camp_script.specs.Faults.{fault_at}
@@ -88,10 +88,11 @@ patch_topic word =
 abbrev pub other_topic : List ℕ → Option Topic
 other_topic word =
     if bytes_eq word (codes "whatif") then Some topic.WhatIf
+    else (if bytes_eq word (codes "why") then Some topic.Why
     else (if bytes_eq word (codes "history") then Some topic.History
     else (if bytes_eq word (codes "keep") then Some topic.Keep
     else (if bytes_eq word (codes "help") then Some topic.Help
-    else None)))
+    else None))))
 
 -- the first topic that there is, or the fault of a word that begins no command
 abbrev pub topic_of : List (Option Topic) → Result Topic LineFault
@@ -227,12 +228,21 @@ abbrev pub question_or_call : Result (List (List Call)) LineFault → Option Que
 question_or_call script None = script >>= asked_in
 question_or_call script (Some question) = Ok (asked.Question question)
 
+-- whether a word asks for the cause of the last fault or refusal; where CR before LF is that cause, it has CR too
+abbrev pub is_why : List ℕ → Bool
+is_why word = bytes_eq word (codes "why") || bytes_eq word (codes "why\r")
+
+-- that it is asked, where no word stands behind
+abbrev pub why_of : List (List ℕ) → Result Asked LineFault
+why_of words = no_words 1 words >>= λ none. Ok asked.Why
+
 -- what is asked by the words of a first line, and the script that the call of the command is
 abbrev pub asked_with : List (List ℕ) → Result (List (List Call)) LineFault → Result Asked LineFault
 asked_with [] script = script >>= asked_in
 asked_with (word ∷ words) script =
     if bytes_eq word (codes "whatif") then (script >>= foreseen_in)
-    else question_of word words >>= question_or_call script
+    else (if is_why word then why_of words
+    else (question_of word words >>= question_or_call script))
 
 -- the first of some lines; an empty one, where there is none
 abbrev pub first_of : List (List ℕ) → List ℕ

@@ -11,7 +11,7 @@ abbrev pub commands : List Topic
 commands =
     topic.Branch ∷ topic.Record ∷ topic.Pull ∷ topic.Obliterate ∷ topic.Tree ∷ topic.Conflicts ∷ topic.Names
     ∷ topic.Branches ∷ topic.File ∷ topic.Needs ∷ topic.Held ∷ topic.Missing ∷ topic.Along ∷ topic.Show
-    ∷ topic.Annotate ∷ topic.Open ∷ topic.Side ∷ topic.Marks ∷ topic.Graph ∷ topic.WhatIf ∷ topic.History ∷ topic.Keep ∷ topic.Help ∷ []
+    ∷ topic.Annotate ∷ topic.Open ∷ topic.Side ∷ topic.Marks ∷ topic.Graph ∷ topic.WhatIf ∷ topic.Why ∷ topic.History ∷ topic.Keep ∷ topic.Help ∷ []
 
 -- how a command is written, and what it does, in a line for each of its forms
 abbrev pub summary : Topic → List ℕ
@@ -44,6 +44,7 @@ summary topic.Side = page (codes "side BRANCH NAME: the changes that a patch in 
 summary topic.Marks = page (codes "marks BRANCH PATH: a file with the open sides of its conflicts" ∷ [])
 summary topic.Graph = page (codes "graph BRANCH [NAME ..]: how the patches hang together, for Graphviz" ∷ [])
 summary topic.WhatIf = page (codes "whatif COMMAND: what a command would be answered; nothing changes" ∷ [])
+summary topic.Why = page (codes "why: the cause of the last fault or refusal, and what can be done" ∷ [])
 summary topic.History = page (codes "history: the accepted commands" ∷ [])
 summary topic.Keep = page (codes "keep: a script that gives the repository back" ∷ [])
 summary topic.Help = page (
@@ -77,6 +78,9 @@ details topic.Graph = page (
     codes "An arrow leads to what a patch needs directly; a line joins two in conflict, which is red" ∷
     codes "and bold where it is open, and dashed and pale where it is settled." ∷ [])
 details topic.WhatIf = page (codes "If it would be accepted: the conflicts and the files that its branch would have, too." ∷ [])
+details topic.Why = page (
+    codes "Of a refusal: its answer, what that says, what stands against the command, and what can be" ∷
+    codes "done. Of a fault: its answer, the line behind >, what is to be seen in it, and the rule." ∷ [])
 details topic.History = page (codes "Of each its number, its seat, which is 0, and its words." ∷ [])
 details other = []
 
@@ -108,6 +112,7 @@ example topic.Side = page (codes "side main hello" ∷ [])
 example topic.Marks = page (codes "marks main notes" ∷ [])
 example topic.Graph = page (codes "graph main" ∷ [])
 example topic.WhatIf = page (codes "whatif pull anna main" ∷ [])
+example topic.Why = page (codes "why" ∷ [])
 example topic.History = page (codes "history" ∷ [])
 example topic.Keep = page (codes "keep" ∷ [])
 example topic.Help = page (codes "help record" ∷ [])

@@ -3,12 +3,15 @@ use Rattle.std.specs.Prelude.{◌≡◌, ◌≢◌, ◌↔◌, ◌⊎◌, ◌<�
 use Rattle.std.specs.Fmt.{decimal}
 use Rattle.std.specs.List.{All, AllByRecursion}
 use Rattle.camp_base.specs.Signs.{newline, space}
+use Rattle.camp_call.specs.Calls.{IsCall}
 use Rattle.camp_call.specs.declared.calls.Call.{Call}
 use Rattle.camp_call.specs.declared.replies.Refusal.{Refusal}
 use Rattle.camp_call.specs.declared.replies.Reply.TheVariants.{Refused}
 use Rattle.camp_object.specs.Histories.{IsFront, replay}
+use Rattle.camp_repo.specs.Lawful.{IsLawfulState}
 use Rattle.camp_repo.specs.Objects.{repository}
 use Rattle.camp_repo.specs.States.{Contents}
+use Rattle.camp_repo.specs.Steps.{refused, step}
 use Rattle.camp_script.specs.Canonical.{IsScriptCall, call_text}
 use Rattle.camp_script.specs.Keeping.{calls_of, kept_text}
 use Rattle.camp_script.specs.Lines.{lines_of}
@@ -21,11 +24,16 @@ use Rattle.camp_talk.specs.Dialogues.{Leads}
 use Rattle.camp_talk.specs.Entries.{Entries}
 use Rattle.camp_talk.specs.Frames.{Counter, ServesAt, ServesInTurn}
 use Rattle.camp_talk.specs.Loads.{Loads, tells_failure}
+use Rattle.camp_talk.specs.Refusals.{cure, reason_of, saying}
 use Rattle.camp_talk.specs.Told.{counted}
-use Rattle.camp_talk.specs.declared.faults.LoadFault.{LoadFault}
+use Rattle.camp_talk.specs.Whys.{cause_of, cause_text}
 use Rattle.camp_talk.specs.declared.faults.LoadFault.TheVariants.{Answer, Memory, Talk}
-use Rattle.camp_talk.specs.declared.questions.Asked.{Asked}
+use Rattle.camp_talk.specs.declared.faults.LoadFault.{LoadFault}
 use Rattle.camp_talk.specs.declared.questions.Asked.TheVariants as asked
+use Rattle.camp_talk.specs.declared.questions.Asked.{Asked}
+use Rattle.camp_why.specs.Causes.{IsSo, refusal_by}
+use Rattle.camp_why.specs.Laws.{IsInRange, wants_cause}
+use Rattle.camp_why.specs.declared.causes.Cause.{Cause}
 
 -- the first line of a counted text has the word and says how many lines follow, and these are the lines of the text
 abbrev pub CountsAreTold : Type 0
@@ -44,6 +52,7 @@ abbrev pub Failed : Result Asked LineFault → List ℕ → Type 0
 Failed (Err fault) text = Unit {0}
 Failed (Ok asked.Nothing) text = ⊥
 Failed (Ok (asked.Call call)) text = (refusal : Refusal) × (text ≡ reply_text (Refused refusal))
+Failed (Ok asked.Why) text = ⊥
 Failed (Ok (asked.Question question)) text = (refusal : Refusal) × (text ≡ reply_text (Refused refusal))
 
 -- an answer tells of failure exactly where its command has a fault, it is a refusal, or memory ran out
@@ -75,3 +84,18 @@ KeptIsLoaded =
     AllByRecursion IsScriptCall (calls_of history) → AllByRecursion IsReadWhole (calls_of history) →
     (rest : Option (List ℕ)) (result : Result (Unit {0}) LoadFault) (now : Entries) →
     Loads (Some (kept_text history)) rest [] result now → ComesBack history state result now
+
+-- lines behind a refusal of a call name a cause: it is one of that refusal, what it says of the call and the state is so,
+-- and it stands between what the refusal says and what can be done
+pub record NamesCause (state : Contents) (call : Call) (refusal : Refusal) (lines : List ℕ) : Type 0 where
+  pub cause : Cause
+  pub of : refusal_by cause ≡ refusal
+  pub is_so : IsSo state call cause
+  pub tells : lines ≡ reply_text (Refused refusal) ++ saying (reason_of refusal) ++ cause_text cause ++ cure (reason_of refusal)
+
+-- where a command asks a call that a state refuses with a limit or for its changes, the lines behind it name a cause
+abbrev pub CausesAreTold : Type 0
+CausesAreTold =
+    (before : List ℕ) (state : Contents) (command : List ℕ) (call : Call) (refusal : Refusal) → IsLawfulState state → IsCall call →
+    IsInRange call → asked_by command ≡ Ok (asked.Call call) → step state call ≡ refused refusal →
+    wants_cause call refusal ≡ true → NamesCause state call refusal (cause_of before state command (reply_text (Refused refusal)))

@@ -15,3 +15,4 @@ pub mod Requests
 pub mod Talks
 pub mod Told
 pub mod Views
+pub mod Whys

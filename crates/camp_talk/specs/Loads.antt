@@ -1,5 +1,5 @@
 -- What comes of commands that are loaded: each is asked as in a conversation, and has to be done.
-use Rattle.std.specs.Prelude.{◌≡◌, ℕ, ◌+◌, Bool, true, false, ◌||◌, ◌==◌, List, Option, Result, Ok, Err, codes}
+use Rattle.std.specs.Prelude.{◌≡◌, ℕ, ◌+◌, Bool, true, false, ◌||◌, ◌==◌, List, [], Option, Result, Ok, Err, codes}
 use Rattle.std.specs.List.{All, flat_map, starts_with}
 use Rattle.std.specs.Io.KnownBytes.{Consumes}
 use Rattle.camp_talk.specs.Answers.{Answers, Standing, Tells, is_silent, memory_text}
@@ -73,5 +73,5 @@ pub record Loads (remaining rest : Option (List ℕ)) (history : Entries) (resul
     : Type 0 where
   pub left : Option (List ℕ)
   pub middle : Standing
-  pub done : Done remaining left (record { history = history; lines = 0 }) middle
+  pub done : Done remaining left (record { history = history; lines = 0; cause = [] }) middle
   pub ends : Ends left rest middle result now

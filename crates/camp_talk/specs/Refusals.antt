@@ -1,5 +1,7 @@
 -- What is told of refusals.
 use Rattle.std.specs.Prelude.{ℕ, List, [], ◌∷◌, ◌++◌, codes}
+use Rattle.camp_call.specs.declared.replies.Refusal.{Refusal}
+use Rattle.camp_call.specs.declared.replies.Refusal.TheVariants as refusal
 use Rattle.camp_talk.specs.Pages.{page}
 use Rattle.camp_talk.specs.declared.questions.Reason.{Reason}
 use Rattle.camp_talk.specs.declared.questions.Reason.TheVariants as reason
@@ -9,6 +11,20 @@ abbrev pub reasons : List Reason
 reasons =
     reason.BadName ∷ reason.BadPath ∷ reason.BadLine ∷ reason.NoBranch ∷ reason.BranchExists ∷ reason.PatchExists
     ∷ reason.NoPatch ∷ reason.NothingToDo ∷ reason.TooLarge ∷ reason.DoesNotApply ∷ reason.Depends ∷ reason.Diverged ∷ reason.NoMerge ∷ reason.SameBranch ∷ []
+
+-- the reason of a refusal of a call
+abbrev pub reason_of : Refusal → Reason
+reason_of (refusal.NoBranch branch) = reason.NoBranch
+reason_of (refusal.BranchExists branch) = reason.BranchExists
+reason_of (refusal.PatchExists name) = reason.PatchExists
+reason_of (refusal.NoPatch name) = reason.NoPatch
+reason_of refusal.NothingToDo = reason.NothingToDo
+reason_of refusal.TooLarge = reason.TooLarge
+reason_of refusal.DoesNotApply = reason.DoesNotApply
+reason_of (refusal.Depends patch on) = reason.Depends
+reason_of (refusal.Diverged name) = reason.Diverged
+reason_of (refusal.NoMerge left right) = reason.NoMerge
+reason_of (refusal.SameBranch branch) = reason.SameBranch
 
 -- how a refusal is written, and what it says; the first three are told as faults
 abbrev pub saying : Reason → List ℕ
@@ -37,17 +53,17 @@ cure reason.BadLine = page (codes "A line of a body has 4096 bytes at most behin
 cure reason.NoBranch = page (codes "branches tells which there are; branch makes one." ∷ [])
 cure reason.BranchExists = page (codes "Take another name." ∷ [])
 cure reason.PatchExists = page (codes "Take another name. To have that patch here, pull it." ∷ [])
-cure reason.NoPatch = page (codes "names tells which it has; missing tells what another branch has." ∷ [])
+cure reason.NoPatch = page (codes "names tells which it has; missing tells what another branch has and it lacks." ∷ [])
 cure reason.NothingToDo = page (codes "There is nothing to mend." ∷ [])
 cure reason.TooLarge = page (
     codes "The limits: 256 branches, 4096 changes in a branch, 65535 lines in a side of an edit," ∷
-    codes "1000000 lines in a file. Cut the edit or the patch in parts, or record on a new branch." ∷ [])
+    codes "1000000 lines in a file. Cut the edit or the patch in parts, or take patches out of the branch." ∷ [])
 cure reason.DoesNotApply = page (
     codes "add wants no file, remove a file without lines, and an edit its old lines at LINE." ∷
-    codes "file BRANCH PATH tells what is there." ∷ [])
+    codes "file BRANCH PATH tells what is there before the first change." ∷ [])
 cure reason.Depends = page (
-    codes "Pull ON too: along tells all that a pull has to list. Or obliterate PATCH too: held" ∷
-    codes "tells all that has to go." ∷ [])
+    codes "Of a pull: list ON too; along tells all that it has to list. Of an obliterate: list PATCH too;" ∷
+    codes "held tells all that has to go." ∷ [])
 cure reason.Diverged = page (
     codes "Or it can't be brought before what one of them alone has. Obliterate it in one of them," ∷
     codes "with what stands on it, and pull again." ∷ [])

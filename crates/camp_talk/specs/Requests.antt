@@ -13,7 +13,7 @@ pub record AnswersRequest (history : Entries) (request answer : List ℕ) (now :
   pub last : Exchange
   pub middle : Standing
   pub after : Standing
-  pub follow : Follow (record { history = history; lines = 0 }) said middle
+  pub follow : Follow (record { history = history; lines = 0; cause = [] }) said middle
   pub is : IsLeft last.command
   pub answers : Answers middle last.command last.answer after
   pub same : now ≡ after.history
@@ -36,7 +36,7 @@ pub record AsksOneMore (middle : Standing) (rest front : List ℕ) (now : Entrie
 pub record AnswersSome (history : Entries) (request answer : List ℕ) (now : Entries) : Type 0 where
   pub said : List Exchange
   pub middle : Standing
-  pub follow : Follow (record { history = history; lines = 0 }) said middle
+  pub follow : Follow (record { history = history; lines = 0; cause = [] }) said middle
   pub rest : List ℕ
   pub asks : request ≡ flat_map (λ exchange. exchange.command) said ++ rest
   pub front : List ℕ

@@ -66,7 +66,7 @@ module _ (remaining rest old new : Option (List ℕ)) where
     pub reads : ReadsCommand remaining rest whole said.command
     pub behind : Standing
     pub answers : Answers before said.command said.answer behind
-    pub same : after ≡ record { history = behind.history; lines = before.lines }
+    pub same : after ≡ record { history = behind.history; lines = before.lines; cause = behind.cause }
     pub writes : AppendsSome old new said.answer
 
   -- there was no command to be asked: nothing was written, and nothing has changed

@@ -26,11 +26,12 @@ is_of_history question.History = true
 is_of_history question.Keep = true
 is_of_history other = false
 
--- whether a command asks for more than a state tells: it would write, or asks about the history
+-- whether a command asks for more than a state tells: it would write, or asks about the history or another command
 abbrev pub is_beyond : Asked → Bool
 is_beyond asked.Nothing = false
 is_beyond (asked.Call call) = is_writing call
 is_beyond (asked.Question question) = is_of_history question
+is_beyond asked.Why = true
 
 -- the fault of such a command, by its line
 abbrev pub beyond_text : ℕ → List ℕ
@@ -41,11 +42,12 @@ abbrev pub shown_reply : Contents → Call → List ℕ
 shown_reply state call = reply_text (reply_of (step state call))
 
 -- what a state tells of what is asked: nothing, where nothing is; of a call its reply; of a question what it is told, for
--- which no history is needed
+-- which no history is needed; of another command nothing can be told
 abbrev pub ShowsAsked : Contents → Asked → List ℕ → Type 0
 ShowsAsked state asked.Nothing text = text ≡ []
 ShowsAsked state (asked.Call call) text = text ≡ shown_reply state call
 ShowsAsked state (asked.Question question) text = TellsAt [] state question text
+ShowsAsked state asked.Why text = ⊥
 
 -- what is asked at a line: more than a state tells, or not
 abbrev pub ShowsAt : Bool → Contents → ℕ → Asked → List ℕ → Type 0

@@ -1,17 +1,22 @@
 //! The answers to commands.
-ghost use Rattle.std.specs.Prelude.{◌≡◌, ◌≢◌, ◌+◌, Result, Ok, IfOk, OnErr, MatchResult, length, ℕ};
+ghost use Rattle.std.specs.Prelude.{◌≡◌, ◌≢◌, ◌+◌, Result, Ok, true, IfOk, OnErr, MatchResult, length, ℕ};
 ghost use Rattle.std.specs.Io.KnownBytes.{Appends};
 ghost use Rattle.camp_script.specs.Gives.{Gives};
+ghost use Rattle.camp_script.specs.Lines.{lines_of};
 ghost use Rattle.camp_script.specs.Texts.{HasText, answer_text};
 ghost use Rattle.camp_script.specs.declared.faults.LineFault.{LineFault as SaidFault};
 ghost use Rattle.camp_talk.specs.Answers.{Replies, Tells, fault_text};
+ghost use Rattle.camp_talk.specs.Inside.Hearing.{LearnsOf};
 ghost use Rattle.camp_talk.specs.Inside.Said.{IsWriting, said_text};
 ghost use Rattle.camp_talk.specs.Talks.{AppendsSome};
+ghost use Rattle.camp_talk.specs.Whys.{is_failure};
 ghost use Rattle.camp_talk.specs.declared.questions.Asked.{Asked as SaidAsked};
 
 use crate::TalkFault;
 use crate::questions::Asked;
+use crate::readings::Command;
 use crate::tellings::answer_question;
+use crate::told_whys::{cause_of, is_failure, tell_why};
 use camp_object::Fault;
 use camp_repo::{Book, Call, Object, Reply, State};
 use camp_script::{FaultKind, ScriptFault, append_reply, write_text};
@@ -19,36 +24,78 @@ use itoa::Buffer;
 use std::alloc::{AllocError, Global};
 use std::io::Write;
 
-/// The text of the answer to what a command asks, by the number of the lines before it. Where memory runs
-/// out the book stays; where nothing is asked none is wanted.
-pub(crate) fn answer(
+/// The text of the answer to a command, by the number of the lines before it. Where it is not done, the lines
+/// that tell why become `cause`. Where memory runs out the book and the cause stay; where nothing is asked
+/// none is wanted.
+pub(crate) fn respond(
     alloc: Global,
     book: &mut Book<State>,
     before: u64,
+    cause: &mut Vec<u8>,
+    command: &Command,
+) -> Result<Vec<u8>, AllocError>
+    ensures text { IfOk result (λ text. (reading : Result SaidAsked SaidFault) → Gives command.now.asked reading →
+        Tells (record { history = book.old; lines = before; cause = cause.old.items }) reading text.items book.new) }
+    ensures learns { IfOk result (λ text. (reading : Result SaidAsked SaidFault) → Gives command.now.asked reading →
+        LearnsOf (record { history = book.old; lines = before; cause = cause.old.items })
+        (lines_of command.now.bytes.items) reading text.items cause.new.items) }
+    ensures kept { OnErr result (book.new ≡ book.old) }
+    ensures same { OnErr result (cause.new.items ≡ cause.old.items) }
+    ensures nothing { OnErr result (command.now.asked ≢ Ok SaidAsked.Nothing) }
+{
+    let text = answer(alloc, book, before, cause.as_slice(), &command.asked)?;
+    if is_failure(&text) {
+        *cause = cause_of(
+            alloc,
+            cause,
+            book.state(),
+            &command.bytes,
+            &command.asked,
+            &text,
+        )?;
+    }
+    Ok(text)
+}
+
+// The text of the answer to what a command asks, by the number of the lines before it and the cause of the
+// last fault or refusal.
+fn answer(
+    alloc: Global,
+    book: &mut Book<State>,
+    before: u64,
+    cause: &[u8],
     asked: &Result<Asked, ScriptFault>,
 ) -> Result<Vec<u8>, AllocError>
     ensures text { IfOk result (λ text. (reading : Result SaidAsked SaidFault) → Gives asked.now reading →
-        Tells (record { history = book.old; lines = before }) reading text.items book.new) }
+        Tells (record { history = book.old; lines = before; cause = cause.now }) reading text.items book.new) }
     ensures kept { OnErr result (book.new ≡ book.old) }
+    ensures failed { IfOk result (λ text. is_failure text.items ≡ true → book.new ≡ book.old) }
     ensures nothing { OnErr result (asked.now ≢ Ok SaidAsked.Nothing) }
 {
     match asked {
-        Ok(asked) => answer_asked(alloc, book, asked),
+        Ok(asked) => answer_asked(alloc, book, cause, asked),
         Err(ScriptFault::Line(fault)) => fault_text(alloc, before, fault.line, fault.kind),
         Err(ScriptFault::Memory) => Err(AllocError),
     }
 }
 
-fn answer_asked(alloc: Global, book: &mut Book<State>, asked: &Asked) -> Result<Vec<u8>, AllocError>
+fn answer_asked(
+    alloc: Global,
+    book: &mut Book<State>,
+    cause: &[u8],
+    asked: &Asked,
+) -> Result<Vec<u8>, AllocError>
     ensures text { IfOk result (λ text. (before : ℕ) →
-        Tells (record { history = book.old; lines = before }) (Ok asked.now) text.items book.new) }
+        Tells (record { history = book.old; lines = before; cause = cause.now }) (Ok asked.now) text.items book.new) }
     ensures kept { OnErr result (book.new ≡ book.old) }
+    ensures failed { IfOk result (λ text. is_failure text.items ≡ true → book.new ≡ book.old) }
     ensures nothing { OnErr result (asked.now ≢ SaidAsked.Nothing) }
 {
     match asked {
         Asked::Nothing => Ok(Vec::new(alloc)),
         Asked::Call(call) => reply(alloc, book, call),
         Asked::Question(question) => answer_question(alloc, book, question),
+        Asked::Why => tell_why(alloc, cause),
     }
 }
 

@@ -4,7 +4,7 @@ ghost use Rattle.camp_call.specs.declared.calls.Call.{Call as SaidCall};
 ghost use Rattle.camp_script.specs.Gives.{Gives};
 ghost use Rattle.camp_script.specs.Lines.{is_skipped, lines_of, words_of};
 ghost use Rattle.camp_script.specs.declared.faults.LineFault.{LineFault as SaidFault};
-ghost use Rattle.camp_talk.specs.Asking.{asked_in, asked_with, call_in, first_of, foreseen_in};
+ghost use Rattle.camp_talk.specs.Asking.{asked_in, asked_with, call_in, first_of, foreseen_in, is_why, why_of};
 ghost use Rattle.camp_talk.specs.Cutting.{call_line, script_in};
 
 use crate::question_words::{fault, read_question};
@@ -60,6 +60,9 @@ pub(crate) fn read_asked(
     if word == b"whatif".as_slice() {
         return read_what_if(script?);
     }
+    if is_why(word) {
+        return read_why(words);
+    }
     match read_question(alloc, word, words)? {
         Some(question) => Ok(Asked::Question(question)),
         None => read_call(script?),
@@ -100,6 +103,23 @@ fn read_call(script: Script) -> Result<Asked, ScriptFault>
     match call_in(script)? {
         Some(call) => Ok(Asked::Call(call)),
         None => Ok(Asked::Nothing),
+    }
+}
+
+// Whether a word asks for the cause of the last fault or refusal. Where lines end with CR and LF it has a CR.
+fn is_why(word: &[u8]) -> bool
+    ensures { result ≡ is_why word.now }
+{
+    word == b"why".as_slice() || word == b"why\r".as_slice()
+}
+
+fn read_why(words: Words<'_>) -> Result<Asked, ScriptFault>
+    ensures { Gives result (why_of words.entry) }
+{
+    let mut words = words;
+    match words.next() {
+        None => Ok(Asked::Why),
+        Some(_) => Err(fault(FaultKind::WrongNumberOfWords)),
     }
 }
 

@@ -41,6 +41,8 @@ pub struct Conversation<R, W> {
     book: Book<State>,
     /// How many lines were read.
     lines: u64,
+    /// The lines that tell the cause of the last fault or refusal.
+    cause: Vec<u8>,
     reader: R,
     writer: W,
 }
@@ -52,6 +54,7 @@ impl<R: BufRead, W: Write> Conversation<R, W> {
             alloc,
             book,
             lines: 0,
+            cause: Vec::new(alloc),
             reader,
             writer,
         }
@@ -62,7 +65,8 @@ impl<R: BufRead, W: Write> Dialogue for Conversation<R, W> {
     type Fault = TalkFault;
 
     ghost comes_to = { λ old result new. Turns (R.remaining old.reader) (R.remaining new.reader) (W.contents old.writer) (W.contents new.writer)
-        (record { history = old.book; lines = old.lines }) result (record { history = new.book; lines = new.lines }) };
+        (record { history = old.book; lines = old.lines; cause = old.cause.items })
+        result (record { history = new.book; lines = new.lines; cause = new.cause.items }) };
 
     ghost left = { λ it. 2 ^ 64 - it.lines };
 
@@ -71,6 +75,7 @@ impl<R: BufRead, W: Write> Dialogue for Conversation<R, W> {
             self.alloc,
             &mut self.book,
             &mut self.lines,
+            &mut self.cause,
             &mut self.reader,
             &mut self.writer,
         )

@@ -1,4 +1,4 @@
-ghost use Rattle.camp_talk.specs.Laws.{CountsAreTold, FailuresAreTold, KeptIsLoaded, RequestsAreServedInTurn};
+ghost use Rattle.camp_talk.specs.Laws.{CausesAreTold, CountsAreTold, FailuresAreTold, KeptIsLoaded, RequestsAreServedInTurn};
 
 /// The first line of an answer that is counted tells how many lines follow.
 pub fn counts_are_told()
@@ -20,4 +20,9 @@ pub fn requests_are_served_in_turn()
 /// to its state, however many they are. A load that does not come to its end has accepted the first of them.
 pub fn kept_is_loaded()
     ensures law { KeptIsLoaded }
+{}
+
+/// Where a call is refused with a limit or for its changes, the lines that tell why name a cause.
+pub fn causes_are_told()
+    ensures law { CausesAreTold }
 {}

@@ -27,6 +27,7 @@ mod told_lines;
 mod told_names;
 mod told_patches;
 mod told_refusals;
+mod told_whys;
 mod topics;
 mod views;
 
@@ -34,7 +35,10 @@ pub use camp_repo::{Book, State};
 pub use dialogues::{Conversation, Dialogue, talk};
 pub use faults::{LoadFault, TalkFault};
 pub use frames::{FrameFault, FramedConversation};
-pub use laws::{counts_are_told, failures_are_told, kept_is_loaded, requests_are_served_in_turn};
+pub use laws::{
+    causes_are_told, counts_are_told, failures_are_told, kept_is_loaded,
+    requests_are_served_in_turn,
+};
 pub use loads::load;
 pub use questions::{Question, Reason, Topic};
 pub use requests::answer_request;

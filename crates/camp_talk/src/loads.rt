@@ -20,7 +20,8 @@ pub fn load<R: BufRead>(
     ensures loads { Loads (R.remaining reader.old) (R.remaining reader.new) book.old result book.new }
 {
     let mut lines = 0;
-    while load_one(alloc, book, &mut lines, reader)? {}
+    let mut cause = Vec::new(alloc);
+    while load_one(alloc, book, &mut lines, &mut cause, reader)? {}
     Ok(())
 }
 
@@ -29,10 +30,12 @@ fn load_one<R: BufRead>(
     alloc: Global,
     book: &mut Book<State>,
     lines: &mut u64,
+    cause: &mut Vec<u8>,
     reader: &mut R,
 ) -> Result<bool, LoadFault>
-    ensures loads { LoadsOne (R.remaining reader.old) (R.remaining reader.new) (record { history = book.old; lines = lines.old })
-        result (record { history = book.new; lines = lines.new }) }
+    ensures loads { LoadsOne (R.remaining reader.old) (R.remaining reader.new)
+        (record { history = book.old; lines = lines.old; cause = cause.old.items })
+        result (record { history = book.new; lines = lines.new; cause = cause.new.items }) }
     ensures counts { IfOk result (λ more. more ≡ true → HasRisen lines.old lines.new) }
 {
     let Heard {
@@ -40,7 +43,7 @@ fn load_one<R: BufRead>(
         line,
         lines: after,
         is_whole,
-    } = match hear(alloc, book, *lines, reader) {
+    } = match hear(alloc, book, *lines, cause, reader) {
         Ok(heard) => heard,
         Err(why) => return Err(LoadFault::Talk(why)),
     };

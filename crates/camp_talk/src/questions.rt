@@ -66,6 +66,7 @@ pub enum Topic {
     Branches,
     Graph,
     WhatIf,
+    Why,
     History,
     Keep,
     Help,
@@ -96,4 +97,6 @@ pub(crate) enum Asked {
     Nothing,
     Call(Call),
     Question(Question),
+    /// The cause of the last fault or refusal.
+    Why,
 }

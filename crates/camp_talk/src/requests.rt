@@ -26,8 +26,9 @@ pub fn answer_request(
 {
     let mut reader = request;
     let mut lines = 0;
+    let mut cause = Vec::new(alloc);
     loop {
-        match turn(alloc, book, &mut lines, &mut reader, answer) {
+        match turn(alloc, book, &mut lines, &mut cause, &mut reader, answer) {
             Ok(true) => {}
             Ok(false) => return Ok(()),
             Err(why) => return Err(in_memory(why)),

@@ -4,7 +4,7 @@ ghost use Rattle.camp_talk.specs.Inside.Hearing.{Hears};
 ghost use Rattle.camp_talk.specs.Talks.{HasRisen, ReadsNone, Turns};
 
 use crate::TalkFault;
-use crate::answers::{answer, write_said};
+use crate::answers::{respond, write_said};
 use crate::readings::{count_lines, read_command};
 use camp_repo::{Book, State};
 use std::alloc::{AllocError, Global};
@@ -23,20 +23,22 @@ pub(crate) struct Heard {
     pub(crate) is_whole: bool,
 }
 
-/// Reads a command, and asks it of a book at seat 0. So many lines were read before it.
+/// Reads a command, and asks it of a book at seat 0. So many lines were read before it. Where it is not done,
+/// the lines that tell why become `cause`.
 pub(crate) fn hear<R: BufRead>(
     alloc: Global,
     book: &mut Book<State>,
     lines: u64,
+    cause: &mut Vec<u8>,
     reader: &mut R,
 ) -> Result<Heard, TalkFault>
     ensures hears { IfOk result (λ heard. Hears (R.remaining reader.old) (R.remaining reader.new)
-        (record { history = book.old; lines = lines }) heard.is_whole heard.said
-        (record { history = book.new; lines = heard.lines })) }
+        (record { history = book.old; lines = lines; cause = cause.old.items }) heard.is_whole heard.said
+        (record { history = book.new; lines = heard.lines; cause = cause.new.items })) }
     ensures line { IfOk result (λ heard. heard.line ≡ lines + 1) }
     ensures none { IfErr result (ReadsNone (R.remaining reader.old) (R.remaining reader.new)
-        (record { history = book.old; lines = lines })) }
-    ensures same { IfErr result (λ why. book.new ≡ book.old) }
+        (record { history = book.old; lines = lines; cause = cause.old.items })) }
+    ensures same { IfErr result (λ why. (book.new ≡ book.old) × (cause.new.items ≡ cause.old.items)) }
 {
     let Some(line) = lines.checked_add(1) else {
         return Err(TalkFault::Internal);
@@ -46,7 +48,7 @@ pub(crate) fn hear<R: BufRead>(
         return Err(TalkFault::Internal);
     };
     Ok(Heard {
-        said: answer(alloc, book, lines, &command.asked),
+        said: respond(alloc, book, lines, cause, &command),
         line,
         lines: after,
         is_whole: command.is_whole,
@@ -54,19 +56,22 @@ pub(crate) fn hear<R: BufRead>(
 }
 
 /// Reads a command, asks it of a book at seat 0, writes its answer and flushes. Whether there may be
-/// more: else the input has ended. `lines` counts the lines that were read; after a fault it stays.
+/// more: else the input has ended. `lines` counts the lines that were read; after a fault it stays. `cause` has
+/// the lines that tell the cause of the last fault or refusal, and at first none.
 pub fn turn<R: BufRead, W: Write>(
     alloc: Global,
     book: &mut Book<State>,
     lines: &mut u64,
+    cause: &mut Vec<u8>,
     reader: &mut R,
     writer: &mut W,
 ) -> Result<bool, TalkFault>
     ensures turns { Turns (R.remaining reader.old) (R.remaining reader.new) (W.contents writer.old) (W.contents writer.new)
-        (record { history = book.old; lines = lines.old }) result (record { history = book.new; lines = lines.new }) }
+        (record { history = book.old; lines = lines.old; cause = cause.old.items })
+        result (record { history = book.new; lines = lines.new; cause = cause.new.items }) }
     ensures counts { IfOk result (λ more. more ≡ true → HasRisen lines.old lines.new) }
 {
-    let heard = hear(alloc, book, *lines, reader)?;
+    let heard = hear(alloc, book, *lines, cause, reader)?;
     match write_said(writer, &heard.said) {
         Ok(()) => {
             *lines = heard.lines;

@@ -51,7 +51,7 @@ fn all_summaries(alloc: Global) -> Result<Vec<u8>, AllocError>
 }
 
 // The commands, in the order in which they are told.
-fn commands() -> [Topic; 23]
+fn commands() -> [Topic; 24]
     ensures { result ≡ commands }
 {
     [
@@ -75,6 +75,7 @@ fn commands() -> [Topic; 23]
         Topic::Marks,
         Topic::Graph,
         Topic::WhatIf,
+        Topic::Why,
         Topic::History,
         Topic::Keep,
         Topic::Help,
@@ -121,6 +122,7 @@ fn summary(topic: Topic) -> &'static str
         Topic::Marks => "marks BRANCH PATH: a file with the open sides of its conflicts\n",
         Topic::Graph => "graph BRANCH [NAME ..]: how the patches hang together, for Graphviz\n",
         Topic::WhatIf => "whatif COMMAND: what a command would be answered; nothing changes\n",
+        Topic::Why => "why: the cause of the last fault or refusal, and what can be done\n",
         Topic::History => "history: the accepted commands\n",
         Topic::Keep => "keep: a script that gives the repository back\n",
         Topic::Help => {
@@ -170,6 +172,10 @@ fn details(topic: Topic) -> &'static str
         Topic::WhatIf => {
             "If it would be accepted: the conflicts and the files that its branch would have, too.\n"
         }
+        Topic::Why => {
+            "Of a refusal: its answer, what that says, what stands against the command, and what can be\n\
+            done. Of a fault: its answer, the line behind >, what is to be seen in it, and the rule.\n"
+        }
         Topic::History => "Of each its number, its seat, which is 0, and its words.\n",
         _ => "",
     }
@@ -201,6 +207,7 @@ fn example(topic: Topic) -> &'static str
         Topic::Marks => "marks main notes\n",
         Topic::Graph => "graph main\n",
         Topic::WhatIf => "whatif pull anna main\n",
+        Topic::Why => "why\n",
         Topic::History => "history\n",
         Topic::Keep => "keep\n",
         Topic::Help => "help record\n",

@@ -50,8 +50,8 @@ fn reasons() -> [Reason; 14]
     ]
 }
 
-// How a refusal is written, and what it says.
-fn saying(reason: Reason) -> &'static str
+/// How a refusal is written, and what it says.
+pub(crate) fn saying(reason: Reason) -> &'static str
     ensures { result.now ≡ saying reason }
 {
     match reason {
@@ -74,8 +74,8 @@ fn saying(reason: Reason) -> &'static str
     }
 }
 
-// What can be done about a refusal.
-fn cure(reason: Reason) -> &'static str
+/// What can be done about a refusal.
+pub(crate) fn cure(reason: Reason) -> &'static str
     ensures { result.now ≡ cure reason }
 {
     match reason {
@@ -91,19 +91,20 @@ fn cure(reason: Reason) -> &'static str
         Reason::NoBranch => "branches tells which there are; branch makes one.\n",
         Reason::BranchExists => "Take another name.\n",
         Reason::PatchExists => "Take another name. To have that patch here, pull it.\n",
-        Reason::NoPatch => "names tells which it has; missing tells what another branch has.\n",
+        Reason::NoPatch =>
+            "names tells which it has; missing tells what another branch has and it lacks.\n",
         Reason::NothingToDo => "There is nothing to mend.\n",
         Reason::TooLarge => {
             "The limits: 256 branches, 4096 changes in a branch, 65535 lines in a side of an edit,\n\
-            1000000 lines in a file. Cut the edit or the patch in parts, or record on a new branch.\n"
+            1000000 lines in a file. Cut the edit or the patch in parts, or take patches out of the branch.\n"
         }
         Reason::DoesNotApply => {
             "add wants no file, remove a file without lines, and an edit its old lines at LINE.\n\
-            file BRANCH PATH tells what is there.\n"
+            file BRANCH PATH tells what is there before the first change.\n"
         }
         Reason::Depends => {
-            "Pull ON too: along tells all that a pull has to list. Or obliterate PATCH too: held\n\
-            tells all that has to go.\n"
+            "Of a pull: list ON too; along tells all that it has to list. Of an obliterate: list PATCH too;\n\
+            held tells all that has to go.\n"
         }
         Reason::Diverged => {
             "Or it can't be brought before what one of them alone has. Obliterate it in one of them,\n\

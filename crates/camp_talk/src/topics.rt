@@ -48,8 +48,8 @@ fn reason_topic(found: Option<Reason>) -> Result<Topic, ScriptFault>
     }
 }
 
-// The reason of a number of a refusal.
-fn reason_at(number: &[u8]) -> Option<Reason>
+/// The reason of a number of a refusal.
+pub(crate) fn reason_at(number: &[u8]) -> Option<Reason>
     ensures { result ≡ reason_at number.now }
 {
     if number == b"1".as_slice() {
@@ -199,6 +199,9 @@ fn other_topic(word: &[u8]) -> Option<Topic>
 {
     if word == b"whatif".as_slice() {
         return Some(Topic::WhatIf);
+    }
+    if word == b"why".as_slice() {
+        return Some(Topic::Why);
     }
     if word == b"history".as_slice() {
         return Some(Topic::History);

@@ -89,6 +89,7 @@ fn show(
         Ok(Asked::Nothing) => Ok(Vec::new(alloc)),
         Ok(Asked::Call(call)) => show_reply(alloc, state, before, call),
         Ok(Asked::Question(question)) => show_told(alloc, state, before, question),
+        Ok(Asked::Why) => beyond_text(alloc, before),
         Err(ScriptFault::Line(fault)) => fault_text(alloc, before, fault.line, fault.kind),
         Err(ScriptFault::Memory) => Err(AllocError),
     }

@@ -1,26 +1,45 @@
 -- What it is to read a command and ask it.
-use Rattle.std.specs.Prelude.{◌≡◌, ℕ, ◌+◌, Bool, true, false, List, length, Option, Result, Ok, Err, Vec}
+use Rattle.std.specs.Prelude.{◌≡◌, ℕ, ◌+◌, Bool, true, false, List, length, Option, Some, Result, Ok, Err, Vec}
 use Rattle.std.specs.Io.KnownBytes.{Consumes}
+use Rattle.camp_object.specs.Histories.{replay}
+use Rattle.camp_repo.specs.Objects.{repository}
+use Rattle.camp_repo.specs.States.{Contents}
 use Rattle.camp_script.specs.Lines.{lines_of}
-use Rattle.camp_talk.specs.Answers.{Answers, Standing, Tells, is_silent}
+use Rattle.camp_script.specs.declared.faults.LineFault.{LineFault}
+use Rattle.camp_talk.specs.Answers.{Answers, Learns, Standing, Tells, is_silent}
 use Rattle.camp_talk.specs.Asking.{asked_by}
 use Rattle.camp_talk.specs.Cutting.{IsCommand}
 use Rattle.camp_talk.specs.Entries.{Entries}
 use Rattle.camp_talk.specs.Loads.{Ends, TellsSuccess}
 use Rattle.camp_talk.specs.Talks.{Exchange, ReadsCommand}
+use Rattle.camp_talk.specs.Whys.{cause_with, is_failure}
 use Rattle.camp_talk.specs.declared.faults.LoadFault.{LoadFault}
+use Rattle.camp_talk.specs.declared.questions.Asked.{Asked}
 
--- what a command asks is answered by this text; or it asks something, there was no memory, and nothing has changed
-abbrev pub IsSaid : {Z E : Type 0} → Standing → List ℕ → Result (Vec ℕ Z) E → Entries → Type 0
-IsSaid before command (Ok text) now = Tells before (asked_by command) text.items now
-IsSaid before command (Err error) now = (is_silent command ≡ false) × (now ≡ before.history)
+-- what is kept for `why`, by the lines of a command and what it asks
+abbrev pub LearnsWith : Bool → Standing → List (List ℕ) → Result Asked LineFault → List ℕ → List ℕ → Type 0
+LearnsWith true before lines asked text cause =
+    (state : Contents) × (replay repository before.history ≡ Some state) × (cause ≡ cause_with before.cause state lines asked text)
+LearnsWith false before lines asked text cause = cause ≡ before.cause
+
+-- by the text of its answer
+abbrev pub LearnsOf : Standing → List (List ℕ) → Result Asked LineFault → List ℕ → List ℕ → Type 0
+LearnsOf before lines asked text cause = LearnsWith (is_failure text) before lines asked text cause
+
+-- what a command asks is answered by this text, and the cause is kept where it is not done; or it asks something, there
+-- was no memory, and nothing has changed
+abbrev pub IsSaid : {Z E : Type 0} → Standing → List ℕ → Result (Vec ℕ Z) E → Entries → List ℕ → Type 0
+IsSaid before command (Ok text) now cause =
+    Tells before (asked_by command) text.items now × Learns before command text.items cause
+IsSaid before command (Err error) now cause =
+    (is_silent command ≡ false) × (now ≡ before.history) × (cause ≡ before.cause)
 
 module _ (remaining rest : Option (List ℕ)) (before : Standing) where
   -- a command was read, whole or as far as the input has it, and this is said to it
   pub record Hears {Z E : Type 0} (whole : Bool) (said : Result (Vec ℕ Z) E) (after : Standing) : Type 0 where
     pub command : List ℕ
     pub reads : ReadsCommand remaining rest whole command
-    pub says : IsSaid before command said after.history
+    pub says : IsSaid before command said after.history after.cause
     pub counts : after.lines ≡ before.lines + length (lines_of command)
 
   -- a whole command was read, and done

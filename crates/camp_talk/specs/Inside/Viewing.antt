@@ -1,5 +1,5 @@
 -- What it is to read a command and ask it of a state.
-use Rattle.std.specs.Prelude.{◌≡◌, ℕ, Bool, List, ◌++◌, Option, Some}
+use Rattle.std.specs.Prelude.{◌≡◌, ℕ, Bool, List, ◌++◌, Option}
 use Rattle.std.specs.List.{flat_map}
 use Rattle.camp_repo.specs.States.{Contents}
 use Rattle.camp_talk.specs.Talks.{Exchange, ReadsCommand}

@@ -1,10 +1,10 @@
-use Rattle.camp_talk.proofs.Words.{Done, ◌-◌, ◌^◌}
+use Rattle.camp_talk.proofs.Words.{[], Done, ◌-◌, ◌^◌}
 use Rattle.camp_talk.proofs.loads.load.Given as goal
 
-abbrev pub invariant-loop : goal.invariant-loop
-invariant-loop g l =
-    Done (g.R.Read.remaining l.initial.reader) (g.R.Read.remaining l.reader) (record { history = l.initial.book; lines = 0 })
-    (record { history = l.book; lines = l.lines })
+abbrev pub invariant-loop-cause : goal.invariant-loop-cause
+invariant-loop-cause g l =
+    Done (g.R.Read.remaining l.initial.reader) (g.R.Read.remaining l.reader) (record { history = l.initial.book; lines = 0; cause = [] })
+    (record { history = l.book; lines = l.lines; cause = l.cause.items })
 
-abbrev pub decreases-loop : goal.decreases-loop
-decreases-loop g l = 2 ^ 64 - l.lines
+abbrev pub decreases-loop-cause : goal.decreases-loop-cause
+decreases-loop-cause g l = 2 ^ 64 - l.lines

@@ -1,0 +1,50 @@
+-- Commands that are not done.
+use Rattle.camp_talk.proofs.Words.{◌≡◌, ◌≢◌, ◌-◌, ◌++◌, append_assoc, zero, suc, true, false, List, ◌∷◌, drop, map, ℕ, Result, Ok, Err, Vec, IfOk, arith, refl, ap, sym, subst, true≢false, ◌∙◌, first_of, without_end, Asked, Call, Entries, Gives, LineFault, ScriptFault, Standing, Tells, reply_text}
+use Rattle.camp_call.specs.declared.replies.Reply.{Reply}
+use Rattle.camp_call.specs.declared.replies.Reply.TheVariants as reply
+use Rattle.camp_object.specs.Asking.{Ask, alone_at}
+use Rattle.camp_repo.specs.Objects.{repository}
+use Rattle.camp_talk.specs.Answers.{Replies}
+use Rattle.camp_talk.specs.Whys.{is_failure}
+use Rattle.camp_talk.specs.declared.questions.Asked.TheVariants.{Nothing}
+
+module _ (old now : Entries) (call : Call) where
+  by_reply : (text : List ℕ) → is_failure text ≡ true → (answer : Reply) → text ≡ reply_text answer
+      → Ask repository (alone_at 0) old call (Ok answer) now → now ≡ old
+  by_reply text fails (reply.Done at) tells asks =
+      let succeeds : is_failure text ≡ false = ap is_failure tells in absurd (true≢false (sym fails ∙ succeeds))
+  by_reply text fails (reply.Refused refusal) tells asks = asks.says.0.exact refl
+  by_reply text fails (reply.Tree tree) tells asks = asks.says.0.exact refl
+  by_reply text fails (reply.Conflicts pairs) tells asks = asks.says.0.exact refl
+  by_reply text fails (reply.Names names) tells asks = asks.says.0.exact refl
+
+  -- a call that is answered by a refusal changes nothing
+  pub replies_keep : {Z E : Type 0} (result : Result (Vec ℕ Z) E) → IfOk result (λ text. Replies old call text.items now)
+      → IfOk result (λ text. is_failure text.items ≡ true → now ≡ old)
+  replies_keep (Ok text) replies = λ fails. by_reply text.items fails replies.reply replies.tells replies.asks
+  replies_keep (Err error) replies = tt
+
+-- an answer that is a fault or a refusal is one to something
+pub failures_ask : (before : Standing) (asked : Result Asked ScriptFault) (text : List ℕ) (now : Entries) → is_failure text ≡ true
+    → ((reading : Result Asked LineFault) → Gives asked reading → Tells before reading text now) → asked ≢ Ok Nothing
+failures_ask before asked text now fails tells nothing =
+    let told = tells (Ok Nothing) (subst (λ (asked : Result Asked ScriptFault). Gives asked (Ok Nothing)) (sym nothing) refl) in
+    let succeeds : is_failure text ≡ false = ap is_failure told.0 in
+    absurd (true≢false (sym fails ∙ succeeds))
+
+-- ---- the line of a number
+
+module _ (all rest : List (List ℕ)) (line : List ℕ) (steps : all ≡ line ∷ rest) where
+  -- lines stand before it
+  pub stands_behind : (before next : ℕ) → before ≢ 0 → next ≡ before - 1
+      → first_of (drop next (map without_end rest)) ≡ first_of (drop before (map without_end all))
+  stands_behind zero next some is = absurd (some refl)
+  stands_behind (suc before) next some is =
+      let same : next ≡ before = omega (arith, is) in
+      (λ j. first_of (drop (same j) (map without_end rest)))
+      ∙ sym (ap (λ (lines : List (List ℕ)). first_of (drop (suc before) (map without_end lines))) steps)
+
+-- ---- four texts, from the left
+
+pub regroup : (a b c d : List ℕ) → a ++ (b ++ (c ++ d)) ≡ ((a ++ b) ++ c) ++ d
+regroup a b c d = sym (append_assoc a b (c ++ d)) ∙ sym (append_assoc (a ++ b) c d)

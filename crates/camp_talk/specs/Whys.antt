@@ -1,0 +1,224 @@
+-- What is told of the last command that was not done.
+use Rattle.std.specs.Prelude.{ℕ, ◌-◌, Bool, true, false, not, ◌||◌, ◌&&◌, ◌==◌, List, [], ◌∷◌, ◌++◌, length, drop, take, Option, None, Some, Result, Ok, Err, bytes_eq, codes, if◌then◌else◌}
+use Rattle.std.specs.Char.{is_ascii_whitespace}
+use Rattle.std.specs.Fmt.{decimal}
+use Rattle.std.specs.List.{suffix_len}
+use Rattle.camp_call.specs.declared.calls.Call.{Call}
+use Rattle.camp_call.specs.declared.replies.Refusal.TheVariants as refusal
+use Rattle.camp_repo.specs.States.{Contents}
+use Rattle.camp_script.specs.Lines.{lines_of, words_of}
+use Rattle.camp_script.specs.declared.faults.FaultKind.{FaultKind}
+use Rattle.camp_script.specs.declared.faults.FaultKind.TheVariants as kind
+use Rattle.camp_script.specs.declared.faults.LineFault.{LineFault}
+use Rattle.camp_talk.specs.Asking.{asked_by, first_of, reason_at}
+use Rattle.camp_talk.specs.Cutting.{lines_in}
+use Rattle.camp_talk.specs.Pages.{page}
+use Rattle.camp_talk.specs.Refusals.{cure, saying}
+use Rattle.camp_talk.specs.Told.{counted}
+use Rattle.camp_talk.specs.declared.questions.Asked.{Asked}
+use Rattle.camp_talk.specs.declared.questions.Asked.TheVariants as asked
+use Rattle.camp_talk.specs.declared.questions.Reason.{Reason}
+use Rattle.camp_talk.specs.declared.questions.Reason.TheVariants as reason
+use Rattle.camp_why.specs.Causes.{explained}
+use Rattle.camp_why.specs.Hints.{begins, begins_signed, first_word, hint}
+use Rattle.camp_why.specs.declared.causes.Cause.{Cause}
+use Rattle.camp_why.specs.declared.causes.Cause.TheVariants as cause
+use Rattle.camp_why.specs.declared.hints.Hint.{Hint}
+use Rattle.camp_why.specs.declared.hints.Hint.TheVariants as seen
+use Rattle.camp_why.specs.declared.misfits.Misfit.{Misfit}
+use Rattle.camp_why.specs.declared.misfits.Misfit.TheVariants as misfit
+use Rattle.camp_why.specs.declared.stops.Hindrance.{Hindrance}
+use Rattle.camp_why.specs.declared.stops.Hindrance.TheVariants as hindrance
+use Rattle.camp_why.specs.declared.stops.Stop.{Stop}
+
+-- whether an answer is a fault or a refusal
+abbrev pub is_failure : List ℕ → Bool
+is_failure answer = begins (codes "fault ") answer || begins (codes "refused ") answer
+
+-- what is told of a cause; of none, that there was none
+abbrev pub cause_told : List ℕ → List ℕ
+cause_told [] = page (codes "No command had a fault or was refused here." ∷ [])
+cause_told (byte ∷ bytes) = byte ∷ bytes
+
+-- that, behind `why` and the number of its lines
+abbrev pub why_told : List ℕ → List ℕ
+why_told cause = counted (codes "why") (cause_told cause)
+
+-- ---- of a command with a fault
+
+-- what is to be seen in the line
+abbrev pub hint_text : Hint → List ℕ
+hint_text seen.Nothing = []
+hint_text seen.OfBody = page (codes "It is a line of a body, and no body has begun here, or it was over." ∷ [])
+hint_text seen.TooLong = page (
+    codes "It has more than 1048576 bytes: it is read as its first 4098, with ? for the second." ∷ [])
+hint_text seen.CarriageReturn = page (codes "It ends with a carriage return: end each line with LF alone." ∷ [])
+hint_text seen.Strange = page (
+    codes "It has a byte that is no printing ASCII character: commands, names and paths have none." ∷ [])
+hint_text seen.Quotes = page (
+    codes "It has a quotation mark: that holds no words together, and no command or name has one." ∷ [])
+hint_text seen.Capitals = page (codes "It has a capital letter: commands and names have small letters alone." ∷ [])
+hint_text seen.Empty = page (codes "It is empty: for an empty line of the file write - or + alone." ∷ [])
+hint_text seen.Blank = page (codes "It begins with a blank: the sign comes first, and end stands alone." ∷ [])
+hint_text seen.NoLine = page (codes "The body has no line: both sides are empty." ∷ [])
+hint_text seen.TooFar = page (
+    codes "The edit reaches too far: LINE and the numbers of lines of both sides add up to too much." ∷ [])
+hint_text seen.MoreThanEnd = page (codes "It begins with end and is more: just end ends a body." ∷ [])
+hint_text seen.OldBehindNew = page (codes "An old line stands behind a new one: all - come before all +." ∷ [])
+hint_text seen.NoSign = page (
+    codes "It has no sign, - or +. If the body was to be over, a line that is just end is missing." ∷ [])
+
+-- the rule of a body or a group that is broken, or of a number of lines, and what to write
+abbrev pub body_rule : FaultKind → List ℕ
+body_rule kind.BadEdit = page (
+    codes "A body has old lines, each behind -, then new ones, each behind +, one at least in" ∷
+    codes "all, and then a line that is just end." ∷ [])
+body_rule kind.EditNotEnded = page (codes "The body of an edit ends with a line that is just end. Write it." ∷ [])
+body_rule kind.TooManyClients = page (codes "A script has 63 lines client at most." ∷ [])
+body_rule kind.TooManyCommands = page (codes "A section has 65536 commands that write at most." ∷ [])
+body_rule kind.BadGroup = page (
+    codes "A group has 1 to 64 changes: add PATH, remove PATH, or edit PATH LINE with its body." ∷
+    codes "Then comes the line done." ∷ [])
+body_rule kind.GroupNotEnded = page (codes "A group ends with the line done. Write it." ∷ [])
+body_rule other = []
+
+-- the rule that is broken, and what to write
+abbrev pub rule : FaultKind → List ℕ
+rule kind.UnknownCommand = page (
+    codes "A line begins with a command; a record says BRANCH, NAME, and then add, remove, edit or group:" ∷
+    codes "help tells all. A name has no blank. A line of a body stands only behind an edit whose first" ∷
+    codes "line has no fault. A line of more than 1048576 bytes is no command." ∷ [])
+rule kind.WrongNumberOfWords = page (
+    codes "There are too few words, or too many; a name or a path has no blank. help COMMAND tells" ∷
+    codes "how a command is written." ∷ [])
+rule kind.BadName = cure reason.BadName
+rule kind.BadPath = cure reason.BadPath
+rule kind.BadNumber = page (
+    codes "LINE is a number from 1 to 1073741823 in 1 to 10 digits. LINE and the numbers of old and" ∷
+    codes "of new lines add up to 1073741824 at most. The number of a refusal is one from 1 to 14." ∷ [])
+rule kind.BadLine = cure reason.BadLine
+rule other = body_rule other
+
+-- the line of a number, counted from 1; an empty one, where there is none
+abbrev pub line_at : ℕ → List (List ℕ) → List ℕ
+line_at number lines = first_of (drop (number - 1) lines)
+
+-- bytes of a line that are shown
+abbrev pub most_shown : ℕ
+most_shown = 200
+
+-- the answer, the line behind `>`, what is to be seen in it, the rule, and what to write
+abbrev pub fault_lines : FaultKind → List ℕ → List ℕ → List ℕ
+fault_lines kind line answer =
+    answer ++ codes ">" ++ take most_shown line ++ codes "\n" ++ hint_text (hint kind line) ++ rule kind
+
+-- ---- of a command that is refused
+
+-- a line without the white space at its end, a carriage return among it
+abbrev pub trimmed : List ℕ → List ℕ
+trimmed line = take (length line - suffix_len is_ascii_whitespace line) line
+
+-- that two lines differ at their ends alone, where they do
+abbrev pub ends_text : List ℕ → List ℕ → List ℕ
+ends_text stands expected =
+    if bytes_eq (trimmed stands) (trimmed expected)
+    then page (codes "They differ in blanks or a carriage return at their ends." ∷ []) else []
+
+-- that another line stands there than an edit takes away
+abbrev pub met_text : ℕ → List ℕ → List ℕ → List ℕ
+met_text at stands expected =
+    codes ": line " ++ decimal at ++ codes " is\n=" ++ stands ++ codes "\nand the edit takes away\n-" ++ expected
+    ++ codes "\n"
+
+-- why a change does not apply: what is there, and what was expected
+abbrev pub misfit_text : Misfit → List ℕ
+misfit_text misfit.FileIsThere = codes ": it is there already.\n"
+misfit_text misfit.NoFile = codes ": there is none.\n"
+misfit_text (misfit.HasLines count) = codes ": its number of lines is " ++ decimal count ++ codes ", and remove wants a file without lines.\n"
+misfit_text (misfit.EndsBefore has wants) =
+    codes ": its number of lines is " ++ decimal has ++ codes ", and the edit wants " ++ decimal wants ++ codes " or more.\n"
+misfit_text (misfit.OtherLine at stands expected) = met_text at stands expected ++ ends_text stands expected
+
+-- why a record stops
+abbrev pub hindrance_text : Hindrance → List ℕ
+hindrance_text (hindrance.Misfit why) = misfit_text why
+hindrance_text (hindrance.TooLong count) =
+    codes ": it would have " ++ decimal count ++ codes " lines, and 1000000 is the most.\n"
+
+-- where a record stops: the number of the change, the path of its file, and why
+abbrev pub stop_text : Stop → List ℕ
+stop_text stop = codes "Change " ++ decimal stop.change ++ codes ", file " ++ stop.path ++ hindrance_text stop.why
+
+-- what stands against a command
+abbrev pub cause_text : Cause → List ℕ
+cause_text (cause.FullRepository count) =
+    codes "There are " ++ decimal count ++ codes " branches, and 256 is the most: record in one of them.\n"
+cause_text (cause.FullBranch has more) =
+    codes "The branch has " ++ decimal has ++ codes " changes, and the patch " ++ decimal more
+    ++ codes " more: 4096 is the most.\n"
+cause_text (cause.FullWithPull has) =
+    codes "TO has " ++ decimal has ++ codes " changes, and with those of the pull more than 4096, which is the most.\n"
+cause_text (cause.LongSide change) =
+    codes "Change " ++ decimal change ++ codes " has a side of more than 65535 lines.\n"
+cause_text (cause.Stops stop) = stop_text stop
+
+-- the same, where its refusal does not say it all
+abbrev pub found_text : Option Cause → List ℕ
+found_text None = []
+found_text (Some found) = cause_text found
+
+-- why a call is refused at a state, by the reason that its answer tells
+abbrev pub cause_for : Contents → Call → Reason → Option Cause
+cause_for state call reason.TooLarge = explained state call refusal.TooLarge
+cause_for state call reason.DoesNotApply = explained state call refusal.DoesNotApply
+cause_for state call other = None
+
+-- the same of a command; a question has no more than its refusal says
+abbrev pub cause_found : Contents → Asked → Reason → Option Cause
+cause_found state (asked.Call call) reason = cause_for state call reason
+cause_found state other reason = None
+
+-- the reason of a refusal, by the words of its answer: behind `refused` stands the number
+abbrev pub reason_in : List (List ℕ) → Option Reason
+reason_in (word ∷ number ∷ names) = reason_at number
+reason_in others = None
+
+-- the answer, what it says, what stands against the command, and what can be done
+abbrev pub refusal_lines : Contents → Asked → List ℕ → Option Reason → List ℕ
+refusal_lines state asked answer None = answer
+refusal_lines state asked answer (Some reason) =
+    answer ++ saying reason ++ found_text (cause_found state asked reason) ++ cure reason
+
+-- ---- of any
+
+-- whether the first word of a command is that of a line of a body or a group, also where LF has CR before it
+abbrev pub is_inner : List ℕ → Bool
+is_inner word =
+    begins_signed word || (bytes_eq word (codes "end") || (bytes_eq word (codes "end\r")
+    || (bytes_eq word (codes "done") || bytes_eq word (codes "done\r"))))
+
+-- whether a kind is that of a line that begins no command
+abbrev pub is_unknown : FaultKind → Bool
+is_unknown kind.UnknownCommand = true
+is_unknown other = false
+
+-- whether a fault comes of one before it: its command is a line of a body or a group that was not begun
+abbrev pub comes_of_another : FaultKind → List (List ℕ) → Bool
+comes_of_another kind lines = is_unknown kind && is_inner (first_word (words_of (first_of lines)))
+
+-- the lines that tell why a command with a fault is not done; where that comes of a fault before it, they stay
+abbrev pub fault_cause : List ℕ → LineFault → List (List ℕ) → List ℕ → List ℕ
+fault_cause before fault lines answer =
+    if not (length before == 0) && comes_of_another fault.kind lines then before
+    else fault_lines fault.kind (line_at fault.line lines) answer
+
+-- the lines that tell why a command is not done, by what they were before, the state, its lines, what it asks and its
+-- answer
+abbrev pub cause_with : List ℕ → Contents → List (List ℕ) → Result Asked LineFault → List ℕ → List ℕ
+cause_with before state lines (Err fault) answer = fault_cause before fault lines answer
+cause_with before state lines (Ok asked) answer =
+    refusal_lines state asked answer (reason_in (words_of (first_of (lines_of answer))))
+
+-- by the state, the command and its answer
+abbrev pub cause_of : List ℕ → Contents → List ℕ → List ℕ → List ℕ
+cause_of before state command answer = cause_with before state (lines_in command) (asked_by command) answer

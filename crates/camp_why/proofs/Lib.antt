@@ -1,0 +1,4 @@
+mod Words
+pub mod Causing
+pub mod Misfitting
+pub mod Stopping

@@ -1,0 +1,323 @@
+-- Where a change does not apply, and where it does.
+use Rattle.camp_why.proofs.Words.{Bool, true, false, cond, ◌++◌, ◌+◌, ◌-◌, ◌≡◌, ◌≢◌, ◌≤◌, ◌<◌, ◌∙◌, ◌∷◌, ℕ, zero, suc, List, [], Option, Some, None, get, insert, ap, append_assoc, arith, bytes_eq, bytes_eq-Decides, drop, drop-drop, drop_all, false≢true, le-ltb, length, length-append, length-drop, length-take-le, ltb-false, ltb-true, nat_lt, none-some, not, refl, same_Some, slice_get, slice_get_past, subst, sym, take, take-append-drop, Files, Lines, SplicesLines, Applies, InRange, Edit, Primitive, Add, Hunk, Remove, IsMisfit, lines_misfit, why_not, other_line, Misfit, EndsBefore, FileIsThere, HasLines, NoFile, OtherLine}
+use Rattle.camp_why.specs.Misfits.{Edits, add_misfit, edit_misfit, remove_misfit}
+
+-- ---- lists from a place on
+
+pub at_front : {X : Type 0} (xs : List X) (i : ℕ) (x : X) → slice_get xs i ≡ Some x → drop i xs ≡ x ∷ drop (suc i) xs
+at_front [] i x e = absurd (none-some x e)
+at_front (y ∷ ys) zero x e = ap (λ z. z ∷ ys) (same_Some _ _ e)
+at_front (y ∷ ys) (suc i) x e = at_front ys i x e
+
+get_drop : (lines : Lines) (n k : ℕ) → slice_get (drop n lines) k ≡ slice_get lines (n + k)
+get_drop lines zero k =
+    let place : k ≡ 0 + k = omega arith in
+    ap (slice_get lines) place
+get_drop [] (suc n) k = sym (slice_get_past {X = List ℕ} [] (suc n + k) (omega arith) ∙ sym (slice_get_past {X = List ℕ} [] k (omega arith)))
+get_drop (line ∷ lines) (suc n) k =
+    let place : suc (n + k) ≡ suc n + k = omega arith in
+    get_drop lines n k ∙ ap (slice_get (line ∷ lines)) place
+
+-- ---- the first line that is another one
+
+-- a line that is another one, behind so many that are not
+record FindsOther (at : ℕ) (old lines : Lines) (why : Misfit) : Type 0 where
+  before : ℕ
+  stands : List ℕ
+  expected : List ℕ
+  is : why ≡ OtherLine (at + before) stands expected
+  is_expected : slice_get old before ≡ Some expected
+  is_there : slice_get lines before ≡ Some stands
+  other : stands ≢ expected
+
+differ : (stands expected : List ℕ) → bytes_eq stands expected ≡ false → stands ≢ expected
+differ stands expected unlike same = false≢true (sym unlike ∙ (bytes_eq-Decides stands expected).1 same)
+
+-- by whether the first line is another one
+other_by : (at : ℕ) (expected stands : List ℕ) (old lines : Lines) (why : Misfit)
+    → (other_line (suc at) old lines ≡ Some why → FindsOther (suc at) old lines why) → (b : Bool) → bytes_eq stands expected ≡ b
+    → cond b (other_line (suc at) old lines) (Some (OtherLine at stands expected)) ≡ Some why
+    → FindsOther at (expected ∷ old) (stands ∷ lines) why
+other_by at expected stands old lines why behind true is e =
+    let rest = behind e in
+    let place : suc at + rest.before ≡ at + suc rest.before = omega arith in
+    record {
+      before = suc rest.before;
+      stands = rest.stands;
+      expected = rest.expected;
+      is = rest.is ∙ ap (λ n. OtherLine n rest.stands rest.expected) place;
+      is_expected = rest.is_expected;
+      is_there = rest.is_there;
+      other = rest.other;
+    }
+other_by at expected stands old lines why behind false is e =
+    let place : at ≡ at + 0 = omega arith in
+    record {
+      before = 0;
+      stands = stands;
+      expected = expected;
+      is = sym (same_Some _ _ e) ∙ ap (λ n. OtherLine n stands expected) place;
+      is_expected = refl;
+      is_there = refl;
+      other = differ stands expected is;
+    }
+
+finds_other : (at : ℕ) (old lines : Lines) (why : Misfit) → other_line at old lines ≡ Some why → FindsOther at old lines why
+finds_other at [] lines why e = absurd (none-some why e)
+finds_other at (expected ∷ old) [] why e = absurd (none-some why e)
+finds_other at (expected ∷ old) (stands ∷ lines) why e =
+    other_by at expected stands old lines why (finds_other (suc at) old lines why) (bytes_eq stands expected) refl e
+
+stand_by : (at : ℕ) (expected stands : List ℕ) (old lines : Lines) → (other_line (suc at) old lines ≡ None → take (length old) lines ≡ old)
+    → (b : Bool) → bytes_eq stands expected ≡ b
+    → cond b (other_line (suc at) old lines) (Some (OtherLine at stands expected)) ≡ None
+    → take (length (expected ∷ old)) (stands ∷ lines) ≡ expected ∷ old
+stand_by at expected stands old lines behind true is e =
+    (λ j. (bytes_eq-Decides stands expected).0 is j ∷ behind e j)
+stand_by at expected stands old lines behind false is e = absurd (none-some _ (sym e))
+
+-- where no line is another one, the old lines stand there
+all_stand : (at : ℕ) (old lines : Lines) → length old ≤ length lines → other_line at old lines ≡ None → take (length old) lines ≡ old
+all_stand at [] [] within e = refl
+all_stand at [] (line ∷ lines) within e = refl
+all_stand at (expected ∷ old) [] within e = absurd (omega (arith, within))
+all_stand at (expected ∷ old) (stands ∷ lines) within e =
+    stand_by at expected stands old lines (all_stand (suc at) old lines (omega (arith, within))) (bytes_eq stands expected) refl e
+
+-- ---- the reason that is told is one
+
+module _ (change : Primitive) (tree : Files) (why : Misfit) where
+  told_as : (other : Misfit) → Some other ≡ Some why → IsMisfit change tree other → IsMisfit change tree why
+  told_as other e is = subst (IsMisfit change tree) (same_Some _ _ e) is
+
+told_of_lines : (hunk : Edit) (tree : Files) (lines : Lines) (why : Misfit) → get tree hunk.path ≡ Some lines
+    → lines_misfit hunk lines ≡ Some why → IsMisfit (Hunk hunk) tree why
+told_of_lines hunk tree lines why found e = by (nat_lt (length lines) (hunk.line - 1 + length hunk.old)) refl e
+  where
+    edits : Edits (Hunk hunk) tree hunk lines
+    edits = record { edits = refl; found = found }
+
+    by : (b : Bool) → nat_lt (length lines) (hunk.line - 1 + length hunk.old) ≡ b
+        → cond b (Some (EndsBefore (length lines) (hunk.line - 1 + length hunk.old))) (other_line hunk.line hunk.old (drop (hunk.line - 1) lines)) ≡ Some why
+        → IsMisfit (Hunk hunk) tree why
+    by true is e = told_as (Hunk hunk) tree why (EndsBefore (length lines) (hunk.line - 1 + length hunk.old)) e (record {
+      hunk = hunk;
+      lines = lines;
+      edits = edits;
+      counts = refl;
+      reaches = refl;
+      behind = ltb-true (length lines) (hunk.line - 1 + length hunk.old) is;
+    })
+    by false is e =
+        let finds = finds_other hunk.line hunk.old (drop (hunk.line - 1) lines) why e in
+        let is_so : IsMisfit (Hunk hunk) tree (OtherLine (hunk.line + finds.before) finds.stands finds.expected) =
+        record {
+          hunk = hunk;
+          lines = lines;
+          edits = edits;
+          before = finds.before;
+          is_at = refl;
+          is_expected = finds.is_expected;
+          is_there = sym (get_drop lines (hunk.line - 1) finds.before) ∙ finds.is_there;
+          other = finds.other;
+        } in
+        subst (IsMisfit (Hunk hunk) tree) (sym finds.is) is_so
+
+pub is_told : (change : Primitive) (tree : Files) (why : Misfit) → why_not change tree ≡ Some why → IsMisfit change tree why
+is_told (Add path) tree why e = by (get tree path) refl e
+  where
+    by : (found : Option Lines) → get tree path ≡ found → add_misfit found ≡ Some why → IsMisfit (Add path) tree why
+    by None is e = absurd (none-some why e)
+    by (Some lines) is e =
+        told_as (Add path) tree why FileIsThere e (record { path = path; adds = refl; lines = lines; found = is })
+is_told (Remove path) tree why e = by (get tree path) refl e
+  where
+    by : (found : Option Lines) → get tree path ≡ found → remove_misfit found ≡ Some why → IsMisfit (Remove path) tree why
+    by None is e = told_as (Remove path) tree why NoFile e (record { wants = refl; absent = is })
+    by (Some []) is e = absurd (none-some why e)
+    by (Some (line ∷ lines)) is e = told_as (Remove path) tree why (HasLines (length (line ∷ lines))) e (record {
+      path = path;
+      removes = refl;
+      lines = line ∷ lines;
+      found = is;
+      counts = refl;
+      some = λ none. omega (arith, none);
+    })
+is_told (Hunk hunk) tree why e = by (get tree hunk.path) refl e
+  where
+    by : (found : Option Lines) → get tree hunk.path ≡ found → edit_misfit hunk found ≡ Some why → IsMisfit (Hunk hunk) tree why
+    by None is e = told_as (Hunk hunk) tree why NoFile e (record { wants = refl; absent = is })
+    by (Some lines) is e = told_of_lines hunk tree lines why is e
+
+-- ---- where it is one, the change does not apply
+
+get_behind : (front back : Lines) (k p : ℕ) → p ≡ length front + k → slice_get (front ++ back) p ≡ slice_get back k
+get_behind [] back k p e =
+    let same : p ≡ k = omega (arith, e) in
+    ap (slice_get back) same
+get_behind (line ∷ front) back k p e =
+    let same : p ≡ suc (length front + k) = omega (arith, e) in
+    ap (slice_get (line ∷ (front ++ back))) same ∙ get_behind front back k (length front + k) refl
+
+get_in_front : (front back : Lines) (k : ℕ) (line : List ℕ) → slice_get front k ≡ Some line → slice_get (front ++ back) k ≡ Some line
+get_in_front [] back k line is = absurd (none-some line is)
+get_in_front (first ∷ front) back zero line is = is
+get_in_front (first ∷ front) back (suc k) line is = get_in_front front back k line is
+
+module _ (hunk : Edit) (lines other changed : Lines) (same : lines ≡ other) (splices : SplicesLines hunk.line hunk.old hunk.new other changed) where
+  is : lines ≡ splices.before ++ (hunk.old ++ splices.after)
+  is = same ∙ splices.was ∙ append_assoc splices.before hunk.old splices.after
+
+  not_behind : (has wants : ℕ) → has ≡ length lines → wants ≡ hunk.line - 1 + length hunk.old → ¬ (has < wants)
+  not_behind has wants counts reaches behind =
+      let long : length lines ≡ length splices.before + (length hunk.old + length splices.after) =
+      ap length is ∙ length-append splices.before (hunk.old ++ splices.after)
+      ∙ ap (λ n. length splices.before + n) (length-append hunk.old splices.after) in
+      omega (arith, long, splices.at, counts, reaches, behind)
+
+  not_other : (before : ℕ) (stands expected : List ℕ) → slice_get hunk.old before ≡ Some expected
+      → slice_get lines (hunk.line - 1 + before) ≡ Some stands → ¬ (stands ≢ expected)
+  not_other before stands expected is_expected is_there differs =
+      let place : hunk.line - 1 + before ≡ length splices.before + before = omega (arith, splices.at) in
+      let expects : slice_get lines (hunk.line - 1 + before) ≡ Some expected =
+      ap (λ (ls : Lines). slice_get ls (hunk.line - 1 + before)) is
+      ∙ get_behind splices.before (hunk.old ++ splices.after) before (hunk.line - 1 + before) place
+      ∙ get_in_front hunk.old splices.after before expected is_expected in
+      differs (same_Some _ _ (sym is_there ∙ expects))
+
+pub not_applied : (change : Primitive) (tree next : Files) (why : Misfit) → IsMisfit change tree why → ¬ (Applies change tree next)
+not_applied change tree next FileIsThere m applies =
+    let adds = subst (λ c. Applies c tree next) m.adds applies in
+    none-some _ (sym adds.absent ∙ m.found)
+not_applied (Add path) tree next NoFile m applies = false≢true m.wants
+not_applied (Remove path) tree next NoFile m applies = none-some _ (sym m.absent ∙ applies.empty)
+not_applied (Hunk hunk) tree next NoFile m applies = none-some _ (sym m.absent ∙ applies.found)
+not_applied change tree next (HasLines count) m applies =
+    let removes = subst (λ c. Applies c tree next) m.removes applies in
+    m.some (m.counts ∙ ap length (same_Some _ _ (sym m.found ∙ removes.empty)))
+not_applied change tree next (EndsBefore has wants) m applies =
+    let splices = subst (λ c. Applies c tree next) m.edits.edits applies in
+    not_behind m.hunk m.lines splices.lines splices.changed (same_Some _ _ (sym m.edits.found ∙ splices.found)) splices.splices has wants m.counts m.reaches m.behind
+not_applied change tree next (OtherLine at stands expected) m applies =
+    let splices = subst (λ c. Applies c tree next) m.edits.edits applies in
+    not_other m.hunk m.lines splices.lines splices.changed (same_Some _ _ (sym m.edits.found ∙ splices.found)) splices.splices m.before stands expected m.is_expected m.is_there m.other
+
+-- ---- where none is told, it applies
+
+-- where the old lines stand, others can be put in their place
+can_splice : (hunk : Edit) (lines : Lines) → 1 ≤ hunk.line → hunk.line - 1 + length hunk.old ≤ length lines
+    → take (length hunk.old) (drop (hunk.line - 1) lines) ≡ hunk.old
+    → (changed : Lines) × SplicesLines hunk.line hunk.old hunk.new lines changed
+can_splice hunk lines positive within same =
+    let start = hunk.line - 1 in
+    let size : length (take start lines) ≡ start = length-take-le start lines (omega (arith, within)) in
+    let behind : drop start lines ≡ hunk.old ++ drop (start + length hunk.old) lines =
+    sym (take-append-drop (length hunk.old) (drop start lines)) ∙ (λ j. same j ++ drop-drop (length hunk.old) start lines j) in (
+      take start lines ++ hunk.new ++ drop (start + length hunk.old) lines,
+      record {
+        before = take start lines;
+        after = drop (start + length hunk.old) lines;
+        at = omega (arith, size, positive);
+        was = sym (take-append-drop start lines) ∙ ap (λ (ls : Lines). take start lines ++ ls) behind
+            ∙ sym (append_assoc (take start lines) hunk.old (drop (start + length hunk.old) lines));
+        becomes = refl;
+      },
+    )
+
+edit_applies : (hunk : Edit) (tree : Files) (lines : Lines) → 1 ≤ hunk.line → get tree hunk.path ≡ Some lines
+    → lines_misfit hunk lines ≡ None → (next : Files) × Applies (Hunk hunk) tree next
+edit_applies hunk tree lines positive found e = by (nat_lt (length lines) (hunk.line - 1 + length hunk.old)) refl e
+  where
+    by : (b : Bool) → nat_lt (length lines) (hunk.line - 1 + length hunk.old) ≡ b
+        → cond b (Some (EndsBefore (length lines) (hunk.line - 1 + length hunk.old))) (other_line hunk.line hunk.old (drop (hunk.line - 1) lines)) ≡ None
+        → (next : Files) × Applies (Hunk hunk) tree next
+    by true is e = absurd (none-some _ (sym e))
+    by false is e =
+        let enough = ltb-false (length lines) (hunk.line - 1 + length hunk.old) is in
+        let stand = all_stand hunk.line hunk.old (drop (hunk.line - 1) lines) (omega (arith, enough, length-drop (hunk.line - 1) lines)) e in
+        let (changed, splices) = can_splice hunk lines positive enough stand in
+        (insert tree hunk.path changed, record { lines = lines; changed = changed; found = found; splices = splices; becomes = refl })
+
+pub none_applies : (change : Primitive) (tree : Files) → InRange change → why_not change tree ≡ None → (next : Files) × Applies change tree next
+none_applies (Add path) tree range e = by (get tree path) refl e
+  where
+    by : (found : Option Lines) → get tree path ≡ found → add_misfit found ≡ None → (next : Files) × Applies (Add path) tree next
+    by None is e = (_, record { absent = is; becomes = refl })
+    by (Some lines) is e = absurd (none-some _ (sym e))
+none_applies (Remove path) tree range e = by (get tree path) refl e
+  where
+    by : (found : Option Lines) → get tree path ≡ found → remove_misfit found ≡ None → (next : Files) × Applies (Remove path) tree next
+    by None is e = absurd (none-some _ (sym e))
+    by (Some []) is e = (_, record { empty = is; becomes = refl })
+    by (Some (line ∷ lines)) is e = absurd (none-some _ (sym e))
+none_applies (Hunk hunk) tree range e = by (get tree hunk.path) refl e
+  where
+    by : (found : Option Lines) → get tree hunk.path ≡ found → edit_misfit hunk found ≡ None → (next : Files) × Applies (Hunk hunk) tree next
+    by None is e = absurd (none-some _ (sym e))
+    by (Some lines) is e = edit_applies hunk tree lines range.counted is e
+
+-- ---- line by line
+
+-- what is found from a place of the old lines on
+abbrev pub found_from : ℕ → ℕ → Lines → Lines → Option Misfit
+found_from from at old lines = other_line (suc (from + at)) (drop at old) (drop (from + at) lines)
+
+pub found_at_first : (hunk : Edit) (from : ℕ) (old lines : Lines) → from ≡ hunk.line - 1 → 1 ≤ hunk.line → old ≡ hunk.old
+    → found_from from 0 old lines ≡ other_line hunk.line hunk.old (drop (hunk.line - 1) lines)
+found_at_first hunk from old lines is positive same =
+    let line : suc (from + 0) ≡ hunk.line = omega (arith, is, positive) in
+    let start : from + 0 ≡ hunk.line - 1 = omega (arith, is) in
+    (λ j. other_line (line j) (same j) (drop (start j) lines))
+
+module _ (from at : ℕ) (old lines : Lines) (stands expected : List ℕ) (is_expected : slice_get old at ≡ Some expected) (is_there : slice_get lines (from + at) ≡ Some stands) where
+  here : found_from from at old lines
+      ≡ cond (bytes_eq stands expected) (other_line (suc (suc (from + at))) (drop (suc at) old) (drop (suc (from + at)) lines)) (Some (OtherLine (suc (from + at)) stands expected))
+  here = (λ j. other_line (suc (from + at)) (at_front old at expected is_expected j) (at_front lines (from + at) stands is_there j))
+
+  pub found_same : bytes_eq stands expected ≡ true → found_from from (at + 1) old lines ≡ found_from from at old lines
+  found_same same =
+      let next : at + 1 ≡ suc at = omega arith in
+      let place : from + (at + 1) ≡ suc (from + at) = omega arith in
+      (λ j. other_line (suc (place j)) (drop (next j) old) (drop (place j) lines))
+      ∙ sym (here ∙ ap (λ b. cond b (other_line (suc (suc (from + at))) (drop (suc at) old) (drop (suc (from + at)) lines)) (Some (OtherLine (suc (from + at)) stands expected))) same)
+
+  pub found_other : bytes_eq stands expected ≡ false → found_from from at old lines ≡ Some (OtherLine (suc (from + at)) stands expected)
+  found_other other =
+      here ∙ ap (λ b. cond b (other_line (suc (suc (from + at))) (drop (suc at) old) (drop (suc (from + at)) lines)) (Some (OtherLine (suc (from + at)) stands expected))) other
+
+pub found_none : (from at : ℕ) (old lines : Lines) → length old ≡ at → found_from from at old lines ≡ None
+found_none from at old lines all =
+    ap (λ (ls : Lines). other_line (suc (from + at)) ls (drop (from + at) lines)) (drop_all at old (omega (arith, all)))
+
+not_true : (b : Bool) → true ≡ not b → b ≡ false
+not_true true e = absurd (false≢true (sym e))
+not_true false e = refl
+
+not_false : (b : Bool) → false ≡ not b → b ≡ true
+not_false true e = refl
+not_false false e = absurd (false≢true e)
+
+module _ (hunk : Edit) (lines : Lines) (from : ℕ) (old : Lines) (is : from ≡ hunk.line - 1) (same : old ≡ hunk.old) (within : from + length old ≤ length lines) where
+  -- the edit does not reach behind the last line
+  lies : lines_misfit hunk lines ≡ other_line hunk.line hunk.old (drop (hunk.line - 1) lines)
+  lies =
+      let size : length old ≡ length hunk.old = ap length same in
+      let short : nat_lt (length lines) (hunk.line - 1 + length hunk.old) ≡ false =
+      le-ltb (length lines) (hunk.line - 1 + length hunk.old) (omega (arith, within, size, is)) in
+      ap (λ b. cond b (Some (EndsBefore (length lines) (hunk.line - 1 + length hunk.old))) (other_line hunk.line hunk.old (drop (hunk.line - 1) lines))) short
+
+  module _ (at : ℕ) (found : found_from from at old lines ≡ other_line hunk.line hunk.old (drop (hunk.line - 1) lines)) where
+    pub differs : (stands expected : List ℕ) → slice_get old at ≡ Some expected → slice_get lines (from + at) ≡ Some stands
+        → true ≡ not (bytes_eq stands expected) → (s e : List ℕ) → s ≡ stands → e ≡ expected
+        → Some (OtherLine (from + at + 1) s e) ≡ lines_misfit hunk lines
+    differs stands expected is_expected is_there other s e s_is e_is =
+        let number : from + at + 1 ≡ suc (from + at) = omega arith in
+        (λ j. Some (OtherLine (number j) (s_is j) (e_is j)))
+        ∙ sym (found_other from at old lines stands expected is_expected is_there (not_true (bytes_eq stands expected) other))
+        ∙ found ∙ sym lies
+
+    pub agrees : (stands expected : List ℕ) → slice_get old at ≡ Some expected → slice_get lines (from + at) ≡ Some stands
+        → false ≡ not (bytes_eq stands expected)
+        → found_from from (at + 1) old lines ≡ other_line hunk.line hunk.old (drop (hunk.line - 1) lines)
+    agrees stands expected is_expected is_there same =
+        found_same from at old lines stands expected is_expected is_there (not_false (bytes_eq stands expected) same) ∙ found

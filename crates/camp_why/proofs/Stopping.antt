@@ -1,0 +1,232 @@
+-- Changes that are made one after the other, up to one that can't be.
+use Rattle.std.proofs.Common.{Err, Ok, Result}
+use Rattle.std.specs.List.{AllByRecursion}
+use Rattle.camp_why.proofs.Words.{◌+◌, ◌≡◌, ◌∙◌, ◌∷◌, ℕ, suc, Bool, true, false, cond, List, [], length, drop, drop_all, take, slice_get, None, Some, Option, ap, arith, ltb-true, nat_lt, none-some, option_map_or, refl, same_Some, subst, sym, get, Files, Lines, AppliesEach, Applies, Applies-from_applied, InRange, Primitive, applied, applied-from_Applies, path_of, why_not, Misfit}
+use Rattle.camp_why.proofs.Misfitting.{at_front, is_told, none_applies, not_applied}
+use Rattle.camp_call.specs.declared.replies.Refusal.{Refusal}
+use Rattle.camp_call.specs.declared.replies.Refusal.TheVariants.{DoesNotApply, TooLarge}
+use Rattle.camp_repo.specs.Steps.{changed, led_to, longest_file, then_from}
+use Rattle.camp_why.specs.Stops.{IsHindrance, IsStop, first_stop, hindrance, long_file, made_long, misfit_or, refusal_at, stop_or}
+use Rattle.camp_why.specs.declared.stops.Hindrance.{Hindrance}
+use Rattle.camp_why.specs.declared.stops.Hindrance.TheVariants as hindrance_of
+use Rattle.camp_why.specs.declared.stops.Stop.{Stop}
+
+-- ---- change by change
+
+pub stop_at_first : (changes : List Primitive) (tree copy : Files) → copy ≡ tree → first_stop 1 (drop 0 changes) copy ≡ first_stop 1 changes tree
+stop_at_first changes tree copy same = ap (first_stop 1 changes) same
+
+module _ (changes : List Primitive) (at : ℕ) (met : Files) (change : Primitive) (is : slice_get changes at ≡ Some change) where
+  stop_here : first_stop (suc at) (drop at changes) met
+      ≡ stop_or (suc at) change (hindrance change met) (applied change met) (first_stop (suc (suc at)) (drop (suc at) changes))
+  stop_here = ap (λ (cs : List Primitive). first_stop (suc at) cs met) (at_front changes at change is)
+
+  -- a change that is made leads on
+  pub stop_behind : (next : Files) → hindrance change met ≡ None → applied change met ≡ Some next
+      → first_stop (suc (at + 1)) (drop (at + 1) changes) next ≡ first_stop (suc at) (drop at changes) met
+  stop_behind next free made =
+      let place : at + 1 ≡ suc at = omega arith in
+      (λ j. first_stop (suc (place j)) (drop (place j) changes) next)
+      ∙ sym (stop_here ∙ (λ j. stop_or (suc at) change (free j) (made j) (first_stop (suc (suc at)) (drop (suc at) changes))))
+
+  -- one that can't be made is the stop
+  pub stop_is : (why : Hindrance) → hindrance change met ≡ Some why
+      → first_stop (suc at) (drop at changes) met ≡ Some (record { change = suc at; path = path_of change; why = why })
+  stop_is why hinders =
+      stop_here ∙ ap (λ h. stop_or (suc at) change h (applied change met) (first_stop (suc (suc at)) (drop (suc at) changes))) hinders
+
+pub stop_none : (changes : List Primitive) (at : ℕ) (met : Files) → length changes ≡ at → first_stop (suc at) (drop at changes) met ≡ None
+stop_none changes at met all = ap (λ (cs : List Primitive). first_stop (suc at) cs met) (drop_all at changes (omega (arith, all)))
+
+-- ---- the reason that is told is one
+
+module _ (change : Primitive) (tree : Files) (why : Hindrance) where
+  long_told : (next : Files) → applied change tree ≡ Some next → (found : Option Lines) → get next (path_of change) ≡ found
+      → long_file found ≡ Some why → IsHindrance change tree why
+  long_told next made None is e = absurd (none-some why e)
+  long_told next made (Some lines) is e = by (nat_lt longest_file (length lines)) refl e
+    where
+      by : (b : Bool) → nat_lt longest_file (length lines) ≡ b → cond b (Some (hindrance_of.TooLong (length lines))) None ≡ Some why
+          → IsHindrance change tree why
+      by true long e =
+          let is_so : IsHindrance change tree (hindrance_of.TooLong (length lines)) =
+          record {
+            next = next;
+            applies = Applies-from_applied change tree next made;
+            lines = lines;
+            found = is;
+            counts = refl;
+            long = ltb-true longest_file (length lines) long;
+          } in
+          subst (IsHindrance change tree) (same_Some _ _ e) is_so
+      by false long e = absurd (none-some why e)
+
+  made_told : (made : Option Files) → applied change tree ≡ made → made_long (path_of change) made ≡ Some why → IsHindrance change tree why
+  made_told None is e = absurd (none-some why e)
+  made_told (Some next) is e = long_told next is (get next (path_of change)) refl e
+
+  pub hindrance_told : hindrance change tree ≡ Some why → IsHindrance change tree why
+  hindrance_told e = by (why_not change tree) refl e
+    where
+      by : (reason : Option Misfit) → why_not change tree ≡ reason
+          → misfit_or reason (made_long (path_of change) (applied change tree)) ≡ Some why → IsHindrance change tree why
+      by None is e = made_told (applied change tree) refl e
+      by (Some reason) is e = subst (IsHindrance change tree) (same_Some _ _ e) (is_told change tree reason is)
+
+-- changes stop behind so many others
+record StopsBehind (at : ℕ) (changes : List Primitive) (tree : Files) (stop : Stop) : Type 0 where
+  before : ℕ
+  numbered : stop.change ≡ suc (at + before)
+  met : Files
+  leads : AppliesEach (take before changes) tree met
+  change : Primitive
+  is : slice_get changes before ≡ Some change
+  of_file : stop.path ≡ path_of change
+  hinders : IsHindrance change met stop.why
+
+-- by what stands against the first, and where it leads
+stop_by : (at : ℕ) (change : Primitive) (changes : List Primitive) (tree : Files) (stop : Stop)
+    → ((next : Files) → first_stop (suc (suc at)) changes next ≡ Some stop → StopsBehind (suc at) changes next stop)
+    → (h : Option Hindrance) → hindrance change tree ≡ h → (made : Option Files) → applied change tree ≡ made
+    → stop_or (suc at) change h made (first_stop (suc (suc at)) changes) ≡ Some stop → StopsBehind at (change ∷ changes) tree stop
+stop_by at change changes tree stop behind (Some why) is made led e =
+    let same : record { change = suc at; path = path_of change; why = why } ≡ stop = same_Some _ _ e in
+    let number : suc at ≡ suc (at + 0) = omega arith in
+    record {
+      before = 0;
+      numbered = ap (λ (s : Stop). s.change) (sym same) ∙ number;
+      met = tree;
+      leads = refl;
+      change = change;
+      is = refl;
+      of_file = ap (λ (s : Stop). s.path) (sym same);
+      hinders = subst (λ (s : Stop). IsHindrance change tree s.why) same (hindrance_told change tree why is);
+    }
+stop_by at change changes tree stop behind None is None led e = absurd (none-some stop e)
+stop_by at change changes tree stop behind None is (Some next) led e =
+    let rest = behind next e in
+    let number : suc (suc at + rest.before) ≡ suc (at + suc rest.before) = omega arith in
+    record {
+      before = suc rest.before;
+      numbered = rest.numbered ∙ number;
+      met = rest.met;
+      leads = (next, Applies-from_applied change tree next led, rest.leads);
+      change = rest.change;
+      is = rest.is;
+      of_file = rest.of_file;
+      hinders = rest.hinders;
+    }
+
+stop_told : (at : ℕ) (changes : List Primitive) (tree : Files) (stop : Stop) → first_stop (suc at) changes tree ≡ Some stop → StopsBehind at changes tree stop
+stop_told at [] tree stop e = absurd (none-some stop e)
+stop_told at (change ∷ changes) tree stop e =
+    stop_by at change changes tree stop (λ next. stop_told (suc at) changes next stop) (hindrance change tree) refl (applied change tree) refl e
+
+pub is_stop : (changes : List Primitive) (tree : Files) (stop : Stop) → first_stop 1 changes tree ≡ Some stop → IsStop changes tree stop
+is_stop changes tree stop e =
+    let behind = stop_told 0 changes tree stop e in
+    let number : suc (0 + behind.before) ≡ suc behind.before = omega arith in
+    record {
+      before = behind.before;
+      numbered = behind.numbered ∙ number;
+      met = behind.met;
+      leads = behind.leads;
+      change = behind.change;
+      is = behind.is;
+      of_file = behind.of_file;
+      hinders = behind.hinders;
+    }
+
+-- ---- where changes come to a refusal, there is a stop with that one
+
+-- the first stop is told of these changes, and has this refusal
+pub record StopsWith (at : ℕ) (changes : List Primitive) (tree : Files) (refusal : Refusal) : Type 0 where
+  pub stop : Stop
+  pub first : first_stop at changes tree ≡ Some stop
+  pub of : refusal_at stop.why ≡ refusal
+
+stopped : (at : ℕ) (change : Primitive) (changes : List Primitive) (tree : Files) (why : Hindrance) (refusal : Refusal)
+    → hindrance change tree ≡ Some why → refusal_at why ≡ refusal → StopsWith at (change ∷ changes) tree refusal
+stopped at change changes tree why refusal hinders of = record {
+  stop = record { change = at; path = path_of change; why = why };
+  first = ap (λ h. stop_or at change h (applied change tree) (first_stop (suc at) changes)) hinders;
+  of = of;
+}
+
+-- the refusal of a result
+abbrev refusal_in : Result Files Refusal → Refusal
+refusal_in (Ok tree) = DoesNotApply
+refusal_in (Err refusal) = refusal
+
+applies_free : (change : Primitive) (tree next : Files) → applied change tree ≡ Some next → (reason : Option Misfit)
+    → why_not change tree ≡ reason → reason ≡ None
+applies_free change tree next made None is = refl
+applies_free change tree next made (Some why) is =
+    absurd (not_applied change tree next why (is_told change tree why is) (Applies-from_applied change tree next made))
+
+module _ (at : ℕ) (change : Primitive) (changes : List Primitive) (tree : Files) (refusal : Refusal) (range : InRange change)
+    (behind : (next : Files) → changed changes next ≡ Err refusal → StopsWith (suc at) changes next refusal) where
+  misfits : applied change tree ≡ None → (reason : Option Misfit) → why_not change tree ≡ reason → DoesNotApply ≡ refusal
+      → StopsWith at (change ∷ changes) tree refusal
+  misfits nowhere None is of =
+      let (next, applies) = none_applies change tree range is in
+      absurd (none-some next (sym nowhere ∙ applied-from_Applies change tree next applies))
+  misfits nowhere (Some why) is of =
+      stopped at change changes tree (hindrance_of.Misfit why) refusal
+      (ap (λ r. misfit_or r (made_long (path_of change) (applied change tree))) is) of
+
+  module _ (next : Files) (made : applied change tree ≡ Some next) where
+    hinders : hindrance change tree ≡ long_file (get next (path_of change))
+    hinders =
+        let free = applies_free change tree next made (why_not change tree) refl in
+        (λ j. misfit_or (free j) (made_long (path_of change) (made j)))
+
+    goes_on : hindrance change tree ≡ None → changed changes next ≡ Err refusal → StopsWith at (change ∷ changes) tree refusal
+    goes_on none e =
+        let rest = behind next e in
+        record {
+          stop = rest.stop;
+          first = (λ j. stop_or at change (none j) (made j) (first_stop (suc at) changes)) ∙ rest.first;
+          of = rest.of;
+        }
+
+    at_length : (lines : Lines) → get next (path_of change) ≡ Some lines → (b : Bool) → nat_lt longest_file (length lines) ≡ b
+        → then_from (cond b (Err TooLarge) (Ok next)) (changed changes) ≡ Err refusal → StopsWith at (change ∷ changes) tree refusal
+    at_length lines found true is e =
+        stopped at change changes tree (hindrance_of.TooLong (length lines)) refusal
+        (hinders ∙ ap long_file found ∙ ap (λ b. cond b (Some (hindrance_of.TooLong (length lines))) None) is)
+        (ap refusal_in e)
+    at_length lines found false is e =
+        goes_on (hinders ∙ ap long_file found ∙ ap (λ b. cond b (Some (hindrance_of.TooLong (length lines))) None) is) e
+
+    by_file : (found : Option Lines) → get next (path_of change) ≡ found
+        → then_from (cond (option_map_or (λ lines. nat_lt longest_file (length lines)) found false) (Err TooLarge) (Ok next)) (changed changes) ≡ Err refusal
+        → StopsWith at (change ∷ changes) tree refusal
+    by_file None found e = goes_on (hinders ∙ ap long_file found) e
+    by_file (Some lines) found e = at_length lines found (nat_lt longest_file (length lines)) refl e
+
+  by_made : (made : Option Files) → applied change tree ≡ made → then_from (led_to change made) (changed changes) ≡ Err refusal
+      → StopsWith at (change ∷ changes) tree refusal
+  by_made None is e = misfits is (why_not change tree) refl (ap refusal_in e)
+  by_made (Some next) is e = by_file next is (get next (path_of change)) refl e
+
+pub stops_with : (at : ℕ) (changes : List Primitive) (tree : Files) (refusal : Refusal) → AllByRecursion InRange changes
+    → changed changes tree ≡ Err refusal → StopsWith at changes tree refusal
+stops_with at [] tree refusal range e = cc
+stops_with at (change ∷ changes) tree refusal range e =
+    by_made at change changes tree refusal range.0 (λ next. stops_with (suc at) changes next refusal range.1) (applied change tree) refl e
+
+-- ---- one change
+
+module _ (change : Primitive) (tree next : Files) (free : why_not change tree ≡ None) (applies : Applies change tree next) where
+  -- a change that applies is hindered by a file that is too long alone
+  pub made_so : (path : List ℕ) → path ≡ path_of change → (result : Option Hindrance) → result ≡ long_file (get next path)
+      → result ≡ hindrance change tree
+  made_so path same result is =
+      is ∙ ap (λ (p : List ℕ). long_file (get next p)) same
+      ∙ sym (λ j. misfit_or (free j) (made_long (path_of change) (applied-from_Applies change tree next applies j)))
+
+-- a change in range of which no reason is told applies
+pub applies_or_not : (change : Primitive) (tree : Files) → InRange change → why_not change tree ≡ None
+    → ¬ ((next : Files) → ¬ (Applies change tree next))
+applies_or_not change tree range free never = let (next, applies) = none_applies change tree range free in never next applies

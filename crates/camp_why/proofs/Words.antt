@@ -1,0 +1,20 @@
+-- Words that the proofs of this crate have in common: of the standard library, of definitions, and of crates below.
+pub use Rattle.std.proofs.Common.{◌&&◌, ◌++◌, ◌+◌, ◌-◌, ◌<◌, ◌||◌, ◌∙◌, ◌∷◌, ◌≡◌, ◌≢◌, ◌≤◌, Bool, Err, List, None, Ok, Option, Result, Some, [], ap, append_assoc, arith, bytes_eq, cond, drop, false, length, length-append, nat_le, nat_lt, not, refl, rules, slice_get, subst, suc, sym, take, true, zero, ℕ}
+pub use Rattle.std.proofs.lemmas.Bool.{false≢true, le-ltb, ltb-false, ltb-true}
+pub use Rattle.std.proofs.lemmas.List.{drop-drop, drop_all, length-drop, length-take-le, take-append-drop}
+pub use Rattle.std.proofs.lemmas.Option.{none-some, same_Some, slice_get-get_or, slice_get_past}
+pub use Rattle.std.proofs.lemmas.Slice.Eq.{bytes_eq-Decides}
+pub use Rattle.std.specs.FinMap.{get, insert}
+pub use Rattle.std.specs.Option.{option_map_or}
+pub use Rattle.camp_base.specs.Trees.{Files, Lines, SplicesLines}
+pub use Rattle.camp_branch.specs.Laws.{AppliesEach}
+pub use Rattle.camp_prim.proofs.Applied.{Applies-from_applied, applied-from_Applies}
+pub use Rattle.camp_prim.specs.Applied.{applied}
+pub use Rattle.camp_prim.specs.Effect.{Applies, InRange}
+pub use Rattle.camp_prim.specs.Hunks.{Edit}
+pub use Rattle.camp_prim.specs.Swaps.{path_of}
+pub use Rattle.camp_prim.specs.declared.primitives.Primitive.{Primitive}
+pub use Rattle.camp_prim.specs.declared.primitives.Primitive.TheVariants.{Add, Hunk, Remove}
+pub use Rattle.camp_why.specs.Misfits.{IsMisfit, MeetsOther, lines_misfit, why_not, other_line}
+pub use Rattle.camp_why.specs.declared.misfits.Misfit.{Misfit}
+pub use Rattle.camp_why.specs.declared.misfits.Misfit.TheVariants.{EndsBefore, FileIsThere, HasLines, NoFile, OtherLine}

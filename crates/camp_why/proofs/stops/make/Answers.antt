@@ -1,0 +1,17 @@
+use Rattle.camp_why.proofs.Words.{applied-from_Applies, sym, ◌∙◌}
+use Rattle.camp_why.proofs.Stopping.{applies_or_not, made_so}
+use Rattle.camp_why.proofs.stops.make.Goals as goal
+
+pub unreachable-requires : goal.unreachable-requires
+unreachable-requires c =
+    let free = sym c.in_ok-why.ensures.exact ∙ c.in_default.is in
+    let never = rw c.in-Err-DoesNotApply.field-0-is at c.in-Err-DoesNotApply.ensures.exact in
+    applies_or_not c.args.change.now c.args.tree.now c.path-path.ensures.in_range free never.0
+
+pub returns-clause-tells : goal.returns-clause-tells
+returns-clause-tells c =
+    let free = sym c.in_ok-why.ensures.exact ∙ c.in_default.is in
+    made_so c.args.change.now c.args.tree.now c.apply.new.tree free c.in-Ok.ensures.exact c.path-path.result.now c.path-path.ensures.value c.long_file.result c.long_file.ensures
+
+pub returns-clause-makes : goal.returns-clause-makes
+returns-clause-makes c = λ none. applied-from_Applies c.args.change.now c.args.tree.now c.apply.new.tree c.in-Ok.ensures.exact

@@ -1,0 +1,157 @@
+-- Why a call is refused, where its refusal does not say it all.
+use Rattle.std.specs.Prelude.{◌≡◌, ◌<◌, ◌≤◌, ◌+◌, ℕ, suc, Bool, true, false, nat_lt, List, [], ◌∷◌, length, slice_get, Option, None, Some, if◌then◌else◌}
+use Rattle.camp_base.specs.Trees.{Files}
+use Rattle.camp_prim.specs.declared.primitives.Primitive.{Primitive}
+use Rattle.camp_catch.specs.declared.catches.Catch.{Catch}
+use Rattle.camp_branch.specs.Branches.{LeadsTo}
+use Rattle.camp_call.specs.declared.calls.Call.{Call}
+use Rattle.camp_call.specs.declared.calls.Call.TheVariants as call
+use Rattle.camp_call.specs.declared.replies.Refusal.{Refusal}
+use Rattle.camp_call.specs.declared.replies.Refusal.TheVariants.{DoesNotApply, TooLarge}
+use Rattle.camp_repo.specs.Laws.{Has}
+use Rattle.camp_repo.specs.States.{Contents, catches_of, tree_of}
+use Rattle.camp_repo.specs.Steps.{catches_named, has_long_side, listed, most_branches, most_catches, wanted}
+use Rattle.camp_why.specs.Stops.{IsStop, first_stop, refusal_at}
+use Rattle.camp_why.specs.declared.causes.Cause.{Cause}
+use Rattle.camp_why.specs.declared.causes.Cause.TheVariants.{FullBranch, FullRepository, FullWithPull, LongSide, Stops}
+use Rattle.camp_why.specs.declared.stops.Stop.{Stop}
+
+-- ---- the cause that is told
+
+-- whether a refusal says that a limit would be passed
+abbrev pub is_of_limit : Refusal → Bool
+is_of_limit TooLarge = true
+is_of_limit other = false
+
+-- whether a refusal of a record is about its changes
+abbrev pub is_of_changes : Refusal → Bool
+is_of_changes DoesNotApply = true
+is_of_changes TooLarge = true
+is_of_changes other = false
+
+-- the number of the first change with a side that is too long; the first of them has this number
+abbrev pub first_long : ℕ → List Primitive → Option ℕ
+first_long at [] = None
+first_long at (change ∷ changes) = if has_long_side change then Some at else first_long (suc at) changes
+
+-- that a record stops at a change, if it does
+abbrev pub stop_cause : Option Stop → Option Cause
+stop_cause None = None
+stop_cause (Some stop) = Some (Stops stop)
+
+-- where a record stops, by the tree that its branch has
+abbrev pub stop_from : List Primitive → Option Files → Option Cause
+stop_from changes None = None
+stop_from changes (Some tree) = stop_cause (first_stop 1 changes tree)
+
+-- that a side is too long, or else another cause
+abbrev pub long_or : Option ℕ → Option Cause → Option Cause
+long_or None other = other
+long_or (Some change) other = Some (LongSide change)
+
+-- why changes are not recorded, by the catches that their branch has
+abbrev pub record_cause : List Primitive → Option (List Catch) → Option Cause
+record_cause changes None = None
+record_cause changes (Some catches) =
+    if nat_lt most_catches (length catches + length changes) then Some (FullBranch (length catches) (length changes))
+    else long_or (first_long 1 changes) (stop_from changes (tree_of catches))
+
+-- that a repository has as many branches as it may have
+abbrev pub branch_cause : Contents → Refusal → Option Cause
+branch_cause state refusal = if is_of_limit refusal then Some (FullRepository (length state.branches)) else None
+
+-- that a branch has so many changes
+abbrev pub full_with_pull : Option (List Catch) → Option Cause
+full_with_pull None = None
+full_with_pull (Some ours) = Some (FullWithPull (length ours))
+
+-- that a branch would be too long with what is pulled, by the catches that it has
+abbrev pub pull_cause : Option (List Catch) → Refusal → Option Cause
+pull_cause found refusal = if is_of_limit refusal then full_with_pull found else None
+
+-- why a call is refused so at a state; nothing, where the refusal says it all
+abbrev pub explained : Contents → Call → Refusal → Option Cause
+explained state (call.Branch new from) refusal = branch_cause state refusal
+explained state (call.Record branch name changes) refusal =
+    if is_of_changes refusal then record_cause changes (catches_of state.branches branch) else None
+explained state (call.Pull from to names) refusal = pull_cause (catches_of state.branches to) refusal
+explained state other refusal = None
+
+-- ---- what it says
+
+-- the refusal of a cause
+abbrev pub refusal_by : Cause → Refusal
+refusal_by (FullRepository count) = TooLarge
+refusal_by (FullBranch has more) = TooLarge
+refusal_by (FullWithPull has) = TooLarge
+refusal_by (LongSide change) = TooLarge
+refusal_by (Stops stop) = refusal_at stop.why
+
+-- a repository has so many branches, and no more may be made
+pub record FillsRepository (state : Contents) (asked : Call) (count : ℕ) : Type 0 where
+  pub new : List ℕ
+  pub from : List ℕ
+  pub copies : asked ≡ call.Branch new from
+  pub counts : count ≡ length state.branches
+  pub full : most_branches ≤ count
+
+-- changes are recorded in a branch with these catches
+pub record RecordsIn (state : Contents) (asked : Call) (catches : List Catch) (changes : List Primitive) : Type 0 where
+  pub branch : List ℕ
+  pub name : List ℕ
+  pub records : asked ≡ call.Record branch name changes
+  pub has : Has state branch catches
+
+-- a branch has so many changes, and with so many more it would have too many
+pub record FillsBranch (state : Contents) (asked : Call) (has more : ℕ) : Type 0 where
+  pub catches : List Catch
+  pub changes : List Primitive
+  pub in_branch : RecordsIn state asked catches changes
+  pub counts : has ≡ length catches
+  pub brings : more ≡ length changes
+  pub full : most_catches < has + more
+
+-- a branch has so many changes, and with those that are pulled it would have too many
+pub record FillsWithPull (state : Contents) (asked : Call) (has : ℕ) : Type 0 where
+  pub from : List ℕ
+  pub to : List ℕ
+  pub names : Option (List (List ℕ))
+  pub pulls : asked ≡ call.Pull from to names
+  pub theirs : List Catch
+  pub ours : List Catch
+  pub from_has : Has state from theirs
+  pub to_has : Has state to ours
+  pub counts : has ≡ length ours
+  pub full : most_catches < has + length (catches_named (wanted ours (listed theirs names)) theirs)
+
+-- the change of a number, counted from 1, has a side that is too long
+pub record IsLongAt (changes : List Primitive) (number : ℕ) : Type 0 where
+  pub before : ℕ
+  pub numbered : number ≡ suc before
+  pub change : Primitive
+  pub is : slice_get changes before ≡ Some change
+  pub long : has_long_side change ≡ true
+
+-- a record has such a change
+pub record HasLongSide (state : Contents) (asked : Call) (number : ℕ) : Type 0 where
+  pub catches : List Catch
+  pub changes : List Primitive
+  pub in_branch : RecordsIn state asked catches changes
+  pub is_long : IsLongAt changes number
+
+-- the changes of a record stop at one of them, from the tree of their branch
+pub record StopsAt (state : Contents) (asked : Call) (stop : Stop) : Type 0 where
+  pub catches : List Catch
+  pub changes : List Primitive
+  pub in_branch : RecordsIn state asked catches changes
+  pub tree : Files
+  pub leads : LeadsTo catches tree
+  pub is_stop : IsStop changes tree stop
+
+-- what a cause says of a call and a state is so
+abbrev pub IsSo : Contents → Call → Cause → Type 0
+IsSo state asked (FullRepository count) = FillsRepository state asked count
+IsSo state asked (FullBranch has more) = FillsBranch state asked has more
+IsSo state asked (FullWithPull has) = FillsWithPull state asked has
+IsSo state asked (LongSide change) = HasLongSide state asked change
+IsSo state asked (Stops stop) = StopsAt state asked stop

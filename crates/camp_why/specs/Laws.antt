@@ -1,0 +1,46 @@
+-- The laws of causes.
+use Rattle.std.specs.Prelude.{◌≡◌, Bool, true, None, Some}
+use Rattle.std.specs.List.{AllByRecursion}
+use Rattle.camp_base.specs.Trees.{Files}
+use Rattle.camp_prim.specs.Effect.{Applies, InRange}
+use Rattle.camp_prim.specs.declared.primitives.Primitive.{Primitive}
+use Rattle.camp_call.specs.Calls.{IsCall}
+use Rattle.camp_call.specs.declared.calls.Call.{Call}
+use Rattle.camp_call.specs.declared.calls.Call.TheVariants as call
+use Rattle.camp_call.specs.declared.replies.Refusal.{Refusal}
+use Rattle.camp_repo.specs.Lawful.{IsLawfulState}
+use Rattle.camp_repo.specs.States.{Contents}
+use Rattle.camp_repo.specs.Steps.{refused, step}
+use Rattle.camp_why.specs.Causes.{IsSo, explained, is_of_changes, is_of_limit, refusal_by}
+use Rattle.camp_why.specs.Misfits.{IsMisfit, why_not}
+use Rattle.camp_why.specs.declared.causes.Cause.{Cause}
+use Rattle.camp_why.specs.declared.misfits.Misfit.{Misfit}
+
+-- the reason that is told is one, and where one is, the change does not apply; where none is told, it does
+pub record MisfitsAreReasons : Type 0 where
+  pub told : (change : Primitive) (tree : Files) (why : Misfit) → why_not change tree ≡ Some why → IsMisfit change tree why
+  pub stand : (change : Primitive) (tree next : Files) (why : Misfit) → IsMisfit change tree why → ¬ (Applies change tree next)
+  pub none : (change : Primitive) (tree : Files) → InRange change → why_not change tree ≡ None → (next : Files) × Applies change tree next
+
+-- whether a refusal of a call has a cause that it does not say: a limit, or a change of a record
+abbrev pub wants_cause : Call → Refusal → Bool
+wants_cause (call.Record branch name changes) refusal = is_of_changes refusal
+wants_cause other refusal = is_of_limit refusal
+
+-- a cause is told of a refusal: it is one of that refusal, and what it says is so
+pub record IsExplained (state : Contents) (asked : Call) (refusal : Refusal) : Type 0 where
+  pub cause : Cause
+  pub told : explained state asked refusal ≡ Some cause
+  pub of : refusal_by cause ≡ refusal
+  pub is_so : IsSo state asked cause
+
+-- the changes of a call are in range, as each change is that a program holds
+abbrev pub IsInRange : Call → Type 0
+IsInRange (call.Record branch name changes) = AllByRecursion InRange changes
+IsInRange other = Unit {0}
+
+-- where a call is refused at a state, and its refusal does not say all, a cause is told
+abbrev pub RefusalsAreExplained : Type 0
+RefusalsAreExplained =
+    (state : Contents) (asked : Call) (refusal : Refusal) → IsLawfulState state → IsCall asked → IsInRange asked →
+    step state asked ≡ refused refusal → wants_cause asked refusal ≡ true → IsExplained state asked refusal

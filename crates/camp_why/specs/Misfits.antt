@@ -1,0 +1,110 @@
+-- Why a change does not apply to a tree.
+use Rattle.std.specs.Prelude.{◌≡◌, ◌≢◌, ◌<◌, ◌+◌, ◌-◌, ℕ, suc, nat_lt, Bool, true, false, List, [], ◌∷◌, length, drop, slice_get, Option, None, Some, bytes_eq, if◌then◌else◌}
+use Rattle.std.specs.FinMap.{get}
+use Rattle.camp_base.specs.Trees.{Files, Lines}
+use Rattle.camp_prim.specs.Hunks.{Edit}
+use Rattle.camp_prim.specs.Swaps.{path_of}
+use Rattle.camp_prim.specs.declared.primitives.Primitive.{Primitive}
+use Rattle.camp_prim.specs.declared.primitives.Primitive.TheVariants.{Add, Hunk, Remove}
+use Rattle.camp_why.specs.declared.misfits.Misfit.{Misfit}
+use Rattle.camp_why.specs.declared.misfits.Misfit.TheVariants.{EndsBefore, FileIsThere, HasLines, NoFile, OtherLine}
+
+-- ---- the reason that is told
+
+-- why a file can't be added, by what there is of its path
+abbrev pub add_misfit : Option Lines → Option Misfit
+add_misfit None = None
+add_misfit (Some lines) = Some FileIsThere
+
+-- why a file can't be removed
+abbrev pub remove_misfit : Option Lines → Option Misfit
+remove_misfit None = Some NoFile
+remove_misfit (Some []) = None
+remove_misfit (Some (line ∷ lines)) = Some (HasLines (length (line ∷ lines)))
+
+-- the first line, counted on from a number, at which another one stands than is to be taken away
+abbrev pub other_line : ℕ → Lines → Lines → Option Misfit
+other_line at [] lines = None
+other_line at (expected ∷ old) [] = None
+other_line at (expected ∷ old) (stands ∷ lines) =
+    if bytes_eq stands expected then other_line (suc at) old lines else Some (OtherLine at stands expected)
+
+-- why an edit does not apply to the lines of a file
+abbrev pub lines_misfit : Edit → Lines → Option Misfit
+lines_misfit hunk lines =
+    if nat_lt (length lines) (hunk.line - 1 + length hunk.old)
+    then Some (EndsBefore (length lines) (hunk.line - 1 + length hunk.old))
+    else other_line hunk.line hunk.old (drop (hunk.line - 1) lines)
+
+-- why an edit does not apply, by what there is of its path
+abbrev pub edit_misfit : Edit → Option Lines → Option Misfit
+edit_misfit hunk None = Some NoFile
+edit_misfit hunk (Some lines) = lines_misfit hunk lines
+
+-- why a change does not apply to a tree; nothing, where it does
+abbrev pub why_not : Primitive → Files → Option Misfit
+why_not (Add path) tree = add_misfit (get tree path)
+why_not (Remove path) tree = remove_misfit (get tree path)
+why_not (Hunk hunk) tree = edit_misfit hunk (get tree hunk.path)
+
+-- ---- what it says
+
+-- whether a change is one of a file that is there
+abbrev pub wants_file : Primitive → Bool
+wants_file (Add path) = false
+wants_file (Remove path) = true
+wants_file (Hunk hunk) = true
+
+-- a file is to be added, and there is one
+pub record AddsAgain (change : Primitive) (tree : Files) : Type 0 where
+  pub path : List ℕ
+  pub adds : change ≡ Add path
+  pub lines : Lines
+  pub found : get tree path ≡ Some lines
+
+-- a file is to be removed or edited, and there is none
+pub record ChangesNone (change : Primitive) (tree : Files) : Type 0 where
+  pub wants : wants_file change ≡ true
+  pub absent : get tree (path_of change) ≡ None
+
+-- a file is to be removed, and it has so many lines
+pub record RemovesLines (change : Primitive) (tree : Files) (count : ℕ) : Type 0 where
+  pub path : List ℕ
+  pub removes : change ≡ Remove path
+  pub lines : Lines
+  pub found : get tree path ≡ Some lines
+  pub counts : count ≡ length lines
+  pub some : count ≢ 0
+
+-- a file is to be edited, and has these lines
+pub record Edits (change : Primitive) (tree : Files) (hunk : Edit) (lines : Lines) : Type 0 where
+  pub edits : change ≡ Hunk hunk
+  pub found : get tree hunk.path ≡ Some lines
+
+-- an edit wants so many lines, and the file has fewer
+pub record ReachesBehind (change : Primitive) (tree : Files) (has wants : ℕ) : Type 0 where
+  pub hunk : Edit
+  pub lines : Lines
+  pub edits : Edits change tree hunk lines
+  pub counts : has ≡ length lines
+  pub reaches : wants ≡ hunk.line - 1 + length hunk.old
+  pub behind : has < wants
+
+-- at a line, counted from 1, another one stands than an edit takes away
+pub record MeetsOther (change : Primitive) (tree : Files) (at : ℕ) (stands expected : List ℕ) : Type 0 where
+  pub hunk : Edit
+  pub lines : Lines
+  pub edits : Edits change tree hunk lines
+  pub before : ℕ
+  pub is_at : at ≡ hunk.line + before
+  pub is_expected : slice_get hunk.old before ≡ Some expected
+  pub is_there : slice_get lines (hunk.line - 1 + before) ≡ Some stands
+  pub other : stands ≢ expected
+
+-- this is why a change does not apply to a tree
+abbrev pub IsMisfit : Primitive → Files → Misfit → Type 0
+IsMisfit change tree FileIsThere = AddsAgain change tree
+IsMisfit change tree NoFile = ChangesNone change tree
+IsMisfit change tree (HasLines count) = RemovesLines change tree count
+IsMisfit change tree (EndsBefore has wants) = ReachesBehind change tree has wants
+IsMisfit change tree (OtherLine at stands expected) = MeetsOther change tree at stands expected

@@ -1,0 +1,14 @@
+//! Why a call is refused: which change, which line, which limit. And what is to be seen in a line that has a fault.
+#![tactic(auto)]
+
+mod causes;
+mod hints;
+mod laws;
+mod misfits;
+mod stops;
+
+pub use causes::{Cause, explain};
+pub use hints::{Hint, look_at};
+pub use laws::{misfits_are_reasons, refusals_are_explained};
+pub use misfits::{Misfit, why_not};
+pub use stops::{Hindrance, Stop};

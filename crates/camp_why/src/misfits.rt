@@ -1,0 +1,101 @@
+//! Why a change does not apply to a tree.
+ghost use Rattle.std.specs.Prelude.{◌≡◌, IfOk, Some};
+ghost use Rattle.camp_base.specs.Trees.{Lines};
+ghost use Rattle.camp_prim.specs.declared.primitives.Primitive.TheVariants.{Add, Hunk as AHunk, Remove};
+ghost use Rattle.camp_why.specs.Misfits.{lines_misfit, why_not};
+
+use camp_base::{Line, Path, Tree};
+use camp_prim::{Hunk, Primitive};
+use camp_share::SharedList;
+use std::alloc::AllocError;
+
+/// Why a change does not apply to a tree.
+#[derive(Debug, Drop)]
+pub enum Misfit {
+    /// A file is to be added, and there is one.
+    FileIsThere,
+    /// A file is to be removed or edited, and there is none.
+    NoFile,
+    /// A file is to be removed, and it has so many lines.
+    HasLines(usize),
+    /// An edit reaches behind the last line of the file: that has so many, and the edit wants so many at least.
+    EndsBefore {
+        has: usize,
+        wants: usize,
+    },
+    /// At a line, counted from 1, another one stands than an edit takes away.
+    OtherLine {
+        at: usize,
+        stands: Line,
+        expected: Line,
+    },
+}
+
+/// Why a change does not apply to a tree. None where it does.
+pub fn why_not(change: &Primitive, tree: &Tree) -> Result<Option<Misfit>, AllocError>
+    ensures exact { IfOk result (λ found. found ≡ why_not change.now tree.now) }
+{
+    match change {
+        Primitive::Add(path) => Ok(add_misfit(path, tree)),
+        Primitive::Remove(path) => Ok(remove_misfit(path, tree)),
+        Primitive::Hunk(hunk) => edit_misfit(hunk, tree),
+    }
+}
+
+fn add_misfit(path: &Path, tree: &Tree) -> Option<Misfit>
+    ensures { result ≡ why_not (Add path.now) tree.now }
+{
+    match tree.file(path) {
+        Some(_) => Some(Misfit::FileIsThere),
+        None => None,
+    }
+}
+
+fn remove_misfit(path: &Path, tree: &Tree) -> Option<Misfit>
+    ensures { result ≡ why_not (Remove path.now) tree.now }
+{
+    let Some(lines) = tree.file(path) else {
+        return Some(Misfit::NoFile);
+    };
+    if lines.is_empty() {
+        return None;
+    }
+    Some(Misfit::HasLines(lines.len()))
+}
+
+fn edit_misfit(hunk: &Hunk, tree: &Tree) -> Result<Option<Misfit>, AllocError>
+    ensures { IfOk result (λ found. found ≡ why_not (AHunk hunk.now) tree.now) }
+{
+    let Some(lines) = tree.file(hunk.path()) else {
+        return Ok(Some(Misfit::NoFile));
+    };
+    lines_misfit(hunk, lines)
+}
+
+// Why an edit does not apply to the lines of a file.
+fn lines_misfit(hunk: &Hunk, lines: &SharedList<Line>) -> Result<Option<Misfit>, AllocError>
+    ensures { IfOk result (λ found. found ≡ lines_misfit hunk.now lines.now) }
+{
+    let from = hunk.line() as usize - 1;
+    let old = hunk.old();
+    let has = lines.len();
+    let wants = from + old.len();
+    if has < wants {
+        return Ok(Some(Misfit::EndsBefore { has, wants }));
+    }
+    for (at, expected) in old.iter().enumerate() {
+        let Some(stands) = lines.get(from + at) else {
+            unreachable!();
+        };
+        if stands != expected {
+            let stands = stands.try_clone()?;
+            let expected = expected.try_clone()?;
+            return Ok(Some(Misfit::OtherLine {
+                at: from + at + 1,
+                stands,
+                expected,
+            }));
+        }
+    }
+    Ok(None)
+}
