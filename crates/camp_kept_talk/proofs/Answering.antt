@@ -1,16 +1,17 @@
 -- Commands that are answered one after the other, and the bytes of their answers.
-use Rattle.std.proofs.Common.{◌≡◌, ◌⊎◌, inl, inr, ℕ, List, [], ◌∷◌, ◌++◌, Option, None, Some, Result, Ok, Err, map, refl, sym, ◌∙◌, ap, subst, append_assoc, append-nil, flat_map}
-use Rattle.std.proofs.KnownBytes.{Appends-nil, Appends-trans, Consumes-nil, Consumes-trans}
+use Rattle.std.proofs.Common.{◌≡◌, ◌⊎◌, inl, inr, ℕ, Bool, true, false, List, [], ◌∷◌, ◌++◌, Option, None, Some, OnSome, refl, sym, ◌∙◌, ap, subst, append_assoc, append-nil, flat_map}
+use Rattle.std.proofs.KnownBytes.{Appends-trans, Consumes-trans}
 use Rattle.std.proofs.lemmas.Grind.{flat_map-append}
 use Rattle.std.proofs.lemmas.List.{map-append}
-use Rattle.std.specs.Io.KnownBytes.{Appends, Consumes, Keeps, append_known}
+use Rattle.std.specs.Io.KnownBytes.{Appends, Consumes, IsAtEnd, Keeps, append_known}
 use Rattle.camp_call.specs.declared.calls.Call.{Call}
-use Rattle.camp_kept_talk.specs.Promises.{Answered, Told}
+use Rattle.camp_kept_talk.specs.Promises.{AnswersLast, Told}
 use Rattle.camp_object.specs.Histories.{IsFront}
 use Rattle.camp_script.specs.Keeping.{calls_of}
 use Rattle.camp_talk.specs.Answers.{Answers, Standing}
 use Rattle.camp_talk.specs.Entries.{Entries}
-use Rattle.camp_talk.specs.Talks.{AppendsSome, Exchange, Follow}
+use Rattle.camp_talk.specs.Cutting.{IsCommand, IsLeft}
+use Rattle.camp_talk.specs.Talks.{AppendsSome, Exchange, Follow, ReadsCommand}
 use Rattle.camp_talk.specs.Talks.{Holds as HoldsSo}
 
 pub calls_front : (before after : Entries) → IsFront before after → IsFront (calls_of before) (calls_of after)
@@ -24,14 +25,6 @@ follow-append first middle last [] two follow more = subst (λ (s : Standing). F
 follow-append first middle last (said ∷ one) two (next, command, answered, follow) more =
     (next, command, answered, follow-append next middle last one two follow more)
 
-answered-append : (first middle last : Standing) (one two : List Exchange) → Answered first one middle → Answered middle two last → Answered first (one ++ two) last
-answered-append first middle last [] two answered more = subst (λ (s : Standing). Answered s two last) (sym answered) more
-answered-append first middle last (said ∷ one) two (next, answers, answered) more = (next, answers, answered-append next middle last one two answered more)
-
-answered_of : (first last : Standing) (said : List Exchange) → Follow first said last → Answered first said last
-answered_of first last [] follow = follow
-answered_of first last (exchange ∷ said) (next, command, answers, follow) = (next, answers, answered_of next last said follow)
-
 pub appends_some : (old new : Option (List ℕ)) (text : List ℕ) → Appends old new text → AppendsSome old new text
 appends_some old new text writes = (text, [], sym (append-nil text), writes)
 
@@ -40,6 +33,35 @@ appends_kept None now after text writes keeps = tt
 appends_kept (Some x) None after text writes keeps = absurd writes
 appends_kept (Some x) (Some y) None text writes keeps = absurd keeps
 appends_kept (Some x) (Some y) (Some z) text writes keeps = keeps ∙ writes
+
+-- bytes that are held back are written, and no more
+pub keeps_behind : (now after : Option (List ℕ)) (held more : List ℕ) → more ≡ held → Appends now after more → Keeps (append_known now held) after
+keeps_behind None after held more is writes = tt
+keeps_behind (Some x) None held more is writes = absurd writes
+keeps_behind (Some x) (Some y) held more is writes = writes ∙ ap (λ (l : List ℕ). x ++ l) is
+
+-- a reader that is at its end now is so for whoever had it before
+ended_too : (a b c : Option (List ℕ)) (bytes : List ℕ) → Consumes a b bytes → OnSome b (IsAtEnd c) → OnSome a (IsAtEnd c)
+ended_too None b c bytes reads ends = tt
+ended_too (Some x) None c bytes reads ends = absurd reads
+ended_too (Some x) (Some y) c bytes reads ends = ends
+
+-- what a last command is
+abbrev pub IsLast : Type 0 → List ℕ → Type 0
+IsLast Ended command = IsCommand command ⊎ (IsLeft command × Ended)
+
+last_if : (P Q : Type 0) → (P → Q) → (command : List ℕ) → IsLast P command → IsLast Q command
+last_if P Q f command (inl whole) = inl whole
+last_if P Q f command (inr left) = inr (left.0, f left.1)
+
+last_too : (P Q : Type 0) → (P → Q) → (middle : Standing) (more : List Exchange) (last : Standing) → AnswersLast P middle more last → AnswersLast Q middle more last
+last_too P Q f middle [] last ends = ends
+last_too P Q f middle (said ∷ []) last ends = (last_if P Q f said.command ends.0, ends.1)
+last_too P Q f middle (said ∷ other ∷ others) last ends = absurd ends
+
+pub last_read : (b c : Option (List ℕ)) (whole : Bool) (command : List ℕ) → ReadsCommand b c whole command → IsLast (OnSome b (IsAtEnd c)) command
+last_read b c true command reads = inl reads.1
+last_read b c false command reads = inr (reads.1, reads.2)
 
 -- conversations one behind the other, the second of which is written later
 pub holds_trans : (a b c old now after : Option (List ℕ)) (held : List ℕ) (first middle last : Standing) → HoldsSo a b old now first middle
@@ -55,17 +77,36 @@ holds_trans a b c old now after held first middle last one two grows = record {
 pub told_of : (a b old now : Option (List ℕ)) (first last : Standing) → HoldsSo a b old now first last → Told a b old now first last
 told_of a b old now first last holds = record {
   said = holds.said;
-  answered = answered_of first last holds.said holds.follow;
+  middle = last;
+  follow = holds.follow;
+  more = [];
+  ends = refl;
+  reads = subst (Consumes a b) (alone (λ e. e.command)) holds.reads;
+  writes = subst (AppendsSome old now) (alone (λ e. e.answer)) (appends_some old now (flat_map (λ (e : Exchange). e.answer) holds.said) holds.writes);
+}
+  where
+    alone : (part : Exchange → List ℕ) → flat_map part holds.said ≡ flat_map part (holds.said ++ [])
+    alone part = ap (λ (l : List Exchange). flat_map part l) (sym (append-nil holds.said))
+
+-- and where more is known of what was written, no more was
+pub holds_kept : (a b old now after : Option (List ℕ)) (first last : Standing) → HoldsSo a b old now first last → Keeps now after → HoldsSo a b old after first last
+holds_kept a b old now after first last holds keeps = record {
+  said = holds.said;
+  follow = holds.follow;
   reads = holds.reads;
-  writes = appends_some old now (flat_map (λ (e : Exchange). e.answer) holds.said) holds.writes;
+  writes = appends_kept old now after (flat_map (λ (e : Exchange). e.answer) holds.said) holds.writes keeps;
 }
 
-pub told_kept : (a b old now after : Option (List ℕ)) (first last : Standing) → HoldsSo a b old now first last → Keeps now after → Told a b old after first last
-told_kept a b old now after first last holds keeps = record {
-  said = holds.said;
-  answered = answered_of first last holds.said holds.follow;
-  reads = holds.reads;
-  writes = appends_some old after (flat_map (λ (e : Exchange). e.answer) holds.said) (appends_kept old now after _ holds.writes keeps);
+-- whatever was written
+pub told_unseen : (a b old now : Option (List ℕ)) (first last : Standing) → Told a b old now first last → Told a b None None first last
+told_unseen a b old now first last told = record {
+  said = told.said;
+  middle = told.middle;
+  follow = told.follow;
+  more = told.more;
+  ends = told.ends;
+  reads = told.reads;
+  writes = (told.writes.0, told.writes.1, told.writes.2, tt);
 }
 
 some_of_both : (old now after : Option (List ℕ)) (one two held done rest : List ℕ) → Appends old now one → two ≡ done ++ rest → held ≡ done → AppendsSome now after held → AppendsSome old after (one ++ two)
@@ -82,19 +123,30 @@ pub told_trans : (a b c old now after : Option (List ℕ)) (held : List ℕ) (fi
     → Told b c (Some []) (Some held) middle last → AppendsSome now after held → Told a c old after first last
 told_trans a b c old now after held first middle last one two grows = record {
   said = one.said ++ two.said;
-  answered = answered-append first middle last one.said two.said (answered_of first middle one.said one.follow) two.answered;
-  reads = subst (Consumes a c) (sym (flat_map-append (λ (e : Exchange). e.command) one.said two.said)) (Consumes-trans a b c _ _ one.reads two.reads);
-  writes = subst (AppendsSome old after) (sym (flat_map-append (λ (e : Exchange). e.answer) one.said two.said))
-      (some_of_both old now after (flat_map (λ (e : Exchange). e.answer) one.said) (flat_map (λ (e : Exchange). e.answer) two.said) held two.writes.0 two.writes.1 one.writes two.writes.2 two.writes.3 grows);
+  middle = two.middle;
+  follow = follow-append first middle two.middle one.said two.said one.follow two.follow;
+  more = two.more;
+  ends = last_too (OnSome b (IsAtEnd c)) (OnSome a (IsAtEnd c)) (ended_too a b c (flat_map (λ (e : Exchange). e.command) one.said) one.reads) two.middle two.more last two.ends;
+  reads = subst (Consumes a c) (joined (λ e. e.command)) (Consumes-trans a b c _ _ one.reads two.reads);
+  writes = subst (AppendsSome old after) (joined (λ e. e.answer))
+      (some_of_both old now after (flat_map (λ (e : Exchange). e.answer) one.said) (flat_map (λ (e : Exchange). e.answer) (two.said ++ two.more)) held two.writes.0 two.writes.1 one.writes two.writes.2 two.writes.3 grows);
 }
+  where
+    joined : (part : Exchange → List ℕ) → flat_map part one.said ++ flat_map part (two.said ++ two.more) ≡ flat_map part ((one.said ++ two.said) ++ two.more)
+    joined part =
+        sym (flat_map-append part one.said (two.said ++ two.more))
+        ∙ ap (λ (l : List Exchange). flat_map part l) (sym (append_assoc one.said two.said two.more))
 
 -- one command more, whose answer is held back, perhaps in part
 pub told_more : (b c d : Option (List ℕ)) (held more : List ℕ) (middle last next : Standing) (said : Exchange) → HoldsSo b c (Some []) (Some held) middle last
-    → Answers last said.command said.answer next → Consumes c d said.command → AppendsSome (Some held) (Some more) said.answer
-    → Told b d (Some []) (Some more) middle next
-told_more b c d held more middle last next said holds answers reads (done, rest, parts, writes) = record {
-  said = holds.said ++ said ∷ [];
-  answered = answered-append middle last next holds.said (said ∷ []) (answered_of middle last holds.said holds.follow) (next, answers, refl);
+    → IsLast (OnSome c (IsAtEnd d)) said.command → Answers last said.command said.answer next → Consumes c d said.command
+    → AppendsSome (Some held) (Some more) said.answer → Told b d (Some []) (Some more) middle next
+told_more b c d held more middle last next said holds kind answers reads (done, rest, parts, writes) = record {
+  said = holds.said;
+  middle = last;
+  follow = holds.follow;
+  more = said ∷ [];
+  ends = (last_if (OnSome c (IsAtEnd d)) (OnSome b (IsAtEnd d)) (ended_too b c d (flat_map (λ (e : Exchange). e.command) holds.said) holds.reads) said.command kind, answers);
   reads = subst (Consumes b d) (joined (λ e. e.command)) (Consumes-trans b c d _ _ holds.reads reads);
   writes = (
     flat_map (λ (e : Exchange). e.answer) holds.said ++ done,

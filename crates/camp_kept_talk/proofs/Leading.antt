@@ -1,64 +1,65 @@
 -- What settling and turns lead to.
-use Rattle.std.proofs.Common.{◌≡◌, ◌⊎◌, inl, inr, ℕ, Bool, true, false, List, [], ◌∷◌, ◌++◌, IsErrAnd, Option, None, Some, Result, Ok, Err, MatchResult, refl, sym, ◌∙◌, ap, subst}
-use Rattle.std.proofs.KnownBytes.{Appends-nil, Consumes-nil}
-use Rattle.std.specs.Io.KnownBytes.{Appends, Consumes, Keeps, append_known}
+use Rattle.std.proofs.Common.{◌≡◌, ◌⊎◌, inl, inr, ℕ, Bool, true, false, List, [], IsErrAnd, Option, Some, OnSome, Result, Ok, Err, MatchResult, refl, sym, ◌∙◌, ap, subst}
+use Rattle.std.proofs.KnownBytes.{Consumes-nil}
+use Rattle.std.specs.Io.KnownBytes.{Appends, Consumes, IsAtEnd, Keeps, append_known}
 use Rattle.camp_call.specs.declared.calls.Call.{Call}
-use Rattle.camp_kept.specs.Keeping.{Holds, IsStoreOf, calls_in, disk_in, store_texts}
+use Rattle.camp_kept.specs.Keeping.{Holds, IsStoreOf, calls_in, store_texts}
 use Rattle.camp_kept.specs.declared.kept.Kept.{Kept}
 use Rattle.camp_kept.proofs.Committing.{holds_leave}
-use Rattle.camp_kept_talk.specs.Going.{AllAreKept, Comes, ComesSettled, Goes, IsUnwritten, MayBeKept, Settles, Stays, StopsSo, TalksKept}
-use Rattle.camp_kept_talk.specs.Promises.{Promises, Told}
+use Rattle.camp_kept_talk.specs.Going.{AllAreKept, Comes, ComesSettled, Goes, IsUnwritten, MayBeKept, Settles, Stays, StopsSo, StopsUnkept, StopsUnwritten, TalksKept, as_told}
+use Rattle.camp_kept_talk.specs.Promises.{Promises}
 use Rattle.camp_kept_talk.specs.declared.faults.StoredFault.{StoredFault}
 use Rattle.camp_kept_talk.specs.declared.faults.StoredFault.TheVariants as fault
-use Rattle.camp_kept_talk.proofs.Answering.{appends_behind, appends_known, appends_some, calls_front, holds_trans, told_kept, told_more, told_of, told_trans}
+use Rattle.camp_kept_talk.proofs.Answering.{IsLast, appends_behind, appends_known, appends_some, calls_front, holds_kept, holds_trans, keeps_behind, last_read, told_more, told_of, told_trans, told_unseen}
 use Rattle.camp_object.specs.Histories.{IsFront}
 use Rattle.camp_object.proofs.Fronts.{front_front, front_self}
 use Rattle.camp_script.specs.Keeping.{calls_of}
 use Rattle.camp_store.specs.Logs.{KeepsTexts}
 use Rattle.camp_talk.specs.Answers.{Answers, Standing}
-use Rattle.camp_talk.specs.Cutting.{IsCommand, IsLeft}
 use Rattle.camp_talk.specs.Entries.{Entries}
-use Rattle.camp_talk.specs.Talks.{AppendsSome, EndsSo, Exchange, ReadsCommand, Turns}
+use Rattle.camp_talk.specs.Talks.{AppendsSome, EndsSo, Exchange, ReadsWithin, Turns}
 use Rattle.camp_talk.specs.Talks.{Holds as HoldsSo}
 use Rattle.camp_talk.specs.declared.faults.TalkFault.{TalkFault}
 use Rattle.camp_talk.specs.declared.faults.TalkFault.TheVariants as talk
+use Rattle.camp_talk.proofs.Firsts.{command_read}
 use Rattle.camp_talk.proofs.Growing.{answers_grow}
 use Rattle.camp_talk.proofs.Turns.{begins_so, holds_on}
 
 -- where a conversation stands over a book
-abbrev pub at : Entries → ℕ → Standing
-at history lines = record { history = history; lines = lines }
+abbrev pub at : Entries → ℕ → List ℕ → Standing
+at history lines cause = record { history = history; lines = lines; cause = cause }
 
-command_read : (b c : Option (List ℕ)) (whole : Bool) (command : List ℕ) → ReadsCommand b c whole command → Consumes b c command
-command_read b c true command reads = reads.0
-command_read b c false command reads = reads.0
+-- of a reader that was not asked no more was read
+reads_none : (b : Option (List ℕ)) → ReadsWithin b b
+reads_none b = record { some = []; reads = Consumes-nil b; is = tt }
 
 same_calls : (a b : Entries) → a ≡ b → calls_of a ≡ calls_of b
 same_calls a b same = ap (λ (h : Entries). calls_of h) same
 
 module _ {D : Type 0} (seen : D → List ℕ) (may_leave : D → List ℕ → Type 0) (a old now : Option (List ℕ)) (first : Standing) (kept : Kept D) where
   -- at first
-  pub begins : (lines : ℕ) → Holds seen may_leave (calls_in kept) kept → Goes seen may_leave a a now now [] (at kept.book lines) (at kept.book lines) kept
-  begins lines holds = record {
-    middle = at kept.book lines;
+  pub begins : (lines : ℕ) (cause : List ℕ) → Holds seen may_leave (calls_in kept) kept → Goes seen may_leave a a now now [] (at kept.book lines cause) (at kept.book lines cause) kept
+  begins lines cause holds = record {
+    middle = at kept.book lines cause;
     left = a;
-    told = begins_so a now (at kept.book lines);
-    behind = begins_so a (Some []) (at kept.book lines);
+    told = begins_so a now (at kept.book lines cause);
+    behind = begins_so a (Some []) (at kept.book lines cause);
     calls = calls_in kept;
     holds = holds;
     since = front_self (calls_in kept);
     within = front_self (calls_in kept);
   }
 
-  module _ (b : Option (List ℕ)) (held : List ℕ) (lines : ℕ) (goes : Goes seen may_leave a b old now held first (at kept.book lines) kept) where
-    pub stays : Stays seen may_leave a old now held first kept
+  module _ (b : Option (List ℕ)) (held : List ℕ) (lines : ℕ) (cause : List ℕ) (goes : Goes seen may_leave a b old now held first (at kept.book lines cause) kept) where
+    pub stays : Stays seen may_leave a b old now held first kept
     stays = record {
       middle = goes.middle;
-      last = at kept.book lines;
+      last = at kept.book lines cause;
       left = goes.left;
       right = b;
       told = goes.told;
-      behind = told_of goes.left b (Some []) (Some held) goes.middle (at kept.book lines) goes.behind;
+      behind = told_of goes.left b (Some []) (Some held) goes.middle (at kept.book lines cause) goes.behind;
+      reads = reads_none b;
       calls = goes.calls;
       holds = goes.holds;
       since = goes.since;
@@ -68,13 +69,13 @@ module _ {D : Type 0} (seen : D → List ℕ) (may_leave : D → List ℕ → Ty
 
     -- all is kept and written, and it goes on
     pub settled : (new : Kept D) (after : Option (List ℕ)) (rest : List ℕ) → AllAreKept seen may_leave kept new → rest ≡ [] → Appends now after held → new.book ≡ kept.book
-        → Goes seen may_leave a b old after rest first (at new.book lines) new
+        → Goes seen may_leave a b old after rest first (at new.book lines cause) new
     settled new after rest keeps none grows same = record {
-      middle = at new.book lines;
+      middle = at new.book lines cause;
       left = b;
-      told = subst (λ (h : Entries). HoldsSo a b old after first (at h lines)) (sym same)
-          (holds_trans a goes.left b old now after held first goes.middle (at kept.book lines) goes.told goes.behind grows);
-      behind = subst (λ (l : List ℕ). HoldsSo b b (Some []) (Some l) (at new.book lines) (at new.book lines)) (sym none) (begins_so b (Some []) (at new.book lines));
+      told = subst (λ (h : Entries). HoldsSo a b old after first (at h lines cause)) (sym same)
+          (holds_trans a goes.left b old now after held first goes.middle (at kept.book lines cause) goes.told goes.behind grows);
+      behind = subst (λ (l : List ℕ). HoldsSo b b (Some []) (Some l) (at new.book lines cause) (at new.book lines cause)) (sym none) (begins_so b (Some []) (at new.book lines cause));
       calls = calls_in kept;
       holds = keeps goes.calls goes.within goes.holds;
       since = subst (λ (h : Entries). IsFront (calls_of h) (calls_in kept)) (sym same) (front_self (calls_in kept));
@@ -90,45 +91,47 @@ module _ {D : Type 0} (seen : D → List ℕ) (may_leave : D → List ℕ → Ty
       }
 
       -- a command was answered into what is held back
-      pub turned : (after : ℕ) → Turns b c (Some held) (Some more) (at kept.book lines) (Ok true) (at new.book after)
-          → Goes seen may_leave a c old now more first (at new.book after) new
-      turned after turns = record {
+      pub turned : (after : ℕ) (learnt : List ℕ) → Turns b c (Some held) (Some more) (at kept.book lines cause) (Ok true) (at new.book after learnt)
+          → Goes seen may_leave a c old now more first (at new.book after learnt) new
+      turned after learnt turns = record {
         middle = goes.middle;
         left = goes.left;
         told = goes.told;
-        behind = holds_on goes.left b c (Some []) (Some held) (Some more) goes.middle (at kept.book lines) (at new.book after) goes.behind turns;
+        behind = holds_on goes.left b c (Some []) (Some held) (Some more) goes.middle (at kept.book lines cause) (at new.book after learnt) goes.behind turns;
         calls = goes.calls;
         holds = holds_still;
         since = goes.since;
-        within = front_front goes.within (calls_front kept.book new.book (answers_grow (at kept.book lines) _ _ (at new.book after) turns.answers));
+        within = front_front goes.within (calls_front kept.book new.book (answers_grow (at kept.book lines cause) _ _ (at new.book after learnt) turns.answers));
       }
 
       -- one was answered, perhaps in part
-      one_more : (said : Exchange) (next : Standing) → Answers (at kept.book lines) said.command said.answer next → Consumes b c said.command
-          → AppendsSome (Some held) (Some more) said.answer → next.history ≡ new.book → Stays seen may_leave a old now more first new
-      one_more said next answers reads writes is = record {
+      one_more : (said : Exchange) (next : Standing) → IsLast (OnSome b (IsAtEnd c)) said.command → Answers (at kept.book lines cause) said.command said.answer next
+          → Consumes b c said.command → AppendsSome (Some held) (Some more) said.answer → next.history ≡ new.book → Stays seen may_leave a c old now more first new
+      one_more said next kind answers reads writes is = record {
         middle = goes.middle;
         last = next;
         left = goes.left;
         right = c;
         told = goes.told;
-        behind = told_more goes.left b c held more goes.middle (at kept.book lines) next said goes.behind answers reads writes;
+        behind = told_more goes.left b c held more goes.middle (at kept.book lines cause) next said goes.behind kind answers reads writes;
+        reads = reads_none c;
         calls = goes.calls;
         holds = holds_still;
         since = goes.since;
-        within = front_front goes.within (calls_front kept.book next.history (answers_grow (at kept.book lines) said.command said.answer next answers));
+        within = front_front goes.within (calls_front kept.book next.history (answers_grow (at kept.book lines cause) said.command said.answer next answers));
         is = is;
       }
 
       -- none could be read
-      none_more : Keeps (Some held) (Some more) → new.book ≡ kept.book → Stays seen may_leave a old now more first new
-      none_more keeps same = record {
+      none_more : ReadsWithin b c → Keeps (Some held) (Some more) → new.book ≡ kept.book → Stays seen may_leave a c old now more first new
+      none_more reads keeps same = record {
         middle = goes.middle;
-        last = at kept.book lines;
+        last = at kept.book lines cause;
         left = goes.left;
         right = b;
         told = goes.told;
-        behind = told_kept goes.left b (Some []) (Some held) (Some more) goes.middle (at kept.book lines) goes.behind keeps;
+        behind = told_of goes.left b (Some []) (Some more) goes.middle (at kept.book lines cause) (holds_kept goes.left b (Some []) (Some held) (Some more) goes.middle (at kept.book lines cause) goes.behind keeps);
+        reads = reads;
         calls = goes.calls;
         holds = holds_still;
         since = goes.since;
@@ -136,36 +139,58 @@ module _ {D : Type 0} (seen : D → List ℕ) (may_leave : D → List ℕ → Ty
         is = sym same;
       }
 
-      pub stopped : (after : ℕ) (why : TalkFault) → Turns b c (Some held) (Some more) (at kept.book lines) (Err why) (at new.book after) → Stays seen may_leave a old now more first new
-      stopped after talk.Memory turns = none_more turns.keeps (ap (λ (s : Standing). s.history) turns.same)
-      stopped after (talk.Read error) turns = none_more turns.keeps (ap (λ (s : Standing). s.history) turns.same)
-      stopped after talk.Internal turns = none_more turns.keeps (ap (λ (s : Standing). s.history) turns.same)
-      stopped after (talk.Write error) turns =
-          one_more turns.said turns.behind turns.answers (command_read b c turns.whole turns.said.command turns.reads) turns.writes (sym (ap (λ (s : Standing). s.history) turns.same))
+      pub stopped : (after : ℕ) (learnt : List ℕ) (why : TalkFault) → Turns b c (Some held) (Some more) (at kept.book lines cause) (Err why) (at new.book after learnt) → Stays seen may_leave a c old now more first new
+      stopped after learnt talk.Memory turns = none_more turns.none turns.keeps (ap (λ (s : Standing). s.history) turns.same)
+      stopped after learnt (talk.Read error) turns = none_more turns.none turns.keeps (ap (λ (s : Standing). s.history) turns.same)
+      stopped after learnt talk.Internal turns = none_more (record { some = turns.none.some; reads = turns.none.reads; is = turns.none.is }) turns.keeps (ap (λ (s : Standing). s.history) turns.same)
+      stopped after learnt (talk.Write error) turns =
+          one_more turns.said turns.behind (last_read b c turns.whole turns.said.command turns.reads) turns.answers (command_read b c turns.whole turns.said.command turns.reads) turns.writes (sym (ap (λ (s : Standing). s.history) turns.same))
 
-      pub ended : (after : ℕ) → Turns b c (Some held) (Some more) (at kept.book lines) (Ok false) (at new.book after) → Stays seen may_leave a old now more first new
-      ended after turns =
-          one_more turns.said (at new.book after) turns.answers turns.reads.0 (appends_some (Some held) (Some more) turns.said.answer turns.writes) refl
+      pub ended : (after : ℕ) (learnt : List ℕ) → Turns b c (Some held) (Some more) (at kept.book lines cause) (Ok false) (at new.book after learnt) → Stays seen may_leave a c old now more first new
+      ended after learnt turns =
+          one_more turns.said (at new.book after learnt) (last_read b c false turns.said.command turns.reads) turns.answers turns.reads.0 (appends_some (Some held) (Some more) turns.said.answer turns.writes) refl
 
       -- and once all is written, the conversation is one that was not held back
-      pub ends_so : (after : ℕ) (then : Option (List ℕ)) → Turns b c (Some held) (Some more) (at kept.book lines) (Ok false) (at new.book after) → Appends now then more
-          → EndsSo a c old then first (Ok false) new.book
-      ends_so after then turns grows = record {
+      ends_as : (after : ℕ) (learnt : List ℕ) (then : Option (List ℕ)) (turn : Result Bool TalkFault) → Turns b c (append_known now held) then (at kept.book lines cause) turn (at new.book after learnt)
+          → EndsSo a c old then first turn new.book
+      ends_as after learnt then turn turns = record {
         left = b;
         held = append_known now held;
-        middle = at kept.book lines;
-        last = at new.book after;
-        holds = holds_trans a goes.left b old now (append_known now held) held first goes.middle (at kept.book lines) goes.told goes.behind (appends_known now held);
-        turns = record {
-          said = turns.said;
-          reads = turns.reads;
-          answers = turns.answers;
-          writes = appends_behind now then held more turns.said.answer turns.writes grows;
-        };
+        middle = at kept.book lines cause;
+        last = at new.book after learnt;
+        holds = holds_trans a goes.left b old now (append_known now held) held first goes.middle (at kept.book lines cause) goes.told goes.behind (appends_known now held);
+        turns = turns;
         leaves = refl;
       }
 
-  module _ (held : List ℕ) (stays : Stays seen may_leave a old now held first kept) where
+      pub ends_so : (after : ℕ) (learnt : List ℕ) (then : Option (List ℕ)) → Turns b c (Some held) (Some more) (at kept.book lines cause) (Ok false) (at new.book after learnt) → Appends now then more
+          → EndsSo a c old then first (Ok false) new.book
+      ends_so after learnt then turns grows = ends_as after learnt then (Ok false) (record {
+        said = turns.said;
+        reads = turns.reads;
+        answers = turns.answers;
+        writes = appends_behind now then held more turns.said.answer turns.writes grows;
+      })
+
+      pub breaks_so : (after : ℕ) (learnt : List ℕ) (then : Option (List ℕ)) (why : TalkFault) → Turns b c (Some held) (Some more) (at kept.book lines cause) (Err why) (at new.book after learnt) → Appends now then more
+          → EndsSo a c old then first (Err why) new.book
+      breaks_so after learnt then talk.Memory turns grows =
+          ends_as after learnt then (Err talk.Memory) (record { none = turns.none; keeps = keeps_behind now then held more turns.keeps grows; same = turns.same })
+      breaks_so after learnt then (talk.Read error) turns grows =
+          ends_as after learnt then (Err (talk.Read error)) (record { none = turns.none; keeps = keeps_behind now then held more turns.keeps grows; same = turns.same })
+      breaks_so after learnt then talk.Internal turns grows =
+          ends_as after learnt then (Err talk.Internal) (record { none = turns.none; keeps = keeps_behind now then held more turns.keeps grows; same = turns.same })
+      breaks_so after learnt then (talk.Write error) turns grows = ends_as after learnt then (Err (talk.Write error)) (record {
+        whole = turns.whole;
+        said = turns.said;
+        reads = turns.reads;
+        behind = turns.behind;
+        answers = turns.answers;
+        same = turns.same;
+        writes = (turns.writes.0, turns.writes.1, turns.writes.2, appends_behind now then held more turns.writes.0 turns.writes.3 grows);
+      })
+
+  module _ (come : Option (List ℕ)) (held : List ℕ) (stays : Stays seen may_leave a come old now held first kept) where
     within_book : IsFront stays.calls (calls_in kept)
     within_book = subst (λ (h : Entries). IsFront stays.calls (calls_of h)) stays.is stays.within
 
@@ -196,7 +221,7 @@ module _ {D : Type 0} (seen : D → List ℕ) (may_leave : D → List ℕ → Ty
       promised_some may keeps = record {
         left = stays.left;
         last = stays.middle;
-        told = told_kept a stays.left old now after first stays.middle stays.told keeps;
+        told = told_of a stays.left old after first stays.middle (holds_kept a stays.left old now after first stays.middle stays.told keeps);
         crash = λ c left. which c (may stays.calls within_book stays.holds c left);
       }
         where
@@ -215,6 +240,37 @@ module _ {D : Type 0} (seen : D → List ℕ) (may_leave : D → List ℕ → Ty
             subst (λ (h : Entries). IsFront (calls_in kept) (calls_of h)) (sym same) (front_self (calls_in kept)),
           )
 
+      last_is : stays.last.history ≡ new.book
+      last_is = stays.is ∙ sym same
+
+      -- where the writer fails
+      unwritten : AllAreKept seen may_leave kept new → AppendsSome now after held → StopsUnwritten seen may_leave a come old after first new
+      unwritten keeps grows = record {
+        last = stays.last;
+        right = stays.right;
+        told = told_trans a stays.left stays.right old now after held first stays.middle stays.last stays.told stays.behind grows;
+        reads = stays.reads;
+        is = last_is;
+        holds = holds_all new same keeps;
+      }
+
+      -- where the calls can't be kept
+      unkept : MayBeKept seen may_leave kept new → Keeps now after → StopsUnkept seen may_leave a come old after first new
+      unkept may keeps = record {
+        middle = stays.middle;
+        last = stays.last;
+        left = stays.left;
+        right = stays.right;
+        told = holds_kept a stays.left old now after first stays.middle stays.told keeps;
+        behind = told_unseen stays.left stays.right (Some []) (Some held) stays.middle stays.last stays.behind;
+        reads = stays.reads;
+        is = last_is;
+        calls = stays.calls;
+        since = stays.since;
+        within = subst (λ (h : Entries). IsFront stays.calls (calls_of h)) (sym same) within_book;
+        crash = λ c left. subst (λ (h : Entries). IsStoreOf stays.calls c ⊎ IsStoreOf (calls_of h) c) (sym same) (may stays.calls within_book stays.holds c left);
+      }
+
       -- where all is settled
       pub promised : (done : Unit {0}) (rest : List ℕ) → Settles seen may_leave kept held now (Ok done) new rest after
           → Promises seen may_leave a old after first new × Holds seen may_leave (calls_in new) new
@@ -222,54 +278,64 @@ module _ {D : Type 0} (seen : D → List ℕ) (may_leave : D → List ℕ → Ty
 
       -- where settling stops
       pub stops_so : (why : StoredFault) (rest : List ℕ) → Settles seen may_leave kept held now (Err why) new rest after
-          → StopsSo seen may_leave a old after first why new
-      stops_so (fault.Kept why) rest settles = promised_some settles.0 settles.1
+          → StopsSo seen may_leave a come old after first why new
+      stops_so (fault.Kept why) rest settles = (promised_some settles.0 settles.1, unkept settles.0 settles.1)
       stops_so (fault.Talk why) rest settles = absurd settles
       stops_so (fault.Frame why) rest settles = absurd settles
-      stops_so (fault.Write error) rest settles = (promised_all settles.0 settles.1, holds_all new same settles.0)
+      stops_so (fault.Write error) rest settles = (promised_all settles.0 settles.1, unwritten settles.0 settles.1)
 
 -- wherever settling leads
-pub settled_first : {D : Type 0} (seen : D → List ℕ) (may_leave : D → List ℕ → Type 0) (a b old now after : Option (List ℕ)) (first : Standing) (kept new : Kept D) (held rest : List ℕ) (lines : ℕ)
-    (result : Result (Unit {0}) StoredFault) → Goes seen may_leave a b old now held first (at kept.book lines) kept → Settles seen may_leave kept held now result new rest after
-    → new.book ≡ kept.book → ComesSettled seen may_leave a b old after rest first (at new.book lines) result new
-settled_first seen may_leave a b old now after first kept new held rest lines (Ok done) goes settles same =
-    settled seen may_leave a old now first kept b held lines goes new after rest settles.0 settles.1 settles.2 same
-settled_first seen may_leave a b old now after first kept new held rest lines (Err why) goes settles same =
-    stops_so seen may_leave a old now first kept held (stays seen may_leave a old now first kept b held lines goes) new after same why rest settles
+pub settled_first : {D : Type 0} (seen : D → List ℕ) (may_leave : D → List ℕ → Type 0) (a b old now after : Option (List ℕ)) (first : Standing) (kept new : Kept D) (held rest : List ℕ) (lines : ℕ) (cause : List ℕ)
+    (result : Result (Unit {0}) StoredFault) → Goes seen may_leave a b old now held first (at kept.book lines cause) kept → Settles seen may_leave kept held now result new rest after
+    → new.book ≡ kept.book → ComesSettled seen may_leave a b old after rest first (at new.book lines cause) result new
+settled_first seen may_leave a b old now after first kept new held rest lines cause (Ok done) goes settles same =
+    settled seen may_leave a old now first kept b held lines cause goes new after rest settles.0 settles.1 settles.2 same
+settled_first seen may_leave a b old now after first kept new held rest lines cause (Err why) goes settles same =
+    stops_so seen may_leave a old now first kept b held (stays seen may_leave a old now first kept b held lines cause goes) new after same why rest settles
 
 -- wherever a turn leads behind which all is settled
-module _ {D : Type 0} (seen : D → List ℕ) (may_leave : D → List ℕ → Type 0) (a b d old now : Option (List ℕ)) (first : Standing) (kept asked : Kept D) (held more : List ℕ) (lines after : ℕ)
-    (goes : Goes seen may_leave a b old now held first (at kept.book lines) kept) (same_log : asked.log ≡ kept.log) (same_count : asked.count ≡ kept.count)
+module _ {D : Type 0} (seen : D → List ℕ) (may_leave : D → List ℕ → Type 0) (a b d old now : Option (List ℕ)) (first : Standing) (kept asked : Kept D) (held more : List ℕ) (lines after : ℕ) (cause learnt : List ℕ)
+    (goes : Goes seen may_leave a b old now held first (at kept.book lines cause) kept) (same_log : asked.log ≡ kept.log) (same_count : asked.count ≡ kept.count)
     (new : Kept D) (same : new.book ≡ asked.book) (rest : List ℕ) (then : Option (List ℕ)) where
-  module _ (turns : Turns b d (Some held) (Some more) (at kept.book lines) (Ok false) (at asked.book after)) where
-    stays_ended : Stays seen may_leave a old now more first asked
-    stays_ended = ended seen may_leave a old now first kept b held lines goes d more asked same_log same_count after turns
+  module _ (turns : Turns b d (Some held) (Some more) (at kept.book lines cause) (Ok false) (at asked.book after learnt)) where
+    stays_ended : Stays seen may_leave a d old now more first asked
+    stays_ended = ended seen may_leave a old now first kept b held lines cause goes d more asked same_log same_count after learnt turns
 
     -- at the end of the input
     pub comes_end : (done : Unit {0}) → Settles seen may_leave asked more now (Ok done) new rest then
-        → Comes seen may_leave a d old then rest first (at new.book after) (Ok false) new
+        → Comes seen may_leave a d old then rest first (at new.book after learnt) (Ok false) new
     comes_end done settles =
-        let both = promised seen may_leave a old now first asked more stays_ended new then same done rest settles in (
+        let both = promised seen may_leave a old now first asked d more stays_ended new then same done rest settles in (
           both.0,
           subst (λ (h : Entries). EndsSo a d old then first (Ok false) h) (sym same)
-              (ends_so seen may_leave a old now first kept b held lines goes d more asked same_log same_count after then turns settles.2),
+              (ends_so seen may_leave a old now first kept b held lines cause goes d more asked same_log same_count after learnt then turns settles.2),
           both.1,
         )
 
-    pub comes_end_unsettled : (why : StoredFault) → Settles seen may_leave asked more now (Err why) new rest then → StopsSo seen may_leave a old then first why new
-    comes_end_unsettled why settles = stops_so seen may_leave a old now first asked more stays_ended new then same why rest settles
+    pub comes_end_unsettled : (why : StoredFault) → Settles seen may_leave asked more now (Err why) new rest then → StopsSo seen may_leave a d old then first why new
+    comes_end_unsettled why settles = stops_so seen may_leave a old now first asked d more stays_ended new then same why rest settles
 
-  module _ (wrong : TalkFault) (turns : Turns b d (Some held) (Some more) (at kept.book lines) (Err wrong) (at asked.book after)) where
-    stays_stopped : Stays seen may_leave a old now more first asked
-    stays_stopped = stopped seen may_leave a old now first kept b held lines goes d more asked same_log same_count after wrong turns
+  module _ (wrong : TalkFault) (turns : Turns b d (Some held) (Some more) (at kept.book lines cause) (Err wrong) (at asked.book after learnt)) where
+    stays_stopped : Stays seen may_leave a d old now more first asked
+    stays_stopped = stopped seen may_leave a old now first kept b held lines cause goes d more asked same_log same_count after learnt wrong turns
 
     -- at a fault
-    pub comes_fault : (told : TalkFault) (done : Unit {0}) → Settles seen may_leave asked more now (Ok done) new rest then
-        → StopsSo seen may_leave a old then first (fault.Talk told) new
-    comes_fault told done settles = promised seen may_leave a old now first asked more stays_stopped new then same done rest settles
+    pub comes_fault : (told : TalkFault) → told ≡ as_told wrong → (done : Unit {0}) → Settles seen may_leave asked more now (Ok done) new rest then
+        → StopsSo seen may_leave a d old then first (fault.Talk told) new
+    comes_fault told told_is done settles =
+        let both = promised seen may_leave a old now first asked d more stays_stopped new then same done rest settles in (
+          both.0,
+          record {
+            why = wrong;
+            told_is = told_is;
+            ends = subst (λ (h : Entries). EndsSo a d old then first (Err wrong) h) (sym same)
+                (breaks_so seen may_leave a old now first kept b held lines cause goes d more asked same_log same_count after learnt then wrong turns settles.2);
+          },
+          both.1,
+        )
 
-    pub comes_unsettled : (why : StoredFault) → Settles seen may_leave asked more now (Err why) new rest then → StopsSo seen may_leave a old then first why new
-    comes_unsettled why settles = stops_so seen may_leave a old now first asked more stays_stopped new then same why rest settles
+    pub comes_unsettled : (why : StoredFault) → Settles seen may_leave asked more now (Err why) new rest then → StopsSo seen may_leave a d old then first why new
+    comes_unsettled why settles = stops_so seen may_leave a old now first asked d more stays_stopped new then same why rest settles
 
 -- what was committed is let go
 pub settles_so : {D : Type 0} (seen : D → List ℕ) (may_leave : D → List ℕ → Type 0) (old new : Kept D) (held now : List ℕ) (before after : Option (List ℕ)) (result : Result (Unit {0}) StoredFault)
@@ -284,7 +350,7 @@ settles_so seen may_leave old new held now before after (Err (fault.Write error)
 
 -- the fault of a turn is the fault of the conversation
 pub talk_stops : {D : Type 0} (seen : D → List ℕ) (may_leave : D → List ℕ → Type 0) (a d old now : Option (List ℕ)) (first : Standing) (kept : Kept D)
-    (result : Result (Unit {0}) StoredFault) (why : StoredFault) → IsErrAnd result (λ fault. fault ≡ why) → StopsSo seen may_leave a old now first why kept
+    (result : Result (Unit {0}) StoredFault) (why : StoredFault) → IsErrAnd result (λ fault. fault ≡ why) → StopsSo seen may_leave a d old now first why kept
     → TalksKept seen may_leave a d old now first result kept
 talk_stops seen may_leave a d old now first kept (Ok done) why is stops = absurd is
-talk_stops seen may_leave a d old now first kept (Err fault) why is stops = subst (λ (w : StoredFault). StopsSo seen may_leave a old now first w kept) (sym is) stops
+talk_stops seen may_leave a d old now first kept (Err fault) why is stops = subst (λ (w : StoredFault). StopsSo seen may_leave a d old now first w kept) (sym is) stops

@@ -1,3 +1,4 @@
 pub mod Answering
 pub mod Leading
 pub mod Serving
+pub mod Writing

@@ -1,23 +1,21 @@
 -- What serving a request over what is kept leads to.
-use Rattle.std.proofs.Common.{◌≡◌, ◌⊎◌, inl, inr, ℕ, Bool, true, false, List, [], ◌∷◌, ◌++◌, Option, None, Some, Result, Ok, Err, map, refl, sym, ◌∙◌, ap, subst}
+use Rattle.std.proofs.Common.{◌≡◌, ◌⊎◌, ℕ, Bool, true, false, List, [], ◌∷◌, Option, Some, Result, Ok, Err, map, sym, ◌∙◌, ap, subst}
 use Rattle.std.proofs.KnownBytes.{Keeps-refl}
-use Rattle.std.specs.Io.KnownBytes.{Appends, Keeps}
-use Rattle.camp_call.specs.declared.calls.Call.{Call}
-use Rattle.camp_kept.specs.Keeping.{AreFirst, Holds, IsStoreOf, calls_in, disk_in, store_texts}
+use Rattle.std.specs.Io.KnownBytes.{Appends}
+use Rattle.camp_kept.specs.Keeping.{AreFirst, Holds, IsStoreOf, calls_in, store_texts}
 use Rattle.camp_kept.specs.declared.faults.KeptFault.{KeptFault}
 use Rattle.camp_kept.specs.declared.kept.Kept.{Kept}
 use Rattle.camp_kept_talk.specs.Going.{AllAreKept, MayBeKept, Settles}
 use Rattle.camp_kept_talk.specs.Laws.{KeptRequestsAreServedInTurn}
-use Rattle.camp_kept_talk.specs.Serving.{KeptCounter, MayKeep, ServesKept, ServesKeptAt}
+use Rattle.camp_kept_talk.specs.Serving.{KeptCounter, MayKeep, ServesHeld, ServesKept, ServesKeptAt, ServesUnkept, frame_told}
 use Rattle.camp_kept_talk.specs.declared.faults.StoredFault.{StoredFault}
 use Rattle.camp_kept_talk.specs.declared.faults.StoredFault.TheVariants as fault
 use Rattle.camp_kept_talk.proofs.Answering.{calls_front}
-use Rattle.camp_object.specs.Histories.{IsFront}
 use Rattle.camp_script.specs.Keeping.{calls_of}
 use Rattle.camp_store.specs.Logs.{KeepsTexts}
 use Rattle.camp_talk.specs.Dialogues.{Leads}
 use Rattle.camp_talk.specs.Entries.{Entries}
-use Rattle.camp_talk.specs.Frames.{Counter, Serves, ServesAt, WritesNot, framed}
+use Rattle.camp_talk.specs.Frames.{Counter, Serves, ServesAt}
 use Rattle.camp_talk.specs.Requests.{AnswersRequest}
 use Rattle.camp_talk.specs.Talks.{AppendsSome}
 use Rattle.camp_talk.specs.declared.frames.FrameFault.{FrameFault}
@@ -50,6 +48,12 @@ module _ {D : Type 0} (seen : D → List ℕ) (may_leave : D → List ℕ → Ty
       all_kept keeps =
           subst (λ (h : Entries). Holds seen may_leave (calls_of h) new) (sym same) (keeps (calls_in old) first_asked holds_asked)
 
+      held_so : ServesHeld a b old.book came new.book
+      held_so = record { frame = held; serves = subst (λ (h : Entries). Serves a b (Some []) (Some held) old.book came h) (sym same) serves }
+
+      pub unkept : ServesUnkept a b old.book new.book
+      unkept = record { came = came; held = held_so }
+
       pub may_keep : MayBeKept seen may_leave asked new → MayKeep seen may_leave old new
       may_keep may c leaves =
           subst (λ (h : Entries). IsStoreOf (calls_in old) c ⊎ IsStoreOf (calls_of h) c) (sym same)
@@ -71,7 +75,7 @@ module _ {D : Type 0} (seen : D → List ℕ) (may_leave : D → List ℕ → Ty
 
     -- or not
     pub serves_not : (why : StoredFault) → Settles seen may_leave asked held before (Err why) new now after → ServesKept seen may_leave a b before after old (Err why) new
-    serves_not (fault.Kept why) settles = (settles.1, may_keep (Ok true) serves new same settles.0)
+    serves_not (fault.Kept why) settles = (settles.1, unkept (Ok true) serves new same, may_keep (Ok true) serves new same settles.0)
     serves_not (fault.Talk why) settles = absurd settles
     serves_not (fault.Frame why) settles = absurd settles
     serves_not (fault.Write error) settles = (
@@ -87,15 +91,15 @@ module _ {D : Type 0} (seen : D → List ℕ) (may_leave : D → List ℕ → Ty
 
   module _ (why : FrameFault) (serves : Serves a b (Some []) (Some held) old.book (Err why) asked.book) (new : Kept D) (same : new.book ≡ asked.book) where
     -- a request could not be served
-    pub serves_none : (told : FrameFault) → AllAreKept seen may_leave asked new → ServesKept seen may_leave a b before before old (Err (fault.Frame told)) new
-    serves_none told keeps = (
+    pub serves_none : (told : FrameFault) → told ≡ frame_told why → AllAreKept seen may_leave asked new → ServesKept seen may_leave a b before before old (Err (fault.Frame told)) new
+    serves_none told told_is keeps = (
       Keeps-refl before,
-      record { why = why; frame = held; serves = subst (λ (h : Entries). Serves a b (Some []) (Some held) old.book (Err why) h) (sym same) serves },
+      record { why = why; told_is = told_is; held = held_so (Err why) serves new same },
       all_kept (Err why) serves new same keeps,
     )
 
     pub serves_unkept : (told : KeptFault) → MayBeKept seen may_leave asked new → ServesKept seen may_leave a b before before old (Err (fault.Kept told)) new
-    serves_unkept told may = (Keeps-refl before, may_keep (Err why) serves new same may)
+    serves_unkept told may = (Keeps-refl before, unkept (Err why) serves new same, may_keep (Err why) serves new same may)
 
 -- where requests are served, whatever is kept
 abbrev counter : {D : Type 0} → KeptCounter D → Counter

@@ -1,5 +1,5 @@
 -- How a conversation goes on whose answers are held back.
-use Rattle.std.specs.Prelude.{◌≡◌, ◌⊎◌, ℕ, Bool, true, false, List, [], Option, Some, Result, Ok, Err}
+use Rattle.std.specs.Prelude.{◌≡◌, ◌⊎◌, ℕ, Bool, true, false, List, [], Option, None, Some, Result, Ok, Err}
 use Rattle.std.specs.Io.KnownBytes.{Appends, Keeps}
 use Rattle.camp_call.specs.declared.calls.Call.{Call}
 use Rattle.camp_kept.specs.Keeping.{AreFirst, Holds, IsStoreOf, calls_in, disk_in}
@@ -10,8 +10,11 @@ use Rattle.camp_kept_talk.specs.declared.faults.StoredFault.TheVariants as fault
 use Rattle.camp_object.specs.Histories.{IsFront}
 use Rattle.camp_script.specs.Keeping.{calls_of}
 use Rattle.camp_talk.specs.Answers.{Standing}
-use Rattle.camp_talk.specs.Talks.{AppendsSome, EndsSo}
+use Rattle.camp_talk.specs.Entries.{Entries}
+use Rattle.camp_talk.specs.Talks.{AppendsSome, EndsSo, ReadsWithin}
 use Rattle.camp_talk.specs.Talks.{Holds as HoldsSo}
+use Rattle.camp_talk.specs.declared.faults.TalkFault.{TalkFault}
+use Rattle.camp_talk.specs.declared.faults.TalkFault.TheVariants.{Internal, Memory, Read, Write}
 
 -- the writer failed
 abbrev pub IsUnwritten : StoredFault → Type 0
@@ -19,6 +22,33 @@ IsUnwritten (fault.Kept why) = ⊥
 IsUnwritten (fault.Talk why) = ⊥
 IsUnwritten (fault.Frame why) = ⊥
 IsUnwritten (fault.Write error) = Unit {0}
+
+-- the fault of a turn whose answer is held in memory, as it is told: that an answer can't be held is want of memory
+abbrev pub as_told : TalkFault → TalkFault
+as_told Memory = Memory
+as_told (Read error) = Read error
+as_told (Write error) = Memory
+as_told Internal = Internal
+
+-- what a turn writes that can't keep the calls: all that was held back before it, or nothing
+abbrev pub WritesAllOrNone : List ℕ → Option (List ℕ) → Option (List ℕ) → StoredFault → Type 0
+WritesAllOrNone held before after (fault.Kept why) = Appends before after held ⊎ Keeps before after
+WritesAllOrNone held before after (fault.Talk why) = Unit {0}
+WritesAllOrNone held before after (fault.Frame why) = Unit {0}
+WritesAllOrNone held before after (fault.Write error) = Unit {0}
+
+-- where the calls can't be kept nothing is written
+abbrev pub WritesNone : Option (List ℕ) → Option (List ℕ) → StoredFault → Type 0
+WritesNone before after (fault.Kept why) = Keeps before after
+WritesNone before after (fault.Talk why) = Unit {0}
+WritesNone before after (fault.Frame why) = Unit {0}
+WritesNone before after (fault.Write error) = Unit {0}
+
+-- commands were answered one after the other, and then a turn came to a fault, which is told so
+pub record EndsTold (remaining rest old now : Option (List ℕ)) (first : Standing) (told : TalkFault) (history : Entries) : Type 0 where
+  pub why : TalkFault
+  pub told_is : told ≡ as_told why
+  pub ends : EndsSo remaining rest old now first (Err why) history
 
 module _ {D : Type 0} (seen : D → List ℕ) (may_leave : D → List ℕ → Type 0) where
   -- all accepted calls are on the disk, if some first of them were
@@ -52,29 +82,61 @@ module _ {D : Type 0} (seen : D → List ℕ) (may_leave : D → List ℕ → Ty
       pub since : IsFront (calls_of middle.history) calls
       pub within : IsFront calls (calls_of last.history)
 
-  -- a turn has led no further: what answers the commands behind the place is held back, perhaps in part
-  pub record Stays (remaining old now : Option (List ℕ)) (held : List ℕ) (first : Standing) (kept : Kept D) : Type 0 where
+  -- a turn has led no further: what answers the commands behind the place is held back, perhaps in part; and no more was
+  -- read behind them than a command has
+  pub record Stays (remaining rest old now : Option (List ℕ)) (held : List ℕ) (first : Standing) (kept : Kept D) : Type 0 where
     pub middle : Standing
     pub last : Standing
     pub left : Option (List ℕ)
     pub right : Option (List ℕ)
     pub told : HoldsSo remaining left old now first middle
     pub behind : Told left right (Some []) (Some held) middle last
+    pub reads : ReadsWithin right rest
     pub calls : List Call
     pub holds : Holds seen may_leave calls kept
     pub since : IsFront (calls_of middle.history) calls
     pub within : IsFront calls (calls_of last.history)
     pub is : last.history ≡ kept.book
 
-  -- a conversation has stopped at a fault: the promise holds; and unless they could not be kept, all accepted calls are on
-  -- the disk
-  abbrev pub StopsSo : (remaining old now : Option (List ℕ)) → Standing → StoredFault → Kept D → Type 0
-  StopsSo remaining old now first (fault.Kept why) kept = Promises seen may_leave remaining old now first kept
-  StopsSo remaining old now first (fault.Talk why) kept =
-      Promises seen may_leave remaining old now first kept × Holds seen may_leave (calls_in kept) kept
-  StopsSo remaining old now first (fault.Frame why) kept = ⊥
-  StopsSo remaining old now first (fault.Write error) kept =
-      Promises seen may_leave remaining old now first kept × Holds seen may_leave (calls_in kept) kept
+  -- the calls could not be kept: commands were answered up to a place, and all of their answers were written; those
+  -- behind it were answered, and nothing of their answers was written; no more was read than a further one has. The
+  -- accepted calls are those of all these commands. Whatever a crash leaves is a store of some first of them, the same
+  -- each time, with all those up to the place; or of all.
+  pub record StopsUnkept (remaining rest old now : Option (List ℕ)) (first : Standing) (kept : Kept D) : Type 0 where
+    pub middle : Standing
+    pub last : Standing
+    pub left : Option (List ℕ)
+    pub right : Option (List ℕ)
+    pub told : HoldsSo remaining left old now first middle
+    pub behind : Told left right None None middle last
+    pub reads : ReadsWithin right rest
+    pub is : last.history ≡ kept.book
+    pub calls : List Call
+    pub since : IsFront (calls_of middle.history) calls
+    pub within : IsFront calls (calls_in kept)
+    pub crash : (c : List ℕ) → may_leave (disk_in kept) c → IsStoreOf calls c ⊎ IsStoreOf (calls_in kept) c
+
+  -- the writer failed: commands were answered, and a front of their answers was written; no more was read than a further
+  -- one has. The accepted calls are those of all these commands, and they are on the disk.
+  pub record StopsUnwritten (remaining rest old now : Option (List ℕ)) (first : Standing) (kept : Kept D) : Type 0 where
+    pub last : Standing
+    pub right : Option (List ℕ)
+    pub told : Told remaining right old now first last
+    pub reads : ReadsWithin right rest
+    pub is : last.history ≡ kept.book
+    pub holds : Holds seen may_leave (calls_in kept) kept
+
+  -- a conversation has stopped at a fault: the promise holds. Kept: the calls could not be kept. Write: the writer failed.
+  -- Talk: a turn came to this fault, all accepted calls are on the disk, and all answers were written before it.
+  abbrev pub StopsSo : (remaining rest old now : Option (List ℕ)) → Standing → StoredFault → Kept D → Type 0
+  StopsSo remaining rest old now first (fault.Kept why) kept =
+      Promises seen may_leave remaining old now first kept × StopsUnkept remaining rest old now first kept
+  StopsSo remaining rest old now first (fault.Talk why) kept =
+      Promises seen may_leave remaining old now first kept × EndsTold remaining rest old now first why kept.book
+      × Holds seen may_leave (calls_in kept) kept
+  StopsSo remaining rest old now first (fault.Frame why) kept = ⊥
+  StopsSo remaining rest old now first (fault.Write error) kept =
+      Promises seen may_leave remaining old now first kept × StopsUnwritten remaining rest old now first kept
 
   -- where a turn has led
   abbrev pub Comes : (remaining rest old now : Option (List ℕ)) → List ℕ → Standing → Standing → Result Bool StoredFault → Kept D → Type 0
@@ -82,12 +144,12 @@ module _ {D : Type 0} (seen : D → List ℕ) (may_leave : D → List ℕ → Ty
   Comes remaining rest old now held first last (Ok false) kept =
       Promises seen may_leave remaining old now first kept × EndsSo remaining rest old now first (Ok false) last.history
       × Holds seen may_leave (calls_in kept) kept
-  Comes remaining rest old now held first last (Err why) kept = StopsSo remaining old now first why kept
+  Comes remaining rest old now held first last (Err why) kept = StopsSo remaining rest old now first why kept
 
   -- where settling has led
   abbrev pub ComesSettled : (remaining rest old now : Option (List ℕ)) → List ℕ → Standing → Standing → Result (Unit {0}) StoredFault → Kept D → Type 0
   ComesSettled remaining rest old now held first last (Ok done) kept = Goes remaining rest old now held first last kept
-  ComesSettled remaining rest old now held first last (Err why) kept = StopsSo remaining old now first why kept
+  ComesSettled remaining rest old now held first last (Err why) kept = StopsSo remaining rest old now first why kept
 
   -- a conversation over what is kept, from where it begins: the promise holds. At Ok it was held to its end, and all
   -- accepted calls are on the disk.
@@ -95,4 +157,4 @@ module _ {D : Type 0} (seen : D → List ℕ) (may_leave : D → List ℕ → Ty
   TalksKept remaining rest old now first (Ok done) kept =
       Promises seen may_leave remaining old now first kept × EndsSo remaining rest old now first (Ok false) kept.book
       × Holds seen may_leave (calls_in kept) kept
-  TalksKept remaining rest old now first (Err why) kept = StopsSo remaining old now first why kept
+  TalksKept remaining rest old now first (Err why) kept = StopsSo remaining rest old now first why kept

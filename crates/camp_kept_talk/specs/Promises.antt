@@ -1,27 +1,33 @@
 -- What a conversation promises whose calls are kept: nothing that was answered is lost.
-use Rattle.std.specs.Prelude.{◌≡◌, ℕ, List, [], ◌∷◌, Option}
+use Rattle.std.specs.Prelude.{◌≡◌, ◌⊎◌, ℕ, List, [], ◌∷◌, ◌++◌, Option, OnSome}
 use Rattle.std.specs.List.{flat_map}
-use Rattle.std.specs.Io.KnownBytes.{Consumes}
+use Rattle.std.specs.Io.KnownBytes.{Consumes, IsAtEnd}
 use Rattle.camp_call.specs.declared.calls.Call.{Call}
 use Rattle.camp_kept.specs.Keeping.{IsStoreOf, calls_in, disk_in}
 use Rattle.camp_kept.specs.declared.kept.Kept.{Kept}
 use Rattle.camp_object.specs.Histories.{IsFront}
 use Rattle.camp_script.specs.Keeping.{calls_of}
 use Rattle.camp_talk.specs.Answers.{Answers, Standing}
-use Rattle.camp_talk.specs.Talks.{AppendsSome, Exchange}
+use Rattle.camp_talk.specs.Cutting.{IsCommand, IsLeft}
+use Rattle.camp_talk.specs.Talks.{AppendsSome, Exchange, Follow}
 
--- commands were answered one after the other, each where the one before it left the conversation
-abbrev pub Answered : Standing → List Exchange → Standing → Type 0
-Answered first [] last = first ≡ last
-Answered first (said ∷ others) last =
-    (next : Standing) × Answers first said.command said.answer next × Answered next others last
+-- one more command was answered, or none: a whole one, or, where the input has ended, what that leaves of one
+abbrev pub AnswersLast : Type 0 → Standing → List Exchange → Standing → Type 0
+AnswersLast Ended middle [] last = middle ≡ last
+AnswersLast Ended middle (said ∷ []) last =
+    (IsCommand said.command ⊎ (IsLeft said.command × Ended)) × Answers middle said.command said.answer last
+AnswersLast Ended middle (said ∷ other ∷ others) last = ⊥
 
--- commands were read, and of their answers these bytes were written: all, or a front
+-- commands were read and answered one after the other, and maybe a last one, no more and no less; and of their answers
+-- these bytes were written: all, or a front
 pub record Told (remaining left old new : Option (List ℕ)) (first last : Standing) : Type 0 where
   pub said : List Exchange
-  pub answered : Answered first said last
-  pub reads : Consumes remaining left (flat_map (λ exchange. exchange.command) said)
-  pub writes : AppendsSome old new (flat_map (λ exchange. exchange.answer) said)
+  pub middle : Standing
+  pub follow : Follow first said middle
+  pub more : List Exchange
+  pub ends : AnswersLast (OnSome remaining (IsAtEnd left)) middle more last
+  pub reads : Consumes remaining left (flat_map (λ exchange. exchange.command) (said ++ more))
+  pub writes : AppendsSome old new (flat_map (λ exchange. exchange.answer) (said ++ more))
 
 -- by what a read of a disk returns, and what a crash may leave of it
 module _ {D : Type 0} (seen : D → List ℕ) (may_leave : D → List ℕ → Type 0) where

@@ -1,19 +1,39 @@
 -- Requests in frames over what is kept: each is a batch.
-use Rattle.std.specs.Prelude.{◌⊎◌, ℕ, Bool, List, [], Option, Some, Result, Ok, Err}
+use Rattle.std.specs.Prelude.{◌≡◌, ◌⊎◌, ℕ, Bool, List, [], Option, Some, Result, Ok, Err}
 use Rattle.std.specs.Io.KnownBytes.{Keeps}
 use Rattle.camp_kept.specs.Keeping.{Holds, IsStoreOf, calls_in, disk_in}
 use Rattle.camp_kept.specs.declared.kept.Kept.{Kept}
+use Rattle.camp_kept_talk.specs.Going.{as_told}
 use Rattle.camp_kept_talk.specs.declared.faults.StoredFault.{StoredFault}
 use Rattle.camp_kept_talk.specs.declared.faults.StoredFault.TheVariants as fault
+use Rattle.camp_kept_talk.specs.declared.frames.FramedStore.{FramedStore}
 use Rattle.camp_talk.specs.Entries.{Entries}
 use Rattle.camp_talk.specs.Frames.{Serves, WritesNot}
 use Rattle.camp_talk.specs.declared.frames.FrameFault.{FrameFault}
+use Rattle.camp_talk.specs.declared.frames.FrameFault.TheVariants.{Cut, NoNumber, Talk, TooLarge}
 
--- serving a request came to this fault before anything was written
-pub record ServesNone (remaining rest : Option (List ℕ)) (before after : Entries) : Type 0 where
-  pub why : FrameFault
+-- a request was served into memory, and came to this
+pub record ServesHeld (remaining rest : Option (List ℕ)) (before : Entries) (came : Result Bool FrameFault) (after : Entries) : Type 0 where
   pub frame : List ℕ
-  pub serves : Serves remaining rest (Some []) (Some frame) before (Err why) after
+  pub serves : Serves remaining rest (Some []) (Some frame) before came after
+
+-- a fault of serving into memory, as it is told: that an answer can't be held is want of memory
+abbrev pub frame_told : FrameFault → FrameFault
+frame_told NoNumber = NoNumber
+frame_told TooLarge = TooLarge
+frame_told Cut = Cut
+frame_told (Talk why) = Talk (as_told why)
+
+-- serving a request came to a fault before anything was written, and it is told so
+pub record ServesNone (remaining rest : Option (List ℕ)) (before : Entries) (told : FrameFault) (after : Entries) : Type 0 where
+  pub why : FrameFault
+  pub told_is : told ≡ frame_told why
+  pub held : ServesHeld remaining rest before (Err why) after
+
+-- serving a request came to this, before its calls could not be kept
+pub record ServesUnkept (remaining rest : Option (List ℕ)) (before after : Entries) : Type 0 where
+  pub came : Result Bool FrameFault
+  pub held : ServesHeld remaining rest before came after
 
 module _ {D : Type 0} (seen : D → List ℕ) (may_leave : D → List ℕ → Type 0) where
   -- whatever a crash leaves is a store of the calls that were accepted before, or of all
@@ -21,17 +41,32 @@ module _ {D : Type 0} (seen : D → List ℕ) (may_leave : D → List ℕ → Ty
   MayKeep old new = (c : List ℕ) → may_leave (disk_in new) c → IsStoreOf (calls_in old) c ⊎ IsStoreOf (calls_in new) c
 
   -- one request is served over what is kept. Ok: it is served as over a book, and all accepted calls are on the disk.
-  -- Kept: nothing was written, and the calls that it asked are on the disk all or not at all. Any other fault: the request
-  -- could not be served, and nothing was written, or its answer could not be written; all accepted calls are on the disk.
+  -- Kept: it was served, or came to a fault, and nothing was written; the calls that it asked are on the disk all or not
+  -- at all. Frame: it came to this fault, and nothing was written; all accepted calls are on the disk. Write: it was
+  -- answered, and all accepted calls are on the disk; a front of its answer was written.
   abbrev pub ServesKept : (remaining rest before after : Option (List ℕ)) → Kept D → Result Bool StoredFault → Kept D → Type 0
   ServesKept remaining rest before after old (Ok more) new =
       Serves remaining rest before after old.book (Ok more) new.book × Holds seen may_leave (calls_in new) new
-  ServesKept remaining rest before after old (Err (fault.Kept why)) new = Keeps before after × MayKeep old new
+  ServesKept remaining rest before after old (Err (fault.Kept why)) new =
+      Keeps before after × ServesUnkept remaining rest old.book new.book × MayKeep old new
   ServesKept remaining rest before after old (Err (fault.Talk why)) new = ⊥
   ServesKept remaining rest before after old (Err (fault.Frame why)) new =
-      Keeps before after × ServesNone remaining rest old.book new.book × Holds seen may_leave (calls_in new) new
+      Keeps before after × ServesNone remaining rest old.book why new.book × Holds seen may_leave (calls_in new) new
   ServesKept remaining rest before after old (Err (fault.Write error)) new =
       WritesNot remaining rest before after old.book new.book × Holds seen may_leave (calls_in new) new
+
+-- what requests in frames are served over: what is kept, a reader and a writer; and how many of them were served
+abbrev pub kept_of : {D R W : Type 0} → FramedStore D R W → Kept D
+kept_of it = it.kept
+
+abbrev pub reader_of : {D R W : Type 0} → FramedStore D R W → R
+reader_of it = it.reader
+
+abbrev pub writer_of : {D R W : Type 0} → FramedStore D R W → W
+writer_of it = it.writer
+
+abbrev pub served_of : {D R W : Type 0} → FramedStore D R W → ℕ
+served_of it = it.served
 
 -- where requests are served over what is kept: what a reader has left, what a writer holds, and what is kept
 pub record KeptCounter (D : Type 0) : Type 0 where

@@ -1,7 +1,7 @@
 //! Requests in frames over a repository that is kept.
 ghost use Rattle.std.specs.Prelude.{◌≡◌, ◌-◌, ◌^◌, true, IfOk};
 ghost use Rattle.camp_kept.specs.Keeping.{Holds, calls_in, disk_in};
-ghost use Rattle.camp_kept_talk.specs.Serving.{ServesKept};
+ghost use Rattle.camp_kept_talk.specs.Serving.{ServesKept, frame_told};
 ghost use Rattle.camp_talk.specs.Talks.{HasRisen};
 
 use crate::StoredFault;
@@ -41,7 +41,9 @@ pub fn serve_kept<D: Disk, R: BufRead, W: Write>(
 }
 
 // Why a request could not be served whose answer goes to memory: that it can't go there is want of memory.
-fn without_room(why: FrameFault) -> FrameFault {
+fn without_room(why: FrameFault) -> FrameFault
+    ensures { result ≡ frame_told why }
+{
     match why {
         FrameFault::Talk(TalkFault::Write(_)) => FrameFault::Talk(TalkFault::Memory),
         other => other,
@@ -60,8 +62,15 @@ pub struct FramedStore<D: Disk, R, W> {
 }
 
 impl<D: Disk, R: BufRead, W: Write> FramedStore<D, R, W> {
+    ghost use Rattle.camp_kept_talk.specs.Serving.{kept_of, reader_of, served_of, writer_of};
+
     /// Before the first request.
-    pub fn new(alloc: Global, kept: Kept<D>, reader: R, writer: W) -> FramedStore<D, R, W> {
+    pub fn new(alloc: Global, kept: Kept<D>, reader: R, writer: W) -> FramedStore<D, R, W>
+        ensures kept { kept_of result ≡ kept }
+        ensures reader { reader_of result ≡ reader }
+        ensures writer { writer_of result ≡ writer }
+        ensures first { served_of result ≡ 0 }
+    {
         FramedStore {
             alloc,
             kept,

@@ -1,5 +1,5 @@
 //! Conversations over a repository that is kept.
-ghost use Rattle.std.specs.Prelude.{◌≡◌};
+ghost use Rattle.std.specs.Prelude.{◌≡◌, []};
 ghost use Rattle.std.specs.Io.Buffered.{reader_remaining};
 ghost use Rattle.camp_kept.specs.Keeping.{Holds, calls_in, disk_in};
 ghost use Rattle.camp_kept_talk.specs.Going.{TalksKept};
@@ -22,7 +22,7 @@ pub fn talk_kept<D: Disk, R: Read, W: Write>(
 ) -> Result<(), StoredFault>
     ensures promises { Holds D.Disk.seen D.Disk.may_leave (calls_in kept.old) kept.old
         → TalksKept D.Disk.seen D.Disk.may_leave (reader_remaining R.remaining reader.old) (reader_remaining R.remaining reader.new) (W.contents writer.old) (W.contents writer.new)
-        (record { history = kept.old.book; lines = 0 }) result kept.new }
+        (record { history = kept.old.book; lines = 0; cause = [] }) result kept.new }
     ensures clean { D.Disk.is_clean (disk_in kept.new) ≡ D.Disk.is_clean (disk_in kept.old) }
 {
     let mut held = HeldBack::new(alloc);

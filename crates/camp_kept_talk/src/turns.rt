@@ -1,9 +1,10 @@
 //! Turns of a conversation whose answers are held back.
-ghost use Rattle.std.specs.Prelude.{◌≡◌, [], true, IfOk, List, Option, ℕ};
+ghost use Rattle.std.specs.Prelude.{◌≡◌, ◌⊎◌, [], true, false, IfErr, IfOk, List, MatchResult, OnOk, Option, ℕ};
+ghost use Rattle.std.specs.Io.KnownBytes.{Appends, Keeps};
 ghost use Rattle.camp_kept.specs.Keeping.{disk_in};
-ghost use Rattle.camp_kept_talk.specs.Going.{Comes, ComesSettled, Goes};
+ghost use Rattle.camp_kept_talk.specs.Going.{Comes, ComesSettled, Goes, WritesAllOrNone, WritesNone, as_told};
 ghost use Rattle.camp_talk.specs.Answers.{Standing};
-ghost use Rattle.camp_talk.specs.Talks.{HasRisen};
+ghost use Rattle.camp_talk.specs.Talks.{HasRisen, ReadsWithin};
 
 use crate::StoredFault;
 use crate::settling::settle;
@@ -25,6 +26,8 @@ pub struct HeldBack {
     pub answers: Vec<u8>,
     /// How many lines were read.
     pub lines: u64,
+    /// The lines that tell the cause of the last fault or refusal.
+    pub cause: Vec<u8>,
 }
 
 impl HeldBack {
@@ -32,10 +35,12 @@ impl HeldBack {
     pub fn new(alloc: Global) -> HeldBack
         ensures none { result.answers.items ≡ [] }
         ensures first { result.lines ≡ 0 }
+        ensures cause { result.cause.items ≡ [] }
     {
         HeldBack {
             answers: Vec::new(alloc),
             lines: 0,
+            cause: Vec::new(alloc),
         }
     }
 }
@@ -52,10 +57,15 @@ pub fn stored_turn<D: Disk, R: BufRead, W: Write>(
 ) -> Result<bool, StoredFault>
     ensures goes { (remaining old : Option (List ℕ)) (first : Standing)
         → Goes D.Disk.seen D.Disk.may_leave remaining (R.remaining reader.old) old (W.contents writer.old) held.old.answers.items first
-        (record { history = kept.old.book; lines = held.old.lines }) kept.old
+        (record { history = kept.old.book; lines = held.old.lines; cause = held.old.cause.items }) kept.old
         → Comes D.Disk.seen D.Disk.may_leave remaining (R.remaining reader.new) old (W.contents writer.new) held.new.answers.items first
-        (record { history = kept.new.book; lines = held.new.lines }) result kept.new }
+        (record { history = kept.new.book; lines = held.new.lines; cause = held.new.cause.items }) result kept.new }
     ensures counts { IfOk result (λ more. more ≡ true → HasRisen held.old.lines held.new.lines) }
+    // It reads no more than a command has; and where the calls can't be kept, it writes all that was held back, or nothing.
+    ensures within { ReadsWithin (R.remaining reader.old) (R.remaining reader.new) }
+    ensures whole { IfErr result (WritesAllOrNone held.old.answers.items (W.contents writer.old) (W.contents writer.new)) }
+    // Where no command stands ready, the answers that were held back are written.
+    ensures settles { is_ready ≡ false → IfOk result (λ more. more ≡ true → Appends (W.contents writer.old) (W.contents writer.new) held.old.answers.items) }
     ensures clean { D.Disk.is_clean (disk_in kept.new) ≡ D.Disk.is_clean (disk_in kept.old) }
 {
     match settle_first(alloc, kept, held, is_ready, writer) {
@@ -74,10 +84,14 @@ fn settle_first<D: Disk, W: Write>(
 ) -> Result<(), StoredFault>
     ensures goes { (remaining rest old : Option (List ℕ)) (first : Standing)
         → Goes D.Disk.seen D.Disk.may_leave remaining rest old (W.contents writer.old) held.old.answers.items first
-        (record { history = kept.old.book; lines = held.old.lines }) kept.old
+        (record { history = kept.old.book; lines = held.old.lines; cause = held.old.cause.items }) kept.old
         → ComesSettled D.Disk.seen D.Disk.may_leave remaining rest old (W.contents writer.new) held.new.answers.items first
-        (record { history = kept.new.book; lines = held.new.lines }) result kept.new }
+        (record { history = kept.new.book; lines = held.new.lines; cause = held.new.cause.items }) result kept.new }
     ensures lines { held.new.lines ≡ held.old.lines }
+    ensures whole { MatchResult result
+        (λ _. Appends (W.contents writer.old) (W.contents writer.new) held.old.answers.items ⊎ Keeps (W.contents writer.old) (W.contents writer.new))
+        (WritesAllOrNone held.old.answers.items (W.contents writer.old) (W.contents writer.new)) }
+    ensures settles { is_ready ≡ false → OnOk result (Appends (W.contents writer.old) (W.contents writer.new) held.old.answers.items) }
     ensures clean { D.Disk.is_clean (disk_in kept.new) ≡ D.Disk.is_clean (disk_in kept.old) }
 {
     if may_wait(kept, held, is_ready) {
@@ -87,7 +101,9 @@ fn settle_first<D: Disk, W: Write>(
 }
 
 // Whether what is held back may wait: a command stands ready, and not much waits.
-fn may_wait<D: Disk>(kept: &Kept<D>, held: &HeldBack, is_ready: bool) -> bool {
+fn may_wait<D: Disk>(kept: &Kept<D>, held: &HeldBack, is_ready: bool) -> bool
+    ensures { is_ready ≡ false → result ≡ false }
+{
     is_ready && kept.waiting() < MAX_CALLS && held.answers.len() < MAX_ANSWERS
 }
 
@@ -101,16 +117,20 @@ fn turn_on<D: Disk, R: BufRead, W: Write>(
 ) -> Result<bool, StoredFault>
     ensures goes { (remaining old : Option (List ℕ)) (first : Standing)
         → Goes D.Disk.seen D.Disk.may_leave remaining (R.remaining reader.old) old (W.contents writer.old) held.old.answers.items first
-        (record { history = kept.old.book; lines = held.old.lines }) kept.old
+        (record { history = kept.old.book; lines = held.old.lines; cause = held.old.cause.items }) kept.old
         → Comes D.Disk.seen D.Disk.may_leave remaining (R.remaining reader.new) old (W.contents writer.new) held.new.answers.items first
-        (record { history = kept.new.book; lines = held.new.lines }) result kept.new }
+        (record { history = kept.new.book; lines = held.new.lines; cause = held.new.cause.items }) result kept.new }
     ensures counts { IfOk result (λ more. more ≡ true → HasRisen held.old.lines held.new.lines) }
+    ensures within { ReadsWithin (R.remaining reader.old) (R.remaining reader.new) }
+    ensures none { IfErr result (WritesNone (W.contents writer.old) (W.contents writer.new)) }
+    ensures unwritten { IfOk result (λ more. more ≡ true → W.contents writer.new ≡ W.contents writer.old) }
     ensures clean { D.Disk.is_clean (disk_in kept.new) ≡ D.Disk.is_clean (disk_in kept.old) }
 {
     let turned = turn(
         alloc,
         &mut kept.book,
         &mut held.lines,
+        &mut held.cause,
         reader,
         &mut held.answers,
     );
@@ -128,7 +148,9 @@ fn turn_on<D: Disk, R: BufRead, W: Write>(
 }
 
 // Why a turn could not be taken whose answer is held back: that it can't be held is want of memory.
-fn without_room(why: TalkFault) -> TalkFault {
+fn without_room(why: TalkFault) -> TalkFault
+    ensures { result ≡ as_told why }
+{
     match why {
         TalkFault::Write(_) => TalkFault::Memory,
         other => other,

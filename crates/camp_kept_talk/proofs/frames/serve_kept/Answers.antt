@@ -43,7 +43,7 @@ returns-in-Ok-commit-clause-serves g c holds =
     let held = c.serve.new.writer.items in
     serves_none g.D.Disk.seen g.D.Disk.may_leave a b (g.W.Write.contents c.args.writer.now) old (record old { book = c.serve.new.book }) held refl refl holds c.in-Err.why
     (subst (λ (frame : List ℕ). Serves a b (Some frame) (Some held) old.book (Err c.in-Err.why) c.serve.new.book) c.new-frame.ensures.items c.in-Err.ensures.serves) c.commit.new.self
-    c.commit.ensures.book c.without_room.result c.in-Ok-commit.ensures.acknowledged
+    c.commit.ensures.book c.without_room.result c.without_room.ensures c.in-Ok-commit.ensures.acknowledged
 
 pub returns-clause-serves : goal.returns-clause-serves
 returns-clause-serves g c holds =
