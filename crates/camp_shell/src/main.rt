@@ -1,13 +1,14 @@
 //! `camp_shell`: loads the files that `--load` names, then reads commands from standard input, and answers
 //! each on standard output as soon as its last line is read; with `--frames` it does so request by request, and
-//! with `--export` it writes a branch for git instead.
+//! with `--export` it writes a branch for git instead. With `--store` the repository is kept in a file.
 //! The exit status is 0 at the end of the input, 1 where a command of a file was answered by a fault or a
 //! refusal, the input is no requests in frames, or the branch can't be written for git, 2 where the command line
-//! is refused, and 3 where memory ran out, or input or output failed; standard error says why.
+//! is refused, and 3 where memory ran out, or input, output or a store failed; standard error says why.
 #![tactic(auto)]
 
 mod prompts;
 mod stops;
+mod stores;
 mod words;
 
 use camp_base::Name;
@@ -19,6 +20,7 @@ use std::fs::{self, File};
 use std::io::{BufReader, IsTerminal, Read};
 use std::process::ExitCode;
 use stops::Stop;
+use stores::{check_store, hold_stored};
 use words::{Form, wish_of};
 
 fn main(rt: HostRuntime) -> ExitCode {
@@ -40,6 +42,12 @@ fn exit_code(rt: &HostRuntime, ended: Result<(), Stop<'_>>) -> ExitCode {
 // over it.
 fn hold<'a>(rt: &HostRuntime, words: &'a [String]) -> Result<(), Stop<'a>> {
     let wish = wish_of(rt.alloc(), words).map_err(WordsFault::from)?;
+    if let Some(store) = wish.checked {
+        return check_store(rt, store);
+    }
+    if let Some(store) = wish.store {
+        return hold_stored(rt, store, &wish);
+    }
     let mut book = Book::new(rt.alloc())?;
     for file in wish.files.iter() {
         load_file(rt, &mut book, file)?;
@@ -49,7 +57,7 @@ fn hold<'a>(rt: &HostRuntime, words: &'a [String]) -> Result<(), Stop<'a>> {
     }
     let reader = buffered(rt, rt.stdin())?;
     let writer = rt.stdout();
-    match form_of(wish.form, rt.stdin().is_terminal() && writer.is_terminal()) {
+    match form_at(rt, wish.form) {
         Form::Lines => talk(&mut Conversation::new(rt.alloc(), book, reader, writer))?,
         Form::Prompts => talk(&mut Prompted::new(rt.alloc(), book, reader, rt.stdout(), writer))?,
         Form::Frames => talk(&mut FramedConversation::new(rt.alloc(), book, reader, writer))?,
@@ -58,9 +66,9 @@ fn hold<'a>(rt: &HostRuntime, words: &'a [String]) -> Result<(), Stop<'a>> {
 }
 
 // At a terminal lines are asked for by prompts.
-fn form_of(wished: Form, is_terminal: bool) -> Form {
+fn form_at(rt: &HostRuntime, wished: Form) -> Form {
     match wished {
-        Form::Lines if is_terminal => Form::Prompts,
+        Form::Lines if rt.stdin().is_terminal() && rt.stdout().is_terminal() => Form::Prompts,
         form => form,
     }
 }

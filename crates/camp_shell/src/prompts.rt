@@ -7,7 +7,7 @@ use std::io::{self, BufRead, Read, Write};
 
 /// What stands before the first prompt.
 const GREETING: &[u8] =
-    b"camp holds branches of named patches. help tells the commands, help COMMAND more, quit ends.\n";
+    b"camp holds branches of named patches. help tells the commands, why tells what was wrong, quit ends.\n";
 
 /// A conversation with prompts.
 #[derive(Drop)]
@@ -16,6 +16,8 @@ pub(crate) struct Prompted<R, W> {
     book: Book<State>,
     /// How many lines were read.
     lines: u64,
+    /// The lines that tell the cause of the last fault or refusal.
+    cause: Vec<u8>,
     reader: Prompting<R, W>,
     writer: W,
 }
@@ -27,6 +29,7 @@ impl<R: BufRead, W: Write> Prompted<R, W> {
             alloc,
             book,
             lines: 0,
+            cause: Vec::new(alloc),
             reader: Prompting::new(alloc, reader, prompts),
             writer,
         }
@@ -46,6 +49,7 @@ impl<R: BufRead, W: Write> Dialogue for Prompted<R, W> {
             self.alloc,
             &mut self.book,
             &mut self.lines,
+            &mut self.cause,
             &mut self.reader,
             &mut self.writer,
         )
@@ -65,7 +69,7 @@ enum Place {
 
 /// A reader of lines, each of which is asked for by a prompt.
 #[derive(Drop)]
-struct Prompting<R, W> {
+pub(crate) struct Prompting<R, W> {
     reader: R,
     prompts: W,
     place: Place,
@@ -74,7 +78,7 @@ struct Prompting<R, W> {
 }
 
 impl<R: BufRead, W: Write> Prompting<R, W> {
-    fn new(alloc: Global, reader: R, prompts: W) -> Self {
+    pub(crate) fn new(alloc: Global, reader: R, prompts: W) -> Self {
         let mut prompting = Prompting {
             reader,
             prompts,
@@ -85,8 +89,8 @@ impl<R: BufRead, W: Write> Prompting<R, W> {
         prompting
     }
 
-    // A command is to begin.
-    fn begin(&mut self) {
+    /// A command is to begin.
+    pub(crate) fn begin(&mut self) {
         self.place = Place::Command;
     }
 

@@ -1,4 +1,5 @@
 use camp_git::Unexported;
+use camp_kept_talk::KeptFault;
 use camp_options::{WordsFault, tell_fault};
 use camp_talk::{FrameFault, LoadFault, TalkFault};
 use std::alloc::AllocError;
@@ -21,6 +22,12 @@ pub(crate) enum Stop<'a> {
     NoName(&'a str),
     /// A branch was not written for git.
     Export(Unexported),
+    /// A store was not opened, or its calls were not kept.
+    Store(&'a str, KeptFault),
+    /// Another process has the store.
+    InUse(&'a str),
+    /// What should be a store is a folder, a device, or a file with several names.
+    NotPlain(&'a str),
 }
 
 const PROGRAM: &str = "camp_shell";
@@ -45,6 +52,18 @@ impl Stop<'_> {
                     PROGRAM,
                     &format_args!("{file}: {fault}"),
                     fault.status(),
+                )
+            }
+            Stop::Store(file, fault) => {
+                tell_fault(rt, PROGRAM, &format_args!("{file}: {fault}"), 3)
+            }
+            Stop::InUse(file) => tell_fault(rt, PROGRAM, &format_args!("{file}: in use"), 3),
+            Stop::NotPlain(file) => {
+                tell_fault(
+                    rt,
+                    PROGRAM,
+                    &format_args!("{file}: no plain file of one name"),
+                    3,
                 )
             }
             Stop::Talk(fault) | Stop::Frame(FrameFault::Talk(fault)) => tell_talk(rt, fault),

@@ -1,6 +1,6 @@
 //! The words of the command line.
 use clap::{Arg, ArgAction, Command, Error};
-use std::alloc::Global;
+use std::alloc::{AllocError, Global};
 use std::convert::AsStr;
 
 /// What the words of a command line wish for.
@@ -10,6 +10,10 @@ pub(crate) struct Wish<'a> {
     pub(crate) files: Vec<&'a str>,
     /// The branch that is written for git, in place of a conversation.
     pub(crate) export: Option<&'a str>,
+    /// The file in which the repository is kept.
+    pub(crate) store: Option<&'a str>,
+    /// The file that is checked, and nothing else is done.
+    pub(crate) checked: Option<&'a str>,
     pub(crate) form: Form,
 }
 
@@ -41,7 +45,8 @@ so many lines. Alone stand ok NUMBER, refused NUMBER .., no file and these:
 Lines without words and lines whose first word begins with # are not answered. client is no command
 here, and neither is a line of more than 1048576 bytes. Questions are commands, too: branches, file,
 needs, held, missing, along, show, annotate, open, side, marks, graph, whatif, history and keep. The
-command help tells how all are written, and help COMMAND more about one.
+command help tells how all are written, and help COMMAND more about one; why tells the cause of the last
+fault or refusal, and what can be done.
 
 With --frames a request is a line with its number of bytes, in 1 to 10 digits, and then so many bytes,
 268435456 at most. It is answered so, too: by a line with the number of bytes of its answer, and then
@@ -58,6 +63,12 @@ line where the command begins, and the answer.
 With --export no commands are read. The branch is written on standard output as git fast-import reads it:
 on refs/heads/BRANCH a commit for each patch, with the files of the branch up to it. What git can't hold
 is refused before anything is written: a file that is also a folder, and a part .git of a path.
+
+With --store the repository is kept in this file, which is made where it is not there: each accepted call
+is on the disk before it is answered, and the next conversation over the file goes on from there. Files
+that are loaded are kept, too, all or none. Where calls can't be kept, they are not answered, and the
+status is 3. With --check-store it is told how many calls a file keeps, its bytes, the digest of all, and
+whether the end is whole; nothing is changed. docs/store.md has more.
 
 Exit status:
   0  the input has ended, whatever was answered
@@ -76,6 +87,37 @@ questions.";
 /// Reads the words of a command line, of which the first is the program's name. The fault is a mistake in the
 /// words, a request for the help text, or want of memory; it shows as the text for the user.
 pub(crate) fn wish_of<'a, S: AsStr>(alloc: Global, words: &'a [S]) -> Result<Wish<'a>, Error> {
+    let matches = command(alloc)?.try_get_matches_from(words)?;
+    let files = match matches.get_strs("load") {
+        Some(files) => Vec::from_slice(alloc, files)?,
+        None => Vec::new(alloc),
+    };
+    let export = matches.get_str("export");
+    let form = if matches.get_flag("frames") {
+        Form::Frames
+    } else if matches.get_flag("prompt") {
+        Form::Prompts
+    } else {
+        Form::Lines
+    };
+    Ok(Wish {
+        files,
+        export,
+        store: matches.get_str("store"),
+        checked: matches.get_str("check-store"),
+        form,
+    })
+}
+
+fn command<'a>(alloc: Global) -> Result<Command<'a>, AllocError> {
+    let command = Command::new(alloc, "camp_shell")
+        .override_usage(USAGE)
+        .after_help(REFERENCE);
+    let command = with_forms(alloc, command)?;
+    with_stores(alloc, command)
+}
+
+fn with_forms<'a>(alloc: Global, command: Command<'a>) -> Result<Command<'a>, AllocError> {
     let load = Arg::new(alloc, "load")
         .long("load")
         .num_args(1..)
@@ -98,29 +140,24 @@ pub(crate) fn wish_of<'a, S: AsStr>(alloc: Global, words: &'a [S]) -> Result<Wis
         .conflicts_with("frames")?
         .conflicts_with("export")?
         .help("Ask for each line with a prompt, as at a terminal");
-    let command = Command::new(alloc, "camp_shell")
-        .override_usage(USAGE)
-        .after_help(REFERENCE)
-        .arg(load)?
-        .arg(export)?
-        .arg(frames)?
-        .arg(prompt)?;
-    let matches = command.try_get_matches_from(words)?;
-    let files = match matches.get_strs("load") {
-        Some(files) => Vec::from_slice(alloc, files)?,
-        None => Vec::new(alloc),
-    };
-    let export = matches.get_str("export");
-    let form = if matches.get_flag("frames") {
-        Form::Frames
-    } else if matches.get_flag("prompt") {
-        Form::Prompts
-    } else {
-        Form::Lines
-    };
-    Ok(Wish {
-        files,
-        export,
-        form,
-    })
+    command.arg(load)?.arg(export)?.arg(frames)?.arg(prompt)
+}
+
+fn with_stores<'a>(alloc: Global, command: Command<'a>) -> Result<Command<'a>, AllocError> {
+    let store = Arg::new(alloc, "store")
+        .long("store")
+        .value_name("FILE")
+        .help(
+            "Keep the repository in this file; each accepted call is on the disk before it is answered",
+        );
+    let check = Arg::new(alloc, "check-store")
+        .long("check-store")
+        .value_name("FILE")
+        .conflicts_with("store")?
+        .conflicts_with("load")?
+        .conflicts_with("export")?
+        .conflicts_with("frames")?
+        .conflicts_with("prompt")?
+        .help("Tell what a file keeps, and change nothing");
+    command.arg(store)?.arg(check)
 }

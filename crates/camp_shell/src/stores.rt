@@ -1,0 +1,168 @@
+//! Repositories that are kept in files.
+ghost use Rattle.std.specs.Prelude.{◌-◌, ◌^◌};
+
+use crate::prompts::Prompting;
+use crate::stops::Stop;
+use crate::words::{Form, Wish};
+use crate::{buffered, export_branch, form_at, load_file};
+use camp_kept_talk::{
+    Disk, FramedStore, HeldBack, Kept, KeptFault, StoredFault, inspect, stored_turn, talk_kept,
+};
+use camp_talk::{Dialogue, TalkFault, talk};
+use sqlite_std_file::{File, OpenError, Unknown, open};
+use std::alloc::Global;
+use std::fs;
+use std::io::{self, BufRead, ErrorKind, Read, Write};
+
+/// Opens a store, or makes it, loads files into it, and then holds a conversation over it, or writes a branch for git.
+pub(crate) fn hold_stored<'a>(
+    rt: &HostRuntime,
+    store: &'a str,
+    wish: &Wish<'a>,
+) -> Result<(), Stop<'a>> {
+    let mut kept = open_store(rt, store)?;
+    for file in wish.files.iter() {
+        load_file(rt, &mut kept.book, *file)?;
+    }
+    if let Err(fault) = kept.commit(rt.alloc()) {
+        return Err(Stop::Store(store, fault));
+    }
+    if let Some(branch) = wish.export {
+        return export_branch(rt, &kept.book, branch);
+    }
+    match converse(rt, kept, wish.form) {
+        Ok(()) => Ok(()),
+        Err(StoredFault::Kept(fault)) => Err(Stop::Store(store, fault)),
+        Err(StoredFault::Talk(fault)) => Err(Stop::Talk(fault)),
+        Err(StoredFault::Frame(fault)) => Err(Stop::Frame(fault)),
+        Err(StoredFault::Write(error)) => Err(Stop::Talk(TalkFault::Write(error))),
+    }
+}
+
+// Holds a conversation over what is kept.
+fn converse(rt: &HostRuntime, mut kept: Kept<File>, form: Form) -> Result<(), StoredFault> {
+    let mut reader = buffered(rt, rt.stdin())?;
+    let mut writer = rt.stdout();
+    match form_at(rt, form) {
+        Form::Prompts => talk(&mut PromptedStore {
+            alloc: rt.alloc(),
+            kept,
+            held: HeldBack::new(rt.alloc()),
+            reader: Prompting::new(rt.alloc(), reader, rt.stdout()),
+            writer,
+        }),
+        Form::Frames => talk(&mut FramedStore::new(rt.alloc(), kept, reader, writer)),
+        Form::Lines => talk_kept(rt.alloc(), &mut kept, &mut reader, &mut writer),
+    }
+}
+
+// A conversation over what is kept, with prompts.
+#[derive(Drop)]
+struct PromptedStore<D: Disk, R, W> {
+    alloc: Global,
+    kept: Kept<D>,
+    held: HeldBack,
+    reader: Prompting<R, W>,
+    writer: W,
+}
+
+impl<D: Disk, R: BufRead, W: Write> Dialogue for PromptedStore<D, R, W> {
+    type Fault = StoredFault;
+
+    ghost comes_to = { λ _ _ _. Unit {0} };
+
+    ghost left = { λ it. 2 ^ 64 - it.held.lines };
+
+    fn turn(&mut self) -> Result<bool, StoredFault> {
+        self.reader.begin();
+        stored_turn(
+            self.alloc,
+            &mut self.kept,
+            &mut self.held,
+            false,
+            &mut self.reader,
+            &mut self.writer,
+        )
+    }
+}
+
+// Opens a store, and tells of bytes that count for nothing.
+fn open_store<'a>(rt: &HostRuntime, store: &'a str) -> Result<Kept<File>, Stop<'a>> {
+    let kept = match Kept::open(rt.alloc(), open_file(rt, store)?) {
+        Ok(kept) => kept,
+        Err((fault, _disk)) => return Err(Stop::Store(store, fault)),
+    };
+    if kept.left_out() > 0 {
+        let _ = eprintln!(rt;
+            "camp_shell: {store}: {} bytes behind the end count for nothing",
+            kept.left_out()
+        );
+    }
+    Ok(kept)
+}
+
+// The file of a store, locked. The log that the kit puts beside a database stays empty, and is taken away again.
+fn open_file<'a>(rt: &HostRuntime, store: &'a str) -> Result<File, Stop<'a>> {
+    match open(rt, store, Unknown) {
+        Ok(files) => {
+            take_log_away(rt, store)?;
+            Ok(files.db)
+        }
+        Err(OpenError::Busy) => Err(Stop::InUse(store)),
+        Err(OpenError::Io(error)) if error.kind() == ErrorKind::Unsupported => {
+            Err(Stop::NotPlain(store))
+        }
+        Err(OpenError::Io(error)) => Err(Stop::Open(store, error)),
+        Err(OpenError::OutOfMemory) => Err(Stop::Talk(TalkFault::Memory)),
+        Err(OpenError::HotJournal) => Err(Stop::Store(store, KeptFault::NoStore)),
+    }
+}
+
+// Takes the empty log beside a store away.
+fn take_log_away<'a>(rt: &HostRuntime, store: &'a str) -> Result<(), Stop<'a>> {
+    let real = match fs::canonicalize(rt, store) {
+        Ok(real) => real,
+        Err(error) => return Err(Stop::Open(store, error)),
+    };
+    let log = format!(in rt.alloc(); "{}-wal", real.as_str())?;
+    if let Ok(found) = fs::symlink_metadata(rt, log.as_str()) {
+        if found.len() == 0 {
+            let _ = fs::remove_file(rt, log.as_str());
+        }
+    }
+    Ok(())
+}
+
+/// Tells what a file keeps. It changes nothing.
+pub(crate) fn check_store<'a>(rt: &HostRuntime, store: &'a str) -> Result<(), Stop<'a>> {
+    let bytes = match read_whole(rt, store) {
+        Ok(bytes) => bytes,
+        Err(error) => return Err(Stop::Open(store, error)),
+    };
+    let found = match inspect(rt.alloc(), &bytes) {
+        Ok(found) => found,
+        Err(fault) => return Err(Stop::Store(store, fault)),
+    };
+    let digest = hex::encode(rt.alloc(), &found.digest)?;
+    let calls = found.calls;
+    let len = bytes.len();
+    let told = if found.left_out > 0 {
+        println!(rt;
+            "calls {calls}\nbytes {len}\ndigest {digest}\nend {}",
+            found.left_out
+        )
+    } else {
+        println!(rt; "calls {calls}\nbytes {len}\ndigest {digest}\nend whole")
+    };
+    match told {
+        Ok(()) => Ok(()),
+        Err(error) => Err(Stop::Talk(TalkFault::Write(error))),
+    }
+}
+
+fn read_whole(rt: &HostRuntime, path: &str) -> io::Result<Vec<u8>> {
+    let mut file = fs::open(rt, path)?;
+    let mut bytes = Vec::new(rt.alloc());
+    file.read_to_end(&mut bytes)?;
+    Ok(bytes)
+}
