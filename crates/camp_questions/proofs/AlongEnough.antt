@@ -1,5 +1,5 @@
 -- A pull of what comes along is not refused for want of a patch.
-use Rattle.camp_questions.proofs.Words.{◌≡◌, ◌≢◌, ℕ, Bool, true, false, not, ◌&&◌, List, [], ◌∷◌, ◌++◌, map, filter, Option, None, Some, Ok, Err, bytes_eq, refl, sym, ap, ◌∙◌, inl, inr, subst, Key, Catch, has_patch, is_among, name_of, names_of, same_name, among_kept, among_once, Arrange, AreAlike, Contents, catches_of, first_lacked, is_empty, step, AreAmong, ComeToFront, StickOn}
+use Rattle.camp_questions.proofs.Words.{and_from, and_parts, ◌≡◌, ℕ, Bool, true, false, not, ◌&&◌, List, [], ◌∷◌, ◌++◌, map, filter, Option, None, Some, Ok, Err, refl, sym, ap, ◌∙◌, inl, inr, subst, Key, Catch, has_patch, is_among, name_of, names_of, among_kept, among_once, Arrange, AreAlike, Contents, catches_of, first_lacked, is_empty, step, AreAmong, ComeToFront, StickOn}
 use Rattle.std.specs.Prelude.{MatchOption}
 use Rattle.camp_branch.proofs.Names.{filter_image, is_among_is, not_among}
 use Rattle.camp_branch.proofs.Words.{cond-false, cond-true}
@@ -14,7 +14,7 @@ use Rattle.camp_catch.specs.Laws.{KeysPart, keys_of}
 use Rattle.camp_repo.specs.Outcomes.{pulled}
 use Rattle.camp_repo.specs.Steps.{Decision, becomes, is_full_with, refused, refused_if, wanted}
 use Rattle.camp_questions.proofs.BranchGrowths.{none_lacked, none_lacked_among, to_front}
-use Rattle.camp_questions.proofs.Growths.{all_done, all_own, in_order_there, same_in_order}
+use Rattle.camp_questions.proofs.Growths.{all_done, all_own, in_order_there, names_differ, same_in_order}
 use Rattle.camp_questions.specs.Along.{AlongOr, ComesAlong, OfTwo}
 use Rattle.camp_questions.specs.Answers.{AnswerOf, OfBranch, OfPatches}
 use Rattle.camp_questions.specs.Laws.{AlongIsEnough}
@@ -85,18 +85,6 @@ lacked_behind from to common behind arranged n =
     let both : is_among names n ≡ (has_patch from n && has_patch to n) = among_kept (has_patch to) (names_of from) n ∙ ap (λ b. b && has_patch to n) (among_once (map name_of from) n) in
     ap (λ l. is_among l n) are ∙ among_kept (λ m. not (is_among names m)) (map name_of from) n ∙ ap (λ b. has_patch from n && not b) both ∙ and_not (has_patch from n) (has_patch to n)
 
-both_true : (a b : Bool) → a ≡ true → b ≡ true → (a && b) ≡ true
-both_true true b e f = f
-both_true false b e f = cc
-
-second_true : (a b : Bool) → (a && b) ≡ true → b ≡ true
-second_true true b e = e
-second_true false b e = cc
-
-first_true : (a b : Bool) → (a && b) ≡ true → a ≡ true
-first_true true b e = refl
-first_true false b e = cc
-
 and_true : (a b : Bool) → (a ≡ true → b ≡ true) → (a && b) ≡ a
 and_true true b e = e refl
 and_true false b e = refl
@@ -106,7 +94,7 @@ module _ (theirs ours : List Catch) (names told : List (List ℕ)) (none : first
   wanted_there : AreAmong (wanted ours names) (map name_of along.1)
   wanted_there n there =
       let kept : (is_among names n && not (has_patch ours n)) ≡ true = sym (among_kept (λ m. not (has_patch ours m)) names n) ∙ there in
-      lacked_behind theirs ours along.0 along.1 along.2 n ∙ both_true (has_patch theirs n) (not (has_patch ours n)) (none_lacked_among theirs names none n (first_true (is_among names n) (not (has_patch ours n)) kept)) (second_true (is_among names n) (not (has_patch ours n)) kept)
+      lacked_behind theirs ours along.0 along.1 along.2 n ∙ and_from (has_patch theirs n) (not (has_patch ours n)) (none_lacked_among theirs names none n ((and_parts (is_among names n) (not (has_patch ours n)) kept).0)) (and_parts (is_among names n) (not (has_patch ours n)) kept).1
 
   -- all that come along do
   all_there : AreAmong (wanted ours names ++ along.3.0) (map name_of along.1)
@@ -118,9 +106,9 @@ module _ (theirs ours : List Catch) (names told : List (List ℕ)) (none : first
   told_are n =
       let all = wanted ours names ++ along.3.0 in
       let lacked : is_among all n ≡ true → (has_patch theirs n && not (has_patch ours n)) ≡ true = λ there. sym (lacked_behind theirs ours along.0 along.1 along.2 n) ∙ all_there n there in
-      let own : AreAmong all (map name_of theirs) = λ m there. first_true (has_patch theirs m) (not (has_patch ours m)) (sym (lacked_behind theirs ours along.0 along.1 along.2 m) ∙ all_there m there) in
+      let own : AreAmong all (map name_of theirs) = λ m there. (and_parts (has_patch theirs m) (not (has_patch ours m)) (sym (lacked_behind theirs ours along.0 along.1 along.2 m) ∙ all_there m there)).0 in
       let ordered : is_among told n ≡ is_among all n = ap (λ l. is_among l n) along.3.2 ∙ sym (same_in_order theirs all own n) in
-      among_kept (λ m. not (has_patch ours m)) told n ∙ ap (λ b. b && not (has_patch ours n)) ordered ∙ and_true (is_among all n) (not (has_patch ours n)) (λ there. second_true (has_patch theirs n) (not (has_patch ours n)) (lacked there))
+      among_kept (λ m. not (has_patch ours m)) told n ∙ ap (λ b. b && not (has_patch ours n)) ordered ∙ and_true (is_among all n) (not (has_patch ours n)) (λ there. (and_parts (has_patch theirs n) (not (has_patch ours n)) (lacked there)).1)
 
   -- with the common patches before them they come next
   come_next : ComeToFront along.1 (wanted ours told)
@@ -164,10 +152,6 @@ has_all : {A : Type 0} (o : Option (List ℕ)) (GoesOn : AnswerOf A → Type 0) 
 has_all None GoesOn told w = (refl, w)
 has_all (Some name) GoesOn told w = cc
 
-differ : (from to : List ℕ) (b : Bool) → bytes_eq from to ≡ b → from ≢ to → b ≡ false
-differ from to true e other = absurd (other (same_name from to e))
-differ from to false e other = refl
-
 same_told : (told other : List (List ℕ)) (answer : AnswerOf (List (List ℕ))) → answer ≡ Ok told → answer ≡ Ok other → other ≡ told
 same_told told other answer e f = cc
 
@@ -182,7 +166,7 @@ goes state from to names told theirs ours is_from is_to (inr (two, w)) =
     answered (inl (other, e, along)) =
         let none = (has_all (first_lacked theirs names) (AlongOr theirs ours names) told w).0 in
         let comes = subst (ComesAlong theirs ours names) (same_told told other (Ok told) refl e) along in
-        rw is_from (rw is_to (rw (differ from to (bytes_eq from to) refl two) (rw (none_left theirs ours names told none comes) (none_goes (is_empty (wanted ours told)) _ (full_goes (is_full_with ours theirs (wanted ours told)) _ (becomes_goes state to (pulled theirs ours (wanted ours told)) (pulls_not_depend theirs ours names told none comes)))))))
+        rw is_from (rw is_to (rw (names_differ from to two) (rw (none_left theirs ours names told none comes) (none_goes (is_empty (wanted ours told)) _ (full_goes (is_full_with ours theirs (wanted ours told)) _ (becomes_goes state to (pulled theirs ours (wanted ours told)) (pulls_not_depend theirs ours names told none comes)))))))
 
 pub along_is_enough : AlongIsEnough
 along_is_enough state from to names told w =

@@ -1,8 +1,7 @@
 -- What comes along with patches, and why it may not.
-use Rattle.camp_questions.proofs.Words.{◌≡◌, ◌≢◌, ℕ, List, None, Some, Ok, Err, refl, inl, inr, map, name_of, Catch, Arrange, ArrangeSticks, Contents, catches_of, first_lacked, AreAlike, ComeToFront, StickOn}
+use Rattle.camp_questions.proofs.Words.{◌≡◌, ◌≢◌, ℕ, List, None, Some, Ok, refl, inl, inr, map, name_of, Catch, Arrange, ArrangeSticks, Contents, catches_of, first_lacked, AreAlike, ComeToFront, StickOn}
 use Rattle.camp_branch.specs.Pulling.{common_names}
 use Rattle.camp_catch.proofs.ListResults.{arrange_by_members}
-use Rattle.camp_call.specs.declared.replies.Refusal.TheVariants.{Diverged, NoPatch, SameBranch}
 use Rattle.camp_prim.specs.declared.labels.Key.{Key}
 use Rattle.camp_repo.specs.Steps.{wanted}
 use Rattle.camp_questions.proofs.BranchGrowths.{contains_alike, to_front}
@@ -27,14 +26,5 @@ comes_along from to behind names set grown told stand alike grows is =
     (stand.0, behind, stand.1, grown_in_order (map name_of behind) (ComeToFront behind) (StickOn behind) (to_front behind) from (wanted to names) set grown told alike grows is)
 
 module _ (state : Contents) (from to : List ℕ) (names : List (List ℕ)) (theirs ours : List Catch) (is_from : catches_of state.branches from ≡ Some theirs) (is_to : catches_of state.branches to ≡ Some ours) where
-  pub are_one : from ≡ to → AreAlong state from to names (Err (SameBranch to))
-  are_one same = rw is_from (rw is_to (inl (same, refl)))
-
-  pub one_lacked : (name : List ℕ) → from ≢ to → first_lacked theirs names ≡ Some name → AreAlong state from to names (Err (NoPatch name))
-  one_lacked name two lacked = rw is_from (rw is_to (inr (two, rw lacked refl)))
-
   pub are_along : (told : List (List ℕ)) → from ≢ to → first_lacked theirs names ≡ None → ComesAlong theirs ours names told → AreAlong state from to names (Ok told)
   are_along told two none w = rw is_from (rw is_to (inr (two, rw none (inl (told, refl, w)))))
-
-  pub are_diverged : (name : List ℕ) → from ≢ to → first_lacked theirs names ≡ None → HaveDiverged theirs ours name → AreAlong state from to names (Err (Diverged name))
-  are_diverged name two none w = rw is_from (rw is_to (inr (two, rw none (inr (name, refl, w)))))

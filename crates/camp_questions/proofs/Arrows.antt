@@ -1,40 +1,24 @@
 -- The arrows of a graph are the direct needs.
-use Rattle.camp_questions.proofs.Words.{◌≡◌, ◌≢◌, ℕ, Bool, true, false, true≢false, not, ◌&&◌, ◌||◌, List, [], ◌∷◌, ◌++◌, map, bytes_eq, refl, sym, ap, ◌∙◌, subst, ◌↔◌, AllByRecursion, list_any, Catch, is_among, name_of, names_of, name_itself, or_true, same_name, among_kept, among_once, Needs, Node, ArrowsAreDirectNeeds, NeedsDirectly, NeedsPatch, Needing, NeedsThese, goes_between, needs_directly, needs_other, node_of}
+use Rattle.camp_questions.proofs.Words.{◌≡◌, ◌≢◌, ℕ, Bool, true, false, true≢false, not, ◌||◌, List, [], ◌∷◌, ◌++◌, map, bytes_eq, refl, sym, ap, ◌∙◌, subst, ◌↔◌, AllByRecursion, list_any, Catch, and_from, and_parts, not-true, is_among, name_of, names_of, name_itself, or_true, same_name, among_kept, among_once, Needs, Node, ArrowsAreDirectNeeds, NeedsDirectly, NeedsPatch, Needing, NeedsThese, goes_between, needs_directly, needs_other, node_of}
 use Rattle.camp_questions.proofs.BranchGrowths.{needs_are_determined}
-use Rattle.camp_questions.proofs.Growths.{in_order_there}
-
-pub both : (a b : Bool) → (a && b) ≡ true → (a ≡ true) × (b ≡ true)
-both true b e = (refl, e)
-both false b e = cc
-
-pub and_true : (a b : Bool) → a ≡ true → b ≡ true → (a && b) ≡ true
-and_true true b e f = f
-and_true false b e f = cc
-
-not_true : (b : Bool) → not b ≡ true → b ≡ false
-not_true false e = refl
-not_true true e = cc
+use Rattle.camp_questions.proofs.Growths.{in_order_there, names_differ}
 
 module _ (branch : List Catch) where
   pub one_needed : (names needed other : List (List ℕ)) → Needs branch names needed → Needs branch names other → needed ≡ other
   one_needed names needed other v w =
       let one = needs_are_determined branch names in one.2 needed v ∙ sym (one.2 other w)
 
-  apart : (other name : List ℕ) (b : Bool) → bytes_eq other name ≡ b → other ≢ name → not b ≡ true
-  apart other name true e different = absurd (different (same_name other name e))
-  apart other name false e different = refl
-
   -- what a patch needs is known
   pub needs_known : (patch : Needing) → NeedsThese branch patch → (other : List ℕ) → NeedsPatch branch patch.name other → needs_other patch other ≡ true
   needs_known patch these other needs =
       let same = one_needed (patch.name ∷ []) these.0 needs.1.0 these.1 needs.1.1 in
-      and_true (not (bytes_eq other patch.name)) (is_among patch.needs other) (apart other patch.name (bytes_eq other patch.name) refl needs.0) (these.2 other ∙ ap (λ l. is_among l other) same ∙ needs.1.2)
+      and_from (not (bytes_eq other patch.name)) (is_among patch.needs other) (ap not (names_differ other patch.name needs.0)) (these.2 other ∙ ap (λ l. is_among l other) same ∙ needs.1.2)
 
   -- what is known is needed
   pub known_needs : (patch : Needing) → NeedsThese branch patch → (other : List ℕ) → needs_other patch other ≡ true → NeedsPatch branch patch.name other
   known_needs patch these other known =
-      let parts = both (not (bytes_eq other patch.name)) (is_among patch.needs other) known in (
-        λ same. true≢false (sym (ap (λ n. bytes_eq n patch.name) same ∙ name_itself patch.name) ∙ not_true (bytes_eq other patch.name) parts.0),
+      let parts = and_parts (not (bytes_eq other patch.name)) (is_among patch.needs other) known in (
+        λ same. true≢false (sym (ap (λ n. bytes_eq n patch.name) same ∙ name_itself patch.name) ∙ not-true (bytes_eq other patch.name) parts.0),
         (these.0, these.1, sym (these.2 other) ∙ parts.1),
       )
 
@@ -66,32 +50,32 @@ module _ (branch : List Catch) where
   module _ (all : List Needing) (names : map (λ (p : Needing). p.name) all ≡ names_of branch) (each : AllByRecursion (NeedsThese branch) all) (patch : Needing) (these : NeedsThese branch patch) (other : List ℕ) where
     pub arrow_is_need : needs_directly all patch other ≡ true → NeedsDirectly branch patch.name other
     arrow_is_need e =
-        let parts = both (needs_other patch other) (not (list_any (goes_between patch other) all)) e in
+        let parts = and_parts (needs_other patch other) (not (list_any (goes_between patch other) all)) e in
         record {
           needs = known_needs patch these other parts.0;
           none_between = λ between first second.
               let among = ap (λ l. is_among l between) names ∙ is_there patch.name between first in
               let passes : (p : Needing) → NeedsThese branch p → p.name ≡ between → goes_between patch other p ≡ true = λ p w same.
-              and_true (needs_other patch p.name) (needs_other p other) (needs_known patch these p.name (subst (NeedsPatch branch patch.name) (sym same) first)) (needs_known p w other (subst (λ n. NeedsPatch branch n other) (sym same) second)) in
-              true≢false (sym (passes_there (goes_between patch other) all between each passes among) ∙ not_true (list_any (goes_between patch other) all) parts.1);
+              and_from (needs_other patch p.name) (needs_other p other) (needs_known patch these p.name (subst (NeedsPatch branch patch.name) (sym same) first)) (needs_known p w other (subst (λ n. NeedsPatch branch n other) (sym same) second)) in
+              true≢false (sym (passes_there (goes_between patch other) all between each passes among) ∙ not-true (list_any (goes_between patch other) all) parts.1);
         }
 
     none_goes_between : (b : Bool) → list_any (goes_between patch other) all ≡ b → NeedsDirectly branch patch.name other → not b ≡ true
     none_goes_between false e direct = refl
     none_goes_between true e direct =
         let one = one_passes (goes_between patch other) all each e in
-        let parts = both (needs_other patch one.0.name) (needs_other one.0 other) one.2 in
+        let parts = and_parts (needs_other patch one.0.name) (needs_other one.0 other) one.2 in
         absurd (direct.none_between one.0.name (known_needs patch these one.0.name parts.0) (known_needs one.0 one.1 other parts.1))
 
     need_is_arrow : NeedsDirectly branch patch.name other → needs_directly all patch other ≡ true
     need_is_arrow direct =
-        and_true (needs_other patch other) (not (list_any (goes_between patch other) all)) (needs_known patch these other direct.needs) (none_goes_between (list_any (goes_between patch other) all) refl direct)
+        and_from (needs_other patch other) (not (list_any (goes_between patch other) all)) (needs_known patch these other direct.needs) (none_goes_between (list_any (goes_between patch other) all) refl direct)
 
     arrows_at : (is_among (node_of branch all patch).needs other ≡ true) ↔ NeedsDirectly branch patch.name other
     arrows_at =
         let kept = among_kept (needs_directly all patch) (names_of branch) other in (
-          λ e. arrow_is_need (both (is_among (names_of branch) other) (needs_directly all patch other) (sym kept ∙ e)).1,
-          λ direct. kept ∙ and_true (is_among (names_of branch) other) (needs_directly all patch other) (is_there patch.name other direct.needs) (need_is_arrow direct),
+          λ e. arrow_is_need (and_parts (is_among (names_of branch) other) (needs_directly all patch other) (sym kept ∙ e)).1,
+          λ direct. kept ∙ and_from (is_among (names_of branch) other) (needs_directly all patch other) (is_there patch.name other direct.needs) (need_is_arrow direct),
         )
 
   arrows_of : (all list : List Needing) → map (λ (p : Needing). p.name) all ≡ names_of branch → AllByRecursion (NeedsThese branch) all → AllByRecursion (NeedsThese branch) list → AllByRecursion (λ (node : Node). (other : List ℕ) → (is_among node.needs other ≡ true) ↔ NeedsDirectly branch node.name other) (map (node_of branch all) list)

@@ -1,10 +1,11 @@
 -- The arrows of a graph lead backwards.
-use Rattle.camp_questions.proofs.Words.{◌≡◌, ◌≢◌, ℕ, Bool, true, false, true≢false, ◌||◌, cond, List, [], ◌∷◌, ◌++◌, map, bytes_eq, refl, sym, ap, ◌∙◌, subst, inl, inr, Key, Catch, SticksBehind, is_among, is_among_is, name_of, names_of, same_name, ComeToFront, StickOn, AreAmong, NeedsDirectly, NeedsPatch, Node, ◌↔◌, HasPatches, Patch, IsLawfulBranch, has_patch, among_once}
+use Rattle.camp_questions.proofs.Words.{◌⊎◌, ◌≡◌, ◌≢◌, ℕ, Bool, true, false, true≢false, ◌||◌, cond, List, [], ◌∷◌, ◌++◌, map, bytes_eq, refl, sym, ap, ◌∙◌, subst, inl, inr, Key, Catch, SticksBehind, is_among, is_among_is, name_of, names_of, same_name, ComeToFront, StickOn, AreAmong, NeedsDirectly, NeedsPatch, Node, ◌↔◌, HasPatches, Patch, IsLawfulBranch, has_patch, among_once}
 use Rattle.camp_branch.proofs.BranchLabels.{names_of_patches}
 use Rattle.camp_questions.specs.Laws.{ArrowsLeadBackwards, StandsBefore}
+use Rattle.std.proofs.lemmas.Bool.{false_from_ne_true}
 use Rattle.camp_branch.proofs.Names.{has_image}
 use Rattle.camp_questions.proofs.Arrows.{arrows_are_direct_needs}
-use Rattle.camp_questions.proofs.Growths.{all_within}
+use Rattle.camp_questions.proofs.Growths.{all_within, among_cases}
 use Rattle.camp_questions.proofs.LeastNeeds.{in_order_among}
 use Rattle.camp_questions.proofs.PatchFronts.{AreNotOf, AreOf, StandFirst, ends, stand_first, up_to}
 use Rattle.camp_questions.proofs.ReachedNeeds.{alone_among, fact_of, names_of_nodes}
@@ -33,19 +34,14 @@ module _ (names : List (List ℕ)) where
 fewer_of : (names others : List (List ℕ)) → AreAmong names others → (list : List Catch) → AreNotOf others list → AreNotOf names list
 fewer_of names others among [] are = tt
 fewer_of names others among (k ∷ list) are =
-    (lacks (is_among names (name_of k)) refl, fewer_of names others among list are.1)
-  where
-    lacks : (b : Bool) → is_among names (name_of k) ≡ b → b ≡ false
-    lacks false e = refl
-    lacks true e = absurd (true≢false (sym (among (name_of k) e) ∙ are.0))
+    (false_from_ne_true (is_among names (name_of k)) (λ e. true≢false (sym (among (name_of k) e) ∙ are.0)), fewer_of names others among list are.1)
 
 one_of : (names : List (List ℕ)) (list : List Catch) (n : List ℕ) → AreOf names list → is_among (map name_of list) n ≡ true → is_among names n ≡ true
 one_of names [] n are there = absurd (true≢false (sym there))
-one_of names (k ∷ list) n are there = at (bytes_eq n (name_of k)) refl there (one_of names list n are.1)
-  where
-    at : (b : Bool) → bytes_eq n (name_of k) ≡ b → (b || is_among (map name_of list) n) ≡ true → (is_among (map name_of list) n ≡ true → is_among names n ≡ true) → is_among names n ≡ true
-    at true e w rest = ap (is_among names) (same_name n (name_of k) e) ∙ are.0
-    at false e w rest = rest w
+one_of names (k ∷ list) n are there = elim (among_cases (name_of k) (map name_of list) n there) [
+  | inl e ↦ ap (is_among names) e ∙ are.0
+  | inr e ↦ one_of names list n are.1 e
+]
 
 -- what names up to one stick on is one of those up to it
 stuck_up_to : (branch : List Catch) (patches : List Patch) → HasPatches branch patches → (last : List ℕ) (names : List (List ℕ)) (name : List ℕ) → AreAmong names (up_to (names_of branch) last) → StickOn branch names name → is_among (up_to (names_of branch) last) name ≡ true
@@ -59,32 +55,30 @@ stuck_up_to branch patches has last names name among stop =
 -- names up to one stand before it
 split_at : (names : List (List ℕ)) (name : List ℕ) → is_among names name ≡ true → (before : List (List ℕ)) × (behind : List (List ℕ)) × (names ≡ before ++ name ∷ behind)
 split_at [] name there = absurd (true≢false (sym there))
-split_at (n ∷ names) name there = at (bytes_eq name n) refl there (split_at names name)
-  where
-    at : (b : Bool) → bytes_eq name n ≡ b → (b || is_among names name) ≡ true → (is_among names name ≡ true → (before : List (List ℕ)) × (behind : List (List ℕ)) × (names ≡ before ++ name ∷ behind)) → (before : List (List ℕ)) × (behind : List (List ℕ)) × (n ∷ names ≡ before ++ name ∷ behind)
-    at true e w later = ([], names, ap (λ x. x ∷ names) (sym (same_name name n e)))
-    at false e w later = let rest = later w in (n ∷ rest.0, rest.1, ap (λ l. n ∷ l) rest.2)
+split_at (n ∷ names) name there = elim (among_cases n names name there) [
+  | inl e ↦ ([], names, ap (λ x. x ∷ names) (sym e))
+  | inr e ↦ let rest = split_at names name e in (n ∷ rest.0, rest.1, ap (λ l. n ∷ l) rest.2)
+]
 
 earlier_stands : (names : List (List ℕ)) (last name : List ℕ) → is_among names last ≡ true → is_among (up_to names last) name ≡ true → name ≢ last → StandsBefore names name last
 earlier_stands [] last name has there different = absurd (true≢false (sym has))
 earlier_stands (n ∷ names) last name has there different =
     at (bytes_eq last n) refl has there (λ w v. earlier_stands names last name w v different)
   where
-    next : (b : Bool) → bytes_eq name n ≡ b → is_among names last ≡ true → (b || is_among (up_to names last) name) ≡ true → (is_among names last ≡ true → is_among (up_to names last) name ≡ true → StandsBefore names name last) → StandsBefore (n ∷ names) name last
-    next true e w v later =
+    next : (is_among names last ≡ true → is_among (up_to names last) name ≡ true → StandsBefore names name last) → is_among names last ≡ true → (name ≡ n) ⊎ (is_among (up_to names last) name ≡ true) → StandsBefore (n ∷ names) name last
+    next later w (inl e) =
         let rest = split_at names last w in
-        record { before = []; between = rest.0; behind = rest.1; are = ap (λ x. x ∷ names) (sym (same_name name n e)) ∙ ap (λ l. name ∷ l) rest.2 }
-    next false e w v later =
+        record { before = []; between = rest.0; behind = rest.1; are = ap (λ x. x ∷ names) (sym e) ∙ ap (λ l. name ∷ l) rest.2 }
+    next later w (inr v) =
         let rest = later w v in
         record { before = n ∷ rest.before; between = rest.between; behind = rest.behind; are = ap (λ l. n ∷ l) rest.are }
 
-    alone : (c : Bool) → bytes_eq name n ≡ c → last ≡ n → (c || false) ≡ true → StandsBefore (n ∷ names) name last
-    alone true f e u = absurd (different (same_name name n f ∙ sym e))
-    alone false f e u = cc
-
     at : (b : Bool) → bytes_eq last n ≡ b → (b || is_among names last) ≡ true → is_among (cond b (n ∷ []) (n ∷ up_to names last)) name ≡ true → (is_among names last ≡ true → is_among (up_to names last) name ≡ true → StandsBefore names name last) → StandsBefore (n ∷ names) name last
-    at true e w v later = alone (bytes_eq name n) refl (same_name last n e) v
-    at false e w v later = next (bytes_eq name n) refl w v later
+    at true e w v later = elim (among_cases n [] name v) [
+      | inl f ↦ absurd (different (f ∙ sym (same_name last n e)))
+      | inr f ↦ absurd (true≢false (sym f))
+    ]
+    at false e w v later = next later w (among_cases n (up_to names last) name v)
 
 -- what a patch needs stands before it
 pub needs_stand_before : (branch : List Catch) (name other : List ℕ) → IsLawfulBranch branch → has_patch branch name ≡ true → NeedsPatch branch name other → StandsBefore (names_of branch) other name

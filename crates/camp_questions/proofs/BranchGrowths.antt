@@ -1,11 +1,11 @@
 -- Names that grow until they come to the front of a branch, or until they can be taken out of it.
-use Rattle.camp_questions.proofs.Words.{◌≡◌, ◌≢◌, ℕ, Bool, true, false, true≢false, not, cond, ◌&&◌, ◌||◌, List, [], ◌∷◌, ◌++◌, map, None, Some, Ok, Err, bytes_eq, refl, sym, ap, ◌∙◌, inl, inr, ◌↔◌, Contains, Key, Catch, has_patch, is_among, name_of, is_among_is, name_itself, or_true, same_name, Next, Has, first_lacked, is_empty, step, AreHeldIn, CanGo, ComeToFront, StickOn, other_names, among_others, Contents, after, with_catches, AreAlike, obliterate_alike, AreAmong, HeldCanGo, HeldIsDetermined, NeedsAreDetermined, NeedsComeFirst}
+use Rattle.camp_questions.proofs.Words.{and_parts, not-true, ◌≡◌, ◌≢◌, ℕ, Bool, true, false, true≢false, not, cond, ◌||◌, List, [], ◌∷◌, ◌++◌, map, None, Some, Ok, Err, bytes_eq, refl, sym, ap, ◌∙◌, inl, inr, ◌↔◌, Contains, Key, Catch, has_patch, is_among, name_of, is_among_is, name_itself, or_true, Next, Has, first_lacked, is_empty, step, AreHeldIn, CanGo, ComeToFront, StickOn, other_names, among_others, Contents, after, with_catches, AreAlike, obliterate_alike, AreAmong, HeldCanGo, HeldIsDetermined, NeedsAreDetermined, NeedsComeFirst}
 use Rattle.camp_catch.proofs.ListResults.{arrange_by_members, lists_are_unique, lists_succeed_or_stick}
 use Rattle.camp_branch.specs.Pulling.{Outcome}
 use Rattle.camp_branch.specs.declared.faults.Blocked.TheVariants.{Depends}
 use Rattle.camp_branch.proofs.OutcomesDetermined.{outcomes_are_determined}
 use Rattle.camp_call.specs.declared.calls.Call.TheVariants as call
-use Rattle.camp_questions.proofs.Growths.{Grow, grew, grows_to_one, in_order_there}
+use Rattle.camp_questions.proofs.Growths.{Grow, among_cases, grew, grows_to_one, in_order_there}
 use Rattle.camp_questions.proofs.Stuck.{sticks_between}
 
 pub contains_alike : (names others : List (List ℕ)) → AreAlike names others → (n : List ℕ) → Contains names n ↔ Contains others n
@@ -27,16 +27,17 @@ to_front branch = record {
   stops_alike = λ names others name alike stop. (stop.0, stop.1, arrange_by_members.sticks names others (contains_alike names others alike) branch stop.0 stop.1 stop.2, stop.3);
 }
 
-apart_outcomes : {A : Type 0} (branch : List Catch) (name on : List ℕ) (outcome : Outcome) → outcome ≡ Ok branch → outcome ≡ Err (Depends name on) → A
+pub apart_outcomes : {A : Type 0} (branch : List Catch) (name on : List ℕ) (outcome : Outcome) → outcome ≡ Ok branch → outcome ≡ Err (Depends name on) → A
 apart_outcomes branch name on outcome e f = cc
 
-same_patch : (name other on off : List ℕ) (outcome : Outcome) → outcome ≡ Err (Depends name on) → outcome ≡ Err (Depends other off) → name ≡ other
+pub same_patch : (name other on off : List ℕ) (outcome : Outcome) → outcome ≡ Err (Depends name on) → outcome ≡ Err (Depends other off) → name ≡ other
 same_patch name other on off outcome e f = cc
 
-both_true : (a b : Bool) → (a && not b) ≡ true → (a ≡ true) × (b ≡ false)
-both_true true true e = cc
-both_true true false e = (refl, refl)
-both_true false b e = cc
+-- what stays is of the branch, and does not go
+pub stays : (branch : List Catch) (names : List (List ℕ)) (n : List ℕ) → is_among (other_names branch names) n ≡ true → (has_patch branch n ≡ true) × (is_among names n ≡ false)
+stays branch names n e =
+    let parts = and_parts (has_patch branch n) (not (is_among names n)) (sym (among_others branch names n) ∙ e) in
+    (parts.0, not-true (is_among names n) parts.1)
 
 -- the patch that depends on those that are to go is one of the others
 held_in : (branch : List Catch) (names : List (List ℕ)) (name : List ℕ) → AreHeldIn branch names name → (has_patch branch name ≡ true) × (is_among names name ≡ false)
@@ -45,7 +46,7 @@ held_in branch names name held = elim held.1 [
   | inr w ↦
       let between = sticks_between (other_names branch names) branch w.0 w.1 w.2 in
       let called : name ≡ w.0.name = same_patch name w.0.name held.0 w.1.name (Err (Depends name held.0)) refl w.3 in
-      both_true (has_patch branch name) (is_among names name) (sym (among_others branch names name) ∙ ap (is_among (other_names branch names)) called ∙ between.2)
+      stays branch names name (ap (is_among (other_names branch names)) called ∙ between.2)
 ]
 
 -- patches can be taken out, or are held
@@ -67,16 +68,18 @@ to_go branch = record {
   stops_alike = λ names others name alike stop. (stop.0, obliterate_alike names others alike branch (Err (Depends name stop.0)) stop.1);
 }
 
-has_at : (branch : List Catch) (n : List ℕ) (names : List (List ℕ)) (name : List ℕ) (b c : Bool) → has_patch branch n ≡ b → cond b (first_lacked branch names) (Some n) ≡ None → bytes_eq name n ≡ c → (c || is_among names name) ≡ true → (first_lacked branch names ≡ None → is_among names name ≡ true → has_patch branch name ≡ true) → has_patch branch name ≡ true
-has_at branch n names name true true has none same there rest = ap (has_patch branch) (same_name name n same) ∙ has
-has_at branch n names name true false has none other there rest = rest none there
-has_at branch n names name false c has none same there rest = cc
-
 -- a branch has the patches of names of which it lacks none
 pub none_lacked_among : (branch : List Catch) (names : List (List ℕ)) → first_lacked branch names ≡ None → AreAmong names (map name_of branch)
 none_lacked_among branch [] e name there = absurd (true≢false (sym there))
 none_lacked_among branch (n ∷ names) e name there =
-    has_at branch n names name (has_patch branch n) (bytes_eq name n) refl e refl there (λ none more. none_lacked_among branch names none name more)
+    at (has_patch branch n) refl e (λ none more. none_lacked_among branch names none name more)
+  where
+    at : (b : Bool) → has_patch branch n ≡ b → cond b (first_lacked branch names) (Some n) ≡ None → (first_lacked branch names ≡ None → is_among names name ≡ true → has_patch branch name ≡ true) → has_patch branch name ≡ true
+    at true has none rest = elim (among_cases n names name there) [
+      | inl same ↦ ap (has_patch branch) same ∙ has
+      | inr more ↦ rest none more
+    ]
+    at false has none rest = cc
 
 -- a branch lacks none of names that are all its own
 pub none_lacked : (branch : List Catch) (names : List (List ℕ)) → AreAmong names (map name_of branch) → first_lacked branch names ≡ None

@@ -1,15 +1,14 @@
 -- Each line of a file was brought by a hunk of the patch whose name it has.
-use Rattle.camp_questions.proofs.Words.{◌≡◌, ℕ, ◌+◌, ◌-◌, ◌==◌, ◌||◌, ◌⊎◌, Bool, true, false, true≢false, cond, List, [], ◌∷◌, ◌++◌, filter, map, Option, None, Some, length, take, drop, bytes_eq, refl, sym, ap, ◌∙◌, subst, inl, inr, arith, empty, get, get-empty, get-insert, slice_range, splice, nat_cmp, eq_by_cmp, slice_cmp, bytes_eq-Decides, Edit, key_cmp, key_of, key_total, label_of, Key, Named, Primitive, Add, Remove, Hunk, Catch, name_of, name_itself, is_among, Known, behind_all, behind_catches, behind_change, behind_hunk, names_coming, names_of_lines, nothing_known, lines_or_none, annotated, append_assoc, drop_at, length-append, none-some, same_Some, take_at, AllByRecursion, flat_map, Applies, Files, Lines, Splices, FitsAll, effect_of, Contains, catches_named, patch_in}
+use Rattle.camp_questions.proofs.Words.{◌≡◌, ℕ, ◌+◌, ◌-◌, ◌==◌, ◌||◌, Bool, true, false, cond, List, [], ◌∷◌, ◌++◌, map, Option, None, Some, length, take, drop, bytes_eq, refl, sym, ap, ◌∙◌, subst, arith, empty, get, get-empty, get-insert, slice_range, splice, nat_cmp, eq_by_cmp, slice_cmp, bytes_eq-Decides, Edit, key_cmp, key_of, key_total, label_of, Key, Named, Primitive, Add, Remove, Hunk, Catch, name_of, name_itself, is_among, Known, behind_all, behind_catches, behind_change, behind_hunk, names_coming, names_of_lines, nothing_known, lines_or_none, annotated, append_assoc, drop_at, length-append, none-some, same_Some, take_at, AllByRecursion, flat_map, Applies, Files, Lines, Splices, FitsAll, effect_of, Contains, catches_named, patch_in}
 use Rattle.std.proofs.lemmas.List.Elements.{All-contains_itself, All-weaker, recursion_from_All}
 use Rattle.std.specs.List.{AllZip}
 use Rattle.camp_branch.proofs.Names.{has_image}
-use Rattle.camp_branch.proofs.SortedPairs.{first_or_later, has_first, has_later, no_member}
 use Rattle.camp_catch.specs.declared.catches.Catch.TheVariants.{Plain}
 use Rattle.camp_prim.proofs.FilesAtPaths.{get-with_file_other, get-with_file_same}
 use Rattle.camp_prim.specs.Labels.{SameKey}
 use Rattle.camp_seq.specs.Running.{AppliesAll}
 use Rattle.camp_questions.proofs.LineNames.{alike, other_path}
-use Rattle.camp_questions.proofs.PairSteps.{has_of_each}
+use Rattle.camp_questions.proofs.PairSteps.{has_of_each, kept_has}
 use Rattle.camp_questions.proofs.PlainLabels.{inverses_alone, plain_effects}
 use Rattle.camp_questions.proofs.TakenNames.{same_key}
 use Rattle.camp_questions.proofs.ZippedLines.{own_zipped, zipped_append, zipped_drop, zipped_take}
@@ -156,24 +155,10 @@ of_each : {X : Type 0} (P : X → Type 0) (xs : List X) → ((x : X) → Contain
 of_each P xs each =
     recursion_from_All P xs (All-weaker (Contains xs) P each xs (All-contains_itself xs))
 
-kept_at : {X : Type 0} (p : X → Bool) (y : X) (xs : List X) (x : X) (b : Bool) → p y ≡ b → p x ≡ true → (y ≡ x) ⊎ Contains (filter p xs) x → Contains (cond b (y ∷ filter p xs) (filter p xs)) x
-kept_at p y xs x true e passes (inl is) = subst (Contains (y ∷ filter p xs)) is (has_first y (filter p xs))
-kept_at p y xs x true e passes (inr later) = has_later y x (filter p xs) later
-kept_at p y xs x false e passes (inl is) = absurd (true≢false (sym passes ∙ ap p (sym is) ∙ e))
-kept_at p y xs x false e passes (inr later) = later
-
--- what passes a test stays
-kept : {X : Type 0} (p : X → Bool) (xs : List X) (x : X) → p x ≡ true → Contains xs x → Contains (filter p xs) x
-kept p [] x passes c = no_member x c
-kept p (y ∷ xs) x passes c = elim (first_or_later y x xs c) [
-  | inl is ↦ kept_at p y xs x (p y) refl passes (inl is)
-  | inr later ↦ kept_at p y xs x (p y) refl passes (inr (kept p xs x passes later))
-]
-
 -- the changes of a catch are among those that its patch has in the branch
 own_change : (branch : List Catch) (k : Catch) (p : Named) → Contains branch k → Contains (effect_of k) p → Contains (patch_in branch (name_of k)).changes p.prim
 own_change branch k p there within =
-    has_of_each (λ (c : Catch). changes_in (effect_of c)) (catches_named (name_of k ∷ []) branch) k p.prim (kept (λ (c : Catch). is_among (name_of k ∷ []) (name_of c)) branch k (ap (λ b. b || false) (name_itself (name_of k))) there) (has_image (λ (q : Named). q.prim) (effect_of k) p within)
+    has_of_each (λ (c : Catch). changes_in (effect_of c)) (catches_named (name_of k ∷ []) branch) k p.prim (kept_has (λ (c : Catch). is_among (name_of k ∷ []) (name_of c)) branch k there (ap (λ b. b || false) (name_itself (name_of k)))) (has_image (λ (q : Named). q.prim) (effect_of k) p within)
 
 each_brings : (branch : List Catch) (path : List ℕ) → AllByRecursion (λ k. FitEach (IsBrought branch path) path (name_of k) (effect_of k)) branch
 each_brings branch path =

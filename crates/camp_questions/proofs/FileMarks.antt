@@ -1,5 +1,5 @@
 -- Patches that change other files than those of what goes come before it as they are.
-use Rattle.camp_questions.proofs.Words.{Err, Ok, Result, ◌≡◌, ◌<◌, ◌==◌, ℕ, ◌+◌, Bool, true, false, true≢false, not, ◌||◌, List, [], ◌∷◌, ◌++◌, map, length, get_or, bytes_eq, refl, sym, ap, ◌∙◌, subst, inl, inr, arith, AllByRecursion, list_any, All, all_append, eq-eqb, name_itself, Key, Catch, Named, Primitive, ArrangesBehind, ComesBefore}
+use Rattle.camp_questions.proofs.Words.{not-true, or_parts, or_true, Err, Ok, Result, ◌≡◌, ◌<◌, ◌==◌, ℕ, ◌+◌, Bool, true, false, true≢false, not, ◌||◌, List, [], ◌∷◌, ◌++◌, map, length, get_or, bytes_eq, refl, sym, ap, ◌∙◌, subst, inl, inr, arith, AllByRecursion, list_any, All, all_append, eq-eqb, name_itself, Key, Catch, Named, Primitive, ArrangesBehind, ComesBefore}
 use Rattle.std.proofs.lemmas.List.{get_or-map, length-map}
 use Rattle.std.proofs.lemmas.List.Elements.{All-head, All-tail}
 use Rattle.std.proofs.lemmas.Nat.{mod_below}
@@ -53,16 +53,12 @@ passes_all marks name (Plain a ∷ going) b marked apart inside free own =
     (Plain b, Plain a, going, passes_all marks name going b marked.1 apart.1 inside free own, record { b' = b; a' = a; swap = passes_one marks name a b marked.0.0 inside marked.0.1 free apart.0 own; second = refl; first = refl }, refl)
 passes_all marks name (Catch.Conflictor k ∷ going) b marked apart inside free own = absurd marked.0
 
-none_of : (a b : Bool) → not (a || b) ≡ true → (a ≡ false) × (not b ≡ true)
-none_of true b e = absurd (true≢false (sym e))
-none_of false b e = (refl, e)
-
 -- where none of its files is marked, each catch of a patch passes those that go
 pub all_pass : (marks : List Bool) (name : List ℕ) (going list : List Catch) → AllByRecursion (IsMarkedPlain marks) going → AreApart name going → AllByRecursion IsPlainInRange list → AreOfPatch name list → not (list_any (is_marked marks) (map number_of list)) ≡ true → AllStay going list
 all_pass marks name going [] marked apart inside own free = tt
 all_pass marks name going (Plain b ∷ list) marked apart inside own free =
-    let parts = none_of (is_marked marks (file_number (path_of b.prim))) (list_any (is_marked marks) (map number_of list)) free in
-    (passes_all marks name going b marked apart inside.0 parts.0 own.0, all_pass marks name going list marked apart inside.1 own.1 parts.1)
+    let parts = or_parts (is_marked marks (file_number (path_of b.prim))) (list_any (is_marked marks) (map number_of list)) (not-true _ free) in
+    (passes_all marks name going b marked apart inside.0 parts.0 own.0, all_pass marks name going list marked apart inside.1 own.1 (ap not parts.1))
 all_pass marks name going (Catch.Conflictor k ∷ list) marked apart inside own free = absurd inside.0
 
 -- primitives that change places stay in their files
@@ -118,16 +114,12 @@ more_marked old new (Plain p ∷ going) more marked =
     ((marked.0.0, more (file_number (path_of p.prim)) marked.0.1), more_marked old new going more marked.1)
 more_marked old new (Catch.Conflictor k ∷ going) more marked = absurd marked.0
 
-or_last : (a b : Bool) → b ≡ true → (a || b) ≡ true
-or_last true b e = refl
-or_last false b e = e
-
 are_marked : (new : List Bool) (list : List Catch) → AllByRecursion IsPlainInRange list → ((number : ℕ) → list_any (λ other. number == other) (map number_of list) ≡ true → is_marked new number ≡ true) → AllByRecursion (IsMarkedPlain new) list
 are_marked new [] inside all = tt
 are_marked new (Plain p ∷ list) inside all =
     let own = file_number (path_of p.prim) in
     let others = list_any (λ other. own == other) (map number_of list) in
-    ((inside.0, all own (ap (λ b. b || others) (eq-eqb own own refl))), are_marked new list inside.1 (λ number there. all number (or_last (number == own) (list_any (λ other. number == other) (map number_of list)) there)))
+    ((inside.0, all own (ap (λ b. b || others) (eq-eqb own own refl))), are_marked new list inside.1 (λ number there. all number (or_true (number == own) (list_any (λ other. number == other) (map number_of list)) there)))
 are_marked new (Catch.Conflictor k ∷ list) inside all = absurd inside.0
 
 -- what goes and what joins it is marked
@@ -135,7 +127,7 @@ pub joined_marked : (old new : List Bool) (going list : List Catch) → AllByRec
 joined_marked old new going list marked inside too =
     all_append (IsMarkedPlain new) going list
     (more_marked old new going (λ number was. too number ∙ ap (λ b. b || list_any (λ other. number == other) (map number_of list)) was) marked)
-    (are_marked new list inside (λ number there. too number ∙ or_last (is_marked old number) (list_any (λ other. number == other) (map number_of list)) there))
+    (are_marked new list inside (λ number there. too number ∙ or_true (is_marked old number) (list_any (λ other. number == other) (map number_of list)) there))
 
 pub joined_going : (old new : Going) (list : List Catch) → GoMarked old → AllByRecursion IsPlainInRange list → length new.files.items ≡ length old.files.items → AreMarkedToo old.files.items (map number_of list) new.files.items → new.catches.items ≡ old.catches.items ++ list → GoMarked new
 joined_going old new list marked inside long too goes = record {

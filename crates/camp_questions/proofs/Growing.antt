@@ -1,5 +1,5 @@
 -- Names that grow in a set, one at a time.
-use Rattle.camp_questions.proofs.Words.{◌≡◌, ◌<◌, ℕ, Bool, true, false, ◌||◌, List, [], ◌∷◌, ◌++◌, filter, length, bytes_eq, append-nil, refl, sym, ap, ◌∙◌, subst, append_assoc, contains_key, insert, keys, Catch, is_among, names_of, has_listed, AreAlike, AreAdded, AreGrown, in_order}
+use Rattle.camp_questions.proofs.Words.{or_none, ◌≡◌, ◌<◌, ℕ, ◌||◌, List, [], ◌∷◌, ◌++◌, filter, length, bytes_eq, append-nil, sym, ap, ◌∙◌, subst, append_assoc, contains_key, insert, keys, Catch, is_among, names_of, has_listed, AreAlike, AreAdded, AreGrown, in_order}
 use Rattle.camp_branch.proofs.BranchFields.{Names, contains_more}
 use Rattle.camp_questions.specs.Inside.Growing.{Grows}
 use Rattle.camp_questions.proofs.Growths.{Grow, among_both, fewer_left, left_of}
@@ -31,15 +31,11 @@ module _ (own : List (List ℕ)) (Done : List (List ℕ) → Type 0) (Stops : Li
       let more_added : names ++ (added ++ name ∷ []) ≡ (names ++ added) ++ name ∷ [] = sym (append_assoc names added (name ∷ [])) in
       record {
         added = added ++ name ∷ [];
-        members = λ n. one_more set next name n becomes ∙ ap (λ b. b || bytes_eq n name) (so_far.members n) ∙ ap (λ b. is_among (names ++ added) n || b) (none_behind (bytes_eq n name)) ∙ sym (among_both (names ++ added) (name ∷ []) n) ∙ ap (λ l. is_among l n) (sym more_added);
+        members = λ n. one_more set next name n becomes ∙ ap (λ b. b || bytes_eq n name) (so_far.members n) ∙ ap (λ b. is_among (names ++ added) n || b) (sym (or_none (bytes_eq n name))) ∙ sym (among_both (names ++ added) (name ∷ []) n) ∙ ap (λ l. is_among l n) (sym more_added);
         goes = λ more w.
             let stopped = grow.stops_alike (keys set) (names ++ added) name so_far.members stops in
             subst (AreAdded Done Stops names) (sym (append_assoc added (name ∷ []) more)) (so_far.goes (name ∷ more) (stopped, subst (λ l. AreAdded Done Stops l more) more_added w));
       }
-    where
-      none_behind : (b : Bool) → b ≡ (b || false)
-      none_behind true = refl
-      none_behind false = refl
 
   -- in the end they are done
   pub all_grown : (names grown : List (List ℕ)) → IsGrownSoFar Done Stops names grown → Done grown → Grows Done Stops names grown

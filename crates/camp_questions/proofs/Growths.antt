@@ -1,5 +1,8 @@
 -- Names to which others are added, one by one, until they do what they are to do.
-use Rattle.camp_questions.proofs.Words.{ExactlyOne, append_assoc, list_any-append, Catch, has_patch, is_among, name_of, names_of, name_itself, same_name, among_kept, among_once, AreAlike, AreAdded, AreGrown, in_order, AreAmong, GrewFrom, WasMet, ◌≡◌, ◌⊎◌, ◌<◌, ◌≤◌, ℕ, zero, suc, Bool, true, false, true≢false, not, cond, ◌||◌, ◌&&◌, List, [], ◌∷◌, ◌++◌, filter, length, map, bytes_eq, append-nil, refl, sym, ap, ◌∙◌, subst, inl, inr, arith}
+use Rattle.camp_questions.proofs.Words.{◌≢◌, and_from, and_parts, not-true, or_cases, or_none, or_parts, or_true, passes_is_kept, ExactlyOne, append_assoc, list_any-append, Catch, has_patch, is_among, name_of, names_of, name_itself, same_name, among_kept, among_once, AreAlike, AreAdded, AreGrown, in_order, AreAmong, GrewFrom, WasMet, ◌≡◌, ◌⊎◌, ◌<◌, ◌≤◌, ℕ, zero, suc, Bool, true, false, true≢false, not, ◌||◌, ◌&&◌, List, [], ◌∷◌, ◌++◌, filter, length, map, bytes_eq, append-nil, refl, sym, ap, ◌∙◌, subst, inl, inr, arith}
+use Rattle.std.proofs.lemmas.Bool.{false_from_ne_true}
+use Rattle.std.proofs.lemmas.List.Filters.{length-filter_both}
+use Rattle.camp_branch.proofs.Names.{filter_within}
 
 -- names are done, or one of their own, which they lack, stops them; both go by which names there are
 pub record Grow (own : List (List ℕ)) (Done : List (List ℕ) → Type 0) (Stops : List (List ℕ) → List ℕ → Type 0) : Type 0 where
@@ -17,6 +20,29 @@ among_both names others name = list_any-append (bytes_eq name) names others
 pub among_first : (names others : List (List ℕ)) → AreAmong names (names ++ others)
 among_first names others name there = among_both names others name ∙ ap (λ b. b || is_among others name) there
 
+pub among_second : (names others : List (List ℕ)) → AreAmong others (names ++ others)
+among_second names others name there =
+    among_both names others name ∙ or_true (is_among names name) (is_among others name) there
+
+pub among_parts : (names others : List (List ℕ)) (name : List ℕ) → is_among (names ++ others) name ≡ true → (is_among names name ≡ true) ⊎ (is_among others name ≡ true)
+among_parts names others name there =
+    or_cases (is_among names name) (is_among others name) (sym (among_both names others name) ∙ there)
+
+-- it is the first, or among the others
+pub among_cases : (n : List ℕ) (names : List (List ℕ)) (name : List ℕ) → is_among (n ∷ names) name ≡ true → (name ≡ n) ⊎ (is_among names name ≡ true)
+among_cases n names name there = elim (or_cases (bytes_eq name n) (is_among names name) there) [
+  | inl e ↦ inl (same_name name n e)
+  | inr e ↦ inr e
+]
+
+pub both_ways : (a b : Bool) → (a ≡ true → b ≡ true) → (b ≡ true → a ≡ true) → a ≡ b
+both_ways true b to back = sym (to refl)
+both_ways false true to back = back refl
+both_ways false false to back = refl
+
+pub names_differ : (name other : List ℕ) → name ≢ other → bytes_eq name other ≡ false
+names_differ name other two = false_from_ne_true (bytes_eq name other) (λ e. two (same_name name other e))
+
 -- names and others, of which the first is counted to the names
 moved : (names : List (List ℕ)) (name : List ℕ) (others : List (List ℕ)) → (names ++ name ∷ []) ++ others ≡ names ++ name ∷ others
 moved names name others = append_assoc names (name ∷ []) others
@@ -25,61 +51,24 @@ moved names name others = append_assoc names (name ∷ []) others
 abbrev pub left_of : List (List ℕ) → List (List ℕ) → List (List ℕ)
 left_of own names = filter (λ n. not (is_among names n)) own
 
-module _ (p q : List ℕ → Bool) (narrower : (n : List ℕ) → q n ≡ true → p n ≡ true) where
-  no_more_at : (n : List ℕ) (ps qs : List (List ℕ)) (b c : Bool) → q n ≡ b → p n ≡ c → length qs ≤ length ps → length (cond b (n ∷ qs) qs) ≤ length (cond c (n ∷ ps) ps)
-  no_more_at n ps qs true true e f le = omega (le, arith)
-  no_more_at n ps qs true false e f le = absurd (true≢false (sym (narrower n e) ∙ f))
-  no_more_at n ps qs false true e f le = omega (le, arith)
-  no_more_at n ps qs false false e f le = le
-
-  no_more : (names : List (List ℕ)) → length (filter q names) ≤ length (filter p names)
-  no_more [] = omega arith
-  no_more (n ∷ names) = no_more_at n (filter p names) (filter q names) (q n) (p n) refl refl (no_more names)
-
-  fewer_here : (n : List ℕ) (ps qs : List (List ℕ)) (b c : Bool) → b ≡ false → c ≡ true → length qs ≤ length ps → length (cond b (n ∷ qs) qs) < length (cond c (n ∷ ps) ps)
-  fewer_here n ps qs true c e f le = absurd (true≢false e)
-  fewer_here n ps qs false true e f le = omega (le, arith)
-  fewer_here n ps qs false false e f le = absurd (true≢false (sym f))
-
-  fewer_behind : (n : List ℕ) (ps qs : List (List ℕ)) (b c : Bool) → q n ≡ b → p n ≡ c → length qs < length ps → length (cond b (n ∷ qs) qs) < length (cond c (n ∷ ps) ps)
-  fewer_behind n ps qs true true e f lt = omega (lt, arith)
-  fewer_behind n ps qs true false e f lt = absurd (true≢false (sym (narrower n e) ∙ f))
-  fewer_behind n ps qs false true e f lt = omega (lt, arith)
-  fewer_behind n ps qs false false e f lt = lt
-
-  fewer_at : (name n : List ℕ) (names : List (List ℕ)) (b : Bool) → bytes_eq name n ≡ b → p name ≡ true → q name ≡ false → (b || is_among names name) ≡ true → (is_among names name ≡ true → length (filter q names) < length (filter p names)) → length (filter q (n ∷ names)) < length (filter p (n ∷ names))
-  fewer_at name n names true same passes fails there rest =
-      let is = same_name name n same in
-      fewer_here n (filter p names) (filter q names) (q n) (p n) (ap q (sym is) ∙ fails) (ap p (sym is) ∙ passes) (no_more names)
-  fewer_at name n names false other passes fails there rest =
-      fewer_behind n (filter p names) (filter q names) (q n) (p n) refl refl (rest there)
-
-  -- a narrower test, which one name that is there fails, passes fewer
-  fewer : (name : List ℕ) (names : List (List ℕ)) → p name ≡ true → q name ≡ false → is_among names name ≡ true → length (filter q names) < length (filter p names)
-  fewer name [] passes fails there = absurd (true≢false (sym there))
-  fewer name (n ∷ names) passes fails there =
-      fewer_at name n names (bytes_eq name n) refl passes fails there (fewer name names passes fails)
-
-or_cases : (a b : Bool) → (a || b) ≡ true → (a ≡ true) ⊎ (b ≡ true)
-or_cases true b e = inl refl
-or_cases false b e = inr e
-
-not_or : (a b : Bool) → not (a || b) ≡ true → not a ≡ true
-not_or true b e = e
-not_or false b e = refl
+-- a narrower test, which one name that is there fails, passes fewer
+fewer : (p q : List ℕ → Bool) → ((n : List ℕ) → q n ≡ true → p n ≡ true) → (name : List ℕ) (names : List (List ℕ)) → p name ≡ true → q name ≡ false → is_among names name ≡ true → length (filter q names) < length (filter p names)
+fewer p q narrower name names passes fails there =
+    let kept = filter p names in
+    let gone : is_among (filter (λ n. not (q n)) kept) name ≡ true = among_kept (λ n. not (q n)) kept name ∙ and_from (is_among kept name) (not (q name)) (passes_is_kept p names name there ∙ passes) (ap not fails) in
+    let some = some_there (filter (λ n. not (q n)) kept) gone in
+    let both = length-filter_both q (λ n. not (q n)) (λ n. refl) kept in
+    let same = ap length (filter_within q p narrower names) in
+    omega (arith, some, both, same)
+  where
+    some_there : (left : List (List ℕ)) → is_among left name ≡ true → 0 < length left
+    some_there [] gone = absurd (true≢false (sym gone))
+    some_there (n ∷ left) gone = omega arith
 
 -- with a name that they lack, fewer are left
 pub fewer_left : (own names next : List (List ℕ)) (name : List ℕ) → is_among own name ≡ true → is_among names name ≡ false → ((n : List ℕ) → is_among next n ≡ (is_among names n || bytes_eq n name)) → length (left_of own next) < length (left_of own names)
 fewer_left own names next name there lacks grows =
-    fewer (λ n. not (is_among names n)) (λ n. not (is_among next n)) (λ n e. not_or (is_among names n) (bytes_eq n name) (sym (ap not (grows n)) ∙ e)) name own (ap not lacks) (ap not (grows name ∙ ap (λ b. is_among names name || b) (name_itself name)) ∙ fails (is_among names name)) there
-  where
-    fails : (b : Bool) → not (b || true) ≡ false
-    fails true = refl
-    fails false = refl
-
-or_none : (b : Bool) → (b || false) ≡ b
-or_none true = refl
-or_none false = refl
+    fewer (λ n. not (is_among names n)) (λ n. not (is_among next n)) (λ n e. ap not (or_parts (is_among names n) (bytes_eq n name) (sym (grows n) ∙ not-true (is_among next n) e)).0) name own (ap not lacks) (ap not (grows name ∙ or_true (is_among names name) (bytes_eq name name) (name_itself name))) there
 
 one_behind : (names : List (List ℕ)) (name n : List ℕ) → is_among (names ++ name ∷ []) n ≡ (is_among names n || bytes_eq n name)
 one_behind names name n =
@@ -156,14 +145,10 @@ pub same_in_order : (branch : List Catch) (names : List (List ℕ)) → AreAmong
 same_in_order branch names own n =
     sym (among_kept (is_among names) (names_of branch) n ∙ ap (λ b. b && is_among names n) (among_once (map name_of branch) n) ∙ and_within (has_patch branch n) (is_among names n) (own n))
 
-both_hold : (a b : Bool) → (a && b) ≡ true → a ≡ true
-both_hold true b e = refl
-both_hold false b e = e
-
 -- what stands in the order of a branch is there
 pub in_order_there : (branch : List Catch) (names : List (List ℕ)) → AreAmong (in_order branch names) (map name_of branch)
 in_order_there branch names n there =
-    both_hold (has_patch branch n) (is_among names n) (sym (among_kept (is_among names) (names_of branch) n ∙ ap (λ b. b && is_among names n) (among_once (map name_of branch) n)) ∙ there)
+    (and_parts (has_patch branch n) (is_among names n) (sym (among_kept (is_among names) (names_of branch) n ∙ ap (λ b. b && is_among names n) (among_once (map name_of branch) n)) ∙ there)).0
 
 module _ (branch : List Catch) (Done : List (List ℕ) → Type 0) (Stops : List (List ℕ) → List ℕ → Type 0) (grow : Grow (map name_of branch) Done Stops) where
   -- names of a branch that have grown are done, and have grown by what was met

@@ -1,45 +1,30 @@
 -- What hangs on some patches is what arrows lead to from them, and from where arrows lead to them.
-use Rattle.camp_questions.proofs.Words.{◌≡◌, ℕ, zero, suc, Bool, true, false, true≢false, ◌||◌, ◌⊎◌, inl, inr, List, [], ◌∷◌, ◌++◌, map, map-append, append_assoc, bytes_eq, refl, sym, ap, ◌∙◌, subst, arith, ◌↔◌, Contains, list_any, list_any-append, or_true, Catch, is_among, is_among_is, names_of, same_name, AreDistinct, IsLawfulBranch, Drawn, IsGraph, Node, IsReached, itself, along}
+use Rattle.camp_questions.proofs.Words.{or_cases, or_none, ◌≡◌, ℕ, zero, suc, Bool, true, false, true≢false, ◌||◌, inl, inr, List, [], ◌∷◌, ◌++◌, map, map-append, append_assoc, bytes_eq, refl, sym, ap, ◌∙◌, subst, arith, Contains, list_any, or_true, Catch, is_among, is_among_is, names_of, same_name, AreDistinct, IsLawfulBranch, Drawn, IsGraph, Node, IsReached, itself, along}
 use Rattle.std.specs.Prelude.{if◌then◌else◌}
 use Rattle.camp_branch.proofs.BranchLabels.{names_of_patches}
 use Rattle.camp_branch.proofs.Names.{has_image}
+use Rattle.std.proofs.lemmas.Bool.{false_from_ne_true}
+use Rattle.std.proofs.lemmas.List.Elements.{Contains-append_right}
 use Rattle.camp_questions.specs.Laws.{HangTogether, PartsAreReached}
 use Rattle.camp_questions.specs.Pictures.{with_needing, with_needing_one, with_needs}
 use Rattle.camp_questions.proofs.BackwardArrows.{arrows_lead_backwards}
+use Rattle.camp_questions.proofs.Growths.{among_cases, among_first, among_parts, among_second}
 use Rattle.camp_questions.proofs.PatchFronts.{at_first, same_head}
 use Rattle.camp_questions.proofs.ReachedNeeds.{names_of_nodes, reached_through}
 
 -- ---- names among others
 
-either : (b c : Bool) → (b || c) ≡ true → (b ≡ true) ⊎ (c ≡ true)
-either true c e = inl refl
-either false c e = inr e
-
-alone : (b : Bool) → (b || false) ≡ true → b ≡ true
-alone true e = refl
-alone false e = e
-
-among_parts : (xs ys : List (List ℕ)) (n : List ℕ) → is_among (xs ++ ys) n ≡ true → (is_among xs n ≡ true) ⊎ (is_among ys n ≡ true)
-among_parts xs ys n e =
-    either (is_among xs n) (is_among ys n) (sym (list_any-append (bytes_eq n) xs ys) ∙ e)
-
-among_first : (xs ys : List (List ℕ)) (n : List ℕ) → is_among xs n ≡ true → is_among (xs ++ ys) n ≡ true
-among_first xs ys n e = list_any-append (bytes_eq n) xs ys ∙ ap (λ b. b || is_among ys n) e
-
-among_second : (xs ys : List (List ℕ)) (n : List ℕ) → is_among ys n ≡ true → is_among (xs ++ ys) n ≡ true
-among_second xs ys n e = list_any-append (bytes_eq n) xs ys ∙ or_true (is_among xs n) (is_among ys n) e
-
 -- one of the needs is among names
 any_of : (needs names : List (List ℕ)) (n : List ℕ) → is_among needs n ≡ true → is_among names n ≡ true → list_any (is_among names) needs ≡ true
 any_of [] names n need there = absurd (true≢false (sym need))
-any_of (m ∷ needs) names n need there = elim (either (bytes_eq n m) (is_among needs n) need) [
-  | inl e ↦ ap (λ b. b || list_any (is_among names) needs) (ap (is_among names) (sym (same_name n m e)) ∙ there)
+any_of (m ∷ needs) names n need there = elim (among_cases m needs n need) [
+  | inl e ↦ ap (λ b. b || list_any (is_among names) needs) (ap (is_among names) (sym e) ∙ there)
   | inr e ↦ or_true (is_among names m) (list_any (is_among names) needs) (any_of needs names n e there)
 ]
 
 one_of_any : (needs names : List (List ℕ)) → list_any (is_among names) needs ≡ true → (n : List ℕ) × (is_among needs n ≡ true) × (is_among names n ≡ true)
 one_of_any [] names any = absurd (true≢false (sym any))
-one_of_any (m ∷ needs) names any = elim (either (is_among names m) (list_any (is_among names) needs) any) [
+one_of_any (m ∷ needs) names any = elim (or_cases (is_among names m) (list_any (is_among names) needs) any) [
   | inl e ↦ (m, at_first m needs m refl, e)
   | inr e ↦ let one = one_of_any needs names e in (one.0, or_true (bytes_eq one.0 m) (is_among needs one.0) one.1, one.2)
 ]
@@ -68,13 +53,6 @@ AreOrdered [] = Unit {0}
 AreOrdered (p ∷ nodes) =
     ((q : Node) → Contains (p ∷ nodes) q → is_among p.needs q.name ≡ false) × AreOrdered nodes
 
-contains_behind : (front nodes : List Node) (p : Node) → Contains nodes p → Contains (front ++ nodes) p
-contains_behind [] nodes p there = there
-contains_behind (f ∷ front) nodes p there =
-    let rest = contains_behind front nodes p there in
-    let within = rest.1 in
-    (suc rest.0, (omega arith), rest.2)
-
 next_of : (p : Node) (nodes : List Node) (q : Node) → Contains nodes q → Contains (p ∷ nodes) q
 next_of p nodes q there = let within = there.1 in (suc there.0, (omega arith), there.2)
 
@@ -82,20 +60,19 @@ module _ (branch : List Catch) (graph : Drawn) (lawful : IsLawfulBranch branch) 
   own_called : called graph.patches ≡ names_of branch
   own_called = ap called is.patches ∙ names_of_nodes branch is.all is.all ∙ is.names
 
-  needs_none : (front : List Node) (p : Node) (nodes : List Node) → graph.patches ≡ front ++ p ∷ nodes → (q : Node) → Contains (p ∷ nodes) q → (b : Bool) → is_among p.needs q.name ≡ b → b ≡ false
-  needs_none front p nodes parts q there false e = refl
-  needs_none front p nodes parts q there true e =
-      let at : Contains graph.patches p = subst (λ l. Contains l p) (sym parts) (contains_behind front (p ∷ nodes) p (zero, (omega arith), refl)) in
+  needs_none : (front : List Node) (p : Node) (nodes : List Node) → graph.patches ≡ front ++ p ∷ nodes → (q : Node) → Contains (p ∷ nodes) q → is_among p.needs q.name ≡ true → ⊥
+  needs_none front p nodes parts q there e =
+      let at : Contains graph.patches p = subst (λ l. Contains l p) (sym parts) (Contains-append_right front (p ∷ nodes) p (zero, (omega arith), refl)) in
       let stands = arrows_lead_backwards branch graph lawful is p.name q.name (p, at, refl, e) in
       let names : called graph.patches ≡ called front ++ p.name ∷ called nodes = ap called parts ∙ map-append (λ (n : Node). n.name) front (p ∷ nodes) in
       let distinct : AreDistinct (names_of branch) = subst AreDistinct (sym (names_of_patches branch lawful.patches lawful.has)) lawful.has.distinct in
       let among = (is_among_is (called (p ∷ nodes)) q.name).0 (has_image (λ (n : Node). n.name) (p ∷ nodes) q there) in
-      absurd (never_before (called front) p.name (called nodes) q.name stands.before stands.between stands.behind (subst AreDistinct (sym own_called ∙ names) distinct) among (sym names ∙ own_called ∙ stands.are))
+      never_before (called front) p.name (called nodes) q.name stands.before stands.between stands.behind (subst AreDistinct (sym own_called ∙ names) distinct) among (sym names ∙ own_called ∙ stands.are)
 
   ordered_from : (front nodes : List Node) → graph.patches ≡ front ++ nodes → AreOrdered nodes
   ordered_from front [] parts = tt
   ordered_from front (p ∷ nodes) parts = (
-    λ q there. needs_none front p nodes parts q there (is_among p.needs q.name) refl,
+    λ q there. false_from_ne_true (is_among p.needs q.name) (needs_none front p nodes parts q there),
     ordered_from (front ++ p ∷ []) nodes (parts ∙ sym (append_assoc front (p ∷ []) nodes)),
   )
 
@@ -152,17 +129,12 @@ own_needing [] names n none e = e
 own_needing (p ∷ nodes) names n none e =
     more_apart (list_any (is_among names) p.needs) names (p.name ∷ []) n (ap (λ b. b || false) (none p (zero, (omega arith), refl))) (own_needing nodes (with_needing_one names p) n (λ q there. none q (next_of p nodes q there)) e)
 
-not_called : (needs : List (List ℕ)) (other name : List ℕ) (b : Bool) → bytes_eq other name ≡ b → is_among needs other ≡ true → is_among needs name ≡ false → b ≡ false
-not_called needs other name false e need lacks = refl
-not_called needs other name true e need lacks =
-    absurd (true≢false (sym need ∙ ap (is_among needs) (same_name other name e) ∙ lacks))
-
 -- a patch that needs one among them directly is among them
 needing_closed : (nodes : List Node) (names : List (List ℕ)) (n : Node) (other : List ℕ) → AreOrdered nodes → Contains nodes n → is_among n.needs other ≡ true → is_among (with_needing nodes names) other ≡ true → is_among (with_needing nodes names) n.name ≡ true
 needing_closed [] names n other ordered (k, within, same) need there = absurd (omega arith)
 needing_closed (p ∷ nodes) names n other ordered (zero, within, same) need there =
     let own : is_among p.needs other ≡ true = ap (λ (q : Node). is_among q.needs other) same ∙ need in
-    let here : is_among names other ≡ true = own_needing (p ∷ nodes) names other (λ q at. not_called p.needs other q.name (bytes_eq other q.name) refl own (ordered.0 q at)) there in
+    let here : is_among names other ≡ true = own_needing (p ∷ nodes) names other (λ q at. false_from_ne_true (bytes_eq other q.name) (λ e. true≢false (sym own ∙ ap (is_among p.needs) (same_name other q.name e) ∙ ordered.0 q at))) there in
     let joins = more_come (list_any (is_among names) p.needs) names (p.name ∷ []) p.name (any_of p.needs names other own here) (at_first p.name [] p.name refl) in
     ap (λ (q : Node). is_among (with_needing (p ∷ nodes) names) q.name) (sym same) ∙ kept_needing nodes (with_needing_one names p) p.name joins
 needing_closed (p ∷ nodes) names n other ordered (suc k, within, same) need there =
@@ -200,7 +172,7 @@ module _ (graph : Drawn) where
     | inl w ↦ (name, w, reached)
     | inr w ↦
         let one = one_of_any p.needs names e in
-        let same = same_name name p.name (alone (bytes_eq name p.name) w) in
+        let same = same_name name p.name (sym (or_none (bytes_eq name p.name)) ∙ w) in
         (one.0, one.2, reached_through (subst (IsReached graph other) same reached) (along (p, at, refl, one.1) itself))
   ]
   one_more_into names p other name false e at reached there = (name, there, reached)

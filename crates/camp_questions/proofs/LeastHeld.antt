@@ -1,19 +1,13 @@
 -- What names hold is the least that can go, where all catches are plain and have room; and what a patch needs is what holds it.
-use Rattle.camp_questions.proofs.Words.{◌≡◌, ℕ, Bool, true, false, true≢false, not, ◌&&◌, ◌||◌, List, [], ◌∷◌, ◌++◌, map, Ok, Err, refl, sym, ap, ◌∙◌, subst, inl, inr, Contains, ArrangeSticks, Key, Catch, has_patch, is_among, name_of, name_itself, is_among_is, among_others, other_names, AreHeldIn, CanGo, ComeToFront, HeldBy, Needs, StickOn, AreAmong, IsPlain}
-use Rattle.camp_branch.specs.Pulling.{Outcome}
+use Rattle.camp_questions.proofs.Words.{◌≡◌, ℕ, true, false, true≢false, not, ◌&&◌, ◌||◌, List, [], ◌∷◌, ◌++◌, map, Ok, Err, refl, sym, ap, ◌∙◌, subst, inl, inr, Contains, ArrangeSticks, Key, Catch, has_patch, is_among, name_of, name_itself, is_among_is, among_others, other_names, AreHeldIn, CanGo, ComeToFront, HeldBy, Needs, StickOn, AreAmong, IsPlain}
+use Rattle.std.proofs.lemmas.Bool.{false_from_ne_true, true_from_ne_false}
 use Rattle.camp_branch.specs.declared.faults.Blocked.TheVariants.{Depends}
 use Rattle.camp_questions.proofs.PlainGoing.{what_comes_never_sticks}
 use Rattle.camp_questions.specs.Laws.{HeldIsLeast, NeedsAndHeldAreOne}
-use Rattle.camp_questions.proofs.BranchGrowths.{to_front, to_go}
-use Rattle.camp_questions.proofs.Growths.{all_within, grew, in_order_there}
+use Rattle.camp_questions.proofs.BranchGrowths.{apart_outcomes, same_patch, stays, to_front, to_go}
+use Rattle.camp_questions.proofs.Growths.{all_within, both_ways, grew, in_order_there}
 use Rattle.camp_questions.proofs.LeastNeeds.{in_order_among, needs_are_least}
 use Rattle.camp_questions.proofs.ReachedNeeds.{alone_among}
-
-apart_outcomes : {A : Type 0} (left : List Catch) (name on : List ℕ) (outcome : Outcome) → outcome ≡ Ok left → outcome ≡ Err (Depends name on) → A
-apart_outcomes left name on outcome e f = cc
-
-same_patch : (name other on off : List ℕ) (outcome : Outcome) → outcome ≡ Err (Depends name on) → outcome ≡ Err (Depends other off) → name ≡ other
-same_patch name other on off outcome e f = cc
 
 -- where names can go, the others come to the front, and back
 pub others_come : (branch : List Catch) (names : List (List ℕ)) → CanGo branch names → ComeToFront branch (other_names branch names)
@@ -32,26 +26,14 @@ others_stick branch names name held = elim held.1 [
   | inr w ↦ (w.0, w.1, w.2, same_patch name w.0.name held.0 w.1.name (Err (Depends name held.0)) refl w.3)
 ]
 
-has_and_not : (a b : Bool) → (a && not b) ≡ true → (a ≡ true) × (b ≡ false)
-has_and_not true true e = cc
-has_and_not true false e = (refl, refl)
-has_and_not false b e = cc
-
 module _ (branch : List Catch) where
-  -- what stays is of the branch, and does not go
-  pub stays : (names : List (List ℕ)) (n : List ℕ) → is_among (other_names branch names) n ≡ true → (has_patch branch n ≡ true) × (is_among names n ≡ false)
-  stays names n e = has_and_not (has_patch branch n) (is_among names n) (sym (among_others branch names n) ∙ e)
-
   pub stays_by : (names : List (List ℕ)) (n : List ℕ) → has_patch branch n ≡ true → is_among names n ≡ false → is_among (other_names branch names) n ≡ true
   stays_by names n has e = among_others branch names n ∙ (λ i. has i && not (e i))
 
   fewer_stay : (names others : List (List ℕ)) → AreAmong names others → (n : List ℕ) → Contains (other_names branch others) n → Contains (other_names branch names) n
   fewer_stay names others among n c =
-      let parts = stays others n ((is_among_is (other_names branch others) n).0 c) in
-      (is_among_is (other_names branch names) n).1 (stays_by names n parts.0 (elim (is_among names n) as (λ b. is_among names n ≡ b → is_among names n ≡ false) [
-        | true ↦ λ e. absurd (true≢false (sym (among n e) ∙ parts.1))
-        | false ↦ λ e. e
-      ] refl))
+      let parts = stays branch others n ((is_among_is (other_names branch others) n).0 c) in
+      (is_among_is (other_names branch names) n).1 (stays_by names n parts.0 (false_from_ne_true (is_among names n) (λ e. true≢false (sym (among n e) ∙ parts.1))))
 
   -- what names hold is among all that can go and have them
   pub held_within : (others : List (List ℕ)) → IsPlain branch → CanGo branch others → (names : List (List ℕ)) (name : List ℕ) → AreAmong names others → AreHeldIn branch names name → is_among others name ≡ true
@@ -60,12 +42,9 @@ module _ (branch : List Catch) where
       let stuck = others_stick branch names name held in
       let sticks = subst (λ l. ArrangeSticks (other_names branch names) l stuck.0 stuck.1) plain.are stuck.2 in
       let never = what_comes_never_sticks plain.patches (other_names branch names) (other_names branch others) plain.room (fewer_stay names others among) come.0 come.1 come.2 stuck.0 stuck.1 sticks in
-      elim (is_among others name) as (λ b. is_among others name ≡ b → is_among others name ≡ true) [
-        | true ↦ λ e. e
-        | false ↦ λ e.
-            let there = stays_by others name ((to_go branch).has names name held) e in
-            absurd (never (subst (Contains (other_names branch others)) stuck.3 ((is_among_is (other_names branch others) name).1 there)))
-      ] refl
+      true_from_ne_false (is_among others name) (λ e.
+      let there = stays_by others name ((to_go branch).has names name held) e in
+      never (subst (Contains (other_names branch others)) stuck.3 ((is_among_is (other_names branch others) name).1 there)))
 
 pub held_is_least : HeldIsLeast
 held_is_least branch names held others plain holds among can name there =
@@ -86,46 +65,29 @@ module _ (branch : List Catch) (plain : IsPlain branch) (x y : List ℕ) (has_x 
       (w.0, w.1.has x (itself x))
 
   needed_is_held : is_among needed x ≡ true → is_among held y ≡ true
-  needed_is_held e = elim (is_among held y) as (λ b. is_among held y ≡ b → is_among held y ≡ true) [
-    | true ↦ λ f. f
-    | false ↦ λ f.
-        let others = other_names branch held in
-        let among = alone_among y others (stays_by branch held y has_y f) in
-        let there = needs_are_least branch (y ∷ []) needed others plain needs among (others_come branch held went.0) x e in
-        absurd (true≢false (sym went.1 ∙ (stays branch held x there).1))
-  ] refl
+  needed_is_held e = true_from_ne_false (is_among held y) (λ f.
+      let others = other_names branch held in
+      let among = alone_among y others (stays_by branch held y has_y f) in
+      let there = needs_are_least branch (y ∷ []) needed others plain needs among (others_come branch held went.0) x e in
+      true≢false (sym went.1 ∙ (stays branch held x there).1))
 
   -- what is not among the others is needed
   back_again : (n : List ℕ) → is_among needed n ≡ is_among (other_names branch (other_names branch needed)) n
   back_again n =
-      elim (is_among needed n) as (λ b. is_among needed n ≡ b → b ≡ is_among (other_names branch (other_names branch needed)) n) [
-        | true ↦ λ e.
-            let has = in_order_there branch ((y ∷ []) ++ needs.0) n (ap (λ l. is_among l n) (sym needs.2) ∙ e) in
-            sym (stays_by branch (other_names branch needed) n has (not_there n e))
-        | false ↦ λ e. elim (is_among (other_names branch (other_names branch needed)) n) as (λ b. is_among (other_names branch (other_names branch needed)) n ≡ b → false ≡ b) [
-          | true ↦ λ f.
-              let parts = stays branch (other_names branch needed) n f in
-              absurd (true≢false (sym (stays_by branch needed n parts.0 e) ∙ parts.1))
-          | false ↦ λ f. refl
-        ] refl
-      ] refl
-    where
-      not_there : (n : List ℕ) → is_among needed n ≡ true → is_among (other_names branch needed) n ≡ false
-      not_there n e = elim (is_among (other_names branch needed) n) as (λ b. is_among (other_names branch needed) n ≡ b → b ≡ false) [
-        | true ↦ λ f. absurd (true≢false (sym e ∙ (stays branch needed n f).1))
-        | false ↦ λ f. refl
-      ] refl
+      let others = other_names branch needed in
+      both_ways (is_among needed n) (is_among (other_names branch others) n)
+      (λ e. stays_by branch others n (in_order_there branch ((y ∷ []) ++ needs.0) n (ap (λ l. is_among l n) (sym needs.2) ∙ e)) (false_from_ne_true (is_among others n) (λ f. true≢false (sym e ∙ (stays branch needed n f).1))))
+      (λ f.
+      let parts = stays branch others n f in
+      true_from_ne_false (is_among needed n) (λ e. true≢false (sym (stays_by branch needed n parts.0 e) ∙ parts.1)))
 
   held_is_needed : is_among held y ≡ true → is_among needed x ≡ true
-  held_is_needed e = elim (is_among needed x) as (λ b. is_among needed x ≡ b → is_among needed x ≡ true) [
-    | true ↦ λ f. f
-    | false ↦ λ f.
-        let others = other_names branch needed in
-        let come = (to_front branch).done_alike needed (other_names branch others) back_again came.0 in
-        let among = alone_among x others (stays_by branch needed x has_x f) in
-        let there = held_is_least branch (x ∷ []) held others plain holds among (can_go branch others come) y e in
-        absurd (true≢false (sym came.1 ∙ (stays branch needed y there).1))
-  ] refl
+  held_is_needed e = true_from_ne_false (is_among needed x) (λ f.
+      let others = other_names branch needed in
+      let come = (to_front branch).done_alike needed (other_names branch others) back_again came.0 in
+      let among = alone_among x others (stays_by branch needed x has_x f) in
+      let there = held_is_least branch (x ∷ []) held others plain holds among (can_go branch others come) y e in
+      true≢false (sym came.1 ∙ (stays branch needed y there).1))
 
 pub needs_and_held_are_one : NeedsAndHeldAreOne
 needs_and_held_are_one branch x y needed held plain has_x has_y needs holds =

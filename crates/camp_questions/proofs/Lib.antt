@@ -38,7 +38,6 @@ pub mod ReachedNeeds
 pub mod ReachedPatches
 pub mod SeenLabels
 pub mod ShownPatches
-pub mod SideLists
 pub mod SideSteps
 pub mod SidesAccepted
 pub mod SidesApply

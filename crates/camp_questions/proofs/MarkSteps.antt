@@ -1,5 +1,5 @@
 -- What patches in open conflicts would make of a file, one patch after the other.
-use Rattle.camp_questions.proofs.Words.{◌≡◌, ◌<◌, ◌≤◌, ℕ, ◌+◌, Bool, true, false, cond, ◌||◌, List, [], ◌∷◌, ◌++◌, Option, None, Some, append_assoc, bytes_eq, contains_key, empty, get, get-empty, get_or, insert, length, list_any, list_any-append, nat_cmp, refl, slice_cmp, sym, ap, ◌∙◌, subst, take, take_more, Files, Lines, Named}
+use Rattle.camp_questions.proofs.Words.{or_none, ◌≡◌, ◌<◌, ◌≤◌, ℕ, ◌+◌, Bool, true, false, cond, ◌||◌, List, [], ◌∷◌, ◌++◌, Option, None, Some, append_assoc, bytes_eq, contains_key, empty, get, get-empty, get_or, insert, length, list_any, list_any-append, nat_cmp, refl, slice_cmp, sym, ap, ◌∙◌, subst, take, take_more, Files, Lines, Named}
 use Rattle.std.proofs.lemmas.List.{take_all}
 use Rattle.std.specs.Cmp.Lexicographic.{pointwise}
 use Rattle.std.specs.Prelude.{is_some}
@@ -47,10 +47,6 @@ or_swap : (a b c : Bool) → ((a || b) || c) ≡ (a || (b || c))
 or_swap true b c = refl
 or_swap false b c = refl
 
-or_last : (b : Bool) → (b || false) ≡ b
-or_last true = refl
-or_last false = refl
-
 pub has_names_of_none : (set : Names) → set ≡ empty → HasNamesOf set []
 has_names_of_none set is name =
     ap (λ m. contains_key m name) is ∙ ap is_some (get-empty (slice_cmp nat_cmp) name)
@@ -64,7 +60,7 @@ has_names_of_one set between next pairs i pair d within is has first second name
     let listed : is_in_pair (take (i + 1) pairs) name ≡ (is_in_pair (take i pairs) name || (test pair || false)) =
     ap (list_any test) (take_more pairs i d within) ∙ list_any-append test (take i pairs) (get_or pairs i d ∷ []) ∙ ap (λ p. is_in_pair (take i pairs) name || (test p || false)) (sym is) in
     two ∙ ap (λ b. b || bytes_eq name pair.1) (one ∙ ap (λ b. b || bytes_eq name pair.0) (has name)) ∙ or_swap (is_in_pair (take i pairs) name) (bytes_eq name pair.0) (bytes_eq name pair.1)
-    ∙ ap (λ b. is_in_pair (take i pairs) name || b) (sym (or_last (test pair))) ∙ sym listed
+    ∙ ap (λ b. is_in_pair (take i pairs) name || b) (sym (or_none (test pair))) ∙ sym listed
 
 pub has_names_of_all : (set : Names) (pairs : List (List ℕ × List ℕ)) (i : ℕ) → length pairs ≤ i → HasNamesOf set (take i pairs) → HasNamesOf set pairs
 has_names_of_all set pairs i past = subst (HasNamesOf set) (take_all i pairs past)

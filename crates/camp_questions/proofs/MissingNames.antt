@@ -1,7 +1,8 @@
 -- What is missing is what a pull without names brings.
-use Rattle.camp_questions.proofs.Words.{◌≡◌, ◌≢◌, ℕ, Bool, true, false, not, cond, ◌||◌, List, [], ◌∷◌, ◌++◌, filter, Option, None, Some, Ok, bytes_eq, refl, sym, ap, ◌∙◌, same_Some, Catch, has_patch, is_among, names_of, Next, Has, Contents, is_empty, step, accepted_calls, IsMissing, missing_in, MissingIsPulled, name_itself, or_true, passes_is_kept, same_name, pull_nothing, none_lacked}
+use Rattle.camp_questions.proofs.Words.{◌≡◌, ℕ, Bool, true, not, cond, ◌||◌, List, [], ◌∷◌, ◌++◌, filter, Option, None, Some, Ok, bytes_eq, refl, sym, ap, ◌∙◌, same_Some, Catch, has_patch, is_among, names_of, Next, Has, Contents, is_empty, step, accepted_calls, IsMissing, missing_in, MissingIsPulled, name_itself, or_true, passes_is_kept, pull_nothing, none_lacked}
 use Rattle.camp_call.specs.declared.calls.Call.TheVariants as call
 use Rattle.camp_repo.specs.Lawful.{IsLawfulState}
+use Rattle.camp_questions.proofs.Growths.{names_differ}
 
 module _ (p q : List ℕ → Bool) where
   -- tests that agree on what is there keep the same
@@ -32,13 +33,9 @@ pub are_missing : (state : Contents) (from to : List ℕ) (theirs ours : List Ca
 are_missing state from to theirs ours names from_has to_has is =
     rw from_has (rw to_has (ap Ok is))
 
-differ : (from to : List ℕ) (b : Bool) → bytes_eq from to ≡ b → from ≢ to → b ≡ false
-differ from to true e other = absurd (other (same_name from to e))
-differ from to false e other = refl
-
 pub missing_is_pulled : MissingIsPulled
 missing_is_pulled = record {
   comes = comes;
   nothing = λ state from to theirs ours from_has to_has other none.
-      sym (pull_nothing state from to None theirs ours from_has to_has (differ from to _ refl other) (none_lacked theirs) (ap is_empty none));
+      sym (pull_nothing state from to None theirs ours from_has to_has (names_differ from to other) (none_lacked theirs) (ap is_empty none));
 }

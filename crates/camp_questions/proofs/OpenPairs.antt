@@ -1,11 +1,11 @@
 -- The open conflicts of a branch: which they are.
-use Rattle.camp_questions.proofs.Words.{◌≡◌, ◌⊎◌, ◌≤◌, ℕ, suc, ◌+◌, Bool, true, false, true≢false, cond, List, [], ◌∷◌, ◌++◌, append-nil, map, filter, filter-append, take, Some, refl, sym, ap, ◌∙◌, subst, inl, inr, arith, map-append, Contains, flat_map, get, keys, name_of, Catch, Key, key_cmp, key_total}
+use Rattle.camp_questions.proofs.Words.{◌≡◌, ◌⊎◌, ◌≤◌, ℕ, suc, ◌+◌, Bool, true, false, cond, List, [], ◌∷◌, ◌++◌, append-nil, map, filter, filter-append, take, Some, refl, sym, ap, ◌∙◌, subst, inl, inr, arith, map-append, Contains, flat_map, get, keys, name_of, Catch, Key, key_cmp, key_total}
 use Rattle.std.proofs.lemmas.List.{take_all}
 use Rattle.std.specs.FinMap.{entries, entries_sorted, get-entries, len}
 use Rattle.std.specs.Prelude.{slice_get}
 use Rattle.std.specs.declared.cmp.Ordering.TheVariants.{Less}
 use Rattle.camp_branch.proofs.ConflictsDetermined.{member_name}
-use Rattle.camp_questions.proofs.PairSteps.{IsOfNames, first_is_less, has_of_each, is_image, key_is_listed, listed_has_member, of_names, one_has, second_is_less}
+use Rattle.camp_questions.proofs.PairSteps.{IsOfNames, first_is_less, has_of_each, is_image, kept_has, key_is_listed, listed_has_member, of_names, one_has, second_is_less}
 use Rattle.camp_branch.proofs.Names.{has_image}
 use Rattle.camp_branch.proofs.SortedPairs.{IsInOrder, Pair, by_name, first_or_later, has_first, has_later, no_member}
 use Rattle.camp_branch.proofs.Words.{flat_map_more}
@@ -17,28 +17,16 @@ use Rattle.camp_ctx.specs.Contexts.{AreKeyed, ContextedPatch, ContextedPatches, 
 use Rattle.camp_questions.specs.Inside.OpenPairs.{open_against, open_at, open_in, open_with, open_within}
 use Rattle.camp_questions.specs.OpenConflicts.{AreInOpenConflict, AreOpenAmong, OpensWith, is_open}
 
--- what a test keeps of a list
-kept_has : {X : Type 0} (p : X → Bool) (list : List X) (x : X) → Contains list x → p x ≡ true → Contains (filter p list) x
-kept_has p [] x c is = no_member x c
-kept_has p (y ∷ list) x c is =
-    kept_at (p y) refl (first_or_later y x list c) (λ later. kept_has p list x later is)
-  where
-    kept_at : (b : Bool) → p y ≡ b → (y ≡ x) ⊎ Contains list x → (Contains list x → Contains (filter p list) x) → Contains (cond b (y ∷ filter p list) (filter p list)) x
-    kept_at true e (inl same) rest = subst (Contains (y ∷ filter p list)) same (has_first y (filter p list))
-    kept_at false e (inl same) rest = absurd (true≢false (sym is ∙ ap p (sym same) ∙ e))
-    kept_at true e (inr later) rest = has_later y x (filter p list) (rest later)
-    kept_at false e (inr later) rest = rest later
-
+-- what a test keeps of a list is there, and passes it
 is_kept : {X : Type 0} (p : X → Bool) (list : List X) (x : X) → Contains (filter p list) x → Contains list x × (p x ≡ true)
 is_kept p [] x c = no_member x c
-is_kept p (y ∷ list) x c = is_kept_at (p y) refl c (λ d. is_kept p list x d)
-  where
-    is_kept_at : (b : Bool) → p y ≡ b → Contains (cond b (y ∷ filter p list) (filter p list)) x → (Contains (filter p list) x → Contains list x × (p x ≡ true)) → Contains (y ∷ list) x × (p x ≡ true)
-    is_kept_at true e d rest = elim (first_or_later y x (filter p list) d) [
-      | inl same ↦ (subst (Contains (y ∷ list)) same (has_first y list), ap p (sym same) ∙ e)
-      | inr later ↦ (has_later y x list (rest later).0, (rest later).1)
-    ]
-    is_kept_at false e d rest = (has_later y x list (rest d).0, (rest d).1)
+is_kept p (y ∷ list) x c = elim (p y) as (λ b. p y ≡ b → Contains (cond b (y ∷ filter p list) (filter p list)) x → Contains (y ∷ list) x × (p x ≡ true)) [
+  | true ↦ λ e d. elim (first_or_later y x (filter p list) d) [
+    | inl same ↦ (subst (Contains (y ∷ list)) same (has_first y list), ap p (sym same) ∙ e)
+    | inr later ↦ let rest = is_kept p list x later in (has_later y x list rest.0, rest.1)
+  ]
+  | false ↦ λ e d. let rest = is_kept p list x d in (has_later y x list rest.0, rest.1)
+] refl c
 
 module _ (seen : ContextedPatches) where
   -- those that a catch names are in an open conflict with it

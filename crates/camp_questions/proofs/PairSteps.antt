@@ -1,4 +1,6 @@
 -- Lists that the elements of a list make, sets of contexted patches, and pairs of names.
+use Rattle.camp_questions.proofs.Words.{Bool, cond, filter}
+use Rattle.std.proofs.lemmas.Bool.{cond_both}
 use Rattle.camp_branch.proofs.Words.{◌≡◌, ◌⊎◌, ℕ, true, Option, None, Some, List, [], ◌∷◌, map, is_some, refl, sym, ap, ◌∙◌, subst, inl, inr, Contains-append_cases, Contains-append_left, Contains-append_right, Contains-from_any, list_any-from_Contains, tells_apart, Contains, flat_map, ordering_reverse, eq_by_cmp_equiv, nat_list_cmp_total, contains_key-keys, get, keys, Ordering, Less, Equal, Greater, Key, key_total, key_ties, ContextedPatches, ContextedPatch, ordered_by, pair_of, ◌<◌, length, get_or, arith, length-map, get_or-map, Contains-get_or}
 use Rattle.camp_branch.proofs.SortedPairs.{Pair, by_name, first_or_later, has_first, has_later, no_member}
 
@@ -24,6 +26,16 @@ is_image f [] y c = no_member y c
 is_image f (x ∷ list) y (k, within, is) =
     let place : k < length (x ∷ list) = omega (arith, length-map (x ∷ list) f) in
     (get_or (x ∷ list) k x, Contains-get_or (x ∷ list) k x place, sym (get_or-map f (x ∷ list) k x y place) ∙ is)
+
+-- what passes a test is kept
+pub kept_has : {X : Type 0} (p : X → Bool) (list : List X) (x : X) → Contains list x → p x ≡ true → Contains (filter p list) x
+kept_has p [] x c is = no_member x c
+kept_has p (y ∷ list) x c is = elim (first_or_later y x list c) [
+  | inl same ↦ subst (λ b. Contains (cond b (y ∷ filter p list) (filter p list)) x) (sym (ap p same ∙ is)) (subst (Contains (y ∷ filter p list)) same (has_first y (filter p list)))
+  | inr later ↦
+      let rest = kept_has p list x later is in
+      cond_both (p y) (y ∷ filter p list) (filter p list) (λ l. Contains l x) (λ e. has_later y x (filter p list) rest) (λ e. rest)
+]
 
 value_of : {X : Type 0} (o : Option X) → is_some o ≡ true → (x : X) × (o ≡ Some x)
 value_of None e = cc

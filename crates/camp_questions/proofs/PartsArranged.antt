@@ -1,5 +1,5 @@
 -- Lists of catches that are arranged part by part.
-use Rattle.camp_questions.proofs.Words.{◌≡◌, ◌<◌, ℕ, ◌+◌, ◌-◌, true≢false, false, ◌||◌, arith, get_or, length, take, take_more, List, [], ◌∷◌, ◌++◌, bytes_eq, append-nil, append_assoc, refl, sym, ap, ◌∙◌, subst, inl, inr, AllByRecursion, Key, Catch, AreAlike, Arrange, ArrangeSticks, ArrangesBehind, ComesBefore, SticksBehind, StopsAt, is_among, is_among_is, name_of}
+use Rattle.camp_questions.proofs.Words.{◌≡◌, ◌<◌, ℕ, ◌+◌, ◌-◌, true≢false, false, ◌||◌, arith, get_or, length, take, take_more, List, [], ◌∷◌, ◌++◌, bytes_eq, append-nil, append_assoc, refl, sym, ap, ◌∙◌, subst, inl, inr, AllByRecursion, Key, Catch, AreAlike, Arrange, ArrangeSticks, ArrangesBehind, SticksBehind, StopsAt, is_among, is_among_is, name_of}
 use Rattle.std.proofs.lemmas.List.{take_all}
 use Rattle.camp_catch.specs.Arranging.{DoNotCommute, IsOf}
 use Rattle.camp_catch.specs.Catches.{catch_key}
@@ -85,16 +85,6 @@ stuck_name name rest (k ∷ list) patch on own (inr (inl w)) =
     stuck_name name w.1.1 list patch on own.1 w.1.3
 stuck_name name rest (k ∷ list) patch on own (inr (inr w)) =
     stuck_name name (rest ++ k ∷ []) list patch on own.1 w.1
-
--- one more catch of a patch has come before what goes
-pub one_came : (name : List ℕ) (rest list first going left : List Catch) (k k' : Catch) → name_of k ≡ name → ArrangesBehind (name ∷ []) rest list first going → ComesBefore going k k' left → ArrangesBehind (name ∷ []) rest (list ++ k ∷ []) (first ++ k' ∷ []) left
-one_came name rest list first going left k k' is so_far comes =
-    arranged_further (name ∷ []) rest list (k ∷ []) first going (k' ∷ []) left so_far (inl (of_its_name name k is, (k', left, [], comes, (refl, refl), refl)))
-
--- one can not
-pub one_stuck : (name : List ℕ) (rest list more first going : List Catch) (k : Catch) (on : Key) → name_of k ≡ name → ArrangesBehind (name ∷ []) rest list first going → StopsAt going k on → SticksBehind (name ∷ []) rest (list ++ k ∷ more) (catch_key k) on
-one_stuck name rest list more first going k on is so_far stops =
-    sticks_further (name ∷ []) rest list (k ∷ more) first going (catch_key k) on so_far (inl (of_its_name name k is, stops, refl))
 
 -- catches that stay as they are come before what stays too
 pub all_came : (name : List ℕ) (going list : List Catch) → AreOfPatch name list → AllStay going list → ArrangesBehind (name ∷ []) going list list going

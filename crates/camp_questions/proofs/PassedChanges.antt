@@ -1,6 +1,5 @@
 -- Labels that changes pass by, as they are or on their way to another line.
-use Rattle.camp_questions.proofs.Words.{◌≡◌, ◌<◌, ◌≤◌, ◌+◌, ◌-◌, ℕ, List, [], ◌∷◌, ◌++◌, length, take, drop, get_or, refl, sym, ap, ◌∙◌, subst, inl, inr, arith, append_assoc, drop-drop, drop_all, drop_more, length-take-le, take-append-drop, Edit, Named, Primitive, Hunk, Option, Some, None}
-use Rattle.std.specs.Prelude.{IfSome}
+use Rattle.camp_questions.proofs.Words.{◌≡◌, ◌<◌, ◌≤◌, ◌+◌, ◌-◌, ℕ, List, [], ◌∷◌, ◌++◌, length, take, drop, get_or, refl, sym, ap, ◌∙◌, subst, inl, inr, arith, drop-drop, drop_all, drop_more, length-take-le, take-append-drop, Edit, Named, Hunk}
 use Rattle.std.proofs.lemmas.List.{drop-append-le}
 use Rattle.camp_base.specs.Limits.{greatest_reach}
 use Rattle.camp_ctx.specs.Adding.{Adds, AddsAll, commute}
@@ -80,26 +79,6 @@ passes_hunk change patch other hunk line next apart is own range passes =
       },
     )
 
--- it stands above
-pub below_passes : (other hunk : Edit) (line gap next : ℕ) → other.path ≡ hunk.path → IsInRange other → IsInRange (at_line line hunk) → line ≡ other.line + length other.new + gap → 0 < gap → next ≡ other.line + length other.old + gap → next + length hunk.old + length hunk.new ≤ greatest_reach → Passes other hunk line next
-below_passes other hunk line gap next path own range stands between comes within = record {
-  behind = other;
-  change = inr (inl (record {
-    h = other;
-    k = at_line line hunk;
-    gap = gap;
-    is_p = refl;
-    is_q = refl;
-    path = path;
-    stands = stands;
-    passes = inl between;
-    second = ap (λ n. Hunk (at_line n hunk)) comes;
-    first = refl;
-  }));
-  second = record { counted = omega (arith, own.counted, comes); changes = range.changes; within = within };
-  first = own;
-}
-
 -- it stands below
 pub above_passes : (other hunk : Edit) (line gap : ℕ) → other.path ≡ hunk.path → IsInRange other → IsInRange (at_line line hunk) → other.line ≡ line + length hunk.old + gap → 0 < gap → line + length hunk.new + gap + length other.old + length other.new ≤ greatest_reach → Passes other hunk line line
 above_passes other hunk line gap path own range stands between within = record {
@@ -134,11 +113,6 @@ at_first changes n line patch hunk whole own is =
 
 pub in_range_there : (hunk : Edit) (line : ℕ) → line ≡ hunk.line → IsInRange hunk → IsInRange (at_line line hunk)
 in_range_there hunk line own range = subst (λ l. IsInRange (at_line l hunk)) (sym own) range
-
--- what holds of an answer, if there is one, by what is known of it
-pub if_some : {X : Type 0} (P Q : X → Type 0) (o : Option X) → ((x : X) → P x → Q x) → IfSome o P → IfSome o Q
-if_some P Q None follows w = w
-if_some P Q (Some x) follows w = follows x w
 
 -- where a front of some changes ends
 pub ends_within : (changes : List Named) (left stop : ℕ) → left ≤ length changes → stop ≤ length (take left changes) → stop ≤ left

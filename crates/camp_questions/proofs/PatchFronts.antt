@@ -1,4 +1,5 @@
 -- The patches of a lawful branch up to one come to its front, as they stand there.
+use Rattle.std.proofs.lemmas.Bool.{false_from_ne_true}
 use Rattle.camp_questions.proofs.Words.{◌≡◌, ◌≢◌, ◌<◌, ℕ, zero, suc, ◌+◌, Bool, true, false, true≢false, ◌||◌, cond, List, [], ◌∷◌, ◌++◌, bytes_eq, append-nil, refl, sym, ap, ◌∙◌, subst, inl, inr, arith, AllByRecursion, append_assoc, Key, Catch, all_append, is_among_is, name_itself, or_true, same_name, ComeToFront, ArrangesBehind, AreDistinct, HasPatches, Patch, is_among, labels_from, labels_of, name_of, names_of, patch_names}
 use Rattle.camp_catch.specs.Laws.{keys_of}
 use Rattle.camp_branch.proofs.BranchLabels.{names_of_patches}
@@ -95,9 +96,13 @@ pub both_are : {P Q R : Catch → Type 0} → ((k : Catch) → P k → Q k → R
 both_are to [] v w = tt
 both_are to (k ∷ list) v w = (to k v.0 w.0, both_are to list v.1 w.1)
 
-all_last : (P : Catch → Type 0) (xs ys : List Catch) → AllByRecursion P (xs ++ ys) → AllByRecursion P ys
-all_last P [] ys w = w
-all_last P (x ∷ xs) ys w = all_last P xs ys w.1
+pub all_before : (P : Catch → Type 0) (xs ys : List Catch) → AllByRecursion P (xs ++ ys) → AllByRecursion P xs
+all_before P [] ys w = tt
+all_before P (x ∷ xs) ys w = (w.0, all_before P xs ys w.1)
+
+pub all_behind : (P : Catch → Type 0) (xs ys : List Catch) → AllByRecursion P (xs ++ ys) → AllByRecursion P ys
+all_behind P [] ys w = w
+all_behind P (x ∷ xs) ys w = all_behind P xs ys w.1
 
 pub at_first : (n : List ℕ) (names : List (List ℕ)) (name : List ℕ) → name ≡ n → is_among (n ∷ names) name ≡ true
 at_first n names name e = ap (λ b. b || is_among names name) (ap (λ l. bytes_eq l n) e ∙ name_itself n)
@@ -113,10 +118,9 @@ of_patches (p ∷ patches) list e =
     subst (AreOf (patch_names (p ∷ patches))) (sym parts.is) (all_append (λ k. is_among (patch_names (p ∷ patches)) (name_of k) ≡ true) parts.first parts.rest first rest)
 
 -- one of other names
-is_other : (name n : List ℕ) (names : List (List ℕ)) (b : Bool) → bytes_eq name n ≡ b → is_among names n ≡ false → is_among names name ≡ true → b ≡ false
-is_other name n names true e lacks there =
-    absurd (true≢false (sym there ∙ ap (is_among names) (same_name name n e) ∙ lacks))
-is_other name n names false e lacks there = refl
+is_other : (name n : List ℕ) (names : List (List ℕ)) → is_among names n ≡ false → is_among names name ≡ true → bytes_eq name n ≡ false
+is_other name n names lacks there =
+    false_from_ne_true (bytes_eq name n) (λ e. true≢false (sym there ∙ ap (is_among names) (same_name name n e) ∙ lacks))
 
 -- the catches of patches up to one stand before the others
 pub record StandFirst (names : List (List ℕ)) (list : List Catch) : Type 0 where
@@ -141,14 +145,14 @@ stand_first (p ∷ patches) list name distinct e =
       behind = parts.rest;
       is = parts.is;
       are = all_are (λ k is. at_first p.name [] (name_of k) is) parts.first own;
-      others = all_are (λ k there. ap (λ b. b || false) (is_other (name_of k) p.name (patch_names patches) (bytes_eq (name_of k) p.name) refl distinct.0 there)) parts.rest theirs;
+      others = all_are (λ k there. ap (λ b. b || false) (is_other (name_of k) p.name (patch_names patches) distinct.0 there)) parts.rest theirs;
     }
     at parts own theirs next false = record {
       front = parts.first ++ next.front;
       behind = next.behind;
       is = parts.is ∙ ap (λ l. parts.first ++ l) next.is ∙ sym (append_assoc parts.first next.front next.behind);
       are = all_append (λ k. is_among (p.name ∷ up_to (patch_names patches) name) (name_of k) ≡ true) parts.first next.front (all_are (λ k is. at_first p.name (up_to (patch_names patches) name) (name_of k) is) parts.first own) (all_are (λ k there. or_true (bytes_eq (name_of k) p.name) _ there) next.front next.are);
-      others = both_are (λ k there not. ap (λ b. b || is_among (up_to (patch_names patches) name) (name_of k)) (is_other (name_of k) p.name (patch_names patches) (bytes_eq (name_of k) p.name) refl distinct.0 there) ∙ not) next.behind (all_last (λ k. is_among (patch_names patches) (name_of k) ≡ true) next.front next.behind (subst (AreOf (patch_names patches)) next.is theirs)) next.others;
+      others = both_are (λ k there not. ap (λ b. b || is_among (up_to (patch_names patches) name) (name_of k)) (is_other (name_of k) p.name (patch_names patches) distinct.0 there) ∙ not) next.behind (all_behind (λ k. is_among (patch_names patches) (name_of k) ≡ true) next.front next.behind (subst (AreOf (patch_names patches)) next.is theirs)) next.others;
     }
 
 -- the patches of a branch up to one come to its front

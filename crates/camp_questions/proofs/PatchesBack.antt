@@ -139,9 +139,6 @@ pub record AreInvertedSoFar (list back : List Catch) : Type 0 where
   pub plain : list ≡ map Plain forth
   pub each : back ≡ map Plain (map inverse_of forth)
 
-pub none_inverted : AreInvertedSoFar [] []
-none_inverted = record { forth = []; plain = refl; each = refl }
-
 pub one_inverted : (list back : List Catch) (p : Named) → AreInvertedSoFar list back → AreInvertedSoFar (list ++ Plain p ∷ []) (back ++ Plain (inverse_of p) ∷ [])
 one_inverted list back p so_far = record {
   forth = so_far.forth ++ p ∷ [];

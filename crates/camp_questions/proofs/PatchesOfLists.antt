@@ -1,5 +1,5 @@
 -- The patches that a list of catches is of, found one after the other.
-use Rattle.camp_questions.proofs.Words.{◌≡◌, ◌<◌, ◌≤◌, ℕ, zero, suc, ◌+◌, ◌-◌, ◌==◌, Bool, true, false, cond, List, [], ◌∷◌, ◌++◌, length, take, drop, get_or, append-nil, refl, sym, ap, ◌∙◌, subst, arith, AllByRecursion, append_assoc, drop-drop, drop_all, drop_more, length-append, length-drop, map-append, take_at, drop_at, Key, Catch, all_append, name_of, AreDistinct, HasPatches, Patch, labels_from, labels_of, patch_names}
+use Rattle.camp_questions.proofs.Words.{IsLawfulBranch, ◌≡◌, ◌<◌, ◌≤◌, ℕ, zero, suc, ◌+◌, ◌-◌, ◌==◌, cond, List, [], ◌∷◌, ◌++◌, length, take, drop, get_or, append-nil, refl, sym, ap, ◌∙◌, subst, arith, AllByRecursion, append_assoc, drop-drop, drop_all, drop_more, length-append, length-drop, map-append, take_at, drop_at, Key, Catch, all_append, name_of, AreDistinct, HasPatches, Patch, labels_from, labels_of, patch_names}
 use Rattle.std.proofs.lemmas.List.{take_all}
 use Rattle.std.proofs.lemmas.Bool.{ne_eqb}
 use Rattle.camp_branch.proofs.BranchLabels.{names_of_patches}
@@ -33,33 +33,6 @@ until_next_at (k ∷ list) name place (suc changes) patches later sized e =
     not_first (suc (suc n)) le =
         ap (λ b. cond b zero (suc (until_next list))) (ne_eqb (suc (suc n)) 1 (λ e. absurd (omega (e, arith))))
 
--- one more catch is not the first of a patch
-pub one_later : (list : List Catch) (i : ℕ) (k d : Catch) → i < length list → k ≡ get_or list i d → (catch_key k).place == 1 ≡ false → until_next (drop i list) ≡ suc (until_next (drop (i + 1) list))
-one_later list i k d within is later =
-    ap until_next (drop_more list i d within ∙ ap (λ x. x ∷ drop (i + 1) list) (sym is)) ∙ ap (λ b. cond b zero (suc (until_next (drop (i + 1) list)))) later
-
--- the next one begins here
-pub next_begins : (list : List Catch) (i : ℕ) (k d : Catch) → i < length list → k ≡ get_or list i d → (catch_key k).place == 1 ≡ true → until_next (drop i list) ≡ zero
-next_begins list i k d within is first =
-    ap until_next (drop_more list i d within ∙ ap (λ x. x ∷ drop (i + 1) list) (sym is)) ∙ ap (λ b. cond b zero (suc (until_next (drop (i + 1) list)))) first
-
-pub none_begins : (list : List Catch) (i : ℕ) → length list ≤ i → until_next (drop i list) ≡ zero
-none_begins list i past = ap until_next (drop_all i list past)
-
-until_next_within : (list : List Catch) → until_next list ≤ length list
-until_next_within [] = omega arith
-until_next_within (k ∷ list) = at ((catch_key k).place == 1) (until_next_within list)
-  where
-    at : (b : Bool) → until_next list ≤ length list → cond b zero (suc (until_next list)) ≤ suc (length list)
-    at true rest = omega arith
-    at false rest = omega (arith, rest)
-
--- a patch ends within the list
-pub end_within : (list : List Catch) (start end : ℕ) → start < length list → end ≡ start + 1 + until_next (drop (start + 1) list) → end ≤ length list
-end_within list start end within ends =
-    let left = until_next_within (drop (start + 1) list) in
-    let long = length-drop (start + 1) list in omega (arith, within, ends, left, long)
-
 -- so many patches are found, and these are still to be found
 pub record AreFound (list : List Catch) (start : ℕ) (found : List PatchCatches) : Type 0 where
   pub left : List Patch
@@ -82,6 +55,10 @@ none_found list patches has = record {
   distinct = has.distinct;
   named = sym (names_of_patches list patches has);
 }
+
+-- a lawful branch is of patches
+pub patches_there : (branch list : List Catch) → list ≡ branch → IsLawfulBranch branch → (patches : List Patch) × HasPatches list patches
+patches_there branch list is lawful = (lawful.patches, subst (λ l. HasPatches l lawful.patches) (sym is) lawful.has)
 
 keys_length : (list : List Catch) → length (keys_of list) ≡ length list
 keys_length [] = refl

@@ -1,8 +1,8 @@
 -- How the parts of a picture are gathered.
-use Rattle.camp_questions.proofs.Words.{◌≡◌, ◌<◌, ◌≤◌, ◌+◌, ◌&&◌, ℕ, Bool, true, false, cond, List, [], ◌∷◌, ◌++◌, map, filter, take, drop, length, get_or, Result, Ok, Err, Some, refl, sym, ap, ◌∙◌, subst, arith, append-nil, drop_all, drop_more, filter-append, map-append, take_more, Unanswered, Refused, Memory, Contents, catches_of, Catch, IsFound, is_among, first_lacked, Node, Drawn, IsGraph, IsGraphOf, Tells, AnswerOf, ◌==◌, true≢false, eqb-true}
+use Rattle.camp_questions.proofs.Words.{◌≡◌, ◌<◌, ◌+◌, ◌&&◌, ℕ, Bool, true, false, cond, List, [], ◌∷◌, ◌++◌, map, filter, take, drop, length, get_or, Ok, Err, refl, sym, ap, ◌∙◌, arith, append-nil, drop_more, filter-append, map-append, take_more, Contents, Catch, IsFound, Node, Drawn, IsGraph, IsGraphOf, AnswerOf, ◌==◌, true≢false, eqb-true}
 use Rattle.camp_call.specs.declared.replies.Refusal.{Refusal}
-use Rattle.camp_questions.proofs.Answering.{goes_on, goes_on_with, no_refusal, open_not_refused}
-use Rattle.camp_questions.specs.Answers.{OfPatches, TellsOrWants}
+use Rattle.camp_questions.proofs.Answering.{goes_on, goes_on_with, no_refusal}
+use Rattle.camp_questions.specs.Answers.{OfPatches}
 use Rattle.camp_questions.specs.OpenConflicts.{AreOpen, AreOpenIn}
 use Rattle.camp_questions.specs.Pictures.{IsPictured, Picture, drawn_about, hangs_on, kept_node, part_with, whole_picture, with_needing, with_needing_one, with_needs, with_needs_of}
 
@@ -69,16 +69,6 @@ module _ (state : Contents) (branch : List ℕ) (names : List (List ℕ)) (catch
       let on = goes_on state branch catches (λ c. OfPatches c names (Goes c)) (Err refusal) found.is w in
       let told = goes_on_with catches names (Goes catches) (Err refusal) found.has on in
       no_refusal refusal (drawn_about names (whole_picture told.0 told.1)) (Err refusal) refl told.2
-
-  pub graph_fails : (why : Unanswered) → Tells (IsGraphOf state branch) (Err why) → TellsOrWants (IsPictured state branch names) (Err why)
-  graph_fails (Refused refusal) w =
-      let on = goes_on state branch catches (λ c answer. (graph : Drawn) × (answer ≡ Ok graph) × IsGraph c graph) (Err refusal) found.is w in
-      absurd (no_refusal refusal on.0 (Err refusal) refl on.1)
-  graph_fails Memory w = picture_not_refused
-
-  pub open_fails : (why : Unanswered) → TellsOrWants (AreOpen state branch) (Err why) → TellsOrWants (IsPictured state branch names) (Err why)
-  open_fails (Refused refusal) w = absurd (open_not_refused state branch catches found.is refusal w)
-  open_fails Memory w = picture_not_refused
 
 -- with no patch named the whole is drawn
 pub all_drawn : (names : List (List ℕ)) (whole : Picture) (test : Bool) → test ≡ (length names == 0) → test ≡ true → whole ≡ drawn_about names whole

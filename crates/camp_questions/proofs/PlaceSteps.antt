@@ -1,35 +1,16 @@
 -- How a file with its places is made, one place after the other.
-use Rattle.camp_questions.proofs.Words.{append-nil, arith, length-drop, slice_range, ◌≡◌, ◌<◌, ◌≤◌, ℕ, ◌+◌, ◌-◌, Bool, true, false, cond, List, [], ◌∷◌, ◌++◌, drop, filter, get_or, length, map, take, sym, ap, ◌∙◌, append_assoc, drop_more, map-append, take_more, Lines}
+use Rattle.camp_questions.proofs.Words.{append-nil, arith, length-drop, slice_range, ◌≡◌, ◌<◌, ◌≤◌, ℕ, ◌+◌, ◌-◌, Bool, true, false, cond, List, [], ◌∷◌, ◌++◌, drop, filter, get_or, length, map, take, sym, ap, ◌∙◌, append_assoc, drop_more, map-append, Lines}
 use Rattle.std.proofs.Math.ListN.{drop_of_length-le}
 use Rattle.std.proofs.lemmas.List.{get_or-map, take_all}
 use Rattle.std.proofs.lemmas.List.Elements.{filter_more}
-use Rattle.std.proofs.lemmas.List.Sums.{fold-append}
-use Rattle.std.specs.List.{fold}
 use Rattle.camp_questions.specs.Inside.Placing.{is_within}
-use Rattle.camp_questions.specs.Places.{File, Place, at_place, differs_within, file_from, joined, place_from, range_of, touch, with_marks, with_range}
+use Rattle.camp_questions.specs.Places.{File, Place, at_place, differs_within, file_from, place_from, range_of, with_marks}
 use Rattle.camp_questions.specs.declared.marking.Version.{Version}
 use Rattle.camp_questions.specs.declared.places.Range.{Range}
 
 -- a file with places before its own
 abbrev pub behind_places : List Place → File → File
 behind_places places file = record { places = places ++ file.places; rest = file.rest }
-
--- one more range among the places
-pub one_more_range : (ranges : List Range) (i : ℕ) (range d : Range) (places next : List Range) → i < length ranges → range ≡ get_or ranges i d → places ≡ fold with_range [] (take i ranges) → next ≡ with_range places range → next ≡ fold with_range [] (take (i + 1) ranges)
-one_more_range ranges i range d places next within is was becomes =
-    becomes ∙ (λ t. with_range (was t) (is t)) ∙ sym (fold-append with_range [] (take i ranges) (get_or ranges i d ∷ [])) ∙ ap (fold with_range []) (sym (take_more ranges i d within))
-
--- one more place is joined to a range, where it touches it
-joined_at : (range place : Range) (touched : List Range) (whole : Range) (b : Bool) → whole ≡ fold joined range touched → cond b (joined whole place) whole ≡ fold joined range (touched ++ cond b (place ∷ []) [])
-joined_at range place touched whole true was =
-    ap (λ w. joined w place) was ∙ sym (fold-append joined range touched (place ∷ []))
-joined_at range place touched whole false was = was ∙ sym (fold-append joined range touched [])
-
-pub one_more_joined : (range : Range) (places : List Range) (i : ℕ) (place d whole next : Range) → i < length places → place ≡ get_or places i d → whole ≡ fold joined range (filter (touch range) (take i places)) → next ≡ cond (touch range place) (joined whole place) whole → next ≡ fold joined range (filter (touch range) (take (i + 1) places))
-one_more_joined range places i place d whole next within is was becomes =
-    becomes ∙ joined_at range place (filter (touch range) (take i places)) whole (touch range place) was
-    ∙ (λ t. fold joined range (filter (touch range) (take i places) ++ cond (touch range (is t)) (is t ∷ []) []))
-    ∙ ap (fold joined range) (sym (filter_more (touch range) places i d within))
 
 -- one more version differs within a place, or not
 sides_at : (lines : Lines) (place : Range) (versions : List Version) (version : Version) (sides : List Version) (b : Bool) → sides ≡ map (at_place lines place) versions → cond b (sides ++ at_place lines place version ∷ []) sides ≡ map (at_place lines place) (versions ++ cond b (version ∷ []) [])

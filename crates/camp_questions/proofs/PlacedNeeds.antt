@@ -1,6 +1,7 @@
 -- Direct needs, found by places.
-use Rattle.camp_questions.proofs.Words.{◌≡◌, ◌≢◌, ◌<◌, ◌≤◌, ◌==◌, ℕ, zero, suc, ◌+◌, ◌-◌, Bool, true, false, true≢false, not, ◌&&◌, ◌||◌, cond, inl, inr, ◌⊎◌, List, [], ◌∷◌, ◌++◌, filter, map, length, take, drop, get_or, bytes_eq, append-nil, refl, sym, ap, ◌∙◌, subst, arith, AllByRecursion, list_any, drop_all, drop_more, filter-append, map-append, take_more, name_itself, AreDistinct, goes_between, needs_directly, needs_other, all_append}
-use Rattle.std.proofs.lemmas.Bool.{eq-eqb, eqb-true}
+use Rattle.camp_questions.proofs.Words.{◌≡◌, ◌<◌, ◌≤◌, ◌==◌, ℕ, zero, suc, ◌+◌, ◌-◌, Bool, true, false, not, ◌&&◌, ◌||◌, cond, inl, inr, List, [], ◌∷◌, ◌++◌, filter, map, length, take, drop, get_or, bytes_eq, append-nil, refl, sym, ap, ◌∙◌, subst, and_false, and_true, arith, AllByRecursion, list_any, drop_all, drop_more, filter-append, map-append, take_more, name_itself, AreDistinct, goes_between, needs_directly, needs_other, all_append}
+use Rattle.std.proofs.lemmas.Bool.{cases_eq, cases_order, eq-eqb, ne_eqb}
+use Rattle.std.proofs.lemmas.List.Elements.{All-filter, All-from_recursion, recursion_from_All}
 use Rattle.std.proofs.lemmas.List.{get_or-map, get_or_default, get_or_past, length-map, take_all}
 use Rattle.camp_branch.proofs.Names.{filter_image, other_way}
 use Rattle.camp_questions.specs.Graphs.{Needing}
@@ -8,16 +9,14 @@ use Rattle.camp_questions.specs.declared.graphs.Node.{Node}
 use Rattle.camp_questions.specs.declared.needed.Needed.{Needed}
 use Rattle.camp_questions.specs.Inside.Graphing.{needing}
 use Rattle.camp_questions.specs.Inside.ByPlace.{AreSettled, EndInPlace, name_at, needs_place, node_in, up_to}
-use Rattle.camp_questions.proofs.MarkedNames.{among_marked, apart_places, get_or_within}
-
-filter_again_at : (g : ℕ → Bool) (x : ℕ) (b : Bool) (l : List ℕ) → filter g (cond b (x ∷ l) l) ≡ cond (b && g x) (x ∷ filter g l) (filter g l)
-filter_again_at g x true l = refl
-filter_again_at g x false l = refl
+use Rattle.camp_questions.proofs.MarkedNames.{among_marked, apart_places}
 
 filter_again : (f g : ℕ → Bool) (l : List ℕ) → filter g (filter f l) ≡ filter (λ k. f k && g k) l
 filter_again f g [] = refl
-filter_again f g (n ∷ l) =
-    filter_again_at g n (f n) (filter f l) ∙ ap (λ t. cond (f n && g n) (n ∷ t) t) (filter_again f g l)
+filter_again f g (n ∷ l) = elim (f n) as (λ b. filter g (cond b (n ∷ filter f l) (filter f l)) ≡ cond (b && g n) (n ∷ filter (λ k. f k && g k) l) (filter (λ k. f k && g k) l)) [
+  | true ↦ ap (λ t. cond (g n) (n ∷ t) t) (filter_again f g l)
+  | false ↦ filter_again f g l
+]
 
 -- tests that agree on so many places pass the same of them
 filter_up_to : (f g : ℕ → Bool) (n : ℕ) → ((k : ℕ) → k < n → f k ≡ g k) → filter f (up_to n) ≡ filter g (up_to n)
@@ -58,16 +57,9 @@ all_within_up_to n = each n (omega arith)
     each (suc m) le =
         all_append (λ k. k < n) (up_to m) (m ∷ []) (each m (omega (arith, le))) ((omega (arith, le)), tt)
 
-all_kept : (P : ℕ → Type 0) (f : ℕ → Bool) (l : List ℕ) → AllByRecursion P l → AllByRecursion P (filter f l)
-all_kept P f [] w = tt
-all_kept P f (k ∷ l) w = at (f k) (all_kept P f l w.1)
-  where
-    at : (b : Bool) → AllByRecursion P (filter f l) → AllByRecursion P (cond b (k ∷ filter f l) (filter f l))
-    at true rest = (w.0, rest)
-    at false rest = rest
-
 pub places_within : (f : ℕ → Bool) (n : ℕ) → AllByRecursion (λ k. k < n) (filter f (up_to n))
-places_within f n = all_kept (λ k. k < n) f (up_to n) (all_within_up_to n)
+places_within f n =
+    recursion_from_All (λ k. k < n) (filter f (up_to n)) (All-filter f (λ k. k < n) (up_to n) (All-from_recursion (λ k. k < n) (up_to n) (all_within_up_to n)))
 
 -- the first of the places is the least
 first_joined : (l : List ℕ) (n : ℕ) (b : Bool) → AllByRecursion (λ k. get_or l 0 0 ≤ k) l → AllByRecursion (λ k. k < n) l → AllByRecursion (λ k. get_or (l ++ cond b (n ∷ []) []) 0 0 ≤ k) (l ++ cond b (n ∷ []) [])
@@ -83,10 +75,6 @@ pub first_is_least : (f : ℕ → Bool) (n : ℕ) → AllByRecursion (λ k. get_
 first_is_least f zero = tt
 first_is_least f (suc n) =
     subst (λ l. AllByRecursion (λ k. get_or l 0 0 ≤ k) l) (sym (filter-append f (up_to n) (n ∷ []))) (first_joined (filter f (up_to n)) n (f n) (first_is_least f n) (places_within f n))
-
-and_false : (b : Bool) → (b && false) ≡ false
-and_false true = refl
-and_false false = refl
 
 -- behind the last mark none is needed
 pub none_behind : (marks : List Bool) (at k : ℕ) → length marks ≤ k → needs_place marks at k ≡ false
@@ -119,40 +107,18 @@ ends_before marks at (k ∷ places) first is past least =
 
 -- none from a place on, and none at the one before
 pub none_from : (f : ℕ → Bool) (end count before : ℕ) → end ≡ before + 1 → ((k : ℕ) → end ≤ k → k < count → f k ≡ false) → f before ≡ false → (k : ℕ) → before ≤ k → k < count → f k ≡ false
-none_from f end count before next none here k far less = at (k == before) refl
-  where
-    not_same : (a b : ℕ) → (a == b) ≡ false → a ≢ b
-    not_same a b e same = true≢false (sym (eq-eqb a b same) ∙ e)
-
-    at : (b : Bool) → (k == before) ≡ b → f k ≡ false
-    at true e = ap f (eqb-true k before e) ∙ here
-    at false e = none k (omega (arith, far, next, not_same k before e)) less
+none_from f end count before next none here k far less = elim (cases_eq k before) [
+  | inl same ↦ ap f same ∙ here
+  | inr other ↦ none k (omega (arith, far, next, other)) less
+]
 
 -- one more patch has marks that end in its place
 pub one_ends : (all : List Needed) (i : ℕ) (q : Needed) → i < length all → q ≡ get_or all i q → length q.needs.items ≤ i + 1 → ((k : ℕ) (d : Needed) → k < i → length (get_or all k d).needs.items ≤ k + 1) → (k : ℕ) (d : Needed) → k < i + 1 → length (get_or all k d).needs.items ≤ k + 1
-one_ends all i q within is ends so_far k d less = at (k == i) refl
-  where
-    not_same : (a b : ℕ) → (a == b) ≡ false → a ≢ b
-    not_same a b e same = true≢false (sym (eq-eqb a b same) ∙ e)
-
-    at : (b : Bool) → (k == i) ≡ b → length (get_or all k d).needs.items ≤ k + 1
-    at true e =
-        let same = eqb-true k i e in
-        let long : length (get_or all k d).needs.items ≡ length q.needs.items = ap (λ m. length (get_or all m d).needs.items) same ∙ ap (λ (x : Needed). length x.needs.items) (get_or_default all i d q within ∙ sym is) in
-        omega (arith, long, same, ends)
-    at false e = so_far k d (omega (arith, less, not_same k i e))
-
--- one number is less than another, greater, or the same
-nat_cases : (j k : ℕ) → (j < k) ⊎ ((k < j) ⊎ (j ≡ k))
-nat_cases zero zero = inr (inr refl)
-nat_cases zero (suc k) = inl (omega arith)
-nat_cases (suc j) zero = inr (inl (omega arith))
-nat_cases (suc j) (suc k) = elim (nat_cases j k) [
-  | inl less ↦ inl (omega (arith, less))
-  | inr more ↦ elim more [
-    | inl greater ↦ inr (inl (omega (arith, greater)))
-    | inr same ↦ inr (inr (ap suc same))
-  ]
+one_ends all i q within is ends so_far k d less = elim (cases_eq k i) [
+  | inl same ↦
+      let long : length (get_or all k d).needs.items ≡ length q.needs.items = ap (λ m. length (get_or all m d).needs.items) same ∙ ap (λ (x : Needed). length x.needs.items) (get_or_default all i d q within ∙ sym is) in
+      omega (arith, long, same, ends)
+  | inr other ↦ so_far k d (omega (arith, less, other))
 ]
 
 one_past : (needs between more : Bool) → ((needs && not more) && not between) ≡ (needs && not (between || more))
@@ -162,32 +128,22 @@ one_past true false true = refl
 one_past true false false = refl
 one_past false between more = refl
 
-and_true : (b : Bool) → b ≡ (b && true)
-and_true true = refl
-and_true false = refl
-
-eqb_itself : (n : ℕ) → (n == n) ≡ true
-eqb_itself n = eq-eqb n n refl
-
 module _ (names : List (List ℕ)) (all : List Needed) (named : map (λ (p : Needed). p.name) all ≡ names) (distinct : AreDistinct names) where
   long : length all ≡ length names
   long = sym (length-map all (λ (p : Needed). p.name)) ∙ ap length named
 
   name_of_patch : (at : ℕ) (p d : Needed) → at < length all → p ≡ get_or all at d → p.name ≡ name_at names at
   name_of_patch at p d within is =
-      ap (λ (x : Needed). x.name) is ∙ sym (get_or-map (λ (x : Needed). x.name) all at d d.name within) ∙ ap (λ l. get_or l at d.name) named ∙ get_or_within names at d.name [] (omega (arith, within, long))
+      ap (λ (x : Needed). x.name) is ∙ sym (get_or-map (λ (x : Needed). x.name) all at d d.name within) ∙ ap (λ l. get_or l at d.name) named ∙ get_or_default names at d.name [] (omega (arith, within, long))
 
   same_place : (k at : ℕ) → k < length names → at < length names → bytes_eq (name_at names k) (name_at names at) ≡ (k == at)
-  same_place k at less within = elim (k == at) as (λ b. (k == at) ≡ b → bytes_eq (name_at names k) (name_at names at) ≡ b) [
-    | true ↦ λ e. ap (λ m. bytes_eq (name_at names m) (name_at names at)) (eqb-true k at e) ∙ name_itself (name_at names at)
-    | false ↦ λ e. elim (nat_cases k at) [
-      | inl less_first ↦ apart_places names k at [] distinct less_first within
-      | inr more ↦ elim more [
-        | inl more_than ↦ other_way (name_at names at) (name_at names k) (apart_places names at k [] distinct more_than less)
-        | inr same ↦ absurd (true≢false (sym (ap (λ m. m == at) same ∙ eqb_itself at) ∙ e))
-      ]
+  same_place k at less within = elim (cases_order k at) [
+    | inl same ↦ ap (λ m. bytes_eq (name_at names m) (name_at names at)) same ∙ name_itself (name_at names at) ∙ sym (eq-eqb k at same)
+    | inr other ↦ elim other [
+      | inl before ↦ apart_places names k at [] distinct before within ∙ sym (ne_eqb k at (λ e. omega (arith, before, e)))
+      | inr behind ↦ other_way (name_at names at) (name_at names k) (apart_places names at k [] distinct behind less) ∙ sym (ne_eqb k at (λ e. omega (arith, behind, e)))
     ]
-  ] refl
+  ]
 
   -- whether one needs another, by names and by places
   pub needs_by_place : (at k : ℕ) (p d : Needed) → at < length all → p ≡ get_or all at d → k < length names → needs_other (needing names p) (name_at names k) ≡ needs_place p.needs.items at k
@@ -203,7 +159,7 @@ module _ (names : List (List ℕ)) (all : List Needed) (named : map (λ (p : Nee
     pub starts_past : (places : List ℕ) (left : ℕ) → left ≡ length all → places ≡ filter (needs_place p.needs.items at) (up_to (length all)) → places ≡ filter (past (drop left all)) (up_to (length names))
     starts_past places left whole are =
         are ∙ ap (λ n. filter (needs_place p.needs.items at) (up_to n)) long
-        ∙ filter_up_to (needs_place p.needs.items at) (past []) (length names) (λ k less. sym (needs_by_place at k p d within is less) ∙ and_true (needs_other (needing names p) (name_at names k)))
+        ∙ filter_up_to (needs_place p.needs.items at) (past []) (length names) (λ k less. sym (needs_by_place at k p d within is less) ∙ sym (and_true (needs_other (needing names p) (name_at names k))))
         ∙ ap (λ l. filter (past l) (up_to (length names))) (sym (drop_all left all (omega (arith, whole))))
 
     module _ (places : List ℕ) (left i : ℕ) (q e : Needed) (one : left ≡ i + 1) (inside : i < length all) (there : q ≡ get_or all i e) (so_far : places ≡ filter (past (drop left all)) (up_to (length names))) where
@@ -290,16 +246,3 @@ pub one_node : (draw : Needing → Node) (needing_of : Needed → Needing) (all 
 one_node draw needing_of all i p d nodes next node within is so_far drawn becomes =
     let more : take (i + 1) all ≡ take i all ++ p ∷ [] = take_more all i d within ∙ ap (λ x. take i all ++ x ∷ []) (sym is) in
     becomes ∙ (λ k. so_far k ++ drawn k ∷ []) ∙ sym (ap (λ l. map draw (map needing_of l)) more ∙ ap (map draw) (map-append needing_of (take i all) (p ∷ [])) ∙ map-append draw (map needing_of (take i all)) (needing_of p ∷ []))
-
--- one more name is told
-pub one_name : (names chosen next : List (List ℕ)) (places : List ℕ) (i p d : ℕ) (n : List ℕ) → i < length places → p ≡ get_or places i d → chosen ≡ map (name_at names) (take i places) → n ≡ name_at names p → next ≡ chosen ++ n ∷ [] → next ≡ map (name_at names) (take (i + 1) places)
-one_name names chosen next places i p d n within is so_far called becomes =
-    let more : take (i + 1) places ≡ take i places ++ p ∷ [] = take_more places i d within ∙ ap (λ x. take i places ++ x ∷ []) (sym is) in
-    becomes ∙ (λ k. so_far k ++ called k ∷ []) ∙ sym (ap (map (name_at names)) more ∙ map-append (name_at names) (take i places) (p ∷ []))
-
--- what holds of all places holds of the one at an index
-pub at_index : (P : ℕ → Type 0) (places : List ℕ) (i p d : ℕ) → AllByRecursion P places → i < length places → p ≡ get_or places i d → P p
-at_index P [] i p d all within is = absurd (omega (arith, within))
-at_index P (q ∷ places) zero p d all within is = subst P (sym is) all.0
-at_index P (q ∷ places) (suc i) p d all within is =
-    at_index P places i p d all.1 (omega (arith, within)) is

@@ -1,17 +1,17 @@
 -- What a patch needs is reached from it along the arrows of the graph, where all catches are plain and have room.
-use Rattle.camp_questions.proofs.Words.{◌≡◌, ◌<◌, ◌≤◌, ℕ, zero, suc, ◌+◌, Bool, true, false, true≢false, not, ◌||◌, cond, List, [], ◌∷◌, map, bytes_eq, None, Some, refl, sym, ap, ◌∙◌, subst, arith, ◌↔◌, Contains, AllByRecursion, list_any, Catch, name_itself, same_name, among_once, first_lacked, Needs, Drawn, IsGraph, Needing, NeedsThese, goes_between, needs_other, node_of, Node, AreAmong, Arrow, IsPlain, IsReached, NeedsAreReached, NeedsDirectly, NeedsPatch, itself, along, IsLawfulBranch, has_patch, is_among, name_of, names_of}
-use Rattle.camp_questions.proofs.Arrows.{and_true, arrow_is_need, arrows_are_direct_needs, both, is_there, known_needs, needs_known, one_needed, one_passes}
+use Rattle.camp_questions.proofs.Words.{inl, inr, and_from, and_parts, ◌≡◌, ◌<◌, ◌≤◌, ℕ, zero, suc, ◌+◌, Bool, true, false, true≢false, not, ◌||◌, cond, List, [], ◌∷◌, map, bytes_eq, None, Some, refl, sym, ap, ◌∙◌, subst, arith, ◌↔◌, Contains, AllByRecursion, list_any, Catch, name_itself, same_name, among_once, first_lacked, Needs, Drawn, IsGraph, Needing, NeedsThese, goes_between, needs_other, node_of, Node, AreAmong, Arrow, IsPlain, IsReached, NeedsAreReached, NeedsDirectly, NeedsPatch, itself, along, IsLawfulBranch, has_patch, is_among, name_of, names_of}
+use Rattle.camp_questions.proofs.Arrows.{arrow_is_need, arrows_are_direct_needs, is_there, known_needs, needs_known, one_needed, one_passes}
 use Rattle.camp_questions.proofs.BranchGrowths.{needs_are_determined, needs_come_first}
+use Rattle.camp_questions.proofs.Growths.{among_cases}
 use Rattle.camp_questions.proofs.LeastNeeds.{needs_are_least}
 use Rattle.camp_questions.proofs.PatchFronts.{earlier, ends, place_of, up_to, up_to_come}
 
 -- one name alone, among others that have it
 pub alone_among : (name : List ℕ) (others : List (List ℕ)) → is_among others name ≡ true → AreAmong (name ∷ []) others
-alone_among name others has n there = at (bytes_eq n name) refl there
-  where
-    at : (b : Bool) → bytes_eq n name ≡ b → (b || false) ≡ true → is_among others n ≡ true
-    at true e w = ap (is_among others) (same_name n name e) ∙ has
-    at false e w = cc
+alone_among name others has n there = elim (among_cases name [] n there) [
+  | inl e ↦ ap (is_among others) e ∙ has
+  | inr e ↦ absurd (true≢false (sym e))
+]
 
 pub reached_through : {graph : Drawn} {a b c : List ℕ} → IsReached graph a b → IsReached graph b c → IsReached graph a c
 reached_through itself w = w
@@ -27,20 +27,16 @@ module _ (P : Node → Type 0) where
   abbrev Found : List Node → List ℕ → Type 0
   Found nodes name = (node : Node) × Contains nodes node × (node.name ≡ name) × P node
 
-  found_at : (n : Node) (nodes : List Node) (name : List ℕ) (b : Bool) → bytes_eq name n.name ≡ b → P n → (b || is_among (map (λ (n : Node). n.name) nodes) name) ≡ true → (is_among (map (λ (n : Node). n.name) nodes) name ≡ true → Found nodes name) → Found (n ∷ nodes) name
-  found_at n nodes name true e fact there later =
-      (n, (zero, (omega arith), refl), sym (same_name name n.name e), fact)
-  found_at n nodes name false e fact there later =
-      let rest = later there in
-      let stands = rest.1 in
-      let within = stands.1 in
-      (rest.0, (suc stands.0, (omega arith), stands.2), rest.2, rest.3)
-
   -- one of the nodes has the name
   find : (nodes : List Node) (name : List ℕ) → AllByRecursion P nodes → is_among (map (λ (n : Node). n.name) nodes) name ≡ true → Found nodes name
   find [] name all there = absurd (true≢false (sym there))
-  find (n ∷ nodes) name all there =
-      found_at n nodes name (bytes_eq name n.name) refl all.0 there (find nodes name all.1)
+  find (n ∷ nodes) name all there = elim (among_cases n.name (map (λ (n : Node). n.name) nodes) name there) [
+    | inl e ↦ (n, (zero, (omega arith), refl), sym e, all.0)
+    | inr e ↦
+        let rest = find nodes name all.1 e in
+        let within = rest.1.1 in
+        (rest.0, (suc rest.1.0, (omega arith), rest.1.2), rest.2, rest.3)
+  ]
 
 pub names_of_nodes : (branch : List Catch) (all list : List Needing) → map (λ (n : Node). n.name) (map (node_of branch all) list) ≡ map (λ (p : Needing). p.name) list
 names_of_nodes branch all [] = refl
@@ -105,7 +101,7 @@ module _ (branch : List Catch) (graph : Drawn) (plain : IsPlain branch) (is : Is
         elim (list_any (goes_between patch other) is.all) as (λ b. list_any (goes_between patch other) is.all ≡ b → IsReached graph name other) [
           | true ↦ λ e.
               let one = one_passes branch (goes_between patch other) is.all is.needs e in
-              let parts = both (needs_other patch one.0.name) (needs_other one.0 other) one.2 in
+              let parts = and_parts (needs_other patch one.0.name) (needs_other one.0 other) one.2 in
               let first = known_needs branch patch these one.0.name parts.0 in
               let second = known_needs branch one.0 one.1 other parts.1 in
               let there_too = is_there branch name one.0.name first in
@@ -114,7 +110,7 @@ module _ (branch : List Catch) (graph : Drawn) (plain : IsPlain branch) (is : Is
               reached_through (need_is_reached n name one.0.name there first (omega (less, lesser, far, arith))) (need_is_reached n one.0.name other there_too second (omega (less, lesser, far, arith)))
           | false ↦ λ e.
               let known = needs_known branch patch these other needs in
-              let direct = arrow_is_need branch is.all is.names is.needs patch these other (and_true (needs_other patch other) (not (list_any (goes_between patch other) is.all)) known (ap not e)) in
+              let direct = arrow_is_need branch is.all is.names is.needs patch these other (and_from (needs_other patch other) (not (list_any (goes_between patch other) is.all)) known (ap not e)) in
               along (arrow_of name other there direct) itself
         ] refl
 

@@ -1,7 +1,9 @@
 -- What a patch needs, found by a walk back from it over the patches taken back.
-use Rattle.camp_questions.proofs.Words.{◌≡◌, ◌<◌, ◌≤◌, ◌⊎◌, ℕ, zero, suc, ◌+◌, ◌-◌, Bool, true, false, not, ◌&&◌, ◌||◌, cond, List, [], ◌∷◌, ◌++◌, bytes_eq, map, length, take, drop, get_or, replicate, None, Some, refl, sym, ap, ◌∙◌, subst, inl, inr, arith, AllByRecursion, append_assoc, length-append, length-replicate, take-append-drop, Catch, ArrangesBehind, has_patch, is_among, is_among_is, name_of, names_of, all_append, name_itself, among_others, other_names, among_once, AreHeldIn, ComeToFront, CanGo, AreAmong, IsPlain, NeedsThese}
+use Rattle.camp_questions.proofs.Words.{◌≡◌, ◌<◌, ◌≤◌, ℕ, zero, suc, ◌+◌, ◌-◌, Bool, true, false, not, ◌&&◌, ◌||◌, cond, List, [], ◌∷◌, ◌++◌, bytes_eq, map, length, take, drop, get_or, replicate, None, Some, refl, sym, ap, ◌∙◌, subst, inl, inr, arith, AllByRecursion, append_assoc, length-replicate, take-append-drop, Catch, ArrangesBehind, has_patch, is_among, is_among_is, name_of, names_of, all_append, name_itself, or_cases, or_none, or_true, among_others, other_names, among_once, AreHeldIn, ComeToFront, CanGo, AreAmong, IsPlain, NeedsThese}
 use Rattle.std.proofs.Common.{set}
-use Rattle.std.proofs.lemmas.List.{get_or-map, get_or-reverse, get_or-set_same, get_or_past, length-map, length-set, reverse-append, take_all}
+use Rattle.std.proofs.lemmas.Bool.{cases_lt}
+use Rattle.std.proofs.lemmas.List.Elements.{All-from_recursion, All-get_or}
+use Rattle.std.proofs.lemmas.List.{get_or-take, get_or-map, get_or-reverse, get_or-set_same, get_or_append_left, get_or_default, get_or_past, get_or_push, length-map, length-reverse, length-set, length_push, take_all}
 use Rattle.std.specs.Prelude.{reverse}
 use Rattle.camp_seq.specs.Running.{inverse_all}
 use Rattle.camp_questions.specs.declared.fast.patch_catches.PatchCatches.{PatchCatches}
@@ -13,33 +15,21 @@ use Rattle.camp_questions.proofs.GraphSteps.{AreNeeded, all_needed, none_needed,
 use Rattle.camp_questions.specs.Inside.Graphing.{AreKnown, AreMarkedBelow, AreReached, IsInverted, NeedEach, marked, marked_in_both, needing}
 use Rattle.camp_questions.specs.Inside.StandingAside.{ComeBeforeAll, StickBehind}
 use Rattle.camp_questions.proofs.BranchGrowths.{needs_are_determined, needs_come_first}
+use Rattle.camp_questions.proofs.Growths.{both_ways}
 use Rattle.camp_questions.proofs.LeastHeld.{held_within}
 use Rattle.camp_questions.proofs.LeastNeeds.{needs_are_least}
-use Rattle.camp_questions.proofs.MarkedNames.{among_both_marked, among_marked, apart_places, both_long, get_or_within, mark_at, mark_in_both, one_marked, there}
+use Rattle.camp_questions.proofs.MarkedNames.{among_both_marked, among_marked, apart_places, both_long, mark_at, mark_in_both, one_marked, there}
 use Rattle.camp_branch.proofs.Names.{other_way}
 use Rattle.camp_questions.proofs.PartsArranged.{left_apart}
-use Rattle.camp_questions.proofs.PatchFronts.{all_are, both_are}
+use Rattle.camp_questions.proofs.PatchFronts.{all_are, all_before, all_behind, both_are}
 use Rattle.camp_questions.proofs.PatchesBack.{reversed}
 use Rattle.camp_questions.proofs.ReachedNeeds.{alone_among}
-use Rattle.camp_questions.proofs.TakenBack.{both_ways, come_back, go_back}
-use Rattle.camp_questions.proofs.WalkedPatches.{HeldAlike, IsWalked, all_before, all_behind, all_there, can_go_then, held_here, one_more_done, own_at, patches_parted, there_of, walked_alike, walked_aside, walked_on}
+use Rattle.camp_questions.proofs.TakenBack.{come_back, go_back}
+use Rattle.camp_questions.proofs.WalkedPatches.{HeldAlike, IsWalked, all_there, can_go_then, held_here, one_more_done, own_at, patches_parted, there_of, walked_alike, walked_aside, walked_on}
 
 -- of patches from the last back to a place, those before the place are still to be walked over
 abbrev pub walked_from : List PatchCatches → ℕ → List Catch
 walked_from patches place = catches_in_order (take (length patches - place) (reverse patches))
-
-length-reverse : {X : Type 0} (xs : List X) → length (reverse xs) ≡ length xs
-length-reverse [] = refl
-length-reverse (x ∷ xs) =
-    let whole : length (reverse (x ∷ xs)) ≡ length (reverse xs ++ x ∷ []) = ap length (reverse-append (x ∷ []) xs) in
-    whole ∙ length_push (reverse xs) x ∙ ap (λ n. n + 1) (length-reverse xs) ∙ one_more_of (length xs)
-  where
-    one_more_of : (n : ℕ) → n + 1 ≡ suc n
-    one_more_of n = omega arith
-
-    length_push : {X : Type 0} (ys : List X) (y : X) → length (ys ++ y ∷ []) ≡ length ys + 1
-    length_push [] y = refl
-    length_push (z ∷ ys) y = let rest = length_push ys y in omega (arith, rest)
 
 module _ (patches : List PatchCatches) (are : ArePatches patches) where
   abbrev all : List Catch
@@ -107,11 +97,7 @@ module _ (patches : List PatchCatches) (are : ArePatches patches) where
   from_end : (n : ℕ) → length patches ≡ n → walked_from patches n ≡ []
   from_end n long =
       let none : length patches - n ≡ 0 = omega (arith, long) in
-      ap (λ k. catches_in_order (take k (reverse patches))) none ∙ ap catches_in_order (take_none (reverse patches))
-    where
-      take_none : (l : List PatchCatches) → take 0 l ≡ []
-      take_none [] = refl
-      take_none (x ∷ l) = refl
+      ap (λ k. catches_in_order (take k (reverse patches))) none
 
   -- from the first place on, all have been walked over
   pub whole_walk : walked_from patches 0 ≡ all
@@ -139,7 +125,7 @@ module _ (patches : List PatchCatches) (are : ArePatches patches) where
       let called : p.name ≡ get_or own place d.name = ap (λ (x : PatchCatches). x.name) is ∙ sym (get_or-map (λ (x : PatchCatches). x.name) patches place d d.name within) in
       let long : length own ≡ length patches = length-map patches (λ (x : PatchCatches). x.name) in
       let others : AreApart p.name (walked_from patches (place + 1)) = each_walked (λ n. bytes_eq n p.name ≡ false) (length patches - (place + 1)) (place + 1) d (omega (arith, within)) (λ r n le less.
-      ap (bytes_eq (get_or own r n)) called ∙ other_way (get_or own place d.name) (get_or own r n) (ap (λ m. bytes_eq m (get_or own r n)) (get_or_within own place d.name n (omega (arith, within, long))) ∙ apart_places own place r n are.distinct (omega (arith, le)) (omega (arith, less, long)))) in
+      ap (bytes_eq (get_or own r n)) called ∙ other_way (get_or own place d.name) (get_or own r n) (ap (λ m. bytes_eq m (get_or own r n)) (get_or_default own place d.name n (omega (arith, within, long))) ∙ apart_places own place r n are.distinct (omega (arith, le)) (omega (arith, less, long)))) in
       left_apart p.name (other_names all held) (walked_from patches (place + 1)) walked.first going walked.arranged others
 
   -- they are catches of the list
@@ -233,18 +219,6 @@ module _ (branch : List Catch) (patches : List PatchCatches) (inverted : IsInver
   needs_within p marks these others has come x there =
       needs_are_least branch (p ∷ []) these.0 others plain these.1 (alone_among p others has) come x (sym (these.2 x) ∙ there)
 
-  or_cases_of : (a b : Bool) → (a || b) ≡ true → (a ≡ true) ⊎ (b ≡ true)
-  or_cases_of true b e = inl refl
-  or_cases_of false b e = inr e
-
-  or_true_last : (b : Bool) → (b || true) ≡ true
-  or_true_last true = refl
-  or_true_last false = refl
-
-  or_false_last : (b : Bool) → (b || false) ≡ b
-  or_false_last true = refl
-  or_false_last false = refl
-
   -- it goes, and what it needs is marked
   pub reaches_stuck : (marks row : List Bool) (place : ℕ) (p d : PatchCatches) (going : List Catch) → place < from → p ≡ get_or patches place d → ReachesTo branch patches from marks (place + 1) going → mark_at marks place ≡ false → StickBehind p.name going p.catches.items → length row ≡ place + 1 → NeedsThese branch (record { name = p.name; needs = marked names row }) → is_among (names_of branch) p.name ≡ true → ReachesTo branch patches from (marked_in_both marks row) place (going ++ p.catches.items)
   reaches_stuck marks row place p d going before is so_far free stuck row_long these own_patch =
@@ -257,14 +231,14 @@ module _ (branch : List Catch) (patches : List PatchCatches) (inverted : IsInver
       let needed = needs_come_first branch (p.name ∷ []) these.0 (ap (λ b. cond b None (Some p.name)) has) these.1 in
       let own_mark : is_among (marked names row) p.name ≡ true = these.2 p.name ∙ needed.1.has p.name (ap (λ b. b || false) (name_itself p.name)) in
       let alike : HeldAlike back held next (walked_from patches (place + 1)) = both_are (λ k there same. (there, same)) (walked_from patches (place + 1)) (walked_there patches inverted.are (place + 1)) (each_walked patches inverted.are (λ n. is_among next n ≡ is_among held n) (length patches - (place + 1)) (place + 1) d (omega (arith, within)) (λ r n le less.
-      both (get_or names r n) ∙ ap (λ b. is_among held (get_or names r n) || b) (among_marked names row r n inverted.are.distinct (omega (arith, less, names_long)) ∙ get_or_past row r false (omega (arith, row_long, le))) ∙ or_false_last (is_among held (get_or names r n)))) in
+      both (get_or names r n) ∙ ap (λ b. is_among held (get_or names r n) || b) (among_marked names row r n inverted.are.distinct (omega (arith, less, names_long)) ∙ get_or_past row r false (omega (arith, row_long, le))) ∙ or_none (is_among held (get_or names r n)))) in
       let now = walked_alike back held next (walked_from patches (place + 1)) going alike so_far.walked in
       record {
         long = both_long marks row ∙ so_far.long;
-        walked = back_on patches inverted.are next place p d going within is now (both p.name ∙ ap (λ b. is_among held p.name || b) own_mark ∙ or_true_last (is_among held p.name));
+        walked = back_on patches inverted.are next place p d going within is now (both p.name ∙ ap (λ b. is_among held p.name || b) own_mark ∙ or_true (is_among held p.name) true refl);
         least = λ others n among come x there.
             let sticks = sticks_within marks place p d going within is so_far free stuck others n among come in
-            elim (or_cases_of (is_among held x) (is_among (marked names row) x) (sym (both x) ∙ there)) [
+            elim (or_cases (is_among held x) (is_among (marked names row) x) (sym (both x) ∙ there)) [
               | inl e ↦ so_far.least others n among come x e
               | inr e ↦ needs_within p.name row these others sticks come x e
             ];
@@ -305,7 +279,7 @@ module _ (branch : List Catch) (patches : List PatchCatches) (inverted : IsInver
         long = long;
         walked = subst (λ l. IsWalked back held (walked_from patches from) l) (sym goes) on;
         least = λ others n has come x there.
-            let same : get_or names from n ≡ p.name = get_or_within names from n d.name (omega (arith, inside, names_long)) ∙ get_or-map (λ (x : PatchCatches). x.name) patches from d d.name inside ∙ ap (λ (x : PatchCatches). x.name) (sym is) in
+            let same : get_or names from n ≡ p.name = get_or_default names from n d.name (omega (arith, inside, names_long)) ∙ get_or-map (λ (x : PatchCatches). x.name) patches from d d.name inside ∙ ap (λ (x : PatchCatches). x.name) (sym is) in
             alone_among p.name others (ap (is_among others) (sym same) ∙ has) x (ap (λ l. is_among l x) (sym alone) ∙ there);
         itself = mine;
       }
@@ -354,25 +328,6 @@ pub record AreKnownSoFar (branch : List Catch) (names : List (List ℕ)) (count 
   pub known : AreKnown branch names all
   pub needed : AreNeeded branch names (take count names) all
 
-get_or_first : (all : List Needed) (one d : Needed) (k : ℕ) → k < length all → get_or (all ++ one ∷ []) k d ≡ get_or all k d
-get_or_first [] one d k within = absurd (omega (arith, within))
-get_or_first (p ∷ all) one d zero within = refl
-get_or_first (p ∷ all) one d (suc k) within = get_or_first all one d k (omega (arith, within))
-
-get_or_last : (all : List Needed) (one d : Needed) (k : ℕ) → k ≡ length all → get_or (all ++ one ∷ []) k d ≡ one
-get_or_last [] one d zero at = refl
-get_or_last [] one d (suc k) at = absurd (omega (arith, at))
-get_or_last (p ∷ all) one d zero at = absurd (omega (arith, at))
-get_or_last (p ∷ all) one d (suc k) at = get_or_last all one d k (omega (arith, at))
-
-first_or_last : (k n : ℕ) → k < n + 1 → (k < n) ⊎ (k ≡ n)
-first_or_last k zero less = inr (omega (arith, less))
-first_or_last zero (suc n) less = inl (omega arith)
-first_or_last (suc k) (suc n) less = elim (first_or_last k n (omega (arith, less))) [
-  | inl w ↦ inl (omega (arith, w))
-  | inr w ↦ inr (ap suc w)
-]
-
 pub none_known : (branch : List Catch) (names : List (List ℕ)) (all : List Needed) → all ≡ [] → AreKnownSoFar branch names 0 all
 none_known branch names all none = rw none (record {
   known = record { named = λ k d n within. absurd (omega (arith, within)); needs = λ k d within. absurd (omega (arith, within)); long = λ k d within. absurd (omega (arith, within)) };
@@ -382,28 +337,23 @@ none_known branch names all none = rw none (record {
 -- one more
 pub one_known : (branch : List Catch) (names : List (List ℕ)) (count : ℕ) (all next : List Needed) (one : Needed) → length all ≡ count → count < length names → AreKnownSoFar branch names count all → one.name ≡ get_or names count one.name → AreReached branch names count one.needs.items → next ≡ all ++ one ∷ [] → AreKnownSoFar branch names (count + 1) next
 one_known branch names count all next one long within so_far called reached becomes =
-    let many : length next ≡ count + 1 = ap length becomes ∙ length_one all one ∙ ap (λ n. n + 1) long in
+    let many : length next ≡ count + 1 = ap length becomes ∙ length_push all one ∙ ap (λ n. n + 1) long in
     let needs : NeedsThese branch (needing names one) = subst (λ n. NeedsThese branch (record { name = n; needs = marked names one.needs.items })) (sym called) (reached.needs one.name) in
+    let needed = one_needed branch names names count one.name one.name all next one within called so_far.needed needs refl becomes in
+    let P : Needed → Type 0 = λ patch. NeedsThese branch (needing names patch) in
     record {
       known = record {
-        named = λ k d n less. elim (first_or_last k count (omega (arith, less, many))) [
-          | inl w ↦ ap (λ l. (get_or l k d).name) becomes ∙ ap (λ (p : Needed). p.name) (get_or_first all one d k (omega (arith, w, long))) ∙ so_far.known.named k d n (omega (arith, w, long))
-          | inr w ↦ ap (λ l. (get_or l k d).name) becomes ∙ ap (λ (p : Needed). p.name) (get_or_last all one d k (w ∙ sym long)) ∙ called ∙ get_or_within names count one.name n within ∙ ap (λ m. get_or names m n) (sym w)
-        ];
-        needs = λ k d less. elim (first_or_last k count (omega (arith, less, many))) [
-          | inl w ↦ subst (λ p. NeedsThese branch (needing names p)) (sym (ap (λ l. get_or l k d) becomes ∙ get_or_first all one d k (omega (arith, w, long)))) (so_far.known.needs k d (omega (arith, w, long)))
-          | inr w ↦ subst (λ p. NeedsThese branch (needing names p)) (sym (ap (λ l. get_or l k d) becomes ∙ get_or_last all one d k (w ∙ sym long))) needs
-        ];
-        long = λ k d less. elim (first_or_last k count (omega (arith, less, many))) [
-          | inl w ↦ ap (λ l. length (get_or l k d).needs.items) becomes ∙ ap (λ (p : Needed). length p.needs.items) (get_or_first all one d k (omega (arith, w, long))) ∙ so_far.known.long k d (omega (arith, w, long))
-          | inr w ↦ ap (λ l. length (get_or l k d).needs.items) becomes ∙ ap (λ (p : Needed). length p.needs.items) (get_or_last all one d k (w ∙ sym long)) ∙ reached.long ∙ ap (λ m. m + 1) (sym w)
+        named = λ k d n less. sym (get_or-map (λ (p : Needed). p.name) next k d d.name less) ∙ ap (λ l. get_or l k d.name) needed.names_are ∙ get_or-take (count + 1) names k d.name (omega (arith, less, many)) ∙ get_or_default names k d.name n (omega (arith, less, many, within));
+        needs = λ k d less. All-get_or P next k d less (All-from_recursion P next needed.needs);
+        long = λ k d less. elim (cases_lt k count) [
+          | inl w ↦ ap (λ l. length (get_or l k d).needs.items) becomes ∙ ap (λ (p : Needed). length p.needs.items) (get_or_append_left all (one ∷ []) d k (omega (arith, w, long))) ∙ so_far.known.long k d (omega (arith, w, long))
+          | inr w ↦
+              let last : k ≡ count = omega (arith, w, less, many) in
+              ap (λ l. length (get_or l k d).needs.items) becomes ∙ ap (λ (p : Needed). length p.needs.items) (get_or_push all one d k (long ∙ sym last)) ∙ reached.long ∙ ap (λ m. m + 1) (sym last)
         ];
       };
-      needed = one_needed branch names names count one.name one.name all next one within called so_far.needed needs refl becomes;
+      needed = needed;
     }
-  where
-    length_one : (xs : List Needed) (x : Needed) → length (xs ++ x ∷ []) ≡ length xs + 1
-    length_one xs x = length-append xs (x ∷ [])
 
 pub all_known : (branch : List Catch) (names : List (List ℕ)) (count : ℕ) (all : List Needed) → length names ≤ count → AreKnownSoFar branch names count all → NeedEach branch names all
 all_known branch names count all past so_far =

@@ -95,11 +95,6 @@ conflictor_told undone k was seen i n keyed counted past all key =
     let whole : take i (members_of k.conflicts) ≡ members_of k.conflicts = take_all i (members_of k.conflicts) (omega arith) in
     subst (λ o. SeenToo undone (get was key) o (get seen key)) (ap (λ o. cond (eq_by_cmp key_cmp key (context_key k.identity)) (Some k.identity) o) (ap (first_with key) whole ∙ members_tell k.conflicts keyed key)) (all key)
 
--- a catch that tells nothing leaves what is seen
-pub seen_stays : (undone : List Named) (was : Option ContextedPatch) → SeenToo undone was None was
-seen_stays undone None = refl
-seen_stays undone (Some x) = refl
-
 -- at first nothing is seen
 pub none_seen : AreSeen [] empty
 none_seen key = subst (λ o. MatchOption o (TellNothing [] key) (IsSeen [] key)) (sym (get-empty key_cmp key)) tt

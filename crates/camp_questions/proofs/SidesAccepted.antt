@@ -1,12 +1,11 @@
 -- A record of the changes of a side is accepted, unless it is too large.
-use Rattle.camp_questions.proofs.Words.{◌≡◌, ◌⊎◌, ℕ, Bool, true, false, cond, List, [], ◌∷◌, ◌++◌, Result, Ok, Err, Some, None, Option, refl, sym, ap, ◌∙◌, subst, inl, inr, Files, Applies, Primitive, Named, Catch, LeadsTo, recorded, Contents, catches_of, stands, step, with_catches, after, Has, Next}
+use Rattle.camp_questions.proofs.Words.{◌≡◌, ◌⊎◌, ℕ, Bool, true, false, cond, List, [], ◌∷◌, ◌++◌, Result, Ok, Err, refl, sym, ap, ◌∙◌, inl, inr, Files, Primitive, Catch, LeadsTo, recorded, Contents, stands, step, with_catches, after, Has, Next}
 use Rattle.std.specs.Option.{option_map_or}
 use Rattle.camp_branch.specs.Laws.{AppliesEach}
 use Rattle.camp_call.specs.declared.calls.Call.TheVariants as call
 use Rattle.camp_call.specs.declared.replies.Refusal.{Refusal}
 use Rattle.camp_call.specs.declared.replies.Refusal.TheVariants.{DoesNotApply, NoBranch, PatchExists, TooLarge}
 use Rattle.camp_prim.proofs.Applied.{applied-from_Applies}
-use Rattle.camp_prim.specs.Applied.{applied}
 use Rattle.camp_prim.specs.Swaps.{path_of}
 use Rattle.camp_repo.proofs.TreeSteps.{tree_found}
 use Rattle.camp_repo.proofs.StepsLawful.{trees_answered}
@@ -15,7 +14,6 @@ use Rattle.camp_repo.specs.Steps.{Decision, changed, has_long_file, is_too_large
 use Rattle.camp_questions.proofs.SidesApply.{sides_apply}
 use Rattle.camp_questions.specs.Laws.{KeepFilesShort, SidesAreAccepted}
 use Rattle.camp_questions.specs.Showing.{changes_in}
-use Rattle.camp_questions.specs.Sides.{IsSideIn}
 
 -- changes that apply lead to their tree, where no file gets too long
 short_leads : (changes : List Primitive) (old new : Files) → AppliesEach changes old new → KeepFilesShort changes old → changed changes old ≡ Ok new

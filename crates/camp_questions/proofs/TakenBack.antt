@@ -7,9 +7,9 @@ use Rattle.camp_seq.specs.Running.{inverse_all}
 use Rattle.camp_catch.specs.declared.catches.Catch.TheVariants.{Plain}
 use Rattle.camp_questions.proofs.PlainGoing.{AreEither, IsEither, comes_taken_back}
 use Rattle.camp_questions.specs.Inside.Growing.{GrowsToFront, GrowsToGo}
-use Rattle.camp_questions.proofs.BranchGrowths.{to_front, to_go}
-use Rattle.camp_questions.proofs.Growths.{all_done, all_within, among_first, are_added}
-use Rattle.camp_questions.proofs.LeastHeld.{can_go, held_within, others_come, stays, stays_by}
+use Rattle.camp_questions.proofs.BranchGrowths.{stays, to_front, to_go}
+use Rattle.camp_questions.proofs.Growths.{all_done, all_within, among_first, are_added, both_ways}
+use Rattle.camp_questions.proofs.LeastHeld.{can_go, held_within, others_come, stays_by}
 use Rattle.camp_questions.proofs.LeastNeeds.{stops_within}
 use Rattle.camp_questions.proofs.PatchFronts.{at_first}
 
@@ -27,10 +27,8 @@ own_primitives (p ∷ list) =
     (at_first p.name (map name_of (map Plain list)) p.name refl, all_own (λ q there. or_true (bytes_eq q.name p.name) (has_patch (map Plain list) q.name) there) list (own_primitives list))
 
 either_first : (a b : Bool) → (b || a) ≡ (a || (b || false))
-either_first true true = refl
-either_first true false = refl
-either_first false true = refl
-either_first false false = refl
+either_first true b = or_true b true refl
+either_first false b = refl
 
 -- a list and the list taken back are of the same patches
 same_names : (list : List Named) (n : List ℕ) → has_patch (map Plain list) n ≡ has_patch (map Plain (inverse_all list)) n
@@ -80,11 +78,6 @@ go_back forth names come =
     let back : List Catch = map Plain (inverse_all forth) in
     let own = all_own (λ p has. sym (same_names forth p.name) ∙ has) forth (own_primitives forth) in
     can_go back names (comes_taken_back (other_names back names) names forth (all_stay_or_go back names forth own) come.0 come.1 come.2)
-
-pub both_ways : (a b : Bool) → (a ≡ true → b ≡ true) → (b ≡ true → a ≡ true) → a ≡ b
-both_ways true b to back = sym (to refl)
-both_ways false true to back = back refl
-both_ways false false to back = refl
 
 -- what names hold in the list taken back, they need in the list
 pub needed_as_held : (forth : List Named) (names grown : List (List ℕ)) → HasRoom forth → HasRoom (inverse_all forth) → GrowsToGo (map Plain (inverse_all forth)) names grown → GrowsToFront (map Plain forth) names grown

@@ -1,6 +1,7 @@
 -- One walk over patches: those that are held go, and the others come before them.
-use Rattle.camp_questions.proofs.Words.{◌≡◌, ℕ, Bool, true, false, not, ◌&&◌, ◌||◌, List, [], ◌∷◌, ◌++◌, map, Err, bytes_eq, get_or, length, take, drop, take_more, arith, zero, suc, ◌+◌, ◌<◌, ◌≤◌, refl, sym, ap, ◌∙◌, subst, inl, inr, append_assoc, insert, keys, Catch, ArrangesBehind, SticksBehind, AllByRecursion, has_patch, is_among, name_of, all_append, name_itself, or_parts, or_true, among_others, other_names, AreHeldIn, CanGo, ObliterateGives}
+use Rattle.camp_questions.proofs.Words.{or_none, ◌≡◌, ℕ, true, false, not, ◌&&◌, ◌||◌, List, [], ◌∷◌, ◌++◌, map, Err, bytes_eq, get_or, length, take, drop, take_more, arith, zero, suc, ◌+◌, ◌<◌, ◌≤◌, refl, sym, ap, ◌∙◌, subst, inl, inr, append_assoc, insert, keys, Catch, ArrangesBehind, SticksBehind, AllByRecursion, has_patch, is_among, name_of, all_append, name_itself, or_parts, or_true, among_others, other_names, AreHeldIn, CanGo, ObliterateGives}
 use Rattle.std.proofs.lemmas.List.{take_all}
+use Rattle.std.proofs.lemmas.List.Elements.{All-from_recursion, All-get_or}
 use Rattle.camp_branch.proofs.BranchFields.{Names}
 use Rattle.camp_branch.specs.declared.faults.Blocked.TheVariants.{Depends}
 use Rattle.camp_questions.specs.declared.fast.patch_catches.PatchCatches.{PatchCatches}
@@ -11,7 +12,7 @@ use Rattle.camp_questions.specs.Inside.StandingAside.{ComeBeforeAll, StickBehind
 use Rattle.camp_questions.proofs.BranchGrowths.{to_go}
 use Rattle.camp_questions.proofs.Growing.{IsGrownSoFar, all_grown, none_grown, one_grown, one_more}
 use Rattle.camp_questions.proofs.PartsArranged.{AgreeOn, arranged_alike, arranged_further, left_apart, sticks_alike, sticks_further, still_sticks, stuck_name}
-use Rattle.camp_questions.proofs.PatchFronts.{AreNotOf, all_are, at_first, both_are, others_stay}
+use Rattle.camp_questions.proofs.PatchFronts.{AreNotOf, all_are, all_before, all_behind, at_first, both_are, others_stay}
 
 module _ (all : List Catch) where
   -- the patches up to here have been walked over: those that stay are in front, and what goes is behind them
@@ -100,20 +101,12 @@ module _ (all : List Catch) where
   one_held names set next done going list rest name so_far are parts apart free stuck becomes =
       let held = keys set in
       let more : (n : List ℕ) → is_among (keys next) n ≡ (is_among held n || bytes_eq n name) = λ n. one_more set next name n becomes in
-      let alike : HeldAlike held (keys next) done = all_are (λ k other. (other.0, more (name_of k) ∙ ap (λ b. is_among held (name_of k) || b) other.1 ∙ none_more (is_among held (name_of k)))) done apart in
+      let alike : HeldAlike held (keys next) done = all_are (λ k other. (other.0, more (name_of k) ∙ ap (λ b. is_among held (name_of k) || b) other.1 ∙ or_none (is_among held (name_of k)))) done apart in
       let now = walked_alike held (keys next) done going alike so_far.walked in
       record {
-        walked = walked_on (keys next) done going now name list are (more name ∙ ap (λ b. is_among held name || b) (name_itself name) ∙ or_last (is_among held name));
+        walked = walked_on (keys next) done going now name list are (more name ∙ or_true (is_among held name) (bytes_eq name name) (name_itself name));
         grown = one_grown (map name_of all) (CanGo all) (AreHeldIn all) (to_go all) names set next name so_far.grown (held_here held done going so_far.walked name list are rest parts free stuck) becomes;
       }
-    where
-      none_more : (b : Bool) → (b || false) ≡ b
-      none_more true = refl
-      none_more false = refl
-
-      or_last : (b : Bool) → (b || true) ≡ true
-      or_last true = refl
-      or_last false = refl
 
   pub all_held : (names held : List (List ℕ)) (done going : List Catch) → IsGrown names held done going → done ≡ all → GrowsToGo all names held
   all_held names held done going so_far whole =
@@ -129,15 +122,10 @@ all_there (k ∷ list) =
 pub patches_parted : (patches : List PatchCatches) (i : ℕ) (p d : PatchCatches) → i < length patches → p ≡ get_or patches i d → catches_in_order patches ≡ catches_in_order (take i patches) ++ (p.catches.items ++ catches_in_order (drop (i + 1) patches))
 patches_parted [] i p d within is = absurd (omega (arith, within))
 patches_parted (q ∷ patches) zero p d within is =
-    ap (λ (x : PatchCatches). x.catches.items ++ catches_in_order patches) (sym is) ∙ ap (λ l. p.catches.items ++ catches_in_order l) (sym (drop_one q patches))
-  where
-    drop_one : (x : PatchCatches) (xs : List PatchCatches) → drop (0 + 1) (x ∷ xs) ≡ xs
-    drop_one x xs = refl
+    ap (λ (x : PatchCatches). x.catches.items ++ catches_in_order patches) (sym is)
 patches_parted (q ∷ patches) (suc i) p d within is =
-    ap (λ l. q.catches.items ++ l) (patches_parted patches i p d (omega (arith, within)) is) ∙ sym (append_assoc q.catches.items (catches_in_order (take i patches)) (p.catches.items ++ catches_in_order (drop (i + 1) patches))) ∙ ap (λ m. catches_in_order (take (suc i) (q ∷ patches)) ++ (p.catches.items ++ catches_in_order (drop m (q ∷ patches)))) (suc_behind i)
-  where
-    suc_behind : (i : ℕ) → suc (i + 1) ≡ suc i + 1
-    suc_behind i = omega arith
+    let next : suc (i + 1) ≡ suc i + 1 = omega arith in
+    ap (λ l. q.catches.items ++ l) (patches_parted patches i p d (omega (arith, within)) is) ∙ sym (append_assoc q.catches.items (catches_in_order (take i patches)) (p.catches.items ++ catches_in_order (drop (i + 1) patches))) ∙ ap (λ m. catches_in_order (take (suc i) (q ∷ patches)) ++ (p.catches.items ++ catches_in_order (drop m (q ∷ patches)))) next
 
 pub one_more_done : (patches : List PatchCatches) (i : ℕ) (p d : PatchCatches) → i < length patches → p ≡ get_or patches i d → catches_in_order (take (i + 1) patches) ≡ catches_in_order (take i patches) ++ p.catches.items
 one_more_done patches i p d within is =
@@ -145,21 +133,12 @@ one_more_done patches i p d within is =
 
 -- a patch of several, whose catches are of patches that the list has
 own_there : (all : List Catch) (name : List ℕ) (list : List Catch) → AreOfPatch name list → AllByRecursion (λ k. has_patch all (name_of k) ≡ true) list → AreThere all name list
-own_there all name [] own has = tt
-own_there all name (k ∷ list) own has = ((own.0, has.0), own_there all name list own.1 has.1)
-
-pub all_before : (P : Catch → Type 0) (xs ys : List Catch) → AllByRecursion P (xs ++ ys) → AllByRecursion P xs
-all_before P [] ys w = tt
-all_before P (x ∷ xs) ys w = (w.0, all_before P xs ys w.1)
-
-pub all_behind : (P : Catch → Type 0) (xs ys : List Catch) → AllByRecursion P (xs ++ ys) → AllByRecursion P ys
-all_behind P [] ys w = w
-all_behind P (x ∷ xs) ys w = all_behind P xs ys w.1
+own_there all name list own has = both_are (λ k of there. (of, there)) list own has
 
 pub own_at : (patches : List PatchCatches) (i : ℕ) (p d : PatchCatches) → i < length patches → p ≡ get_or patches i d → AllByRecursion (λ (patch : PatchCatches). AreOfPatch patch.name patch.catches.items) patches → AreOfPatch p.name p.catches.items
-own_at [] i p d within is own = absurd (omega (arith, within))
-own_at (q ∷ patches) zero p d within is own = subst (λ (x : PatchCatches). AreOfPatch x.name x.catches.items) (sym is) own.0
-own_at (q ∷ patches) (suc i) p d within is own = own_at patches i p d (omega (arith, within)) is own.1
+own_at patches i p d within is own =
+    let P : PatchCatches → Type 0 = λ patch. AreOfPatch patch.name patch.catches.items in
+    subst P (sym is) (All-get_or P patches i d within (All-from_recursion P patches own))
 
 module _ (patches : List PatchCatches) (are : ArePatches patches) (i : ℕ) (p d : PatchCatches) (within : i < length patches) (is : p ≡ get_or patches i d) where
   abbrev whole : List Catch

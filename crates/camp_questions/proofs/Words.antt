@@ -11,7 +11,7 @@ pub use Rattle.std.specs.List.{All, AllByRecursion, flat_map, list_any, slice_ra
 pub use Rattle.std.specs.Ordering.{eq_by_cmp, is_eq, nat_cmp}
 pub use Rattle.std.specs.Prelude.{Contains, codes, ◌↔◌}
 pub use Rattle.camp_base.specs.Trees.{Files, Lines, Splices}
-pub use Rattle.camp_branch.proofs.NameSets.{and_true, has_listed}
+pub use Rattle.camp_branch.proofs.NameSets.{and_false, and_true, has_listed, or_none}
 pub use Rattle.camp_branch.proofs.Names.{all_append, is_among_is, name_itself, not_among, or_parts, or_true, passes_is_kept, same_name}
 pub use Rattle.camp_branch.proofs.NamesKept.{among_kept, among_once, among_others}
 pub use Rattle.camp_branch.specs.Branches.{first_lacked, AreDistinct, HasPatches, IsLawfulBranch, LeadsTo, Patch, has_patch, is_among, labels_from, labels_of, name_of, names_of, patch_names, recorded}
@@ -54,5 +54,5 @@ pub use Rattle.camp_questions.specs.GraphTexts.{arrow_text, conflict_text, node_
 pub use Rattle.camp_questions.specs.Laws.{AreAmong, Arrow, ArrowsAreDirectNeeds, GrewFrom, HeldCanGo, HeldIsDetermined, IsPlain, IsReached, LinesHaveNames, MissingIsPulled, NeedsAreDetermined, NeedsAreLeast, NeedsAreReached, NeedsComeFirst, NeedsDirectly, NeedsPatch, RecordedIsShown, WasMet, along, itself}
 pub use Rattle.camp_repo.proofs.DecideSteps.{conflicts_shown, pull_nothing, tree_shown}
 pub use Rattle.camp_repo.proofs.NameSteps.{none_lacked}
-pub use Rattle.std.proofs.lemmas.Bool.{eq-eqb, eqb-true}
+pub use Rattle.std.proofs.lemmas.Bool.{and_from, and_parts, eq-eqb, eqb-false, eqb-true, not-true, or_cases}
 pub use Rattle.std.proofs.lemmas.List.Elements.{All-append, All-drop, All-nil, All-replicate, All-take, filter-append}

@@ -2,6 +2,7 @@ ghost use Rattle.camp_questions.specs.Laws.{AlongIsEnough, ArrowsAreDirectNeeds,
 
 /// A pull without names that is accepted brings what is missing, in this order; where nothing is
 /// missing, it is refused as having nothing to do.
+#[tactic(auto, using(crate::proofs::MissingNames::missing_is_pulled))]
 pub fn missing_is_pulled()
     ensures law { MissingIsPulled }
 {}
@@ -19,6 +20,7 @@ pub fn needs_are_least()
 {}
 
 /// Patches need exactly one list of names.
+#[tactic(auto, using(crate::proofs::BranchGrowths::needs_are_determined))]
 pub fn needs_are_determined()
     ensures law { NeedsAreDetermined }
 {}
@@ -30,6 +32,7 @@ pub fn held_can_go()
 {}
 
 /// What is held by patches is exactly one list of names.
+#[tactic(auto, using(crate::proofs::BranchGrowths::held_is_determined))]
 pub fn held_is_determined()
     ensures law { HeldIsDetermined }
 {}
@@ -54,17 +57,20 @@ pub fn needs_and_held_are_one()
 
 /// Each line of a file of a branch has a name, which is that of one of its patches; and where a hunk is
 /// undone, all lines have the names that they had.
+#[tactic(auto, using(crate::proofs::AnnotationLaws::lines_have_names))]
 pub fn lines_have_names()
     ensures law { LinesHaveNames }
 {}
 
 /// Each line of a file was brought by a hunk of the patch whose name it has, where what comes again under
 /// a label puts back what was taken away. In a lawful branch with plain catches alone none comes again.
+#[tactic(auto, using(crate::proofs::BroughtLines::lines_are_brought))]
 pub fn lines_are_brought()
     ensures law { LinesAreBrought }
 {}
 
 /// Plain patches give the files the same lines, with the same names, in whatever order they come.
+#[tactic(auto, using(crate::proofs::SwappedNames::order_keeps_names))]
 pub fn order_keeps_names()
     ensures law { OrderKeepsNames }
 {}
@@ -75,6 +81,7 @@ pub fn recorded_is_shown()
 {}
 
 /// The arrows of a graph lead from each patch to just those that it needs directly.
+#[tactic(auto, using(crate::proofs::Arrows::arrows_are_direct_needs))]
 pub fn arrows_are_direct_needs()
     ensures law { ArrowsAreDirectNeeds }
 {}
@@ -98,12 +105,14 @@ pub fn sides_apply()
 
 /// The changes of a side are accepted where they are recorded within the limits; and where they are refused
 /// under a new name, they are too large.
+#[tactic(auto, using(crate::proofs::SidesAccepted::sides_are_accepted))]
 pub fn sides_are_accepted()
     ensures law { SidesAreAccepted }
 {}
 
 /// A pull of what comes along is refused neither for a patch that is not there nor for one that
 /// another stands on.
+#[tactic(auto, using(crate::proofs::AlongEnough::along_is_enough))]
 pub fn along_is_enough()
     ensures law { AlongIsEnough }
 {}
@@ -115,6 +124,7 @@ pub fn arrows_lead_backwards()
 
 /// What is foreseen of a call is what comes of it: the reply that it gets, and the tree and the conflicts
 /// of the branch that it writes to, as they are told right behind it.
+#[tactic(auto, using(crate::proofs::ForeseenCalls::foreseen_comes))]
 pub fn foreseen_comes()
     ensures law { ForeseenComes }
 {}

@@ -1,19 +1,17 @@
 use Rattle.std.proofs.lemmas.Result.{IfOk-weaker}
 use Rattle.std.specs.Prelude.{reverse}
-use Rattle.camp_questions.proofs.Words.{List, ap, ◌≡◌, ◌∙◌, subst, sym, Catch, HasPatches, names_in}
+use Rattle.camp_questions.proofs.Words.{List, ◌≡◌, ◌∙◌, subst, Catch, names_in}
 use Rattle.camp_questions.specs.Inside.ByPatch.{ArePatchesOf, catches_in_order}
 use Rattle.camp_questions.specs.Inside.Growing.{GrowsToFront, GrowsToGo}
 use Rattle.camp_questions.specs.Inside.TakingBack.{AreTakenBack}
 use Rattle.camp_questions.specs.declared.fast.patch_catches.PatchCatches.{PatchCatches}
 use Rattle.camp_questions.proofs.PatchesBack.{needed_taken_back, reversed}
+use Rattle.camp_questions.proofs.PatchesOfLists.{patches_there}
 use Rattle.camp_questions.proofs.dependencies.grown_to_front.Goals as goal
 
 pub by_patch-requires : goal.by_patch-requires
 by_patch-requires c =
-    let branch : List Catch = c.args.branch.now in
-    let is : c.deref.result.now ≡ branch = c.deref.ensures.value ∙ c.in_ok-catches.ensures.exact ∙ c.catches-2.ensures.value in
-    let lawful = c.catches-2.ensures.lawful in
-    (lawful.patches, subst (λ l. HasPatches l lawful.patches) (sym is) lawful.has)
+    patches_there c.args.branch.now c.deref.result.now (c.deref.ensures.value ∙ c.in_ok-catches.ensures.exact ∙ c.catches-2.ensures.value) c.catches-2.ensures.lawful
 
 pub held_in-requires : goal.held_in-requires
 held_in-requires c =

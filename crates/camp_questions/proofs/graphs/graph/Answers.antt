@@ -1,4 +1,4 @@
-use Rattle.camp_questions.proofs.Words.{List, ◌∙◌, ap, map, subst, sym, Catch, IsGraphOf, IsErrAnd, Result, Some, ℕ, ◌≡◌, Tells, Unanswered, Memory, Drawn, Contents, catches_of, names_of, AreDistinct}
+use Rattle.camp_questions.proofs.Words.{List, ◌∙◌, ap, map, subst, sym, Catch, IsGraphOf, IsErrAnd, Result, Some, ℕ, ◌≡◌, Tells, Unanswered, Memory, Drawn, Contents, catches_of, AreDistinct}
 use Rattle.camp_questions.proofs.Answering.{memory_told}
 use Rattle.camp_branch.proofs.BranchLabels.{names_of_patches}
 use Rattle.camp_questions.specs.Inside.ByPlace.{node_in}

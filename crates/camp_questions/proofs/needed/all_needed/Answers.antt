@@ -1,44 +1,38 @@
 use Rattle.std.proofs.lemmas.Result.{IfOk-weaker}
-use Rattle.camp_questions.proofs.Words.{List, ◌≡◌, ◌∙◌, ap, subst, sym, ℕ, Catch, HasPatches, names_of}
+use Rattle.camp_questions.proofs.Words.{List, ◌≡◌, ◌∙◌, ap, subst, sym, ℕ, Catch, names_of}
 use Rattle.camp_questions.specs.Inside.ByPatch.{ArePatchesOf, names_in_order}
 use Rattle.camp_questions.specs.Inside.Graphing.{IsInverted, NeedEach}
 use Rattle.camp_questions.specs.Inside.TakingBack.{AreTakenBack}
 use Rattle.camp_questions.specs.declared.fast.patch_catches.PatchCatches.{PatchCatches}
 use Rattle.camp_questions.proofs.ReachedPatches.{are_inverted}
+use Rattle.camp_questions.proofs.PatchesOfLists.{patches_there}
 use Rattle.camp_questions.proofs.needed.all_needed.Goals as goal
 
 pub by_patch-requires : goal.by_patch-requires
 by_patch-requires c =
-    let branch : List Catch = c.args.branch.now in
-    let is : c.deref.result.now ≡ branch = c.deref.ensures.value ∙ c.in_ok-catches.ensures.exact ∙ c.catches-2.ensures.value in
-    let lawful = c.catches-2.ensures.lawful in
-    (lawful.patches, subst (λ l. HasPatches l lawful.patches) (sym is) lawful.has)
+    patches_there c.args.branch.now c.deref.result.now (c.deref.ensures.value ∙ c.in_ok-catches.ensures.exact ∙ c.catches-2.ensures.value) c.catches-2.ensures.lawful
+
+-- the patches of a branch, taken back
+inverted : (branch list : List Catch) (patches read backs given : List PatchCatches) → list ≡ branch → ArePatchesOf list patches → read ≡ patches → AreTakenBack read backs → given ≡ backs → IsInverted branch given
+inverted branch list patches read backs given is of reads taken gives =
+    let own = subst (λ l. ArePatchesOf l patches) is of in
+    subst (IsInverted branch) (sym gives) (are_inverted branch patches backs own (subst (λ l. AreTakenBack l backs) reads taken) own.names)
 
 pub all_reached-requires : goal.all_reached-requires
 all_reached-requires c =
-    let branch : List Catch = c.args.branch.now in
-    let patches : List PatchCatches = c.in_ok-patches.patches.items in
-    let backs : List PatchCatches = c.in-Some.back.items in
-    let is : c.deref.result.now ≡ branch = c.deref.ensures.value ∙ c.in_ok-catches.ensures.exact ∙ c.catches-2.ensures.value in
-    let of = subst (λ l. ArePatchesOf l patches) is c.in_ok-patches.ensures in
-    let taken : AreTakenBack c.deref-3.result.now backs = rw c.in-Some.is at c.in_ok-back.ensures in
-    let taken_so = subst (λ l. AreTakenBack l backs) c.deref-3.ensures.value taken in
-    (branch, subst (IsInverted branch) (sym c.deref-in-Some.ensures.value) (are_inverted branch patches backs of taken_so of.names))
+    let taken : AreTakenBack c.deref-3.result.now c.in-Some.back.items = rw c.in-Some.is at c.in_ok-back.ensures in
+    (c.args.branch.now, inverted c.args.branch.now c.deref.result.now c.in_ok-patches.patches.items c.deref-3.result.now c.in-Some.back.items c.deref-in-Some.result.now (c.deref.ensures.value ∙ c.in_ok-catches.ensures.exact ∙ c.catches-2.ensures.value) c.in_ok-patches.ensures c.deref-3.ensures.value taken c.deref-in-Some.ensures.value)
 
 pub returns-in-Some : goal.returns-in-Some
 returns-in-Some c =
     let branch : List Catch = c.args.branch.now in
     let names : List (List ℕ) = c.args.names.now in
-    let patches : List PatchCatches = c.in_ok-patches.patches.items in
-    let backs : List PatchCatches = c.in-Some.back.items in
     let given : List PatchCatches = c.deref-in-Some.result.now in
     let is : c.deref.result.now ≡ branch = c.deref.ensures.value ∙ c.in_ok-catches.ensures.exact ∙ c.catches-2.ensures.value in
-    let of = subst (λ l. ArePatchesOf l patches) is c.in_ok-patches.ensures in
-    let taken : AreTakenBack c.deref-3.result.now backs = rw c.in-Some.is at c.in_ok-back.ensures in
-    let taken_so = subst (λ l. AreTakenBack l backs) c.deref-3.ensures.value taken in
-    let inverted = subst (IsInverted branch) (sym c.deref-in-Some.ensures.value) (are_inverted branch patches backs of taken_so of.names) in
-    let called : names_in_order given ≡ names = ap names_in_order c.deref-in-Some.ensures.value ∙ taken_so.names ∙ of.names ∙ sym c.requires in
-    IfOk-weaker c.all_reached.result (λ all. (b : List Catch) → IsInverted b given → NeedEach b (names_in_order given) all.items) (λ all. NeedEach branch names all.items) (λ all each. subst (λ n. NeedEach branch n all.items) called (each branch inverted)) c.all_reached.ensures
+    let taken : AreTakenBack c.deref-3.result.now c.in-Some.back.items = rw c.in-Some.is at c.in_ok-back.ensures in
+    let back = inverted branch c.deref.result.now c.in_ok-patches.patches.items c.deref-3.result.now c.in-Some.back.items given is c.in_ok-patches.ensures c.deref-3.ensures.value taken c.deref-in-Some.ensures.value in
+    let called : names_in_order given ≡ names = back.names ∙ sym c.requires in
+    IfOk-weaker c.all_reached.result (λ all. (b : List Catch) → IsInverted b given → NeedEach b (names_in_order given) all.items) (λ all. NeedEach branch names all.items) (λ all each. subst (λ n. NeedEach branch n all.items) called (each branch back)) c.all_reached.ensures
 
 pub all_stuck-requires : goal.all_stuck-requires
 all_stuck-requires c =

@@ -1,4 +1,4 @@
-use Rattle.camp_questions.proofs.Words.{List, ◌++◌, [], ◌∷◌, ◌∙◌, ap, arith, map, ℕ}
+use Rattle.camp_questions.proofs.Words.{List, ◌∙◌, ap, arith, map, ℕ}
 use Rattle.std.proofs.lemmas.List.{take_all}
 use Rattle.camp_questions.specs.Inside.ByPlace.{node_in}
 use Rattle.camp_questions.specs.Inside.Graphing.{needing}

@@ -1,7 +1,7 @@
 use Rattle.camp_questions.proofs.Words.{sym, ◌∙◌, subst, true≢false}
+use Rattle.std.proofs.lemmas.Option.{IfSome_then}
 use Rattle.camp_prim.specs.Effect.{InRange}
-use Rattle.camp_questions.proofs.PassedChanges.{if_some, passes_elsewhere, passes_hunk}
-use Rattle.camp_questions.specs.Inside.Moving.{ComesBefore, Passes}
+use Rattle.camp_questions.proofs.PassedChanges.{passes_elsewhere, passes_hunk}
 use Rattle.camp_questions.proofs.passing.line_before.Goals as goal
 
 pub returns-then-not-is_in_file-clause-passes : goal.returns-then-not-is_in_file-clause-passes
@@ -16,5 +16,4 @@ returns-in-Hunk-clause-passes c =
     let line = c.args.line in
     let other = c.in-Hunk.other in
     let own = subst InRange c.in-Hunk.is c.is_in_file.ensures.range in
-    if_some (Passes other hunk line) (ComesBefore change patch hunk line) c.line_past.result
-    (λ next passes. passes_hunk change patch other hunk line next (c.is_other.ensures c.if-not-is_other.false) c.in-Hunk.is own c.requires passes) c.line_past.ensures
+    IfSome_then c.line_past.result c.line_past.ensures (λ next passes. passes_hunk change patch other hunk line next (c.is_other.ensures c.if-not-is_other.false) c.in-Hunk.is own c.requires passes)

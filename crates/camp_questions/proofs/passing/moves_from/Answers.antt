@@ -1,4 +1,4 @@
-use Rattle.camp_questions.proofs.Words.{◌≡◌, ◌+◌, ◌-◌, arith, length}
+use Rattle.camp_questions.proofs.Words.{◌≡◌, ◌+◌, ◌-◌, arith}
 use Rattle.camp_ctx.specs.Contexts.{bare}
 use Rattle.camp_questions.proofs.PassedChanges.{at_first, in_range_there, one_more_added, swaps_by}
 use Rattle.camp_questions.specs.Inside.Moving.{hunk_at}

@@ -1,4 +1,4 @@
-use Rattle.camp_questions.proofs.Words.{◌∙◌, ap, arith, drop, drop_all, sym}
+use Rattle.camp_questions.proofs.Words.{◌∙◌, ap, arith, drop_all, sym}
 use Rattle.camp_questions.proofs.Picturing.{one_joined}
 use Rattle.camp_questions.specs.Pictures.{with_needing}
 use Rattle.camp_questions.proofs.pictures.needing.Goals as goal

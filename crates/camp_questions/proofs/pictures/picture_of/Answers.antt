@@ -1,5 +1,5 @@
 use Rattle.camp_questions.proofs.Answering.{wants_memory}
-use Rattle.camp_questions.proofs.Picturing.{graph_fails, is_pictured, open_fails, picture_not_refused}
+use Rattle.camp_questions.proofs.Picturing.{is_pictured, picture_not_refused}
 use Rattle.camp_questions.specs.Pictures.{IsPictured}
 use Rattle.camp_questions.proofs.pictures.picture_of.Goals as goal
 

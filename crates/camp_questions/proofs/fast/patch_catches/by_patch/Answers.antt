@@ -1,5 +1,4 @@
-use Rattle.camp_questions.proofs.Words.{List, ap, arith, refl, ◌+◌, ◌-◌, ◌<◌, ◌≡◌, ◌∙◌, drop, take, name_of, Catch}
-use Rattle.camp_questions.specs.Inside.ByPatch.{until_next}
+use Rattle.camp_questions.proofs.Words.{List, ap, arith, ◌-◌, ◌∙◌, name_of, Catch}
 use Rattle.camp_questions.specs.declared.fast.patch_catches.PatchCatches.{PatchCatches}
 use Rattle.camp_questions.proofs.PatchesOfLists.{all_found, none_found, one_found}
 use Rattle.camp_questions.proofs.fast.patch_catches.by_patch.Goals as goal

@@ -1,4 +1,4 @@
-use Rattle.camp_questions.proofs.Words.{List, ◌≡◌, ◌+◌, ◌++◌, [], ◌∷◌, ◌∙◌, ap, arith, length, length-append, refl, subst, sym, ℕ, Catch}
+use Rattle.camp_questions.proofs.Words.{List, ◌≡◌, ◌+◌, [], ◌∷◌, ◌∙◌, ap, arith, length, length-append, subst, sym}
 use Rattle.std.proofs.lemmas.List.{get_or-map, length-map}
 use Rattle.camp_questions.specs.Inside.ByPatch.{names_in_order}
 use Rattle.camp_questions.specs.Inside.ChangedFiles.{AreFilesOf}

@@ -1,4 +1,4 @@
-use Rattle.camp_questions.proofs.Words.{◌≡◌, ◌∙◌, ap, arith, take, true}
+use Rattle.camp_questions.proofs.Words.{◌∙◌, ap, arith, true}
 use Rattle.std.proofs.Common.{set}
 use Rattle.std.proofs.lemmas.List.{take_all}
 use Rattle.camp_questions.specs.Inside.Graphing.{marked_in_both}

@@ -1,4 +1,4 @@
-use Rattle.camp_questions.proofs.Words.{List, ap, arith, slice_cmp, keys, nat_cmp, map_of, refl, sym, ◌++◌, ◌≡◌, ◌∙◌, names_in, has_listed}
+use Rattle.camp_questions.proofs.Words.{ap, arith, slice_cmp, nat_cmp, map_of, sym, ◌++◌, ◌≡◌, ◌∙◌, names_in, has_listed}
 use Rattle.camp_questions.proofs.WalkedPatches.{goes_apart, none_held, own_of, past_all, past_aside, past_held, past_stuck}
 use Rattle.camp_questions.specs.Inside.ByPatch.{catches_in_order}
 use Rattle.camp_questions.specs.Inside.StandingAside.{StickBehind}

@@ -1,5 +1,5 @@
-use Rattle.camp_questions.proofs.Words.{List, ◌≡◌, ◌∙◌, ◌++◌, [], ◌∷◌, ap, refl, subst, sym, Catch, AreAlike, Arrange, ArrangeSticks, is_among, names_in}
-use Rattle.camp_questions.specs.Inside.StandingAside.{AllStay, StickBehind}
+use Rattle.camp_questions.proofs.Words.{List, ◌≡◌, ◌∙◌, ◌++◌, [], ◌∷◌, ap, refl, subst, Catch, AreAlike, Arrange, ArrangeSticks, is_among, names_in}
+use Rattle.camp_questions.specs.Inside.StandingAside.{AllStay}
 use Rattle.camp_questions.proofs.PartsArranged.{all_came, comes_before_all, stuck_before_all}
 use Rattle.camp_questions.proofs.fast.standing_aside.stand_aside.Goals as goal
 
