@@ -1,6 +1,5 @@
 //! Refused memory: which lines wanted it, and which allocation is refused.
 use crate::plays::faults::PlayFault;
-use camp_head::HeadFault;
 use camp_notation::NotationError;
 use std::alloc::{AllocError, Global};
 use std::env::{Env, FillError};
@@ -64,12 +63,6 @@ impl MayBeMemory for AllocError {
 impl MayBeMemory for NotationError {
     fn is_memory(&self) -> bool {
         matches!(self, NotationError::Memory)
-    }
-}
-
-impl MayBeMemory for HeadFault {
-    fn is_memory(&self) -> bool {
-        matches!(self, HeadFault::Memory)
     }
 }
 
