@@ -36,6 +36,7 @@ mod schedules;
 mod tables;
 mod values;
 mod wants;
+mod words;
 
 use lines::print_tables;
 use std::alloc::Global;

@@ -13,7 +13,7 @@ use crate::plays::runs::{joined, run, run_of};
 use crate::plays::seatings::Seating;
 use crate::schedules::blocks::play_block;
 use crate::wants::Wants;
-use bstr::ByteSlice;
+use crate::words::split_word;
 use camp_head::HeadFault;
 use camp_repo::{Book, Call, Fault, Reply, State};
 use camp_script::{append_history, append_reply};
@@ -43,14 +43,6 @@ fn is_word(word: &[u8]) -> bool {
         word,
         b"book" | b"head" | b"history" | b"meet" | b"seen" | b"adopted" | b"hand-on"
     )
-}
-
-/// The first word of a line, and what stands behind it.
-pub(crate) fn split_word(line: &[u8]) -> (&[u8], &[u8]) {
-    match line.split_once_str(b" ") {
-        Some((word, rest)) => (word, rest),
-        None => (line, b""),
-    }
 }
 
 impl Stage {

@@ -2,7 +2,6 @@
 //! the script.
 use crate::plays::commands::{append_line, read_numbers};
 use crate::plays::faults::PlayFault;
-use crate::plays::split_word;
 use crate::schedules::ends::{Side, play_ends};
 use crate::schedules::gates::Delays;
 use crate::schedules::orders::play_script;
@@ -11,6 +10,7 @@ use crate::schedules::scripts::{append_clients, append_race};
 use crate::schedules::{
     counts_of_drawn, counts_over_head, counts_over_lock, output_of_each, output_over_head,
 };
+use crate::words::split_word;
 use bstr::ByteSlice;
 use std::alloc::Global;
 use std::sync::Wait;
