@@ -121,12 +121,15 @@ impl Stage {
         wants.again(|| self.ask_call(rt, command.seat, &call))
     }
 
-    /// Asks a call. One that wants memory leaves the history of a book, or what a seat has seen, such that it
-    /// can be asked again.
+    /// Asks a call. Want of memory is no answer: the call is then asked again.
     fn ask_call<R: Wait>(&mut self, rt: &R, seat: u32, call: &Call) -> Result<Answer, PlayFault> {
-        match self {
-            Stage::Book(book) => Ok(Ok(book.ask(seat, call)?)),
+        let answer = match self {
+            Stage::Book(book) => Ok(book.ask(seat, call)),
             Stage::Head(seating) => seating.ask(rt, seat, call),
+        };
+        match answer {
+            Ok(Err(Fault::Memory)) => Err(PlayFault::Memory),
+            answer => answer,
         }
     }
 

@@ -4,7 +4,7 @@ ghost use Rattle.camp_history.specs.Seats.{IsSeatOf};
 
 use crate::plays::Answer;
 use crate::plays::faults::PlayFault;
-use camp_head::{Fault, Head, HeadFault, Seat};
+use camp_head::{Head, HeadFault, Seat};
 use camp_repo::Call;
 use std::alloc::Global;
 use std::sync::Wait;
@@ -62,21 +62,21 @@ impl Seating {
         }
     }
 
-    /// Keeps a call and asks it at a seat. Want of memory is no answer.
+    /// Keeps a call and asks it at a seat.
     pub(crate) fn ask<R: Wait>(
         &mut self,
         rt: &R,
         number: u32,
         call: &Call,
     ) -> Result<Answer, PlayFault> {
-        let kept = self.head.keep(rt, call)?;
+        let kept = match self.head.keep(rt, call) {
+            Ok(kept) => kept,
+            Err(fault) => return Ok(Err(fault)),
+        };
         let mut seat = take(&self.head, &mut self.seats, number)?;
         let answer = self.head.ask(&mut seat, kept);
         put(&self.head, &mut self.seats, seat)?;
-        match answer {
-            Err(Fault::Memory) => Err(PlayFault::Memory),
-            answer => Ok(answer),
-        }
+        Ok(answer)
     }
 
     /// The first seat meets the second.
