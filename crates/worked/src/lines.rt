@@ -103,7 +103,7 @@ fn answer(table: &mut Table, line: &[u8], wants: &mut Wants) -> Answer {
     match split_call(line) {
         Some((name, text)) => {
             let call = CallLine { table, name, text };
-            Ok(Some(calls::answer(call, wants)?))
+            Ok(Some(wants.again(|| calls::answer(call))?))
         }
         None => {
             wants.again(|| table.learn(line))?;

@@ -20,10 +20,9 @@
 //! | `run locked ranked`, `run head ranked` | the same, whatever the order of its clients |
 //! | `schedule` | what the block below, up to an empty line, says of a script, its threads and their gates |
 //!
-//! The notation is that of `camp_notation`. A call that wants memory is made again, where its arguments
-//! are as they were. The exit status tells what was wanted: 0 where nothing was, 3 where one line wanted
-//! memory, 4 where the input was not read or a line not printed, and 5 where more lines than one wanted
-//! memory.
+//! The notation is that of `camp_notation`. What wants memory is done again. The exit status tells what was
+//! wanted: 0 where nothing was, 3 where one line wanted memory, 4 where the input was not read or a line not
+//! printed, and 5 where more lines than one wanted memory.
 //!
 //! `worked N M` makes M - N extra allocations before the table, so the run's M-th allocation is the
 //! table's N-th: built so that its M-th allocation is refused, N chooses which one of the table is.
@@ -37,6 +36,7 @@ mod schedules;
 mod tables;
 mod values;
 mod wants;
+mod words;
 
 use lines::print_tables;
 use std::alloc::Global;

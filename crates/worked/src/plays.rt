@@ -1,33 +1,35 @@
 //! Books and heads: what an entry that is no call asks, of a book, a head, a run or a schedule.
 
-pub(crate) mod books;
 pub(crate) mod commands;
 pub(crate) mod faults;
-pub(crate) mod heads;
 pub(crate) mod ranks;
 pub(crate) mod runs;
 pub(crate) mod seatings;
 
 use crate::entries::{SCHEDULE, is_command, is_run};
-use crate::plays::commands::{command_of, number, read_numbers};
+use crate::plays::commands::{Command, command_of, number, read_numbers};
 use crate::plays::faults::PlayFault;
-use crate::plays::runs::{append_again, joined, run, run_of};
+use crate::plays::runs::{joined, run, run_of};
 use crate::plays::seatings::Seating;
 use crate::schedules::blocks::play_block;
 use crate::wants::Wants;
-use bstr::ByteSlice;
+use crate::words::split_word;
 use camp_head::HeadFault;
-use camp_repo::{Book, State};
+use camp_repo::{Book, Call, Fault, Reply, State};
+use camp_script::{append_history, append_reply};
 use std::alloc::{AllocError, Global};
 use std::sync::Wait;
 use std::thread::Threads;
 
-/// What commands are asked of: a book, or a head where one was made later.
+/// What commands are asked of.
 #[derive(Drop)]
-pub(crate) struct Stage {
-    book: Book<State>,
-    seating: Option<Seating>,
+pub(crate) enum Stage {
+    Book(Book<State>),
+    Head(Seating),
 }
+
+/// What is answered to a call.
+pub(crate) type Answer = Result<Reply, Fault>;
 
 /// Whether an entry is none of a table of values: it begins with one of these words, or is a run, a schedule
 /// or a command.
@@ -43,21 +45,10 @@ fn is_word(word: &[u8]) -> bool {
     )
 }
 
-/// The first word of a line, and what stands behind it.
-pub(crate) fn split_word(line: &[u8]) -> (&[u8], &[u8]) {
-    match line.split_once_str(b" ") {
-        Some((word, rest)) => (word, rest),
-        None => (line, b""),
-    }
-}
-
 impl Stage {
     /// A new book.
     pub(crate) fn new(alloc: Global) -> Result<Stage, AllocError> {
-        Ok(Stage {
-            book: Book::new(alloc)?,
-            seating: None,
-        })
+        Ok(Stage::Book(Book::new(alloc)?))
     }
 
     /// The lines of an entry, and behind them what is answered.
@@ -69,151 +60,135 @@ impl Stage {
         wants: &mut Wants,
     ) -> Result<Vec<u8>, AllocError> {
         let mut text = wants.again(|| joined(alloc, entry))?;
-        if let Err(fault) = self.answer(rt, alloc, entry, &mut text, wants) {
-            append_fault(alloc, &mut text, fault)?;
+        match self.answer(rt, alloc, entry, wants) {
+            Ok(told) => wants.again(|| text.extend_from_slice(&told))?,
+            Err(fault) => append_fault(alloc, &mut text, fault)?,
         }
         Ok(text)
     }
 
+    /// What is answered to an entry. All but a command is done again, as a whole, where it wanted memory.
     fn answer<R: Threads + Wait + Sync>(
         &mut self,
         rt: &R,
         alloc: Global,
         entry: &[&[u8]],
-        text: &mut Vec<u8>,
         wants: &mut Wants,
-    ) -> Result<(), PlayFault> {
+    ) -> Result<Vec<u8>, PlayFault> {
         let Some((first, rest)) = entry.split_first() else {
-            return Ok(());
+            return Ok(Vec::new(alloc));
         };
         if let Some(how) = run_of(first) {
-            return run(rt, alloc, how, rest, text, wants);
+            return wants.again(|| run(rt, alloc, how, rest));
         }
         if *first == SCHEDULE {
-            return play_block(rt, alloc, rest, text, wants);
+            return wants.again(|| play_block(rt, alloc, rest));
         }
         if is_command(first) {
-            return self.ask(rt, alloc, entry, text, wants);
+            return self.ask(rt, alloc, entry, wants);
         }
-        self.do_line(alloc, first, text, wants)
+        wants.again(|| self.do_line(alloc, first))
     }
 
+    /// Asks a command, each of its times. What the last of them is answered.
     fn ask<R: Wait>(
         &mut self,
         rt: &R,
         alloc: Global,
         entry: &[&[u8]],
-        text: &mut Vec<u8>,
         wants: &mut Wants,
-    ) -> Result<(), PlayFault> {
+    ) -> Result<Vec<u8>, PlayFault> {
         let command = command_of(entry)?;
-        match &mut self.seating {
-            Some(seating) => heads::ask(rt, alloc, seating, command, text, wants),
-            None => books::ask(alloc, &mut self.book, command, text, wants),
+        let mut last = Vec::new(alloc);
+        for time in 1..=command.count {
+            let answer = self.ask_once(rt, alloc, command, time, wants)?;
+            if time == command.count {
+                last = wants.again(|| answer_text(alloc, &answer))?;
+            }
+        }
+        Ok(last)
+    }
+
+    fn ask_once<R: Wait>(
+        &mut self,
+        rt: &R,
+        alloc: Global,
+        command: Command<'_>,
+        time: u32,
+        wants: &mut Wants,
+    ) -> Result<Answer, PlayFault> {
+        let call = wants.again(|| command.call(alloc, time))?;
+        wants.again(|| self.ask_call(rt, command.seat, &call))
+    }
+
+    /// Asks a call. Want of memory is no answer: the call is then asked again.
+    fn ask_call<R: Wait>(&mut self, rt: &R, seat: u32, call: &Call) -> Result<Answer, PlayFault> {
+        let answer = match self {
+            Stage::Book(book) => Ok(book.ask(seat, call)),
+            Stage::Head(seating) => seating.ask(rt, seat, call),
+        };
+        match answer {
+            Ok(Err(Fault::Memory)) => Err(PlayFault::Memory),
+            answer => answer,
         }
     }
 
     /// Does what a line says that is no command.
-    fn do_line(
-        &mut self,
-        alloc: Global,
-        line: &[u8],
-        text: &mut Vec<u8>,
-        wants: &mut Wants,
-    ) -> Result<(), PlayFault> {
+    fn do_line(&mut self, alloc: Global, line: &[u8]) -> Result<Vec<u8>, PlayFault> {
         let (word, rest) = split_word(line);
         match word {
-            b"book" => self.begin(alloc, wants),
-            b"head" => self.open(alloc, rest, text, wants),
-            b"history" => self.tell_history(rest, text, wants),
-            b"meet" => self.meet(rest, text, wants),
-            b"seen" => self.tell_seen(alloc, rest, text, wants),
-            b"adopted" => self.tell_adopted(alloc, rest, text, wants),
-            b"hand-on" => self.seating()?.hand_on(number(rest)?, wants),
+            b"book" => self.begin(alloc),
+            b"head" => self.open(alloc, rest),
+            b"history" => self.history(alloc, rest),
+            b"meet" => self.meet(alloc, rest),
+            b"seen" => self.seating()?.seen_text(alloc, number(rest)?),
+            b"adopted" => self.seating()?.adopted_text(alloc, number(rest)?),
+            b"hand-on" => self.hand_on(alloc, rest),
             _ => Err(NO_LINE),
         }
     }
 
-    fn tell_seen(
-        &self,
-        alloc: Global,
-        seat: &[u8],
-        text: &mut Vec<u8>,
-        wants: &mut Wants,
-    ) -> Result<(), PlayFault> {
-        let seating = self.seating()?;
-        heads::tell_seen(alloc, seating, number(seat)?, text, wants)
+    fn begin(&mut self, alloc: Global) -> Result<Vec<u8>, PlayFault> {
+        *self = Stage::new(alloc)?;
+        Ok(Vec::new(alloc))
     }
 
-    fn tell_adopted(
-        &self,
-        alloc: Global,
-        seat: &[u8],
-        text: &mut Vec<u8>,
-        wants: &mut Wants,
-    ) -> Result<(), PlayFault> {
-        let seating = self.seating()?;
-        heads::tell_adopted(alloc, seating, number(seat)?, text, wants)
-    }
-
-    fn begin(&mut self, alloc: Global, wants: &mut Wants) -> Result<(), PlayFault> {
-        self.book = wants.again(|| Book::new(alloc))?;
-        self.seating = None;
-        Ok(())
-    }
-
-    fn open(
-        &mut self,
-        alloc: Global,
-        sizes: &[u8],
-        text: &mut Vec<u8>,
-        wants: &mut Wants,
-    ) -> Result<(), PlayFault> {
-        let sizes = sizes_of(sizes)?;
-        match wants.again(|| Seating::new(alloc, sizes)) {
+    fn open(&mut self, alloc: Global, sizes: &[u8]) -> Result<Vec<u8>, PlayFault> {
+        match Seating::new(alloc, sizes_of(sizes)?) {
             Ok(seating) => {
-                self.seating = Some(seating);
-                Ok(())
+                *self = Stage::Head(seating);
+                Ok(Vec::new(alloc))
             }
-            Err(HeadFault::BadSize) => append_again(text, b"bad size\n", wants),
+            Err(HeadFault::BadSize) => Ok(Vec::from_slice(alloc, b"bad size\n")?),
             Err(HeadFault::Memory) => Err(PlayFault::Memory),
         }
     }
 
-    fn tell_history(
-        &self,
-        seat: &[u8],
-        text: &mut Vec<u8>,
-        wants: &mut Wants,
-    ) -> Result<(), PlayFault> {
-        if seat.is_empty() {
-            books::append_history_again(text, self.book.history(), wants)
-        } else {
-            heads::tell_history(self.seating()?, number(seat)?, text, wants)
+    fn history(&self, alloc: Global, seat: &[u8]) -> Result<Vec<u8>, PlayFault> {
+        match self {
+            Stage::Book(book) => history_text(alloc, book.history()),
+            Stage::Head(seating) => history_text(alloc, &seating.history(number(seat)?)?),
         }
     }
 
-    fn meet(
-        &mut self,
-        seats: &[u8],
-        text: &mut Vec<u8>,
-        wants: &mut Wants,
-    ) -> Result<(), PlayFault> {
-        let Some((first, second)) = seats.split_once_str(b" ") else {
+    fn meet(&mut self, alloc: Global, seats: &[u8]) -> Result<Vec<u8>, PlayFault> {
+        let Stage::Head(seating) = self else {
             return Err(NO_LINE);
         };
-        let (first, second) = (number(first)?, number(second)?);
-        match &mut self.seating {
-            Some(seating) => seating.meet(first, second, wants)?,
-            None => return Err(NO_LINE),
-        }
-        append_again(text, b"met\n", wants)
+        let (first, second) = split_word(seats);
+        seating.meet(number(first)?, number(second)?)?;
+        Ok(Vec::from_slice(alloc, b"met\n")?)
+    }
+
+    fn hand_on(&self, alloc: Global, seat: &[u8]) -> Result<Vec<u8>, PlayFault> {
+        self.seating()?.hand_on(number(seat)?)?;
+        Ok(Vec::new(alloc))
     }
 
     fn seating(&self) -> Result<&Seating, PlayFault> {
-        match &self.seating {
-            Some(seating) => Ok(seating),
-            None => Err(NO_LINE),
+        match self {
+            Stage::Head(seating) => Ok(seating),
+            Stage::Book(_) => Err(NO_LINE),
         }
     }
 }
@@ -225,6 +200,26 @@ fn sizes_of(words: &[u8]) -> Result<[u32; 4], PlayFault> {
     let mut sizes = [0; 4];
     read_numbers(words, &mut sizes)?;
     Ok(sizes)
+}
+
+fn answer_text(alloc: Global, answer: &Answer) -> Result<Vec<u8>, PlayFault> {
+    let mut text = Vec::new(alloc);
+    append_answer(&mut text, answer)?;
+    Ok(text)
+}
+
+/// Appends what is answered, if it is not want of memory.
+pub(crate) fn append_answer(text: &mut Vec<u8>, answer: &Answer) -> Result<(), PlayFault> {
+    if let Err(Fault::Memory) = answer {
+        return Err(PlayFault::Memory);
+    }
+    Ok(append_reply(text, answer)?)
+}
+
+fn history_text(alloc: Global, history: &[(u32, Call)]) -> Result<Vec<u8>, PlayFault> {
+    let mut text = Vec::new(alloc);
+    append_history(&mut text, history)?;
+    Ok(text)
 }
 
 fn append_fault(alloc: Global, text: &mut Vec<u8>, fault: PlayFault) -> Result<(), AllocError> {

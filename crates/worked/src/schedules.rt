@@ -9,11 +9,10 @@ pub(crate) mod gates;
 pub(crate) mod orders;
 pub(crate) mod players;
 pub(crate) mod replays;
-pub(crate) mod same;
 pub(crate) mod scripts;
 
 use crate::plays::faults::PlayFault;
-use crate::plays::runs::{Way, run_way};
+use crate::plays::runs::{Way, output_of};
 use crate::schedules::gates::Delays;
 use crate::schedules::replays::{Counts, replay};
 use crate::schedules::scripts::{Lots, append_drawn};
@@ -39,22 +38,6 @@ pub(crate) fn output_of_each<R: Threads + Wait + Sync>(
     expect_output(rt, alloc, Way::Locked, script, &alone)?;
     expect_output(rt, alloc, Way::Head, script, &alone)?;
     Ok(alone)
-}
-
-/// What a script writes one way, with its history where it is wanted.
-pub(crate) fn output_of<R: Threads + Wait + Sync>(
-    rt: &R,
-    alloc: Global,
-    way: Way,
-    script: &[u8],
-    history: bool,
-) -> Result<Vec<u8>, PlayFault> {
-    let mut reader = script;
-    let mut written = Vec::new(alloc);
-    match run_way(rt, alloc, way, history, &mut reader, &mut written) {
-        Ok(()) => Ok(written),
-        Err(fault) => Err(PlayFault::from(fault)),
-    }
 }
 
 fn expect_output<R: Threads + Wait + Sync>(

@@ -1,11 +1,11 @@
 //! Refused memory: which lines wanted it, and which allocation is refused.
 use crate::plays::faults::PlayFault;
-use camp_head::HeadFault;
+use crate::words::number_of;
 use camp_notation::NotationError;
 use std::alloc::{AllocError, Global};
 use std::env::{Env, FillError};
+use std::io;
 use std::io::{ErrorKind, Write};
-use std::{io, str};
 
 /// How many lines have wanted memory. Only one allocation is refused, so only one may.
 #[derive(Clone, Copy)]
@@ -67,12 +67,6 @@ impl MayBeMemory for NotationError {
     }
 }
 
-impl MayBeMemory for HeadFault {
-    fn is_memory(&self) -> bool {
-        matches!(self, HeadFault::Memory)
-    }
-}
-
 impl MayBeMemory for PlayFault {
     fn is_memory(&self) -> bool {
         matches!(self, PlayFault::Memory)
@@ -112,19 +106,12 @@ fn room(alloc: Global, most: u32) -> u32 {
 fn number_at(rt: &impl Env, at: usize) -> io::Result<Option<u32>> {
     let mut digits = [0; 10];
     match rt.arg(at, &mut digits) {
-        Ok(length) => Ok(Some(number_of(&digits[..length])?)),
+        Ok(length) => match number_of(&digits[..length]) {
+            Some(number) => Ok(Some(number)),
+            None => Err(ErrorKind::InvalidInput.into()),
+        },
         Err(FillError::NotPresent) => Ok(None),
         Err(FillError::TooLong) => Err(ErrorKind::InvalidInput.into()),
-    }
-}
-
-fn number_of(digits: &[u8]) -> io::Result<u32> {
-    let Ok(text) = str::from_utf8(digits) else {
-        return Err(ErrorKind::InvalidInput.into());
-    };
-    match text.parse::<u32>() {
-        Ok(number) => Ok(number),
-        Err(_) => Err(ErrorKind::InvalidInput.into()),
     }
 }
 

@@ -1,11 +1,11 @@
 //! Books and heads: a command of a table, with its seat and how often it is asked.
 use crate::plays::faults::PlayFault;
+use crate::words::number_of;
 use bstr::ByteSlice;
 use camp_base::Name;
 use camp_call::{Call, Names};
 use camp_script::{Script, read_script};
 use std::alloc::{AllocError, Global};
-use std::str;
 
 /// A command that is asked at a seat, so many times, and the lines that it is made of.
 #[derive(Clone, Copy)]
@@ -46,13 +46,7 @@ fn number_before(line: &[u8]) -> Result<(u32, &[u8]), PlayFault> {
 
 /// The number that a word tells.
 pub(crate) fn number(word: &[u8]) -> Result<u32, PlayFault> {
-    let Ok(text) = str::from_utf8(word) else {
-        return Err(NO_COMMAND);
-    };
-    match text.parse::<u32>() {
-        Ok(number) => Ok(number),
-        Err(_) => Err(NO_COMMAND),
-    }
+    number_of(word).ok_or(NO_COMMAND)
 }
 
 /// The numbers that words tell, as many as there is room for; one that is missing stays as it is.
@@ -119,20 +113,9 @@ pub(crate) fn append_line(text: &mut Vec<u8>, line: &[u8]) -> Result<(), PlayFau
 }
 
 fn only_call(script: Script) -> Result<Call, PlayFault> {
-    if !has_one_call(script.sections()) {
-        return Err(NO_COMMAND);
-    }
-    let mut sections = script.into_sections();
-    match sections.pop() {
-        Some(calls) => last_of(calls),
-        None => Err(NO_COMMAND),
-    }
-}
-
-fn has_one_call(sections: &[Vec<Call>]) -> bool {
-    match sections {
-        [calls] => calls.len() == 1,
-        _ => false,
+    match script.into_sections().pop() {
+        Some(calls) if calls.len() == 1 => last_of(calls),
+        _ => Err(NO_COMMAND),
     }
 }
 

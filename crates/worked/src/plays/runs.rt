@@ -1,7 +1,6 @@
 //! Books and heads: scripts that are run in one thread, over a lock or over a head.
 use crate::plays::faults::PlayFault;
 use crate::plays::ranks::ranked;
-use crate::wants::Wants;
 use camp_run::{NoGate, RunFault, run_book, run_head, run_locked};
 use std::alloc::{AllocError, Global};
 use std::io::{Read, Write};
@@ -48,40 +47,40 @@ fn way_of(line: &[u8]) -> Option<Way> {
     }
 }
 
-/// Runs a script, again where the run, or its writer, wanted memory and nothing was written, and appends
-/// what it writes.
+/// What the script of these lines writes.
 pub(crate) fn run<R: Threads + Wait + Sync>(
     rt: &R,
     alloc: Global,
     how: Manner,
     lines: &[&[u8]],
-    text: &mut Vec<u8>,
-    wants: &mut Wants,
-) -> Result<(), PlayFault> {
-    let script = wants.again(|| joined(alloc, lines))?;
-    let mut written = Vec::new(alloc);
-    match run_once(rt, alloc, how, &script, &mut written) {
-        Ok(()) => append_told(alloc, how, text, &written, wants),
-        Err(RunFault::Memory | RunFault::Write) if written.is_empty() => {
-            wants.note();
-            run_once(rt, alloc, how, &script, &mut written)?;
-            append_told(alloc, how, text, &written, wants)
-        }
-        Err(RunFault::Memory) => Err(PlayFault::Wrong("out of memory, and a text")),
-        Err(fault) => Err(PlayFault::from(fault)),
+) -> Result<Vec<u8>, PlayFault> {
+    let script = joined(alloc, lines)?;
+    // A history has the order of the threads.
+    let written = output_of(rt, alloc, how.way, &script, !how.is_ranked)?;
+    if how.is_ranked {
+        Ok(ranked(alloc, &written)?)
+    } else {
+        Ok(written)
     }
 }
 
-fn run_once<R: Threads + Wait + Sync>(
+/// What a script writes one way, with its history where it is wanted. A run that wants memory, as its writer
+/// may, has written nothing.
+pub(crate) fn output_of<R: Threads + Wait + Sync>(
     rt: &R,
     alloc: Global,
-    how: Manner,
+    way: Way,
     script: &[u8],
-    written: &mut Vec<u8>,
-) -> Result<(), RunFault> {
+    history: bool,
+) -> Result<Vec<u8>, PlayFault> {
     let mut reader = script;
-    // A history has the order of the threads.
-    run_way(rt, alloc, how.way, !how.is_ranked, &mut reader, written)
+    let mut written = Vec::new(alloc);
+    match run_way(rt, alloc, way, history, &mut reader, &mut written) {
+        Ok(()) => Ok(written),
+        Err(RunFault::Memory | RunFault::Write) if written.is_empty() => Err(PlayFault::Memory),
+        Err(RunFault::Memory) => Err(PlayFault::Wrong("out of memory, and a text")),
+        Err(fault) => Err(PlayFault::from(fault)),
+    }
 }
 
 /// Runs a script one way.
@@ -100,20 +99,6 @@ pub(crate) fn run_way<T: Threads + Wait + Sync, R: Read, W: Write>(
     }
 }
 
-fn append_told(
-    alloc: Global,
-    how: Manner,
-    text: &mut Vec<u8>,
-    written: &[u8],
-    wants: &mut Wants,
-) -> Result<(), PlayFault> {
-    if !how.is_ranked {
-        return append_again(text, written, wants);
-    }
-    let told = wants.again(|| ranked(alloc, written))?;
-    append_again(text, &told, wants)
-}
-
 /// Lines as one text.
 pub(crate) fn joined(alloc: Global, lines: &[&[u8]]) -> Result<Vec<u8>, AllocError> {
     let mut text = Vec::new(alloc);
@@ -122,13 +107,4 @@ pub(crate) fn joined(alloc: Global, lines: &[&[u8]]) -> Result<Vec<u8>, AllocErr
         text.push(b'\n')?;
     }
     Ok(text)
-}
-
-/// Appends bytes, again where that wanted memory.
-pub(crate) fn append_again(
-    text: &mut Vec<u8>,
-    written: &[u8],
-    wants: &mut Wants,
-) -> Result<(), PlayFault> {
-    Ok(wants.again(|| text.extend_from_slice(written))?)
 }

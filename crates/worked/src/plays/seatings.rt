@@ -2,10 +2,9 @@
 ghost use Rattle.std.specs.Prelude.{◌<◌, All, IfOk, IfSome, length};
 ghost use Rattle.camp_history.specs.Seats.{IsSeatOf};
 
-use crate::plays::books::Answer;
+use crate::plays::Answer;
 use crate::plays::faults::PlayFault;
-use crate::wants::Wants;
-use camp_head::{Fault, Head, HeadFault, Seat};
+use camp_head::{Head, HeadFault, Seat};
 use camp_repo::Call;
 use std::alloc::Global;
 use std::sync::Wait;
@@ -29,32 +28,38 @@ impl Seating {
         Ok(Seating { head, seats })
     }
 
-    /// How many calls a seat has seen, and how many of its own were accepted.
-    pub(crate) fn seen(&self, number: u32) -> Result<Seen, PlayFault> {
-        match find(&self.seats, number) {
-            Some(at) => Ok(seen_by(&self.seats[at])),
-            None => Err(NO_SEAT),
-        }
+    /// Tells how many calls a seat has seen, and how many of its own were accepted.
+    pub(crate) fn seen_text(&self, alloc: Global, number: u32) -> Result<Vec<u8>, PlayFault> {
+        let seat = self.seat(number)?;
+        let (position, accepted) = (seat.position(), seat.accepted());
+        let text = format!(in alloc; "position {position} accepted {accepted}\n")?;
+        Ok(text.into_bytes())
     }
 
-    /// How many versions a seat has adopted.
-    pub(crate) fn adopted(&self, number: u32) -> Result<u32, PlayFault> {
-        match find(&self.seats, number) {
-            Some(at) => Ok(self.seats[at].adopted()),
-            None => Err(NO_SEAT),
-        }
+    /// Tells how many versions a seat has adopted.
+    pub(crate) fn adopted_text(&self, alloc: Global, number: u32) -> Result<Vec<u8>, PlayFault> {
+        let adopted = self.seat(number)?.adopted();
+        let text = format!(in alloc; "adopted {adopted}\n")?;
+        Ok(text.into_bytes())
     }
 
-    /// A seat hands on what it has seen. Where that wanted memory, it does so again.
-    pub(crate) fn hand_on(&self, number: u32, wants: &mut Wants) -> Result<(), PlayFault> {
-        let Some(at) = find(&self.seats, number) else {
-            return Err(NO_SEAT);
-        };
-        if self.head.hand_on(&self.seats[at]).is_err() {
-            wants.note();
-            self.head.hand_on(&self.seats[at])?;
+    /// A seat hands on what it has seen.
+    pub(crate) fn hand_on(&self, number: u32) -> Result<(), PlayFault> {
+        Ok(self.head.hand_on(self.seat(number)?)?)
+    }
+
+    /// What a seat has seen.
+    pub(crate) fn history(&self, number: u32) -> Result<Vec<(u32, Call)>, PlayFault> {
+        Ok(self.head.history(self.seat(number)?)?)
+    }
+
+    fn seat(&self, number: u32) -> Result<&Seat, PlayFault>
+        ensures { IfOk result (λ seat. IsSeatOf self.now.head seat.now) }
+    {
+        match find(&self.seats, number) {
+            Some(at) => Ok(&self.seats[at]),
+            None => Err(NO_SEAT),
         }
-        Ok(())
     }
 
     /// Keeps a call and asks it at a seat.
@@ -75,50 +80,16 @@ impl Seating {
     }
 
     /// The first seat meets the second.
-    pub(crate) fn meet(
-        &mut self,
-        first: u32,
-        second: u32,
-        wants: &mut Wants,
-    ) -> Result<(), PlayFault> {
+    pub(crate) fn meet(&mut self, first: u32, second: u32) -> Result<(), PlayFault> {
         if first == second || find(&self.seats, first).is_none() {
             return Err(NO_SEAT);
         }
         let second = take(&self.head, &mut self.seats, second)?;
         let first = take(&self.head, &mut self.seats, first)?;
-        let (first, second, met) = meet_again(&self.head, first, second, wants);
+        let (first, second, met) = self.head.meet(first, second);
         put(&self.head, &mut self.seats, first)?;
         put(&self.head, &mut self.seats, second)?;
-        met
-    }
-
-    /// What a seat has seen.
-    pub(crate) fn history(&self, number: u32) -> Result<Vec<(u32, Call)>, PlayFault> {
-        match find(&self.seats, number) {
-            Some(at) => Ok(self.head.history(&self.seats[at])?),
-            None => Err(NO_SEAT),
-        }
-    }
-}
-
-/// How many calls a seat has seen, and how many of its own were accepted.
-#[derive(Clone, Copy, PartialEq, Eq)]
-pub(crate) struct Seen {
-    pub(crate) position: u64,
-    pub(crate) accepted: u32,
-}
-
-impl Seen {
-    /// Whether as many calls of its own were accepted, and no fewer were seen.
-    pub(crate) fn is_kept_in(self, later: Seen) -> bool {
-        self.accepted == later.accepted && self.position <= later.position
-    }
-}
-
-fn seen_by(seat: &Seat) -> Seen {
-    Seen {
-        position: seat.position(),
-        accepted: seat.accepted(),
+        Ok(met?)
     }
 }
 
@@ -145,28 +116,4 @@ fn put(head: &Head, seats: &mut Vec<Seat>, seat: Seat) -> Result<(), PlayFault>
     ensures { All (IsSeatOf head.now) seats.new.items }
 {
     Ok(seats.push(seat)?)
-}
-
-/// Brings two seats together, again where that wanted memory and left the first as it was.
-fn meet_again(
-    head: &Head,
-    first: Seat,
-    second: Seat,
-    wants: &mut Wants,
-) -> (Seat, Seat, Result<(), PlayFault>)
-    requires { IsSeatOf head.now first × IsSeatOf head.now second }
-    ensures { IsSeatOf head.now result.0 × IsSeatOf head.now result.1 }
-{
-    let before = seen_by(&first);
-    let (first, second, met) = head.meet(first, second);
-    if met.is_ok() {
-        return (first, second, Ok(()));
-    }
-    wants.note();
-    if !before.is_kept_in(seen_by(&first)) {
-        let wrong = PlayFault::Wrong("out of memory, and another seat");
-        return (first, second, Err(wrong));
-    }
-    let (first, second, met) = head.meet(first, second);
-    (first, second, met.map_err(PlayFault::from))
 }

@@ -2,8 +2,6 @@
 //! the script.
 use crate::plays::commands::{append_line, read_numbers};
 use crate::plays::faults::PlayFault;
-use crate::plays::runs::append_again;
-use crate::plays::split_word;
 use crate::schedules::ends::{Side, play_ends};
 use crate::schedules::gates::Delays;
 use crate::schedules::orders::play_script;
@@ -12,7 +10,7 @@ use crate::schedules::scripts::{append_clients, append_race};
 use crate::schedules::{
     counts_of_drawn, counts_over_head, counts_over_lock, output_of_each, output_over_head,
 };
-use crate::wants::Wants;
+use crate::words::split_word;
 use bstr::ByteSlice;
 use std::alloc::Global;
 use std::sync::Wait;
@@ -168,19 +166,8 @@ fn counts_text(
     Ok(text?.into_bytes())
 }
 
-/// Plays a block, again where that wanted memory, and appends what it gives.
+/// What a block gives.
 pub(crate) fn play_block<R: Threads + Wait + Sync>(
-    rt: &R,
-    alloc: Global,
-    lines: &[&[u8]],
-    text: &mut Vec<u8>,
-    wants: &mut Wants,
-) -> Result<(), PlayFault> {
-    let told = wants.again(|| play_once(rt, alloc, lines))?;
-    append_again(text, &told, wants)
-}
-
-fn play_once<R: Threads + Wait + Sync>(
     rt: &R,
     alloc: Global,
     lines: &[&[u8]],

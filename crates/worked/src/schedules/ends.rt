@@ -1,7 +1,6 @@
 //! Readers and writers that serve a few bytes a call, are interrupted, and fail at each of their calls.
 use crate::plays::faults::PlayFault;
-use crate::plays::runs::{Way, run_way};
-use crate::schedules::output_of;
+use crate::plays::runs::{Way, output_of, run_way};
 use camp_run::RunFault;
 use std::alloc::Global;
 use std::io;

@@ -1,7 +1,7 @@
 //! Gates at which seats wait for each other.
 use crate::plays::commands::number;
 use crate::plays::faults::PlayFault;
-use crate::plays::split_word;
+use crate::words::split_word;
 use bstr::ByteSlice;
 use camp_run::Gate;
 use std::alloc::Global;

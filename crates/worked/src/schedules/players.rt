@@ -1,10 +1,9 @@
 //! What seats are told, worked out without a head: each turn leads from one gate of a seat to its next
 //! one.
-use crate::plays::books::Answer;
 use crate::plays::faults::PlayFault;
+use crate::plays::{Answer, append_answer};
 use crate::schedules::replays::decided;
 use camp_repo::{Book, Call, Decided, Fault, State};
-use camp_script::append_reply;
 use std::alloc::Global;
 
 /// A seat that asks its calls one after the other.
@@ -106,9 +105,6 @@ impl<'a> Player<'a> {
     fn answer(&mut self, answer: &Answer) -> Result<(), PlayFault> {
         self.lost = None;
         self.answered = self.answered.saturating_add(1);
-        if let Err(Fault::Memory) = answer {
-            return Err(PlayFault::Memory);
-        }
-        Ok(append_reply(&mut self.text, answer)?)
+        append_answer(&mut self.text, answer)
     }
 }

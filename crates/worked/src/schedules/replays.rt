@@ -1,6 +1,5 @@
 //! A run is replayed from its history and its answers alone.
 use crate::plays::faults::PlayFault;
-use crate::schedules::same::is_same_reply;
 use camp_clients::{Answers, MAX_SECTIONS, has_exactly};
 use camp_repo::{Call, Decided, Fault, Reply, State};
 use std::alloc::Global;
@@ -129,6 +128,20 @@ fn is_answer(state: &State, call: &Call, reply: &Reply) -> Result<bool, PlayFaul
     match decided(state, call)? {
         Decided::Next(_) => Ok(false),
         Decided::Answer(answer) => Ok(is_same_reply(&answer, reply)),
+    }
+}
+
+/// Whether two replies are the same.
+fn is_same_reply(reply: &Reply, other: &Reply) -> bool {
+    match (reply, other) {
+        (Reply::Done(at), Reply::Done(other)) => *at == *other,
+        (Reply::Refused(refusal), Reply::Refused(other)) => *refusal == *other,
+        (Reply::Tree(tree), Reply::Tree(other)) => tree.is_same(other),
+        (Reply::Conflicts(conflicts), Reply::Conflicts(other)) => {
+            conflicts.pairs() == other.pairs()
+        }
+        (Reply::Names(names), Reply::Names(other)) => names.is_same(other),
+        _ => false,
     }
 }
 

@@ -1,36 +1,28 @@
-//! Values: the arguments of a call, each read from its text and written again.
+//! Values: the arguments of a call, each read from its text.
 use crate::tables::Table;
-use crate::values::numbers::{Numbers, numbers_text, read_number, read_numbers};
-use crate::values::places::{Places, places_text, read_places};
+use crate::values::numbers::{Numbers, read_number, read_numbers};
+use crate::values::places::{Places, read_places};
 use camp_base::{Name, Path, Tree};
 use camp_catch::Catch;
 use camp_ctx::{Contexted, CtxSet};
 use camp_notation::{
-    NotationError, catch_text, catches_text, contexted_text, label_text, lines_text, list_text,
-    named_text, read_catch, read_catches, read_contexted, read_label, read_lines, read_list,
-    read_named, read_set, read_tree, read_word, set_text, tree_text, word_text,
+    NotationError, read_catch, read_catches, read_contexted, read_label, read_lines, read_list,
+    read_named, read_set, read_tree, read_word,
 };
 use camp_prim::{Label, Lines, Named};
 use camp_seq::Seq;
 use camp_share::Shared;
-use std::alloc::AllocError;
 
-/// An argument of a call: a value that is read from its text, and written again.
+/// An argument of a call: a value that is read from its text.
 pub(crate) trait Argument: Drop {
     /// The value of a text. A list or a tree may be called by its name.
     fn read(table: &Table, text: &[u8]) -> Result<Self, NotationError>;
-
-    /// The text of the value.
-    fn text(&self, table: &Table) -> Result<String, AllocError>;
 }
 
 /// The arguments of a call, one behind the other.
 pub(crate) trait Arguments: Drop {
     /// The arguments of texts. One that is missing has an empty text; further ones are passed over.
     fn read(table: &Table, texts: &[&[u8]]) -> Result<Self, NotationError>;
-
-    /// Whether the text of each is still the one that it was read from.
-    fn are_kept(&self, table: &Table, texts: &[&[u8]]) -> Result<bool, NotationError>;
 }
 
 /// No more arguments.
@@ -58,10 +50,6 @@ impl Arguments for End {
     fn read(_table: &Table, _texts: &[&[u8]]) -> Result<End, NotationError> {
         Ok(End)
     }
-
-    fn are_kept(&self, _table: &Table, _texts: &[&[u8]]) -> Result<bool, NotationError> {
-        Ok(true)
-    }
 }
 
 impl<A: Argument, R: Arguments> Arguments for Then<A, R> {
@@ -71,16 +59,6 @@ impl<A: Argument, R: Arguments> Arguments for Then<A, R> {
         match R::read(table, behind) {
             Ok(rest) => Ok(Then { first, rest }),
             Err(why) => Err(why),
-        }
-    }
-
-    fn are_kept(&self, table: &Table, texts: &[&[u8]]) -> Result<bool, NotationError> {
-        let (text, behind) = first_of(texts);
-        let written = self.first.text(table)?;
-        if written.as_bytes() == table.meaning(text) {
-            self.rest.are_kept(table, behind)
-        } else {
-            Ok(false)
         }
     }
 }
@@ -101,26 +79,12 @@ impl Arguments for Vec<Label> {
         }
         Ok(labels)
     }
-
-    fn are_kept(&self, table: &Table, texts: &[&[u8]]) -> Result<bool, NotationError> {
-        for (label, text) in self.iter().zip(texts) {
-            let written = label_text(table.alloc(), *label)?;
-            if written.as_bytes() != *text {
-                return Ok(false);
-            }
-        }
-        Ok(true)
-    }
 }
 
 /// Bytes.
 impl Argument for Vec<u8> {
     fn read(table: &Table, text: &[u8]) -> Result<Vec<u8>, NotationError> {
         read_word(table.alloc(), text)
-    }
-
-    fn text(&self, table: &Table) -> Result<String, AllocError> {
-        word_text(table.alloc(), self)
     }
 }
 
@@ -129,20 +93,12 @@ impl Argument for Name {
         let word = read_word(table.alloc(), text)?;
         Ok(Name::new(&word)?)
     }
-
-    fn text(&self, table: &Table) -> Result<String, AllocError> {
-        word_text(table.alloc(), self.bytes())
-    }
 }
 
 impl Argument for Path {
     fn read(table: &Table, text: &[u8]) -> Result<Path, NotationError> {
         let word = read_word(table.alloc(), text)?;
         Ok(Path::new(table.alloc(), &word)?)
-    }
-
-    fn text(&self, table: &Table) -> Result<String, AllocError> {
-        word_text(table.alloc(), self.bytes())
     }
 }
 
@@ -152,19 +108,11 @@ impl Argument for Lines {
         let lines = read_lines(table.alloc(), text)?;
         Ok(Lines::new(table.alloc(), lines)?)
     }
-
-    fn text(&self, table: &Table) -> Result<String, AllocError> {
-        lines_text(table.alloc(), self.as_slice())
-    }
 }
 
 impl Argument for u32 {
     fn read(_table: &Table, text: &[u8]) -> Result<u32, NotationError> {
         read_number(text)
-    }
-
-    fn text(&self, table: &Table) -> Result<String, AllocError> {
-        format!(in table.alloc(); "{self}")
     }
 }
 
@@ -172,19 +120,11 @@ impl Argument for Named {
     fn read(table: &Table, text: &[u8]) -> Result<Named, NotationError> {
         read_named(table.alloc(), table.known(), text)
     }
-
-    fn text(&self, table: &Table) -> Result<String, AllocError> {
-        named_text(table.alloc(), table.known(), self)
-    }
 }
 
 impl Argument for Seq {
     fn read(table: &Table, text: &[u8]) -> Result<Seq, NotationError> {
         read_list(table.alloc(), table.known(), table.meaning(text))
-    }
-
-    fn text(&self, table: &Table) -> Result<String, AllocError> {
-        list_text(table.alloc(), table.known(), self)
     }
 }
 
@@ -192,19 +132,11 @@ impl Argument for Tree {
     fn read(table: &Table, text: &[u8]) -> Result<Tree, NotationError> {
         read_tree(table.alloc(), table.meaning(text))
     }
-
-    fn text(&self, table: &Table) -> Result<String, AllocError> {
-        tree_text(table.alloc(), self)
-    }
 }
 
 impl Argument for Label {
     fn read(table: &Table, text: &[u8]) -> Result<Label, NotationError> {
         read_label(table.alloc(), text)
-    }
-
-    fn text(&self, table: &Table) -> Result<String, AllocError> {
-        label_text(table.alloc(), *self)
     }
 }
 
@@ -212,19 +144,11 @@ impl Argument for Contexted {
     fn read(table: &Table, text: &[u8]) -> Result<Contexted, NotationError> {
         read_contexted(table.alloc(), table.known(), text)
     }
-
-    fn text(&self, table: &Table) -> Result<String, AllocError> {
-        contexted_text(table.alloc(), table.known(), self)
-    }
 }
 
 impl Argument for CtxSet {
     fn read(table: &Table, text: &[u8]) -> Result<CtxSet, NotationError> {
         read_set(table.alloc(), table.known(), text)
-    }
-
-    fn text(&self, table: &Table) -> Result<String, AllocError> {
-        set_text(table.alloc(), table.known(), self)
     }
 }
 
@@ -232,19 +156,11 @@ impl Argument for Catch {
     fn read(table: &Table, text: &[u8]) -> Result<Catch, NotationError> {
         read_catch(table.alloc(), table.known(), text)
     }
-
-    fn text(&self, table: &Table) -> Result<String, AllocError> {
-        catch_text(table.alloc(), table.known(), self)
-    }
 }
 
 impl Argument for Vec<Shared<Catch>> {
     fn read(table: &Table, text: &[u8]) -> Result<Vec<Shared<Catch>>, NotationError> {
         read_catches(table.alloc(), table.known(), text)
-    }
-
-    fn text(&self, table: &Table) -> Result<String, AllocError> {
-        catches_text(table.alloc(), table.known(), self)
     }
 }
 
@@ -253,19 +169,11 @@ impl Argument for Numbers {
     fn read(table: &Table, text: &[u8]) -> Result<Numbers, NotationError> {
         read_numbers(table.alloc(), text)
     }
-
-    fn text(&self, table: &Table) -> Result<String, AllocError> {
-        numbers_text(table.alloc(), self)
-    }
 }
 
 /// A shared map from names to numbers.
 impl Argument for Places {
     fn read(table: &Table, text: &[u8]) -> Result<Places, NotationError> {
         read_places(table.alloc(), text)
-    }
-
-    fn text(&self, table: &Table) -> Result<String, AllocError> {
-        places_text(table.alloc(), self)
     }
 }

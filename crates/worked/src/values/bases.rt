@@ -3,7 +3,6 @@ use crate::tables::Table;
 use crate::values::arguments::End;
 use crate::values::calls::CallLine;
 use crate::values::results::{Outcome, fault, order};
-use crate::wants::Wants;
 use camp_base::{Apply, BaseFault, Line, Name, Path};
 use camp_notation::{lines_text, word_text};
 use camp_prim::Lines;
@@ -11,20 +10,20 @@ use camp_share::Share;
 use std::alloc::AllocError;
 
 /// The result of a call on names, paths, lines or faults.
-pub(crate) fn answer(line: CallLine<'_>, wants: &mut Wants) -> Option<Outcome> {
+pub(crate) fn answer(line: CallLine<'_>) -> Option<Outcome> {
     let outcome = match line.name {
-        b"name" => line.one(wants, name),
-        b"path" => line.one(wants, path),
-        b"line" => line.one(wants, line_of),
-        b"copy_path" => line.one(wants, copy_path),
-        b"copy_lines" => line.one(wants, copy_lines),
-        b"compare_names" => line.two(wants, |table: &Table, left: &Name, right: &Name| {
+        b"name" => line.one(name),
+        b"path" => line.one(path),
+        b"line" => line.one(line_of),
+        b"copy_path" => line.one(copy_path),
+        b"copy_lines" => line.one(copy_lines),
+        b"compare_names" => line.two(|table: &Table, left: &Name, right: &Name| {
             order(table, left.cmp(right))
         }),
-        b"compare_paths" => line.two(wants, |table: &Table, left: &Path, right: &Path| {
+        b"compare_paths" => line.two(|table: &Table, left: &Path, right: &Path| {
             order(table, left.cmp(right))
         }),
-        b"faults" => line.ask(wants, faults),
+        b"faults" => line.ask(faults),
         _ => return None,
     };
     Some(outcome)

@@ -3,17 +3,16 @@
 use crate::tables::Table;
 use crate::values::calls::CallLine;
 use crate::values::results::{Outcome, none, word};
-use crate::wants::Wants;
 use camp_base::{BaseFault, Line, Name, Path};
 use camp_notation::{NotationError, word_text};
 use std::alloc::Global;
 
 /// The result of a call on a kind of value that is made of bytes.
-pub(crate) fn answer(line: CallLine<'_>, wants: &mut Wants) -> Option<Outcome> {
+pub(crate) fn answer(line: CallLine<'_>) -> Option<Outcome> {
     let outcome = match line.name {
-        b"bytes_alone" => line.one(wants, bytes_alone),
-        b"bytes_within" => line.one(wants, bytes_within),
-        b"lengths" => line.one(wants, lengths),
+        b"bytes_alone" => line.one(bytes_alone),
+        b"bytes_within" => line.one(bytes_within),
+        b"lengths" => line.one(lengths),
         _ => return None,
     };
     Some(outcome)

@@ -6,7 +6,6 @@ use crate::values::splits::split;
 use crate::values::{
     bases, bytes, catch_lists, catches, clients, contexts, lists, primitives, sets, shares, trees,
 };
-use crate::wants::Wants;
 use camp_notation::NotationError;
 
 /// A line that is a call. Its arguments may name what stands in the table.
@@ -18,38 +17,38 @@ pub(crate) struct CallLine<'a> {
 }
 
 /// The result of a call, which is looked for among the calls on one kind of value after the other.
-pub(crate) fn answer(line: CallLine<'_>, wants: &mut Wants) -> Outcome {
-    if let Some(outcome) = bases::answer(line, wants) {
+pub(crate) fn answer(line: CallLine<'_>) -> Outcome {
+    if let Some(outcome) = bases::answer(line) {
         return outcome;
     }
-    if let Some(outcome) = bytes::answer(line, wants) {
+    if let Some(outcome) = bytes::answer(line) {
         return outcome;
     }
-    if let Some(outcome) = trees::answer(line, wants) {
+    if let Some(outcome) = trees::answer(line) {
         return outcome;
     }
-    if let Some(outcome) = primitives::answer(line, wants) {
+    if let Some(outcome) = primitives::answer(line) {
         return outcome;
     }
-    if let Some(outcome) = lists::answer(line, wants) {
+    if let Some(outcome) = lists::answer(line) {
         return outcome;
     }
-    if let Some(outcome) = contexts::answer(line, wants) {
+    if let Some(outcome) = contexts::answer(line) {
         return outcome;
     }
-    if let Some(outcome) = sets::answer(line, wants) {
+    if let Some(outcome) = sets::answer(line) {
         return outcome;
     }
-    if let Some(outcome) = catches::answer(line, wants) {
+    if let Some(outcome) = catches::answer(line) {
         return outcome;
     }
-    if let Some(outcome) = catch_lists::answer(line, wants) {
+    if let Some(outcome) = catch_lists::answer(line) {
         return outcome;
     }
-    if let Some(outcome) = shares::answer(line, wants) {
+    if let Some(outcome) = shares::answer(line) {
         return outcome;
     }
-    if let Some(outcome) = clients::answer(line, wants) {
+    if let Some(outcome) = clients::answer(line) {
         return outcome;
     }
     word(line.table, "no such call")
@@ -61,50 +60,29 @@ impl<'a> CallLine<'a> {
         matches!(self.text.first(), Some(b'[' | b'('))
     }
 
-    /// The result of a call, whose arguments are read from the line. It is made again where it wanted memory
-    /// and left its arguments as they were.
-    pub(crate) fn ask<A: Arguments, F: Fn(&Table, &A) -> Outcome>(
-        self,
-        wants: &mut Wants,
-        call: F,
-    ) -> Outcome
+    /// The result of a call, whose arguments are read from the line.
+    pub(crate) fn ask<A: Arguments, F: FnOnce(&Table, &A) -> Outcome>(self, call: F) -> Outcome
         requires { F.IsAlwaysCallable call }
     {
-        let on = wants.again(|| self.read::<A>())?;
-        match call(self.table, &on) {
-            Err(NotationError::Memory) => {
-                if self.has_kept(&on, wants)? {
-                    call(self.table, &on)
-                } else {
-                    word(self.table, "out of memory, and other arguments")
-                }
-            }
-            outcome => outcome,
-        }
+        let on = self.read::<A>()?;
+        call(self.table, &on)
     }
 
     /// The result of a call with one argument.
-    pub(crate) fn one<A: Argument, F: Fn(&Table, &A) -> Outcome>(
-        self,
-        wants: &mut Wants,
-        call: F,
-    ) -> Outcome
+    pub(crate) fn one<A: Argument, F: FnOnce(&Table, &A) -> Outcome>(self, call: F) -> Outcome
         requires { F.IsAlwaysCallable call }
     {
-        self.ask(wants, |table: &Table, on: &One<A>| call(table, &on.first))
+        self.ask(|table: &Table, on: &One<A>| call(table, &on.first))
     }
 
     /// The result of a call with two arguments.
-    pub(crate) fn two<A: Argument, B: Argument, F: Fn(&Table, &A, &B) -> Outcome>(
+    pub(crate) fn two<A: Argument, B: Argument, F: FnOnce(&Table, &A, &B) -> Outcome>(
         self,
-        wants: &mut Wants,
         call: F,
     ) -> Outcome
         requires { F.IsAlwaysCallable call }
     {
-        self.ask(wants, |table: &Table, on: &Two<A, B>| {
-            call(table, &on.first, &on.rest.first)
-        })
+        self.ask(|table: &Table, on: &Two<A, B>| { call(table, &on.first, &on.rest.first) })
     }
 
     /// The result of a call with three arguments.
@@ -112,11 +90,11 @@ impl<'a> CallLine<'a> {
         A: Argument,
         B: Argument,
         C: Argument,
-        F: Fn(&Table, &A, &B, &C) -> Outcome,
-    >(self, wants: &mut Wants, call: F) -> Outcome
+        F: FnOnce(&Table, &A, &B, &C) -> Outcome,
+    >(self, call: F) -> Outcome
         requires { F.IsAlwaysCallable call }
     {
-        self.ask(wants, |table: &Table, on: &Three<A, B, C>| {
+        self.ask(|table: &Table, on: &Three<A, B, C>| {
             call(table, &on.first, &on.rest.first, &on.rest.rest.first)
         })
     }
@@ -124,16 +102,5 @@ impl<'a> CallLine<'a> {
     fn read<A: Arguments>(self) -> Result<A, NotationError> {
         let texts = split(self.table.alloc(), self.text)?;
         A::read(self.table, &texts)
-    }
-
-    /// Whether the arguments of a call that has wanted memory are as they were.
-    fn has_kept<A: Arguments>(
-        self,
-        arguments: &A,
-        wants: &mut Wants,
-    ) -> Result<bool, NotationError> {
-        wants.note();
-        let texts = split(self.table.alloc(), self.text)?;
-        arguments.are_kept(self.table, &texts)
     }
 }

@@ -3,7 +3,6 @@ use crate::tables::Table;
 use crate::values::arguments::Then;
 use crate::values::calls::CallLine;
 use crate::values::results::{Outcome, catch_list_text, joined, key_text};
-use crate::wants::Wants;
 use camp_base::Name;
 use camp_catch::{Arranged, Catch, NoMerge, Stuck, Unmade, align, arrange, merge_lists};
 use camp_notation::NotationError;
@@ -12,12 +11,12 @@ use camp_share::{Shared, SharedMap};
 use std::alloc::AllocError;
 
 /// The result of a call on lists of catches.
-pub(crate) fn answer(line: CallLine<'_>, wants: &mut Wants) -> Option<Outcome> {
+pub(crate) fn answer(line: CallLine<'_>) -> Option<Outcome> {
     let outcome = match line.name {
-        b"read_catches" => line.one(wants, read),
-        b"arrange" => line.ask(wants, arranged),
-        b"align" => line.ask(wants, aligned),
-        b"merge_lists" => line.two(wants, merged),
+        b"read_catches" => line.one(read),
+        b"arrange" => line.ask(arranged),
+        b"align" => line.ask(aligned),
+        b"merge_lists" => line.two(merged),
         _ => return None,
     };
     Some(outcome)

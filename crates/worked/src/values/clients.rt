@@ -5,7 +5,6 @@ use crate::values::arguments::{End, Four};
 use crate::values::calls::CallLine;
 use crate::values::numbers::Numbers;
 use crate::values::results::{Outcome, joined, none, yes_or_no};
-use crate::wants::Wants;
 use NumberCall::{Insert, Show};
 use camp_base::Name;
 use camp_call::{Refusal, Reply};
@@ -18,12 +17,12 @@ use std::alloc::{AllocError, Global};
 use std::io::ErrorKind;
 
 /// The result of a call on clients, or on the words of faults.
-pub(crate) fn answer(line: CallLine<'_>, wants: &mut Wants) -> Option<Outcome> {
+pub(crate) fn answer(line: CallLine<'_>) -> Option<Outcome> {
     let outcome = match line.name {
-        b"serial" => line.three(wants, serial_answers),
-        b"has_exactly" => line.ask(wants, has_exactly_told),
-        b"run_faults" => line.ask(wants, fault_words),
-        b"pull_refusals" => line.two(wants, pull_refusals),
+        b"serial" => line.three(serial_answers),
+        b"has_exactly" => line.ask(has_exactly_told),
+        b"run_faults" => line.ask(fault_words),
+        b"pull_refusals" => line.two(pull_refusals),
         _ => return None,
     };
     Some(outcome)

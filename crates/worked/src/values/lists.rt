@@ -3,44 +3,36 @@ use crate::tables::Table;
 use crate::values::arguments::Then;
 use crate::values::calls::CallLine;
 use crate::values::results::{Outcome, Shown, both, changed, made, word, yes_or_no};
-use crate::wants::Wants;
 use camp_base::Tree;
 use camp_notation::{NotationError, listing, word_text};
 use camp_prim::{Label, Named};
 use camp_seq::{Seq, apply_all, clean_merge, front, invert_all, norm, past, past_all, split};
 
 /// The result of a call on lists of primitives.
-pub(crate) fn answer(line: CallLine<'_>, wants: &mut Wants) -> Option<Outcome> {
+pub(crate) fn answer(line: CallLine<'_>) -> Option<Outcome> {
     let outcome = match line.name {
-        b"copy_list" => line.one(
-            wants,
-            |table: &Table, list: &Seq| made(table, list.try_clone()),
-        ),
-        b"push" => line.two(wants, pushed),
-        b"past" => line.two(wants, |table: &Table, p: &Named, list: &Seq| {
-            both(table, past(p, list))
-        }),
-        b"past_all" => line.two(wants, |table: &Table, left: &Seq, right: &Seq| {
+        b"copy_list" => line.one(|table: &Table, list: &Seq| made(table, list.try_clone())),
+        b"push" => line.two(pushed),
+        b"past" => line.two(|table: &Table, p: &Named, list: &Seq| { both(table, past(p, list)) }),
+        b"past_all" => line.two(|table: &Table, left: &Seq, right: &Seq| {
             both(table, past_all(left, right))
         }),
-        b"front" => line.two(wants, |table: &Table, list: &Seq, label: &Label| {
+        b"front" => line.two(|table: &Table, list: &Seq, label: &Label| {
             both(table, front(list, label))
         }),
-        b"split" => line.ask(wants, |table: &Table, on: &Then<Seq, Vec<Label>>| {
+        b"split" => line.ask(|table: &Table, on: &Then<Seq, Vec<Label>>| {
             both(table, split(&on.first, &on.rest))
         }),
-        b"norm" => line.one(wants, |table: &Table, list: &Seq| made(table, norm(list))),
-        b"invert_all" => line.one(wants, |table: &Table, list: &Seq| {
-            made(table, invert_all(list))
-        }),
-        b"clean_merge" => line.two(wants, |table: &Table, left: &Seq, right: &Seq| {
+        b"norm" => line.one(|table: &Table, list: &Seq| made(table, norm(list))),
+        b"invert_all" => line.one(|table: &Table, list: &Seq| { made(table, invert_all(list)) }),
+        b"clean_merge" => line.two(|table: &Table, left: &Seq, right: &Seq| {
             both(table, clean_merge(left, right))
         }),
-        b"apply_all" => line.two(wants, applied),
-        b"are_same_lists" => line.two(wants, |table: &Table, left: &Seq, right: &Seq| {
+        b"apply_all" => line.two(applied),
+        b"are_same_lists" => line.two(|table: &Table, left: &Seq, right: &Seq| {
             yes_or_no(table, left.is_same(right))
         }),
-        b"listing" => line.one(wants, listed),
+        b"listing" => line.one(listed),
         _ => return None,
     };
     Some(outcome)

@@ -1,10 +1,10 @@
 //! Shared lists of numbers, which are written as the rows that they are made of: `0..40 66..67`.
 
+use crate::words::number_of;
 use bstr::ByteSlice;
 use camp_notation::NotationError;
 use camp_share::{Share, SharedList};
 use std::alloc::{AllocError, Global};
-use std::str;
 
 /// An element, whose copies take no memory.
 #[derive(Clone, Copy, PartialEq, Eq, Drop)]
@@ -20,13 +20,7 @@ pub(crate) type Numbers = SharedList<Number>;
 
 /// The number of a text.
 pub(crate) fn read_number(text: &[u8]) -> Result<u32, NotationError> {
-    let Ok(text) = str::from_utf8(text) else {
-        return Err(NotationError::BadNumber);
-    };
-    match text.parse::<u32>() {
-        Ok(number) => Ok(number),
-        Err(_) => Err(NotationError::BadNumber),
-    }
+    number_of(text).ok_or(NotationError::BadNumber)
 }
 
 /// The list of a text.

@@ -5,7 +5,6 @@ use crate::values::calls::CallLine;
 use crate::values::results::{
     Outcome, both, changed, joined, made, none, order, pair_text, show, word, yes_or_no,
 };
-use crate::wants::Wants;
 use camp_base::{Path, Tree};
 use camp_notation::{lines_text, word_text};
 use camp_prim::{Hunk, Lines, Named, Primitive, commute, exchange};
@@ -13,28 +12,25 @@ use camp_share::Share;
 use std::alloc::AllocError;
 
 /// The result of a call on primitives. `commute` is of catches too, where its arguments begin as these do.
-pub(crate) fn answer(line: CallLine<'_>, wants: &mut Wants) -> Option<Outcome> {
+pub(crate) fn answer(line: CallLine<'_>) -> Option<Outcome> {
     let outcome = match line.name {
-        b"hunk" => line.ask(wants, hunk),
-        b"read" => line.one(wants, show::<Named>),
-        b"copy" => line.one(wants, |table: &Table, p: &Named| made(table, p.try_clone())),
-        b"copy_primitive" => line.one(wants, copy_primitive),
-        b"copy_hunk" => line.one(wants, copy_hunk),
-        b"invert" => line.one(wants, invert),
-        b"are_same" => line.two(wants, |table: &Table, p: &Named, q: &Named| {
+        b"hunk" => line.ask(hunk),
+        b"read" => line.one(show::<Named>),
+        b"copy" => line.one(|table: &Table, p: &Named| made(table, p.try_clone())),
+        b"copy_primitive" => line.one(copy_primitive),
+        b"copy_hunk" => line.one(copy_hunk),
+        b"invert" => line.one(invert),
+        b"are_same" => line.two(|table: &Table, p: &Named, q: &Named| {
             yes_or_no(table, p.is_same(q))
         }),
-        b"compare_labels" => line.two(wants, |table: &Table, p: &Named, q: &Named| {
+        b"compare_labels" => line.two(|table: &Table, p: &Named, q: &Named| {
             order(table, p.label().cmp(&q.label()))
         }),
-        b"apply" => line.two(wants, apply),
-        b"apply_primitive" => line.two(wants, apply_primitive),
-        b"exchange" => line.two(wants, exchanged),
+        b"apply" => line.two(apply),
+        b"apply_primitive" => line.two(apply_primitive),
+        b"exchange" => line.two(exchanged),
         b"commute" if !line.is_of_catches() => {
-            line.two(
-                wants,
-                |table: &Table, p: &Named, q: &Named| both(table, commute(p, q)),
-            )
+            line.two(|table: &Table, p: &Named, q: &Named| both(table, commute(p, q)))
         }
         _ => return None,
     };

@@ -7,47 +7,34 @@ use crate::values::calls::CallLine;
 use crate::values::numbers::{Number, Numbers};
 use crate::values::places::Places;
 use crate::values::results::{Outcome, made, none};
-use crate::wants::Wants;
 use camp_base::Name;
 use camp_share::{Share, SharedList};
 
 /// The result of a call on shared lists or maps.
-pub(crate) fn answer(line: CallLine<'_>, wants: &mut Wants) -> Option<Outcome> {
+pub(crate) fn answer(line: CallLine<'_>) -> Option<Outcome> {
     let outcome = match line.name {
-        b"list_to_vec" => line.one(wants, list_to_vec),
-        b"list_shared" => line.one(
-            wants,
-            |table: &Table, list: &Numbers| made(table, list.share()),
-        ),
-        b"list_pushed" => line.two(wants, |table: &Table, list: &Numbers, number: &u32| {
+        b"list_to_vec" => line.one(list_to_vec),
+        b"list_shared" => line.one(|table: &Table, list: &Numbers| made(table, list.share())),
+        b"list_pushed" => line.two(|table: &Table, list: &Numbers, number: &u32| {
             made(table, list.pushed(Number(*number)))
         }),
-        b"list_inserted" => line.three(wants, list_inserted),
-        b"list_replaced" => line.three(wants, list_replaced),
-        b"list_without" => line.two(wants, list_without),
-        b"list_spliced" => line.ask(wants, list_spliced),
-        b"list_copied" => line.three(wants, list_copied),
-        b"map_shared" => line.one(
-            wants,
-            |table: &Table, map: &Places| made(table, map.share()),
-        ),
+        b"list_inserted" => line.three(list_inserted),
+        b"list_replaced" => line.three(list_replaced),
+        b"list_without" => line.two(list_without),
+        b"list_spliced" => line.ask(list_spliced),
+        b"list_copied" => line.three(list_copied),
+        b"map_shared" => line.one(|table: &Table, map: &Places| made(table, map.share())),
         b"map_inserted" => {
-            line.three(
-                wants,
-                |table: &Table, map: &Places, name: &Name, number: &u32| {
-                    made(table, map.inserted(*name, Number(*number)))
-                },
-            )
+            line.three(|table: &Table, map: &Places, name: &Name, number: &u32| {
+                made(table, map.inserted(*name, Number(*number)))
+            })
         }
         b"map_inserted_if_absent" => {
-            line.three(
-                wants,
-                |table: &Table, map: &Places, name: &Name, number: &u32| {
-                    made(table, map.inserted_if_absent(*name, Number(*number)))
-                },
-            )
+            line.three(|table: &Table, map: &Places, name: &Name, number: &u32| {
+                made(table, map.inserted_if_absent(*name, Number(*number)))
+            })
         }
-        b"map_without" => line.two(wants, |table: &Table, map: &Places, name: &Name| {
+        b"map_without" => line.two(|table: &Table, map: &Places, name: &Name| {
             made(table, map.without(name))
         }),
         _ => return None,

@@ -3,7 +3,6 @@ use crate::tables::Table;
 use crate::values::arguments::Five;
 use crate::values::calls::CallLine;
 use crate::values::results::{Outcome, changed, made, none, yes_or_no};
-use crate::wants::Wants;
 use camp_base::{Line, Path, Tree};
 use camp_notation::lines_text;
 use camp_prim::Lines;
@@ -11,22 +10,17 @@ use camp_share::SharedList;
 use std::alloc::AllocError;
 
 /// The result of a call on trees.
-pub(crate) fn answer(line: CallLine<'_>, wants: &mut Wants) -> Option<Outcome> {
+pub(crate) fn answer(line: CallLine<'_>) -> Option<Outcome> {
     let outcome = match line.name {
-        b"len" => line.one(wants, file_count),
-        b"is_empty" => line.one(wants, |table: &Table, tree: &Tree| {
-            yes_or_no(table, tree.is_empty())
-        }),
-        b"file" => line.two(wants, file),
-        b"at" => line.two(wants, at),
-        b"copy_tree" => line.one(
-            wants,
-            |table: &Table, tree: &Tree| made(table, tree.try_clone()),
-        ),
-        b"add_file" => line.two(wants, add_file),
-        b"remove_file" => line.two(wants, remove_file),
-        b"splice" => line.ask(wants, splice),
-        b"are_same_trees" => line.two(wants, |table: &Table, left: &Tree, right: &Tree| {
+        b"len" => line.one(file_count),
+        b"is_empty" => line.one(|table: &Table, tree: &Tree| { yes_or_no(table, tree.is_empty()) }),
+        b"file" => line.two(file),
+        b"at" => line.two(at),
+        b"copy_tree" => line.one(|table: &Table, tree: &Tree| made(table, tree.try_clone())),
+        b"add_file" => line.two(add_file),
+        b"remove_file" => line.two(remove_file),
+        b"splice" => line.ask(splice),
+        b"are_same_trees" => line.two(|table: &Table, left: &Tree, right: &Tree| {
             yes_or_no(table, left.is_same(right))
         }),
         _ => return None,

@@ -1,0 +1,16 @@
+//! Tables: the words of a line.
+use bstr::ByteSlice;
+use std::str;
+
+/// The first word of a line, and what stands behind it.
+pub(crate) fn split_word(line: &[u8]) -> (&[u8], &[u8]) {
+    match line.split_once_str(b" ") {
+        Some((word, rest)) => (word, rest),
+        None => (line, b""),
+    }
+}
+
+/// The number that a word tells.
+pub(crate) fn number_of(word: &[u8]) -> Option<u32> {
+    str::from_utf8(word).ok()?.parse::<u32>().ok()
+}
