@@ -1,4 +1,4 @@
-ghost use Rattle.camp_talk.specs.Laws.{CausesAreTold, CountsAreTold, FailuresAreTold, KeptIsLoaded, RequestsAreServedInTurn};
+ghost use Rattle.camp_talk.specs.Laws.{CausesAreTold, CountsAreTold, FailuresAreTold, KeptIsLoaded, RefusalsAreTold, RequestsAreServedInTurn};
 
 /// The first line of an answer that is counted tells how many lines follow.
 #[tactic(auto, using(crate::proofs::CountLemmas::counts_are_told))]
@@ -28,4 +28,9 @@ pub fn kept_is_loaded()
 /// Where a call is refused with a limit or for its changes, the lines that tell why name a cause.
 pub fn causes_are_told()
     ensures law { CausesAreTold }
+{}
+
+/// Where a call is refused, the lines that tell why tell of that refusal, and what it says is so.
+pub fn refusals_are_told()
+    ensures law { RefusalsAreTold }
 {}

@@ -1,6 +1,6 @@
 use Rattle.camp_talk.proofs.Words.{refl, ap, map, drop, ◌-◌, ◌∙◌, first_of, lines_without_end, without_end}
 use Rattle.camp_talk.proofs.NotDone.{stands_behind}
-use Rattle.camp_talk.proofs.told_whys.line_at.Goals as goal
+use Rattle.camp_talk.proofs.told_faults.line_at.Goals as goal
 
 pub loop-line-init : goal.loop-line-init
 loop-line-init c =
