@@ -43,7 +43,7 @@ module _ (at : ℕ) (digits : List ℕ) (is : decimal at ≡ digits) (are : is_w
   reason_told : (names : List (List ℕ)) → AreNames names
       → reason_in (words_of (first_of (lines_of (line_text (codes "refused" ∷ decimal at ∷ names))))) ≡ Some reason
   reason_told names are_names =
-      let words : AreWords (codes "refused" ∷ digits ∷ names) = (refl, are, names_are_words names are_names) in
+      let words : AreWords (codes "refused" ∷ digits ∷ names) = (refl, (are, names_are_words names are_names)) in
       ap (λ (number : List ℕ). reason_in (words_of (first_of (lines_of (line_text (codes "refused" ∷ number ∷ names)))))) is
       ∙ ap (λ (text : List ℕ). reason_in (words_of (first_of (lines_of text)))) (sym (append-nil (line_text (codes "refused" ∷ digits ∷ names))))
       ∙ ap (λ (lines : List (List ℕ)). reason_in (words_of (first_of lines))) (first_words (codes "refused" ∷ digits ∷ names) [] words)

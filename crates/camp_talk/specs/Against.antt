@@ -129,10 +129,13 @@ abbrev pub sides_text : Option (Place × List ℕ) → Option (List ℕ) → Lis
 sides_text None to = []
 sides_text (Some place) to = place_word place.0 ++ codes " is " ++ place.1 ++ target_text to ++ codes ".\n"
 
--- that there is no branch of a name, where there is none
+-- that there is no branch of a name
+abbrev pub no_branch_text : List ℕ → List ℕ
+no_branch_text branch = codes "There is no branch " ++ branch ++ codes ".\n"
+
+-- the same, where there is none
 abbrev pub absent_text : Contents → List ℕ → List ℕ
-absent_text state branch =
-    if is_some (catches_of state.branches branch) then [] else codes "There is no branch " ++ branch ++ codes ".\n"
+absent_text state branch = if is_some (catches_of state.branches branch) then [] else no_branch_text branch
 
 -- that there is one, where there is one
 abbrev pub there_text : Contents → List ℕ → List ℕ
@@ -154,11 +157,18 @@ abbrev pub recorded_text : Contents → Asked → List ℕ
 recorded_text state (asked.Call (call.Record branch name changes)) = holders_line name (holders state name)
 recorded_text state other = []
 
--- that a branch lacks a patch, and which have it
+-- that there is no patch of a name, behind the word for what lacks it
+abbrev pub no_patch_text : List ℕ → List ℕ
+no_patch_text name = codes " has no patch " ++ name ++ codes ".\n"
+
+-- that a branch lacks a patch
+abbrev pub lack_line : List ℕ → List ℕ → List ℕ
+lack_line branch name = codes "Branch " ++ branch ++ no_patch_text name
+
+-- the same, and which have it
 abbrev pub lack_text : Contents → List ℕ → Option (List ℕ) → List ℕ
 lack_text state branch None = []
-lack_text state branch (Some name) =
-    codes "Branch " ++ branch ++ codes " has no patch " ++ name ++ codes ".\n" ++ holders_line name (holders state name)
+lack_text state branch (Some name) = lack_line branch name ++ holders_line name (holders state name)
 
 -- the same of the first patch that a command names and the branch lacks, by the catches that this has
 abbrev pub lack_in : Contents → Asked → List ℕ → Option (List Catch) → List ℕ

@@ -113,11 +113,14 @@ abbrev pub cut_text : List ℕ → List ℕ
 cut_text line =
     if nat_lt most_shown (length line) then page (codes "Its first 200 bytes are shown, and it has more." ∷ []) else []
 
--- which word is no name
+-- that a word is no name
+abbrev pub no_name_text : List ℕ → List ℕ
+no_name_text word = codes "This is no name: " ++ word ++ codes "\n"
+
+-- the same, where it is not too long to be shown
 abbrev pub misnamed_text : List ℕ → List ℕ
 misnamed_text word =
-    if nat_lt most_shown (length word) then page (codes "A word of more than 200 bytes is no name." ∷ [])
-    else codes "This is no name: " ++ word ++ codes "\n"
+    if nat_lt most_shown (length word) then page (codes "A word of more than 200 bytes is no name." ∷ []) else no_name_text word
 
 -- which word has the fault, where it is one among many
 abbrev pub word_text : FaultKind → List ℕ → List ℕ

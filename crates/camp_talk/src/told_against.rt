@@ -1,6 +1,6 @@
 //! What stands against a command that is refused: the branches that it names, what is there, and what is not.
 ghost use Rattle.std.specs.Prelude.{◌≡◌, ◌++◌, IfOk, Some, take};
-ghost use Rattle.camp_talk.specs.Against.{about, absent_sides, absent_text, branches_line, call_about, first_lacked_of, holders, holders_line, holds, lack_text, lacked_text, lacks, more_names, most_names, names_line, new_text, place_word, question_about, question_lacks, recorded_text, sides_text, target, there_text};
+ghost use Rattle.camp_talk.specs.Against.{about, absent_sides, absent_text, branches_line, call_about, first_lacked_of, holders, holders_line, holds, lack_line, lack_text, lacked_text, lacks, more_names, most_names, names_line, new_text, no_branch_text, no_patch_text, place_word, question_about, question_lacks, recorded_text, sides_text, target, target_text, there_text};
 
 use crate::questions::{Asked, Question};
 use camp_base::Name;
@@ -28,12 +28,21 @@ pub(crate) fn tell_sides(alloc: Global, asked: &Asked) -> Result<Vec<u8>, AllocE
     let mut text = Vec::from_slice(alloc, place_word(place).as_bytes())?;
     text.extend_from_slice(b" is ")?;
     text.extend_from_slice(branch.bytes())?;
-    if let Some(to) = target(asked) {
-        text.extend_from_slice(b", and TO is ")?;
-        text.extend_from_slice(to.bytes())?;
-    }
+    append_target(&mut text, &target(asked))?;
     text.extend_from_slice(b".\n")?;
     Ok(text)
+}
+
+// Appends that the branch TO is this one, where there is one.
+fn append_target(text: &mut Vec<u8>, to: &Option<Name>) -> Result<(), AllocError>
+    ensures { IfOk result (λ _. text.new.items ≡ text.old.items ++ target_text to.now) }
+{
+    let Some(to) = to else {
+        return Ok(());
+    };
+    text.extend_from_slice(b", and TO is ")?;
+    text.extend_from_slice(to.bytes())?;
+    Ok(())
 }
 
 /// Of the branches that a command names, which are not there; and which there are.
@@ -216,9 +225,16 @@ fn append_absent(text: &mut Vec<u8>, state: &State, branch: &Name) -> Result<(),
     if state.branch(branch).is_some() {
         return Ok(());
     }
+    append_no_branch(text, branch)
+}
+
+fn append_no_branch(text: &mut Vec<u8>, branch: &Name) -> Result<(), AllocError>
+    ensures { IfOk result (λ _. text.new.items ≡ text.old.items ++ no_branch_text branch.now) }
+{
     text.extend_from_slice(b"There is no branch ")?;
     text.extend_from_slice(branch.bytes())?;
-    text.extend_from_slice(b".\n")
+    text.extend_from_slice(b".\n")?;
+    Ok(())
 }
 
 fn new_text(alloc: Global, state: &State, asked: &Asked) -> Result<Vec<u8>, AllocError>
@@ -252,14 +268,28 @@ fn lack_text(
 ) -> Result<Vec<u8>, AllocError>
     ensures { IfOk result (λ text. text.items ≡ lack_text state.now branch.now (Some patch.now)) }
 {
-    let mut text = Vec::from_slice(alloc, b"Branch ")?;
-    text.extend_from_slice(branch.bytes())?;
-    text.extend_from_slice(b" has no patch ")?;
-    text.extend_from_slice(patch.bytes())?;
-    text.extend_from_slice(b".\n")?;
+    let mut text = lack_line(alloc, branch, patch)?;
     let holders = tell_holders(alloc, state, patch)?;
     text.extend_from_slice(&holders)?;
     Ok(text)
+}
+
+fn lack_line(alloc: Global, branch: &Name, patch: &Name) -> Result<Vec<u8>, AllocError>
+    ensures { IfOk result (λ text. text.items ≡ lack_line branch.now patch.now) }
+{
+    let mut text = Vec::from_slice(alloc, b"Branch ")?;
+    text.extend_from_slice(branch.bytes())?;
+    append_no_patch(&mut text, patch)?;
+    Ok(text)
+}
+
+fn append_no_patch(text: &mut Vec<u8>, patch: &Name) -> Result<(), AllocError>
+    ensures { IfOk result (λ _. text.new.items ≡ text.old.items ++ no_patch_text patch.now) }
+{
+    text.extend_from_slice(b" has no patch ")?;
+    text.extend_from_slice(patch.bytes())?;
+    text.extend_from_slice(b".\n")?;
+    Ok(())
 }
 
 fn tell_holders(alloc: Global, state: &State, patch: &Name) -> Result<Vec<u8>, AllocError>

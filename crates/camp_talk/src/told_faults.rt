@@ -1,7 +1,7 @@
 //! Why a command with a fault was not done.
 ghost use Rattle.std.specs.Prelude.{◌≡◌, ◌++◌, IfOk, take};
 ghost use Rattle.camp_script.specs.Lines.{lines_of};
-ghost use Rattle.camp_talk.specs.Whys.{body_rule, comes_of_another, cut_text, fault_cause, fault_lines, hint_text, is_inner, line_at, misnamed_text, most_shown, rule, word_text};
+ghost use Rattle.camp_talk.specs.Whys.{body_rule, comes_of_another, cut_text, fault_cause, fault_lines, hint_text, is_inner, line_at, misnamed_text, most_shown, no_name_text, rule, word_text};
 
 use crate::asking::first_line;
 use crate::questions::Reason;
@@ -123,6 +123,12 @@ fn append_misnamed(text: &mut Vec<u8>, word: &[u8]) -> Result<(), AllocError>
         text.extend_from_slice(b"A word of more than 200 bytes is no name.\n")?;
         return Ok(());
     }
+    append_no_name(text, word)
+}
+
+fn append_no_name(text: &mut Vec<u8>, word: &[u8]) -> Result<(), AllocError>
+    ensures { IfOk result (λ _. text.new.items ≡ text.old.items ++ no_name_text word.now) }
+{
     text.extend_from_slice(b"This is no name: ")?;
     text.extend_from_slice(word)?;
     text.push(b'\n')?;

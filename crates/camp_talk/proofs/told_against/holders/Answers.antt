@@ -7,4 +7,4 @@ use Rattle.camp_talk.proofs.told_against.holders.Goals as goal
 pub returns : goal.returns
 returns c =
     filter_same _ (holds c.args.state.now c.args.patch.now) _ (λ x b f' k. search rules) _ _ c.retain.ensures.filtered
-    ∙ ap (filter (holds c.args.state.now c.args.patch.now)) (c.in_ok-names.ensures.items ∙ c.names-state.ensures.exact)
+    ∙ ap (filter (holds c.args.state.now c.args.patch.now)) (c.in_ok-names.ensures.items ∙ c.names.ensures.exact)
