@@ -1,5 +1,5 @@
 -- Commands that are not done.
-use Rattle.camp_talk.proofs.Words.{◌≡◌, ◌≢◌, ◌-◌, ◌++◌, append_assoc, zero, suc, true, false, List, ◌∷◌, drop, map, ℕ, Result, Ok, Err, Vec, IfOk, arith, refl, ap, sym, subst, true≢false, ◌∙◌, first_of, without_end, Asked, Call, Entries, Gives, LineFault, ScriptFault, Standing, Tells, reply_text}
+use Rattle.camp_talk.proofs.Words.{◌≡◌, ◌≢◌, ◌-◌, zero, suc, true, false, List, ◌∷◌, drop, map, ℕ, Result, Ok, Err, Vec, IfOk, arith, refl, ap, sym, subst, true≢false, ◌∙◌, first_of, without_end, Asked, Call, Entries, Gives, LineFault, ScriptFault, Standing, Tells, reply_text}
 use Rattle.camp_call.specs.declared.replies.Reply.{Reply}
 use Rattle.camp_call.specs.declared.replies.Reply.TheVariants as reply
 use Rattle.camp_object.specs.Asking.{Ask, alone_at}
@@ -43,8 +43,3 @@ module _ (all rest : List (List ℕ)) (line : List ℕ) (steps : all ≡ line �
       let same : next ≡ before = omega (arith, is) in
       (λ j. first_of (drop (same j) (map without_end rest)))
       ∙ sym (ap (λ (lines : List (List ℕ)). first_of (drop (suc before) (map without_end lines))) steps)
-
--- ---- four texts, from the left
-
-pub regroup : (a b c d : List ℕ) → a ++ (b ++ (c ++ d)) ≡ ((a ++ b) ++ c) ++ d
-regroup a b c d = sym (append_assoc a b (c ++ d)) ∙ sym (append_assoc (a ++ b) c d)

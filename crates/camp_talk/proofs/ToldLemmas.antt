@@ -1,33 +1,38 @@
 -- What questions are told.
-use Rattle.camp_talk.proofs.Words.{◌≡◌, ℕ, List, Result, Ok, Err, Vec, IfOk, subst, reply_text, IsTold}
+use Rattle.camp_talk.proofs.Words.{◌≡◌, ℕ, List, Result, Ok, Err, Vec, IfOk, ap, refl, subst, IsTold}
 use Rattle.camp_call.specs.declared.replies.Refusal.{Refusal}
-use Rattle.camp_call.specs.declared.replies.Reply.TheVariants as reply
-use Rattle.camp_questions.specs.Answers.{AnswerOf, Tells}
+use Rattle.camp_questions.specs.Along.{AreAlong, TellsAlong}
+use Rattle.camp_questions.specs.Answers.{AnswerOf, Tells, TellsOrWants}
 use Rattle.camp_questions.specs.declared.faults.Unanswered.{Unanswered}
 use Rattle.camp_questions.specs.declared.faults.Unanswered.TheVariants as fault
+use Rattle.camp_repo.specs.States.{Contents}
+use Rattle.camp_talk.specs.Inside.Said.{TellsFound}
 
 module _ {A Z E : Type 0} (text_of : A → List ℕ) (ComesTo : AnswerOf A → Type 0) where
-  -- an answer is told by its text
-  pub answer_told : (answer : A) (said : Result (Vec ℕ Z) E) → ComesTo (Ok answer)
-      → IfOk said (λ text. text.items ≡ text_of answer) → IfOk said (λ text. IsTold text_of ComesTo text.items)
-  answer_told answer (Ok text) comes is = record { answer = Ok answer; comes = comes; tells = is }
-  answer_told answer (Err error) comes is = tt
+  -- what was found is told, and the question comes to that
+  found_told : (found : Result A Unanswered) (said : Result (Vec ℕ Z) E)
+      → ((answer : A) → found ≡ Ok answer → ComesTo (Ok answer))
+      → ((refusal : Refusal) → found ≡ Err (fault.Refused refusal) → ComesTo (Err refusal))
+      → IfOk said (λ text. TellsFound text_of found text.items) → IfOk said (λ text. IsTold text_of ComesTo text.items)
+  found_told (Ok answer) (Ok text) answers refuses is =
+      record { answer = Ok answer; comes = answers answer refl; tells = is }
+  found_told (Err why) (Ok text) answers refuses (refusal, is, tells) =
+      record { answer = Err refusal; comes = refuses refusal (ap Err is); tells = tells }
+  found_told (Ok answer) (Err error) answers refuses is = tt
+  found_told (Err why) (Err error) answers refuses is = tt
 
-  -- a refusal is told by its text
-  pub refusal_told : (why : Unanswered) (said : Result (Vec ℕ Z) E) → Tells ComesTo (Err why)
-      → IfOk said (λ text. (refusal : Refusal) × (why ≡ fault.Refused refusal) × (text.items ≡ reply_text (reply.Refused refusal)))
-      → IfOk said (λ text. IsTold text_of ComesTo text.items)
-  refusal_told why (Ok text) tells (refusal, is, texts) = record {
-    answer = Err refusal;
-    comes = subst (λ fault. Tells ComesTo (Err fault)) is tells;
-    tells = texts;
-  }
-  refusal_told why (Err error) tells is = tt
+  pub tells_told : (found : Result A Unanswered) (said : Result (Vec ℕ Z) E) → Tells ComesTo found
+      → IfOk said (λ text. TellsFound text_of found text.items) → IfOk said (λ text. IsTold text_of ComesTo text.items)
+  tells_told found said tells =
+      found_told found said (λ answer is. subst (Tells ComesTo) is tells) (λ refusal is. subst (Tells ComesTo) is tells)
 
-  -- the same where it is known what each refusal comes of
-  pub refusal_told_by : (why : Unanswered) (said : Result (Vec ℕ Z) E) → ((refusal : Refusal) → why ≡ fault.Refused refusal → ComesTo (Err refusal))
-      → IfOk said (λ text. (refusal : Refusal) × (why ≡ fault.Refused refusal) × (text.items ≡ reply_text (reply.Refused refusal)))
-      → IfOk said (λ text. IsTold text_of ComesTo text.items)
-  refusal_told_by why (Ok text) each (refusal, is, texts) =
-      record { answer = Err refusal; comes = each refusal is; tells = texts }
-  refusal_told_by why (Err error) each is = tt
+  pub wants_told : (found : Result A Unanswered) (said : Result (Vec ℕ Z) E) → TellsOrWants ComesTo found
+      → IfOk said (λ text. TellsFound text_of found text.items) → IfOk said (λ text. IsTold text_of ComesTo text.items)
+  wants_told found said tells =
+      found_told found said (λ answer is. subst (TellsOrWants ComesTo) is tells) (λ refusal is. subst (TellsOrWants ComesTo) is tells)
+
+pub along_told : {Z E : Type 0} (text_of : List (List ℕ) → List ℕ) (state : Contents) (from to : List ℕ) (names : List (List ℕ))
+    → (found : Result (List (List ℕ)) Unanswered) (said : Result (Vec ℕ Z) E) → TellsAlong state from to names found
+    → IfOk said (λ text. TellsFound text_of found text.items) → IfOk said (λ text. IsTold text_of (AreAlong state from to names) text.items)
+along_told text_of state from to names found said tells =
+    found_told text_of (AreAlong state from to names) found said (λ answer is. subst (TellsAlong state from to names) is tells) (λ refusal is. subst (TellsAlong state from to names) is tells)

@@ -1,19 +1,26 @@
 -- The causes that are told.
 use Rattle.std.proofs.lemmas.Fmt.{decimal_digit, decimal_step}
 use Rattle.std.specs.Fmt.{decimal}
-use Rattle.camp_talk.proofs.Words.{◌≡◌, ◌∙◌, true, List, [], ◌∷◌, ℕ, Ok, Option, Some, ap, arith, codes, first_of, lines_of, words_of, refl, sym, subst, ◌++◌, true≢false, Call, reply_text, asked_by, lines_in}
+use Rattle.std.specs.Prelude.{◌%◌, ◌/◌}
+use Rattle.camp_talk.proofs.Words.{◌≡◌, ◌∙◌, true, List, [], ◌∷◌, ◌+◌, ◌<◌, ◌≤◌, ◌^◌, ℕ, Ok, Option, Some, ap, append-nil, arith, codes, first_of, lines_of, words_of, refl, sym, subst, ◌++◌, true≢false, Call, reply_text, asked_by, lines_in}
 use Rattle.camp_script.specs.Texts.{line_text}
 use Rattle.camp_call.specs.declared.replies.Refusal.{Refusal}
 use Rattle.camp_call.specs.declared.replies.Refusal.TheVariants as refusal
 use Rattle.camp_call.specs.declared.replies.Reply.TheVariants.{Refused}
 use Rattle.camp_repo.specs.States.{Contents}
-use Rattle.camp_talk.specs.Laws.{CausesAreTold, NamesCause}
-use Rattle.camp_talk.specs.Refusals.{cure, saying}
+use Rattle.camp_talk.specs.Against.{call_about, sides_text, target}
+use Rattle.camp_talk.specs.Asking.{reason_at}
+use Rattle.camp_talk.specs.Laws.{CausesAreTold, NamesCause, RefusalsAreTold, names_in}
+use Rattle.camp_talk.specs.Refusals.{cure, reason_of, saying}
 use Rattle.camp_talk.specs.Whys.{cause_of, cause_with, found_text, reason_in, refusal_lines}
 use Rattle.camp_talk.specs.declared.questions.Asked.TheVariants as asked
 use Rattle.camp_talk.specs.declared.questions.Reason.{Reason}
 use Rattle.camp_talk.specs.declared.questions.Reason.TheVariants as reason
+use Rattle.camp_script.proofs.CanonicalCalls.{names_are_words}
+use Rattle.camp_script.proofs.CanonicalLines.{AreWords, first_words, is_word, words_of-joined}
+use Rattle.camp_script.specs.Canonical.{AreNames}
 use Rattle.camp_why.proofs.Causing.{refusals_explained}
+use Rattle.camp_why.proofs.Grounding.{have_grounds}
 use Rattle.camp_why.specs.Causes.{IsSo, explained, is_of_changes, refusal_by}
 use Rattle.camp_why.specs.Stops.{refusal_at}
 use Rattle.camp_why.specs.declared.causes.Cause.{Cause}
@@ -23,21 +30,42 @@ use Rattle.camp_why.specs.declared.stops.Hindrance.TheVariants as hindrance
 
 -- ---- the numbers of the refusals
 
-decimal_9 : decimal 9 ≡ codes "9"
-decimal_9 = decimal_digit 9 (omega arith)
+-- a number of two digits that begins with 1
+from_ten : (n : ℕ) → 10 ≤ n → n < 2 ^ 64 → n / 10 ≡ 1 → decimal n ≡ codes "1" ++ (48 + n % 10) ∷ []
+from_ten n least most first =
+    decimal_step n least most ∙ ap (λ n. decimal n ++ (48 + n_last) ∷ []) first ∙ ap (λ (digits : List ℕ). digits ++ (48 + n_last) ∷ []) (decimal_digit 1 (omega arith))
+  where
+    n_last : ℕ
+    n_last = n % 10
 
-decimal_10 : decimal 10 ≡ codes "10"
-decimal_10 = decimal_step 10 (omega arith) (omega arith) ∙ ap (λ (digits : List ℕ). digits ++ 48 ∷ []) (decimal_digit 1 (omega arith))
+-- the answer of a number has this reason
+module _ (at : ℕ) (digits : List ℕ) (is : decimal at ≡ digits) (are : is_word digits ≡ true) (reason : Reason) (of : reason_at digits ≡ Some reason) where
+  reason_told : (names : List (List ℕ)) → AreNames names
+      → reason_in (words_of (first_of (lines_of (line_text (codes "refused" ∷ decimal at ∷ names))))) ≡ Some reason
+  reason_told names are_names =
+      let words : AreWords (codes "refused" ∷ digits ∷ names) = (refl, (are, names_are_words names are_names)) in
+      ap (λ (number : List ℕ). reason_in (words_of (first_of (lines_of (line_text (codes "refused" ∷ number ∷ names)))))) is
+      ∙ ap (λ (text : List ℕ). reason_in (words_of (first_of (lines_of text)))) (sym (append-nil (line_text (codes "refused" ∷ digits ∷ names))))
+      ∙ ap (λ (lines : List (List ℕ)). reason_in (words_of (first_of lines))) (first_words (codes "refused" ∷ digits ∷ names) [] words)
+      ∙ ap reason_in (words_of-joined (codes "refused") (digits ∷ names) words)
+      ∙ of
 
--- what is told of an answer with a number
-abbrev reason_of_number : List ℕ → Option Reason
-reason_of_number number = reason_in (words_of (first_of (lines_of (line_text (codes "refused" ∷ number ∷ [])))))
+-- each refusal's answer has its reason
+reason_of_answer : (refused : Refusal) → AreNames (names_in refused)
+    → reason_in (words_of (first_of (lines_of (reply_text (Refused refused))))) ≡ Some (reason_of refused)
+reason_of_answer (refusal.NoBranch branch) = reason_told 4 (codes "4") (decimal_digit 4 (omega arith)) refl reason.NoBranch refl (branch ∷ [])
+reason_of_answer (refusal.BranchExists branch) = reason_told 5 (codes "5") (decimal_digit 5 (omega arith)) refl reason.BranchExists refl (branch ∷ [])
+reason_of_answer (refusal.PatchExists name) = reason_told 6 (codes "6") (decimal_digit 6 (omega arith)) refl reason.PatchExists refl (name ∷ [])
+reason_of_answer (refusal.NoPatch name) = reason_told 7 (codes "7") (decimal_digit 7 (omega arith)) refl reason.NoPatch refl (name ∷ [])
+reason_of_answer refusal.NothingToDo = reason_told 8 (codes "8") (decimal_digit 8 (omega arith)) refl reason.NothingToDo refl []
+reason_of_answer refusal.TooLarge = reason_told 9 (codes "9") (decimal_digit 9 (omega arith)) refl reason.TooLarge refl []
+reason_of_answer refusal.DoesNotApply = reason_told 10 (codes "10") (from_ten 10 (omega arith) (omega arith) refl) refl reason.DoesNotApply refl []
+reason_of_answer (refusal.Depends patch on) = reason_told 11 (codes "11") (from_ten 11 (omega arith) (omega arith) refl) refl reason.Depends refl (patch ∷ on ∷ [])
+reason_of_answer (refusal.Diverged name) = reason_told 12 (codes "12") (from_ten 12 (omega arith) (omega arith) refl) refl reason.Diverged refl (name ∷ [])
+reason_of_answer (refusal.NoMerge left right) = reason_told 13 (codes "13") (from_ten 13 (omega arith) (omega arith) refl) refl reason.NoMerge refl (left ∷ right ∷ [])
+reason_of_answer (refusal.SameBranch branch) = reason_told 14 (codes "14") (from_ten 14 (omega arith) (omega arith) refl) refl reason.SameBranch refl (branch ∷ [])
 
-reason_9 : reason_in (words_of (first_of (lines_of (reply_text (Refused refusal.TooLarge))))) ≡ Some reason.TooLarge
-reason_9 = ap reason_of_number decimal_9
-
-reason_10 : reason_in (words_of (first_of (lines_of (reply_text (Refused refusal.DoesNotApply))))) ≡ Some reason.DoesNotApply
-reason_10 = ap reason_of_number decimal_10
+-- ---- causes
 
 by_hindrance : (why : Hindrance) → is_of_changes (refusal_at why) ≡ true
 by_hindrance (hindrance.Misfit misfit) = refl
@@ -47,8 +75,8 @@ by_hindrance (hindrance.TooLong count) = refl
 by_cause : (cause : Cause) → is_of_changes (refusal_by cause) ≡ true
 by_cause (FullRepository count) = refl
 by_cause (FullBranch has more) = refl
-by_cause (FullWithPull has) = refl
-by_cause (LongSide change) = refl
+by_cause (FullWithPull has more) = refl
+by_cause (LongSide change path old new) = refl
 by_cause (Stops stop) = by_hindrance stop.why
 
 module _ (before : List ℕ) (state : Contents) (command : List ℕ) (call : Call) (asks : asked_by command ≡ Ok (asked.Call call)) (cause : Cause) (is_so : IsSo state call cause) where
@@ -59,16 +87,16 @@ module _ (before : List ℕ) (state : Contents) (command : List ℕ) (call : Cal
     of = of;
     is_so = is_so;
     tells = ap (λ reading. cause_with before state (lines_in command) reading (reply_text (Refused refusal.TooLarge))) asks
-        ∙ ap (refusal_lines state (asked.Call call) (reply_text (Refused refusal.TooLarge))) reason_9
-        ∙ ap (λ found. reply_text (Refused refusal.TooLarge) ++ saying reason.TooLarge ++ found_text found ++ cure reason.TooLarge) told;
+        ∙ ap (refusal_lines state (asked.Call call) (reply_text (Refused refusal.TooLarge))) (reason_of_answer refusal.TooLarge tt)
+        ∙ ap (λ found. reply_text (Refused refusal.TooLarge) ++ saying reason.TooLarge ++ (sides_text (Some (call_about call)) (target (asked.Call call)) ++ found_text found) ++ cure reason.TooLarge) told;
   }
   named refusal.DoesNotApply is told of = record {
     cause = cause;
     of = of;
     is_so = is_so;
     tells = ap (λ reading. cause_with before state (lines_in command) reading (reply_text (Refused refusal.DoesNotApply))) asks
-        ∙ ap (refusal_lines state (asked.Call call) (reply_text (Refused refusal.DoesNotApply))) reason_10
-        ∙ ap (λ found. reply_text (Refused refusal.DoesNotApply) ++ saying reason.DoesNotApply ++ found_text found ++ cure reason.DoesNotApply) told;
+        ∙ ap (refusal_lines state (asked.Call call) (reply_text (Refused refusal.DoesNotApply))) (reason_of_answer refusal.DoesNotApply tt)
+        ∙ ap (λ found. reply_text (Refused refusal.DoesNotApply) ++ saying reason.DoesNotApply ++ (sides_text (Some (call_about call)) (target (asked.Call call)) ++ found_text found) ++ cure reason.DoesNotApply) told;
   }
   named (refusal.NoBranch branch) is told of = absurd (true≢false (sym is))
   named (refusal.BranchExists branch) is told of = absurd (true≢false (sym is))
@@ -85,3 +113,10 @@ causes_told before state command call refused lawful is range asks comes wants =
     let explains = refusals_explained state call refused lawful is range comes wants in
     named before state command call asks explains.cause explains.is_so refused
     (subst (λ r. is_of_changes r ≡ true) explains.of (by_cause explains.cause)) explains.told explains.of
+
+pub refusals_told : RefusalsAreTold
+refusals_told before state command call refused lawful is range are_names asks comes = record {
+  ground = have_grounds state call refused lawful is range comes;
+  tells = ap (λ reading. cause_with before state (lines_in command) reading (reply_text (Refused refused))) asks
+      ∙ ap (refusal_lines state (asked.Call call) (reply_text (Refused refused))) (reason_of_answer refused are_names);
+}

@@ -1,12 +1,15 @@
 -- What a command asks: nothing, a call, a question, or the cause of the last fault or refusal.
 use Rattle.std.specs.Prelude.{ℕ, List, [], ◌∷◌, Option, None, Some, Result, Ok, Bool, ◌||◌, bytes_eq, codes, if◌then◌else◌}
+use Rattle.std.specs.List.{find}
 use Rattle.camp_call.specs.declared.calls.Call.{Call}
 use Rattle.camp_talk.specs.Cutting.{lines_in, script_in}
 use Rattle.camp_script.specs.Faults.{fault_at}
-use Rattle.camp_script.specs.Lines.{words_of}
+use Rattle.camp_script.specs.Lines.{lines_of, words_of}
+use Rattle.camp_script.specs.Pieces.{begins_with}
 use Rattle.camp_script.specs.Words.{◌>>=◌, name_at, names_at, no_words, one_word, path_at, two_words}
 use Rattle.camp_script.specs.declared.faults.FaultKind.TheVariants.{BadNumber, UnknownCommand, WrongNumberOfWords}
 use Rattle.camp_script.specs.declared.faults.LineFault.{LineFault}
+use Rattle.camp_talk.specs.Help.{commands, example}
 use Rattle.camp_talk.specs.declared.questions.Asked.{Asked}
 use Rattle.camp_talk.specs.declared.questions.Asked.TheVariants as asked
 use Rattle.camp_talk.specs.declared.questions.Reason.{Reason}
@@ -50,59 +53,23 @@ branches_and_names others = fault_at 1 WrongNumberOfWords
 abbrev pub branch_alone : List (List ℕ) → Result (List ℕ) LineFault
 branch_alone words = one_word 1 words >>= name_at 1
 
--- the call that a word begins
-abbrev pub call_topic : List ℕ → Option Topic
-call_topic word =
-    if bytes_eq word (codes "branch") then Some topic.Branch
-    else (if bytes_eq word (codes "record") then Some topic.Record
-    else (if bytes_eq word (codes "pull") then Some topic.Pull
-    else (if bytes_eq word (codes "obliterate") then Some topic.Obliterate
-    else (if bytes_eq word (codes "tree") then Some topic.Tree
-    else (if bytes_eq word (codes "conflicts") then Some topic.Conflicts
-    else (if bytes_eq word (codes "names") then Some topic.Names
-    else None))))))
+-- the first of some lines; an empty one, where there is none
+abbrev pub first_of : List (List ℕ) → List ℕ
+first_of [] = []
+first_of (first ∷ rest) = first
 
--- the question about conflicts, or about what there is, that a word begins
-abbrev pub conflict_topic : List ℕ → Option Topic
-conflict_topic word =
-    if bytes_eq word (codes "open") then Some topic.Open
-    else (if bytes_eq word (codes "side") then Some topic.Side
-    else (if bytes_eq word (codes "marks") then Some topic.Marks
-    else (if bytes_eq word (codes "file") then Some topic.File
-    else (if bytes_eq word (codes "branches") then Some topic.Branches
-    else None))))
+-- the first of some commands whose example begins with a word
+abbrev pub first_begun : List ℕ → List Topic → Option Topic
+first_begun word commands = find (λ command. begins_with word (words_of (first_of (lines_of (example command))))) commands
 
--- the question about patches that a word begins
-abbrev pub patch_topic : List ℕ → Option Topic
-patch_topic word =
-    if bytes_eq word (codes "needs") then Some topic.Needs
-    else (if bytes_eq word (codes "held") then Some topic.Held
-    else (if bytes_eq word (codes "missing") then Some topic.Missing
-    else (if bytes_eq word (codes "show") then Some topic.Show
-    else (if bytes_eq word (codes "annotate") then Some topic.Annotate
-    else (if bytes_eq word (codes "graph") then Some topic.Graph
-    else (if bytes_eq word (codes "along") then Some topic.Along
-    else conflict_topic word))))))
-
--- any other question that a word begins
-abbrev pub other_topic : List ℕ → Option Topic
-other_topic word =
-    if bytes_eq word (codes "whatif") then Some topic.WhatIf
-    else (if bytes_eq word (codes "why") then Some topic.Why
-    else (if bytes_eq word (codes "history") then Some topic.History
-    else (if bytes_eq word (codes "keep") then Some topic.Keep
-    else (if bytes_eq word (codes "help") then Some topic.Help
-    else None))))
-
--- the first topic that there is, or the fault of a word that begins no command
-abbrev pub topic_of : List (Option Topic) → Result Topic LineFault
-topic_of [] = fault_at 1 UnknownCommand
-topic_of (None ∷ others) = topic_of others
-topic_of (Some topic ∷ others) = Ok topic
+-- a command that was found, or the fault of a word that begins none
+abbrev pub topic_of : Option Topic → Result Topic LineFault
+topic_of None = fault_at 1 UnknownCommand
+topic_of (Some command) = Ok command
 
 -- the command that a word begins
 abbrev pub topic_at : List ℕ → Result Topic LineFault
-topic_at word = topic_of (call_topic word ∷ patch_topic word ∷ other_topic word ∷ [])
+topic_at word = topic_of (first_begun word commands)
 
 -- the reason of a number of a refusal, from 8 on
 abbrev pub later_reason : List ℕ → Option Reason
@@ -243,11 +210,6 @@ asked_with (word ∷ words) script =
     if bytes_eq word (codes "whatif") then (script >>= foreseen_in)
     else (if is_why word then why_of words
     else (question_of word words >>= question_or_call script))
-
--- the first of some lines; an empty one, where there is none
-abbrev pub first_of : List (List ℕ) → List ℕ
-first_of [] = []
-first_of (first ∷ rest) = first
 
 -- what a command of these lines asks, or its fault
 abbrev pub asked_of : List (List ℕ) → Result Asked LineFault

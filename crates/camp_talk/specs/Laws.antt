@@ -6,17 +6,19 @@ use Rattle.camp_base.specs.Signs.{newline, space}
 use Rattle.camp_call.specs.Calls.{IsCall}
 use Rattle.camp_call.specs.declared.calls.Call.{Call}
 use Rattle.camp_call.specs.declared.replies.Refusal.{Refusal}
+use Rattle.camp_call.specs.declared.replies.Refusal.TheVariants as refusal
 use Rattle.camp_call.specs.declared.replies.Reply.TheVariants.{Refused}
 use Rattle.camp_object.specs.Histories.{IsFront, replay}
 use Rattle.camp_repo.specs.Lawful.{IsLawfulState}
 use Rattle.camp_repo.specs.Objects.{repository}
 use Rattle.camp_repo.specs.States.{Contents}
 use Rattle.camp_repo.specs.Steps.{refused, step}
-use Rattle.camp_script.specs.Canonical.{IsScriptCall, call_text}
+use Rattle.camp_script.specs.Canonical.{AreNames, IsScriptCall, call_text}
 use Rattle.camp_script.specs.Keeping.{calls_of, kept_text}
 use Rattle.camp_script.specs.Lines.{lines_of}
 use Rattle.camp_script.specs.Texts.{reply_text}
 use Rattle.camp_script.specs.declared.faults.LineFault.{LineFault}
+use Rattle.camp_talk.specs.Against.{call_about, sides_text, target}
 use Rattle.camp_talk.specs.Answers.{Answers, Standing, memory_text}
 use Rattle.camp_talk.specs.Asking.{asked_by}
 use Rattle.camp_talk.specs.Cutting.{longest_read}
@@ -26,12 +28,13 @@ use Rattle.camp_talk.specs.Frames.{Counter, ServesAt, ServesInTurn}
 use Rattle.camp_talk.specs.Loads.{Loads, tells_failure}
 use Rattle.camp_talk.specs.Refusals.{cure, reason_of, saying}
 use Rattle.camp_talk.specs.Told.{counted}
-use Rattle.camp_talk.specs.Whys.{cause_of, cause_text}
+use Rattle.camp_talk.specs.Whys.{against_text, cause_of, cause_text}
 use Rattle.camp_talk.specs.declared.faults.LoadFault.TheVariants.{Answer, Memory, Talk}
 use Rattle.camp_talk.specs.declared.faults.LoadFault.{LoadFault}
 use Rattle.camp_talk.specs.declared.questions.Asked.TheVariants as asked
 use Rattle.camp_talk.specs.declared.questions.Asked.{Asked}
 use Rattle.camp_why.specs.Causes.{IsSo, refusal_by}
+use Rattle.camp_why.specs.Grounds.{IsGround}
 use Rattle.camp_why.specs.Laws.{IsInRange, wants_cause}
 use Rattle.camp_why.specs.declared.causes.Cause.{Cause}
 
@@ -86,12 +89,13 @@ KeptIsLoaded =
     Loads (Some (kept_text history)) rest [] result now → ComesBack history state result now
 
 -- lines behind a refusal of a call name a cause: it is one of that refusal, what it says of the call and the state is so,
--- and it stands between what the refusal says and what can be done
+-- and it stands, behind the branches that the call names, between what the refusal says and what can be done
 pub record NamesCause (state : Contents) (call : Call) (refusal : Refusal) (lines : List ℕ) : Type 0 where
   pub cause : Cause
   pub of : refusal_by cause ≡ refusal
   pub is_so : IsSo state call cause
-  pub tells : lines ≡ reply_text (Refused refusal) ++ saying (reason_of refusal) ++ cause_text cause ++ cure (reason_of refusal)
+  pub tells : lines ≡ reply_text (Refused refusal) ++ saying (reason_of refusal)
+      ++ (sides_text (Some (call_about call)) (target (asked.Call call)) ++ cause_text cause) ++ cure (reason_of refusal)
 
 -- where a command asks a call that a state refuses with a limit or for its changes, the lines behind it name a cause
 abbrev pub CausesAreTold : Type 0
@@ -99,3 +103,31 @@ CausesAreTold =
     (before : List ℕ) (state : Contents) (command : List ℕ) (call : Call) (refusal : Refusal) → IsLawfulState state → IsCall call →
     IsInRange call → asked_by command ≡ Ok (asked.Call call) → step state call ≡ refused refusal →
     wants_cause call refusal ≡ true → NamesCause state call refusal (cause_of before state command (reply_text (Refused refusal)))
+
+-- the names in a refusal
+abbrev pub names_in : Refusal → List (List ℕ)
+names_in (refusal.NoBranch branch) = branch ∷ []
+names_in (refusal.BranchExists branch) = branch ∷ []
+names_in (refusal.PatchExists name) = name ∷ []
+names_in (refusal.NoPatch name) = name ∷ []
+names_in refusal.NothingToDo = []
+names_in refusal.TooLarge = []
+names_in refusal.DoesNotApply = []
+names_in (refusal.Depends patch on) = patch ∷ on ∷ []
+names_in (refusal.Diverged name) = name ∷ []
+names_in (refusal.NoMerge left right) = left ∷ right ∷ []
+names_in (refusal.SameBranch branch) = branch ∷ []
+
+-- lines behind a refusal of a call tell of it: what it says is so, and they are its answer, what its number says, which
+-- branches the call names, what is there and what is not, and what can be done
+pub record TellsRefusal (state : Contents) (call : Call) (refusal : Refusal) (lines : List ℕ) : Type 0 where
+  pub ground : IsGround state call refusal
+  pub tells : lines ≡ reply_text (Refused refusal) ++ saying (reason_of refusal)
+      ++ against_text state (asked.Call call) (reason_of refusal) ++ cure (reason_of refusal)
+
+-- where a command asks a call that a state refuses, the lines behind it tell of the refusal
+abbrev pub RefusalsAreTold : Type 0
+RefusalsAreTold =
+    (before : List ℕ) (state : Contents) (command : List ℕ) (call : Call) (refusal : Refusal) → IsLawfulState state → IsCall call →
+    IsInRange call → AreNames (names_in refusal) → asked_by command ≡ Ok (asked.Call call) → step state call ≡ refused refusal →
+    TellsRefusal state call refusal (cause_of before state command (reply_text (Refused refusal)))

@@ -1,3 +1,4 @@
+pub mod Against
 pub mod Answers
 pub mod Asking
 pub mod Cutting

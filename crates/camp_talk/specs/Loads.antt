@@ -1,6 +1,6 @@
 -- What comes of commands that are loaded: each is asked as in a conversation, and has to be done.
-use Rattle.std.specs.Prelude.{◌≡◌, ℕ, ◌+◌, Bool, true, false, ◌||◌, ◌==◌, List, [], Option, Result, Ok, Err, codes}
-use Rattle.std.specs.List.{All, flat_map, starts_with}
+use Rattle.std.specs.Prelude.{◌≡◌, ℕ, ◌+◌, Bool, true, false, ◌||◌, List, [], Option, Result, Ok, Err, codes}
+use Rattle.std.specs.List.{All, flat_map}
 use Rattle.std.specs.Io.KnownBytes.{Consumes}
 use Rattle.camp_talk.specs.Answers.{Answers, Standing, Tells, is_silent, memory_text}
 use Rattle.camp_talk.specs.Asking.{asked_by}
@@ -8,10 +8,7 @@ use Rattle.camp_talk.specs.Entries.{Entries}
 use Rattle.camp_talk.specs.Talks.{Exchange, Follow, ReadsCommand, ReadsNone}
 use Rattle.camp_talk.specs.declared.faults.LoadFault.{LoadFault}
 use Rattle.camp_talk.specs.declared.faults.LoadFault.TheVariants.{Answer, Memory, Talk}
-
--- whether an answer begins so
-abbrev pub begins : List ℕ → List ℕ → Bool
-begins front answer = starts_with ◌==◌ answer front
+use Rattle.camp_why.specs.Hints.{begins}
 
 -- whether an answer tells that its command was not done: it is a fault, a refusal or want of memory
 abbrev pub tells_failure : List ℕ → Bool

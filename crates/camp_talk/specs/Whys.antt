@@ -1,5 +1,5 @@
 -- What is told of the last command that was not done.
-use Rattle.std.specs.Prelude.{ℕ, ◌-◌, Bool, true, false, not, ◌||◌, ◌&&◌, ◌==◌, List, [], ◌∷◌, ◌++◌, length, drop, take, Option, None, Some, Result, Ok, Err, bytes_eq, codes, if◌then◌else◌}
+use Rattle.std.specs.Prelude.{ℕ, ◌-◌, Bool, true, false, not, ◌||◌, ◌&&◌, ◌==◌, List, [], ◌∷◌, ◌++◌, length, drop, take, nat_lt, Option, None, Some, Result, Ok, Err, bytes_eq, codes, if◌then◌else◌}
 use Rattle.std.specs.Char.{is_ascii_whitespace}
 use Rattle.std.specs.Fmt.{decimal}
 use Rattle.std.specs.List.{suffix_len}
@@ -10,6 +10,7 @@ use Rattle.camp_script.specs.Lines.{lines_of, words_of}
 use Rattle.camp_script.specs.declared.faults.FaultKind.{FaultKind}
 use Rattle.camp_script.specs.declared.faults.FaultKind.TheVariants as kind
 use Rattle.camp_script.specs.declared.faults.LineFault.{LineFault}
+use Rattle.camp_talk.specs.Against.{about, absent_sides, branches_line, lacked_text, new_text, recorded_text, sides_text, target}
 use Rattle.camp_talk.specs.Asking.{asked_by, first_of, reason_at}
 use Rattle.camp_talk.specs.Cutting.{lines_in}
 use Rattle.camp_talk.specs.Pages.{page}
@@ -20,7 +21,7 @@ use Rattle.camp_talk.specs.declared.questions.Asked.TheVariants as asked
 use Rattle.camp_talk.specs.declared.questions.Reason.{Reason}
 use Rattle.camp_talk.specs.declared.questions.Reason.TheVariants as reason
 use Rattle.camp_why.specs.Causes.{explained}
-use Rattle.camp_why.specs.Hints.{begins, begins_signed, first_word, hint}
+use Rattle.camp_why.specs.Hints.{begins, begins_signed, first_word, hint, misnamed}
 use Rattle.camp_why.specs.declared.causes.Cause.{Cause}
 use Rattle.camp_why.specs.declared.causes.Cause.TheVariants as cause
 use Rattle.camp_why.specs.declared.hints.Hint.{Hint}
@@ -107,10 +108,30 @@ line_at number lines = first_of (drop (number - 1) lines)
 abbrev pub most_shown : ℕ
 most_shown = 200
 
--- the answer, the line behind `>`, what is to be seen in it, the rule, and what to write
+-- that not all bytes of a line are shown
+abbrev pub cut_text : List ℕ → List ℕ
+cut_text line =
+    if nat_lt most_shown (length line) then page (codes "Its first 200 bytes are shown, and it has more." ∷ []) else []
+
+-- that a word is no name
+abbrev pub no_name_text : List ℕ → List ℕ
+no_name_text word = codes "This is no name: " ++ word ++ codes "\n"
+
+-- the same, where it is not too long to be shown
+abbrev pub misnamed_text : List ℕ → List ℕ
+misnamed_text word =
+    if nat_lt most_shown (length word) then page (codes "A word of more than 200 bytes is no name." ∷ []) else no_name_text word
+
+-- which word has the fault, where it is one among many
+abbrev pub word_text : FaultKind → List ℕ → List ℕ
+word_text kind.BadName line = misnamed_text (misnamed (words_of line))
+word_text other line = []
+
+-- the answer, the line behind `>`, the word that has the fault, what is to be seen there, the rule, and what to write
 abbrev pub fault_lines : FaultKind → List ℕ → List ℕ → List ℕ
 fault_lines kind line answer =
-    answer ++ codes ">" ++ take most_shown line ++ codes "\n" ++ hint_text (hint kind line) ++ rule kind
+    answer ++ codes ">" ++ take most_shown line ++ codes "\n" ++ cut_text line ++ word_text kind line
+    ++ hint_text (hint kind line) ++ rule kind
 
 -- ---- of a command that is refused
 
@@ -130,13 +151,23 @@ met_text at stands expected =
     codes ": line " ++ decimal at ++ codes " is\n=" ++ stands ++ codes "\nand the edit takes away\n-" ++ expected
     ++ codes "\n"
 
+-- a text with two numbers
+abbrev pub two_numbers : List ℕ → ℕ → List ℕ → ℕ → List ℕ → List ℕ
+two_numbers front first middle second back = front ++ decimal first ++ middle ++ decimal second ++ back
+
+-- the old line that finds none
+abbrev pub lacks_text : Option (List ℕ) → List ℕ
+lacks_text None = []
+lacks_text (Some line) = codes "No line is there for this one, which the edit takes away:\n-" ++ line ++ codes "\n"
+
 -- why a change does not apply: what is there, and what was expected
 abbrev pub misfit_text : Misfit → List ℕ
 misfit_text misfit.FileIsThere = codes ": it is there already.\n"
 misfit_text misfit.NoFile = codes ": there is none.\n"
 misfit_text (misfit.HasLines count) = codes ": its number of lines is " ++ decimal count ++ codes ", and remove wants a file without lines.\n"
-misfit_text (misfit.EndsBefore has wants) =
-    codes ": its number of lines is " ++ decimal has ++ codes ", and the edit wants " ++ decimal wants ++ codes " or more.\n"
+misfit_text (misfit.EndsBefore has wants lacks) =
+    two_numbers (codes ": its number of lines is ") has (codes ", and the edit wants ") wants (codes " or more.\n")
+    ++ lacks_text lacks
 misfit_text (misfit.OtherLine at stands expected) = met_text at stands expected ++ ends_text stands expected
 
 -- why a record stops
@@ -145,21 +176,25 @@ hindrance_text (hindrance.Misfit why) = misfit_text why
 hindrance_text (hindrance.TooLong count) =
     codes ": it would have " ++ decimal count ++ codes " lines, and 1000000 is the most.\n"
 
--- where a record stops: the number of the change, the path of its file, and why
+-- the number of a change, and the path of its file
+abbrev pub change_text : ℕ → List ℕ → List ℕ
+change_text change path = codes "Change " ++ decimal change ++ codes ", file " ++ path
+
+-- where a record stops, and why
 abbrev pub stop_text : Stop → List ℕ
-stop_text stop = codes "Change " ++ decimal stop.change ++ codes ", file " ++ stop.path ++ hindrance_text stop.why
+stop_text stop = change_text stop.change stop.path ++ hindrance_text stop.why
 
 -- what stands against a command
 abbrev pub cause_text : Cause → List ℕ
 cause_text (cause.FullRepository count) =
     codes "There are " ++ decimal count ++ codes " branches, and 256 is the most: record in one of them.\n"
 cause_text (cause.FullBranch has more) =
-    codes "The branch has " ++ decimal has ++ codes " changes, and the patch " ++ decimal more
-    ++ codes " more: 4096 is the most.\n"
-cause_text (cause.FullWithPull has) =
-    codes "TO has " ++ decimal has ++ codes " changes, and with those of the pull more than 4096, which is the most.\n"
-cause_text (cause.LongSide change) =
-    codes "Change " ++ decimal change ++ codes " has a side of more than 65535 lines.\n"
+    two_numbers (codes "The branch has ") has (codes " changes, and the patch ") more (codes " more: 4096 is the most.\n")
+cause_text (cause.FullWithPull has more) =
+    two_numbers (codes "TO has ") has (codes " changes, and the pull brings ") more (codes " more: 4096 is the most.\n")
+cause_text (cause.LongSide change path old new) =
+    change_text change path
+    ++ two_numbers (codes ": the edit has ") old (codes " old lines and ") new (codes " new ones, and 65535 is the most of each.\n")
 cause_text (cause.Stops stop) = stop_text stop
 
 -- the same, where its refusal does not say it all
@@ -183,11 +218,24 @@ abbrev pub reason_in : List (List ℕ) → Option Reason
 reason_in (word ∷ number ∷ names) = reason_at number
 reason_in others = None
 
+-- what is there and what is not, in the state that the command met: what its refusal is about
+abbrev pub facts_text : Contents → Asked → Reason → List ℕ
+facts_text state asked reason.NoBranch = absent_sides state (about asked) (target asked) ++ branches_line state
+facts_text state asked reason.BranchExists = new_text state asked ++ branches_line state
+facts_text state asked reason.PatchExists = recorded_text state asked
+facts_text state asked reason.NoPatch = lacked_text state asked (about asked)
+facts_text state asked reason.SameBranch = branches_line state
+facts_text state asked other = found_text (cause_found state asked other)
+
+-- what stands against a command: which branches it names, and what is there and what is not
+abbrev pub against_text : Contents → Asked → Reason → List ℕ
+against_text state asked reason = sides_text (about asked) (target asked) ++ facts_text state asked reason
+
 -- the answer, what it says, what stands against the command, and what can be done
 abbrev pub refusal_lines : Contents → Asked → List ℕ → Option Reason → List ℕ
 refusal_lines state asked answer None = answer
 refusal_lines state asked answer (Some reason) =
-    answer ++ saying reason ++ found_text (cause_found state asked reason) ++ cure reason
+    answer ++ saying reason ++ against_text state asked reason ++ cure reason
 
 -- ---- of any
 

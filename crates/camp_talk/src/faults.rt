@@ -1,9 +1,9 @@
 //! Why a conversation ends before its input does.
 ghost use Rattle.std.specs.Prelude.{◌≡◌, Some};
-ghost use Rattle.camp_script.specs.Lines.{without_end};
 ghost use Rattle.camp_talk.specs.Faults.{fault_status, fault_words, load_status, load_words};
 
 use bstr::BStr;
+use camp_script::without_end;
 use std::error::Error;
 use std::{fmt, io};
 
@@ -86,13 +86,3 @@ impl fmt::Display for LoadFault {
 }
 
 impl Error for LoadFault {}
-
-// A text without the LF at its end, where it has one.
-fn without_end(text: &[u8]) -> &[u8]
-    ensures { result.now ≡ without_end text.now }
-{
-    match text {
-        [bytes @ .., b'\n'] => bytes,
-        _ => text,
-    }
-}

@@ -1,17 +1,20 @@
-ghost use Rattle.camp_talk.specs.Laws.{CausesAreTold, CountsAreTold, FailuresAreTold, KeptIsLoaded, RequestsAreServedInTurn};
+ghost use Rattle.camp_talk.specs.Laws.{CausesAreTold, CountsAreTold, FailuresAreTold, KeptIsLoaded, RefusalsAreTold, RequestsAreServedInTurn};
 
 /// The first line of an answer that is counted tells how many lines follow.
+#[tactic(auto, using(crate::proofs::CountLemmas::counts_are_told))]
 pub fn counts_are_told()
     ensures law { CountsAreTold }
 {}
 
 /// An answer tells of failure exactly where its command has a fault, it is a refusal, or memory ran out.
+#[tactic(auto, using(crate::proofs::Failing::failures_are_told))]
 pub fn failures_are_told()
     ensures law { FailuresAreTold }
 {}
 
 /// Where requests are served one after the other, as by the turns of a framed conversation, the n-th answer that
 /// was written is that of the n-th request that was read, after the requests before it.
+#[tactic(auto, using(crate::proofs::Served::served_in_turn))]
 pub fn requests_are_served_in_turn()
     ensures law { RequestsAreServedInTurn }
 {}
@@ -25,4 +28,9 @@ pub fn kept_is_loaded()
 /// Where a call is refused with a limit or for its changes, the lines that tell why name a cause.
 pub fn causes_are_told()
     ensures law { CausesAreTold }
+{}
+
+/// Where a call is refused, the lines that tell why tell of that refusal, and what it says is so.
+pub fn refusals_are_told()
+    ensures law { RefusalsAreTold }
 {}

@@ -18,7 +18,9 @@ mod serving;
 mod talks;
 mod tellings;
 mod told;
+mod told_against;
 mod told_conflicts;
+mod told_faults;
 mod told_foresight;
 mod told_graphs;
 mod told_help;
@@ -36,7 +38,7 @@ pub use dialogues::{Conversation, Dialogue, talk};
 pub use faults::{LoadFault, TalkFault};
 pub use frames::{FrameFault, FramedConversation};
 pub use laws::{
-    causes_are_told, counts_are_told, failures_are_told, kept_is_loaded,
+    causes_are_told, counts_are_told, failures_are_told, kept_is_loaded, refusals_are_told,
     requests_are_served_in_turn,
 };
 pub use loads::load;

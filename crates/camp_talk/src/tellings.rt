@@ -9,8 +9,11 @@ use crate::told_graphs::tell_graph;
 use crate::told_help::tell_help;
 use crate::told_histories::{tell_history, tell_kept};
 use crate::told_lines::{tell_annotated, tell_file};
-use crate::told_names::{tell_along, tell_branches, tell_held, tell_missing, tell_needs};
+use crate::told_names::{tell_branches, tell_found};
 use crate::told_patches::tell_shown;
+use camp_questions::{
+    along, annotate, file, held_by, marks, missing, needs, open_pairs, picture_of, show, side,
+};
 use camp_repo::{Book, Call, State};
 use std::alloc::{AllocError, Global};
 
@@ -35,20 +38,28 @@ pub(crate) fn answer_at(
     ensures { IfOk result (λ text. TellsAt history.now state.now question.now text.items) }
 {
     match question {
-        Question::Needs { branch, names } => tell_needs(alloc, state, branch, names.as_slice()),
-        Question::Held { branch, names } => tell_held(alloc, state, branch, names.as_slice()),
-        Question::Missing { from, to } => tell_missing(alloc, state, from, to),
-        Question::Show { branch, name } => tell_shown(alloc, state, branch, name),
-        Question::Annotate { branch, path } => tell_annotated(alloc, state, branch, path),
-        Question::Along { from, to, names } => {
-            tell_along(alloc, state, from, to, names.as_slice())
+        Question::Needs { branch, names } => {
+            tell_found(alloc, "needs", needs(state, branch, names.as_slice()))
         }
-        Question::Open(branch) => tell_open(alloc, state, branch),
-        Question::Side { branch, name } => tell_side(alloc, state, branch, name),
-        Question::Marks { branch, path } => tell_marks(alloc, state, branch, path),
-        Question::File { branch, path } => tell_file(alloc, state, branch, path),
+        Question::Held { branch, names } => {
+            tell_found(alloc, "held", held_by(state, branch, names.as_slice()))
+        }
+        Question::Missing { from, to } => tell_found(alloc, "missing", missing(state, from, to)),
+        Question::Show { branch, name } => tell_shown(alloc, show(state, branch, name)),
+        Question::Annotate { branch, path } => {
+            tell_annotated(alloc, annotate(state, branch, path))
+        }
+        Question::Along { from, to, names } => {
+            tell_found(alloc, "along", along(state, from, to, names.as_slice()))
+        }
+        Question::Open(branch) => tell_open(alloc, open_pairs(state, branch)),
+        Question::Side { branch, name } => tell_side(alloc, side(state, branch, name)),
+        Question::Marks { branch, path } => tell_marks(alloc, marks(state, branch, path)),
+        Question::File { branch, path } => tell_file(alloc, file(state, branch, path)),
         Question::Branches => tell_branches(alloc, state),
-        Question::Graph { branch, names } => { tell_graph(alloc, state, branch, names.as_slice()) }
+        Question::Graph { branch, names } => {
+            tell_graph(alloc, picture_of(state, branch, names.as_slice()))
+        }
         Question::WhatIf(call) => tell_foreseen(alloc, state, call),
         Question::History => tell_history(alloc, history),
         Question::Keep => tell_kept(alloc, history),

@@ -6,10 +6,10 @@ ghost use Rattle.camp_call.specs.declared.replies.Reply.TheVariants as reply;
 ghost use Rattle.camp_call.specs.declared.replies.Refusal.{Refusal as SaidRefusal};
 ghost use Rattle.camp_talk.specs.Told.{counted};
 
+use crate::answers::answer_text;
 use crate::readings::count_lines;
 use camp_questions::Unanswered;
-use camp_repo::{Refusal, Reply};
-use camp_script::append_reply;
+use camp_repo::Reply;
 use std::alloc::{AllocError, Global};
 
 /// A text behind the word of its command and the number of its lines.
@@ -28,15 +28,7 @@ pub(crate) fn unanswered(alloc: Global, why: Unanswered) -> Result<Vec<u8>, Allo
     ensures { IfOk result (λ text. (refusal : SaidRefusal) × (why ≡ fault.Refused refusal) × (text.items ≡ reply_text (reply.Refused refusal))) }
 {
     match why {
-        Unanswered::Refused(refusal) => refused(alloc, refusal),
+        Unanswered::Refused(refusal) => answer_text(alloc, &Ok(Reply::Refused(refusal))),
         Unanswered::Memory => Err(AllocError),
     }
-}
-
-fn refused(alloc: Global, refusal: Refusal) -> Result<Vec<u8>, AllocError>
-    ensures { IfOk result (λ text. text.items ≡ reply_text (reply.Refused refusal)) }
-{
-    let mut text = Vec::new(alloc);
-    append_reply(&mut text, &Ok(Reply::Refused(refusal)))?;
-    Ok(text)
 }

@@ -1,35 +1,32 @@
 //! Conflicts, and what their sides say, as texts.
 ghost use Rattle.std.specs.Prelude.{◌≡◌, ◌++◌, IfOk, OnOk};
 ghost use Rattle.std.specs.List.{flat_map};
-ghost use Rattle.camp_questions.specs.Marks.{AreMarked};
-ghost use Rattle.camp_questions.specs.OpenConflicts.{AreOpen};
-ghost use Rattle.camp_questions.specs.Sides.{IsSide};
 ghost use Rattle.camp_script.specs.Texts.{pair_text};
-ghost use Rattle.camp_talk.specs.Told.{IsTold, marked_lines, marks_told, open_told, place_text, side_text, side_told};
+ghost use Rattle.camp_talk.specs.Inside.Said.{TellsFound};
+ghost use Rattle.camp_talk.specs.Told.{marked_lines, marks_told, open_told, place_text, side_text, side_told};
 
 use crate::told::{counted, unanswered};
 use crate::told_lines::{append_lines, no_file};
-use camp_base::{Name, Path};
-use camp_questions::{Marked, MarkedFile, Place, Said, Version, marks, open_pairs, side};
-use camp_repo::{Conflicts, State};
+use camp_base::Name;
+use camp_questions::{Marked, MarkedFile, Place, Said, Unanswered, Version};
+use camp_repo::Conflicts;
 use camp_script::append_changes;
 use std::alloc::{AllocError, Global};
 
-/// The pairs of patches of a branch that are in an open conflict.
-pub(crate) fn tell_open(alloc: Global, state: &State, branch: &Name) -> Result<Vec<u8>, AllocError>
-    ensures { IfOk result (λ text. IsTold open_told (AreOpen state.now branch.now) text.items) }
+/// The pairs of patches in an open conflict.
+pub(crate) fn tell_open(
+    alloc: Global,
+    found: Result<Conflicts, Unanswered>,
+) -> Result<Vec<u8>, AllocError>
+    ensures { IfOk result (λ text. TellsFound open_told found text.items) }
 {
-    match open_pairs(state, branch) {
-        Ok(pairs) => tell_pairs(alloc, &pairs),
+    match found {
+        Ok(pairs) => {
+            let text = pair_lines(alloc, pairs.pairs())?;
+            counted(alloc, "open", &text)
+        }
         Err(why) => unanswered(alloc, why),
     }
-}
-
-fn tell_pairs(alloc: Global, pairs: &Conflicts) -> Result<Vec<u8>, AllocError>
-    ensures { IfOk result (λ text. text.items ≡ open_told pairs.now) }
-{
-    let text = pair_lines(alloc, pairs.pairs())?;
-    counted(alloc, "open", &text)
 }
 
 fn pair_lines(alloc: Global, pairs: &[(Name, Name)]) -> Result<Vec<u8>, AllocError>
@@ -48,50 +45,34 @@ fn pair_lines(alloc: Global, pairs: &[(Name, Name)]) -> Result<Vec<u8>, AllocErr
 /// The changes of the side of a patch.
 pub(crate) fn tell_side(
     alloc: Global,
-    state: &State,
-    branch: &Name,
-    name: &Name,
+    found: Result<Said, Unanswered>,
 ) -> Result<Vec<u8>, AllocError>
-    ensures { IfOk result (λ text. IsTold side_told (IsSide state.now branch.now name.now) text.items) }
+    ensures { IfOk result (λ text. TellsFound side_told found text.items) }
 {
-    match side(state, branch, name) {
-        Ok(said) => tell_said(alloc, &said),
+    match found {
+        Ok(said) => {
+            let mut text = Vec::new(alloc);
+            append_changes(&mut text, said.changes())?;
+            counted(alloc, "side", &text)
+        }
         Err(why) => unanswered(alloc, why),
     }
 }
 
-fn tell_said(alloc: Global, said: &Said) -> Result<Vec<u8>, AllocError>
-    ensures { IfOk result (λ text. text.items ≡ side_told said.now) }
-{
-    let mut text = Vec::new(alloc);
-    append_changes(&mut text, said.changes())?;
-    counted(alloc, "side", &text)
-}
-
-/// A file of a branch with the open sides of its conflicts.
+/// A file with the open sides of its conflicts.
 pub(crate) fn tell_marks(
     alloc: Global,
-    state: &State,
-    branch: &Name,
-    path: &Path,
+    found: Result<Marked, Unanswered>,
 ) -> Result<Vec<u8>, AllocError>
-    ensures { IfOk result (λ text. IsTold marks_told (AreMarked state.now branch.now path.now) text.items) }
+    ensures { IfOk result (λ text. TellsFound marks_told found text.items) }
 {
-    match marks(state, branch, path) {
-        Ok(marked) => tell_marked(alloc, &marked),
-        Err(why) => unanswered(alloc, why),
-    }
-}
-
-fn tell_marked(alloc: Global, marked: &Marked) -> Result<Vec<u8>, AllocError>
-    ensures { IfOk result (λ text. text.items ≡ marks_told marked.now) }
-{
-    match marked {
-        Marked::File(file) => {
-            let text = marked_lines(alloc, file)?;
+    match found {
+        Ok(Marked::File(file)) => {
+            let text = marked_lines(alloc, &file)?;
             counted(alloc, "marks", &text)
         }
-        Marked::NoFile => no_file(alloc),
+        Ok(Marked::NoFile) => no_file(alloc),
+        Err(why) => unanswered(alloc, why),
     }
 }
 

@@ -50,8 +50,8 @@ fn all_summaries(alloc: Global) -> Result<Vec<u8>, AllocError>
     Ok(text)
 }
 
-// The commands, in the order in which they are told.
-fn commands() -> [Topic; 24]
+/// The commands, in the order in which they are told.
+pub(crate) fn commands() -> [Topic; 24]
     ensures { result ≡ commands }
 {
     [
@@ -181,8 +181,8 @@ fn details(topic: Topic) -> &'static str
     }
 }
 
-// A command as one writes it.
-fn example(topic: Topic) -> &'static str
+/// A command as one writes it.
+pub(crate) fn example(topic: Topic) -> &'static str
     ensures { result.now ≡ example topic }
 {
     match topic {

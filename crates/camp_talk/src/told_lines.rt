@@ -1,43 +1,30 @@
 //! The lines of a file, and the patches that put them there.
 ghost use Rattle.std.specs.Prelude.{◌≡◌, ◌++◌, IfOk, OnOk};
 ghost use Rattle.std.specs.List.{flat_map, zip};
-ghost use Rattle.camp_questions.specs.Annotations.{AreAnnotated};
-ghost use Rattle.camp_questions.specs.Files.{IsFile};
 ghost use Rattle.camp_script.specs.Texts.{signed_line};
-ghost use Rattle.camp_talk.specs.Told.{IsTold, annotated_line, annotated_told, file_told, no_file_told};
+ghost use Rattle.camp_talk.specs.Inside.Said.{TellsFound};
+ghost use Rattle.camp_talk.specs.Told.{annotated_line, annotated_told, file_told, no_file_told};
 
 use crate::told::{counted, unanswered};
-use camp_base::{Line, Name, Path};
-use camp_questions::{Annotated, annotate, file};
-use camp_repo::State;
+use camp_base::{Line, Name};
+use camp_questions::{Annotated, Unanswered};
 use camp_share::SharedList;
 use std::alloc::{AllocError, Global};
 
-/// The lines of a file of a branch, each behind the name of the patch that put it there.
+/// The lines of a file, each behind the name of the patch that put it there.
 pub(crate) fn tell_annotated(
     alloc: Global,
-    state: &State,
-    branch: &Name,
-    path: &Path,
+    found: Result<Annotated, Unanswered>,
 ) -> Result<Vec<u8>, AllocError>
-    ensures { IfOk result (λ text.
-        IsTold annotated_told (AreAnnotated state.now branch.now path.now) text.items) }
+    ensures { IfOk result (λ text. TellsFound annotated_told found text.items) }
 {
-    match annotate(state, branch, path) {
-        Ok(annotated) => tell_lines(alloc, &annotated),
-        Err(why) => unanswered(alloc, why),
-    }
-}
-
-fn tell_lines(alloc: Global, annotated: &Annotated) -> Result<Vec<u8>, AllocError>
-    ensures { IfOk result (λ text. text.items ≡ annotated_told annotated.now) }
-{
-    match annotated {
-        Annotated::File { lines, names } => {
-            let text = annotated_lines(alloc, lines, names)?;
+    match found {
+        Ok(Annotated::File { lines, names }) => {
+            let text = annotated_lines(alloc, &lines, &names)?;
             counted(alloc, "annotate", &text)
         }
-        Annotated::NoFile => no_file(alloc),
+        Ok(Annotated::NoFile) => no_file(alloc),
+        Err(why) => unanswered(alloc, why),
     }
 }
 
@@ -50,30 +37,22 @@ pub(crate) fn no_file(alloc: Global) -> Result<Vec<u8>, AllocError>
     Ok(text)
 }
 
-/// The lines of a file of a branch.
+/// The lines of a file.
 pub(crate) fn tell_file(
     alloc: Global,
-    state: &State,
-    branch: &Name,
-    path: &Path,
+    found: Result<Option<SharedList<Line>>, Unanswered>,
 ) -> Result<Vec<u8>, AllocError>
-    ensures { IfOk result (λ text. IsTold file_told (IsFile state.now branch.now path.now) text.items) }
+    ensures { IfOk result (λ text. TellsFound file_told found text.items) }
 {
-    match file(state, branch, path) {
-        Ok(lines) => file_text(alloc, lines),
+    match found {
+        Ok(Some(lines)) => {
+            let mut text = Vec::new(alloc);
+            append_lines(&mut text, b'=', &lines)?;
+            counted(alloc, "file", &text)
+        }
+        Ok(None) => no_file(alloc),
         Err(why) => unanswered(alloc, why),
     }
-}
-
-fn file_text(alloc: Global, lines: Option<SharedList<Line>>) -> Result<Vec<u8>, AllocError>
-    ensures { IfOk result (λ text. text.items ≡ file_told lines) }
-{
-    let Some(lines) = lines else {
-        return no_file(alloc);
-    };
-    let mut text = Vec::new(alloc);
-    append_lines(&mut text, b'=', &lines)?;
-    counted(alloc, "file", &text)
 }
 
 /// Puts lines behind a text, each behind a sign.

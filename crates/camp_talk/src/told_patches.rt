@@ -1,29 +1,25 @@
 //! A patch as it stands in a branch, as a text.
 ghost use Rattle.std.specs.Prelude.{◌≡◌, IfOk};
 ghost use Rattle.std.specs.List.{flat_map};
-ghost use Rattle.camp_questions.specs.Showing.{IsShown};
-ghost use Rattle.camp_talk.specs.Told.{IsTold, catch_line, patch_told};
+ghost use Rattle.camp_talk.specs.Inside.Said.{TellsFound};
+ghost use Rattle.camp_talk.specs.Told.{catch_line, patch_told};
 
 use crate::told::{counted, unanswered};
-use camp_base::Name;
 use camp_catch::Catch;
 use camp_notation::catch_text;
-use camp_questions::{Shown, show};
-use camp_repo::State;
+use camp_questions::{Shown, Unanswered};
 use camp_script::append_changes;
 use camp_share::Shared;
 use std::alloc::{AllocError, Global};
 
-/// The catches of a patch of a branch, and what they change.
+/// The catches of a patch, and what they change.
 pub(crate) fn tell_shown(
     alloc: Global,
-    state: &State,
-    branch: &Name,
-    name: &Name,
+    found: Result<Shown, Unanswered>,
 ) -> Result<Vec<u8>, AllocError>
-    ensures { IfOk result (λ text. IsTold patch_told (IsShown state.now branch.now name.now) text.items) }
+    ensures { IfOk result (λ text. TellsFound patch_told found text.items) }
 {
-    match show(state, branch, name) {
+    match found {
         Ok(shown) => tell_patch(alloc, &shown),
         Err(why) => unanswered(alloc, why),
     }

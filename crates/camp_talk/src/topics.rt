@@ -1,11 +1,17 @@
 //! What help is asked for.
+ghost use Rattle.std.specs.Option.{option_copied};
 ghost use Rattle.std.specs.Prelude.{◌≡◌, map};
 ghost use Rattle.camp_script.specs.Gives.{Gives};
-ghost use Rattle.camp_talk.specs.Asking.{call_topic, conflict_topic, reason_at, reason_topic, help_line, later_reason, other_topic, patch_topic, refusal_topic, topic_at, word_topic};
+ghost use Rattle.camp_script.specs.Lines.{lines_of, words_of};
+ghost use Rattle.camp_script.specs.Pieces.{begins_with};
+ghost use Rattle.camp_talk.specs.Asking.{first_begun, first_of, help_line, later_reason, reason_at, reason_topic, refusal_topic, topic_at, word_topic};
+ghost use Rattle.camp_talk.specs.Help.{example};
 
+use crate::asking::first_line;
 use crate::question_words::fault;
 use crate::questions::{Reason, Topic};
-use camp_script::{FaultKind, ScriptFault};
+use crate::told_help::{commands, example};
+use camp_script::{FaultKind, ScriptFault, begins_with};
 
 /// What help is asked for, by the words behind `help`.
 pub(crate) fn help_topic(words: &[&[u8]]) -> Result<Topic, ScriptFault>
@@ -107,110 +113,23 @@ fn later_reason(number: &[u8]) -> Option<Reason>
 fn topic_at(word: &[u8]) -> Result<Topic, ScriptFault>
     ensures { Gives result (topic_at word.now) }
 {
-    if let Some(topic) = call_topic(word) {
-        return Ok(topic);
-    }
-    if let Some(topic) = patch_topic(word) {
-        return Ok(topic);
-    }
-    match other_topic(word) {
-        Some(topic) => Ok(topic),
+    let commands = commands();
+    match first_begun(word, &commands) {
+        Some(command) => Ok(*command),
         None => Err(fault(FaultKind::UnknownCommand)),
     }
 }
 
-fn call_topic(word: &[u8]) -> Option<Topic>
-    ensures { result ≡ call_topic word.now }
+// The first of some commands whose example begins with a word.
+fn first_begun<'a>(word: &[u8], commands: &'a [Topic]) -> Option<&'a Topic>
+    ensures { option_copied result ≡ first_begun word.now commands.now }
 {
-    if word == b"branch".as_slice() {
-        return Some(Topic::Branch);
-    }
-    if word == b"record".as_slice() {
-        return Some(Topic::Record);
-    }
-    if word == b"pull".as_slice() {
-        return Some(Topic::Pull);
-    }
-    if word == b"obliterate".as_slice() {
-        return Some(Topic::Obliterate);
-    }
-    if word == b"tree".as_slice() {
-        return Some(Topic::Tree);
-    }
-    if word == b"conflicts".as_slice() {
-        return Some(Topic::Conflicts);
-    }
-    if word == b"names".as_slice() {
-        return Some(Topic::Names);
-    }
-    None
+    commands.iter().find(|command| begins(word, **command))
 }
 
-fn patch_topic(word: &[u8]) -> Option<Topic>
-    ensures { result ≡ patch_topic word.now }
+// Whether the example of a command begins with a word.
+fn begins(word: &[u8], command: Topic) -> bool
+    ensures { result ≡ begins_with word.now (words_of (first_of (lines_of (example command)))) }
 {
-    if word == b"needs".as_slice() {
-        return Some(Topic::Needs);
-    }
-    if word == b"held".as_slice() {
-        return Some(Topic::Held);
-    }
-    if word == b"missing".as_slice() {
-        return Some(Topic::Missing);
-    }
-    if word == b"show".as_slice() {
-        return Some(Topic::Show);
-    }
-    if word == b"annotate".as_slice() {
-        return Some(Topic::Annotate);
-    }
-    if word == b"graph".as_slice() {
-        return Some(Topic::Graph);
-    }
-    if word == b"along".as_slice() {
-        return Some(Topic::Along);
-    }
-    conflict_topic(word)
-}
-
-fn conflict_topic(word: &[u8]) -> Option<Topic>
-    ensures { result ≡ conflict_topic word.now }
-{
-    if word == b"open".as_slice() {
-        return Some(Topic::Open);
-    }
-    if word == b"side".as_slice() {
-        return Some(Topic::Side);
-    }
-    if word == b"marks".as_slice() {
-        return Some(Topic::Marks);
-    }
-    if word == b"file".as_slice() {
-        return Some(Topic::File);
-    }
-    if word == b"branches".as_slice() {
-        return Some(Topic::Branches);
-    }
-    None
-}
-
-fn other_topic(word: &[u8]) -> Option<Topic>
-    ensures { result ≡ other_topic word.now }
-{
-    if word == b"whatif".as_slice() {
-        return Some(Topic::WhatIf);
-    }
-    if word == b"why".as_slice() {
-        return Some(Topic::Why);
-    }
-    if word == b"history".as_slice() {
-        return Some(Topic::History);
-    }
-    if word == b"keep".as_slice() {
-        return Some(Topic::Keep);
-    }
-    if word == b"help".as_slice() {
-        return Some(Topic::Help);
-    }
-    None
+    begins_with(first_line(example(command).as_bytes()), word)
 }

@@ -1,7 +1,7 @@
 -- Refusals of calls, and their causes.
 use Rattle.std.specs.List.{AllByRecursion, list_any}
 use Rattle.std.specs.Prelude.{is_some}
-use Rattle.camp_why.proofs.Words.{◌&&◌, ◌||◌, ◌++◌, ◌+◌, ◌≡◌, ◌∙◌, ◌∷◌, ℕ, suc, Bool, true, false, not, cond, List, [], length, None, Some, Option, Result, Ok, Err, ap, arith, bytes_eq, false≢true, ltb-true, nat_le, nat_lt, none-some, option_map_or, refl, same_Some, slice_get, sym, Files, InRange, Primitive}
+use Rattle.camp_why.proofs.Words.{◌&&◌, ◌||◌, ◌++◌, ◌+◌, ◌≡◌, ◌∙◌, ◌∷◌, ℕ, suc, Bool, true, false, not, cond, List, [], length, None, Some, Option, Result, Ok, Err, ap, arith, bytes_eq, false≢true, ltb-true, nat_le, nat_lt, none-some, option_map_or, refl, same_Some, slice_get, subst, sym, Files, InRange, Edit, Primitive, Add, Hunk, Remove}
 use Rattle.std.proofs.lemmas.Bool.{le-leb, leb-true}
 use Rattle.camp_why.proofs.Stopping.{is_stop, stops_with}
 use Rattle.camp_branch.specs.Branches.{LeadsTo, first_lacked, recorded}
@@ -22,7 +22,7 @@ use Rattle.camp_repo.specs.Lawful.{IsLawfulState}
 use Rattle.camp_repo.specs.Outcomes.{obliterated, pulled}
 use Rattle.camp_repo.specs.States.{Contents, catches_of, stands, tree_of}
 use Rattle.camp_repo.specs.Steps.{Decision, becomes, catches_named, changed, has_long_side, is_empty, is_full_with, is_patch_sized, listed, most_branches, most_catches, record_leads, refused, refused_if, shown, step, wanted}
-use Rattle.camp_why.specs.Causes.{IsSo, RecordsIn, first_long, full_with_pull, is_of_changes, is_of_limit, long_or, record_cause, refusal_by, stop_cause, stop_from}
+use Rattle.camp_why.specs.Causes.{IsSo, RecordsIn, brought, cause_or, first_long, full_with_pull, is_of_changes, is_of_limit, record_cause, refusal_by, stop_cause, stop_from}
 use Rattle.camp_why.specs.Stops.{first_stop}
 use Rattle.camp_why.specs.Laws.{IsExplained, RefusalsAreExplained}
 use Rattle.camp_why.specs.declared.causes.Cause.{Cause}
@@ -112,8 +112,9 @@ of_pull state from to names refusal of e =
     let some = skip is_of_limit refusal of (is_empty names_wanted) NothingToDo _ refl all in
     let (full, same) = at_limit (is_full_with ours theirs names_wanted) refusal _ of (of_blocked state to (pulled theirs ours names_wanted)) some in
     record {
-      cause = FullWithPull (length ours);
-      told = if_true (is_of_limit refusal) (full_with_pull (catches_of state.branches to)) None of ∙ ap full_with_pull to_has;
+      cause = FullWithPull (length ours) (length (brought theirs ours names));
+      told = if_true (is_of_limit refusal) (full_with_pull (catches_of state.branches from) (catches_of state.branches to) names) None of
+          ∙ (λ j. full_with_pull (from_has j) (to_has j) names);
       of = same;
       is_so = record {
         from = from;
@@ -125,6 +126,7 @@ of_pull state from to names refusal of e =
         from_has = from_has;
         to_has = to_has;
         counts = refl;
+        brings = refl;
         full = ltb-true most_catches (length ours + length (catches_named names_wanted theirs)) full;
       };
     }
@@ -143,63 +145,80 @@ no_limit_shown (Some tree) = refl
 
 -- ---- changes that a record makes
 
--- a change with a side that is too long stands behind so many others
-record LongBehind (at : ℕ) (changes : List Primitive) (number : ℕ) : Type 0 where
-  before : ℕ
-  change : Primitive
-  numbered : number ≡ suc (at + before)
-  found : slice_get changes before ≡ Some change
-  long : has_long_side change ≡ true
+-- that the sides of an edit are too long
+abbrev long_at : ℕ → Edit → Cause
+long_at at hunk = LongSide at hunk.path (length hunk.old) (length hunk.new)
 
-long_by : (at : ℕ) (change : Primitive) (changes : List Primitive) (number : ℕ)
-    → (first_long (suc (suc at)) changes ≡ Some number → LongBehind (suc at) changes number)
-    → (b : Bool) → has_long_side change ≡ b → cond b (Some (suc at)) (first_long (suc (suc at)) changes) ≡ Some number
-    → LongBehind at (change ∷ changes) number
-long_by at change changes number behind true is e =
-    let place : suc at ≡ suc (at + 0) = omega arith in
-    record { before = 0; change = change; numbered = sym (same_Some _ _ e) ∙ place; found = refl; long = is }
-long_by at change changes number behind false is e =
-    let rest = behind e in
+-- an edit with a side that is too long stands behind so many other changes
+record LongBehind (at : ℕ) (changes : List Primitive) (cause : Cause) : Type 0 where
+  before : ℕ
+  hunk : Edit
+  is : cause ≡ long_at (suc (at + before)) hunk
+  found : slice_get changes before ≡ Some (Hunk hunk)
+  long : has_long_side (Hunk hunk) ≡ true
+
+long_behind : (at : ℕ) (change : Primitive) (changes : List Primitive) (cause : Cause) → LongBehind (suc at) changes cause
+    → LongBehind at (change ∷ changes) cause
+long_behind at change changes cause rest =
     let place : suc (suc at + rest.before) ≡ suc (at + suc rest.before) = omega arith in
     record {
       before = suc rest.before;
-      change = rest.change;
-      numbered = rest.numbered ∙ place;
+      hunk = rest.hunk;
+      is = rest.is ∙ ap (λ n. long_at n rest.hunk) place;
       found = rest.found;
       long = rest.long;
     }
 
--- the first long side is one
-long_told : (at : ℕ) (changes : List Primitive) (number : ℕ) → first_long (suc at) changes ≡ Some number → LongBehind at changes number
-long_told at [] number e = absurd (none-some number e)
-long_told at (change ∷ changes) number e =
-    long_by at change changes number (long_told (suc at) changes number) (has_long_side change) refl e
+long_by : (at : ℕ) (hunk : Edit) (changes : List Primitive) (cause : Cause)
+    → (first_long (suc (suc at)) changes ≡ Some cause → LongBehind (suc at) changes cause)
+    → (b : Bool) → has_long_side (Hunk hunk) ≡ b
+    → cause_or (cond b (Some (long_at (suc at) hunk)) None) (first_long (suc (suc at)) changes) ≡ Some cause
+    → LongBehind at (Hunk hunk ∷ changes) cause
+long_by at hunk changes cause behind true is e =
+    let place : suc at ≡ suc (at + 0) = omega arith in
+    record { before = 0; hunk = hunk; is = sym (same_Some _ _ e) ∙ ap (λ n. long_at n hunk) place; found = refl; long = is }
+long_by at hunk changes cause behind false is e = long_behind at (Hunk hunk) changes cause (behind e)
 
-there_by : (at : ℕ) (change : Primitive) (changes : List Primitive)
-    → (list_any has_long_side changes ≡ true → (number : ℕ) × (first_long (suc at) changes ≡ Some number))
-    → (b : Bool) → has_long_side change ≡ b → b || list_any has_long_side changes ≡ true
-    → (number : ℕ) × (cond (has_long_side change) (Some at) (first_long (suc at) changes) ≡ Some number)
-there_by at change changes behind true is e = (at, if_true (has_long_side change) (Some at) (first_long (suc at) changes) is)
-there_by at change changes behind false is e =
-    let (number, first) = behind e in
-    (number, if_false (has_long_side change) (Some at) (first_long (suc at) changes) is ∙ first)
+-- the first long side is one
+long_told : (at : ℕ) (changes : List Primitive) (cause : Cause) → first_long (suc at) changes ≡ Some cause → LongBehind at changes cause
+long_told at [] cause e = absurd (none-some cause e)
+long_told at (Add path ∷ changes) cause e = long_behind at (Add path) changes cause (long_told (suc at) changes cause e)
+long_told at (Remove path ∷ changes) cause e = long_behind at (Remove path) changes cause (long_told (suc at) changes cause e)
+long_told at (Hunk hunk ∷ changes) cause e =
+    long_by at hunk changes cause (long_told (suc at) changes cause) (has_long_side (Hunk hunk)) refl e
+
+module _ (at : ℕ) (hunk : Edit) (changes : List Primitive) where
+  -- by whether the first change has a long side
+  abbrev by_first : Bool → Option Cause
+  by_first b = cause_or (cond b (Some (long_at at hunk)) None) (first_long (suc at) changes)
+
+  there_by : (list_any has_long_side changes ≡ true → (cause : Cause) × (first_long (suc at) changes ≡ Some cause))
+      → (b : Bool) → has_long_side (Hunk hunk) ≡ b → b || list_any has_long_side changes ≡ true
+      → (cause : Cause) × (by_first (has_long_side (Hunk hunk)) ≡ Some cause)
+  there_by behind true is e = (long_at at hunk, ap by_first is)
+  there_by behind false is e =
+      let (cause, first) = behind e in
+      (cause, ap by_first is ∙ first)
+
+  none_by : (list_any has_long_side changes ≡ false → first_long (suc at) changes ≡ None)
+      → (b : Bool) → has_long_side (Hunk hunk) ≡ b → b || list_any has_long_side changes ≡ false
+      → by_first (has_long_side (Hunk hunk)) ≡ None
+  none_by behind true is e = absurd (false≢true (sym e))
+  none_by behind false is e = ap by_first is ∙ behind e
 
 -- where some side is too long, there is a first
-long_there : (at : ℕ) (changes : List Primitive) → list_any has_long_side changes ≡ true → (number : ℕ) × (first_long at changes ≡ Some number)
+long_there : (at : ℕ) (changes : List Primitive) → list_any has_long_side changes ≡ true → (cause : Cause) × (first_long at changes ≡ Some cause)
 long_there at [] e = absurd (false≢true e)
-long_there at (change ∷ changes) e = there_by at change changes (long_there (suc at) changes) (has_long_side change) refl e
-
-none_by : (at : ℕ) (change : Primitive) (changes : List Primitive)
-    → (list_any has_long_side changes ≡ false → first_long (suc at) changes ≡ None)
-    → (b : Bool) → has_long_side change ≡ b → b || list_any has_long_side changes ≡ false
-    → cond (has_long_side change) (Some at) (first_long (suc at) changes) ≡ None
-none_by at change changes behind true is e = absurd (false≢true (sym e))
-none_by at change changes behind false is e = if_false (has_long_side change) (Some at) (first_long (suc at) changes) is ∙ behind e
+long_there at (Add path ∷ changes) e = long_there (suc at) changes e
+long_there at (Remove path ∷ changes) e = long_there (suc at) changes e
+long_there at (Hunk hunk ∷ changes) e = there_by at hunk changes (long_there (suc at) changes) (has_long_side (Hunk hunk)) refl e
 
 -- where none is, there is no first
 none_long : (at : ℕ) (changes : List Primitive) → list_any has_long_side changes ≡ false → first_long at changes ≡ None
 none_long at [] e = refl
-none_long at (change ∷ changes) e = none_by at change changes (none_long (suc at) changes) (has_long_side change) refl e
+none_long at (Add path ∷ changes) e = none_long (suc at) changes e
+none_long at (Remove path ∷ changes) e = none_long (suc at) changes e
+none_long at (Hunk hunk ∷ changes) e = none_by at hunk changes (none_long (suc at) changes) (has_long_side (Hunk hunk)) refl e
 
 is_sized : (changes : List Primitive) → IsPatchSized changes → not (is_patch_sized changes) ≡ false
 is_sized changes size = (λ j. not (le-leb 1 (length changes) size.0 j && le-leb (length changes) 64 size.1 j))
@@ -234,30 +253,35 @@ module _ (state : Contents) (branch name : List ℕ) (changes : List Primitive) 
   module _ (few : nat_lt most_catches (length catches + length changes) ≡ false) where
     is_long : list_any has_long_side changes ≡ true → TooLarge ≡ refusal → IsExplained state asked refusal
     is_long any same =
-        let (number, first) = long_there 1 changes any in
-        let at_first = long_told 0 changes number first in
+        let (cause, first) = long_there 1 changes any in
+        let at_first = long_told 0 changes cause first in
         let place : suc (0 + at_first.before) ≡ suc at_first.before = omega arith in
-        let told : long_or (first_long 1 changes) (stop_from changes (tree_of catches)) ≡ Some (LongSide number) =
-        ap (λ o. long_or o (stop_from changes (tree_of catches))) first in
-        explains (LongSide number) (if_false _ _ _ few ∙ told) same (record {
+        let told : cause_or (first_long 1 changes) (stop_from changes (tree_of catches)) ≡ Some cause =
+        ap (λ o. cause_or o (stop_from changes (tree_of catches))) first in
+        let is_so : IsSo state asked (long_at (suc (0 + at_first.before)) at_first.hunk) =
+        record {
           catches = catches;
           changes = changes;
           in_branch = in_branch;
           is_long = record {
             before = at_first.before;
-            numbered = at_first.numbered ∙ place;
-            change = at_first.change;
+            numbered = place;
+            hunk = at_first.hunk;
             is = at_first.found;
+            of_file = refl;
+            counts_old = refl;
+            counts_new = refl;
             long = at_first.long;
           };
-        })
+        } in
+        explains cause (if_false _ _ _ few ∙ told) (ap refusal_by at_first.is ∙ same) (subst (IsSo state asked) (sym at_first.is) is_so)
 
     module _ (short : list_any has_long_side changes ≡ false) (range : AllByRecursion InRange changes) (tree : Files) (leads : LeadsTo catches tree) where
       stops : changed changes tree ≡ Err refusal → IsExplained state asked refusal
       stops e =
           let with_stop = stops_with 1 changes tree refusal range e in
-          let told : long_or (first_long 1 changes) (stop_from changes (tree_of catches)) ≡ Some (Stops with_stop.stop) =
-          (λ j. long_or (none_long 1 changes short j) (stop_from changes (tree_found catches tree leads j))) ∙ ap stop_cause with_stop.first in
+          let told : cause_or (first_long 1 changes) (stop_from changes (tree_of catches)) ≡ Some (Stops with_stop.stop) =
+          (λ j. cause_or (none_long 1 changes short j) (stop_from changes (tree_found catches tree leads j))) ∙ ap stop_cause with_stop.first in
           explains (Stops with_stop.stop) (if_false _ _ _ few ∙ told) with_stop.of (record {
             catches = catches;
             changes = changes;
@@ -322,5 +346,5 @@ pub stops_in : (catches : List Catch) (changes : List Primitive) (tree : Files)
 stops_in catches changes tree few short leads found is =
     ap stop_cause is
     ∙ sym (if_false (nat_lt most_catches (length catches + length changes)) (Some (FullBranch (length catches) (length changes)))
-    (long_or (first_long 1 changes) (stop_from changes (tree_of catches))) few
-    ∙ (λ j. long_or (short j) (stop_from changes (tree_found catches tree leads j))))
+    (cause_or (first_long 1 changes) (stop_from changes (tree_of catches))) few
+    ∙ (λ j. cause_or (short j) (stop_from changes (tree_found catches tree leads j))))

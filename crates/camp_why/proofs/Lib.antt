@@ -1,4 +1,6 @@
 mod Words
 pub mod Causing
+pub mod Grounding
 pub mod Misfitting
+pub mod Seeing
 pub mod Stopping

@@ -1,6 +1,6 @@
 -- Where a change does not apply, and where it does.
 use Rattle.camp_why.proofs.Words.{Bool, true, false, cond, ◌++◌, ◌+◌, ◌-◌, ◌≡◌, ◌≢◌, ◌≤◌, ◌<◌, ◌∙◌, ◌∷◌, ℕ, zero, suc, List, [], Option, Some, None, get, insert, ap, append_assoc, arith, bytes_eq, bytes_eq-Decides, drop, drop-drop, drop_all, false≢true, le-ltb, length, length-append, length-drop, length-take-le, ltb-false, ltb-true, nat_lt, none-some, not, refl, same_Some, slice_get, slice_get_past, subst, sym, take, take-append-drop, Files, Lines, SplicesLines, Applies, InRange, Edit, Primitive, Add, Hunk, Remove, IsMisfit, lines_misfit, why_not, other_line, Misfit, EndsBefore, FileIsThere, HasLines, NoFile, OtherLine}
-use Rattle.camp_why.specs.Misfits.{Edits, add_misfit, edit_misfit, remove_misfit}
+use Rattle.camp_why.specs.Misfits.{Edits, StandThere, add_misfit, edit_misfit, ends_before, lacking, misfit_or, remove_misfit}
 
 -- ---- lists from a place on
 
@@ -8,6 +8,12 @@ pub at_front : {X : Type 0} (xs : List X) (i : ℕ) (x : X) → slice_get xs i �
 at_front [] i x e = absurd (none-some x e)
 at_front (y ∷ ys) zero x e = ap (λ z. z ∷ ys) (same_Some _ _ e)
 at_front (y ∷ ys) (suc i) x e = at_front ys i x e
+
+drop_none : (lines : Lines) (n : ℕ) → slice_get lines n ≡ None → drop n lines ≡ []
+drop_none [] zero e = refl
+drop_none [] (suc n) e = refl
+drop_none (line ∷ lines) zero e = absurd (none-some line (sym e))
+drop_none (line ∷ lines) (suc n) e = drop_none lines n e
 
 get_drop : (lines : Lines) (n k : ℕ) → slice_get (drop n lines) k ≡ slice_get lines (n + k)
 get_drop lines zero k =
@@ -20,6 +26,19 @@ get_drop (line ∷ lines) (suc n) k =
 
 -- ---- the first line that is another one
 
+-- so many old lines are those that stand there, as far as there are any
+abbrev AlikeUpTo : ℕ → Lines → Lines → Type 0
+AlikeUpTo count old lines =
+    (at : ℕ) (stands expected : List ℕ) → at < count → slice_get old at ≡ Some expected → slice_get lines at ≡ Some stands → stands ≡ expected
+
+-- one more, in front of them
+alike_more : (count : ℕ) (first : List ℕ) (other : List ℕ) (old lines : Lines) → other ≡ first → AlikeUpTo count old lines
+    → AlikeUpTo (suc count) (first ∷ old) (other ∷ lines)
+alike_more count first other old lines same behind zero stands expected within is_expected is_there =
+    same_Some _ _ (sym is_there) ∙ same ∙ same_Some _ _ is_expected
+alike_more count first other old lines same behind (suc at) stands expected within is_expected is_there =
+    behind at stands expected (omega (arith, within)) is_expected is_there
+
 -- a line that is another one, behind so many that are not
 record FindsOther (at : ℕ) (old lines : Lines) (why : Misfit) : Type 0 where
   before : ℕ
@@ -29,6 +48,7 @@ record FindsOther (at : ℕ) (old lines : Lines) (why : Misfit) : Type 0 where
   is_expected : slice_get old before ≡ Some expected
   is_there : slice_get lines before ≡ Some stands
   other : stands ≢ expected
+  alike : AlikeUpTo before old lines
 
 differ : (stands expected : List ℕ) → bytes_eq stands expected ≡ false → stands ≢ expected
 differ stands expected unlike same = false≢true (sym unlike ∙ (bytes_eq-Decides stands expected).1 same)
@@ -49,6 +69,7 @@ other_by at expected stands old lines why behind true is e =
       is_expected = rest.is_expected;
       is_there = rest.is_there;
       other = rest.other;
+      alike = alike_more rest.before expected stands old lines ((bytes_eq-Decides stands expected).0 is) rest.alike;
     }
 other_by at expected stands old lines why behind false is e =
     let place : at ≡ at + 0 = omega arith in
@@ -60,6 +81,7 @@ other_by at expected stands old lines why behind false is e =
       is_expected = refl;
       is_there = refl;
       other = differ stands expected is;
+      alike = λ at stands expected within. absurd (omega (arith, within));
     }
 
 finds_other : (at : ℕ) (old lines : Lines) (why : Misfit) → other_line at old lines ≡ Some why → FindsOther at old lines why
@@ -67,6 +89,21 @@ finds_other at [] lines why e = absurd (none-some why e)
 finds_other at (expected ∷ old) [] why e = absurd (none-some why e)
 finds_other at (expected ∷ old) (stands ∷ lines) why e =
     other_by at expected stands old lines why (finds_other (suc at) old lines why) (bytes_eq stands expected) refl e
+
+alike_by : (at : ℕ) (expected stands : List ℕ) (old lines : Lines) → (other_line (suc at) old lines ≡ None → AlikeUpTo (length old) old lines)
+    → (b : Bool) → bytes_eq stands expected ≡ b
+    → cond b (other_line (suc at) old lines) (Some (OtherLine at stands expected)) ≡ None
+    → AlikeUpTo (length (expected ∷ old)) (expected ∷ old) (stands ∷ lines)
+alike_by at expected stands old lines behind true is e =
+    alike_more (length old) expected stands old lines ((bytes_eq-Decides stands expected).0 is) (behind e)
+alike_by at expected stands old lines behind false is e = absurd (none-some _ (sym e))
+
+-- where no line is another one, the old lines are those that stand there
+all_alike : (at : ℕ) (old lines : Lines) → other_line at old lines ≡ None → AlikeUpTo (length old) old lines
+all_alike at [] lines e = λ k stands expected within. absurd (omega (arith, within))
+all_alike at (expected ∷ old) [] e = λ k stands other within is_expected is_there. absurd (none-some _ (sym (slice_get_past {X = List ℕ} [] k (omega arith)) ∙ is_there))
+all_alike at (expected ∷ old) (stands ∷ lines) e =
+    alike_by at expected stands old lines (all_alike (suc at) old lines) (bytes_eq stands expected) refl e
 
 stand_by : (at : ℕ) (expected stands : List ℕ) (old lines : Lines) → (other_line (suc at) old lines ≡ None → take (length old) lines ≡ old)
     → (b : Bool) → bytes_eq stands expected ≡ b
@@ -90,38 +127,55 @@ module _ (change : Primitive) (tree : Files) (why : Misfit) where
   told_as : (other : Misfit) → Some other ≡ Some why → IsMisfit change tree other → IsMisfit change tree why
   told_as other e is = subst (IsMisfit change tree) (same_Some _ _ e) is
 
-told_of_lines : (hunk : Edit) (tree : Files) (lines : Lines) (why : Misfit) → get tree hunk.path ≡ Some lines
-    → lines_misfit hunk lines ≡ Some why → IsMisfit (Hunk hunk) tree why
-told_of_lines hunk tree lines why found e = by (nat_lt (length lines) (hunk.line - 1 + length hunk.old)) refl e
-  where
-    edits : Edits (Hunk hunk) tree hunk lines
-    edits = record { edits = refl; found = found }
+module _ (hunk : Edit) (tree : Files) (lines : Lines) (found : get tree hunk.path ≡ Some lines) where
+  edits : Edits (Hunk hunk) tree hunk lines
+  edits = record { edits = refl; found = found }
 
-    by : (b : Bool) → nat_lt (length lines) (hunk.line - 1 + length hunk.old) ≡ b
-        → cond b (Some (EndsBefore (length lines) (hunk.line - 1 + length hunk.old))) (other_line hunk.line hunk.old (drop (hunk.line - 1) lines)) ≡ Some why
-        → IsMisfit (Hunk hunk) tree why
-    by true is e = told_as (Hunk hunk) tree why (EndsBefore (length lines) (hunk.line - 1 + length hunk.old)) e (record {
-      hunk = hunk;
-      lines = lines;
-      edits = edits;
-      counts = refl;
-      reaches = refl;
-      behind = ltb-true (length lines) (hunk.line - 1 + length hunk.old) is;
-    })
-    by false is e =
-        let finds = finds_other hunk.line hunk.old (drop (hunk.line - 1) lines) why e in
-        let is_so : IsMisfit (Hunk hunk) tree (OtherLine (hunk.line + finds.before) finds.stands finds.expected) =
-        record {
-          hunk = hunk;
-          lines = lines;
-          edits = edits;
-          before = finds.before;
-          is_at = refl;
-          is_expected = finds.is_expected;
-          is_there = sym (get_drop lines (hunk.line - 1) finds.before) ∙ finds.is_there;
-          other = finds.other;
-        } in
-        subst (IsMisfit (Hunk hunk) tree) (sym finds.is) is_so
+  -- lines from the first of an edit on are those of the file at their places
+  in_file : (count : ℕ) → AlikeUpTo count hunk.old (drop (hunk.line - 1) lines) → StandThere hunk lines count
+  in_file count alike at stands expected within is_expected is_there =
+      alike at stands expected within is_expected (get_drop lines (hunk.line - 1) at ∙ is_there)
+
+  -- another line stands there
+  other_told : (why : Misfit) → other_line hunk.line hunk.old (drop (hunk.line - 1) lines) ≡ Some why → IsMisfit (Hunk hunk) tree why
+  other_told why e =
+      let finds = finds_other hunk.line hunk.old (drop (hunk.line - 1) lines) why e in
+      let is_so : IsMisfit (Hunk hunk) tree (OtherLine (hunk.line + finds.before) finds.stands finds.expected) =
+      record {
+        hunk = hunk;
+        lines = lines;
+        edits = edits;
+        before = finds.before;
+        is_at = refl;
+        is_expected = finds.is_expected;
+        is_there = sym (get_drop lines (hunk.line - 1) finds.before) ∙ finds.is_there;
+        other = finds.other;
+        alike = in_file finds.before finds.alike;
+      } in
+      subst (IsMisfit (Hunk hunk) tree) (sym finds.is) is_so
+
+  -- the file ends before
+  end_told : (why : Misfit) → other_line hunk.line hunk.old (drop (hunk.line - 1) lines) ≡ None
+      → (b : Bool) → nat_lt (length lines) (hunk.line - 1 + length hunk.old) ≡ b
+      → cond b (Some (EndsBefore (length lines) (hunk.line - 1 + length hunk.old) (lacking hunk (length lines)))) None ≡ Some why
+      → IsMisfit (Hunk hunk) tree why
+  end_told why none true is e =
+      told_as (Hunk hunk) tree why (EndsBefore (length lines) (hunk.line - 1 + length hunk.old) (lacking hunk (length lines))) e (record {
+        hunk = hunk;
+        lines = lines;
+        edits = edits;
+        counts = refl;
+        reaches = refl;
+        behind = ltb-true (length lines) (hunk.line - 1 + length hunk.old) is;
+        alike = in_file (length hunk.old) (all_alike hunk.line hunk.old (drop (hunk.line - 1) lines) none);
+        is_lacked = refl;
+      })
+  end_told why none false is e = absurd (none-some why e)
+
+  told_of_lines : (why : Misfit) (other : Option Misfit) → other_line hunk.line hunk.old (drop (hunk.line - 1) lines) ≡ other
+      → misfit_or other (ends_before hunk (length lines)) ≡ Some why → IsMisfit (Hunk hunk) tree why
+  told_of_lines why (Some other) is e = other_told why (is ∙ e)
+  told_of_lines why None is e = end_told why is (nat_lt (length lines) (hunk.line - 1 + length hunk.old)) refl e
 
 pub is_told : (change : Primitive) (tree : Files) (why : Misfit) → why_not change tree ≡ Some why → IsMisfit change tree why
 is_told (Add path) tree why e = by (get tree path) refl e
@@ -147,7 +201,7 @@ is_told (Hunk hunk) tree why e = by (get tree hunk.path) refl e
   where
     by : (found : Option Lines) → get tree hunk.path ≡ found → edit_misfit hunk found ≡ Some why → IsMisfit (Hunk hunk) tree why
     by None is e = told_as (Hunk hunk) tree why NoFile e (record { wants = refl; absent = is })
-    by (Some lines) is e = told_of_lines hunk tree lines why is e
+    by (Some lines) is e = told_of_lines hunk tree lines is why (other_line hunk.line hunk.old (drop (hunk.line - 1) lines)) refl e
 
 -- ---- where it is one, the change does not apply
 
@@ -195,7 +249,7 @@ not_applied (Hunk hunk) tree next NoFile m applies = none-some _ (sym m.absent �
 not_applied change tree next (HasLines count) m applies =
     let removes = subst (λ c. Applies c tree next) m.removes applies in
     m.some (m.counts ∙ ap length (same_Some _ _ (sym m.found ∙ removes.empty)))
-not_applied change tree next (EndsBefore has wants) m applies =
+not_applied change tree next (EndsBefore has wants lacks) m applies =
     let splices = subst (λ c. Applies c tree next) m.edits.edits applies in
     not_behind m.hunk m.lines splices.lines splices.changed (same_Some _ _ (sym m.edits.found ∙ splices.found)) splices.splices has wants m.counts m.reaches m.behind
 not_applied change tree next (OtherLine at stands expected) m applies =
@@ -224,19 +278,22 @@ can_splice hunk lines positive within same =
       },
     )
 
-edit_applies : (hunk : Edit) (tree : Files) (lines : Lines) → 1 ≤ hunk.line → get tree hunk.path ≡ Some lines
-    → lines_misfit hunk lines ≡ None → (next : Files) × Applies (Hunk hunk) tree next
-edit_applies hunk tree lines positive found e = by (nat_lt (length lines) (hunk.line - 1 + length hunk.old)) refl e
-  where
-    by : (b : Bool) → nat_lt (length lines) (hunk.line - 1 + length hunk.old) ≡ b
-        → cond b (Some (EndsBefore (length lines) (hunk.line - 1 + length hunk.old))) (other_line hunk.line hunk.old (drop (hunk.line - 1) lines)) ≡ None
-        → (next : Files) × Applies (Hunk hunk) tree next
-    by true is e = absurd (none-some _ (sym e))
-    by false is e =
-        let enough = ltb-false (length lines) (hunk.line - 1 + length hunk.old) is in
-        let stand = all_stand hunk.line hunk.old (drop (hunk.line - 1) lines) (omega (arith, enough, length-drop (hunk.line - 1) lines)) e in
-        let (changed, splices) = can_splice hunk lines positive enough stand in
-        (insert tree hunk.path changed, record { lines = lines; changed = changed; found = found; splices = splices; becomes = refl })
+module _ (hunk : Edit) (tree : Files) (lines : Lines) (positive : 1 ≤ hunk.line) (found : get tree hunk.path ≡ Some lines) where
+  reaches : other_line hunk.line hunk.old (drop (hunk.line - 1) lines) ≡ None
+      → (b : Bool) → nat_lt (length lines) (hunk.line - 1 + length hunk.old) ≡ b
+      → cond b (Some (EndsBefore (length lines) (hunk.line - 1 + length hunk.old) (lacking hunk (length lines)))) None ≡ None
+      → (next : Files) × Applies (Hunk hunk) tree next
+  reaches none true is e = absurd (none-some _ (sym e))
+  reaches none false is e =
+      let enough = ltb-false (length lines) (hunk.line - 1 + length hunk.old) is in
+      let stand = all_stand hunk.line hunk.old (drop (hunk.line - 1) lines) (omega (arith, enough, length-drop (hunk.line - 1) lines)) none in
+      let (changed, splices) = can_splice hunk lines positive enough stand in
+      (insert tree hunk.path changed, record { lines = lines; changed = changed; found = found; splices = splices; becomes = refl })
+
+  edit_applies : (other : Option Misfit) → other_line hunk.line hunk.old (drop (hunk.line - 1) lines) ≡ other
+      → misfit_or other (ends_before hunk (length lines)) ≡ None → (next : Files) × Applies (Hunk hunk) tree next
+  edit_applies (Some why) is e = absurd (none-some _ (sym e))
+  edit_applies None is e = reaches is (nat_lt (length lines) (hunk.line - 1 + length hunk.old)) refl e
 
 pub none_applies : (change : Primitive) (tree : Files) → InRange change → why_not change tree ≡ None → (next : Files) × Applies change tree next
 none_applies (Add path) tree range e = by (get tree path) refl e
@@ -254,7 +311,7 @@ none_applies (Hunk hunk) tree range e = by (get tree hunk.path) refl e
   where
     by : (found : Option Lines) → get tree hunk.path ≡ found → edit_misfit hunk found ≡ None → (next : Files) × Applies (Hunk hunk) tree next
     by None is e = absurd (none-some _ (sym e))
-    by (Some lines) is e = edit_applies hunk tree lines range.counted is e
+    by (Some lines) is e = edit_applies hunk tree lines range.counted is (other_line hunk.line hunk.old (drop (hunk.line - 1) lines)) refl e
 
 -- ---- line by line
 
@@ -297,27 +354,25 @@ not_false : (b : Bool) → false ≡ not b → b ≡ true
 not_false true e = refl
 not_false false e = absurd (false≢true e)
 
-module _ (hunk : Edit) (lines : Lines) (from : ℕ) (old : Lines) (is : from ≡ hunk.line - 1) (same : old ≡ hunk.old) (within : from + length old ≤ length lines) where
-  -- the edit does not reach behind the last line
-  lies : lines_misfit hunk lines ≡ other_line hunk.line hunk.old (drop (hunk.line - 1) lines)
-  lies =
-      let size : length old ≡ length hunk.old = ap length same in
-      let short : nat_lt (length lines) (hunk.line - 1 + length hunk.old) ≡ false =
-      le-ltb (length lines) (hunk.line - 1 + length hunk.old) (omega (arith, within, size, is)) in
-      ap (λ b. cond b (Some (EndsBefore (length lines) (hunk.line - 1 + length hunk.old))) (other_line hunk.line hunk.old (drop (hunk.line - 1) lines))) short
+-- the first line that is another one, of an edit in the lines of a file
+abbrev pub of_edit : Edit → Lines → Option Misfit
+of_edit hunk lines = other_line hunk.line hunk.old (drop (hunk.line - 1) lines)
 
-  module _ (at : ℕ) (found : found_from from at old lines ≡ other_line hunk.line hunk.old (drop (hunk.line - 1) lines)) where
-    pub differs : (stands expected : List ℕ) → slice_get old at ≡ Some expected → slice_get lines (from + at) ≡ Some stands
-        → true ≡ not (bytes_eq stands expected) → (s e : List ℕ) → s ≡ stands → e ≡ expected
-        → Some (OtherLine (from + at + 1) s e) ≡ lines_misfit hunk lines
-    differs stands expected is_expected is_there other s e s_is e_is =
+module _ (hunk : Edit) (lines : Lines) (from at : ℕ) (old : Lines) (found : found_from from at old lines ≡ of_edit hunk lines) where
+  -- where the file has no more lines, none is another one
+  pub ends : (expected : List ℕ) → slice_get old at ≡ Some expected → slice_get lines (from + at) ≡ None → None ≡ of_edit hunk lines
+  ends expected is_expected is_none =
+      let past : drop (from + at) lines ≡ [] = drop_none lines (from + at) is_none in
+      sym (λ j. other_line (suc (from + at)) (at_front old at expected is_expected j) (past j)) ∙ found
+
+  module _ (stands expected : List ℕ) (is_expected : slice_get old at ≡ Some expected) (is_there : slice_get lines (from + at) ≡ Some stands) where
+    pub differs : true ≡ not (bytes_eq stands expected) → (s e : List ℕ) → s ≡ stands → e ≡ expected
+        → Some (OtherLine (from + at + 1) s e) ≡ of_edit hunk lines
+    differs other s e s_is e_is =
         let number : from + at + 1 ≡ suc (from + at) = omega arith in
         (λ j. Some (OtherLine (number j) (s_is j) (e_is j)))
         ∙ sym (found_other from at old lines stands expected is_expected is_there (not_true (bytes_eq stands expected) other))
-        ∙ found ∙ sym lies
+        ∙ found
 
-    pub agrees : (stands expected : List ℕ) → slice_get old at ≡ Some expected → slice_get lines (from + at) ≡ Some stands
-        → false ≡ not (bytes_eq stands expected)
-        → found_from from (at + 1) old lines ≡ other_line hunk.line hunk.old (drop (hunk.line - 1) lines)
-    agrees stands expected is_expected is_there same =
-        found_same from at old lines stands expected is_expected is_there (not_false (bytes_eq stands expected) same) ∙ found
+    pub agrees : false ≡ not (bytes_eq stands expected) → found_from from (at + 1) old lines ≡ of_edit hunk lines
+    agrees same = found_same from at old lines stands expected is_expected is_there (not_false (bytes_eq stands expected) same) ∙ found

@@ -6,7 +6,7 @@ use Rattle.camp_why.proofs.Misfitting.{at_front, is_told, none_applies, not_appl
 use Rattle.camp_call.specs.declared.replies.Refusal.{Refusal}
 use Rattle.camp_call.specs.declared.replies.Refusal.TheVariants.{DoesNotApply, TooLarge}
 use Rattle.camp_repo.specs.Steps.{changed, led_to, longest_file, then_from}
-use Rattle.camp_why.specs.Stops.{IsHindrance, IsStop, first_stop, hindrance, long_file, made_long, misfit_or, refusal_at, stop_or}
+use Rattle.camp_why.specs.Stops.{IsHindrance, IsStop, first_stop, hindrance, long_file, made_long, hindrance_or, refusal_at, stop_or}
 use Rattle.camp_why.specs.declared.stops.Hindrance.{Hindrance}
 use Rattle.camp_why.specs.declared.stops.Hindrance.TheVariants as hindrance_of
 use Rattle.camp_why.specs.declared.stops.Stop.{Stop}
@@ -69,7 +69,7 @@ module _ (change : Primitive) (tree : Files) (why : Hindrance) where
   hindrance_told e = by (why_not change tree) refl e
     where
       by : (reason : Option Misfit) → why_not change tree ≡ reason
-          → misfit_or reason (made_long (path_of change) (applied change tree)) ≡ Some why → IsHindrance change tree why
+          → hindrance_or reason (made_long (path_of change) (applied change tree)) ≡ Some why → IsHindrance change tree why
       by None is e = made_told (applied change tree) refl e
       by (Some reason) is e = subst (IsHindrance change tree) (same_Some _ _ e) (is_told change tree reason is)
 
@@ -173,13 +173,13 @@ module _ (at : ℕ) (change : Primitive) (changes : List Primitive) (tree : File
       absurd (none-some next (sym nowhere ∙ applied-from_Applies change tree next applies))
   misfits nowhere (Some why) is of =
       stopped at change changes tree (hindrance_of.Misfit why) refusal
-      (ap (λ r. misfit_or r (made_long (path_of change) (applied change tree))) is) of
+      (ap (λ r. hindrance_or r (made_long (path_of change) (applied change tree))) is) of
 
   module _ (next : Files) (made : applied change tree ≡ Some next) where
     hinders : hindrance change tree ≡ long_file (get next (path_of change))
     hinders =
         let free = applies_free change tree next made (why_not change tree) refl in
-        (λ j. misfit_or (free j) (made_long (path_of change) (made j)))
+        (λ j. hindrance_or (free j) (made_long (path_of change) (made j)))
 
     goes_on : hindrance change tree ≡ None → changed changes next ≡ Err refusal → StopsWith at (change ∷ changes) tree refusal
     goes_on none e =
@@ -224,7 +224,7 @@ module _ (change : Primitive) (tree next : Files) (free : why_not change tree �
       → result ≡ hindrance change tree
   made_so path same result is =
       is ∙ ap (λ (p : List ℕ). long_file (get next p)) same
-      ∙ sym (λ j. misfit_or (free j) (made_long (path_of change) (applied-from_Applies change tree next applies j)))
+      ∙ sym (λ j. hindrance_or (free j) (made_long (path_of change) (applied-from_Applies change tree next applies j)))
 
 -- a change in range of which no reason is told applies
 pub applies_or_not : (change : Primitive) (tree : Files) → InRange change → why_not change tree ≡ None

@@ -1,7 +1,9 @@
 -- Why a call is refused, where its refusal does not say it all.
 use Rattle.std.specs.Prelude.{◌≡◌, ◌<◌, ◌≤◌, ◌+◌, ℕ, suc, Bool, true, false, nat_lt, List, [], ◌∷◌, length, slice_get, Option, None, Some, if◌then◌else◌}
 use Rattle.camp_base.specs.Trees.{Files}
+use Rattle.camp_prim.specs.Hunks.{Edit}
 use Rattle.camp_prim.specs.declared.primitives.Primitive.{Primitive}
+use Rattle.camp_prim.specs.declared.primitives.Primitive.TheVariants.{Add, Hunk, Remove}
 use Rattle.camp_catch.specs.declared.catches.Catch.{Catch}
 use Rattle.camp_branch.specs.Branches.{LeadsTo}
 use Rattle.camp_call.specs.declared.calls.Call.{Call}
@@ -29,10 +31,22 @@ is_of_changes DoesNotApply = true
 is_of_changes TooLarge = true
 is_of_changes other = false
 
--- the number of the first change with a side that is too long; the first of them has this number
-abbrev pub first_long : ℕ → List Primitive → Option ℕ
+-- the first cause, or else the second
+abbrev pub cause_or : Option Cause → Option Cause → Option Cause
+cause_or None second = second
+cause_or (Some cause) second = Some cause
+
+-- that the change of this number has a side that is too long: the path of its file, and how many lines each side has
+abbrev pub long_cause : ℕ → Primitive → Option Cause
+long_cause at (Add path) = None
+long_cause at (Remove path) = None
+long_cause at (Hunk hunk) =
+    if has_long_side (Hunk hunk) then Some (LongSide at hunk.path (length hunk.old) (length hunk.new)) else None
+
+-- the first change with a side that is too long; the first of them has this number
+abbrev pub first_long : ℕ → List Primitive → Option Cause
 first_long at [] = None
-first_long at (change ∷ changes) = if has_long_side change then Some at else first_long (suc at) changes
+first_long at (change ∷ changes) = cause_or (long_cause at change) (first_long (suc at) changes)
 
 -- that a record stops at a change, if it does
 abbrev pub stop_cause : Option Stop → Option Cause
@@ -44,37 +58,38 @@ abbrev pub stop_from : List Primitive → Option Files → Option Cause
 stop_from changes None = None
 stop_from changes (Some tree) = stop_cause (first_stop 1 changes tree)
 
--- that a side is too long, or else another cause
-abbrev pub long_or : Option ℕ → Option Cause → Option Cause
-long_or None other = other
-long_or (Some change) other = Some (LongSide change)
-
 -- why changes are not recorded, by the catches that their branch has
 abbrev pub record_cause : List Primitive → Option (List Catch) → Option Cause
 record_cause changes None = None
 record_cause changes (Some catches) =
     if nat_lt most_catches (length catches + length changes) then Some (FullBranch (length catches) (length changes))
-    else long_or (first_long 1 changes) (stop_from changes (tree_of catches))
+    else cause_or (first_long 1 changes) (stop_from changes (tree_of catches))
 
 -- that a repository has as many branches as it may have
 abbrev pub branch_cause : Contents → Refusal → Option Cause
 branch_cause state refusal = if is_of_limit refusal then Some (FullRepository (length state.branches)) else None
 
--- that a branch has so many changes
-abbrev pub full_with_pull : Option (List Catch) → Option Cause
-full_with_pull None = None
-full_with_pull (Some ours) = Some (FullWithPull (length ours))
+-- the changes that a pull brings, of those that the one branch has: the listed ones that the other lacks
+abbrev pub brought : List Catch → List Catch → Option (List (List ℕ)) → List Catch
+brought theirs ours names = catches_named (wanted ours (listed theirs names)) theirs
 
--- that a branch would be too long with what is pulled, by the catches that it has
-abbrev pub pull_cause : Option (List Catch) → Refusal → Option Cause
-pull_cause found refusal = if is_of_limit refusal then full_with_pull found else None
+-- that a branch has so many changes, and a pull brings so many more
+abbrev pub full_with_pull : Option (List Catch) → Option (List Catch) → Option (List (List ℕ)) → Option Cause
+full_with_pull (Some theirs) (Some ours) names = Some (FullWithPull (length ours) (length (brought theirs ours names)))
+full_with_pull theirs ours names = None
+
+-- that a branch would be too long with what is pulled
+abbrev pub pull_cause : Contents → List ℕ → List ℕ → Option (List (List ℕ)) → Refusal → Option Cause
+pull_cause state from to names refusal =
+    if is_of_limit refusal
+    then full_with_pull (catches_of state.branches from) (catches_of state.branches to) names else None
 
 -- why a call is refused so at a state; nothing, where the refusal says it all
 abbrev pub explained : Contents → Call → Refusal → Option Cause
 explained state (call.Branch new from) refusal = branch_cause state refusal
 explained state (call.Record branch name changes) refusal =
     if is_of_changes refusal then record_cause changes (catches_of state.branches branch) else None
-explained state (call.Pull from to names) refusal = pull_cause (catches_of state.branches to) refusal
+explained state (call.Pull from to names) refusal = pull_cause state from to names refusal
 explained state other refusal = None
 
 -- ---- what it says
@@ -83,8 +98,8 @@ explained state other refusal = None
 abbrev pub refusal_by : Cause → Refusal
 refusal_by (FullRepository count) = TooLarge
 refusal_by (FullBranch has more) = TooLarge
-refusal_by (FullWithPull has) = TooLarge
-refusal_by (LongSide change) = TooLarge
+refusal_by (FullWithPull has more) = TooLarge
+refusal_by (LongSide change path old new) = TooLarge
 refusal_by (Stops stop) = refusal_at stop.why
 
 -- a repository has so many branches, and no more may be made
@@ -111,8 +126,8 @@ pub record FillsBranch (state : Contents) (asked : Call) (has more : ℕ) : Type
   pub brings : more ≡ length changes
   pub full : most_catches < has + more
 
--- a branch has so many changes, and with those that are pulled it would have too many
-pub record FillsWithPull (state : Contents) (asked : Call) (has : ℕ) : Type 0 where
+-- a branch has so many changes, and with so many that are pulled it would have too many
+pub record FillsWithPull (state : Contents) (asked : Call) (has more : ℕ) : Type 0 where
   pub from : List ℕ
   pub to : List ℕ
   pub names : Option (List (List ℕ))
@@ -122,22 +137,27 @@ pub record FillsWithPull (state : Contents) (asked : Call) (has : ℕ) : Type 0 
   pub from_has : Has state from theirs
   pub to_has : Has state to ours
   pub counts : has ≡ length ours
-  pub full : most_catches < has + length (catches_named (wanted ours (listed theirs names)) theirs)
+  pub brings : more ≡ length (catches_named (wanted ours (listed theirs names)) theirs)
+  pub full : most_catches < has + more
 
--- the change of a number, counted from 1, has a side that is too long
-pub record IsLongAt (changes : List Primitive) (number : ℕ) : Type 0 where
+-- the change of a number, counted from 1, is an edit of the file of a path with sides of so many lines, and one of these is too
+-- long
+pub record IsLongAt (changes : List Primitive) (number : ℕ) (path : List ℕ) (old new : ℕ) : Type 0 where
   pub before : ℕ
   pub numbered : number ≡ suc before
-  pub change : Primitive
-  pub is : slice_get changes before ≡ Some change
-  pub long : has_long_side change ≡ true
+  pub hunk : Edit
+  pub is : slice_get changes before ≡ Some (Hunk hunk)
+  pub of_file : path ≡ hunk.path
+  pub counts_old : old ≡ length hunk.old
+  pub counts_new : new ≡ length hunk.new
+  pub long : has_long_side (Hunk hunk) ≡ true
 
 -- a record has such a change
-pub record HasLongSide (state : Contents) (asked : Call) (number : ℕ) : Type 0 where
+pub record HasLongSide (state : Contents) (asked : Call) (number : ℕ) (path : List ℕ) (old new : ℕ) : Type 0 where
   pub catches : List Catch
   pub changes : List Primitive
   pub in_branch : RecordsIn state asked catches changes
-  pub is_long : IsLongAt changes number
+  pub is_long : IsLongAt changes number path old new
 
 -- the changes of a record stop at one of them, from the tree of their branch
 pub record StopsAt (state : Contents) (asked : Call) (stop : Stop) : Type 0 where
@@ -152,6 +172,6 @@ pub record StopsAt (state : Contents) (asked : Call) (stop : Stop) : Type 0 wher
 abbrev pub IsSo : Contents → Call → Cause → Type 0
 IsSo state asked (FullRepository count) = FillsRepository state asked count
 IsSo state asked (FullBranch has more) = FillsBranch state asked has more
-IsSo state asked (FullWithPull has) = FillsWithPull state asked has
-IsSo state asked (LongSide change) = HasLongSide state asked change
+IsSo state asked (FullWithPull has more) = FillsWithPull state asked has more
+IsSo state asked (LongSide change path old new) = HasLongSide state asked change path old new
 IsSo state asked (Stops stop) = StopsAt state asked stop

@@ -1,5 +1,5 @@
 -- What is to be seen in a line that has a fault.
-use Rattle.std.specs.Prelude.{ℕ, Bool, not, ◌&&◌, ◌||◌, ◌==◌, List, [], ◌∷◌, length, slice_index, bytes_eq, codes, if◌then◌else◌}
+use Rattle.std.specs.Prelude.{◌≡◌, ℕ, Bool, true, false, not, ◌&&◌, ◌||◌, ◌==◌, List, [], ◌∷◌, length, slice_index, bytes_eq, codes, if◌then◌else◌}
 use Rattle.std.specs.List.{ends_with, list_any, starts_with}
 use Rattle.camp_base.specs.Bytes.{is_name}
 use Rattle.camp_base.specs.Signs.{is_capital_letter, is_printing, quote, tab}
@@ -117,7 +117,8 @@ edit_hint line =
     else (if bytes_eq line (codes "end\r") then seen.CarriageReturn
     else (if begins_end line then seen.MoreThanEnd
     else (if begins (codes "-") line then seen.OldBehindNew
-    else seen.NoSign)))))
+    else (if begins (codes "+") line then seen.Nothing
+    else seen.NoSign))))))
 
 -- what is to be seen in a line that has a fault of a kind
 abbrev pub hint : FaultKind → List ℕ → Hint
@@ -129,3 +130,38 @@ hint BadPath line = path_hint line
 hint BadNumber line = number_hint line
 hint BadEdit line = edit_hint line
 hint other line = seen.Nothing
+
+-- ---- what it says
+
+-- the word that has the fault; the line, where the kind names no word
+abbrev pub faulty : FaultKind → List ℕ → List ℕ
+faulty UnknownCommand line = first_word (words_of line)
+faulty BadGroup line = first_word (words_of line)
+faulty BadName line = misnamed (words_of line)
+faulty other line = line
+
+-- whether it has a quotation mark; of too few words, or too many, whether one begins with it
+abbrev pub has_quote : FaultKind → List ℕ → Bool
+has_quote WrongNumberOfWords line = list_any begins_quoted (words_of line)
+has_quote kind line = list_any is_quote (faulty kind line)
+
+-- what is told of a line with a fault of a kind is to be seen there
+abbrev pub IsSeen : FaultKind → List ℕ → Hint → Type 0
+IsSeen kind line seen.Nothing = Unit {0}
+IsSeen kind line seen.OfBody = begins_signed (first_word (words_of line)) ≡ true
+IsSeen kind line seen.TooLong = is_cut line ≡ true
+IsSeen kind line seen.CarriageReturn = ends_in_return line ≡ true
+IsSeen kind line seen.Strange = list_any is_strange (faulty kind line) ≡ true
+IsSeen kind line seen.Quotes = has_quote kind line ≡ true
+IsSeen kind line seen.Capitals = list_any is_capital_letter (faulty kind line) ≡ true
+IsSeen kind line seen.Empty = is_empty line ≡ true
+IsSeen kind line seen.Blank = begins_blank line ≡ true
+IsSeen kind line seen.NoLine = is_end line ≡ true
+IsSeen kind line seen.TooFar = is_end line ≡ true
+IsSeen kind line seen.MoreThanEnd = begins_end line ≡ true
+IsSeen kind line seen.OldBehindNew = begins (codes "-") line ≡ true
+IsSeen kind line seen.NoSign = begins_signed line ≡ false
+
+-- so it is of each kind and each line
+abbrev pub HintsAreSeen : Type 0
+HintsAreSeen = (kind : FaultKind) (line : List ℕ) → IsSeen kind line (hint kind line)

@@ -1,4 +1,5 @@
 pub mod Causes
+pub mod Grounds
 pub mod Hints
 pub mod Laws
 pub mod Misfits

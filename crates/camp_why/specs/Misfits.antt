@@ -29,12 +29,25 @@ other_line at (expected ∷ old) [] = None
 other_line at (expected ∷ old) (stands ∷ lines) =
     if bytes_eq stands expected then other_line (suc at) old lines else Some (OtherLine at stands expected)
 
--- why an edit does not apply to the lines of a file
+-- the first old line that finds none in a file of so many lines; nothing, where each finds one
+abbrev pub lacking : Edit → ℕ → Option (List ℕ)
+lacking hunk has = slice_get hunk.old (has - (hunk.line - 1))
+
+-- that a file of so many lines ends before the edit does
+abbrev pub ends_before : Edit → ℕ → Option Misfit
+ends_before hunk has =
+    if nat_lt has (hunk.line - 1 + length hunk.old)
+    then Some (EndsBefore has (hunk.line - 1 + length hunk.old) (lacking hunk has)) else None
+
+-- the first reason, or else the second
+abbrev pub misfit_or : Option Misfit → Option Misfit → Option Misfit
+misfit_or None second = second
+misfit_or (Some why) second = Some why
+
+-- why an edit does not apply to the lines of a file: another line stands there, or else the file ends before
 abbrev pub lines_misfit : Edit → Lines → Option Misfit
 lines_misfit hunk lines =
-    if nat_lt (length lines) (hunk.line - 1 + length hunk.old)
-    then Some (EndsBefore (length lines) (hunk.line - 1 + length hunk.old))
-    else other_line hunk.line hunk.old (drop (hunk.line - 1) lines)
+    misfit_or (other_line hunk.line hunk.old (drop (hunk.line - 1) lines)) (ends_before hunk (length lines))
 
 -- why an edit does not apply, by what there is of its path
 abbrev pub edit_misfit : Edit → Option Lines → Option Misfit
@@ -81,16 +94,25 @@ pub record Edits (change : Primitive) (tree : Files) (hunk : Edit) (lines : Line
   pub edits : change ≡ Hunk hunk
   pub found : get tree hunk.path ≡ Some lines
 
--- an edit wants so many lines, and the file has fewer
-pub record ReachesBehind (change : Primitive) (tree : Files) (has wants : ℕ) : Type 0 where
+-- the old lines of an edit, so many of them, are those that stand there, as far as there are any
+abbrev pub StandThere : Edit → Lines → ℕ → Type 0
+StandThere hunk lines count =
+    (at : ℕ) (stands expected : List ℕ) → at < count → slice_get hunk.old at ≡ Some expected →
+    slice_get lines (hunk.line - 1 + at) ≡ Some stands → stands ≡ expected
+
+-- an edit wants so many lines, and the file has fewer: each old line that finds one finds itself, and this is the first that
+-- finds none
+pub record ReachesBehind (change : Primitive) (tree : Files) (has wants : ℕ) (lacks : Option (List ℕ)) : Type 0 where
   pub hunk : Edit
   pub lines : Lines
   pub edits : Edits change tree hunk lines
   pub counts : has ≡ length lines
   pub reaches : wants ≡ hunk.line - 1 + length hunk.old
   pub behind : has < wants
+  pub alike : StandThere hunk lines (length hunk.old)
+  pub is_lacked : lacks ≡ slice_get hunk.old (length lines - (hunk.line - 1))
 
--- at a line, counted from 1, another one stands than an edit takes away
+-- at a line, counted from 1, another one stands than an edit takes away, and at none before it
 pub record MeetsOther (change : Primitive) (tree : Files) (at : ℕ) (stands expected : List ℕ) : Type 0 where
   pub hunk : Edit
   pub lines : Lines
@@ -100,11 +122,12 @@ pub record MeetsOther (change : Primitive) (tree : Files) (at : ℕ) (stands exp
   pub is_expected : slice_get hunk.old before ≡ Some expected
   pub is_there : slice_get lines (hunk.line - 1 + before) ≡ Some stands
   pub other : stands ≢ expected
+  pub alike : StandThere hunk lines before
 
 -- this is why a change does not apply to a tree
 abbrev pub IsMisfit : Primitive → Files → Misfit → Type 0
 IsMisfit change tree FileIsThere = AddsAgain change tree
 IsMisfit change tree NoFile = ChangesNone change tree
 IsMisfit change tree (HasLines count) = RemovesLines change tree count
-IsMisfit change tree (EndsBefore has wants) = ReachesBehind change tree has wants
+IsMisfit change tree (EndsBefore has wants lacks) = ReachesBehind change tree has wants lacks
 IsMisfit change tree (OtherLine at stands expected) = MeetsOther change tree at stands expected

@@ -29,13 +29,13 @@ made_long path None = None
 made_long path (Some next) = long_file (get next path)
 
 -- the reason that there is, or else another one
-abbrev pub misfit_or : Option Reason → Option Hindrance → Option Hindrance
-misfit_or None other = other
-misfit_or (Some why) other = Some (Misfit why)
+abbrev pub hindrance_or : Option Reason → Option Hindrance → Option Hindrance
+hindrance_or None other = other
+hindrance_or (Some why) other = Some (Misfit why)
 
 -- why a record can't make a change to a tree: it does not apply, or its file would be too long
 abbrev pub hindrance : Primitive → Files → Option Hindrance
-hindrance change tree = misfit_or (why_not change tree) (made_long (path_of change) (applied change tree))
+hindrance change tree = hindrance_or (why_not change tree) (made_long (path_of change) (applied change tree))
 
 -- it stops here, or goes on from the tree that there is
 abbrev pub stop_or : ℕ → Primitive → Option Hindrance → Option Files → (Files → Option Stop) → Option Stop

@@ -1,13 +1,14 @@
 //! Why a call is refused, where its refusal does not say it all.
-ghost use Rattle.std.specs.Prelude.{◌≡◌, IfOk, Some};
+ghost use Rattle.std.specs.Prelude.{◌≡◌, IfOk, Some, length};
+ghost use Rattle.camp_branch.specs.Branches.{is_among};
 ghost use Rattle.camp_repo.specs.States.{catches_of};
-ghost use Rattle.camp_repo.specs.Steps.{has_long_side};
-ghost use Rattle.camp_why.specs.Causes.{branch_cause, explained, first_long, is_of_changes, is_of_limit, pull_cause, record_cause};
+ghost use Rattle.camp_repo.specs.Steps.{catches_named, listed};
+ghost use Rattle.camp_why.specs.Causes.{branch_cause, brought, explained, first_long, is_of_changes, is_of_limit, long_cause, pull_cause, record_cause};
 
 use crate::stops::{Stop, first_stop};
-use camp_base::Name;
+use camp_base::{Name, Path};
 use camp_prim::Primitive;
-use camp_repo::{Branch, Call, MAX_CATCHES, MAX_SIDE_LINES, Refusal, State};
+use camp_repo::{Branch, Call, MAX_CATCHES, MAX_SIDE_LINES, Names, Refusal, State};
 use std::alloc::AllocError;
 
 /// Why a call is refused, where its refusal does not say it all.
@@ -16,11 +17,23 @@ pub enum Cause {
     /// The repository has so many branches, and no more can be made.
     FullRepository(usize),
     /// A branch has so many changes, and a record would bring so many more.
-    FullBranch { has: usize, more: usize },
-    /// A branch has so many changes, and would have too many with what is pulled.
-    FullWithPull(usize),
-    /// A side of an edit is too long: that of the change of this number, counted from 1.
-    LongSide(usize),
+    FullBranch {
+        has: usize,
+        more: usize,
+    },
+    /// A branch has so many changes, and a pull would bring so many more.
+    FullWithPull {
+        has: usize,
+        more: usize,
+    },
+    /// A side of an edit is too long: that of the change of this number, counted from 1; the path of its file, and how
+    /// many lines each side has.
+    LongSide {
+        change: usize,
+        path: Path,
+        old: usize,
+        new: usize,
+    },
     /// A record stops at a change.
     Stops(Stop),
 }
@@ -42,7 +55,7 @@ pub fn explain(state: &State, call: &Call, refusal: &Refusal) -> Result<Option<C
             }
             record_cause(state, branch, changes.prims())
         }
-        Call::Pull { to, .. } => Ok(pull_cause(state, to, refusal)),
+        Call::Pull { from, to, names } => pull_cause(state, from, to, names, refusal),
         _ => Ok(None),
     }
 }
@@ -76,16 +89,72 @@ fn is_of_changes(refusal: &Refusal) -> bool
     }
 }
 
-fn pull_cause(state: &State, to: &Name, refusal: &Refusal) -> Option<Cause>
-    ensures { result ≡ pull_cause (catches_of state.now.branches to.now) refusal.now }
+fn pull_cause(
+    state: &State,
+    from: &Name,
+    to: &Name,
+    names: &Option<Names>,
+    refusal: &Refusal,
+) -> Result<Option<Cause>, AllocError>
+    ensures { IfOk result (λ found. found ≡ pull_cause state.now from.now to.now names.now refusal.now) }
 {
     if !is_of_limit(refusal) {
-        return None;
+        return Ok(None);
     }
-    match state.branch(to) {
-        Some(branch) => Some(Cause::FullWithPull(branch.catches().len())),
-        None => None,
+    let Some(theirs) = state.branch(from) else {
+        return Ok(None);
+    };
+    let Some(ours) = state.branch(to) else {
+        return Ok(None);
+    };
+    let has = ours.catches().len();
+    let more = count_brought(theirs, ours, names)?;
+    Ok(Some(Cause::FullWithPull { has, more }))
+}
+
+// How many changes a pull brings.
+fn count_brought(theirs: &Branch, ours: &Branch, names: &Option<Names>) -> Result<usize, AllocError>
+    ensures { IfOk result (λ count. count ≡ length (brought theirs.now ours.now names.now)) }
+{
+    let mut wanted = listed(theirs, names)?;
+    wanted.retain(|name| !ours.has_patch(name));
+    Ok(count_named(theirs, &wanted))
+}
+
+// The names that are listed: where there is no list, those of all patches.
+fn listed(theirs: &Branch, names: &Option<Names>) -> Result<Vec<Name>, AllocError>
+    ensures { IfOk result (λ all. all.items ≡ listed theirs.now names.now) }
+{
+    match names {
+        Some(names) => Vec::from_slice(theirs.catches().allocator(), names.as_slice()),
+        None => theirs.names(),
     }
+}
+
+// How many changes of a branch have one of these names.
+fn count_named(branch: &Branch, names: &[Name]) -> usize
+    ensures { result ≡ length (catches_named names.now branch.now) }
+{
+    let catches = branch.catches();
+    prove!(catches.len() <= usize::MAX);
+    let mut count = 0;
+    for catch in catches.iter() {
+        if is_among(names, catch.name()) {
+            count += 1;
+        }
+    }
+    count
+}
+
+fn is_among(names: &[Name], name: &Name) -> bool
+    ensures { result ≡ is_among names.now name.now }
+{
+    for other in names {
+        if name == other {
+            return true;
+        }
+    }
+    false
 }
 
 fn record_cause(
@@ -110,8 +179,8 @@ fn cause_in(branch: &Branch, changes: &[Primitive]) -> Result<Option<Cause>, All
     if has.saturating_add(more) > MAX_CATCHES {
         return Ok(Some(Cause::FullBranch { has, more }));
     }
-    if let Some(change) = first_long(changes) {
-        return Ok(Some(Cause::LongSide(change)));
+    if let Some(long) = first_long(changes)? {
+        return Ok(Some(long));
     }
     match first_stop(branch.tree(), changes)? {
         Some(stop) => Ok(Some(Cause::Stops(stop))),
@@ -119,25 +188,37 @@ fn cause_in(branch: &Branch, changes: &[Primitive]) -> Result<Option<Cause>, All
     }
 }
 
-// The number of the first change that has a side that is too long, counted from 1.
-fn first_long(changes: &[Primitive]) -> Option<usize>
-    ensures { result ≡ first_long 1 changes.now }
+// The first change that has a side that is too long.
+fn first_long(changes: &[Primitive]) -> Result<Option<Cause>, AllocError>
+    ensures { IfOk result (λ found. found ≡ first_long 1 changes.now) }
 {
     for (at, change) in changes.iter().enumerate() {
-        if is_long(change) {
-            return Some(at + 1);
+        if let Some(long) = long_cause(at + 1, change)? {
+            return Ok(Some(long));
         }
     }
-    None
+    Ok(None)
 }
 
-fn is_long(change: &Primitive) -> bool
-    ensures { result ≡ has_long_side change.now }
+// That the change of this number has a side that is too long.
+fn long_cause(at: usize, change: &Primitive) -> Result<Option<Cause>, AllocError>
+    ensures { IfOk result (λ found. found ≡ long_cause at change.now) }
 {
     match change {
-        Primitive::Add(_) | Primitive::Remove(_) => false,
+        Primitive::Add(_) | Primitive::Remove(_) => Ok(None),
         Primitive::Hunk(hunk) => {
-            hunk.old().len() > MAX_SIDE_LINES || hunk.new().len() > MAX_SIDE_LINES
+            let old = hunk.old().len();
+            let new = hunk.new().len();
+            if old <= MAX_SIDE_LINES && new <= MAX_SIDE_LINES {
+                return Ok(None);
+            }
+            let path = hunk.path().try_clone()?;
+            Ok(Some(Cause::LongSide {
+                change: at,
+                path,
+                old,
+                new,
+            }))
         }
     }
 }

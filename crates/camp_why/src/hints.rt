@@ -143,6 +143,9 @@ fn edit_hint(line: &[u8]) -> Hint
     if line.starts_with(b"-") {
         return Hint::OldBehindNew;
     }
+    if line.starts_with(b"+") {
+        return Hint::Nothing;
+    }
     Hint::NoSign
 }
 
@@ -172,9 +175,9 @@ fn first_word(line: &[u8]) -> &[u8]
     }
 }
 
-// The first word of a line that is no name; an empty one, where there is none.
-fn misnamed(line: &[u8]) -> &[u8]
-    ensures { result.now ≡ misnamed (words_of line.now) }
+/// The first word of a line that is no name; an empty one, where there is none.
+pub fn misnamed(line: &[u8]) -> &[u8]
+    ensures exact { result.now ≡ misnamed (words_of line.now) }
 {
     for word in Words::new(line) {
         if Name::new(word).is_err() {

@@ -1,3 +1,5 @@
+ghost use Rattle.camp_why.specs.Grounds.{RefusalsHaveGrounds};
+ghost use Rattle.camp_why.specs.Hints.{HintsAreSeen};
 ghost use Rattle.camp_why.specs.Laws.{MisfitsAreReasons, RefusalsAreExplained};
 
 /// The reason that is told of a change is one; and where one is, the change does not apply.
@@ -8,4 +10,14 @@ pub fn misfits_are_reasons()
 /// Where a refusal does not say it all, the cause that is told is one.
 pub fn refusals_are_explained()
     ensures law { RefusalsAreExplained }
+{}
+
+/// What a refusal of a call says is so at the state that refuses it.
+pub fn refusals_have_grounds()
+    ensures law { RefusalsHaveGrounds }
+{}
+
+/// What is told of a line with a fault is to be seen there.
+pub fn hints_are_seen()
+    ensures law { HintsAreSeen }
 {}

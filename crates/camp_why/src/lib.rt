@@ -8,7 +8,9 @@ mod misfits;
 mod stops;
 
 pub use causes::{Cause, explain};
-pub use hints::{Hint, look_at};
-pub use laws::{misfits_are_reasons, refusals_are_explained};
+pub use hints::{Hint, look_at, misnamed};
+pub use laws::{
+    hints_are_seen, misfits_are_reasons, refusals_are_explained, refusals_have_grounds,
+};
 pub use misfits::{Misfit, why_not};
 pub use stops::{Hindrance, Stop};

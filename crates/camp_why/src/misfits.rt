@@ -1,8 +1,7 @@
 //! Why a change does not apply to a tree.
-ghost use Rattle.std.specs.Prelude.{◌≡◌, IfOk, Some};
-ghost use Rattle.camp_base.specs.Trees.{Lines};
+ghost use Rattle.std.specs.Prelude.{◌≡◌, ◌-◌, IfOk, Some, drop};
 ghost use Rattle.camp_prim.specs.declared.primitives.Primitive.TheVariants.{Add, Hunk as AHunk, Remove};
-ghost use Rattle.camp_why.specs.Misfits.{lines_misfit, why_not};
+ghost use Rattle.camp_why.specs.Misfits.{ends_before, lines_misfit, other_line, why_not};
 
 use camp_base::{Line, Path, Tree};
 use camp_prim::{Hunk, Primitive};
@@ -18,10 +17,12 @@ pub enum Misfit {
     NoFile,
     /// A file is to be removed, and it has so many lines.
     HasLines(usize),
-    /// An edit reaches behind the last line of the file: that has so many, and the edit wants so many at least.
+    /// An edit reaches behind the last line of the file: that has so many, and the edit wants so many at least. The
+    /// first old line that finds none, where there is one.
     EndsBefore {
         has: usize,
         wants: usize,
+        lacks: Option<Line>,
     },
     /// At a line, counted from 1, another one stands than an edit takes away.
     OtherLine {
@@ -76,16 +77,22 @@ fn edit_misfit(hunk: &Hunk, tree: &Tree) -> Result<Option<Misfit>, AllocError>
 fn lines_misfit(hunk: &Hunk, lines: &SharedList<Line>) -> Result<Option<Misfit>, AllocError>
     ensures { IfOk result (λ found. found ≡ lines_misfit hunk.now lines.now) }
 {
+    match other_line(hunk, lines)? {
+        Some(other) => Ok(Some(other)),
+        None => ends_before(hunk, lines.len()),
+    }
+}
+
+// The first line that is another one than the edit takes away.
+fn other_line(hunk: &Hunk, lines: &SharedList<Line>) -> Result<Option<Misfit>, AllocError>
+    ensures { IfOk result (λ found.
+        found ≡ other_line hunk.now.line hunk.now.old (drop (hunk.now.line - 1) lines.now)) }
+{
     let from = hunk.line() as usize - 1;
     let old = hunk.old();
-    let has = lines.len();
-    let wants = from + old.len();
-    if has < wants {
-        return Ok(Some(Misfit::EndsBefore { has, wants }));
-    }
     for (at, expected) in old.iter().enumerate() {
         let Some(stands) = lines.get(from + at) else {
-            unreachable!();
+            return Ok(None);
         };
         if stands != expected {
             let stands = stands.try_clone()?;
@@ -98,4 +105,21 @@ fn lines_misfit(hunk: &Hunk, lines: &SharedList<Line>) -> Result<Option<Misfit>,
         }
     }
     Ok(None)
+}
+
+// That a file of so many lines ends before the edit does.
+fn ends_before(hunk: &Hunk, has: usize) -> Result<Option<Misfit>, AllocError>
+    ensures { IfOk result (λ found. found ≡ ends_before hunk.now has) }
+{
+    let from = hunk.line() as usize - 1;
+    let old = hunk.old();
+    let wants = from + old.len();
+    if has >= wants {
+        return Ok(None);
+    }
+    let lacks = match old.get(has.saturating_sub(from)) {
+        Some(line) => Some(line.try_clone()?),
+        None => None,
+    };
+    Ok(Some(Misfit::EndsBefore { has, wants, lacks }))
 }

@@ -1,5 +1,10 @@
 -- What is written for a command, whether there was memory for its answer or not.
-use Rattle.std.specs.Prelude.{ℕ, List, Result, Ok, Err, Vec}
+use Rattle.std.specs.Prelude.{◌≡◌, ℕ, List, Result, Ok, Err, Vec}
+use Rattle.camp_call.specs.declared.replies.Refusal.{Refusal}
+use Rattle.camp_call.specs.declared.replies.Reply.TheVariants.{Refused}
+use Rattle.camp_questions.specs.declared.faults.Unanswered.{Unanswered}
+use Rattle.camp_questions.specs.declared.faults.Unanswered.TheVariants as fault
+use Rattle.camp_script.specs.Texts.{reply_text}
 use Rattle.camp_talk.specs.Answers.{memory_text}
 use Rattle.camp_talk.specs.declared.faults.TalkFault.{TalkFault}
 use Rattle.camp_talk.specs.declared.faults.TalkFault.TheVariants.{Internal, Memory, Read, Write}
@@ -22,3 +27,9 @@ IsNotWriting Memory = Unit {0}
 IsNotWriting (Read error) = Unit {0}
 IsNotWriting (Write error) = ⊥
 IsNotWriting Internal = Unit {0}
+
+-- what was found of a question is told: its answer, or its refusal, as a call is told one
+abbrev pub TellsFound : {A : Type 0} → (A → List ℕ) → Result A Unanswered → List ℕ → Type 0
+TellsFound text_of (Ok answer) text = text ≡ text_of answer
+TellsFound text_of (Err why) text =
+    (refusal : Refusal) × (why ≡ fault.Refused refusal) × (text ≡ reply_text (Refused refusal))

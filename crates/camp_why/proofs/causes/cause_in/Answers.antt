@@ -8,12 +8,12 @@ pub returns-in-Some-2 : goal.returns-in-Some-2
 returns-in-Some-2 c =
     let few : nat_lt most_catches (length c.args.branch.now + length c.args.changes.now) ≡ false = search rules in
     ap stop_cause (sym c.in-Some-2.is)
-    ∙ stops_in c.args.branch.now c.args.changes.now c.tree.result.now few (sym c.first_long.ensures ∙ c.in_default.is) c.tree.ensures.exact
+    ∙ stops_in c.args.branch.now c.args.changes.now c.tree.result.now few (sym c.in_ok-long.ensures ∙ c.in_default.is) c.tree.ensures.exact
     c.in_ok-stop.field-0 c.in_ok-stop.ensures
 
 pub returns-in-None : goal.returns-in-None
 returns-in-None c =
     let few : nat_lt most_catches (length c.args.branch.now + length c.args.changes.now) ≡ false = search rules in
     ap stop_cause (sym c.in-None.is)
-    ∙ stops_in c.args.branch.now c.args.changes.now c.tree.result.now few (sym c.first_long.ensures ∙ c.in_default.is) c.tree.ensures.exact
+    ∙ stops_in c.args.branch.now c.args.changes.now c.tree.result.now few (sym c.in_ok-long.ensures ∙ c.in_default.is) c.tree.ensures.exact
     c.in_ok-stop.field-0 c.in_ok-stop.ensures

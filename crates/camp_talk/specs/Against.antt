@@ -1,0 +1,181 @@
+-- What stands against a command that is refused: the branches that it names, what is there, and what is not.
+use Rattle.std.specs.Prelude.{ℕ, Bool, false, List, [], ◌∷◌, ◌++◌, length, filter, take, nat_lt, Option, None, Some, codes, if◌then◌else◌, is_some}
+use Rattle.std.specs.List.{flat_map}
+use Rattle.std.specs.Option.{option_map_or}
+use Rattle.camp_branch.specs.Branches.{first_lacked, has_patch}
+use Rattle.camp_call.specs.declared.calls.Call.{Call}
+use Rattle.camp_call.specs.declared.calls.Call.TheVariants as call
+use Rattle.camp_catch.specs.declared.catches.Catch.{Catch}
+use Rattle.camp_questions.specs.Files.{branch_names}
+use Rattle.camp_repo.specs.States.{Contents, catches_of}
+use Rattle.camp_talk.specs.declared.questions.Asked.{Asked}
+use Rattle.camp_talk.specs.declared.questions.Asked.TheVariants as asked
+use Rattle.camp_talk.specs.declared.questions.Question.{Question}
+use Rattle.camp_talk.specs.declared.questions.Question.TheVariants as question
+use Rattle.camp_talk.specs.declared.told_against.Place.{Place}
+use Rattle.camp_talk.specs.declared.told_against.Place.TheVariants.{Branch, From}
+
+-- ---- the branches and the patches that a command names
+
+-- the word for a branch in the form of a command
+abbrev pub place_word : Place → List ℕ
+place_word From = codes "FROM"
+place_word Branch = codes "BRANCH"
+
+-- the branch from which a call takes something, or that it is about, and the place where it names it
+abbrev pub call_about : Call → Place × List ℕ
+call_about (call.Branch new from) = (From, from)
+call_about (call.Record branch name changes) = (Branch, branch)
+call_about (call.Pull from to names) = (From, from)
+call_about (call.Obliterate branch names) = (Branch, branch)
+call_about (call.Tree branch) = (Branch, branch)
+call_about (call.Conflicts branch) = (Branch, branch)
+call_about (call.Names branch) = (Branch, branch)
+
+-- the same of a question
+abbrev pub question_about : Question → Option (Place × List ℕ)
+question_about (question.Needs branch names) = Some (Branch, branch)
+question_about (question.Held branch names) = Some (Branch, branch)
+question_about (question.Missing from to) = Some (From, from)
+question_about (question.Show branch name) = Some (Branch, branch)
+question_about (question.Annotate branch path) = Some (Branch, branch)
+question_about (question.Along from to names) = Some (From, from)
+question_about (question.Open branch) = Some (Branch, branch)
+question_about (question.Side branch name) = Some (Branch, branch)
+question_about (question.Marks branch path) = Some (Branch, branch)
+question_about (question.File branch path) = Some (Branch, branch)
+question_about (question.Graph branch names) = Some (Branch, branch)
+question_about other = None
+
+-- the same of a command, where it names a branch
+abbrev pub about : Asked → Option (Place × List ℕ)
+about (asked.Call call) = Some (call_about call)
+about (asked.Question question) = question_about question
+about other = None
+
+-- the branch that a command names as TO
+abbrev pub target : Asked → Option (List ℕ)
+target (asked.Call (call.Pull from to names)) = Some to
+target (asked.Question (question.Missing from to)) = Some to
+target (asked.Question (question.Along from to names)) = Some to
+target other = None
+
+-- the first listed patch that a branch lacks, where there is a list
+abbrev pub first_lacked_of : List Catch → Option (List (List ℕ)) → Option (List ℕ)
+first_lacked_of catches None = None
+first_lacked_of catches (Some names) = first_lacked catches names
+
+-- the first patch that a question names and a branch lacks
+abbrev pub question_lacks : List Catch → Question → Option (List ℕ)
+question_lacks catches (question.Needs branch names) = first_lacked catches names
+question_lacks catches (question.Held branch names) = first_lacked catches names
+question_lacks catches (question.Along from to names) = first_lacked catches names
+question_lacks catches (question.Graph branch names) = first_lacked catches names
+question_lacks catches (question.Show branch name) = first_lacked catches (name ∷ [])
+question_lacks catches (question.Side branch name) = first_lacked catches (name ∷ [])
+question_lacks catches other = None
+
+-- the first patch that a command names and a branch lacks
+abbrev pub lacks : List Catch → Asked → Option (List ℕ)
+lacks catches (asked.Call (call.Pull from to names)) = first_lacked_of catches names
+lacks catches (asked.Call (call.Obliterate branch names)) = first_lacked catches names
+lacks catches (asked.Question question) = question_lacks catches question
+lacks catches other = None
+
+-- ---- names on a line
+
+-- the most names on a line
+abbrev pub most_names : ℕ
+most_names = 20
+
+-- a name behind a blank
+abbrev pub spaced_name : List ℕ → List ℕ
+spaced_name name = codes " " ++ name
+
+-- that there are more names than the line has
+abbrev pub more_names : List (List ℕ) → List ℕ
+more_names names = if nat_lt most_names (length names) then codes " .." else []
+
+-- words, and names behind them: so many at most, and `..` where there are more
+abbrev pub names_line : List ℕ → List (List ℕ) → List ℕ
+names_line words names = words ++ flat_map spaced_name (take most_names names) ++ more_names names ++ codes "\n"
+
+-- the branches that there are
+abbrev pub branches_line : Contents → List ℕ
+branches_line state = names_line (codes "Branches:") (branch_names state)
+
+-- whether a branch has a patch
+abbrev pub holds : Contents → List ℕ → List ℕ → Bool
+holds state name branch = option_map_or (λ catches. has_patch catches name) (catches_of state.branches branch) false
+
+-- the branches that have a patch
+abbrev pub holders : Contents → List ℕ → List (List ℕ)
+holders state name = filter (holds state name) (branch_names state)
+
+-- which branches these are, or that there is none
+abbrev pub holders_line : List ℕ → List (List ℕ) → List ℕ
+holders_line name [] = codes "No branch has " ++ name ++ codes ".\n"
+holders_line name (branch ∷ branches) = names_line (codes "Branches with " ++ name ++ codes ":") (branch ∷ branches)
+
+-- ---- what is there, and what is not
+
+-- that the branch TO is this one, where there is one
+abbrev pub target_text : Option (List ℕ) → List ℕ
+target_text None = []
+target_text (Some to) = codes ", and TO is " ++ to
+
+-- which branches a command names
+abbrev pub sides_text : Option (Place × List ℕ) → Option (List ℕ) → List ℕ
+sides_text None to = []
+sides_text (Some place) to = place_word place.0 ++ codes " is " ++ place.1 ++ target_text to ++ codes ".\n"
+
+-- that there is no branch of a name
+abbrev pub no_branch_text : List ℕ → List ℕ
+no_branch_text branch = codes "There is no branch " ++ branch ++ codes ".\n"
+
+-- the same, where there is none
+abbrev pub absent_text : Contents → List ℕ → List ℕ
+absent_text state branch = if is_some (catches_of state.branches branch) then [] else no_branch_text branch
+
+-- that there is one, where there is one
+abbrev pub there_text : Contents → List ℕ → List ℕ
+there_text state branch =
+    if is_some (catches_of state.branches branch) then codes "There is a branch " ++ branch ++ codes ".\n" else []
+
+-- of the branches that a command names, which are not there
+abbrev pub absent_sides : Contents → Option (Place × List ℕ) → Option (List ℕ) → List ℕ
+absent_sides state place to =
+    option_map_or (λ side. absent_text state side.1) place [] ++ option_map_or (absent_text state) to []
+
+-- that the branch which a call would make is there
+abbrev pub new_text : Contents → Asked → List ℕ
+new_text state (asked.Call (call.Branch new from)) = there_text state new
+new_text state other = []
+
+-- which branches have the patch that a call would record
+abbrev pub recorded_text : Contents → Asked → List ℕ
+recorded_text state (asked.Call (call.Record branch name changes)) = holders_line name (holders state name)
+recorded_text state other = []
+
+-- that there is no patch of a name, behind the word for what lacks it
+abbrev pub no_patch_text : List ℕ → List ℕ
+no_patch_text name = codes " has no patch " ++ name ++ codes ".\n"
+
+-- that a branch lacks a patch
+abbrev pub lack_line : List ℕ → List ℕ → List ℕ
+lack_line branch name = codes "Branch " ++ branch ++ no_patch_text name
+
+-- the same, and which have it
+abbrev pub lack_text : Contents → List ℕ → Option (List ℕ) → List ℕ
+lack_text state branch None = []
+lack_text state branch (Some name) = lack_line branch name ++ holders_line name (holders state name)
+
+-- the same of the first patch that a command names and the branch lacks, by the catches that this has
+abbrev pub lack_in : Contents → Asked → List ℕ → Option (List Catch) → List ℕ
+lack_in state asked branch None = []
+lack_in state asked branch (Some catches) = lack_text state branch (lacks catches asked)
+
+-- the same of a command, where it names a branch
+abbrev pub lacked_text : Contents → Asked → Option (Place × List ℕ) → List ℕ
+lacked_text state asked None = []
+lacked_text state asked (Some place) = lack_in state asked place.1 (catches_of state.branches place.1)

@@ -1,0 +1,364 @@
+//! What stands against a command that is refused: the branches that it names, what is there, and what is not.
+ghost use Rattle.std.specs.Prelude.{◌≡◌, ◌++◌, IfOk, Some, take};
+ghost use Rattle.camp_talk.specs.Against.{about, absent_sides, absent_text, branches_line, call_about, first_lacked_of, holders, holders_line, holds, lack_line, lack_text, lacked_text, lacks, more_names, most_names, names_line, new_text, no_branch_text, no_patch_text, place_word, question_about, question_lacks, recorded_text, sides_text, target, target_text, there_text};
+
+use crate::questions::{Asked, Question};
+use camp_base::Name;
+use camp_call::{Call, Names};
+use camp_repo::{Branch, State};
+use std::alloc::{AllocError, Global};
+
+/// The most names on a line.
+const MOST_NAMES: usize = 20;
+
+/// Where a command names a branch: as FROM, or as BRANCH.
+#[derive(Clone, Copy, PartialEq, Eq, Debug)]
+pub(crate) enum Place {
+    From,
+    Branch,
+}
+
+/// Which branches a command names.
+pub(crate) fn tell_sides(alloc: Global, asked: &Asked) -> Result<Vec<u8>, AllocError>
+    ensures { IfOk result (λ text. text.items ≡ sides_text (about asked.now) (target asked.now)) }
+{
+    let Some((place, branch)) = about(asked) else {
+        return Ok(Vec::new(alloc));
+    };
+    let mut text = Vec::from_slice(alloc, place_word(place).as_bytes())?;
+    text.extend_from_slice(b" is ")?;
+    text.extend_from_slice(branch.bytes())?;
+    append_target(&mut text, &target(asked))?;
+    text.extend_from_slice(b".\n")?;
+    Ok(text)
+}
+
+// Appends that the branch TO is this one, where there is one.
+fn append_target(text: &mut Vec<u8>, to: &Option<Name>) -> Result<(), AllocError>
+    ensures { IfOk result (λ _. text.new.items ≡ text.old.items ++ target_text to.now) }
+{
+    let Some(to) = to else {
+        return Ok(());
+    };
+    text.extend_from_slice(b", and TO is ")?;
+    text.extend_from_slice(to.bytes())?;
+    Ok(())
+}
+
+/// Of the branches that a command names, which are not there; and which there are.
+pub(crate) fn tell_absent(
+    alloc: Global,
+    state: &State,
+    asked: &Asked,
+) -> Result<Vec<u8>, AllocError>
+    ensures { IfOk result (λ text.
+        text.items ≡ absent_sides state.now (about asked.now) (target asked.now) ++ branches_line state.now) }
+{
+    let mut text = Vec::new(alloc);
+    if let Some((_, branch)) = about(asked) {
+        append_absent(&mut text, state, &branch)?;
+    }
+    if let Some(to) = target(asked) {
+        append_absent(&mut text, state, &to)?;
+    }
+    let branches = tell_branches(alloc, state)?;
+    text.extend_from_slice(&branches)?;
+    Ok(text)
+}
+
+/// That the branch which a call would make is there; and which there are.
+pub(crate) fn tell_new(alloc: Global, state: &State, asked: &Asked) -> Result<Vec<u8>, AllocError>
+    ensures { IfOk result (λ text. text.items ≡ new_text state.now asked.now ++ branches_line state.now) }
+{
+    let mut text = new_text(alloc, state, asked)?;
+    let branches = tell_branches(alloc, state)?;
+    text.extend_from_slice(&branches)?;
+    Ok(text)
+}
+
+/// The branches that there are.
+pub(crate) fn tell_branches(alloc: Global, state: &State) -> Result<Vec<u8>, AllocError>
+    ensures { IfOk result (λ text. text.items ≡ branches_line state.now) }
+{
+    names_line(alloc, b"Branches:", state.names())
+}
+
+/// Which branches have the patch that a call would record.
+pub(crate) fn tell_recorded(
+    alloc: Global,
+    state: &State,
+    asked: &Asked,
+) -> Result<Vec<u8>, AllocError>
+    ensures { IfOk result (λ text. text.items ≡ recorded_text state.now asked.now) }
+{
+    match asked {
+        Asked::Call(Call::Record { name, .. }) => tell_holders(alloc, state, name),
+        _ => Ok(Vec::new(alloc)),
+    }
+}
+
+/// That a branch lacks a patch that a command names, and which have it.
+pub(crate) fn tell_lacked(
+    alloc: Global,
+    state: &State,
+    asked: &Asked,
+) -> Result<Vec<u8>, AllocError>
+    ensures { IfOk result (λ text. text.items ≡ lacked_text state.now asked.now (about asked.now)) }
+{
+    let Some((_, name)) = about(asked) else {
+        return Ok(Vec::new(alloc));
+    };
+    let Some(branch) = state.branch(&name) else {
+        return Ok(Vec::new(alloc));
+    };
+    match lacks(branch, asked) {
+        Some(patch) => lack_text(alloc, state, &name, &patch),
+        None => Ok(Vec::new(alloc)),
+    }
+}
+
+// The word for a branch in the form of a command.
+fn place_word(place: Place) -> &'static str
+    ensures { result.now ≡ place_word place }
+{
+    match place {
+        Place::From => "FROM",
+        Place::Branch => "BRANCH",
+    }
+}
+
+// The branch from which a command takes something, or that it is about.
+fn about(asked: &Asked) -> Option<(Place, Name)>
+    ensures { result ≡ about asked.now }
+{
+    match asked {
+        Asked::Call(call) => Some(call_about(call)),
+        Asked::Question(question) => question_about(question),
+        Asked::Nothing | Asked::Why => None,
+    }
+}
+
+fn call_about(call: &Call) -> (Place, Name)
+    ensures { result ≡ call_about call.now }
+{
+    match call {
+        Call::Branch { from, .. } | Call::Pull { from, .. } => (Place::From, *from),
+        Call::Record { branch, .. }
+        | Call::Obliterate { branch, .. }
+        | Call::Tree(branch)
+        | Call::Conflicts(branch)
+        | Call::Names(branch) => (Place::Branch, *branch),
+    }
+}
+
+fn question_about(question: &Question) -> Option<(Place, Name)>
+    ensures { result ≡ question_about question.now }
+{
+    match question {
+        Question::Missing { from, .. } | Question::Along { from, .. } => {
+            Some((Place::From, *from))
+        }
+        Question::Needs { branch, .. }
+        | Question::Held { branch, .. }
+        | Question::Show { branch, .. }
+        | Question::Annotate { branch, .. }
+        | Question::Open(branch)
+        | Question::Side { branch, .. }
+        | Question::Marks { branch, .. }
+        | Question::File { branch, .. }
+        | Question::Graph { branch, .. } => Some((Place::Branch, *branch)),
+        _ => None,
+    }
+}
+
+// The branch that a command names as TO.
+fn target(asked: &Asked) -> Option<Name>
+    ensures { result ≡ target asked.now }
+{
+    match asked {
+        Asked::Call(Call::Pull { to, .. })
+        | Asked::Question(Question::Missing { to, .. } | Question::Along { to, .. }) => Some(*to),
+        _ => None,
+    }
+}
+
+// The first patch that a command names and a branch lacks.
+fn lacks(branch: &Branch, asked: &Asked) -> Option<Name>
+    ensures { result ≡ lacks branch.now asked.now }
+{
+    match asked {
+        Asked::Call(Call::Pull { names, .. }) => first_lacked_of(branch, names),
+        Asked::Call(Call::Obliterate { names, .. }) => branch.first_lacked(names.as_slice()),
+        Asked::Question(question) => question_lacks(branch, question),
+        _ => None,
+    }
+}
+
+fn question_lacks(branch: &Branch, question: &Question) -> Option<Name>
+    ensures { result ≡ question_lacks branch.now question.now }
+{
+    match question {
+        Question::Needs { names, .. }
+        | Question::Held { names, .. }
+        | Question::Along { names, .. }
+        | Question::Graph { names, .. } => branch.first_lacked(names.as_slice()),
+        Question::Show { name, .. } | Question::Side { name, .. } => {
+            branch.first_lacked(&[*name])
+        }
+        _ => None,
+    }
+}
+
+fn first_lacked_of(branch: &Branch, names: &Option<Names>) -> Option<Name>
+    ensures { result ≡ first_lacked_of branch.now names.now }
+{
+    match names {
+        Some(names) => branch.first_lacked(names.as_slice()),
+        None => None,
+    }
+}
+
+// Appends that there is no branch of a name, where there is none.
+fn append_absent(text: &mut Vec<u8>, state: &State, branch: &Name) -> Result<(), AllocError>
+    ensures { IfOk result (λ _. text.new.items ≡ text.old.items ++ absent_text state.now branch.now) }
+{
+    if state.branch(branch).is_some() {
+        return Ok(());
+    }
+    append_no_branch(text, branch)
+}
+
+fn append_no_branch(text: &mut Vec<u8>, branch: &Name) -> Result<(), AllocError>
+    ensures { IfOk result (λ _. text.new.items ≡ text.old.items ++ no_branch_text branch.now) }
+{
+    text.extend_from_slice(b"There is no branch ")?;
+    text.extend_from_slice(branch.bytes())?;
+    text.extend_from_slice(b".\n")?;
+    Ok(())
+}
+
+fn new_text(alloc: Global, state: &State, asked: &Asked) -> Result<Vec<u8>, AllocError>
+    ensures { IfOk result (λ text. text.items ≡ new_text state.now asked.now) }
+{
+    match asked {
+        Asked::Call(Call::Branch { new, .. }) => there_text(alloc, state, new),
+        _ => Ok(Vec::new(alloc)),
+    }
+}
+
+// That there is a branch of a name, where there is one.
+fn there_text(alloc: Global, state: &State, branch: &Name) -> Result<Vec<u8>, AllocError>
+    ensures { IfOk result (λ text. text.items ≡ there_text state.now branch.now) }
+{
+    if state.branch(branch).is_none() {
+        return Ok(Vec::new(alloc));
+    }
+    let mut text = Vec::from_slice(alloc, b"There is a branch ")?;
+    text.extend_from_slice(branch.bytes())?;
+    text.extend_from_slice(b".\n")?;
+    Ok(text)
+}
+
+// That a branch lacks a patch, and which have it.
+fn lack_text(
+    alloc: Global,
+    state: &State,
+    branch: &Name,
+    patch: &Name,
+) -> Result<Vec<u8>, AllocError>
+    ensures { IfOk result (λ text. text.items ≡ lack_text state.now branch.now (Some patch.now)) }
+{
+    let mut text = lack_line(alloc, branch, patch)?;
+    let holders = tell_holders(alloc, state, patch)?;
+    text.extend_from_slice(&holders)?;
+    Ok(text)
+}
+
+fn lack_line(alloc: Global, branch: &Name, patch: &Name) -> Result<Vec<u8>, AllocError>
+    ensures { IfOk result (λ text. text.items ≡ lack_line branch.now patch.now) }
+{
+    let mut text = Vec::from_slice(alloc, b"Branch ")?;
+    text.extend_from_slice(branch.bytes())?;
+    append_no_patch(&mut text, patch)?;
+    Ok(text)
+}
+
+fn append_no_patch(text: &mut Vec<u8>, patch: &Name) -> Result<(), AllocError>
+    ensures { IfOk result (λ _. text.new.items ≡ text.old.items ++ no_patch_text patch.now) }
+{
+    text.extend_from_slice(b" has no patch ")?;
+    text.extend_from_slice(patch.bytes())?;
+    text.extend_from_slice(b".\n")?;
+    Ok(())
+}
+
+fn tell_holders(alloc: Global, state: &State, patch: &Name) -> Result<Vec<u8>, AllocError>
+    ensures { IfOk result (λ text. text.items ≡ holders_line patch.now (holders state.now patch.now)) }
+{
+    let holders = holders(alloc, state, patch)?;
+    holders_line(alloc, patch, &holders)
+}
+
+// The branches that have a patch.
+fn holders(alloc: Global, state: &State, patch: &Name) -> Result<Vec<Name>, AllocError>
+    ensures { IfOk result (λ names. names.items ≡ holders state.now patch.now) }
+{
+    let mut names = Vec::from_slice(alloc, state.names())?;
+    names.retain(|branch| holds(state, patch, branch));
+    Ok(names)
+}
+
+fn holds(state: &State, patch: &Name, branch: &Name) -> bool
+    ensures { result ≡ holds state.now patch.now branch.now }
+{
+    match state.branch(branch) {
+        Some(branch) => branch.has_patch(patch),
+        None => false,
+    }
+}
+
+// Which branches have a patch, or that there is none.
+fn holders_line(alloc: Global, patch: &Name, branches: &[Name]) -> Result<Vec<u8>, AllocError>
+    ensures { IfOk result (λ text. text.items ≡ holders_line patch.now branches.now) }
+{
+    if branches.is_empty() {
+        let mut text = Vec::from_slice(alloc, b"No branch has ")?;
+        text.extend_from_slice(patch.bytes())?;
+        text.extend_from_slice(b".\n")?;
+        return Ok(text);
+    }
+    let mut words = Vec::from_slice(alloc, b"Branches with ")?;
+    words.extend_from_slice(patch.bytes())?;
+    words.push(b':')?;
+    names_line(alloc, &words, branches)
+}
+
+// Words, and names behind them: so many at most, and `..` where there are more.
+fn names_line(alloc: Global, words: &[u8], names: &[Name]) -> Result<Vec<u8>, AllocError>
+    ensures { IfOk result (λ text. text.items ≡ names_line words.now names.now) }
+{
+    let mut text = Vec::from_slice(alloc, words)?;
+    let told = first_names(names);
+    for name in told {
+        text.push(b' ')?;
+        text.extend_from_slice(name.bytes())?;
+    }
+    text.extend_from_slice(more_names(names).as_bytes())?;
+    text.push(b'\n')?;
+    Ok(text)
+}
+
+fn more_names(names: &[Name]) -> &'static str
+    ensures { result.now ≡ more_names names.now }
+{
+    if names.len() > MOST_NAMES {
+        return " ..";
+    }
+    ""
+}
+
+fn first_names(names: &[Name]) -> &[Name]
+    ensures { result.now ≡ take most_names names.now }
+{
+    &names[..MOST_NAMES.min(names.len())]
+}

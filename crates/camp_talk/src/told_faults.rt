@@ -1,0 +1,216 @@
+//! Why a command with a fault was not done.
+ghost use Rattle.std.specs.Prelude.{◌≡◌, ◌++◌, IfOk, take};
+ghost use Rattle.camp_script.specs.Lines.{lines_of};
+ghost use Rattle.camp_talk.specs.Whys.{body_rule, comes_of_another, cut_text, fault_cause, fault_lines, hint_text, is_inner, line_at, misnamed_text, most_shown, no_name_text, rule, word_text};
+
+use crate::asking::first_line;
+use crate::questions::Reason;
+use crate::told_refusals::cure;
+use bstr::ByteSlice;
+use camp_script::{FaultKind, LineFault, Words, without_end};
+use camp_why::{Hint, look_at, misnamed};
+use std::alloc::{AllocError, Global};
+
+/// The most bytes of a line that are shown.
+const SHOWN: usize = 200;
+
+/// The lines that tell why a command with a fault is not done. Where that comes of a fault before it, the lines stay.
+pub(crate) fn fault_cause(
+    alloc: Global,
+    before: &[u8],
+    fault: &LineFault,
+    command: &[u8],
+    answer: &[u8],
+) -> Result<Vec<u8>, AllocError>
+    ensures { IfOk result (λ text. text.items ≡ fault_cause before.now fault.now (lines_of command.now) answer.now) }
+{
+    if !before.is_empty() && comes_of_another(fault.kind, command) {
+        return Vec::from_slice(alloc, before);
+    }
+    fault_lines(alloc, fault.kind, line_at(command, fault.line), answer)
+}
+
+// Whether a fault comes of one before it: its command is a line of a body or a group that was not begun.
+fn comes_of_another(kind: FaultKind, command: &[u8]) -> bool
+    ensures { result ≡ comes_of_another kind (lines_of command.now) }
+{
+    if kind != FaultKind::UnknownCommand {
+        return false;
+    }
+    match Words::new(first_line(command)).next() {
+        Some(word) => is_inner(word),
+        None => false,
+    }
+}
+
+// Whether the first word of a command is that of a line of a body or a group.
+fn is_inner(word: &[u8]) -> bool
+    ensures { result ≡ is_inner word.now }
+{
+    word.starts_with(b"+")
+        || word.starts_with(b"-")
+        || word == b"end".as_slice()
+        || word == b"end\r".as_slice()
+        || word == b"done".as_slice()
+        || word == b"done\r".as_slice()
+}
+
+// The line of a number, counted from 1; an empty one, where there is none.
+fn line_at(command: &[u8], number: u64) -> &[u8]
+    ensures { result.now ≡ line_at number (lines_of command.now) }
+{
+    let mut before = number.saturating_sub(1);
+    for line in command.lines_with_terminator() {
+        if before == 0 {
+            return without_end(line);
+        }
+        before -= 1;
+    }
+    &[]
+}
+
+// Of a command with a fault: its answer, the line, what is to be seen in it, the rule, and what to write.
+fn fault_lines(
+    alloc: Global,
+    kind: FaultKind,
+    line: &[u8],
+    answer: &[u8],
+) -> Result<Vec<u8>, AllocError>
+    ensures { IfOk result (λ text. text.items ≡ fault_lines kind line.now answer.now) }
+{
+    let mut text = Vec::from_slice(alloc, answer)?;
+    text.push(b'>')?;
+    text.extend_from_slice(shown(line))?;
+    text.push(b'\n')?;
+    text.extend_from_slice(cut_text(line).as_bytes())?;
+    append_word(&mut text, kind, line)?;
+    text.extend_from_slice(hint_text(look_at(kind, line)).as_bytes())?;
+    text.extend_from_slice(rule(kind).as_bytes())?;
+    Ok(text)
+}
+
+// The front of a line, as much as is shown.
+fn shown(line: &[u8]) -> &[u8]
+    ensures { result.now ≡ take most_shown line.now }
+{
+    &line[..SHOWN.min(line.len())]
+}
+
+// That not all bytes of a line are shown.
+fn cut_text(line: &[u8]) -> &'static str
+    ensures { result.now ≡ cut_text line.now }
+{
+    if line.len() > SHOWN {
+        return "Its first 200 bytes are shown, and it has more.\n";
+    }
+    ""
+}
+
+// Appends which word has the fault, where it is one among many.
+fn append_word(text: &mut Vec<u8>, kind: FaultKind, line: &[u8]) -> Result<(), AllocError>
+    ensures { IfOk result (λ _. text.new.items ≡ text.old.items ++ word_text kind line.now) }
+{
+    match kind {
+        FaultKind::BadName => append_misnamed(text, misnamed(line)),
+        _ => Ok(()),
+    }
+}
+
+fn append_misnamed(text: &mut Vec<u8>, word: &[u8]) -> Result<(), AllocError>
+    ensures { IfOk result (λ _. text.new.items ≡ text.old.items ++ misnamed_text word.now) }
+{
+    if word.len() > SHOWN {
+        text.extend_from_slice(b"A word of more than 200 bytes is no name.\n")?;
+        return Ok(());
+    }
+    append_no_name(text, word)
+}
+
+fn append_no_name(text: &mut Vec<u8>, word: &[u8]) -> Result<(), AllocError>
+    ensures { IfOk result (λ _. text.new.items ≡ text.old.items ++ no_name_text word.now) }
+{
+    text.extend_from_slice(b"This is no name: ")?;
+    text.extend_from_slice(word)?;
+    text.push(b'\n')?;
+    Ok(())
+}
+
+// What is to be seen in the line.
+fn hint_text(hint: Hint) -> &'static str
+    ensures { result.now ≡ hint_text hint }
+{
+    match hint {
+        Hint::Nothing => "",
+        Hint::OfBody => "It is a line of a body, and no body has begun here, or it was over.\n",
+        Hint::TooLong => {
+            "It has more than 1048576 bytes: it is read as its first 4098, with ? for the second.\n"
+        }
+        Hint::CarriageReturn => "It ends with a carriage return: end each line with LF alone.\n",
+        Hint::Strange => {
+            "It has a byte that is no printing ASCII character: commands, names and paths have none.\n"
+        }
+        Hint::Quotes => {
+            "It has a quotation mark: that holds no words together, and no command or name has one.\n"
+        }
+        Hint::Capitals => "It has a capital letter: commands and names have small letters alone.\n",
+        Hint::Empty => "It is empty: for an empty line of the file write - or + alone.\n",
+        Hint::Blank => "It begins with a blank: the sign comes first, and end stands alone.\n",
+        Hint::NoLine => "The body has no line: both sides are empty.\n",
+        Hint::TooFar => {
+            "The edit reaches too far: LINE and the numbers of lines of both sides add up to too much.\n"
+        }
+        Hint::MoreThanEnd => "It begins with end and is more: just end ends a body.\n",
+        Hint::OldBehindNew => "An old line stands behind a new one: all - come before all +.\n",
+        Hint::NoSign => {
+            "It has no sign, - or +. If the body was to be over, a line that is just end is missing.\n"
+        }
+    }
+}
+
+// The rule that is broken, and what to write.
+fn rule(kind: FaultKind) -> &'static str
+    ensures { result.now ≡ rule kind }
+{
+    match kind {
+        FaultKind::UnknownCommand => {
+            "A line begins with a command; a record says BRANCH, NAME, and then add, remove, edit or group:\n\
+            help tells all. A name has no blank. A line of a body stands only behind an edit whose first\n\
+            line has no fault. A line of more than 1048576 bytes is no command.\n"
+        }
+        FaultKind::WrongNumberOfWords => {
+            "There are too few words, or too many; a name or a path has no blank. help COMMAND tells\n\
+            how a command is written.\n"
+        }
+        FaultKind::BadName => cure(Reason::BadName),
+        FaultKind::BadPath => cure(Reason::BadPath),
+        FaultKind::BadNumber => {
+            "LINE is a number from 1 to 1073741823 in 1 to 10 digits. LINE and the numbers of old and\n\
+            of new lines add up to 1073741824 at most. The number of a refusal is one from 1 to 14.\n"
+        }
+        FaultKind::BadLine => cure(Reason::BadLine),
+        other => body_rule(other),
+    }
+}
+
+// The rule of a body or a group that is broken, or of a number of lines, and what to write.
+fn body_rule(kind: FaultKind) -> &'static str
+    ensures { result.now ≡ body_rule kind }
+{
+    match kind {
+        FaultKind::BadEdit => {
+            "A body has old lines, each behind -, then new ones, each behind +, one at least in\n\
+            all, and then a line that is just end.\n"
+        }
+        FaultKind::EditNotEnded => {
+            "The body of an edit ends with a line that is just end. Write it.\n"
+        }
+        FaultKind::TooManyClients => "A script has 63 lines client at most.\n",
+        FaultKind::TooManyCommands => "A section has 65536 commands that write at most.\n",
+        FaultKind::BadGroup => {
+            "A group has 1 to 64 changes: add PATH, remove PATH, or edit PATH LINE with its body.\n\
+            Then comes the line done.\n"
+        }
+        FaultKind::GroupNotEnded => "A group ends with the line done. Write it.\n",
+        _ => "",
+    }
+}

@@ -1,0 +1,101 @@
+-- What a refusal of a call says is so.
+use Rattle.std.specs.Prelude.{◌≡◌, ◌⊎◌, ℕ, true, List, [], Option, None, Some, Err}
+use Rattle.camp_branch.specs.Branches.{first_lacked}
+use Rattle.camp_branch.specs.declared.faults.Blocked.{Blocked}
+use Rattle.camp_catch.specs.declared.catches.Catch.{Catch}
+use Rattle.camp_call.specs.Calls.{IsCall}
+use Rattle.camp_call.specs.declared.calls.Call.{Call}
+use Rattle.camp_call.specs.declared.calls.Call.TheVariants as call
+use Rattle.camp_call.specs.declared.replies.Refusal.{Refusal}
+use Rattle.camp_call.specs.declared.replies.Refusal.TheVariants as refusal
+use Rattle.camp_repo.specs.Lawful.{IsLawfulState}
+use Rattle.camp_repo.specs.Laws.{Has}
+use Rattle.camp_repo.specs.Outcomes.{obliterated, pulled}
+use Rattle.camp_repo.specs.States.{Contents, catches_of, stands}
+use Rattle.camp_repo.specs.Steps.{listed, refusal_of, refused, step, wanted}
+use Rattle.camp_why.specs.Laws.{IsExplained, IsInRange}
+
+-- a call names a branch that has to be there for it
+abbrev pub NeedsBranch : Call → List ℕ → Type 0
+NeedsBranch (call.Branch new from) name = from ≡ name
+NeedsBranch (call.Record branch patch changes) name = branch ≡ name
+NeedsBranch (call.Pull from to names) name = (from ≡ name) ⊎ (to ≡ name)
+NeedsBranch (call.Obliterate branch names) name = branch ≡ name
+NeedsBranch (call.Tree branch) name = branch ≡ name
+NeedsBranch (call.Conflicts branch) name = branch ≡ name
+NeedsBranch (call.Names branch) name = branch ≡ name
+
+-- it names one that is not there
+abbrev pub LacksBranch : Contents → Call → List ℕ → Type 0
+LacksBranch state asked name = NeedsBranch asked name × (catches_of state.branches name ≡ None)
+
+-- it makes a branch that is there
+abbrev pub MakesAgain : Contents → Call → List ℕ → Type 0
+MakesAgain state (call.Branch new from) name = (new ≡ name) × ((catches : List Catch) × Has state name catches)
+MakesAgain state other name = ⊥
+
+-- it records a patch that stands in some branch
+abbrev pub RecordsAgain : Contents → Call → List ℕ → Type 0
+RecordsAgain state (call.Record branch patch changes) name = (patch ≡ name) × (stands state.branches name ≡ true)
+RecordsAgain state other name = ⊥
+
+-- a branch lacks a patch, the first of those that are listed
+abbrev pub LacksOf : Contents → List ℕ → Option (List (List ℕ)) → List ℕ → Type 0
+LacksOf state branch names name =
+    (catches : List Catch) × Has state branch catches × (first_lacked catches (listed catches names) ≡ Some name)
+
+-- a call lists a patch that the branch lacks from which it takes it
+abbrev pub LacksPatch : Contents → Call → List ℕ → Type 0
+LacksPatch state (call.Pull from to names) name = LacksOf state from names name
+LacksPatch state (call.Obliterate branch names) name = LacksOf state branch (Some names) name
+LacksPatch state other name = ⊥
+
+-- a branch has each patch that would be pulled into it
+abbrev pub HasAll : Contents → List ℕ → List ℕ → Option (List (List ℕ)) → Type 0
+HasAll state from to names =
+    (theirs : List Catch) × (ours : List Catch) × Has state from theirs × Has state to ours
+    × (wanted ours (listed theirs names) ≡ [])
+
+-- a call would do nothing
+abbrev pub DoesNothing : Contents → Call → Type 0
+DoesNothing state (call.Pull from to names) = HasAll state from to names
+DoesNothing state (call.Obliterate branch names) = names ≡ []
+DoesNothing state other = ⊥
+
+-- this is why patches can't be pulled, or taken out
+abbrev pub IsBlockedBy : Contents → Call → Blocked → Type 0
+IsBlockedBy state (call.Pull from to names) why =
+    (theirs : List Catch) × (ours : List Catch) × Has state from theirs × Has state to ours
+    × (pulled theirs ours (wanted ours (listed theirs names)) ≡ Err why)
+IsBlockedBy state (call.Obliterate branch names) why =
+    (catches : List Catch) × Has state branch catches × (obliterated catches names ≡ Err why)
+IsBlockedBy state other why = ⊥
+
+-- the refusal tells why
+abbrev pub IsBlocked : Contents → Call → Refusal → Type 0
+IsBlocked state asked refusal = (why : Blocked) × (refusal_of why ≡ refusal) × IsBlockedBy state asked why
+
+-- a branch is pulled into itself
+abbrev pub PullsItself : Call → List ℕ → Type 0
+PullsItself (call.Pull from to names) name = (from ≡ name) × (to ≡ name)
+PullsItself other name = ⊥
+
+-- what a refusal of a call says is so at a state
+abbrev pub IsGround : Contents → Call → Refusal → Type 0
+IsGround state asked (refusal.NoBranch name) = LacksBranch state asked name
+IsGround state asked (refusal.BranchExists name) = MakesAgain state asked name
+IsGround state asked (refusal.PatchExists name) = RecordsAgain state asked name
+IsGround state asked (refusal.NoPatch name) = LacksPatch state asked name
+IsGround state asked refusal.NothingToDo = DoesNothing state asked
+IsGround state asked refusal.TooLarge = IsExplained state asked refusal.TooLarge
+IsGround state asked refusal.DoesNotApply = IsExplained state asked refusal.DoesNotApply
+IsGround state asked (refusal.Depends patch on) = IsBlocked state asked (refusal.Depends patch on)
+IsGround state asked (refusal.Diverged name) = IsBlocked state asked (refusal.Diverged name)
+IsGround state asked (refusal.NoMerge left right) = IsBlocked state asked (refusal.NoMerge left right)
+IsGround state asked (refusal.SameBranch name) = PullsItself asked name
+
+-- where a lawful state refuses a call, what its refusal says is so
+abbrev pub RefusalsHaveGrounds : Type 0
+RefusalsHaveGrounds =
+    (state : Contents) (asked : Call) (refusal : Refusal) → IsLawfulState state → IsCall asked → IsInRange asked →
+    step state asked ≡ refused refusal → IsGround state asked refusal
