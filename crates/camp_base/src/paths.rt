@@ -8,6 +8,8 @@ ghost use Rattle.std.specs.FinMap.{nat_cmp-IsAntisymmetric, slice_cmp-IsAntisymm
 ghost use Rattle.std.proofs.Common.{rules};
 ghost use Rattle.camp_base.specs.Bytes.{is_path, is_path_part, path_parts};
 ghost use Rattle.camp_base.specs.Signs.{is_graphic};
+ghost use Rattle.camp_base.specs.Inside.NameFields.{spelt};
+ghost use Rattle.camp_base.specs.Inside.PathFields.{last_eight};
 ghost use Rattle.camp_base.specs.Made.{Makes};
 ghost use Rattle.camp_base.specs.declared.faults.BaseFault.TheVariants as fault;
 
@@ -24,17 +26,20 @@ use std::{fmt, str};
 #[derive(Debug, Drop)]
 pub struct Path {
     bytes: Shared<Vec<u8>>,
+    // The number that its last eight bytes spell. No byte of a path is zero, so where two paths have different numbers
+    // they differ, and where they are no longer than that they are told by it.
+    tail: u64,
 }
 
 impl Model for Path {
-    ghost use Rattle.std.specs.Prelude.{List, ℕ, IsTrue};
-    ghost use Rattle.camp_base.specs.Bytes.{is_path};
+    ghost use Rattle.std.specs.Prelude.{List, ℕ};
+    ghost use Rattle.camp_base.specs.Inside.PathFields.{IsKept};
 
     ghost Value = { List ℕ };
 
     ghost view = { λ path. path.bytes.items };
 
-    ghost invariant = { λ path. IsTrue (is_path path.bytes.items) };
+    ghost invariant = { IsKept };
 }
 
 impl Path {
@@ -45,8 +50,9 @@ impl Path {
         if !is_path(bytes) {
             return Err(BaseFault::BadPath);
         }
+        let tail = tail_of(bytes);
         let bytes = Shared::new(alloc, Vec::from_slice(alloc, bytes)?)?;
-        Ok(Path { bytes })
+        Ok(Path { bytes, tail })
     }
 
     /// The bytes of the path.
@@ -68,12 +74,25 @@ impl Path {
 impl Share for Path {
     fn share(&self) -> Result<Path, AllocError> {
         let bytes = self.bytes.share()?;
-        Ok(Path { bytes })
+        Ok(Path {
+            bytes,
+            tail: self.tail,
+        })
     }
 }
 
 impl Key for Path {
     ghost same = { slice_cmp-IsAntisymmetric nat_cmp-IsAntisymmetric };
+}
+
+// The number that the last eight bytes spell, or all where there are fewer, with zeros behind them.
+fn tail_of(bytes: &[u8]) -> u64
+    ensures { result ≡ spelt 8 0 (last_eight bytes.now) }
+{
+    let tail = &bytes[bytes.len().saturating_sub(8)..];
+    let mut buffer = [0; 8];
+    buffer[..tail.len()].copy_from_slice(tail);
+    u64::from_be_bytes(buffer)
 }
 
 fn is_path(bytes: &[u8]) -> bool
@@ -111,6 +130,12 @@ impl PartialEq for Path {
     ghost laws = { Prim.search (comparing, rules) };
 
     fn eq(&self, other: &Path) -> bool {
+        if self.tail != other.tail {
+            return false;
+        }
+        if self.bytes().len() <= 8 && other.bytes().len() <= 8 {
+            return true;
+        }
         self.bytes() == other.bytes()
     }
 }

@@ -1,3 +1,4 @@
 -- Words that serve only private functions.
 pub mod Apart
 pub mod Links
+pub mod Looks

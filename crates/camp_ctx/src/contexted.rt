@@ -1,9 +1,10 @@
 ghost use Rattle.std.specs.Prelude.{◌≡◌, ◌↔◌, IfOk, IsTrue};
-ghost use Rattle.camp_ctx.specs.Contexts.{context_key};
+ghost use Rattle.camp_seq.specs.NormalOrder.{Norm};
+ghost use Rattle.camp_ctx.specs.Contexts.{context_key, whole};
 
 use camp_base::Name;
 use camp_prim::{Key, Named};
-use camp_seq::Seq;
+use camp_seq::{Seq, are_own_orders};
 use camp_share::{Share, Shared};
 use std::alloc::{AllocError, Global};
 use std::marker::Model;
@@ -20,6 +21,9 @@ pub struct Contexted {
 struct Parts {
     context: Seq,
     patch: Named,
+    // What a look has told: the context is its own normal order, and so is the whole.
+    context_is_ordered: bool,
+    whole_is_ordered: bool,
 }
 
 impl Model for Contexted {
@@ -27,7 +31,11 @@ impl Model for Contexted {
 
     ghost Value = { ContextedPatch };
 
-    ghost view = { λ x. record { context = x.parts.context; patch = x.parts.patch } };
+    ghost use Rattle.camp_ctx.specs.Inside.Looks.{IsLookedAt, seen};
+
+    ghost view = { seen };
+
+    ghost invariant = { IsLookedAt };
 }
 
 impl Contexted {
@@ -35,7 +43,16 @@ impl Contexted {
     pub fn new(alloc: Global, context: Seq, patch: Named) -> Result<Contexted, AllocError>
         ensures exact { IfOk result (λ x. x ≡ record { context = context; patch = patch }) }
     {
-        let parts = Shared::new(alloc, Parts { context, patch })?;
+        let (context_is_ordered, whole_is_ordered) = are_own_orders(context.items(), &patch);
+        let parts = Shared::new(
+            alloc,
+            Parts {
+                context,
+                patch,
+                context_is_ordered,
+                whole_is_ordered,
+            },
+        )?;
         Ok(Contexted { alloc, parts })
     }
 
@@ -90,6 +107,20 @@ impl Contexted {
             return false;
         }
         self.patch().is_same(other.patch())
+    }
+
+    /// Whether a look has told that the context is its own normal order. Where it says no, it may still be.
+    pub(crate) fn context_is_ordered(&self) -> bool
+        ensures { IsTrue result → Norm self.now.context self.now.context }
+    {
+        self.parts.context_is_ordered
+    }
+
+    /// The same of the context with the patch behind it.
+    pub(crate) fn whole_is_ordered(&self) -> bool
+        ensures { IsTrue result → Norm (whole self.now) (whole self.now) }
+    {
+        self.parts.whole_is_ordered
     }
 
     pub(crate) fn allocator(&self) -> Global {

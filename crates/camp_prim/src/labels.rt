@@ -1,12 +1,14 @@
 ghost use Rattle.std.specs.Prelude.{◌≡◌, ◌↔◌, IsTrue};
 ghost use Rattle.std.specs.Cmp.{IsTotalOrder};
 ghost use Rattle.std.specs.FinMap.{IsAntisymmetric};
+ghost use Rattle.std.specs.Ordering.{is_lt};
 ghost use Rattle.camp_prim.specs.declared.labels.Key.{Key};
 ghost use Rattle.camp_prim.specs.declared.labels.Label.{Label};
-ghost use Rattle.camp_prim.specs.Labels.{key_cmp, key_of, label_cmp, opposite, SameKey};
+ghost use Rattle.camp_prim.specs.Labels.{key_cmp, key_of, label_cmp, label_of, opposite, SameKey};
 
 use crate::Named;
 use camp_base::Name;
+use std::cmp::Ordering;
 
 /// The absolute label of a primitive: the name of its patch and its place in it. Keys are ordered by
 /// the bytes of the name, and then by place.
@@ -64,11 +66,22 @@ pub fn keys_are_ordered()
 {}
 
 /// Whether the two have one name and one place, whatever their signs are.
-pub(crate) fn have_same_key(p: &Named, q: &Named) -> bool
-    ensures { IsTrue result ↔ SameKey p.now q.now }
+pub fn have_same_key(p: &Named, q: &Named) -> bool
+    ensures exact { IsTrue result ↔ SameKey p.now q.now }
 {
-    if p.name != q.name {
+    if p.place != q.place {
         return false;
     }
-    p.place == q.place
+    p.name == q.name
+}
+
+/// Whether the label of the first is less than that of the second.
+pub fn has_less_label(p: &Named, q: &Named) -> bool
+    ensures exact { result ≡ is_lt (label_cmp (label_of p.now) (label_of q.now)) }
+{
+    match p.name.cmp(&q.name) {
+        Ordering::Less => true,
+        Ordering::Greater => false,
+        Ordering::Equal => p.label() < q.label(),
+    }
 }

@@ -141,6 +141,13 @@ with_one_more s last x greatest more long is in_order stays =
     let front : s ≡ take i s ++ last ∷ [] = sym (take_all (i + 1) s (omega arith)) ∙ take_more s i last (omega arith) ∙ ap (λ y. take i s ++ y ∷ []) (sym is) in
     subst (λ l. Norm (l ++ x ∷ []) (l ++ x ∷ [])) (sym front) (more_in_order (take i s) last x greatest more (subst (λ l. IsInOrder l greatest) front in_order) stays).ordered
 
+-- a list of nothing
+pub none_in_order : (s : List Named) (test : Bool) → test ≡ (length s == 0) → test ≡ true → Norm s s
+none_in_order [] test counts is = chain_is_ordered [] tt
+none_in_order (p ∷ s) test counts is =
+    let none : length (p ∷ s) ≡ 0 = eqb-true _ _ (sym counts ∙ is) in
+    absurd (omega arith)
+
 -- behind nothing an element is alone
 pub one_alone : (s : List Named) (x : Named) (test : Bool) → test ≡ (length s == 0) → test ≡ true → Norm (s ++ x ∷ []) (s ++ x ∷ [])
 one_alone [] x test counts is = chain_is_ordered (x ∷ []) (tt, tt)
@@ -149,12 +156,12 @@ one_alone (p ∷ s) x test counts is =
     absurd (omega arith)
 
 -- and where a body has found that one more stays behind
-pub one_more_told : (s : List Named) (last x : Named) (greatest : Label) (more : Option Label) (told test : Bool) → test ≡ (length s == 0) → test ≡ false → last ≡ get_or s (length s - 1) last → IsInOrder s greatest → IfSome more (StaysLast greatest last x) → told ≡ is_some more → IsTrue told → Norm (s ++ x ∷ []) (s ++ x ∷ [])
-one_more_told [] last x greatest more told test counts differs is in_order stays tells holds =
+pub one_more_told : {A : Type 0} (label : A → Label) (s : List Named) (last x : Named) (greatest : Label) (more : Option A) (told test : Bool) → test ≡ (length s == 0) → test ≡ false → last ≡ get_or s (length s - 1) last → IsInOrder s greatest → IfSome more (λ y. StaysLast greatest last x (label y)) → told ≡ is_some more → IsTrue told → Norm (s ++ x ∷ []) (s ++ x ∷ [])
+one_more_told label [] last x greatest more told test counts differs is in_order stays tells holds =
     let never : true ≡ false = sym counts ∙ differs in
     cc
-one_more_told (p ∷ s) last x greatest None told test counts differs is in_order stays tells holds =
+one_more_told label (p ∷ s) last x greatest None told test counts differs is in_order stays tells holds =
     let never : false ≡ true = sym tells ∙ holds in
     cc
-one_more_told (p ∷ s) last x greatest (Some more) told test counts differs is in_order stays tells holds =
-    with_one_more (p ∷ s) last x greatest more (omega arith) is in_order stays
+one_more_told label (p ∷ s) last x greatest (Some more) told test counts differs is in_order stays tells holds =
+    with_one_more (p ∷ s) last x greatest (label more) (omega arith) is in_order stays

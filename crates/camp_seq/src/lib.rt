@@ -15,7 +15,7 @@ mod seqs;
 mod splits;
 
 pub use chains::{can_swap, is_chain};
-pub use fast::{is_own_order, is_own_order_with, stays_past};
+pub use fast::{are_own_orders, is_own_order, stays_past};
 pub use fronts::front;
 pub use laws::{
     clean_merge_closes, clean_merge_is_equivalent, clean_merge_is_passing_the_inverse,

@@ -12,7 +12,7 @@ ghost use Rattle.camp_ctx.specs.Inside.Apart.{LacksLabels, NoCleanMerge};
 use crate::Contexted;
 use crate::conflicts::has_label;
 use camp_prim::{Label, Named};
-use camp_seq::{Seq, can_swap, clean_merge, is_own_order, is_own_order_with, stays_past};
+use camp_seq::{Seq, can_swap, clean_merge, is_own_order, stays_past};
 use std::alloc::AllocError;
 use std::slice;
 
@@ -29,10 +29,10 @@ pub(crate) fn clash(x: &Contexted, y: &Contexted) -> Result<bool, AllocError>
     if !have_no_common_label(x, y) {
         return Ok(false);
     }
-    if !is_own_order_with(x.context().items(), x.patch()) {
+    if !x.whole_is_ordered() {
         return Ok(false);
     }
-    Ok(is_own_order_with(y.context().items(), y.patch()))
+    Ok(y.whole_is_ordered())
 }
 
 /// The first primitive of the context, or the patch where there is none.

@@ -5,7 +5,7 @@ ghost use Rattle.camp_ctx.specs.Contexts.{whole};
 ghost use Rattle.camp_ctx.specs.Inside.Apart.{AreElsewhere, Elsewhere, IsElsewhere};
 
 use crate::Contexted;
-use camp_prim::Named;
+use camp_prim::{Named, have_same_key};
 
 /// Whether two contexted patches change other files, under other absolute labels, and so don't conflict.
 /// Where it says no, they may still not. It takes no memory.
@@ -58,5 +58,5 @@ fn change_two_files(p: &Named, q: &Named) -> bool
     if p.prim.path() == q.prim.path() {
         return false;
     }
-    p.label().key() != q.label().key()
+    !have_same_key(p, q)
 }

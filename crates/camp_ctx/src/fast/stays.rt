@@ -6,7 +6,7 @@ ghost use Rattle.camp_ctx.specs.Contexts.{ChangesAt, EachMember};
 
 use crate::{Contexted, CtxSet};
 use camp_prim::{Named, stay};
-use camp_seq::{is_own_order, stays_past};
+use camp_seq::stays_past;
 
 impl Contexted {
     /// Whether the contexted patch is as it was where `a` is added, and `a` passes by it. Where it says
@@ -19,7 +19,7 @@ impl Contexted {
         if !stays_past(a, context) {
             return false;
         }
-        if !is_own_order(context) {
+        if !self.context_is_ordered() {
             return false;
         }
         stay(a, self.patch())

@@ -4,9 +4,8 @@ ghost use Rattle.camp_seq.specs.Inside.Insertions.{GoesBack, Placed, StandsAt, S
 ghost use Rattle.camp_seq.specs.NormalOrder.{Norm};
 ghost use Rattle.camp_seq.specs.Room.{HasRoom};
 
-use crate::orders::is_less;
 use crate::passes::{come_forward, pass_one};
-use camp_prim::Named;
+use camp_prim::{Named, has_less_label};
 
 /// Puts a list with room in normal order: one element after the other is put in its place among
 /// those before it. n elements take at most n * (n - 1) exchanges.
@@ -47,7 +46,7 @@ fn go_back(s: &mut [Named], x: &mut Named, from: usize) -> usize
     ensures { GoesBack s.old x.old from result s.new x.new }
 {
     for at in from..s.len() {
-        if !is_less(&s[at].label(), &x.label()) {
+        if !has_less_label(&s[at], x) {
             return at;
         }
         if !pass_one(x, &mut s[at]) {

@@ -1,13 +1,13 @@
 //! Looks that tell what the way by the rule would come to. They take no memory.
 ghost use Rattle.std.specs.Prelude.{◌<◌, List, [], ◌∷◌, ◌++◌, length, IfSome, IsTrue};
+ghost use Rattle.camp_prim.specs.Labels.{label_of};
 ghost use Rattle.camp_prim.specs.declared.named.Named.{Named};
 ghost use Rattle.camp_seq.specs.Inside.NextInOrder.{IsInOrder, StaysLast};
 ghost use Rattle.camp_seq.specs.NormalOrder.{Norm};
 ghost use Rattle.camp_seq.specs.Passing.{Passes};
 
 use crate::chains::can_swap;
-use crate::orders::is_less;
-use camp_prim::{Label, Named, stay};
+use camp_prim::{Named, has_less_label, stay};
 
 /// A quick test by one look at each element: its label is not less than any before it, or it does not swap
 /// with the one before it. True: the list is in normal order. False: it may or may not be. It takes no
@@ -21,25 +21,29 @@ pub fn is_own_order(items: &[Named]) -> bool
     greatest_in_order(items).is_some()
 }
 
-/// The same of a list with one more element behind it.
-pub fn is_own_order_with(items: &[Named], last: &Named) -> bool
-    ensures sound { IsTrue result → Norm (items.now ++ last.now ∷ []) (items.now ++ last.now ∷ []) }
+/// The same of a list, and of it with one more element behind it.
+pub fn are_own_orders(items: &[Named], last: &Named) -> (bool, bool)
+    ensures list { IsTrue result.0 → Norm items.now items.now }
+    ensures with_last { IsTrue result.1 → Norm (items.now ++ last.now ∷ []) (items.now ++ last.now ∷ []) }
 {
     if items.is_empty() {
-        return true;
+        return (true, true);
     }
     match greatest_in_order(items) {
-        None => false,
-        Some(greatest) => greatest_with(greatest, &items[items.len() - 1], last).is_some(),
+        None => (false, false),
+        Some(greatest) => {
+            let stays = greatest_with(greatest, &items[items.len() - 1], last).is_some();
+            (true, stays)
+        }
     }
 }
 
-/// The greatest label of a list, where a look at each element tells that it is its own normal order.
-fn greatest_in_order(items: &[Named]) -> Option<Label>
+/// The element with the greatest label of a list, where a look at each tells that it is its own normal order.
+fn greatest_in_order(items: &[Named]) -> Option<&Named>
     requires { 0 < length items.now }
-    ensures { IfSome result (IsInOrder items.now) }
+    ensures { IfSome result (λ greatest. IsInOrder items.now (label_of greatest.now)) }
 {
-    let mut greatest = items[0].label();
+    let mut greatest = &items[0];
     for at in 1..items.len() {
         match greatest_with(greatest, &items[at - 1], &items[at]) {
             None => return None,
@@ -49,13 +53,12 @@ fn greatest_in_order(items: &[Named]) -> Option<Label>
     Some(greatest)
 }
 
-/// The greatest label with that of one more element, where it stays behind the others.
-fn greatest_with(greatest: Label, last: &Named, x: &Named) -> Option<Label>
-    ensures { IfSome result (StaysLast greatest last.now x.now) }
+/// The element with the greatest label, with one more, where that stays behind the others.
+fn greatest_with<'a>(greatest: &'a Named, last: &Named, x: &'a Named) -> Option<&'a Named>
+    ensures { IfSome result (λ more. StaysLast (label_of greatest.now) last.now x.now (label_of more.now)) }
 {
-    let label = x.label();
-    if !is_less(&label, &greatest) {
-        return Some(label);
+    if !has_less_label(x, greatest) {
+        return Some(x);
     }
     if can_swap(last, x) {
         return None;

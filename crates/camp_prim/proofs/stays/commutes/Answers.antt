@@ -10,5 +10,5 @@ returns-in-None c = record {
 pub returns-in-Some : goal.returns-in-Some
 returns-in-Some c = record {
   exact =
-      (λ yes. swap_made c.args.p.now c.args.q.now c.in-Some.field-0 (told_not _ c.if-have_same_key.false c.have_same_key.ensures) c.in-Some.ensures, λ w. refl);
+      (λ yes. swap_made c.args.p.now c.args.q.now c.in-Some.field-0 (told_not _ c.if-have_same_key.false c.have_same_key.ensures.exact) c.in-Some.ensures, λ w. refl);
 }

@@ -1,0 +1,14 @@
+-- What a path keeps beside its bytes: the number that the last of them spell.
+use Rattle.std.specs.Prelude.{◌≡◌, ℕ, ◌-◌, IsTrue, List, length, drop}
+use Rattle.camp_base.specs.Bytes.{is_path}
+use Rattle.camp_base.specs.Inside.NameFields.{spelt}
+use Rattle.camp_base.specs.declared.paths.Path.TheInside.{Inside}
+
+-- the last eight bytes of a list, or all where there are fewer
+abbrev pub last_eight : List ℕ → List ℕ
+last_eight bytes = drop (length bytes - 8) bytes
+
+-- the bytes are a path, and the number is that of the last eight
+pub record IsKept (path : Inside) : Type 0 where
+  pub form : IsTrue (is_path path.bytes.items)
+  pub tail : path.tail ≡ spelt 8 0 (last_eight path.bytes.items)
