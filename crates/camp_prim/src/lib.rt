@@ -15,9 +15,7 @@ mod swaps;
 pub use effect::{applied_is_applies, inverse_leads_back};
 pub use exchanges::exchange;
 pub use hunks::Hunk;
-pub use labels::{
-    Key, Label, has_less_label, have_same_key, keys_are_ordered, labels_are_ordered,
-};
+pub use labels::{Key, Label, has_less_label, have_same_key, keys_are_ordered, labels_are_ordered};
 pub use named::Named;
 pub use primitives::Primitive;
 pub use sides::Lines;

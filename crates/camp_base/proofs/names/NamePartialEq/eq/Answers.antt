@@ -1,4 +1,4 @@
-use Rattle.camp_base.proofs.Words.{ap, ◌∙◌, sym, length, subst}
+use Rattle.camp_base.proofs.Words.{length, subst}
 use Rattle.std.specs.Prelude.{◌≤◌}
 use Rattle.camp_base.proofs.NameLemmas.{differ_by_heads, same_by_heads}
 use Rattle.camp_base.proofs.names.NamePartialEq.eq.Goals as goal
@@ -14,5 +14,5 @@ returns-then-bytes-le8-2 c =
     let mine = c.head-head.ensures in
     let others = c.head-other_head.ensures in
     same_by_heads c.args.self.now c.args.other.now _ _ mine.form others.form mine.value others.value c.if-head-other_head.false
-        (subst (λ name. length name ≤ 8) c.bytes.ensures.value c.if-bytes-le8.true)
-        (subst (λ name. length name ≤ 8) c.bytes-then-bytes-le8.ensures.value c.if-bytes-le8-2.true)
+    (subst (λ name. length name ≤ 8) c.bytes.ensures.value c.if-bytes-le8.true)
+    (subst (λ name. length name ≤ 8) c.bytes-then-bytes-le8.ensures.value c.if-bytes-le8-2.true)
