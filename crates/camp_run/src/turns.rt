@@ -8,7 +8,7 @@ use std::time::{Clock, Duration};
 
 /// So many microseconds the client that comes next sleeps between two looks. The second one sleeps four times as
 /// long, the third one nine times, and so on.
-const PAUSE: u64 = 60;
+const PAUSE: u64 = 30;
 /// From this place on all sleep so long.
 const MOST_TIMES: u64 = 8;
 /// So often a client looks at most.
