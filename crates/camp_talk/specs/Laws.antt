@@ -1,5 +1,5 @@
 -- The laws of answers, and of what is loaded.
-use Rattle.std.specs.Prelude.{◌≡◌, ◌≢◌, ◌↔◌, ◌⊎◌, ◌<◌, ◌≤◌, ◌^◌, ℕ, true, List, [], ◌∷◌, ◌++◌, length, map, Option, Some, Result, Ok, Err}
+use Rattle.std.specs.Prelude.{◌≡◌, ◌≢◌, ◌↔◌, ◌⊎◌, ◌<◌, ◌≤◌, ◌^◌, ℕ, true, false, List, [], ◌∷◌, ◌++◌, length, map, take, Option, Some, Result, Ok, Err, codes}
 use Rattle.std.specs.Fmt.{decimal}
 use Rattle.std.specs.List.{All, AllByRecursion}
 use Rattle.camp_base.specs.Signs.{newline, space}
@@ -18,23 +18,25 @@ use Rattle.camp_script.specs.Keeping.{calls_of, kept_text}
 use Rattle.camp_script.specs.Lines.{lines_of}
 use Rattle.camp_script.specs.Texts.{reply_text}
 use Rattle.camp_script.specs.declared.faults.LineFault.{LineFault}
+use Rattle.camp_talk.specs.Accounts.{Account}
 use Rattle.camp_talk.specs.Against.{call_about, sides_text, target}
 use Rattle.camp_talk.specs.Answers.{Answers, Standing, memory_text}
 use Rattle.camp_talk.specs.Asking.{asked_by}
-use Rattle.camp_talk.specs.Cutting.{longest_read}
+use Rattle.camp_talk.specs.Cutting.{lines_in, longest_read}
 use Rattle.camp_talk.specs.Dialogues.{Leads}
 use Rattle.camp_talk.specs.Entries.{Entries}
 use Rattle.camp_talk.specs.Frames.{Counter, ServesAt, ServesInTurn}
 use Rattle.camp_talk.specs.Loads.{Loads, tells_failure}
-use Rattle.camp_talk.specs.Refusals.{cure, reason_of, saying}
+use Rattle.camp_talk.specs.Refusals.{reason_of, saying}
 use Rattle.camp_talk.specs.Told.{counted}
-use Rattle.camp_talk.specs.Whys.{against_text, cause_of, cause_text}
+use Rattle.camp_talk.specs.Whys.{cause_found, cause_of, cause_text, comes_of_another, cure_at, cut_text, hint_text, line_at, most_shown, refusal_told, rule, word_text}
 use Rattle.camp_talk.specs.declared.faults.LoadFault.TheVariants.{Answer, Memory, Talk}
 use Rattle.camp_talk.specs.declared.faults.LoadFault.{LoadFault}
 use Rattle.camp_talk.specs.declared.questions.Asked.TheVariants as asked
 use Rattle.camp_talk.specs.declared.questions.Asked.{Asked}
 use Rattle.camp_why.specs.Causes.{IsSo, refusal_by}
 use Rattle.camp_why.specs.Grounds.{IsGround}
+use Rattle.camp_why.specs.Hints.{hint}
 use Rattle.camp_why.specs.Laws.{IsInRange, wants_cause}
 use Rattle.camp_why.specs.declared.causes.Cause.{Cause}
 
@@ -95,14 +97,15 @@ pub record NamesCause (state : Contents) (call : Call) (refusal : Refusal) (line
   pub of : refusal_by cause ≡ refusal
   pub is_so : IsSo state call cause
   pub tells : lines ≡ reply_text (Refused refusal) ++ saying (reason_of refusal)
-      ++ (sides_text (Some (call_about call)) (target (asked.Call call)) ++ cause_text cause) ++ cure (reason_of refusal)
+      ++ (sides_text (Some (call_about call)) (target (asked.Call call)) ++ cause_text cause)
+      ++ cure_at state (asked.Call call) (Some cause) (reason_of refusal)
 
 -- where a command asks a call that a state refuses with a limit or for its changes, the lines behind it name a cause
 abbrev pub CausesAreTold : Type 0
 CausesAreTold =
-    (before : List ℕ) (state : Contents) (command : List ℕ) (call : Call) (refusal : Refusal) → IsLawfulState state → IsCall call →
+    (before : Account) (state : Contents) (command : List ℕ) (call : Call) (refusal : Refusal) → IsLawfulState state → IsCall call →
     IsInRange call → asked_by command ≡ Ok (asked.Call call) → step state call ≡ refused refusal →
-    wants_cause call refusal ≡ true → NamesCause state call refusal (cause_of before state command (reply_text (Refused refusal)))
+    wants_cause call refusal ≡ true → NamesCause state call refusal (cause_of before state command (reply_text (Refused refusal))).told
 
 -- the names in a refusal
 abbrev pub names_in : Refusal → List (List ℕ)
@@ -122,12 +125,27 @@ names_in (refusal.SameBranch branch) = branch ∷ []
 -- branches the call names, what is there and what is not, and what can be done
 pub record TellsRefusal (state : Contents) (call : Call) (refusal : Refusal) (lines : List ℕ) : Type 0 where
   pub ground : IsGround state call refusal
-  pub tells : lines ≡ reply_text (Refused refusal) ++ saying (reason_of refusal)
-      ++ against_text state (asked.Call call) (reason_of refusal) ++ cure (reason_of refusal)
+  pub tells : lines ≡ refusal_told state (asked.Call call) (reply_text (Refused refusal))
+      (cause_found state (asked.Call call) (reason_of refusal)) (reason_of refusal)
 
 -- where a command asks a call that a state refuses, the lines behind it tell of the refusal
 abbrev pub RefusalsAreTold : Type 0
 RefusalsAreTold =
-    (before : List ℕ) (state : Contents) (command : List ℕ) (call : Call) (refusal : Refusal) → IsLawfulState state → IsCall call →
+    (before : Account) (state : Contents) (command : List ℕ) (call : Call) (refusal : Refusal) → IsLawfulState state → IsCall call →
     IsInRange call → AreNames (names_in refusal) → asked_by command ≡ Ok (asked.Call call) → step state call ≡ refused refusal →
-    TellsRefusal state call refusal (cause_of before state command (reply_text (Refused refusal)))
+    TellsRefusal state call refusal (cause_of before state command (reply_text (Refused refusal))).told
+
+-- lines behind a command with a fault tell of it: they are its answer, the line that has the fault, as much of it as is
+-- shown, which word is no name, what is to be seen there, and the rule
+pub record TellsFault (fault : LineFault) (command answer lines : List ℕ) : Type 0 where
+  pub line : List ℕ
+  pub is : line ≡ line_at fault.line (lines_in command)
+  pub tells : lines ≡ answer ++ codes ">" ++ take most_shown line ++ codes "\n" ++ cut_text line ++ word_text fault.kind line
+      ++ hint_text (hint fault.kind line) ++ rule fault.kind
+
+-- where a command has a fault that comes of none before it, the lines behind it tell of it
+abbrev pub FaultsAreTold : Type 0
+FaultsAreTold =
+    (before : Account) (state : Contents) (command answer : List ℕ) (fault : LineFault) → asked_by command ≡ Err fault →
+    comes_of_another before.inside fault.kind (lines_in command) ≡ false →
+    TellsFault fault command answer (cause_of before state command answer).told

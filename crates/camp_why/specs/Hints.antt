@@ -223,6 +223,28 @@ IsSeen kind line seen.MoreThanEnd = begins_end line ≡ true
 IsSeen kind line seen.OldBehindNew = begins (codes "-") line ≡ true
 IsSeen kind line seen.NoSign = begins_signed line ≡ false
 
--- so it is of each kind and each line
-abbrev pub HintsAreSeen : Type 0
-HintsAreSeen = (kind : FaultKind) (line : List ℕ) → IsSeen kind line (hint kind line)
+-- nothing of this is to be seen in a word that should be a name, or one of a command
+pub record IsPlain (word : List ℕ) : Type 0 where
+  pub returns : ends_in_return word ≡ false
+  pub strange : list_any is_strange word ≡ false
+  pub quotes : list_any is_quote word ≡ false
+  pub capitals : list_any is_capital_letter word ≡ false
+
+-- nothing is to be seen in a line with a fault of a kind
+abbrev pub ShowsNothing : FaultKind → List ℕ → Type 0
+ShowsNothing UnknownCommand line = IsPlain (command_word line)
+ShowsNothing BadGroup line = IsPlain (first_word (words_of line))
+ShowsNothing BadName line = IsPlain (misnamed (words_of line))
+ShowsNothing WrongNumberOfWords line =
+    (list_any is_return (words_of line) ≡ false) × (list_any begins_quoted (words_of line) ≡ false)
+ShowsNothing BadPath line = (ends_in_return (path_word line) ≡ false) × (list_any is_strange (path_word line) ≡ false)
+ShowsNothing BadNumber line =
+    (is_end line ≡ false) × (ends_in_return (number_word line) ≡ false) × (is_zero (number_word line) ≡ false)
+ShowsNothing BadLine line = is_cut line ≡ false
+ShowsNothing BadEdit line = begins (codes "+") line ≡ true
+ShowsNothing other line = Unit {0}
+
+-- so it is of each kind and each line; and where nothing is told, nothing is to be seen
+pub record HintsAreSeen : Type 0 where
+  pub told : (kind : FaultKind) (line : List ℕ) → IsSeen kind line (hint kind line)
+  pub none : (kind : FaultKind) (line : List ℕ) → hint kind line ≡ seen.Nothing → ShowsNothing kind line

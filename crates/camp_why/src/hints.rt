@@ -215,9 +215,9 @@ fn call_word(line: &[u8]) -> &[u8]
     first_word(line)
 }
 
-// The line of a call: what stands behind `whatif`, or else the whole line.
-fn call_part(line: &[u8]) -> &[u8]
-    ensures { result.now ≡ call_part line.now }
+/// The line of a call: what stands behind `whatif`, or else the whole line.
+pub fn call_part(line: &[u8]) -> &[u8]
+    ensures exact { result.now ≡ call_part line.now }
 {
     if begins_with(line, b"whatif") {
         return behind_word(line);
@@ -225,9 +225,9 @@ fn call_part(line: &[u8]) -> &[u8]
     line
 }
 
-/// The word of a line that should be a path: in the line of an edit the last but one, and else the last.
-pub fn path_word(line: &[u8]) -> &[u8]
-    ensures exact { result.now ≡ path_word line.now }
+// The word of a line that should be a path: in the line of an edit the last but one, and else the last.
+fn path_word(line: &[u8]) -> &[u8]
+    ensures { result.now ≡ path_word line.now }
 {
     let (before, last) = last_words(line);
     if begins_edit(call_part(line)) {
@@ -236,9 +236,9 @@ pub fn path_word(line: &[u8]) -> &[u8]
     last
 }
 
-/// The word of a line that should be a number: the last.
-pub fn number_word(line: &[u8]) -> &[u8]
-    ensures exact { result.now ≡ number_word line.now }
+// The word of a line that should be a number: the last.
+fn number_word(line: &[u8]) -> &[u8]
+    ensures { result.now ≡ number_word line.now }
 {
     last_words(line).1
 }
