@@ -1,8 +1,8 @@
 -- The causes that are told.
 use Rattle.std.proofs.lemmas.Fmt.{decimal_digit, decimal_step}
 use Rattle.std.specs.Fmt.{decimal}
-use Rattle.std.specs.Prelude.{◌%◌, ◌/◌}
-use Rattle.std.specs.Prelude.{Bool, cond}
+use Rattle.std.specs.Prelude.{◌%◌, ◌/◌, Bool, cond}
+use Rattle.camp_talk.proofs.Naming.{is_named}
 use Rattle.camp_talk.proofs.Words.{◌≡◌, ◌∙◌, true, List, [], ◌∷◌, ◌+◌, ◌<◌, ◌≤◌, ◌^◌, ℕ, Ok, Option, Some, ap, append-nil, arith, codes, first_of, lines_of, words_of, refl, sym, subst, ◌++◌, true≢false, Call, reply_text, asked_by, lines_in}
 use Rattle.camp_script.specs.Texts.{line_text}
 use Rattle.camp_call.specs.declared.replies.Refusal.{Refusal}
@@ -119,6 +119,7 @@ causes_told before state command call refused lawful is range asks comes wants =
 pub refusals_told : RefusalsAreTold
 refusals_told before state command call refused lawful is range are_names asks comes = record {
   ground = have_grounds state call refused lawful is range comes;
+  named = is_named state call refused (have_grounds state call refused lawful is range comes);
   tells = ap (λ reading. (cause_with before state (lines_in command) reading (reply_text (Refused refused))).told) asks
       ∙ ap (refusal_lines state (asked.Call call) (reply_text (Refused refused))) (reason_of_answer refused are_names);
 }

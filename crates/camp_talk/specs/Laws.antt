@@ -19,7 +19,7 @@ use Rattle.camp_script.specs.Lines.{lines_of}
 use Rattle.camp_script.specs.Texts.{reply_text}
 use Rattle.camp_script.specs.declared.faults.LineFault.{LineFault}
 use Rattle.camp_talk.specs.Accounts.{Account}
-use Rattle.camp_talk.specs.Against.{call_about, sides_text, target}
+use Rattle.camp_talk.specs.Against.{absent_sides, call_about, lack_text, lacked_text, no_branch_text, sides_text, target}
 use Rattle.camp_talk.specs.Answers.{Answers, Standing, memory_text}
 use Rattle.camp_talk.specs.Asking.{asked_by}
 use Rattle.camp_talk.specs.Cutting.{lines_in, longest_read}
@@ -121,10 +121,20 @@ names_in (refusal.Diverged name) = name ∷ []
 names_in (refusal.NoMerge left right) = left ∷ right ∷ []
 names_in (refusal.SameBranch branch) = branch ∷ []
 
+-- what is told of a refusal is about the name in it: that there is no such branch, or that a branch lacks this patch
+abbrev pub TellsName : Contents → Call → Refusal → Type 0
+TellsName state call (refusal.NoBranch name) =
+    (front : List ℕ) × (back : List ℕ)
+    × (absent_sides state (Some (call_about call)) (target (asked.Call call)) ≡ front ++ no_branch_text name ++ back)
+TellsName state call (refusal.NoPatch name) =
+    lacked_text state (asked.Call call) (Some (call_about call)) ≡ lack_text state (call_about call).1 (Some name)
+TellsName state call other = Unit {0}
+
 -- lines behind a refusal of a call tell of it: what it says is so, and they are its answer, what its number says, which
 -- branches the call names, what is there and what is not, and what can be done
 pub record TellsRefusal (state : Contents) (call : Call) (refusal : Refusal) (lines : List ℕ) : Type 0 where
   pub ground : IsGround state call refusal
+  pub named : TellsName state call refusal
   pub tells : lines ≡ refusal_told state (asked.Call call) (reply_text (Refused refusal))
       (cause_found state (asked.Call call) (reason_of refusal)) (reason_of refusal)
 

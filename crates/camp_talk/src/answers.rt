@@ -13,11 +13,11 @@ ghost use Rattle.camp_talk.specs.Whys.{is_failure};
 ghost use Rattle.camp_talk.specs.declared.questions.Asked.{Asked as SaidAsked};
 
 use crate::accounts::leaves_place;
-use crate::{Account, TalkFault};
 use crate::questions::Asked;
 use crate::readings::Command;
 use crate::tellings::answer_question;
 use crate::told_whys::{cause_of, is_failure, tell_why};
+use crate::{Account, TalkFault};
 use camp_object::Fault;
 use camp_repo::{Book, Call, Object, Reply, State};
 use camp_script::{FaultKind, ScriptFault, append_reply, write_text};

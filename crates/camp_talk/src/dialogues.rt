@@ -3,8 +3,8 @@ ghost use Rattle.std.specs.Prelude.{◌≡◌, ◌-◌, ◌^◌, ◌<◌, Bool, 
 ghost use Rattle.camp_talk.specs.Dialogues.{TakesTurns};
 ghost use Rattle.camp_talk.specs.Talks.{Turns};
 
-use crate::{Account, TalkFault};
 use crate::talks::turn;
+use crate::{Account, TalkFault};
 use camp_repo::{Book, State};
 use std::alloc::Global;
 use std::io::{BufRead, Write};

@@ -4,8 +4,8 @@ ghost use Rattle.camp_talk.specs.Inside.Hearing.{LoadsOne};
 ghost use Rattle.camp_talk.specs.Loads.{Loads, tells_failure};
 ghost use Rattle.camp_talk.specs.Talks.{HasRisen};
 
-use crate::{Account, LoadFault};
 use crate::talks::{Heard, hear};
+use crate::{Account, LoadFault};
 use camp_repo::{Book, State};
 use std::alloc::Global;
 use std::io::BufRead;

@@ -3,8 +3,8 @@ ghost use Rattle.std.specs.Prelude.{◌≡◌, ◌++◌, List, IfErr, IfOk, ℕ}
 ghost use Rattle.camp_talk.specs.Inside.Said.{IsNotWriting};
 ghost use Rattle.camp_talk.specs.Requests.{AnswersRequest, AnswersSome};
 
-use crate::{Account, TalkFault};
 use crate::talks::turn;
+use crate::{Account, TalkFault};
 use camp_repo::{Book, State};
 use std::alloc::Global;
 

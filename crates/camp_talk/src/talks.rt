@@ -3,9 +3,9 @@ ghost use Rattle.std.specs.Prelude.{◌≡◌, ◌+◌, true, IfOk, IfErr};
 ghost use Rattle.camp_talk.specs.Inside.Hearing.{Hears};
 ghost use Rattle.camp_talk.specs.Talks.{HasRisen, ReadsNone, Turns};
 
-use crate::{Account, TalkFault};
 use crate::answers::{respond, write_said};
 use crate::readings::{count_lines, read_command};
+use crate::{Account, TalkFault};
 use camp_repo::{Book, State};
 use std::alloc::{AllocError, Global};
 use std::io::{BufRead, Write};

@@ -234,9 +234,7 @@ fn cause_text(alloc: Global, cause: &Cause) -> Result<Vec<u8>, AllocError>
 {
     match cause {
         Cause::FullRepository(count) => {
-            let text = format!(in alloc;
-                "There are {count} branches, and 256 is the most.\n"
-            )?;
+            let text = format!(in alloc; "There are {count} branches, and 256 is the most.\n")?;
             Ok(text.into_bytes())
         }
         Cause::FullBranch { has, more } => two_numbers(

@@ -18,7 +18,7 @@ loop-held-init g c = (
       (subst (λ (cause : Account). Goes g.D.Disk.seen g.D.Disk.may_leave a a now now c.new-held.result.answers.items (at kept.book 0 no_account) (at kept.book 0 cause) kept)
       (sym c.new-held.ensures.cause)
       (subst (λ (held : List ℕ). Goes g.D.Disk.seen g.D.Disk.may_leave a a now now held (at kept.book 0 no_account) (at kept.book 0 no_account) kept)
-      (sym c.new-held.ensures.none) (begins g.D.Disk.seen g.D.Disk.may_leave a now now (at kept.book 0 no_account) kept 0 [] holds))),
+      (sym c.new-held.ensures.none) (begins g.D.Disk.seen g.D.Disk.may_leave a now now (at kept.book 0 no_account) kept 0 no_account holds))),
   refl,
 )
 
