@@ -25,20 +25,24 @@ told_absent state branch name same none =
 -- of the branch that a call is about
 told_about : (state : Contents) (call : Call) (name : List ℕ) → (call_about call).1 ≡ name → catches_of state.branches name ≡ None
     → TellsName state call (refusal.NoBranch name)
-told_about state call name same none =
-    ([], option_map_or (absent_text state) (other_target (Some (call_about call)) (target (asked.Call call))) [],
-    ap (λ (text : List ℕ). text ++ option_map_or (absent_text state) (other_target (Some (call_about call)) (target (asked.Call call))) [])
-    (told_absent state (call_about call).1 name same none))
+told_about state call name same none = (
+  [],
+  option_map_or (absent_text state) (other_target (Some (call_about call)) (target (asked.Call call))) [],
+  ap (λ (text : List ℕ). text ++ option_map_or (absent_text state) (other_target (Some (call_about call)) (target (asked.Call call))) [])
+      (told_absent state (call_about call).1 name same none),
+)
 
 -- of the branch TO, if it is another one
 told_target : (state : Contents) (from to name : List ℕ) (names : Option (List (List ℕ))) → to ≡ name → catches_of state.branches name ≡ None
     → (alike : Bool) → bytes_eq from to ≡ alike → TellsName state (call.Pull from to names) (refusal.NoBranch name)
 told_target state from to name names same none true is =
     told_about state (call.Pull from to names) name ((bytes_eq-Decides from to).0 is ∙ same) none
-told_target state from to name names same none false is =
-    (absent_text state from, [],
-    ap (λ (alike : Bool). absent_text state from ++ option_map_or (absent_text state) (cond alike None (Some to)) []) is
-    ∙ ap (λ (text : List ℕ). absent_text state from ++ text) (told_absent state to name same none ∙ sym (append-nil (no_branch_text name))))
+told_target state from to name names same none false is = (
+  absent_text state from,
+  [],
+  ap (λ (alike : Bool). absent_text state from ++ option_map_or (absent_text state) (cond alike None (Some to)) []) is
+      ∙ ap (λ (text : List ℕ). absent_text state from ++ text) (told_absent state to name same none ∙ sym (append-nil (no_branch_text name))),
+)
 
 branch_named : (state : Contents) (call : Call) (name : List ℕ) → LacksBranch state call name → TellsName state call (refusal.NoBranch name)
 branch_named state (call.Branch new from) name (same, none) = told_about state (call.Branch new from) name same none

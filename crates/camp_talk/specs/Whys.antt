@@ -2,7 +2,7 @@
 use Rattle.std.specs.Prelude.{ℕ, ◌-◌, Bool, true, false, ◌||◌, ◌&&◌, ◌==◌, List, [], ◌∷◌, ◌++◌, length, drop, take, nat_lt, Option, None, Some, Result, Ok, Err, bytes_eq, codes, if◌then◌else◌}
 use Rattle.std.specs.Char.{is_ascii_whitespace}
 use Rattle.std.specs.Fmt.{decimal}
-use Rattle.std.specs.List.{list_any, suffix_len}
+use Rattle.std.specs.List.{suffix_len}
 use Rattle.camp_call.specs.declared.calls.Call.{Call}
 use Rattle.camp_call.specs.declared.replies.Refusal.TheVariants as refusal
 use Rattle.camp_repo.specs.States.{Contents}
@@ -168,7 +168,7 @@ two_numbers front first middle second back = front ++ decimal first ++ middle ++
 abbrev pub lacks_text : ℕ → Option (List ℕ) → List ℕ
 lacks_text at None = []
 lacks_text at (Some line) =
-    codes "There is no line " ++ decimal at ++ codes ", and there the edit takes away\n-" ++ line ++ codes "\n"
+    codes "There is no line " ++ decimal at ++ codes ", where the edit takes away\n-" ++ line ++ codes "\n"
 
 -- why a change does not apply: what is there, and what was expected
 abbrev pub misfit_text : Misfit → List ℕ
@@ -288,9 +288,18 @@ is_longer word =
     bytes_eq word (codes "edit") || (bytes_eq word (codes "Edit") || (bytes_eq word (codes "group")
     || (bytes_eq word (codes "group\r") || bytes_eq word (codes "Group"))))
 
+-- whether a word of a record says that none do
+abbrev pub is_short : List ℕ → Bool
+is_short word = bytes_eq word (codes "add") || bytes_eq word (codes "remove")
+
+-- whether the first of some words that says either says that lines follow
+abbrev pub announces : List (List ℕ) → Bool
+announces [] = false
+announces (word ∷ words) = if is_longer word then true else (if is_short word then false else announces words)
+
 -- whether the lines of a body or a group may follow a line, by the words of its call from the fourth on
 abbrev pub is_head : List ℕ → Bool
-is_head line = list_any is_longer (words_of (behind_word (behind_word (behind_word (call_part line)))))
+is_head line = announces (words_of (behind_word (behind_word (behind_word (call_part line)))))
 
 -- whether a fault is one in the first line of a command, and lines of a body or a group may follow that
 abbrev pub cuts_off : ℕ → List (List ℕ) → Bool

@@ -1,7 +1,7 @@
 //! Why a command with a fault was not done.
 ghost use Rattle.std.specs.Prelude.{◌≡◌, ◌++◌, IfOk, take};
-ghost use Rattle.camp_script.specs.Lines.{lines_of};
-ghost use Rattle.camp_talk.specs.Whys.{body_rule, comes_of_another, cut_text, cuts_off, fault_cause, fault_lines, hint_text, is_head, is_inner, is_longer, line_at, misnamed_text, most_shown, no_name_text, rule, word_text};
+ghost use Rattle.camp_script.specs.Lines.{lines_of, words_of};
+ghost use Rattle.camp_talk.specs.Whys.{announces, body_rule, comes_of_another, cut_text, cuts_off, fault_cause, fault_lines, hint_text, is_head, is_inner, is_longer, is_short, line_at, misnamed_text, most_shown, no_name_text, rule, word_text};
 
 use crate::Account;
 use crate::asking::first_line;
@@ -71,13 +71,29 @@ fn cuts_off(number: u64, command: &[u8]) -> bool
 fn is_head(line: &[u8]) -> bool
     ensures { result ≡ is_head line.now }
 {
-    let behind_name = behind_word(behind_word(behind_word(call_part(line))));
-    for word in Words::new(behind_name) {
+    announces(behind_word(behind_word(behind_word(call_part(line)))))
+}
+
+// Whether the first word of a line that says whether lines follow says that they do.
+fn announces(line: &[u8]) -> bool
+    ensures { result ≡ announces (words_of line.now) }
+{
+    for word in Words::new(line) {
         if is_longer(word) {
             return true;
         }
+        if is_short(word) {
+            return false;
+        }
     }
     false
+}
+
+// Whether a word of a record says that no lines follow.
+fn is_short(word: &[u8]) -> bool
+    ensures { result ≡ is_short word.now }
+{
+    word == b"add".as_slice() || word == b"remove".as_slice()
 }
 
 // Whether a word of a record says that lines follow.

@@ -405,7 +405,7 @@ fn append_lacked(text: &mut Vec<u8>, at: usize, lacks: &Option<Line>) -> Result<
     };
     text.extend_from_slice(b"There is no line ")?;
     append_number(text, at)?;
-    text.extend_from_slice(b", and there the edit takes away\n-")?;
+    text.extend_from_slice(b", where the edit takes away\n-")?;
     text.extend_from_slice(line.bytes())?;
     text.push(b'\n')?;
     Ok(())
