@@ -14,7 +14,7 @@ use Rattle.camp_talk.specs.Against.{call_about, sides_text, target}
 use Rattle.camp_talk.specs.Asking.{reason_at}
 use Rattle.camp_talk.specs.Laws.{CausesAreTold, FaultsAreTold, NamesCause, RefusalsAreTold, names_in}
 use Rattle.camp_talk.specs.Refusals.{reason_of, saying}
-use Rattle.camp_talk.specs.Whys.{cause_of, cause_with, cure_at, cuts_off, fault_lines, found_text, line_at, reason_in, refusal_lines}
+use Rattle.camp_talk.specs.Whys.{cause_of, cause_with, cure_at, cuts_off, fault_lines, found_text, line_at, reason_in, refusal_lines, shown_line}
 use Rattle.camp_talk.specs.declared.questions.Asked.TheVariants as asked
 use Rattle.camp_talk.specs.declared.questions.Reason.{Reason}
 use Rattle.camp_talk.specs.declared.questions.Reason.TheVariants as reason
@@ -83,22 +83,22 @@ by_cause (Stops stop) = by_hindrance stop.why
 
 module _ (before : Account) (state : Contents) (command : List ℕ) (call : Call) (asks : asked_by command ≡ Ok (asked.Call call)) (cause : Cause) (is_so : IsSo state call cause) where
   named : (refused : Refusal) → is_of_changes refused ≡ true → explained state call refused ≡ Some cause → refusal_by cause ≡ refused
-      → NamesCause state call refused (cause_of before state command (reply_text (Refused refused))).told
+      → NamesCause state call refused (first_of (lines_in command)) (cause_of before state command (reply_text (Refused refused))).told
   named refusal.TooLarge is told of = record {
     cause = cause;
     of = of;
     is_so = is_so;
     tells = ap (λ reading. (cause_with before state (lines_in command) reading (reply_text (Refused refusal.TooLarge))).told) asks
-        ∙ ap (refusal_lines state (asked.Call call) (reply_text (Refused refusal.TooLarge))) (reason_of_answer refusal.TooLarge tt)
-        ∙ ap (λ found. reply_text (Refused refusal.TooLarge) ++ saying reason.TooLarge ++ (sides_text (Some (call_about call)) (target (asked.Call call)) ++ found_text found) ++ cure_at state (asked.Call call) found reason.TooLarge) told;
+        ∙ ap (refusal_lines state (asked.Call call) (first_of (lines_in command)) (reply_text (Refused refusal.TooLarge))) (reason_of_answer refusal.TooLarge tt)
+        ∙ ap (λ found. reply_text (Refused refusal.TooLarge) ++ shown_line (first_of (lines_in command)) ++ saying reason.TooLarge ++ (sides_text (Some (call_about call)) (target (asked.Call call)) ++ found_text found) ++ cure_at state (asked.Call call) found reason.TooLarge) told;
   }
   named refusal.DoesNotApply is told of = record {
     cause = cause;
     of = of;
     is_so = is_so;
     tells = ap (λ reading. (cause_with before state (lines_in command) reading (reply_text (Refused refusal.DoesNotApply))).told) asks
-        ∙ ap (refusal_lines state (asked.Call call) (reply_text (Refused refusal.DoesNotApply))) (reason_of_answer refusal.DoesNotApply tt)
-        ∙ ap (λ found. reply_text (Refused refusal.DoesNotApply) ++ saying reason.DoesNotApply ++ (sides_text (Some (call_about call)) (target (asked.Call call)) ++ found_text found) ++ cure_at state (asked.Call call) found reason.DoesNotApply) told;
+        ∙ ap (refusal_lines state (asked.Call call) (first_of (lines_in command)) (reply_text (Refused refusal.DoesNotApply))) (reason_of_answer refusal.DoesNotApply tt)
+        ∙ ap (λ found. reply_text (Refused refusal.DoesNotApply) ++ shown_line (first_of (lines_in command)) ++ saying reason.DoesNotApply ++ (sides_text (Some (call_about call)) (target (asked.Call call)) ++ found_text found) ++ cure_at state (asked.Call call) found reason.DoesNotApply) told;
   }
   named (refusal.NoBranch branch) is told of = absurd (true≢false (sym is))
   named (refusal.BranchExists branch) is told of = absurd (true≢false (sym is))
@@ -121,7 +121,7 @@ refusals_told before state command call refused lawful is range are_names asks c
   ground = have_grounds state call refused lawful is range comes;
   named = is_named state call refused (have_grounds state call refused lawful is range comes);
   tells = ap (λ reading. (cause_with before state (lines_in command) reading (reply_text (Refused refused))).told) asks
-      ∙ ap (refusal_lines state (asked.Call call) (reply_text (Refused refused))) (reason_of_answer refused are_names);
+      ∙ ap (refusal_lines state (asked.Call call) (first_of (lines_in command)) (reply_text (Refused refused))) (reason_of_answer refused are_names);
 }
 
 pub faults_told : FaultsAreTold

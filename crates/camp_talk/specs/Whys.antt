@@ -122,6 +122,10 @@ abbrev pub cut_text : List ℕ → List ℕ
 cut_text line =
     if nat_lt most_shown (length line) then page (codes "Its first 200 bytes are shown, and it has more." ∷ []) else []
 
+-- a line behind `>`, as much of it as is shown
+abbrev pub shown_line : List ℕ → List ℕ
+shown_line line = codes ">" ++ take most_shown line ++ codes "\n" ++ cut_text line
+
 -- that a word is no name
 abbrev pub no_name_text : List ℕ → List ℕ
 no_name_text word = codes "This is no name: " ++ word ++ codes "\n"
@@ -136,11 +140,10 @@ abbrev pub word_text : FaultKind → List ℕ → List ℕ
 word_text kind.BadName line = misnamed_text (misnamed (words_of line))
 word_text other line = []
 
--- the answer, the line behind `>`, the word that has the fault, what is to be seen there, the rule, and what to write
+-- the answer, the line, the word that has the fault, what is to be seen there, the rule, and what to write
 abbrev pub fault_lines : FaultKind → List ℕ → List ℕ → List ℕ
 fault_lines kind line answer =
-    answer ++ codes ">" ++ take most_shown line ++ codes "\n" ++ cut_text line ++ word_text kind line
-    ++ hint_text (hint kind line) ++ rule kind
+    answer ++ shown_line line ++ word_text kind line ++ hint_text (hint kind line) ++ rule kind
 
 -- ---- of a command that is refused
 
@@ -263,15 +266,16 @@ cure_at state asked found reason.TooLarge = found_cure found
 cure_at state asked found reason.Depends = depends_cure asked
 cure_at state asked found other = cure other
 
--- the answer, what it says, what stands against the command, and what can be done
-abbrev pub refusal_told : Contents → Asked → List ℕ → Option Cause → Reason → List ℕ
-refusal_told state asked answer found reason =
-    answer ++ saying reason ++ against_text state asked found reason ++ cure_at state asked found reason
+-- the answer, the first line of the command, what the answer says, what stands against the command, and what can be done
+abbrev pub refusal_told : Contents → Asked → List ℕ → List ℕ → Option Cause → Reason → List ℕ
+refusal_told state asked line answer found reason =
+    answer ++ shown_line line ++ saying reason ++ against_text state asked found reason ++ cure_at state asked found reason
 
 -- the same by its reason; an answer that has none is told alone
-abbrev pub refusal_lines : Contents → Asked → List ℕ → Option Reason → List ℕ
-refusal_lines state asked answer None = answer
-refusal_lines state asked answer (Some reason) = refusal_told state asked answer (cause_found state asked reason) reason
+abbrev pub refusal_lines : Contents → Asked → List ℕ → List ℕ → Option Reason → List ℕ
+refusal_lines state asked line answer None = answer
+refusal_lines state asked line answer (Some reason) =
+    refusal_told state asked line answer (cause_found state asked reason) reason
 
 -- ---- of any
 
@@ -326,8 +330,10 @@ fault_cause before fault lines answer =
 -- what is kept of a command that is not done, by what was kept before, the state, its lines, what it asks and its answer
 abbrev pub cause_with : Account → Contents → List (List ℕ) → Result Asked LineFault → List ℕ → Account
 cause_with before state lines (Err fault) answer = fault_cause before fault lines answer
-cause_with before state lines (Ok asked) answer =
-    record { told = refusal_lines state asked answer (reason_in (words_of (first_of (lines_of answer)))); inside = false }
+cause_with before state lines (Ok asked) answer = record {
+  told = refusal_lines state asked (first_of lines) answer (reason_in (words_of (first_of (lines_of answer))));
+  inside = false;
+}
 
 -- by the state, the command and its answer
 abbrev pub cause_of : Account → Contents → List ℕ → List ℕ → Account

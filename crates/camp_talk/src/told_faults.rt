@@ -1,7 +1,7 @@
 //! Why a command with a fault was not done.
 ghost use Rattle.std.specs.Prelude.{◌≡◌, ◌++◌, IfOk, take};
 ghost use Rattle.camp_script.specs.Lines.{lines_of, words_of};
-ghost use Rattle.camp_talk.specs.Whys.{announces, body_rule, comes_of_another, cut_text, cuts_off, fault_cause, fault_lines, hint_text, is_head, is_inner, is_longer, is_short, line_at, misnamed_text, most_shown, no_name_text, rule, word_text};
+ghost use Rattle.camp_talk.specs.Whys.{announces, body_rule, comes_of_another, cut_text, cuts_off, fault_cause, fault_lines, hint_text, is_head, is_inner, is_longer, is_short, line_at, misnamed_text, most_shown, no_name_text, rule, shown_line, word_text};
 
 use crate::Account;
 use crate::asking::first_line;
@@ -131,14 +131,22 @@ fn fault_lines(
     ensures { IfOk result (λ text. text.items ≡ fault_lines kind line.now answer.now) }
 {
     let mut text = Vec::from_slice(alloc, answer)?;
-    text.push(b'>')?;
-    text.extend_from_slice(shown(line))?;
-    text.push(b'\n')?;
-    text.extend_from_slice(cut_text(line).as_bytes())?;
+    append_line(&mut text, line)?;
     append_word(&mut text, kind, line)?;
     text.extend_from_slice(hint_text(look_at(kind, line)).as_bytes())?;
     text.extend_from_slice(rule(kind).as_bytes())?;
     Ok(text)
+}
+
+/// Appends a line behind `>`, as much of it as is shown.
+pub(crate) fn append_line(text: &mut Vec<u8>, line: &[u8]) -> Result<(), AllocError>
+    ensures { IfOk result (λ _. text.new.items ≡ text.old.items ++ shown_line line.now) }
+{
+    text.push(b'>')?;
+    text.extend_from_slice(shown(line))?;
+    text.push(b'\n')?;
+    text.extend_from_slice(cut_text(line).as_bytes())?;
+    Ok(())
 }
 
 // The front of a line, as much as is shown.

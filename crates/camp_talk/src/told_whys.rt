@@ -18,7 +18,7 @@ use crate::told_against::{
     depends_cure, record_cure, tell_absent, tell_branches, tell_lacked, tell_new, tell_nothing,
     tell_recorded, tell_sides,
 };
-use crate::told_faults::fault_cause;
+use crate::told_faults::{append_line, fault_cause};
 use crate::told_refusals::{cure, saying};
 use crate::topics::reason_at;
 use camp_base::{Line, Path};
@@ -66,7 +66,8 @@ pub(crate) fn cause_of(
 {
     match asked {
         Ok(asked) => {
-            let told = refusal_lines(alloc, state, asked, answer, reason_in(answer))?;
+            let line = first_line(command);
+            let told = refusal_lines(alloc, state, asked, line, answer, reason_in(answer))?;
             Ok(Account::of(told, false))
         }
         Err(ScriptFault::Line(fault)) => fault_cause(alloc, before, fault, command, answer),
@@ -88,36 +89,39 @@ fn reason_in(answer: &[u8]) -> Option<Reason>
     }
 }
 
-// Of a command that is refused: its answer, what that says, what stands against the command, and what can be
+// Of a command that is refused: its answer, its first line, what the answer says, what stands against the command, and what can be
 // done.
 fn refusal_lines(
     alloc: Global,
     state: &State,
     asked: &Asked,
+    line: &[u8],
     answer: &[u8],
     reason: Option<Reason>,
 ) -> Result<Vec<u8>, AllocError>
-    ensures { IfOk result (λ text. text.items ≡ refusal_lines state.now asked.now answer.now reason) }
+    ensures { IfOk result (λ text. text.items ≡ refusal_lines state.now asked.now line.now answer.now reason) }
 {
     let Some(reason) = reason else {
         return Vec::from_slice(alloc, answer);
     };
     let found = cause_found(state, asked, reason)?;
-    refusal_told(alloc, state, asked, answer, &found, reason)
+    refusal_told(alloc, state, asked, line, answer, &found, reason)
 }
 
 fn refusal_told(
     alloc: Global,
     state: &State,
     asked: &Asked,
+    line: &[u8],
     answer: &[u8],
     found: &Option<Cause>,
     reason: Reason,
 ) -> Result<Vec<u8>, AllocError>
-    ensures { IfOk result (λ text. text.items ≡ refusal_told state.now asked.now answer.now found.now reason) }
+    ensures { IfOk result (λ text. text.items ≡ refusal_told state.now asked.now line.now answer.now found.now reason) }
 {
     let against = against_text(alloc, state, asked, found, reason)?;
     let mut text = Vec::from_slice(alloc, answer)?;
+    append_line(&mut text, line)?;
     text.extend_from_slice(saying(reason).as_bytes())?;
     text.extend_from_slice(&against)?;
     text.extend_from_slice(cure_at(state, asked, found, reason).as_bytes())?;
