@@ -56,9 +56,10 @@ pub(crate) fn respond(
         )?;
         return Ok(text);
     }
-    if !leaves_place(&text) {
-        cause.close();
+    if leaves_place(&text) {
+        return Ok(text);
     }
+    cause.close();
     Ok(text)
 }
 

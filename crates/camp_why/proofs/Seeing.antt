@@ -74,7 +74,7 @@ is_so kind.GroupNotEnded line = tt
 
 -- ---- where nothing is told
 
-is_nothing : Hint → Bool
+abbrev is_nothing : Hint → Bool
 is_nothing seen.Nothing = true
 is_nothing other = false
 
@@ -125,7 +125,7 @@ shows_nothing kind.BadPath line none =
 shows_nothing kind.BadNumber line none =
     let end = passed (is_end line) seen.TooFar _ refl none in
     let returns = passed (ends_in_return (number_word line)) seen.CarriageReturn _ refl end.1 in
-    (end.0, (returns.0, (passed (is_zero (number_word line)) seen.Zero seen.Nothing refl returns.1).0))
+    (end.0, returns.0, (passed (is_zero (number_word line)) seen.Zero seen.Nothing refl returns.1).0)
 shows_nothing kind.BadLine line none = (passed (is_cut line) seen.TooLong seen.Nothing refl none).0
 shows_nothing kind.BadEdit line none = new_line line none
 shows_nothing kind.EditNotEnded line none = tt
