@@ -41,7 +41,8 @@ told_target state from to name names same none false is = (
   absent_text state from,
   [],
   ap (λ (alike : Bool). absent_text state from ++ option_map_or (absent_text state) (cond alike None (Some to)) []) is
-      ∙ ap (λ (text : List ℕ). absent_text state from ++ text) (told_absent state to name same none ∙ sym (append-nil (no_branch_text name))),
+      ∙ ap (λ (text : List ℕ). absent_text state from ++ text) (told_absent state to name same none)
+      ∙ sym (append-nil (absent_text state from ++ no_branch_text name)),
 )
 
 branch_named : (state : Contents) (call : Call) (name : List ℕ) → LacksBranch state call name → TellsName state call (refusal.NoBranch name)

@@ -14,7 +14,7 @@ use Rattle.camp_talk.specs.Against.{call_about, sides_text, target}
 use Rattle.camp_talk.specs.Asking.{reason_at}
 use Rattle.camp_talk.specs.Laws.{CausesAreTold, FaultsAreTold, NamesCause, RefusalsAreTold, names_in}
 use Rattle.camp_talk.specs.Refusals.{reason_of, saying}
-use Rattle.camp_talk.specs.Whys.{cause_of, cause_with, cure_at, cuts_off, fault_lines, found_text, line_at, reason_in, refusal_lines, shown_line}
+use Rattle.camp_talk.specs.Whys.{cause_of, cause_with, cure_at, fault_account, found_text, line_at, reason_in, refusal_lines, shown_line}
 use Rattle.camp_talk.specs.declared.questions.Asked.TheVariants as asked
 use Rattle.camp_talk.specs.declared.questions.Reason.{Reason}
 use Rattle.camp_talk.specs.declared.questions.Reason.TheVariants as reason
@@ -129,5 +129,5 @@ faults_told before state command answer fault asks own = record {
   line = line_at fault.line (lines_in command);
   is = refl;
   tells = ap (λ reading. (cause_with before state (lines_in command) reading answer).told) asks
-      ∙ ap (λ (other : Bool). (cond other before (record { told = fault_lines fault.kind (line_at fault.line (lines_in command)) answer; inside = cuts_off fault.line (lines_in command) })).told) own;
+      ∙ ap (λ (other : Bool). (cond other before (fault_account fault (lines_in command) answer)).told) own;
 }

@@ -318,14 +318,18 @@ is_unknown other = false
 abbrev pub comes_of_another : Bool → FaultKind → List (List ℕ) → Bool
 comes_of_another inside kind lines = inside && (is_unknown kind && is_inner (first_word (words_of (first_of lines))))
 
+-- what is kept of a command with a fault of its own
+abbrev pub fault_account : LineFault → List (List ℕ) → List ℕ → Account
+fault_account fault lines answer = record {
+  told = fault_lines fault.kind (line_at fault.line lines) answer;
+  inside = cuts_off fault.line lines;
+}
+
 -- what is kept of a command with a fault; where that comes of a fault before it, what was kept of that one stays
 abbrev pub fault_cause : Account → LineFault → List (List ℕ) → List ℕ → Account
 fault_cause before fault lines answer =
     if comes_of_another before.inside fault.kind lines then before
-    else record {
-      told = fault_lines fault.kind (line_at fault.line lines) answer;
-      inside = cuts_off fault.line lines;
-    }
+    else fault_account fault lines answer
 
 -- what is kept of a command that is not done, by what was kept before, the state, its lines, what it asks and its answer
 abbrev pub cause_with : Account → Contents → List (List ℕ) → Result Asked LineFault → List ℕ → Account

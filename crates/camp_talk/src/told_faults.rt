@@ -1,7 +1,7 @@
 //! Why a command with a fault was not done.
 ghost use Rattle.std.specs.Prelude.{◌≡◌, ◌++◌, IfOk, take};
 ghost use Rattle.camp_script.specs.Lines.{lines_of, words_of};
-ghost use Rattle.camp_talk.specs.Whys.{announces, body_rule, comes_of_another, cut_text, cuts_off, fault_cause, fault_lines, hint_text, is_head, is_inner, is_longer, is_short, line_at, misnamed_text, most_shown, no_name_text, rule, shown_line, word_text};
+ghost use Rattle.camp_talk.specs.Whys.{announces, body_rule, comes_of_another, cut_text, cuts_off, fault_account, fault_cause, fault_lines, hint_text, is_head, is_inner, is_longer, is_short, line_at, misnamed_text, most_shown, no_name_text, rule, shown_line, word_text};
 
 use crate::Account;
 use crate::asking::first_line;
@@ -28,6 +28,18 @@ pub(crate) fn fault_cause(
     if comes_of_another(before.is_inside(), fault.kind, command) {
         return before.try_clone(alloc);
     }
+    fault_account(alloc, fault, command, answer)
+}
+
+// What is kept of a command with a fault of its own.
+fn fault_account(
+    alloc: Global,
+    fault: &LineFault,
+    command: &[u8],
+    answer: &[u8],
+) -> Result<Account, AllocError>
+    ensures { IfOk result (λ cause. cause ≡ fault_account fault.now (lines_of command.now) answer.now) }
+{
     let told = fault_lines(alloc, fault.kind, line_at(command, fault.line), answer)?;
     Ok(Account::of(told, cuts_off(fault.line, command)))
 }

@@ -396,23 +396,24 @@ fn ends_before_text(
         wants,
         " or more.\n",
     )?;
-    append_lacked(&mut text, at, lacks)?;
+    let lacked = lacks_text(alloc, at, lacks)?;
+    text.extend_from_slice(&lacked)?;
     Ok(text)
 }
 
-// Appends the old line that finds none, and the line at which it would stand.
-fn append_lacked(text: &mut Vec<u8>, at: usize, lacks: &Option<Line>) -> Result<(), AllocError>
-    ensures { IfOk result (λ _. text.new.items ≡ text.old.items ++ lacks_text at lacks.now) }
+// The old line that finds none, and the line at which it would stand.
+fn lacks_text(alloc: Global, at: usize, lacks: &Option<Line>) -> Result<Vec<u8>, AllocError>
+    ensures { IfOk result (λ text. text.items ≡ lacks_text at lacks.now) }
 {
     let Some(line) = lacks else {
-        return Ok(());
+        return Ok(Vec::new(alloc));
     };
-    text.extend_from_slice(b"There is no line ")?;
-    append_number(text, at)?;
-    text.extend_from_slice(b", where the edit takes away\n-")?;
+    let mut text = format!(in alloc;
+        "There is no line {at}, where the edit takes away\n-"
+    )?.into_bytes();
     text.extend_from_slice(line.bytes())?;
     text.push(b'\n')?;
-    Ok(())
+    Ok(text)
 }
 
 // That another line stands there than an edit takes away.
