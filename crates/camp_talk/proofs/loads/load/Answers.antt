@@ -1,5 +1,5 @@
 use Rattle.camp_talk.specs.Accounts.{Account, no_account}
-use Rattle.camp_talk.proofs.Words.{◌≡◌, Bool, true, List, [], ℕ, Ok, rules, subst, sym, Done, Standing, LoadsOne}
+use Rattle.camp_talk.proofs.Words.{◌≡◌, Bool, true, Ok, rules, subst, sym, Done, Standing, LoadsOne}
 use Rattle.camp_talk.proofs.Loading.{none_done, one_more_done}
 use Rattle.camp_talk.proofs.loads.load.Goals as goal
 

@@ -1,5 +1,5 @@
 use Rattle.camp_talk.specs.Accounts.{no_account}
-use Rattle.camp_talk.proofs.Words.{[], Done, ◌-◌, ◌^◌}
+use Rattle.camp_talk.proofs.Words.{Done, ◌-◌, ◌^◌}
 use Rattle.camp_talk.proofs.loads.load.Given as goal
 
 abbrev pub invariant-loop-cause : goal.invariant-loop-cause

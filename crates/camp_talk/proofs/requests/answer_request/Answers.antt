@@ -1,5 +1,5 @@
 use Rattle.camp_talk.specs.Accounts.{Account, no_account}
-use Rattle.camp_talk.proofs.Words.{◌≡◌, [], Bool, List, ℕ, Holds, Some, Ok, rules, subst, sym, Standing, Turns}
+use Rattle.camp_talk.proofs.Words.{◌≡◌, Bool, Holds, Some, Ok, rules, subst, sym, Standing, Turns}
 use Rattle.camp_talk.proofs.RequestLemmas.{request_answered, request_ends}
 use Rattle.camp_talk.proofs.Turns.{begins_so, holds_on}
 use Rattle.camp_talk.proofs.requests.answer_request.Goals as goal

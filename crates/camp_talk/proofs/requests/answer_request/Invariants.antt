@@ -1,5 +1,5 @@
 use Rattle.camp_talk.specs.Accounts.{no_account}
-use Rattle.camp_talk.proofs.Words.{[], Holds, Some, ◌-◌, ◌^◌}
+use Rattle.camp_talk.proofs.Words.{Holds, Some, ◌-◌, ◌^◌}
 use Rattle.camp_talk.proofs.requests.answer_request.Given as goal
 
 abbrev pub invariant-loop-cause : goal.invariant-loop-cause
