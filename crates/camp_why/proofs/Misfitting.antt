@@ -1,5 +1,5 @@
 -- Where a change does not apply, and where it does.
-use Rattle.camp_why.proofs.Words.{Bool, true, false, cond, ◌++◌, ◌+◌, ◌-◌, ◌≡◌, ◌≢◌, ◌≤◌, ◌<◌, ◌∙◌, ◌∷◌, ℕ, zero, suc, List, [], Option, Some, None, get, insert, ap, append_assoc, arith, bytes_eq, bytes_eq-Decides, drop, drop-drop, drop_all, false≢true, le-ltb, length, length-append, length-drop, length-take-le, ltb-false, ltb-true, nat_lt, none-some, not, refl, same_Some, slice_get, slice_get_past, subst, sym, take, take-append-drop, Files, Lines, SplicesLines, Applies, InRange, Edit, Primitive, Add, Hunk, Remove, IsMisfit, lines_misfit, why_not, other_line, Misfit, EndsBefore, FileIsThere, HasLines, NoFile, OtherLine}
+use Rattle.camp_why.proofs.Words.{Bool, true, false, cond, ◌++◌, ◌+◌, ◌-◌, ◌≡◌, ◌≢◌, ◌≤◌, ◌<◌, ◌∙◌, ◌∷◌, ℕ, zero, suc, List, [], Option, Some, None, get, insert, ap, append_assoc, arith, bytes_eq, bytes_eq-Decides, drop, drop-drop, drop_all, false≢true, length, length-append, length-drop, length-take-le, ltb-false, ltb-true, nat_lt, none-some, not, refl, same_Some, slice_get, slice_get_past, subst, sym, take, take-append-drop, Files, Lines, SplicesLines, Applies, InRange, Edit, Primitive, Add, Hunk, Remove, IsMisfit, why_not, other_line, Misfit, EndsBefore, FileIsThere, HasLines, NoFile, OtherLine}
 use Rattle.camp_why.specs.Misfits.{Edits, StandThere, add_misfit, edit_misfit, ends_before, lacking, lacking_at, misfit_or, remove_misfit}
 
 -- ---- lists from a place on
