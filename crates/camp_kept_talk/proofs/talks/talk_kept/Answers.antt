@@ -1,5 +1,5 @@
 use Rattle.camp_talk.specs.Accounts.{Account, no_account}
-use Rattle.std.proofs.Common.{◌≡◌, ℕ, Bool, true, false, List, [], Ok, refl, rules, subst, sym}
+use Rattle.std.proofs.Common.{◌≡◌, ℕ, Bool, true, false, List, Ok, refl, rules, subst, sym}
 use Rattle.std.specs.Io.Buffered.{reader_remaining}
 use Rattle.camp_kept_talk.specs.Going.{Comes, Goes}
 use Rattle.camp_kept_talk.proofs.Leading.{at, begins, talk_stops}
@@ -40,7 +40,7 @@ pub returns-in_err-stored_turn-clause-promises : goal.returns-in_err-stored_turn
 returns-in_err-stored_turn-clause-promises g c holds =
     let a = reader_remaining g.R.Read.remaining c.args.reader.now in
     let now = g.W.Write.contents c.args.writer.now in
-    let first = at c.args.kept.now.book 0 [] in
+    let first = at c.args.kept.now.book 0 no_account in
     talk_stops g.D.Disk.seen g.D.Disk.may_leave a (reader_remaining g.R.Read.remaining c.stored_turn.new.reader) now (g.W.Write.contents c.stored_turn.new.writer) first
     c.stored_turn.new.kept c.from_residual.result c.in_err-stored_turn.field-0.0 c.from_residual.ensures.1 (c.in_err-stored_turn.ensures.goes a now first (c.loop-held.invariant.0 holds))
 

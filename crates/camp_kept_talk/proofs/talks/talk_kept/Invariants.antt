@@ -1,5 +1,5 @@
 use Rattle.camp_talk.specs.Accounts.{no_account}
-use Rattle.std.specs.Prelude.{◌≡◌, [], ◌-◌, ◌^◌}
+use Rattle.std.specs.Prelude.{◌≡◌, ◌-◌, ◌^◌}
 use Rattle.std.specs.Io.Buffered.{reader_remaining}
 use Rattle.camp_kept.specs.Keeping.{Holds, calls_in, disk_in}
 use Rattle.camp_kept_talk.specs.Going.{Goes}
