@@ -15,6 +15,7 @@ use Rattle.camp_object.specs.Histories.{IsFront}
 use Rattle.camp_object.proofs.Fronts.{front_front, front_self}
 use Rattle.camp_script.specs.Keeping.{calls_of}
 use Rattle.camp_store.specs.Logs.{KeepsTexts}
+use Rattle.camp_talk.specs.Accounts.{Account}
 use Rattle.camp_talk.specs.Answers.{Answers, Standing}
 use Rattle.camp_talk.specs.Entries.{Entries}
 use Rattle.camp_talk.specs.Talks.{AppendsSome, EndsSo, Exchange, ReadsWithin, Turns}
@@ -26,7 +27,7 @@ use Rattle.camp_talk.proofs.Growing.{answers_grow}
 use Rattle.camp_talk.proofs.Turns.{begins_so, holds_on}
 
 -- where a conversation stands over a book
-abbrev pub at : Entries → ℕ → List ℕ → Standing
+abbrev pub at : Entries → ℕ → Account → Standing
 at history lines cause = record { history = history; lines = lines; cause = cause }
 
 -- of a reader that was not asked no more was read
@@ -38,7 +39,7 @@ same_calls a b same = ap (λ (h : Entries). calls_of h) same
 
 module _ {D : Type 0} (seen : D → List ℕ) (may_leave : D → List ℕ → Type 0) (a old now : Option (List ℕ)) (first : Standing) (kept : Kept D) where
   -- at first
-  pub begins : (lines : ℕ) (cause : List ℕ) → Holds seen may_leave (calls_in kept) kept → Goes seen may_leave a a now now [] (at kept.book lines cause) (at kept.book lines cause) kept
+  pub begins : (lines : ℕ) (cause : Account) → Holds seen may_leave (calls_in kept) kept → Goes seen may_leave a a now now [] (at kept.book lines cause) (at kept.book lines cause) kept
   begins lines cause holds = record {
     middle = at kept.book lines cause;
     left = a;
@@ -50,7 +51,7 @@ module _ {D : Type 0} (seen : D → List ℕ) (may_leave : D → List ℕ → Ty
     within = front_self (calls_in kept);
   }
 
-  module _ (b : Option (List ℕ)) (held : List ℕ) (lines : ℕ) (cause : List ℕ) (goes : Goes seen may_leave a b old now held first (at kept.book lines cause) kept) where
+  module _ (b : Option (List ℕ)) (held : List ℕ) (lines : ℕ) (cause : Account) (goes : Goes seen may_leave a b old now held first (at kept.book lines cause) kept) where
     pub stays : Stays seen may_leave a b old now held first kept
     stays = record {
       middle = goes.middle;
@@ -91,7 +92,7 @@ module _ {D : Type 0} (seen : D → List ℕ) (may_leave : D → List ℕ → Ty
       }
 
       -- a command was answered into what is held back
-      pub turned : (after : ℕ) (learnt : List ℕ) → Turns b c (Some held) (Some more) (at kept.book lines cause) (Ok true) (at new.book after learnt)
+      pub turned : (after : ℕ) (learnt : Account) → Turns b c (Some held) (Some more) (at kept.book lines cause) (Ok true) (at new.book after learnt)
           → Goes seen may_leave a c old now more first (at new.book after learnt) new
       turned after learnt turns = record {
         middle = goes.middle;
@@ -139,19 +140,19 @@ module _ {D : Type 0} (seen : D → List ℕ) (may_leave : D → List ℕ → Ty
         is = sym same;
       }
 
-      pub stopped : (after : ℕ) (learnt : List ℕ) (why : TalkFault) → Turns b c (Some held) (Some more) (at kept.book lines cause) (Err why) (at new.book after learnt) → Stays seen may_leave a c old now more first new
+      pub stopped : (after : ℕ) (learnt : Account) (why : TalkFault) → Turns b c (Some held) (Some more) (at kept.book lines cause) (Err why) (at new.book after learnt) → Stays seen may_leave a c old now more first new
       stopped after learnt talk.Memory turns = none_more turns.none turns.keeps (ap (λ (s : Standing). s.history) turns.same)
       stopped after learnt (talk.Read error) turns = none_more turns.none turns.keeps (ap (λ (s : Standing). s.history) turns.same)
       stopped after learnt talk.Internal turns = none_more (record { some = turns.none.some; reads = turns.none.reads; is = turns.none.is }) turns.keeps (ap (λ (s : Standing). s.history) turns.same)
       stopped after learnt (talk.Write error) turns =
           one_more turns.said turns.behind (last_read b c turns.whole turns.said.command turns.reads) turns.answers (command_read b c turns.whole turns.said.command turns.reads) turns.writes (sym (ap (λ (s : Standing). s.history) turns.same))
 
-      pub ended : (after : ℕ) (learnt : List ℕ) → Turns b c (Some held) (Some more) (at kept.book lines cause) (Ok false) (at new.book after learnt) → Stays seen may_leave a c old now more first new
+      pub ended : (after : ℕ) (learnt : Account) → Turns b c (Some held) (Some more) (at kept.book lines cause) (Ok false) (at new.book after learnt) → Stays seen may_leave a c old now more first new
       ended after learnt turns =
           one_more turns.said (at new.book after learnt) (last_read b c false turns.said.command turns.reads) turns.answers turns.reads.0 (appends_some (Some held) (Some more) turns.said.answer turns.writes) refl
 
       -- and once all is written, the conversation is one that was not held back
-      ends_as : (after : ℕ) (learnt : List ℕ) (then : Option (List ℕ)) (turn : Result Bool TalkFault) → Turns b c (append_known now held) then (at kept.book lines cause) turn (at new.book after learnt)
+      ends_as : (after : ℕ) (learnt : Account) (then : Option (List ℕ)) (turn : Result Bool TalkFault) → Turns b c (append_known now held) then (at kept.book lines cause) turn (at new.book after learnt)
           → EndsSo a c old then first turn new.book
       ends_as after learnt then turn turns = record {
         left = b;
@@ -163,7 +164,7 @@ module _ {D : Type 0} (seen : D → List ℕ) (may_leave : D → List ℕ → Ty
         leaves = refl;
       }
 
-      pub ends_so : (after : ℕ) (learnt : List ℕ) (then : Option (List ℕ)) → Turns b c (Some held) (Some more) (at kept.book lines cause) (Ok false) (at new.book after learnt) → Appends now then more
+      pub ends_so : (after : ℕ) (learnt : Account) (then : Option (List ℕ)) → Turns b c (Some held) (Some more) (at kept.book lines cause) (Ok false) (at new.book after learnt) → Appends now then more
           → EndsSo a c old then first (Ok false) new.book
       ends_so after learnt then turns grows = ends_as after learnt then (Ok false) (record {
         said = turns.said;
@@ -172,7 +173,7 @@ module _ {D : Type 0} (seen : D → List ℕ) (may_leave : D → List ℕ → Ty
         writes = appends_behind now then held more turns.said.answer turns.writes grows;
       })
 
-      pub breaks_so : (after : ℕ) (learnt : List ℕ) (then : Option (List ℕ)) (why : TalkFault) → Turns b c (Some held) (Some more) (at kept.book lines cause) (Err why) (at new.book after learnt) → Appends now then more
+      pub breaks_so : (after : ℕ) (learnt : Account) (then : Option (List ℕ)) (why : TalkFault) → Turns b c (Some held) (Some more) (at kept.book lines cause) (Err why) (at new.book after learnt) → Appends now then more
           → EndsSo a c old then first (Err why) new.book
       breaks_so after learnt then talk.Memory turns grows =
           ends_as after learnt then (Err talk.Memory) (record { none = turns.none; keeps = keeps_behind now then held more turns.keeps grows; same = turns.same })
@@ -285,7 +286,7 @@ module _ {D : Type 0} (seen : D → List ℕ) (may_leave : D → List ℕ → Ty
       stops_so (fault.Write error) rest settles = (promised_all settles.0 settles.1, unwritten settles.0 settles.1)
 
 -- wherever settling leads
-pub settled_first : {D : Type 0} (seen : D → List ℕ) (may_leave : D → List ℕ → Type 0) (a b old now after : Option (List ℕ)) (first : Standing) (kept new : Kept D) (held rest : List ℕ) (lines : ℕ) (cause : List ℕ)
+pub settled_first : {D : Type 0} (seen : D → List ℕ) (may_leave : D → List ℕ → Type 0) (a b old now after : Option (List ℕ)) (first : Standing) (kept new : Kept D) (held rest : List ℕ) (lines : ℕ) (cause : Account)
     (result : Result (Unit {0}) StoredFault) → Goes seen may_leave a b old now held first (at kept.book lines cause) kept → Settles seen may_leave kept held now result new rest after
     → new.book ≡ kept.book → ComesSettled seen may_leave a b old after rest first (at new.book lines cause) result new
 settled_first seen may_leave a b old now after first kept new held rest lines cause (Ok done) goes settles same =
@@ -294,7 +295,7 @@ settled_first seen may_leave a b old now after first kept new held rest lines ca
     stops_so seen may_leave a old now first kept b held (stays seen may_leave a old now first kept b held lines cause goes) new after same why rest settles
 
 -- wherever a turn leads behind which all is settled
-module _ {D : Type 0} (seen : D → List ℕ) (may_leave : D → List ℕ → Type 0) (a b d old now : Option (List ℕ)) (first : Standing) (kept asked : Kept D) (held more : List ℕ) (lines after : ℕ) (cause learnt : List ℕ)
+module _ {D : Type 0} (seen : D → List ℕ) (may_leave : D → List ℕ → Type 0) (a b d old now : Option (List ℕ)) (first : Standing) (kept asked : Kept D) (held more : List ℕ) (lines after : ℕ) (cause learnt : Account)
     (goes : Goes seen may_leave a b old now held first (at kept.book lines cause) kept) (same_log : asked.log ≡ kept.log) (same_count : asked.count ≡ kept.count)
     (new : Kept D) (same : new.book ≡ asked.book) (rest : List ℕ) (then : Option (List ℕ)) where
   module _ (turns : Turns b d (Some held) (Some more) (at kept.book lines cause) (Ok false) (at asked.book after learnt)) where

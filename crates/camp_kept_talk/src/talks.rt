@@ -3,6 +3,7 @@ ghost use Rattle.std.specs.Prelude.{◌≡◌, []};
 ghost use Rattle.std.specs.Io.Buffered.{reader_remaining};
 ghost use Rattle.camp_kept.specs.Keeping.{Holds, calls_in, disk_in};
 ghost use Rattle.camp_kept_talk.specs.Going.{TalksKept};
+ghost use Rattle.camp_talk.specs.Accounts.{no_account};
 
 use crate::StoredFault;
 use crate::readiness::begin_with_command;
@@ -22,7 +23,7 @@ pub fn talk_kept<D: Disk, R: Read, W: Write>(
 ) -> Result<(), StoredFault>
     ensures promises { Holds D.Disk.seen D.Disk.may_leave (calls_in kept.old) kept.old
         → TalksKept D.Disk.seen D.Disk.may_leave (reader_remaining R.remaining reader.old) (reader_remaining R.remaining reader.new) (W.contents writer.old) (W.contents writer.new)
-        (record { history = kept.old.book; lines = 0; cause = [] }) result kept.new }
+        (record { history = kept.old.book; lines = 0; cause = no_account }) result kept.new }
     ensures clean { D.Disk.is_clean (disk_in kept.new) ≡ D.Disk.is_clean (disk_in kept.old) }
 {
     let mut held = HeldBack::new(alloc);

@@ -3,13 +3,14 @@ ghost use Rattle.std.specs.Prelude.{◌≡◌, ◌⊎◌, [], true, false, IfErr
 ghost use Rattle.std.specs.Io.KnownBytes.{Appends, Keeps};
 ghost use Rattle.camp_kept.specs.Keeping.{disk_in};
 ghost use Rattle.camp_kept_talk.specs.Going.{Comes, ComesSettled, Goes, WritesAllOrNone, WritesNone, as_told};
+ghost use Rattle.camp_talk.specs.Accounts.{no_account};
 ghost use Rattle.camp_talk.specs.Answers.{Standing};
 ghost use Rattle.camp_talk.specs.Talks.{HasRisen, ReadsWithin};
 
 use crate::StoredFault;
 use crate::settling::settle;
 use camp_kept::{Disk, Kept};
-use camp_talk::{TalkFault, turn};
+use camp_talk::{Account, TalkFault, turn};
 use std::alloc::Global;
 use std::io::{BufRead, Write};
 
@@ -26,8 +27,8 @@ pub struct HeldBack {
     pub answers: Vec<u8>,
     /// How many lines were read.
     pub lines: u64,
-    /// The lines that tell the cause of the last fault or refusal.
-    pub cause: Vec<u8>,
+    /// What is kept of the last fault or refusal.
+    pub cause: Account,
 }
 
 impl HeldBack {
@@ -35,12 +36,12 @@ impl HeldBack {
     pub fn new(alloc: Global) -> HeldBack
         ensures none { result.answers.items ≡ [] }
         ensures first { result.lines ≡ 0 }
-        ensures cause { result.cause.items ≡ [] }
+        ensures cause { result.cause ≡ no_account }
     {
         HeldBack {
             answers: Vec::new(alloc),
             lines: 0,
-            cause: Vec::new(alloc),
+            cause: Account::new(alloc),
         }
     }
 }
@@ -57,9 +58,9 @@ pub fn stored_turn<D: Disk, R: BufRead, W: Write>(
 ) -> Result<bool, StoredFault>
     ensures goes { (remaining old : Option (List ℕ)) (first : Standing)
         → Goes D.Disk.seen D.Disk.may_leave remaining (R.remaining reader.old) old (W.contents writer.old) held.old.answers.items first
-        (record { history = kept.old.book; lines = held.old.lines; cause = held.old.cause.items }) kept.old
+        (record { history = kept.old.book; lines = held.old.lines; cause = held.old.cause }) kept.old
         → Comes D.Disk.seen D.Disk.may_leave remaining (R.remaining reader.new) old (W.contents writer.new) held.new.answers.items first
-        (record { history = kept.new.book; lines = held.new.lines; cause = held.new.cause.items }) result kept.new }
+        (record { history = kept.new.book; lines = held.new.lines; cause = held.new.cause }) result kept.new }
     ensures counts { IfOk result (λ more. more ≡ true → HasRisen held.old.lines held.new.lines) }
     // It reads no more than a command has; and where the calls can't be kept, it writes all that was held back, or nothing.
     ensures within { ReadsWithin (R.remaining reader.old) (R.remaining reader.new) }
@@ -84,9 +85,9 @@ fn settle_first<D: Disk, W: Write>(
 ) -> Result<(), StoredFault>
     ensures goes { (remaining rest old : Option (List ℕ)) (first : Standing)
         → Goes D.Disk.seen D.Disk.may_leave remaining rest old (W.contents writer.old) held.old.answers.items first
-        (record { history = kept.old.book; lines = held.old.lines; cause = held.old.cause.items }) kept.old
+        (record { history = kept.old.book; lines = held.old.lines; cause = held.old.cause }) kept.old
         → ComesSettled D.Disk.seen D.Disk.may_leave remaining rest old (W.contents writer.new) held.new.answers.items first
-        (record { history = kept.new.book; lines = held.new.lines; cause = held.new.cause.items }) result kept.new }
+        (record { history = kept.new.book; lines = held.new.lines; cause = held.new.cause }) result kept.new }
     ensures lines { held.new.lines ≡ held.old.lines }
     ensures whole { MatchResult result
         (λ _. Appends (W.contents writer.old) (W.contents writer.new) held.old.answers.items ⊎ Keeps (W.contents writer.old) (W.contents writer.new))
@@ -117,9 +118,9 @@ fn turn_on<D: Disk, R: BufRead, W: Write>(
 ) -> Result<bool, StoredFault>
     ensures goes { (remaining old : Option (List ℕ)) (first : Standing)
         → Goes D.Disk.seen D.Disk.may_leave remaining (R.remaining reader.old) old (W.contents writer.old) held.old.answers.items first
-        (record { history = kept.old.book; lines = held.old.lines; cause = held.old.cause.items }) kept.old
+        (record { history = kept.old.book; lines = held.old.lines; cause = held.old.cause }) kept.old
         → Comes D.Disk.seen D.Disk.may_leave remaining (R.remaining reader.new) old (W.contents writer.new) held.new.answers.items first
-        (record { history = kept.new.book; lines = held.new.lines; cause = held.new.cause.items }) result kept.new }
+        (record { history = kept.new.book; lines = held.new.lines; cause = held.new.cause }) result kept.new }
     ensures counts { IfOk result (λ more. more ≡ true → HasRisen held.old.lines held.new.lines) }
     ensures within { ReadsWithin (R.remaining reader.old) (R.remaining reader.new) }
     ensures none { IfErr result (WritesNone (W.contents writer.old) (W.contents writer.new)) }

@@ -1,7 +1,7 @@
 //! A conversation with a person, who is asked for each line by a prompt.
 ghost use Rattle.std.specs.Prelude.{◌-◌, ◌^◌};
 
-use camp_talk::{Book, Dialogue, State, TalkFault, turn};
+use camp_talk::{Account, Book, Dialogue, State, TalkFault, turn};
 use std::alloc::Global;
 use std::io::{self, BufRead, Read, Write};
 
@@ -16,8 +16,8 @@ pub(crate) struct Prompted<R, W> {
     book: Book<State>,
     /// How many lines were read.
     lines: u64,
-    /// The lines that tell the cause of the last fault or refusal.
-    cause: Vec<u8>,
+    /// What is kept of the last fault or refusal.
+    cause: Account,
     reader: Prompting<R, W>,
     writer: W,
 }
@@ -29,7 +29,7 @@ impl<R: BufRead, W: Write> Prompted<R, W> {
             alloc,
             book,
             lines: 0,
-            cause: Vec::new(alloc),
+            cause: Account::new(alloc),
             reader: Prompting::new(alloc, reader, prompts),
             writer,
         }

@@ -3,6 +3,7 @@ use Rattle.std.proofs.Common.{◌≡◌, ◌⊎◌, inl, inr, ℕ, Bool, true, f
 use Rattle.camp_object.specs.Histories.{IsFront}
 use Rattle.camp_object.proofs.Fronts.{front_front, front_self}
 use Rattle.camp_script.specs.declared.faults.LineFault.{LineFault}
+use Rattle.camp_talk.specs.Accounts.{no_account}
 use Rattle.camp_talk.specs.Answers.{Answers, Standing, Tells, TellsWant}
 use Rattle.camp_talk.specs.Asking.{asked_by}
 use Rattle.camp_talk.specs.Entries.{Entries}
@@ -41,14 +42,14 @@ follow_grow first (exchange ∷ said) last (next, command, answers, follow) =
 request_grows : (before : Entries) (request answer : List ℕ) (now : Entries) → AnswersRequest before request answer now → IsFront before now
 request_grows before request answer now answers =
     subst (λ (l : Entries). IsFront before l) (sym answers.same)
-    (front_front (follow_grow (record { history = before; lines = 0; cause = [] }) answers.said answers.middle answers.follow)
+    (front_front (follow_grow (record { history = before; lines = 0; cause = no_account }) answers.said answers.middle answers.follow)
     (answers_grow answers.middle answers.last.command answers.last.answer answers.after answers.answers))
 
 some_grow : (before : Entries) (request answer : List ℕ) (now : Entries) → AnswersSome before request answer now → IsFront before now
 some_grow before request answer now some = ends some.leaves
   where
     so_far : IsFront before some.middle.history
-    so_far = follow_grow (record { history = before; lines = 0; cause = [] }) some.said some.middle some.follow
+    so_far = follow_grow (record { history = before; lines = 0; cause = no_account }) some.said some.middle some.follow
 
     ends : ((now ≡ some.middle.history) × (some.front ≡ [])) ⊎ AsksOneMore some.middle some.rest some.front now → IsFront before now
     ends (inl still) = subst (λ (l : Entries). IsFront before l) (sym still.0) so_far

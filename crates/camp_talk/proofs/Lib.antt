@@ -11,6 +11,7 @@ pub mod HelpLemmas
 pub mod LineReads
 pub mod Loading
 pub mod LoadingKept
+pub mod Naming
 pub mod NotDone
 pub mod PairLemmas
 pub mod Parts

@@ -1,4 +1,5 @@
 -- The text that keeps a history is loaded, call by call.
+use Rattle.camp_talk.specs.Accounts.{no_account}
 use Rattle.camp_talk.proofs.Words.{◌≡◌, ◌⊎◌, inl, inr, ℕ, Bool, true, false, List, [], ◌∷◌, ◌++◌, length, map, drop, Option, None, Some, Result, Ok, Err, refl, sym, ap, subst, ◌∙◌, append_assoc, append-nil, map-append, drop-append_seam, true≢false, flat_map, All, All-head, All-tail, Call, LineFault, reply_text, Standing, Tells, TellsWant, asked_by, Entries, Exchange, Follow, IsCommand, IsLeft, ReadsCommand, Done, Fails, TellsSuccess, tells_failure, Asked}
 use Rattle.std.proofs.Common.{IsSome}
 use Rattle.std.proofs.lemmas.List.Concat.{flat_map-cons}
@@ -240,12 +241,12 @@ module _ (history : Entries) (state : Contents) (replays : replay repository his
   back : replay repository (at_seat_0 history) ≡ Some state
   back = run_at_seat_0 history (Some initial) ∙ replays
 
-  walked : (left : List ℕ) (middle : Standing) → Done (Some (kept_text history)) (Some left) (record { history = []; lines = 0; cause = [] }) middle → Walked calls [] middle.history left
+  walked : (left : List ℕ) (middle : Standing) → Done (Some (kept_text history)) (Some left) (record { history = []; lines = 0; cause = no_account }) middle → Walked calls [] middle.history left
   walked left middle done =
-      walk done.said (record { history = []; lines = 0; cause = [] }) middle calls left done.follow done.well (sym (append-nil (section_text calls)) ∙ done.reads) can short (accepted_from [] calls (some_is_some back))
+      walk done.said (record { history = []; lines = 0; cause = no_account }) middle calls left done.follow done.well (sym (append-nil (section_text calls)) ∙ done.reads) can short (accepted_from [] calls (some_is_some back))
 
   ended : (left rest : Option (List ℕ)) (middle : Standing) (result : Result (Unit {0}) LoadFault) (now : Entries)
-      → Done (Some (kept_text history)) left (record { history = []; lines = 0; cause = [] }) middle → Ends left rest middle result now → ComesBack history state result now
+      → Done (Some (kept_text history)) left (record { history = []; lines = 0; cause = no_account }) middle → Ends left rest middle result now → ComesBack history state result now
   ended None rest middle result now done ends = absurd done.reads
   ended (Some left) rest middle (Ok unit) now done ends =
       let all = ends_well calls middle left (walked left middle done) rest now ends in

@@ -1,6 +1,7 @@
 -- Turns of a conversation, one behind another.
 use Rattle.camp_talk.proofs.Words.{refl, sym, ap, subst, ◌∙◌, ◌≢◌, ⊎_elim, cases_Bool, append-nil, flat_map, flat_map-append, Gives, lines_of, LineFault, ScriptFault, Answers, Standing, Tells, TellsWant, asked_by, IsCommand, IsLeft, Entries, IsReading, IsSaid, IsWriting, Learns, LearnsOf, lines_in, is_silent, said_text, Asked, ◌≡◌, ◌≤◌, ◌⊎◌, inl, inr, ℕ, ◌+◌, ◌^◌, Bool, true, false, List, [], ◌∷◌, ◌++◌, length, Option, Result, Ok, Err, Vec, IfOk, OnErr, Appends, Consumes, Appends-nil, Appends-trans, Consumes-nil, Consumes-trans, Exchange, Exchanges, Follow, Holds, ReadsNone, ReadsTooMuch, ReadsWithin, Stops, Turns}
 use Rattle.std.specs.Io.KnownBytes.{Keeps}
+use Rattle.camp_talk.specs.Accounts.{Account}
 use Rattle.camp_talk.specs.Answers.{LearnsAt}
 use Rattle.camp_talk.specs.Inside.Hearing.{LearnsWith}
 use Rattle.camp_talk.specs.Whys.{is_failure}
@@ -9,13 +10,13 @@ use Rattle.camp_talk.specs.declared.questions.Asked.TheVariants.{Nothing}
 use Rattle.camp_talk.specs.declared.faults.TalkFault.TheVariants.{Internal, Memory, Read, Write}
 
 -- what is kept by the lines of a command is what is kept of it
-learns_so : (before : Standing) (command text cause : List ℕ) (fails : Bool)
+learns_so : (before : Standing) (command text : List ℕ) (cause : Account) (fails : Bool)
     → LearnsWith fails before (lines_in command) (asked_by command) text cause → LearnsAt fails before command text cause
 learns_so before command text cause true learns = learns
 learns_so before command text cause false learns = learns
 
 -- what is said is what a command is answered
-module _ {Z E : Type 0} (before : Standing) (now : Entries) (cause command : List ℕ) (lines : List (List ℕ))
+module _ {Z E : Type 0} (before : Standing) (now : Entries) (cause : Account) (command : List ℕ) (lines : List (List ℕ))
     (asked : Result Asked ScriptFault) (gives : Gives asked (asked_by command)) (same : lines ≡ lines_in command) where
   pub said_so : (said : Result (Vec ℕ Z) E)
       → IfOk said (λ text. (reading : Result Asked LineFault) → Gives asked reading
@@ -47,10 +48,10 @@ module _ {Z E : Type 0} (before after : Standing) (command : List ℕ) where
       → after.lines ≡ before.lines + length (lines_of command) → Answers before command (said_text said) after
   answered said says counts = record { tells = answered_by said says; counts = counts; learns = learned_by said says }
 
-abbrev pub at_lines : ℕ → Entries → List ℕ → Standing
+abbrev pub at_lines : ℕ → Entries → Account → Standing
 at_lines lines history cause = record { history = history; lines = lines; cause = cause }
 
-pub same_standing : (lines : ℕ) (a b : Entries) (c d : List ℕ) → a ≡ b → c ≡ d → at_lines lines a c ≡ at_lines lines b d
+pub same_standing : (lines : ℕ) (a b : Entries) (c d : Account) → a ≡ b → c ≡ d → at_lines lines a c ≡ at_lines lines b d
 same_standing lines a b c d same kept = (λ j. at_lines lines (same j) (kept j))
 
 -- no command was read

@@ -1,18 +1,20 @@
 -- The causes that are told.
 use Rattle.std.proofs.lemmas.Fmt.{decimal_digit, decimal_step}
 use Rattle.std.specs.Fmt.{decimal}
-use Rattle.std.specs.Prelude.{◌%◌, ◌/◌}
-use Rattle.camp_talk.proofs.Words.{◌≡◌, ◌∙◌, true, List, [], ◌∷◌, ◌+◌, ◌<◌, ◌≤◌, ◌^◌, ℕ, Ok, Option, Some, ap, append-nil, arith, codes, first_of, lines_of, words_of, refl, sym, subst, ◌++◌, true≢false, Call, reply_text, asked_by, lines_in}
+use Rattle.std.specs.Prelude.{◌%◌, ◌/◌, Bool, cond}
+use Rattle.camp_talk.proofs.Naming.{is_named}
+use Rattle.camp_talk.proofs.Words.{◌≡◌, ◌∙◌, true, List, [], ◌∷◌, ◌+◌, ◌<◌, ◌≤◌, ◌^◌, ℕ, Ok, Some, ap, append-nil, arith, codes, first_of, lines_of, words_of, refl, sym, subst, ◌++◌, true≢false, Call, reply_text, asked_by, lines_in}
 use Rattle.camp_script.specs.Texts.{line_text}
 use Rattle.camp_call.specs.declared.replies.Refusal.{Refusal}
 use Rattle.camp_call.specs.declared.replies.Refusal.TheVariants as refusal
 use Rattle.camp_call.specs.declared.replies.Reply.TheVariants.{Refused}
 use Rattle.camp_repo.specs.States.{Contents}
+use Rattle.camp_talk.specs.Accounts.{Account}
 use Rattle.camp_talk.specs.Against.{call_about, sides_text, target}
 use Rattle.camp_talk.specs.Asking.{reason_at}
-use Rattle.camp_talk.specs.Laws.{CausesAreTold, NamesCause, RefusalsAreTold, names_in}
-use Rattle.camp_talk.specs.Refusals.{cure, reason_of, saying}
-use Rattle.camp_talk.specs.Whys.{cause_of, cause_with, found_text, reason_in, refusal_lines}
+use Rattle.camp_talk.specs.Laws.{CausesAreTold, FaultsAreTold, NamesCause, RefusalsAreTold, names_in}
+use Rattle.camp_talk.specs.Refusals.{reason_of, saying}
+use Rattle.camp_talk.specs.Whys.{cause_of, cause_with, cure_at, fault_account, found_text, line_at, reason_in, refusal_lines, shown_line}
 use Rattle.camp_talk.specs.declared.questions.Asked.TheVariants as asked
 use Rattle.camp_talk.specs.declared.questions.Reason.{Reason}
 use Rattle.camp_talk.specs.declared.questions.Reason.TheVariants as reason
@@ -79,24 +81,24 @@ by_cause (FullWithPull has more) = refl
 by_cause (LongSide change path old new) = refl
 by_cause (Stops stop) = by_hindrance stop.why
 
-module _ (before : List ℕ) (state : Contents) (command : List ℕ) (call : Call) (asks : asked_by command ≡ Ok (asked.Call call)) (cause : Cause) (is_so : IsSo state call cause) where
+module _ (before : Account) (state : Contents) (command : List ℕ) (call : Call) (asks : asked_by command ≡ Ok (asked.Call call)) (cause : Cause) (is_so : IsSo state call cause) where
   named : (refused : Refusal) → is_of_changes refused ≡ true → explained state call refused ≡ Some cause → refusal_by cause ≡ refused
-      → NamesCause state call refused (cause_of before state command (reply_text (Refused refused)))
+      → NamesCause state call refused (first_of (lines_in command)) (cause_of before state command (reply_text (Refused refused))).told
   named refusal.TooLarge is told of = record {
     cause = cause;
     of = of;
     is_so = is_so;
-    tells = ap (λ reading. cause_with before state (lines_in command) reading (reply_text (Refused refusal.TooLarge))) asks
-        ∙ ap (refusal_lines state (asked.Call call) (reply_text (Refused refusal.TooLarge))) (reason_of_answer refusal.TooLarge tt)
-        ∙ ap (λ found. reply_text (Refused refusal.TooLarge) ++ saying reason.TooLarge ++ (sides_text (Some (call_about call)) (target (asked.Call call)) ++ found_text found) ++ cure reason.TooLarge) told;
+    tells = ap (λ reading. (cause_with before state (lines_in command) reading (reply_text (Refused refusal.TooLarge))).told) asks
+        ∙ ap (refusal_lines state (asked.Call call) (first_of (lines_in command)) (reply_text (Refused refusal.TooLarge))) (reason_of_answer refusal.TooLarge tt)
+        ∙ ap (λ found. reply_text (Refused refusal.TooLarge) ++ shown_line (first_of (lines_in command)) ++ saying reason.TooLarge ++ (sides_text (Some (call_about call)) (target (asked.Call call)) ++ found_text found) ++ cure_at state (asked.Call call) found reason.TooLarge) told;
   }
   named refusal.DoesNotApply is told of = record {
     cause = cause;
     of = of;
     is_so = is_so;
-    tells = ap (λ reading. cause_with before state (lines_in command) reading (reply_text (Refused refusal.DoesNotApply))) asks
-        ∙ ap (refusal_lines state (asked.Call call) (reply_text (Refused refusal.DoesNotApply))) (reason_of_answer refusal.DoesNotApply tt)
-        ∙ ap (λ found. reply_text (Refused refusal.DoesNotApply) ++ saying reason.DoesNotApply ++ (sides_text (Some (call_about call)) (target (asked.Call call)) ++ found_text found) ++ cure reason.DoesNotApply) told;
+    tells = ap (λ reading. (cause_with before state (lines_in command) reading (reply_text (Refused refusal.DoesNotApply))).told) asks
+        ∙ ap (refusal_lines state (asked.Call call) (first_of (lines_in command)) (reply_text (Refused refusal.DoesNotApply))) (reason_of_answer refusal.DoesNotApply tt)
+        ∙ ap (λ found. reply_text (Refused refusal.DoesNotApply) ++ shown_line (first_of (lines_in command)) ++ saying reason.DoesNotApply ++ (sides_text (Some (call_about call)) (target (asked.Call call)) ++ found_text found) ++ cure_at state (asked.Call call) found reason.DoesNotApply) told;
   }
   named (refusal.NoBranch branch) is told of = absurd (true≢false (sym is))
   named (refusal.BranchExists branch) is told of = absurd (true≢false (sym is))
@@ -117,6 +119,15 @@ causes_told before state command call refused lawful is range asks comes wants =
 pub refusals_told : RefusalsAreTold
 refusals_told before state command call refused lawful is range are_names asks comes = record {
   ground = have_grounds state call refused lawful is range comes;
-  tells = ap (λ reading. cause_with before state (lines_in command) reading (reply_text (Refused refused))) asks
-      ∙ ap (refusal_lines state (asked.Call call) (reply_text (Refused refused))) (reason_of_answer refused are_names);
+  named = is_named state call refused (have_grounds state call refused lawful is range comes);
+  tells = ap (λ reading. (cause_with before state (lines_in command) reading (reply_text (Refused refused))).told) asks
+      ∙ ap (refusal_lines state (asked.Call call) (first_of (lines_in command)) (reply_text (Refused refused))) (reason_of_answer refused are_names);
+}
+
+pub faults_told : FaultsAreTold
+faults_told before state command answer fault asks own = record {
+  line = line_at fault.line (lines_in command);
+  is = refl;
+  tells = ap (λ reading. (cause_with before state (lines_in command) reading answer).told) asks
+      ∙ ap (λ (other : Bool). (cond other before (fault_account fault (lines_in command) answer)).told) own;
 }

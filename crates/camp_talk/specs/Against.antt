@@ -1,5 +1,5 @@
 -- What stands against a command that is refused: the branches that it names, what is there, and what is not.
-use Rattle.std.specs.Prelude.{ℕ, Bool, false, List, [], ◌∷◌, ◌++◌, length, filter, take, nat_lt, Option, None, Some, codes, if◌then◌else◌, is_some}
+use Rattle.std.specs.Prelude.{ℕ, Bool, false, List, [], ◌∷◌, ◌++◌, length, filter, take, nat_lt, bytes_eq, Option, None, Some, codes, if◌then◌else◌, is_some}
 use Rattle.std.specs.List.{flat_map}
 use Rattle.std.specs.Option.{option_map_or}
 use Rattle.camp_branch.specs.Branches.{first_lacked, has_patch}
@@ -8,10 +8,14 @@ use Rattle.camp_call.specs.declared.calls.Call.TheVariants as call
 use Rattle.camp_catch.specs.declared.catches.Catch.{Catch}
 use Rattle.camp_questions.specs.Files.{branch_names}
 use Rattle.camp_repo.specs.States.{Contents, catches_of}
+use Rattle.camp_repo.specs.Steps.{listed}
+use Rattle.camp_talk.specs.Pages.{page}
+use Rattle.camp_talk.specs.Refusals.{cure}
 use Rattle.camp_talk.specs.declared.questions.Asked.{Asked}
 use Rattle.camp_talk.specs.declared.questions.Asked.TheVariants as asked
 use Rattle.camp_talk.specs.declared.questions.Question.{Question}
 use Rattle.camp_talk.specs.declared.questions.Question.TheVariants as question
+use Rattle.camp_talk.specs.declared.questions.Reason.TheVariants as reason
 use Rattle.camp_talk.specs.declared.told_against.Place.{Place}
 use Rattle.camp_talk.specs.declared.told_against.Place.TheVariants.{Branch, From}
 
@@ -142,10 +146,16 @@ abbrev pub there_text : Contents → List ℕ → List ℕ
 there_text state branch =
     if is_some (catches_of state.branches branch) then codes "There is a branch " ++ branch ++ codes ".\n" else []
 
+-- the branch TO, where it is another one
+abbrev pub other_target : Option (Place × List ℕ) → Option (List ℕ) → Option (List ℕ)
+other_target None to = to
+other_target (Some place) None = None
+other_target (Some place) (Some to) = if bytes_eq place.1 to then None else Some to
+
 -- of the branches that a command names, which are not there
 abbrev pub absent_sides : Contents → Option (Place × List ℕ) → Option (List ℕ) → List ℕ
 absent_sides state place to =
-    option_map_or (λ side. absent_text state side.1) place [] ++ option_map_or (absent_text state) to []
+    option_map_or (λ side. absent_text state side.1) place [] ++ option_map_or (absent_text state) (other_target place to) []
 
 -- that the branch which a call would make is there
 abbrev pub new_text : Contents → Asked → List ℕ
@@ -156,6 +166,29 @@ new_text state other = []
 abbrev pub recorded_text : Contents → Asked → List ℕ
 recorded_text state (asked.Call (call.Record branch name changes)) = holders_line name (holders state name)
 recorded_text state other = []
+
+-- what can be done where it is there: it is pulled, unless it is there in the branch itself
+abbrev pub record_cure : Contents → Asked → List ℕ
+record_cure state (asked.Call (call.Record branch name changes)) =
+    if holds state name branch then page (codes "Take another name." ∷ []) else cure reason.PatchExists
+record_cure state other = cure reason.PatchExists
+
+-- which patches of FROM are those that a pull would bring, and TO has all
+abbrev pub had_text : Option (List (List ℕ)) → List ℕ
+had_text None = []
+had_text (Some []) = page (codes "FROM has no patch." ∷ [])
+had_text (Some (name ∷ names)) = names_line (codes "TO has already:") (name ∷ names)
+
+-- the same of a command
+abbrev pub nothing_text : Contents → Asked → List ℕ
+nothing_text state (asked.Call (call.Pull from to names)) =
+    had_text (option_map_or (λ catches. Some (listed catches names)) (catches_of state.branches from) None)
+nothing_text state other = []
+
+-- what can be done where one patch stands on another: both are pulled, or both are taken out
+abbrev pub depends_cure : Asked → List ℕ
+depends_cure (asked.Call (call.Obliterate branch names)) = page (codes "List PATCH too; held tells all that has to go." ∷ [])
+depends_cure other = page (codes "List ON too; along tells all that a pull has to list." ∷ [])
 
 -- that there is no patch of a name, behind the word for what lacks it
 abbrev pub no_patch_text : List ℕ → List ℕ

@@ -12,6 +12,7 @@ use Rattle.camp_script.specs.Lines.{is_skipped, lines_of, words_of}
 use Rattle.camp_script.specs.Texts.{reply_text}
 use Rattle.camp_script.specs.declared.faults.FaultKind.{FaultKind}
 use Rattle.camp_script.specs.declared.faults.LineFault.{LineFault}
+use Rattle.camp_talk.specs.Accounts.{Account, kept_behind}
 use Rattle.camp_talk.specs.Asking.{asked_by, first_of}
 use Rattle.camp_talk.specs.Cutting.{lines_in}
 use Rattle.camp_talk.specs.Entries.{Entries}
@@ -20,12 +21,12 @@ use Rattle.camp_talk.specs.Whys.{cause_of, is_failure, why_told}
 use Rattle.camp_talk.specs.declared.questions.Asked.{Asked}
 use Rattle.camp_talk.specs.declared.questions.Asked.TheVariants as asked
 
--- where a conversation stands: the calls that were accepted, how many lines were read, and the lines that tell the cause
--- of the last fault or refusal; none, where there was none
+-- where a conversation stands: the calls that were accepted, how many lines were read, and what is kept of the last fault
+-- or refusal
 pub record Standing : Type 0 where
   pub history : Entries
   pub lines : ℕ
-  pub cause : List ℕ
+  pub cause : Account
 
 -- the answer to a command with a fault: its line, and what is wrong with it
 abbrev pub fault_text : ℕ → FaultKind → List ℕ
@@ -49,17 +50,17 @@ Tells before (Err fault) text now = (text ≡ fault_text (before.lines + fault.l
 Tells before (Ok asked.Nothing) text now = (text ≡ []) × (now ≡ before.history)
 Tells before (Ok (asked.Call call)) text now = Replies before.history call text now
 Tells before (Ok (asked.Question question)) text now = TellsQuestion before.history question text × (now ≡ before.history)
-Tells before (Ok asked.Why) text now = (text ≡ why_told before.cause) × (now ≡ before.history)
+Tells before (Ok asked.Why) text now = (text ≡ why_told before.cause.told) × (now ≡ before.history)
 
 -- what is kept for `why`: of an answer that is a fault or a refusal its cause, at the state that the command met; and
--- behind any other what was kept before
-abbrev pub LearnsAt : Bool → Standing → List ℕ → List ℕ → List ℕ → Type 0
+-- behind any other the lines that were kept before
+abbrev pub LearnsAt : Bool → Standing → List ℕ → List ℕ → Account → Type 0
 LearnsAt true before command text cause =
     (state : Contents) × (replay repository before.history ≡ Some state) × (cause ≡ cause_of before.cause state command text)
-LearnsAt false before command text cause = cause ≡ before.cause
+LearnsAt false before command text cause = cause ≡ kept_behind text before.cause
 
 -- by the text of the answer
-abbrev pub Learns : Standing → List ℕ → List ℕ → List ℕ → Type 0
+abbrev pub Learns : Standing → List ℕ → List ℕ → Account → Type 0
 Learns before command text cause = LearnsAt (is_failure text) before command text cause
 
 -- whether a command asks nothing, by its first line: that is blank, or a comment, or there is none

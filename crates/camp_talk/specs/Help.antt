@@ -79,8 +79,8 @@ details topic.Graph = page (
     codes "and bold where it is open, and dashed and pale where it is settled." ∷ [])
 details topic.WhatIf = page (codes "If it would be accepted: the conflicts and the files that its branch would have, too." ∷ [])
 details topic.Why = page (
-    codes "Of a refusal: its answer, what that says, what stands against the command, and what can be" ∷
-    codes "done. Of a fault: its answer, the line behind >, what is to be seen in it, and the rule." ∷ [])
+    codes "Its answer, and its line behind >. Of a refusal what that says, what stands against the command," ∷
+    codes "and what can be done; of a fault what is to be seen in the line, and the rule." ∷ [])
 details topic.History = page (codes "Of each its number, its seat, which is 0, and its words." ∷ [])
 details other = []
 

@@ -1,5 +1,5 @@
 -- The laws of answers, and of what is loaded.
-use Rattle.std.specs.Prelude.{◌≡◌, ◌≢◌, ◌↔◌, ◌⊎◌, ◌<◌, ◌≤◌, ◌^◌, ℕ, true, List, [], ◌∷◌, ◌++◌, length, map, Option, Some, Result, Ok, Err}
+use Rattle.std.specs.Prelude.{◌≡◌, ◌≢◌, ◌↔◌, ◌⊎◌, ◌<◌, ◌≤◌, ◌^◌, ℕ, true, false, List, [], ◌∷◌, ◌++◌, length, map, Option, Some, Result, Ok, Err}
 use Rattle.std.specs.Fmt.{decimal}
 use Rattle.std.specs.List.{All, AllByRecursion}
 use Rattle.camp_base.specs.Signs.{newline, space}
@@ -18,23 +18,25 @@ use Rattle.camp_script.specs.Keeping.{calls_of, kept_text}
 use Rattle.camp_script.specs.Lines.{lines_of}
 use Rattle.camp_script.specs.Texts.{reply_text}
 use Rattle.camp_script.specs.declared.faults.LineFault.{LineFault}
-use Rattle.camp_talk.specs.Against.{call_about, sides_text, target}
+use Rattle.camp_talk.specs.Accounts.{Account}
+use Rattle.camp_talk.specs.Against.{absent_sides, call_about, lack_text, lacked_text, no_branch_text, sides_text, target}
 use Rattle.camp_talk.specs.Answers.{Answers, Standing, memory_text}
-use Rattle.camp_talk.specs.Asking.{asked_by}
-use Rattle.camp_talk.specs.Cutting.{longest_read}
+use Rattle.camp_talk.specs.Asking.{asked_by, first_of}
+use Rattle.camp_talk.specs.Cutting.{lines_in, longest_read}
 use Rattle.camp_talk.specs.Dialogues.{Leads}
 use Rattle.camp_talk.specs.Entries.{Entries}
 use Rattle.camp_talk.specs.Frames.{Counter, ServesAt, ServesInTurn}
 use Rattle.camp_talk.specs.Loads.{Loads, tells_failure}
-use Rattle.camp_talk.specs.Refusals.{cure, reason_of, saying}
+use Rattle.camp_talk.specs.Refusals.{reason_of, saying}
 use Rattle.camp_talk.specs.Told.{counted}
-use Rattle.camp_talk.specs.Whys.{against_text, cause_of, cause_text}
+use Rattle.camp_talk.specs.Whys.{cause_found, cause_of, cause_text, comes_of_another, cure_at, hint_text, line_at, refusal_told, rule, shown_line, word_text}
 use Rattle.camp_talk.specs.declared.faults.LoadFault.TheVariants.{Answer, Memory, Talk}
 use Rattle.camp_talk.specs.declared.faults.LoadFault.{LoadFault}
 use Rattle.camp_talk.specs.declared.questions.Asked.TheVariants as asked
 use Rattle.camp_talk.specs.declared.questions.Asked.{Asked}
 use Rattle.camp_why.specs.Causes.{IsSo, refusal_by}
 use Rattle.camp_why.specs.Grounds.{IsGround}
+use Rattle.camp_why.specs.Hints.{hint}
 use Rattle.camp_why.specs.Laws.{IsInRange, wants_cause}
 use Rattle.camp_why.specs.declared.causes.Cause.{Cause}
 
@@ -88,21 +90,23 @@ KeptIsLoaded =
     (rest : Option (List ℕ)) (result : Result (Unit {0}) LoadFault) (now : Entries) →
     Loads (Some (kept_text history)) rest [] result now → ComesBack history state result now
 
--- lines behind a refusal of a call name a cause: it is one of that refusal, what it says of the call and the state is so,
--- and it stands, behind the branches that the call names, between what the refusal says and what can be done
-pub record NamesCause (state : Contents) (call : Call) (refusal : Refusal) (lines : List ℕ) : Type 0 where
+-- lines behind a refusal of a call, which begins with this line, name a cause: it is one of that refusal, what it says of
+-- the call and the state is so, and it stands, behind the branches that the call names, between what the refusal says and
+-- what can be done
+pub record NamesCause (state : Contents) (call : Call) (refusal : Refusal) (line lines : List ℕ) : Type 0 where
   pub cause : Cause
   pub of : refusal_by cause ≡ refusal
   pub is_so : IsSo state call cause
-  pub tells : lines ≡ reply_text (Refused refusal) ++ saying (reason_of refusal)
-      ++ (sides_text (Some (call_about call)) (target (asked.Call call)) ++ cause_text cause) ++ cure (reason_of refusal)
+  pub tells : lines ≡ reply_text (Refused refusal) ++ shown_line line ++ saying (reason_of refusal)
+      ++ (sides_text (Some (call_about call)) (target (asked.Call call)) ++ cause_text cause)
+      ++ cure_at state (asked.Call call) (Some cause) (reason_of refusal)
 
 -- where a command asks a call that a state refuses with a limit or for its changes, the lines behind it name a cause
 abbrev pub CausesAreTold : Type 0
 CausesAreTold =
-    (before : List ℕ) (state : Contents) (command : List ℕ) (call : Call) (refusal : Refusal) → IsLawfulState state → IsCall call →
+    (before : Account) (state : Contents) (command : List ℕ) (call : Call) (refusal : Refusal) → IsLawfulState state → IsCall call →
     IsInRange call → asked_by command ≡ Ok (asked.Call call) → step state call ≡ refused refusal →
-    wants_cause call refusal ≡ true → NamesCause state call refusal (cause_of before state command (reply_text (Refused refusal)))
+    wants_cause call refusal ≡ true → NamesCause state call refusal (first_of (lines_in command)) (cause_of before state command (reply_text (Refused refusal))).told
 
 -- the names in a refusal
 abbrev pub names_in : Refusal → List (List ℕ)
@@ -118,16 +122,41 @@ names_in (refusal.Diverged name) = name ∷ []
 names_in (refusal.NoMerge left right) = left ∷ right ∷ []
 names_in (refusal.SameBranch branch) = branch ∷ []
 
--- lines behind a refusal of a call tell of it: what it says is so, and they are its answer, what its number says, which
--- branches the call names, what is there and what is not, and what can be done
-pub record TellsRefusal (state : Contents) (call : Call) (refusal : Refusal) (lines : List ℕ) : Type 0 where
+-- what is told of a refusal is about the name in it: that there is no such branch, or that a branch lacks this patch
+abbrev pub TellsName : Contents → Call → Refusal → Type 0
+TellsName state call (refusal.NoBranch name) =
+    (front : List ℕ) × (back : List ℕ)
+    × (absent_sides state (Some (call_about call)) (target (asked.Call call)) ≡ front ++ no_branch_text name ++ back)
+TellsName state call (refusal.NoPatch name) =
+    lacked_text state (asked.Call call) (Some (call_about call)) ≡ lack_text state (call_about call).1 (Some name)
+TellsName state call other = Unit {0}
+
+-- lines behind a refusal of a call, which begins with this line, tell of it: what it says is so, and they are its answer,
+-- that line, what its number says, which branches the call names, what is there and what is not, and what can be done
+pub record TellsRefusal (state : Contents) (call : Call) (refusal : Refusal) (line lines : List ℕ) : Type 0 where
   pub ground : IsGround state call refusal
-  pub tells : lines ≡ reply_text (Refused refusal) ++ saying (reason_of refusal)
-      ++ against_text state (asked.Call call) (reason_of refusal) ++ cure (reason_of refusal)
+  pub named : TellsName state call refusal
+  pub tells : lines ≡ refusal_told state (asked.Call call) line (reply_text (Refused refusal))
+      (cause_found state (asked.Call call) (reason_of refusal)) (reason_of refusal)
 
 -- where a command asks a call that a state refuses, the lines behind it tell of the refusal
 abbrev pub RefusalsAreTold : Type 0
 RefusalsAreTold =
-    (before : List ℕ) (state : Contents) (command : List ℕ) (call : Call) (refusal : Refusal) → IsLawfulState state → IsCall call →
+    (before : Account) (state : Contents) (command : List ℕ) (call : Call) (refusal : Refusal) → IsLawfulState state → IsCall call →
     IsInRange call → AreNames (names_in refusal) → asked_by command ≡ Ok (asked.Call call) → step state call ≡ refused refusal →
-    TellsRefusal state call refusal (cause_of before state command (reply_text (Refused refusal)))
+    TellsRefusal state call refusal (first_of (lines_in command)) (cause_of before state command (reply_text (Refused refusal))).told
+
+-- lines behind a command with a fault tell of it: they are its answer, the line that has the fault, as much of it as is
+-- shown, which word is no name, what is to be seen there, and the rule
+pub record TellsFault (fault : LineFault) (command answer lines : List ℕ) : Type 0 where
+  pub line : List ℕ
+  pub is : line ≡ line_at fault.line (lines_in command)
+  pub tells : lines ≡ answer ++ shown_line line ++ word_text fault.kind line
+      ++ hint_text (hint fault.kind line) ++ rule fault.kind
+
+-- where a command has a fault that comes of none before it, the lines behind it tell of it
+abbrev pub FaultsAreTold : Type 0
+FaultsAreTold =
+    (before : Account) (state : Contents) (command answer : List ℕ) (fault : LineFault) → asked_by command ≡ Err fault →
+    comes_of_another before.inside fault.kind (lines_in command) ≡ false →
+    TellsFault fault command answer (cause_of before state command answer).told

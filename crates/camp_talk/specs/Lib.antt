@@ -1,3 +1,4 @@
+pub mod Accounts
 pub mod Against
 pub mod Answers
 pub mod Asking

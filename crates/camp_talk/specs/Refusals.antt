@@ -39,7 +39,7 @@ saying reason.NothingToDo = page (codes "refused 8: nothing to do, TO has all th
 saying reason.TooLarge = page (codes "refused 9: a limit would be passed" ∷ [])
 saying reason.DoesNotApply = page (codes "refused 10: a change does not apply to the files as they are" ∷ [])
 saying reason.Depends = page (codes "refused 11 PATCH ON: PATCH stands on ON" ∷ [])
-saying reason.Diverged = page (codes "refused 12 NAME: two branches have this patch in forms that do not agree" ∷ [])
+saying reason.Diverged = page (codes "refused 12 NAME: in one branch NAME can't come before what the other lacks, or its two forms differ" ∷ [])
 saying reason.NoMerge = page (codes "refused 13 LEFT RIGHT: LEFT of TO and RIGHT of FROM do not merge" ∷ [])
 saying reason.SameBranch = page (codes "refused 14 BRANCH: a branch does not pull from itself" ∷ [])
 
@@ -50,23 +50,21 @@ cure reason.BadPath = page (
     codes "A path has 1 to 200 printing ASCII characters and no blank. Between its / no part is" ∷
     codes "empty, . or .. and so it begins and ends with no /." ∷ [])
 cure reason.BadLine = page (codes "A line of a body has 4096 bytes at most behind its sign. Cut it in two." ∷ [])
-cure reason.NoBranch = page (codes "branches tells which there are; branch makes one." ∷ [])
+cure reason.NoBranch = page (codes "The command branches tells which there are, and branch makes one." ∷ [])
 cure reason.BranchExists = page (codes "Take another name." ∷ [])
 cure reason.PatchExists = page (codes "Take another name. To have that patch here, pull it." ∷ [])
-cure reason.NoPatch = page (codes "names tells which it has; missing tells what another branch has and it lacks." ∷ [])
+cure reason.NoPatch = page (codes "The command names tells which it has, and missing what another branch has and it lacks." ∷ [])
 cure reason.NothingToDo = page (codes "There is nothing to mend." ∷ [])
 cure reason.TooLarge = page (
     codes "The limits: 256 branches, 4096 changes in a branch, 65535 lines in a side of an edit," ∷
     codes "1000000 lines in a file. Cut the edit or the patch in parts, or take patches out of the branch." ∷ [])
 cure reason.DoesNotApply = page (
     codes "add wants no file, remove a file without lines, and an edit its old lines at LINE." ∷
-    codes "file BRANCH PATH tells what is there before the first change." ∷ [])
+    codes "Until more is recorded, file BRANCH PATH tells what is there before the first change." ∷ [])
 cure reason.Depends = page (
-    codes "Of a pull: list ON too; along tells all that it has to list. Of an obliterate: list PATCH too;" ∷
-    codes "held tells all that has to go." ∷ [])
-cure reason.Diverged = page (
-    codes "Or it can't be brought before what one of them alone has. Obliterate it in one of them," ∷
-    codes "with what stands on it, and pull again." ∷ [])
+    codes "In a pull list ON too; along tells all that it has to list. In an obliterate list PATCH too; held" ∷
+    codes "tells all that has to go." ∷ [])
+cure reason.Diverged = page (codes "Obliterate it in one of them, with what stands on it, and pull again." ∷ [])
 cure reason.NoMerge = page (codes "Pull without RIGHT, or obliterate LEFT in TO first." ∷ [])
 cure reason.SameBranch = page (codes "Name another branch." ∷ [])
 

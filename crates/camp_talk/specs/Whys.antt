@@ -1,16 +1,18 @@
 -- What is told of the last command that was not done.
-use Rattle.std.specs.Prelude.{ℕ, ◌-◌, Bool, true, false, not, ◌||◌, ◌&&◌, ◌==◌, List, [], ◌∷◌, ◌++◌, length, drop, take, nat_lt, Option, None, Some, Result, Ok, Err, bytes_eq, codes, if◌then◌else◌}
+use Rattle.std.specs.Prelude.{ℕ, ◌-◌, Bool, true, false, ◌||◌, ◌&&◌, ◌==◌, List, [], ◌∷◌, ◌++◌, length, drop, take, nat_lt, Option, None, Some, Result, Ok, Err, bytes_eq, codes, if◌then◌else◌}
 use Rattle.std.specs.Char.{is_ascii_whitespace}
 use Rattle.std.specs.Fmt.{decimal}
 use Rattle.std.specs.List.{suffix_len}
 use Rattle.camp_call.specs.declared.calls.Call.{Call}
 use Rattle.camp_call.specs.declared.replies.Refusal.TheVariants as refusal
 use Rattle.camp_repo.specs.States.{Contents}
+use Rattle.camp_script.specs.Behind.{behind_word}
 use Rattle.camp_script.specs.Lines.{lines_of, words_of}
 use Rattle.camp_script.specs.declared.faults.FaultKind.{FaultKind}
 use Rattle.camp_script.specs.declared.faults.FaultKind.TheVariants as kind
 use Rattle.camp_script.specs.declared.faults.LineFault.{LineFault}
-use Rattle.camp_talk.specs.Against.{about, absent_sides, branches_line, lacked_text, new_text, recorded_text, sides_text, target}
+use Rattle.camp_talk.specs.Accounts.{Account}
+use Rattle.camp_talk.specs.Against.{about, absent_sides, branches_line, depends_cure, lacked_text, new_text, nothing_text, record_cure, recorded_text, sides_text, target}
 use Rattle.camp_talk.specs.Asking.{asked_by, first_of, reason_at}
 use Rattle.camp_talk.specs.Cutting.{lines_in}
 use Rattle.camp_talk.specs.Pages.{page}
@@ -21,7 +23,7 @@ use Rattle.camp_talk.specs.declared.questions.Asked.TheVariants as asked
 use Rattle.camp_talk.specs.declared.questions.Reason.{Reason}
 use Rattle.camp_talk.specs.declared.questions.Reason.TheVariants as reason
 use Rattle.camp_why.specs.Causes.{explained}
-use Rattle.camp_why.specs.Hints.{begins, begins_signed, first_word, hint, misnamed}
+use Rattle.camp_why.specs.Hints.{begins, begins_signed, call_part, first_word, hint, misnamed}
 use Rattle.camp_why.specs.declared.causes.Cause.{Cause}
 use Rattle.camp_why.specs.declared.causes.Cause.TheVariants as cause
 use Rattle.camp_why.specs.declared.hints.Hint.{Hint}
@@ -50,17 +52,24 @@ why_told cause = counted (codes "why") (cause_told cause)
 -- what is to be seen in the line
 abbrev pub hint_text : Hint → List ℕ
 hint_text seen.Nothing = []
-hint_text seen.OfBody = page (codes "It is a line of a body, and no body has begun here, or it was over." ∷ [])
-hint_text seen.TooLong = page (
-    codes "It has more than 1048576 bytes: it is read as its first 4098, with ? for the second." ∷ [])
+hint_text seen.OfBody = page (codes "It begins with - or +, as a line of a body does, and no body has begun here." ∷ [])
+hint_text seen.OfScript = page (codes "It is a line of scripts alone: a conversation has one client." ∷ [])
+hint_text seen.NoCall = page (codes "Behind whatif stands branch, record, pull, obliterate, tree, conflicts or names." ∷ [])
+hint_text seen.NoTopic = page (codes "Behind help stands the first word of a command, or refused." ∷ [])
+hint_text seen.TooLong = page (codes "It has 4098 bytes, the second is ?: so a line of more than 1048576 bytes is read." ∷ [])
 hint_text seen.CarriageReturn = page (codes "It ends with a carriage return: end each line with LF alone." ∷ [])
 hint_text seen.Strange = page (
     codes "It has a byte that is no printing ASCII character: commands, names and paths have none." ∷ [])
 hint_text seen.Quotes = page (
-    codes "It has a quotation mark: that holds no words together, and no command or name has one." ∷ [])
+    codes "It has a quotation mark: quotes do not join words, and no command or name has one." ∷ [])
 hint_text seen.Capitals = page (codes "It has a capital letter: commands and names have small letters alone." ∷ [])
-hint_text seen.Empty = page (codes "It is empty: for an empty line of the file write - or + alone." ∷ [])
-hint_text seen.Blank = page (codes "It begins with a blank: the sign comes first, and end stands alone." ∷ [])
+hint_text seen.Zero = page (codes "The number is 0, and the least is 1." ∷ [])
+hint_text seen.Empty = page (
+    codes "It is empty: for an empty line of the file write - or + alone." ∷
+    codes "If the body was to be over, a line that is just end is missing." ∷ [])
+hint_text seen.Blank = page (
+    codes "It begins with a blank: the sign comes first, and end stands alone." ∷
+    codes "If the body was to be over, a line that is just end is missing." ∷ [])
 hint_text seen.NoLine = page (codes "The body has no line: both sides are empty." ∷ [])
 hint_text seen.TooFar = page (
     codes "The edit reaches too far: LINE and the numbers of lines of both sides add up to too much." ∷ [])
@@ -113,6 +122,10 @@ abbrev pub cut_text : List ℕ → List ℕ
 cut_text line =
     if nat_lt most_shown (length line) then page (codes "Its first 200 bytes are shown, and it has more." ∷ []) else []
 
+-- a line behind `>`, as much of it as is shown
+abbrev pub shown_line : List ℕ → List ℕ
+shown_line line = codes ">" ++ take most_shown line ++ codes "\n" ++ cut_text line
+
 -- that a word is no name
 abbrev pub no_name_text : List ℕ → List ℕ
 no_name_text word = codes "This is no name: " ++ word ++ codes "\n"
@@ -127,11 +140,10 @@ abbrev pub word_text : FaultKind → List ℕ → List ℕ
 word_text kind.BadName line = misnamed_text (misnamed (words_of line))
 word_text other line = []
 
--- the answer, the line behind `>`, the word that has the fault, what is to be seen there, the rule, and what to write
+-- the answer, the line, the word that has the fault, what is to be seen there, the rule, and what to write
 abbrev pub fault_lines : FaultKind → List ℕ → List ℕ → List ℕ
 fault_lines kind line answer =
-    answer ++ codes ">" ++ take most_shown line ++ codes "\n" ++ cut_text line ++ word_text kind line
-    ++ hint_text (hint kind line) ++ rule kind
+    answer ++ shown_line line ++ word_text kind line ++ hint_text (hint kind line) ++ rule kind
 
 -- ---- of a command that is refused
 
@@ -143,7 +155,7 @@ trimmed line = take (length line - suffix_len is_ascii_whitespace line) line
 abbrev pub ends_text : List ℕ → List ℕ → List ℕ
 ends_text stands expected =
     if bytes_eq (trimmed stands) (trimmed expected)
-    then page (codes "They differ in blanks or a carriage return at their ends." ∷ []) else []
+    then page (codes "They differ in white space at their ends, as a blank or a carriage return is." ∷ []) else []
 
 -- that another line stands there than an edit takes away
 abbrev pub met_text : ℕ → List ℕ → List ℕ → List ℕ
@@ -155,19 +167,20 @@ met_text at stands expected =
 abbrev pub two_numbers : List ℕ → ℕ → List ℕ → ℕ → List ℕ → List ℕ
 two_numbers front first middle second back = front ++ decimal first ++ middle ++ decimal second ++ back
 
--- the old line that finds none
-abbrev pub lacks_text : Option (List ℕ) → List ℕ
-lacks_text None = []
-lacks_text (Some line) = codes "No line is there for this one, which the edit takes away:\n-" ++ line ++ codes "\n"
+-- the old line that finds none, and the line at which it would stand
+abbrev pub lacks_text : ℕ → Option (List ℕ) → List ℕ
+lacks_text at None = []
+lacks_text at (Some line) =
+    codes "There is no line " ++ decimal at ++ codes ", where the edit takes away\n-" ++ line ++ codes "\n"
 
 -- why a change does not apply: what is there, and what was expected
 abbrev pub misfit_text : Misfit → List ℕ
 misfit_text misfit.FileIsThere = codes ": it is there already.\n"
 misfit_text misfit.NoFile = codes ": there is none.\n"
 misfit_text (misfit.HasLines count) = codes ": its number of lines is " ++ decimal count ++ codes ", and remove wants a file without lines.\n"
-misfit_text (misfit.EndsBefore has wants lacks) =
+misfit_text (misfit.EndsBefore has wants at lacks) =
     two_numbers (codes ": its number of lines is ") has (codes ", and the edit wants ") wants (codes " or more.\n")
-    ++ lacks_text lacks
+    ++ lacks_text at lacks
 misfit_text (misfit.OtherLine at stands expected) = met_text at stands expected ++ ends_text stands expected
 
 -- why a record stops
@@ -187,7 +200,7 @@ stop_text stop = change_text stop.change stop.path ++ hindrance_text stop.why
 -- what stands against a command
 abbrev pub cause_text : Cause → List ℕ
 cause_text (cause.FullRepository count) =
-    codes "There are " ++ decimal count ++ codes " branches, and 256 is the most: record in one of them.\n"
+    codes "There are " ++ decimal count ++ codes " branches, and 256 is the most.\n"
 cause_text (cause.FullBranch has more) =
     two_numbers (codes "The branch has ") has (codes " changes, and the patch ") more (codes " more: 4096 is the most.\n")
 cause_text (cause.FullWithPull has more) =
@@ -218,24 +231,51 @@ abbrev pub reason_in : List (List ℕ) → Option Reason
 reason_in (word ∷ number ∷ names) = reason_at number
 reason_in others = None
 
--- what is there and what is not, in the state that the command met: what its refusal is about
-abbrev pub facts_text : Contents → Asked → Reason → List ℕ
-facts_text state asked reason.NoBranch = absent_sides state (about asked) (target asked) ++ branches_line state
-facts_text state asked reason.BranchExists = new_text state asked ++ branches_line state
-facts_text state asked reason.PatchExists = recorded_text state asked
-facts_text state asked reason.NoPatch = lacked_text state asked (about asked)
-facts_text state asked reason.SameBranch = branches_line state
-facts_text state asked other = found_text (cause_found state asked other)
+-- what is there and what is not, in the state that the command met: what its refusal is about, by the cause that was found
+abbrev pub facts_text : Contents → Asked → Option Cause → Reason → List ℕ
+facts_text state asked found reason.NoBranch = absent_sides state (about asked) (target asked) ++ branches_line state
+facts_text state asked found reason.BranchExists = new_text state asked ++ branches_line state
+facts_text state asked found reason.PatchExists = recorded_text state asked
+facts_text state asked found reason.NoPatch = lacked_text state asked (about asked)
+facts_text state asked found reason.NothingToDo = nothing_text state asked
+facts_text state asked found reason.SameBranch = branches_line state
+facts_text state asked found other = found_text found
 
 -- what stands against a command: which branches it names, and what is there and what is not
-abbrev pub against_text : Contents → Asked → Reason → List ℕ
-against_text state asked reason = sides_text (about asked) (target asked) ++ facts_text state asked reason
+abbrev pub against_text : Contents → Asked → Option Cause → Reason → List ℕ
+against_text state asked found reason = sides_text (about asked) (target asked) ++ facts_text state asked found reason
 
--- the answer, what it says, what stands against the command, and what can be done
-abbrev pub refusal_lines : Contents → Asked → List ℕ → Option Reason → List ℕ
-refusal_lines state asked answer None = answer
-refusal_lines state asked answer (Some reason) =
-    answer ++ saying reason ++ against_text state asked reason ++ cure reason
+-- what can be done where a limit would be passed
+abbrev pub limit_cure : Cause → List ℕ
+limit_cure (cause.FullRepository count) = page (codes "Record in one of the branches that there are." ∷ [])
+limit_cure (cause.FullBranch has more) = page (
+    codes "Record in a branch with fewer changes, or take patches out of this one by obliterate." ∷ [])
+limit_cure (cause.FullWithPull has more) = page (codes "Pull fewer patches, or take patches out of TO by obliterate." ∷ [])
+limit_cure (cause.LongSide change path old new) = page (codes "Cut the edit in parts." ∷ [])
+limit_cure (cause.Stops stop) = page (codes "Put some of the lines into another file." ∷ [])
+
+-- the same, by the cause that was found
+abbrev pub found_cure : Option Cause → List ℕ
+found_cure None = cure reason.TooLarge
+found_cure (Some found) = limit_cure found
+
+-- what can be done about a refusal of a command
+abbrev pub cure_at : Contents → Asked → Option Cause → Reason → List ℕ
+cure_at state asked found reason.PatchExists = record_cure state asked
+cure_at state asked found reason.TooLarge = found_cure found
+cure_at state asked found reason.Depends = depends_cure asked
+cure_at state asked found other = cure other
+
+-- the answer, the first line of the command, what the answer says, what stands against the command, and what can be done
+abbrev pub refusal_told : Contents → Asked → List ℕ → List ℕ → Option Cause → Reason → List ℕ
+refusal_told state asked line answer found reason =
+    answer ++ shown_line line ++ saying reason ++ against_text state asked found reason ++ cure_at state asked found reason
+
+-- the same by its reason; an answer that has none is told alone
+abbrev pub refusal_lines : Contents → Asked → List ℕ → List ℕ → Option Reason → List ℕ
+refusal_lines state asked line answer None = answer
+refusal_lines state asked line answer (Some reason) =
+    refusal_told state asked line answer (cause_found state asked reason) reason
 
 -- ---- of any
 
@@ -243,30 +283,62 @@ refusal_lines state asked answer (Some reason) =
 abbrev pub is_inner : List ℕ → Bool
 is_inner word =
     begins_signed word || (bytes_eq word (codes "end") || (bytes_eq word (codes "end\r")
-    || (bytes_eq word (codes "done") || bytes_eq word (codes "done\r"))))
+    || (bytes_eq word (codes "done") || (bytes_eq word (codes "done\r")
+    || (bytes_eq word (codes "add") || (bytes_eq word (codes "remove") || bytes_eq word (codes "edit")))))))
+
+-- whether a word of a record says that lines follow, also where it has a capital letter, or LF has CR before it
+abbrev pub is_longer : List ℕ → Bool
+is_longer word =
+    bytes_eq word (codes "edit") || (bytes_eq word (codes "Edit") || (bytes_eq word (codes "group")
+    || (bytes_eq word (codes "group\r") || bytes_eq word (codes "Group"))))
+
+-- whether a word of a record says that none do
+abbrev pub is_short : List ℕ → Bool
+is_short word = bytes_eq word (codes "add") || bytes_eq word (codes "remove")
+
+-- whether the first of some words that says either says that lines follow
+abbrev pub announces : List (List ℕ) → Bool
+announces [] = false
+announces (word ∷ words) = if is_longer word then true else (if is_short word then false else announces words)
+
+-- whether the lines of a body or a group may follow a line, by the words of its call from the fourth on
+abbrev pub is_head : List ℕ → Bool
+is_head line = announces (words_of (behind_word (behind_word (behind_word (call_part line)))))
+
+-- whether a fault is one in the first line of a command, and lines of a body or a group may follow that
+abbrev pub cuts_off : ℕ → List (List ℕ) → Bool
+cuts_off number lines = number == 1 && is_head (first_of lines)
 
 -- whether a kind is that of a line that begins no command
 abbrev pub is_unknown : FaultKind → Bool
 is_unknown kind.UnknownCommand = true
 is_unknown other = false
 
--- whether a fault comes of one before it: its command is a line of a body or a group that was not begun
-abbrev pub comes_of_another : FaultKind → List (List ℕ) → Bool
-comes_of_another kind lines = is_unknown kind && is_inner (first_word (words_of (first_of lines)))
+-- whether a fault comes of one before it: its command is a line of a body or a group that was cut off
+abbrev pub comes_of_another : Bool → FaultKind → List (List ℕ) → Bool
+comes_of_another inside kind lines = inside && (is_unknown kind && is_inner (first_word (words_of (first_of lines))))
 
--- the lines that tell why a command with a fault is not done; where that comes of a fault before it, they stay
-abbrev pub fault_cause : List ℕ → LineFault → List (List ℕ) → List ℕ → List ℕ
+-- what is kept of a command with a fault of its own
+abbrev pub fault_account : LineFault → List (List ℕ) → List ℕ → Account
+fault_account fault lines answer = record {
+  told = fault_lines fault.kind (line_at fault.line lines) answer;
+  inside = cuts_off fault.line lines;
+}
+
+-- what is kept of a command with a fault; where that comes of a fault before it, what was kept of that one stays
+abbrev pub fault_cause : Account → LineFault → List (List ℕ) → List ℕ → Account
 fault_cause before fault lines answer =
-    if not (length before == 0) && comes_of_another fault.kind lines then before
-    else fault_lines fault.kind (line_at fault.line lines) answer
+    if comes_of_another before.inside fault.kind lines then before
+    else fault_account fault lines answer
 
--- the lines that tell why a command is not done, by what they were before, the state, its lines, what it asks and its
--- answer
-abbrev pub cause_with : List ℕ → Contents → List (List ℕ) → Result Asked LineFault → List ℕ → List ℕ
+-- what is kept of a command that is not done, by what was kept before, the state, its lines, what it asks and its answer
+abbrev pub cause_with : Account → Contents → List (List ℕ) → Result Asked LineFault → List ℕ → Account
 cause_with before state lines (Err fault) answer = fault_cause before fault lines answer
-cause_with before state lines (Ok asked) answer =
-    refusal_lines state asked answer (reason_in (words_of (first_of (lines_of answer))))
+cause_with before state lines (Ok asked) answer = record {
+  told = refusal_lines state asked (first_of lines) answer (reason_in (words_of (first_of (lines_of answer))));
+  inside = false;
+}
 
 -- by the state, the command and its answer
-abbrev pub cause_of : List ℕ → Contents → List ℕ → List ℕ → List ℕ
+abbrev pub cause_of : Account → Contents → List ℕ → List ℕ → Account
 cause_of before state command answer = cause_with before state (lines_in command) (asked_by command) answer

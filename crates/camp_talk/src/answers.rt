@@ -12,11 +12,12 @@ ghost use Rattle.camp_talk.specs.Talks.{AppendsSome};
 ghost use Rattle.camp_talk.specs.Whys.{is_failure};
 ghost use Rattle.camp_talk.specs.declared.questions.Asked.{Asked as SaidAsked};
 
-use crate::TalkFault;
+use crate::accounts::leaves_place;
 use crate::questions::Asked;
 use crate::readings::Command;
 use crate::tellings::answer_question;
 use crate::told_whys::{cause_of, is_failure, tell_why};
+use crate::{Account, TalkFault};
 use camp_object::Fault;
 use camp_repo::{Book, Call, Object, Reply, State};
 use camp_script::{FaultKind, ScriptFault, append_reply, write_text};
@@ -24,26 +25,26 @@ use itoa::Buffer;
 use std::alloc::{AllocError, Global};
 use std::io::Write;
 
-/// The text of the answer to a command, by the number of the lines before it. Where it is not done, the lines
-/// that tell why become `cause`. Where memory runs out the book and the cause stay; where nothing is asked
-/// none is wanted.
+/// The text of the answer to a command, by the number of the lines before it. Where it is not done, `cause`
+/// becomes what is kept of that. Where memory runs out the book and the cause stay; where nothing is asked none is
+/// wanted.
 pub(crate) fn respond(
     alloc: Global,
     book: &mut Book<State>,
     before: u64,
-    cause: &mut Vec<u8>,
+    cause: &mut Account,
     command: &Command,
 ) -> Result<Vec<u8>, AllocError>
     ensures text { IfOk result (λ text. (reading : Result SaidAsked SaidFault) → Gives command.now.asked reading →
-        Tells (record { history = book.old; lines = before; cause = cause.old.items }) reading text.items book.new) }
+        Tells (record { history = book.old; lines = before; cause = cause.old }) reading text.items book.new) }
     ensures learns { IfOk result (λ text. (reading : Result SaidAsked SaidFault) → Gives command.now.asked reading →
-        LearnsOf (record { history = book.old; lines = before; cause = cause.old.items })
-        (lines_of command.now.bytes.items) reading text.items cause.new.items) }
+        LearnsOf (record { history = book.old; lines = before; cause = cause.old })
+        (lines_of command.now.bytes.items) reading text.items cause.new) }
     ensures kept { OnErr result (book.new ≡ book.old) }
-    ensures same { OnErr result (cause.new.items ≡ cause.old.items) }
+    ensures same { OnErr result (cause.new ≡ cause.old) }
     ensures nothing { OnErr result (command.now.asked ≢ Ok SaidAsked.Nothing) }
 {
-    let text = answer(alloc, book, before, cause.as_slice(), &command.asked)?;
+    let text = answer(alloc, book, before, cause, &command.asked)?;
     if is_failure(&text) {
         *cause = cause_of(
             alloc,
@@ -53,17 +54,22 @@ pub(crate) fn respond(
             &command.asked,
             &text,
         )?;
+        return Ok(text);
     }
+    if leaves_place(&text) {
+        return Ok(text);
+    }
+    cause.close();
     Ok(text)
 }
 
-// The text of the answer to what a command asks, by the number of the lines before it and the cause of the
+// The text of the answer to what a command asks, by the number of the lines before it and what is kept of the
 // last fault or refusal.
 fn answer(
     alloc: Global,
     book: &mut Book<State>,
     before: u64,
-    cause: &[u8],
+    cause: &Account,
     asked: &Result<Asked, ScriptFault>,
 ) -> Result<Vec<u8>, AllocError>
     ensures text { IfOk result (λ text. (reading : Result SaidAsked SaidFault) → Gives asked.now reading →
@@ -82,7 +88,7 @@ fn answer(
 fn answer_asked(
     alloc: Global,
     book: &mut Book<State>,
-    cause: &[u8],
+    cause: &Account,
     asked: &Asked,
 ) -> Result<Vec<u8>, AllocError>
     ensures text { IfOk result (λ text. (before : ℕ) →
@@ -95,7 +101,7 @@ fn answer_asked(
         Asked::Nothing => Ok(Vec::new(alloc)),
         Asked::Call(call) => reply(alloc, book, call),
         Asked::Question(question) => answer_question(alloc, book, question),
-        Asked::Why => tell_why(alloc, cause),
+        Asked::Why => tell_why(alloc, cause.told()),
     }
 }
 

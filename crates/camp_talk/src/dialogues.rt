@@ -3,8 +3,8 @@ ghost use Rattle.std.specs.Prelude.{◌≡◌, ◌-◌, ◌^◌, ◌<◌, Bool, 
 ghost use Rattle.camp_talk.specs.Dialogues.{TakesTurns};
 ghost use Rattle.camp_talk.specs.Talks.{Turns};
 
-use crate::TalkFault;
 use crate::talks::turn;
+use crate::{Account, TalkFault};
 use camp_repo::{Book, State};
 use std::alloc::Global;
 use std::io::{BufRead, Write};
@@ -41,8 +41,8 @@ pub struct Conversation<R, W> {
     book: Book<State>,
     /// How many lines were read.
     lines: u64,
-    /// The lines that tell the cause of the last fault or refusal.
-    cause: Vec<u8>,
+    /// What is kept of the last fault or refusal.
+    cause: Account,
     reader: R,
     writer: W,
 }
@@ -54,7 +54,7 @@ impl<R: BufRead, W: Write> Conversation<R, W> {
             alloc,
             book,
             lines: 0,
-            cause: Vec::new(alloc),
+            cause: Account::new(alloc),
             reader,
             writer,
         }
@@ -65,8 +65,8 @@ impl<R: BufRead, W: Write> Dialogue for Conversation<R, W> {
     type Fault = TalkFault;
 
     ghost comes_to = { λ old result new. Turns (R.remaining old.reader) (R.remaining new.reader) (W.contents old.writer) (W.contents new.writer)
-        (record { history = old.book; lines = old.lines; cause = old.cause.items })
-        result (record { history = new.book; lines = new.lines; cause = new.cause.items }) };
+        (record { history = old.book; lines = old.lines; cause = old.cause })
+        result (record { history = new.book; lines = new.lines; cause = new.cause }) };
 
     ghost left = { λ it. 2 ^ 64 - it.lines };
 

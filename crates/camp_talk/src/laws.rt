@@ -1,4 +1,4 @@
-ghost use Rattle.camp_talk.specs.Laws.{CausesAreTold, CountsAreTold, FailuresAreTold, KeptIsLoaded, RefusalsAreTold, RequestsAreServedInTurn};
+ghost use Rattle.camp_talk.specs.Laws.{CausesAreTold, CountsAreTold, FailuresAreTold, FaultsAreTold, KeptIsLoaded, RefusalsAreTold, RequestsAreServedInTurn};
 
 /// The first line of an answer that is counted tells how many lines follow.
 #[tactic(auto, using(crate::proofs::CountLemmas::counts_are_told))]
@@ -33,4 +33,9 @@ pub fn causes_are_told()
 /// Where a call is refused, the lines that tell why tell of that refusal, and what it says is so.
 pub fn refusals_are_told()
     ensures law { RefusalsAreTold }
+{}
+
+/// Where a command has a fault of its own, the lines that tell why tell of the line that has it.
+pub fn faults_are_told()
+    ensures law { FaultsAreTold }
 {}

@@ -1,6 +1,7 @@
 //! A conversation: commands of a reader, each answered to a writer as soon as its last line is read.
 #![tactic(auto)]
 
+mod accounts;
 mod answers;
 mod asking;
 mod commands;
@@ -33,13 +34,14 @@ mod told_whys;
 mod topics;
 mod views;
 
+pub use accounts::Account;
 pub use camp_repo::{Book, State};
 pub use dialogues::{Conversation, Dialogue, talk};
 pub use faults::{LoadFault, TalkFault};
 pub use frames::{FrameFault, FramedConversation};
 pub use laws::{
-    causes_are_told, counts_are_told, failures_are_told, kept_is_loaded, refusals_are_told,
-    requests_are_served_in_turn,
+    causes_are_told, counts_are_told, failures_are_told, faults_are_told, kept_is_loaded,
+    refusals_are_told, requests_are_served_in_turn,
 };
 pub use loads::load;
 pub use questions::{Question, Reason, Topic};

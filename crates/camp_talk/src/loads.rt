@@ -4,8 +4,8 @@ ghost use Rattle.camp_talk.specs.Inside.Hearing.{LoadsOne};
 ghost use Rattle.camp_talk.specs.Loads.{Loads, tells_failure};
 ghost use Rattle.camp_talk.specs.Talks.{HasRisen};
 
-use crate::LoadFault;
 use crate::talks::{Heard, hear};
+use crate::{Account, LoadFault};
 use camp_repo::{Book, State};
 use std::alloc::Global;
 use std::io::BufRead;
@@ -20,7 +20,7 @@ pub fn load<R: BufRead>(
     ensures loads { Loads (R.remaining reader.old) (R.remaining reader.new) book.old result book.new }
 {
     let mut lines = 0;
-    let mut cause = Vec::new(alloc);
+    let mut cause = Account::new(alloc);
     while load_one(alloc, book, &mut lines, &mut cause, reader)? {}
     Ok(())
 }
@@ -30,12 +30,12 @@ fn load_one<R: BufRead>(
     alloc: Global,
     book: &mut Book<State>,
     lines: &mut u64,
-    cause: &mut Vec<u8>,
+    cause: &mut Account,
     reader: &mut R,
 ) -> Result<bool, LoadFault>
     ensures loads { LoadsOne (R.remaining reader.old) (R.remaining reader.new)
-        (record { history = book.old; lines = lines.old; cause = cause.old.items })
-        result (record { history = book.new; lines = lines.new; cause = cause.new.items }) }
+        (record { history = book.old; lines = lines.old; cause = cause.old })
+        result (record { history = book.new; lines = lines.new; cause = cause.new }) }
     ensures counts { IfOk result (λ more. more ≡ true → HasRisen lines.old lines.new) }
 {
     let Heard {

@@ -3,8 +3,8 @@ ghost use Rattle.std.specs.Prelude.{◌≡◌, ◌++◌, List, IfErr, IfOk, ℕ}
 ghost use Rattle.camp_talk.specs.Inside.Said.{IsNotWriting};
 ghost use Rattle.camp_talk.specs.Requests.{AnswersRequest, AnswersSome};
 
-use crate::TalkFault;
 use crate::talks::turn;
+use crate::{Account, TalkFault};
 use camp_repo::{Book, State};
 use std::alloc::Global;
 
@@ -26,7 +26,7 @@ pub fn answer_request(
 {
     let mut reader = request;
     let mut lines = 0;
-    let mut cause = Vec::new(alloc);
+    let mut cause = Account::new(alloc);
     loop {
         match turn(alloc, book, &mut lines, &mut cause, &mut reader, answer) {
             Ok(true) => {}

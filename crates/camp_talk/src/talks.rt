@@ -3,9 +3,9 @@ ghost use Rattle.std.specs.Prelude.{◌≡◌, ◌+◌, true, IfOk, IfErr};
 ghost use Rattle.camp_talk.specs.Inside.Hearing.{Hears};
 ghost use Rattle.camp_talk.specs.Talks.{HasRisen, ReadsNone, Turns};
 
-use crate::TalkFault;
 use crate::answers::{respond, write_said};
 use crate::readings::{count_lines, read_command};
+use crate::{Account, TalkFault};
 use camp_repo::{Book, State};
 use std::alloc::{AllocError, Global};
 use std::io::{BufRead, Write};
@@ -24,21 +24,21 @@ pub(crate) struct Heard {
 }
 
 /// Reads a command, and asks it of a book at seat 0. So many lines were read before it. Where it is not done,
-/// the lines that tell why become `cause`.
+/// `cause` becomes what is kept of that.
 pub(crate) fn hear<R: BufRead>(
     alloc: Global,
     book: &mut Book<State>,
     lines: u64,
-    cause: &mut Vec<u8>,
+    cause: &mut Account,
     reader: &mut R,
 ) -> Result<Heard, TalkFault>
     ensures hears { IfOk result (λ heard. Hears (R.remaining reader.old) (R.remaining reader.new)
-        (record { history = book.old; lines = lines; cause = cause.old.items }) heard.is_whole heard.said
-        (record { history = book.new; lines = heard.lines; cause = cause.new.items })) }
+        (record { history = book.old; lines = lines; cause = cause.old }) heard.is_whole heard.said
+        (record { history = book.new; lines = heard.lines; cause = cause.new })) }
     ensures line { IfOk result (λ heard. heard.line ≡ lines + 1) }
     ensures none { IfErr result (ReadsNone (R.remaining reader.old) (R.remaining reader.new)
-        (record { history = book.old; lines = lines; cause = cause.old.items })) }
-    ensures same { IfErr result (λ why. (book.new ≡ book.old) × (cause.new.items ≡ cause.old.items)) }
+        (record { history = book.old; lines = lines; cause = cause.old })) }
+    ensures same { IfErr result (λ why. (book.new ≡ book.old) × (cause.new ≡ cause.old)) }
 {
     let Some(line) = lines.checked_add(1) else {
         return Err(TalkFault::Internal);
@@ -56,19 +56,19 @@ pub(crate) fn hear<R: BufRead>(
 }
 
 /// Reads a command, asks it of a book at seat 0, writes its answer and flushes. Whether there may be
-/// more: else the input has ended. `lines` counts the lines that were read; after a fault it stays. `cause` has
-/// the lines that tell the cause of the last fault or refusal, and at first none.
+/// more: else the input has ended. `lines` counts the lines that were read; after a fault it stays. `cause` is
+/// what is kept of the last fault or refusal, and at first of none.
 pub fn turn<R: BufRead, W: Write>(
     alloc: Global,
     book: &mut Book<State>,
     lines: &mut u64,
-    cause: &mut Vec<u8>,
+    cause: &mut Account,
     reader: &mut R,
     writer: &mut W,
 ) -> Result<bool, TalkFault>
     ensures turns { Turns (R.remaining reader.old) (R.remaining reader.new) (W.contents writer.old) (W.contents writer.new)
-        (record { history = book.old; lines = lines.old; cause = cause.old.items })
-        result (record { history = book.new; lines = lines.new; cause = cause.new.items }) }
+        (record { history = book.old; lines = lines.old; cause = cause.old })
+        result (record { history = book.new; lines = lines.new; cause = cause.new }) }
     ensures counts { IfOk result (λ more. more ≡ true → HasRisen lines.old lines.new) }
 {
     let heard = hear(alloc, book, *lines, cause, reader)?;

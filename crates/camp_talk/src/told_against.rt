@@ -1,8 +1,9 @@
 //! What stands against a command that is refused: the branches that it names, what is there, and what is not.
 ghost use Rattle.std.specs.Prelude.{◌≡◌, ◌++◌, IfOk, Some, take};
-ghost use Rattle.camp_talk.specs.Against.{about, absent_sides, absent_text, branches_line, call_about, first_lacked_of, holders, holders_line, holds, lack_line, lack_text, lacked_text, lacks, more_names, most_names, names_line, new_text, no_branch_text, no_patch_text, place_word, question_about, question_lacks, recorded_text, sides_text, target, target_text, there_text};
+ghost use Rattle.camp_talk.specs.Against.{about, absent_sides, absent_text, branches_line, call_about, depends_cure, first_lacked_of, had_text, holders, holders_line, holds, lack_line, lack_text, lacked_text, lacks, more_names, most_names, names_line, new_text, no_branch_text, no_patch_text, nothing_text, other_target, place_word, question_about, question_lacks, record_cure, recorded_text, sides_text, target, target_text, there_text};
 
-use crate::questions::{Asked, Question};
+use crate::questions::{Asked, Question, Reason};
+use crate::told_refusals::cure;
 use camp_base::Name;
 use camp_call::{Call, Names};
 use camp_repo::{Branch, State};
@@ -55,11 +56,13 @@ pub(crate) fn tell_absent(
         text.items ≡ absent_sides state.now (about asked.now) (target asked.now) ++ branches_line state.now) }
 {
     let mut text = Vec::new(alloc);
-    if let Some((_, branch)) = about(asked) {
-        append_absent(&mut text, state, &branch)?;
+    let place = about(asked);
+    let to = other_target(&place, target(asked));
+    if let Some((_, branch)) = &place {
+        append_absent(&mut text, state, branch)?;
     }
-    if let Some(to) = target(asked) {
-        append_absent(&mut text, state, &to)?;
+    if let Some(to) = &to {
+        append_absent(&mut text, state, to)?;
     }
     let branches = tell_branches(alloc, state)?;
     text.extend_from_slice(&branches)?;
@@ -115,6 +118,81 @@ pub(crate) fn tell_lacked(
         Some(patch) => lack_text(alloc, state, &name, &patch),
         None => Ok(Vec::new(alloc)),
     }
+}
+
+/// Which patches of FROM are those that a pull would bring, where TO has all.
+pub(crate) fn tell_nothing(
+    alloc: Global,
+    state: &State,
+    asked: &Asked,
+) -> Result<Vec<u8>, AllocError>
+    ensures { IfOk result (λ text. text.items ≡ nothing_text state.now asked.now) }
+{
+    let Asked::Call(Call::Pull { from, names, .. }) = asked else {
+        return Ok(Vec::new(alloc));
+    };
+    let Some(theirs) = state.branch(from) else {
+        return Ok(Vec::new(alloc));
+    };
+    match names {
+        Some(names) => had_text(alloc, names.as_slice()),
+        None => {
+            let all = theirs.names()?;
+            had_text(alloc, &all)
+        }
+    }
+}
+
+fn had_text(alloc: Global, names: &[Name]) -> Result<Vec<u8>, AllocError>
+    ensures { IfOk result (λ text. text.items ≡ had_text (Some names.now)) }
+{
+    if names.is_empty() {
+        return Vec::from_slice(alloc, b"FROM has no patch.\n");
+    }
+    names_line(alloc, b"TO has already:", names)
+}
+
+/// What can be done where the patch is there that a call would record.
+pub(crate) fn record_cure(state: &State, asked: &Asked) -> &'static str
+    ensures { result.now ≡ record_cure state.now asked.now }
+{
+    match asked {
+        Asked::Call(Call::Record { branch, name, .. }) => {
+            if holds(state, name, branch) {
+                return "Take another name.\n";
+            }
+            cure(Reason::PatchExists)
+        }
+        _ => cure(Reason::PatchExists),
+    }
+}
+
+/// What can be done where one patch stands on another.
+pub(crate) fn depends_cure(asked: &Asked) -> &'static str
+    ensures { result.now ≡ depends_cure asked.now }
+{
+    match asked {
+        Asked::Call(Call::Obliterate { .. }) => {
+            "List PATCH too; held tells all that has to go.\n"
+        }
+        _ => "List ON too; along tells all that a pull has to list.\n",
+    }
+}
+
+// The branch TO, where it is another one than the branch that a command is about.
+fn other_target(place: &Option<(Place, Name)>, to: Option<Name>) -> Option<Name>
+    ensures { result ≡ other_target place.now to }
+{
+    let Some((_, branch)) = place else {
+        return to;
+    };
+    let Some(to) = to else {
+        return None;
+    };
+    if *branch == to {
+        return None;
+    }
+    Some(to)
 }
 
 // The word for a branch in the form of a command.

@@ -1,40 +1,54 @@
 //! Why a command with a fault was not done.
 ghost use Rattle.std.specs.Prelude.{◌≡◌, ◌++◌, IfOk, take};
-ghost use Rattle.camp_script.specs.Lines.{lines_of};
-ghost use Rattle.camp_talk.specs.Whys.{body_rule, comes_of_another, cut_text, fault_cause, fault_lines, hint_text, is_inner, line_at, misnamed_text, most_shown, no_name_text, rule, word_text};
+ghost use Rattle.camp_script.specs.Lines.{lines_of, words_of};
+ghost use Rattle.camp_talk.specs.Whys.{announces, body_rule, comes_of_another, cut_text, cuts_off, fault_account, fault_cause, fault_lines, hint_text, is_head, is_inner, is_longer, is_short, line_at, misnamed_text, most_shown, no_name_text, rule, shown_line, word_text};
 
+use crate::Account;
 use crate::asking::first_line;
 use crate::questions::Reason;
 use crate::told_refusals::cure;
 use bstr::ByteSlice;
-use camp_script::{FaultKind, LineFault, Words, without_end};
-use camp_why::{Hint, look_at, misnamed};
+use camp_script::{FaultKind, LineFault, Words, behind_word, without_end};
+use camp_why::{Hint, call_part, look_at, misnamed};
 use std::alloc::{AllocError, Global};
 
 /// The most bytes of a line that are shown.
 const SHOWN: usize = 200;
 
-/// The lines that tell why a command with a fault is not done. Where that comes of a fault before it, the lines stay.
+/// What is kept of a command with a fault. Where that comes of a fault before it, what was kept of that one stays.
 pub(crate) fn fault_cause(
     alloc: Global,
-    before: &[u8],
+    before: &Account,
     fault: &LineFault,
     command: &[u8],
     answer: &[u8],
-) -> Result<Vec<u8>, AllocError>
-    ensures { IfOk result (λ text. text.items ≡ fault_cause before.now fault.now (lines_of command.now) answer.now) }
+) -> Result<Account, AllocError>
+    ensures { IfOk result (λ cause. cause ≡ fault_cause before.now fault.now (lines_of command.now) answer.now) }
 {
-    if !before.is_empty() && comes_of_another(fault.kind, command) {
-        return Vec::from_slice(alloc, before);
+    if comes_of_another(before.is_inside(), fault.kind, command) {
+        return before.try_clone(alloc);
     }
-    fault_lines(alloc, fault.kind, line_at(command, fault.line), answer)
+    fault_account(alloc, fault, command, answer)
 }
 
-// Whether a fault comes of one before it: its command is a line of a body or a group that was not begun.
-fn comes_of_another(kind: FaultKind, command: &[u8]) -> bool
-    ensures { result ≡ comes_of_another kind (lines_of command.now) }
+// What is kept of a command with a fault of its own.
+fn fault_account(
+    alloc: Global,
+    fault: &LineFault,
+    command: &[u8],
+    answer: &[u8],
+) -> Result<Account, AllocError>
+    ensures { IfOk result (λ cause. cause ≡ fault_account fault.now (lines_of command.now) answer.now) }
 {
-    if kind != FaultKind::UnknownCommand {
+    let told = fault_lines(alloc, fault.kind, line_at(command, fault.line), answer)?;
+    Ok(Account::of(told, cuts_off(fault.line, command)))
+}
+
+// Whether a fault comes of one before it: its command is a line of a body or a group that was cut off.
+fn comes_of_another(inside: bool, kind: FaultKind, command: &[u8]) -> bool
+    ensures { result ≡ comes_of_another inside kind (lines_of command.now) }
+{
+    if !inside || kind != FaultKind::UnknownCommand {
         return false;
     }
     match Words::new(first_line(command)).next() {
@@ -53,6 +67,56 @@ fn is_inner(word: &[u8]) -> bool
         || word == b"end\r".as_slice()
         || word == b"done".as_slice()
         || word == b"done\r".as_slice()
+        || word == b"add".as_slice()
+        || word == b"remove".as_slice()
+        || word == b"edit".as_slice()
+}
+
+// Whether a fault is one in the first line of a command, and lines of a body or a group may follow that.
+fn cuts_off(number: u64, command: &[u8]) -> bool
+    ensures { result ≡ cuts_off number (lines_of command.now) }
+{
+    number == 1 && is_head(first_line(command))
+}
+
+// Whether the lines of a body or a group may follow a line, by the words of its call from the fourth on.
+fn is_head(line: &[u8]) -> bool
+    ensures { result ≡ is_head line.now }
+{
+    announces(behind_word(behind_word(behind_word(call_part(line)))))
+}
+
+// Whether the first word of a line that says whether lines follow says that they do.
+fn announces(line: &[u8]) -> bool
+    ensures { result ≡ announces (words_of line.now) }
+{
+    for word in Words::new(line) {
+        if is_longer(word) {
+            return true;
+        }
+        if is_short(word) {
+            return false;
+        }
+    }
+    false
+}
+
+// Whether a word of a record says that no lines follow.
+fn is_short(word: &[u8]) -> bool
+    ensures { result ≡ is_short word.now }
+{
+    word == b"add".as_slice() || word == b"remove".as_slice()
+}
+
+// Whether a word of a record says that lines follow.
+fn is_longer(word: &[u8]) -> bool
+    ensures { result ≡ is_longer word.now }
+{
+    word == b"edit".as_slice()
+        || word == b"Edit".as_slice()
+        || word == b"group".as_slice()
+        || word == b"group\r".as_slice()
+        || word == b"Group".as_slice()
 }
 
 // The line of a number, counted from 1; an empty one, where there is none.
@@ -79,14 +143,22 @@ fn fault_lines(
     ensures { IfOk result (λ text. text.items ≡ fault_lines kind line.now answer.now) }
 {
     let mut text = Vec::from_slice(alloc, answer)?;
-    text.push(b'>')?;
-    text.extend_from_slice(shown(line))?;
-    text.push(b'\n')?;
-    text.extend_from_slice(cut_text(line).as_bytes())?;
+    append_line(&mut text, line)?;
     append_word(&mut text, kind, line)?;
     text.extend_from_slice(hint_text(look_at(kind, line)).as_bytes())?;
     text.extend_from_slice(rule(kind).as_bytes())?;
     Ok(text)
+}
+
+/// Appends a line behind `>`, as much of it as is shown.
+pub(crate) fn append_line(text: &mut Vec<u8>, line: &[u8]) -> Result<(), AllocError>
+    ensures { IfOk result (λ _. text.new.items ≡ text.old.items ++ shown_line line.now) }
+{
+    text.push(b'>')?;
+    text.extend_from_slice(shown(line))?;
+    text.push(b'\n')?;
+    text.extend_from_slice(cut_text(line).as_bytes())?;
+    Ok(())
 }
 
 // The front of a line, as much as is shown.
@@ -141,20 +213,34 @@ fn hint_text(hint: Hint) -> &'static str
 {
     match hint {
         Hint::Nothing => "",
-        Hint::OfBody => "It is a line of a body, and no body has begun here, or it was over.\n",
+        Hint::OfBody => {
+            "It begins with - or +, as a line of a body does, and no body has begun here.\n"
+        }
+        Hint::OfScript => "It is a line of scripts alone: a conversation has one client.\n",
+        Hint::NoCall => {
+            "Behind whatif stands branch, record, pull, obliterate, tree, conflicts or names.\n"
+        }
+        Hint::NoTopic => "Behind help stands the first word of a command, or refused.\n",
         Hint::TooLong => {
-            "It has more than 1048576 bytes: it is read as its first 4098, with ? for the second.\n"
+            "It has 4098 bytes, the second is ?: so a line of more than 1048576 bytes is read.\n"
         }
         Hint::CarriageReturn => "It ends with a carriage return: end each line with LF alone.\n",
         Hint::Strange => {
             "It has a byte that is no printing ASCII character: commands, names and paths have none.\n"
         }
         Hint::Quotes => {
-            "It has a quotation mark: that holds no words together, and no command or name has one.\n"
+            "It has a quotation mark: quotes do not join words, and no command or name has one.\n"
         }
         Hint::Capitals => "It has a capital letter: commands and names have small letters alone.\n",
-        Hint::Empty => "It is empty: for an empty line of the file write - or + alone.\n",
-        Hint::Blank => "It begins with a blank: the sign comes first, and end stands alone.\n",
+        Hint::Zero => "The number is 0, and the least is 1.\n",
+        Hint::Empty => {
+            "It is empty: for an empty line of the file write - or + alone.\n\
+            If the body was to be over, a line that is just end is missing.\n"
+        }
+        Hint::Blank => {
+            "It begins with a blank: the sign comes first, and end stands alone.\n\
+            If the body was to be over, a line that is just end is missing.\n"
+        }
         Hint::NoLine => "The body has no line: both sides are empty.\n",
         Hint::TooFar => {
             "The edit reaches too far: LINE and the numbers of lines of both sides add up to too much.\n"

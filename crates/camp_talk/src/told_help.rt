@@ -173,8 +173,8 @@ fn details(topic: Topic) -> &'static str
             "If it would be accepted: the conflicts and the files that its branch would have, too.\n"
         }
         Topic::Why => {
-            "Of a refusal: its answer, what that says, what stands against the command, and what can be\n\
-            done. Of a fault: its answer, the line behind >, what is to be seen in it, and the rule.\n"
+            "Its answer, and its line behind >. Of a refusal what that says, what stands against the command,\n\
+            and what can be done; of a fault what is to be seen in the line, and the rule.\n"
         }
         Topic::History => "Of each its number, its seat, which is 0, and its words.\n",
         _ => "",

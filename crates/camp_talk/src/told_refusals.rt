@@ -67,7 +67,7 @@ pub(crate) fn saying(reason: Reason) -> &'static str
         Reason::DoesNotApply => "refused 10: a change does not apply to the files as they are\n",
         Reason::Depends => "refused 11 PATCH ON: PATCH stands on ON\n",
         Reason::Diverged => {
-            "refused 12 NAME: two branches have this patch in forms that do not agree\n"
+            "refused 12 NAME: in one branch NAME can't come before what the other lacks, or its two forms differ\n"
         }
         Reason::NoMerge => "refused 13 LEFT RIGHT: LEFT of TO and RIGHT of FROM do not merge\n",
         Reason::SameBranch => "refused 14 BRANCH: a branch does not pull from itself\n",
@@ -88,11 +88,11 @@ pub(crate) fn cure(reason: Reason) -> &'static str
         }
         Reason::BadLine =>
             "A line of a body has 4096 bytes at most behind its sign. Cut it in two.\n",
-        Reason::NoBranch => "branches tells which there are; branch makes one.\n",
+        Reason::NoBranch => "The command branches tells which there are, and branch makes one.\n",
         Reason::BranchExists => "Take another name.\n",
         Reason::PatchExists => "Take another name. To have that patch here, pull it.\n",
         Reason::NoPatch =>
-            "names tells which it has; missing tells what another branch has and it lacks.\n",
+            "The command names tells which it has, and missing what another branch has and it lacks.\n",
         Reason::NothingToDo => "There is nothing to mend.\n",
         Reason::TooLarge => {
             "The limits: 256 branches, 4096 changes in a branch, 65535 lines in a side of an edit,\n\
@@ -100,15 +100,14 @@ pub(crate) fn cure(reason: Reason) -> &'static str
         }
         Reason::DoesNotApply => {
             "add wants no file, remove a file without lines, and an edit its old lines at LINE.\n\
-            file BRANCH PATH tells what is there before the first change.\n"
+            Until more is recorded, file BRANCH PATH tells what is there before the first change.\n"
         }
         Reason::Depends => {
-            "Of a pull: list ON too; along tells all that it has to list. Of an obliterate: list PATCH too;\n\
-            held tells all that has to go.\n"
+            "In a pull list ON too; along tells all that it has to list. In an obliterate list PATCH too; held\n\
+            tells all that has to go.\n"
         }
         Reason::Diverged => {
-            "Or it can't be brought before what one of them alone has. Obliterate it in one of them,\n\
-            with what stands on it, and pull again.\n"
+            "Obliterate it in one of them, with what stands on it, and pull again.\n"
         }
         Reason::NoMerge => "Pull without RIGHT, or obliterate LEFT in TO first.\n",
         Reason::SameBranch => "Name another branch.\n",

@@ -5,18 +5,20 @@ ghost use Rattle.camp_script.specs.Gives.{Gives};
 ghost use Rattle.camp_script.specs.Lines.{lines_of, words_of};
 ghost use Rattle.camp_script.specs.declared.faults.LineFault.{LineFault as SaidFault};
 ghost use Rattle.camp_talk.specs.Asking.{first_of};
-ghost use Rattle.camp_talk.specs.Whys.{cause_for, cause_found, cause_text, cause_told, cause_with, change_text, ends_text, facts_text, found_text, hindrance_text, is_failure, lacks_text, met_text, misfit_text, reason_in, refusal_lines, stop_text, trimmed, two_numbers, why_told};
+ghost use Rattle.camp_talk.specs.Whys.{against_text, cause_for, cause_found, cause_text, cause_told, cause_with, change_text, cure_at, ends_text, facts_text, found_cure, found_text, hindrance_text, is_failure, lacks_text, limit_cure, met_text, misfit_text, reason_in, refusal_lines, refusal_told, stop_text, trimmed, two_numbers, why_told};
 ghost use Rattle.camp_talk.specs.declared.questions.Asked.{Asked as SaidAsked};
 ghost use Rattle.camp_why.specs.declared.causes.Cause.TheVariants.{LongSide};
 ghost use Rattle.camp_why.specs.declared.misfits.Misfit.TheVariants.{EndsBefore};
 
+use crate::Account;
 use crate::asking::first_line;
 use crate::questions::{Asked, Reason};
 use crate::told::counted;
 use crate::told_against::{
-    tell_absent, tell_branches, tell_lacked, tell_new, tell_recorded, tell_sides,
+    depends_cure, record_cure, tell_absent, tell_branches, tell_lacked, tell_new, tell_nothing,
+    tell_recorded, tell_sides,
 };
-use crate::told_faults::fault_cause;
+use crate::told_faults::{append_line, fault_cause};
 use crate::told_refusals::{cure, saying};
 use crate::topics::reason_at;
 use camp_base::{Line, Path};
@@ -49,21 +51,25 @@ pub(crate) fn is_failure(answer: &[u8]) -> bool
     answer.starts_with(b"fault ") || answer.starts_with(b"refused ")
 }
 
-/// The lines that tell why a command was not done, by what they were before, the state that it met, its lines,
-/// what it asks, and its answer.
+/// What is kept of a command that was not done, by what was kept before, the state that it met, its lines, what it
+/// asks, and its answer.
 pub(crate) fn cause_of(
     alloc: Global,
-    before: &[u8],
+    before: &Account,
     state: &State,
     command: &[u8],
     asked: &Result<Asked, ScriptFault>,
     answer: &[u8],
-) -> Result<Vec<u8>, AllocError>
+) -> Result<Account, AllocError>
     ensures cause { IfOk result (λ cause. (reading : Result SaidAsked SaidFault) → Gives asked.now reading →
-        cause.items ≡ cause_with before.now state.now (lines_of command.now) reading answer.now) }
+        cause ≡ cause_with before.now state.now (lines_of command.now) reading answer.now) }
 {
     match asked {
-        Ok(asked) => refusal_lines(alloc, state, asked, answer, reason_in(answer)),
+        Ok(asked) => {
+            let line = first_line(command);
+            let told = refusal_lines(alloc, state, asked, line, answer, reason_in(answer))?;
+            Ok(Account::of(told, false))
+        }
         Err(ScriptFault::Line(fault)) => fault_cause(alloc, before, fault, command, answer),
         Err(ScriptFault::Memory) => Err(AllocError),
     }
@@ -83,49 +89,117 @@ fn reason_in(answer: &[u8]) -> Option<Reason>
     }
 }
 
-// Of a command that is refused: its answer, what that says, what stands against the command, and what can be
+// Of a command that is refused: its answer, its first line, what the answer says, what stands against the command, and what can be
 // done.
 fn refusal_lines(
     alloc: Global,
     state: &State,
     asked: &Asked,
+    line: &[u8],
     answer: &[u8],
     reason: Option<Reason>,
 ) -> Result<Vec<u8>, AllocError>
-    ensures { IfOk result (λ text. text.items ≡ refusal_lines state.now asked.now answer.now reason) }
+    ensures { IfOk result (λ text. text.items ≡ refusal_lines state.now asked.now line.now answer.now reason) }
 {
-    let mut text = Vec::from_slice(alloc, answer)?;
     let Some(reason) = reason else {
-        return Ok(text);
+        return Vec::from_slice(alloc, answer);
     };
-    let sides = tell_sides(alloc, asked)?;
-    let facts = facts_text(alloc, state, asked, reason)?;
+    let found = cause_found(state, asked, reason)?;
+    refusal_told(alloc, state, asked, line, answer, &found, reason)
+}
+
+fn refusal_told(
+    alloc: Global,
+    state: &State,
+    asked: &Asked,
+    line: &[u8],
+    answer: &[u8],
+    found: &Option<Cause>,
+    reason: Reason,
+) -> Result<Vec<u8>, AllocError>
+    ensures { IfOk result (λ text. text.items ≡ refusal_told state.now asked.now line.now answer.now found.now reason) }
+{
+    let against = against_text(alloc, state, asked, found, reason)?;
+    let mut text = Vec::from_slice(alloc, answer)?;
+    append_line(&mut text, line)?;
     text.extend_from_slice(saying(reason).as_bytes())?;
-    text.extend_from_slice(&sides)?;
-    text.extend_from_slice(&facts)?;
-    text.extend_from_slice(cure(reason).as_bytes())?;
+    text.extend_from_slice(&against)?;
+    text.extend_from_slice(cure_at(state, asked, found, reason).as_bytes())?;
     Ok(text)
 }
 
-// What is there and what is not: what a refusal is about.
+// What stands against a command: which branches it names, and what is there and what is not.
+fn against_text(
+    alloc: Global,
+    state: &State,
+    asked: &Asked,
+    found: &Option<Cause>,
+    reason: Reason,
+) -> Result<Vec<u8>, AllocError>
+    ensures { IfOk result (λ text. text.items ≡ against_text state.now asked.now found.now reason) }
+{
+    let mut text = tell_sides(alloc, asked)?;
+    let facts = facts_text(alloc, state, asked, found, reason)?;
+    text.extend_from_slice(&facts)?;
+    Ok(text)
+}
+
+// What is there and what is not: what a refusal is about, by the cause that was found.
 fn facts_text(
     alloc: Global,
     state: &State,
     asked: &Asked,
+    found: &Option<Cause>,
     reason: Reason,
 ) -> Result<Vec<u8>, AllocError>
-    ensures { IfOk result (λ text. text.items ≡ facts_text state.now asked.now reason) }
+    ensures { IfOk result (λ text. text.items ≡ facts_text state.now asked.now found.now reason) }
 {
     match reason {
         Reason::NoBranch => tell_absent(alloc, state, asked),
         Reason::BranchExists => tell_new(alloc, state, asked),
         Reason::PatchExists => tell_recorded(alloc, state, asked),
         Reason::NoPatch => tell_lacked(alloc, state, asked),
+        Reason::NothingToDo => tell_nothing(alloc, state, asked),
         Reason::SameBranch => tell_branches(alloc, state),
-        other => {
-            let found = cause_found(state, asked, other)?;
-            found_text(alloc, &found)
+        _ => found_text(alloc, found),
+    }
+}
+
+// What can be done about a refusal of a command.
+fn cure_at(state: &State, asked: &Asked, found: &Option<Cause>, reason: Reason) -> &'static str
+    ensures { result.now ≡ cure_at state.now asked.now found.now reason }
+{
+    match reason {
+        Reason::PatchExists => record_cure(state, asked),
+        Reason::TooLarge => found_cure(found),
+        Reason::Depends => depends_cure(asked),
+        other => cure(other),
+    }
+}
+
+fn found_cure(found: &Option<Cause>) -> &'static str
+    ensures { result.now ≡ found_cure found.now }
+{
+    match found {
+        None => cure(Reason::TooLarge),
+        Some(cause) => limit_cure(cause),
+    }
+}
+
+// What can be done where a limit would be passed.
+fn limit_cure(cause: &Cause) -> &'static str
+    ensures { result.now ≡ limit_cure cause.now }
+{
+    match cause {
+        Cause::FullRepository(_) => "Record in one of the branches that there are.\n",
+        Cause::FullBranch { .. } => {
+            "Record in a branch with fewer changes, or take patches out of this one by obliterate.\n"
         }
+        Cause::FullWithPull { .. } => {
+            "Pull fewer patches, or take patches out of TO by obliterate.\n"
+        }
+        Cause::LongSide { .. } => "Cut the edit in parts.\n",
+        Cause::Stops(_) => "Put some of the lines into another file.\n",
     }
 }
 
@@ -164,9 +238,7 @@ fn cause_text(alloc: Global, cause: &Cause) -> Result<Vec<u8>, AllocError>
 {
     match cause {
         Cause::FullRepository(count) => {
-            let text = format!(in alloc;
-                "There are {count} branches, and 256 is the most: record in one of them.\n"
-            )?;
+            let text = format!(in alloc; "There are {count} branches, and 256 is the most.\n")?;
             Ok(text.into_bytes())
         }
         Cause::FullBranch { has, more } => two_numbers(
@@ -289,7 +361,12 @@ fn misfit_text(alloc: Global, misfit: &Misfit) -> Result<Vec<u8>, AllocError>
             )?;
             Ok(text.into_bytes())
         }
-        Misfit::EndsBefore { has, wants, lacks } => ends_before_text(alloc, *has, *wants, lacks),
+        Misfit::EndsBefore {
+            has,
+            wants,
+            at,
+            lacks,
+        } => ends_before_text(alloc, *has, *wants, *at, lacks),
         Misfit::OtherLine {
             at,
             stands,
@@ -306,9 +383,10 @@ fn ends_before_text(
     alloc: Global,
     has: usize,
     wants: usize,
+    at: usize,
     lacks: &Option<Line>,
 ) -> Result<Vec<u8>, AllocError>
-    ensures { IfOk result (λ text. text.items ≡ misfit_text (EndsBefore has wants lacks.now)) }
+    ensures { IfOk result (λ text. text.items ≡ misfit_text (EndsBefore has wants at lacks.now)) }
 {
     let mut text = two_numbers(
         alloc,
@@ -318,21 +396,24 @@ fn ends_before_text(
         wants,
         " or more.\n",
     )?;
-    append_lacked(&mut text, lacks)?;
+    let lacked = lacks_text(alloc, at, lacks)?;
+    text.extend_from_slice(&lacked)?;
     Ok(text)
 }
 
-// Appends the old line that finds none.
-fn append_lacked(text: &mut Vec<u8>, lacks: &Option<Line>) -> Result<(), AllocError>
-    ensures { IfOk result (λ _. text.new.items ≡ text.old.items ++ lacks_text lacks.now) }
+// The old line that finds none, and the line at which it would stand.
+fn lacks_text(alloc: Global, at: usize, lacks: &Option<Line>) -> Result<Vec<u8>, AllocError>
+    ensures { IfOk result (λ text. text.items ≡ lacks_text at lacks.now) }
 {
     let Some(line) = lacks else {
-        return Ok(());
+        return Ok(Vec::new(alloc));
     };
-    text.extend_from_slice(b"No line is there for this one, which the edit takes away:\n-")?;
+    let mut text = format!(in alloc;
+        "There is no line {at}, where the edit takes away\n-"
+    )?.into_bytes();
     text.extend_from_slice(line.bytes())?;
     text.push(b'\n')?;
-    Ok(())
+    Ok(text)
 }
 
 // That another line stands there than an edit takes away.
@@ -352,7 +433,7 @@ fn ends_text(stands: &[u8], expected: &[u8]) -> &'static str
     ensures { result.now ≡ ends_text stands.now expected.now }
 {
     if trimmed(stands) == trimmed(expected) {
-        return "They differ in blanks or a carriage return at their ends.\n";
+        return "They differ in white space at their ends, as a blank or a carriage return is.\n";
     }
     ""
 }

@@ -2,7 +2,7 @@
 use Rattle.std.specs.List.{AllByRecursion}
 use Rattle.std.proofs.Common.{inl, inr}
 use Rattle.std.specs.Prelude.{is_some}
-use Rattle.camp_why.proofs.Words.{◌++◌, ◌≡◌, ◌∙◌, ◌∷◌, ℕ, Bool, true, false, List, [], None, Some, Option, Result, Ok, Err, ap, bytes_eq, bytes_eq-Decides, false≢true, length, nat_le, option_map_or, refl, same_Some, subst, sym, Files, InRange, Primitive}
+use Rattle.camp_why.proofs.Words.{◌++◌, ◌≡◌, ◌∙◌, ◌∷◌, ℕ, Bool, true, false, List, [], None, Some, Option, Result, Ok, Err, ap, bytes_eq, bytes_eq-Decides, false≢true, length, nat_le, option_map_or, refl, subst, sym, Files, InRange, Primitive}
 use Rattle.camp_why.proofs.Causing.{refusals_explained}
 use Rattle.camp_why.proofs.Stopping.{stops_with}
 use Rattle.camp_branch.specs.Branches.{first_lacked, recorded}
@@ -16,17 +16,16 @@ use Rattle.camp_call.specs.declared.calls.Call.TheVariants as call
 use Rattle.camp_call.specs.declared.replies.Reply.TheVariants.{Refused}
 use Rattle.camp_call.specs.declared.replies.Refusal.{Refusal}
 use Rattle.camp_call.specs.declared.replies.Refusal.TheVariants.{BranchExists, Depends, Diverged, DoesNotApply, NoBranch, NoMerge, NoPatch, NothingToDo, PatchExists, SameBranch, TooLarge}
-use Rattle.camp_object.specs.declared.objects.Decided.TheVariants.{Answer, Next}
+use Rattle.camp_object.specs.declared.objects.Decided.TheVariants.{Answer}
 use Rattle.camp_repo.proofs.Effects.{lawful_branch}
 use Rattle.camp_repo.proofs.TreeSteps.{tree_found}
-use Rattle.camp_repo.specs.Laws.{Has}
 use Rattle.camp_repo.specs.Lawful.{IsLawfulState}
 use Rattle.camp_repo.specs.Outcomes.{obliterated, pulled}
 use Rattle.camp_repo.specs.States.{Contents, catches_of, stands, tree_of}
 use Rattle.camp_repo.specs.Steps.{Decision, accepted, becomes, changed, is_empty, is_full_with, is_too_large, listed, most_branches, record_leads, refusal_of, refused, refused_if, shown, step, wanted}
 use Rattle.camp_why.specs.Causes.{is_of_changes}
 use Rattle.camp_why.specs.Grounds.{IsBlockedBy, IsGround, RefusalsHaveGrounds}
-use Rattle.camp_why.specs.Laws.{IsExplained, IsInRange}
+use Rattle.camp_why.specs.Laws.{IsExplained}
 use Rattle.camp_why.specs.Stops.{refusal_at}
 use Rattle.camp_why.specs.declared.stops.Hindrance.{Hindrance}
 use Rattle.camp_why.specs.declared.stops.Hindrance.TheVariants as hindrance

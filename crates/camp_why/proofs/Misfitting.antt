@@ -1,6 +1,6 @@
 -- Where a change does not apply, and where it does.
-use Rattle.camp_why.proofs.Words.{Bool, true, false, cond, ◌++◌, ◌+◌, ◌-◌, ◌≡◌, ◌≢◌, ◌≤◌, ◌<◌, ◌∙◌, ◌∷◌, ℕ, zero, suc, List, [], Option, Some, None, get, insert, ap, append_assoc, arith, bytes_eq, bytes_eq-Decides, drop, drop-drop, drop_all, false≢true, le-ltb, length, length-append, length-drop, length-take-le, ltb-false, ltb-true, nat_lt, none-some, not, refl, same_Some, slice_get, slice_get_past, subst, sym, take, take-append-drop, Files, Lines, SplicesLines, Applies, InRange, Edit, Primitive, Add, Hunk, Remove, IsMisfit, lines_misfit, why_not, other_line, Misfit, EndsBefore, FileIsThere, HasLines, NoFile, OtherLine}
-use Rattle.camp_why.specs.Misfits.{Edits, StandThere, add_misfit, edit_misfit, ends_before, lacking, misfit_or, remove_misfit}
+use Rattle.camp_why.proofs.Words.{Bool, true, false, cond, ◌++◌, ◌+◌, ◌-◌, ◌≡◌, ◌≢◌, ◌≤◌, ◌<◌, ◌∙◌, ◌∷◌, ℕ, zero, suc, List, [], Option, Some, None, get, insert, ap, append_assoc, arith, bytes_eq, bytes_eq-Decides, drop, drop-drop, drop_all, false≢true, length, length-append, length-drop, length-take-le, ltb-false, ltb-true, nat_lt, none-some, not, refl, same_Some, slice_get, slice_get_past, subst, sym, take, take-append-drop, Files, Lines, SplicesLines, Applies, InRange, Edit, Primitive, Add, Hunk, Remove, IsMisfit, why_not, other_line, Misfit, EndsBefore, FileIsThere, HasLines, NoFile, OtherLine}
+use Rattle.camp_why.specs.Misfits.{Edits, StandThere, add_misfit, edit_misfit, ends_before, lacking, lacking_at, misfit_or, remove_misfit}
 
 -- ---- lists from a place on
 
@@ -157,10 +157,10 @@ module _ (hunk : Edit) (tree : Files) (lines : Lines) (found : get tree hunk.pat
   -- the file ends before
   end_told : (why : Misfit) → other_line hunk.line hunk.old (drop (hunk.line - 1) lines) ≡ None
       → (b : Bool) → nat_lt (length lines) (hunk.line - 1 + length hunk.old) ≡ b
-      → cond b (Some (EndsBefore (length lines) (hunk.line - 1 + length hunk.old) (lacking hunk (length lines)))) None ≡ Some why
+      → cond b (Some (EndsBefore (length lines) (hunk.line - 1 + length hunk.old) (lacking_at hunk (length lines)) (lacking hunk (length lines)))) None ≡ Some why
       → IsMisfit (Hunk hunk) tree why
   end_told why none true is e =
-      told_as (Hunk hunk) tree why (EndsBefore (length lines) (hunk.line - 1 + length hunk.old) (lacking hunk (length lines))) e (record {
+      told_as (Hunk hunk) tree why (EndsBefore (length lines) (hunk.line - 1 + length hunk.old) (lacking_at hunk (length lines)) (lacking hunk (length lines))) e (record {
         hunk = hunk;
         lines = lines;
         edits = edits;
@@ -169,6 +169,7 @@ module _ (hunk : Edit) (tree : Files) (lines : Lines) (found : get tree hunk.pat
         behind = ltb-true (length lines) (hunk.line - 1 + length hunk.old) is;
         alike = in_file (length hunk.old) (all_alike hunk.line hunk.old (drop (hunk.line - 1) lines) none);
         is_lacked = refl;
+        is_at = refl;
       })
   end_told why none false is e = absurd (none-some why e)
 
@@ -249,7 +250,7 @@ not_applied (Hunk hunk) tree next NoFile m applies = none-some _ (sym m.absent �
 not_applied change tree next (HasLines count) m applies =
     let removes = subst (λ c. Applies c tree next) m.removes applies in
     m.some (m.counts ∙ ap length (same_Some _ _ (sym m.found ∙ removes.empty)))
-not_applied change tree next (EndsBefore has wants lacks) m applies =
+not_applied change tree next (EndsBefore has wants at lacks) m applies =
     let splices = subst (λ c. Applies c tree next) m.edits.edits applies in
     not_behind m.hunk m.lines splices.lines splices.changed (same_Some _ _ (sym m.edits.found ∙ splices.found)) splices.splices has wants m.counts m.reaches m.behind
 not_applied change tree next (OtherLine at stands expected) m applies =
@@ -281,7 +282,7 @@ can_splice hunk lines positive within same =
 module _ (hunk : Edit) (tree : Files) (lines : Lines) (positive : 1 ≤ hunk.line) (found : get tree hunk.path ≡ Some lines) where
   reaches : other_line hunk.line hunk.old (drop (hunk.line - 1) lines) ≡ None
       → (b : Bool) → nat_lt (length lines) (hunk.line - 1 + length hunk.old) ≡ b
-      → cond b (Some (EndsBefore (length lines) (hunk.line - 1 + length hunk.old) (lacking hunk (length lines)))) None ≡ None
+      → cond b (Some (EndsBefore (length lines) (hunk.line - 1 + length hunk.old) (lacking_at hunk (length lines)) (lacking hunk (length lines)))) None ≡ None
       → (next : Files) × Applies (Hunk hunk) tree next
   reaches none true is e = absurd (none-some _ (sym e))
   reaches none false is e =

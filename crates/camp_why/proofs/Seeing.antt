@@ -1,12 +1,13 @@
 -- What is told of a line with a fault is to be seen there.
 use Rattle.std.specs.List.{list_any}
 use Rattle.std.specs.Prelude.{codes}
-use Rattle.camp_why.proofs.Words.{◌||◌, ◌≡◌, ◌∙◌, ℕ, Bool, true, false, cond, List, ap, bytes_eq, bytes_eq-Decides, refl}
+use Rattle.camp_why.proofs.Words.{◌||◌, ◌≡◌, ◌∙◌, ℕ, Bool, true, false, false≢true, cond, List, ap, bytes_eq, bytes_eq-Decides, refl, sym}
 use Rattle.camp_base.specs.Signs.{is_capital_letter}
 use Rattle.camp_script.specs.Lines.{words_of}
+use Rattle.camp_script.specs.Pieces.{begins_with}
 use Rattle.camp_script.specs.declared.faults.FaultKind.{FaultKind}
 use Rattle.camp_script.specs.declared.faults.FaultKind.TheVariants as kind
-use Rattle.camp_why.specs.Hints.{HintsAreSeen, IsSeen, begins, begins_blank, begins_end, begins_quoted, begins_signed, command_hint, edit_hint, ends_in_return, faulty, first_word, has_quote, is_cut, is_empty, is_end, is_quote, is_strange, misnamed, word_hint}
+use Rattle.camp_why.specs.Hints.{HintsAreSeen, IsPlain, IsSeen, ShowsNothing, begins, begins_blank, begins_end, begins_quoted, begins_signed, command_word, edit_hint, ends_in_return, faulty, first_word, form_hint, has_quote, has_return, hint, is_cut, is_empty, is_end, is_quote, is_return, is_strange, is_zero, line_hint, misnamed, number_word, path_word, word_hint}
 use Rattle.camp_why.specs.declared.hints.Hint.{Hint}
 use Rattle.camp_why.specs.declared.hints.Hint.TheVariants as seen
 
@@ -18,49 +19,119 @@ pick P false first second holds fails = fails refl
 no_sign : (line : List ℕ) → begins (codes "-") line ≡ false → begins (codes "+") line ≡ false → begins_signed line ≡ false
 no_sign line minus plus = (λ j. plus j || minus j)
 
--- in the word that has the fault
-module _ (k : FaultKind) (line : List ℕ) (quotes : has_quote k line ≡ list_any is_quote (faulty k line)) where
-  in_word : IsSeen k line (word_hint (faulty k line))
-  in_word =
+-- in the word that has the fault, or else
+module _ (k : FaultKind) (line : List ℕ) (returns : has_return k line ≡ ends_in_return (faulty k line)) (quotes : has_quote k line ≡ list_any is_quote (faulty k line)) where
+  in_word : (other : Hint) → IsSeen k line other → IsSeen k line (word_hint (faulty k line) other)
+  in_word other else_so =
+      pick (IsSeen k line) (ends_in_return (faulty k line)) seen.CarriageReturn _ (λ e. returns ∙ e) (λ none.
       pick (IsSeen k line) (list_any is_strange (faulty k line)) seen.Strange _ (λ e. e) (λ none.
       pick (IsSeen k line) (list_any is_quote (faulty k line)) seen.Quotes _ (λ e. quotes ∙ e) (λ none.
-      pick (IsSeen k line) (list_any is_capital_letter (faulty k line)) seen.Capitals seen.Nothing (λ e. e) (λ none. tt)))
+      pick (IsSeen k line) (list_any is_capital_letter (faulty k line)) seen.Capitals other (λ e. e) (λ none. else_so))))
+
+  in_line : (other : Hint) → IsSeen k line other → IsSeen k line (line_hint line (faulty k line) other)
+  in_line other else_so =
+      pick (IsSeen k line) (is_cut line) seen.TooLong _ (λ e. e) (λ none.
+      pick (IsSeen k line) (begins_signed (first_word (words_of line))) seen.OfBody _ (λ e. e) (λ none. in_word other else_so))
 
 module _ (k : FaultKind) (line : List ℕ) where
-  in_command : IsSeen k line (word_hint (first_word (words_of line))) → IsSeen k line (command_hint line)
-  in_command word =
-      pick (IsSeen k line) (is_cut line) seen.TooLong _ (λ e. e) (λ none.
-      pick (IsSeen k line) (begins_signed (first_word (words_of line))) seen.OfBody _ (λ e. e) (λ none.
-      pick (IsSeen k line) (ends_in_return line) seen.CarriageReturn _ (λ e. e) (λ none. word)))
+  in_form : IsSeen k line (form_hint line)
+  in_form =
+      pick (IsSeen k line) (begins_with (codes "client") (words_of line)) seen.OfScript _ (λ e. e) (λ none.
+      pick (IsSeen k line) (begins_with (codes "whatif") (words_of line)) seen.NoCall _ (λ e. e) (λ none.
+      pick (IsSeen k line) (begins_with (codes "help") (words_of line)) seen.NoTopic seen.Nothing (λ e. e) (λ none. tt)))
 
-  in_body : IsSeen k line (edit_hint line)
-  in_body =
+  in_body : has_return k line ≡ ends_in_return line → IsSeen k line (edit_hint line)
+  in_body returns =
       pick (IsSeen k line) (is_empty line) seen.Empty _ (λ e. e) (λ none.
       pick (IsSeen k line) (begins_blank line) seen.Blank _ (λ e. e) (λ none.
       pick (IsSeen k line) (is_end line) seen.NoLine _ (λ e. e) (λ none.
       pick (IsSeen k line) (bytes_eq line (codes "end\r")) seen.CarriageReturn _
-      (λ e. ap ends_in_return ((bytes_eq-Decides line (codes "end\r")).0 e)) (λ none.
+      (λ e. returns ∙ ap ends_in_return ((bytes_eq-Decides line (codes "end\r")).0 e)) (λ none.
       pick (IsSeen k line) (begins_end line) seen.MoreThanEnd _ (λ e. e) (λ none.
       pick (IsSeen k line) (begins (codes "-") line) seen.OldBehindNew _ (λ e. e) (λ minus.
       pick (IsSeen k line) (begins (codes "+") line) seen.Nothing seen.NoSign (λ e. tt) (λ plus. no_sign line minus plus)))))))
 
-pub are_seen : HintsAreSeen
-are_seen kind.UnknownCommand line = in_command kind.UnknownCommand line (in_word kind.UnknownCommand line refl)
-are_seen kind.BadGroup line = in_command kind.BadGroup line (in_word kind.BadGroup line refl)
-are_seen kind.BadName line =
-    pick (IsSeen kind.BadName line) (ends_in_return line) seen.CarriageReturn _ (λ e. e) (λ none. in_word kind.BadName line refl)
-are_seen kind.WrongNumberOfWords line =
-    pick (IsSeen kind.WrongNumberOfWords line) (ends_in_return line) seen.CarriageReturn _ (λ e. e) (λ none.
+is_so : (kind : FaultKind) (line : List ℕ) → IsSeen kind line (hint kind line)
+is_so kind.UnknownCommand line = in_line kind.UnknownCommand line refl refl (form_hint line) (in_form kind.UnknownCommand line)
+is_so kind.BadGroup line = in_line kind.BadGroup line refl refl seen.Nothing tt
+is_so kind.BadName line = in_word kind.BadName line refl refl seen.Nothing tt
+is_so kind.WrongNumberOfWords line =
+    pick (IsSeen kind.WrongNumberOfWords line) (list_any is_return (words_of line)) seen.CarriageReturn _ (λ e. e) (λ none.
     pick (IsSeen kind.WrongNumberOfWords line) (list_any begins_quoted (words_of line)) seen.Quotes seen.Nothing (λ e. e) (λ none. tt))
-are_seen kind.BadPath line =
-    pick (IsSeen kind.BadPath line) (ends_in_return line) seen.CarriageReturn _ (λ e. e) (λ none.
-    pick (IsSeen kind.BadPath line) (list_any is_strange line) seen.Strange seen.Nothing (λ e. e) (λ none. tt))
-are_seen kind.BadNumber line =
+is_so kind.BadPath line =
+    pick (IsSeen kind.BadPath line) (ends_in_return (path_word line)) seen.CarriageReturn _ (λ e. e) (λ none.
+    pick (IsSeen kind.BadPath line) (list_any is_strange (path_word line)) seen.Strange seen.Nothing (λ e. e) (λ none. tt))
+is_so kind.BadNumber line =
     pick (IsSeen kind.BadNumber line) (is_end line) seen.TooFar _ (λ e. e) (λ none.
-    pick (IsSeen kind.BadNumber line) (ends_in_return line) seen.CarriageReturn seen.Nothing (λ e. e) (λ none. tt))
-are_seen kind.BadEdit line = in_body kind.BadEdit line
-are_seen kind.BadLine line = tt
-are_seen kind.EditNotEnded line = tt
-are_seen kind.TooManyClients line = tt
-are_seen kind.TooManyCommands line = tt
-are_seen kind.GroupNotEnded line = tt
+    pick (IsSeen kind.BadNumber line) (ends_in_return (number_word line)) seen.CarriageReturn _ (λ e. e) (λ none.
+    pick (IsSeen kind.BadNumber line) (is_zero (number_word line)) seen.Zero seen.Nothing (λ e. e) (λ none. tt)))
+is_so kind.BadEdit line = in_body kind.BadEdit line refl
+is_so kind.BadLine line = pick (IsSeen kind.BadLine line) (is_cut line) seen.TooLong seen.Nothing (λ e. e) (λ none. tt)
+is_so kind.EditNotEnded line = tt
+is_so kind.TooManyClients line = tt
+is_so kind.TooManyCommands line = tt
+is_so kind.GroupNotEnded line = tt
+
+-- ---- where nothing is told
+
+abbrev is_nothing : Hint → Bool
+is_nothing seen.Nothing = true
+is_nothing other = false
+
+-- nothing is told by a test, so that this fails, and by what there is else
+passed : (test : Bool) (first second : Hint) → is_nothing first ≡ false → cond test first second ≡ seen.Nothing
+    → (test ≡ false) × (second ≡ seen.Nothing)
+passed true first second some none = absurd (false≢true (sym some ∙ ap is_nothing none))
+passed false first second some none = (refl, none)
+
+plain : (word : List ℕ) (other : Hint) → word_hint word other ≡ seen.Nothing → IsPlain word
+plain word other none =
+    let returns = passed (ends_in_return word) seen.CarriageReturn _ refl none in
+    let strange = passed (list_any is_strange word) seen.Strange _ refl returns.1 in
+    let quotes = passed (list_any is_quote word) seen.Quotes _ refl strange.1 in
+    let capitals = passed (list_any is_capital_letter word) seen.Capitals other refl quotes.1 in
+    record { returns = returns.0; strange = strange.0; quotes = quotes.0; capitals = capitals.0 }
+
+plain_line : (line word : List ℕ) (other : Hint) → line_hint line word other ≡ seen.Nothing → IsPlain word
+plain_line line word other none =
+    let whole = passed (is_cut line) seen.TooLong _ refl none in
+    let signed = passed (begins_signed (first_word (words_of line))) seen.OfBody _ refl whole.1 in
+    plain word other signed.1
+
+plus : (test : Bool) → cond test seen.Nothing seen.NoSign ≡ seen.Nothing → test ≡ true
+plus true none = refl
+plus false none = absurd (false≢true (ap is_nothing none))
+
+new_line : (line : List ℕ) → edit_hint line ≡ seen.Nothing → begins (codes "+") line ≡ true
+new_line line none =
+    let empty = passed (is_empty line) seen.Empty _ refl none in
+    let blank = passed (begins_blank line) seen.Blank _ refl empty.1 in
+    let end = passed (is_end line) seen.NoLine _ refl blank.1 in
+    let returns = passed (bytes_eq line (codes "end\r")) seen.CarriageReturn _ refl end.1 in
+    let more = passed (begins_end line) seen.MoreThanEnd _ refl returns.1 in
+    let old = passed (begins (codes "-") line) seen.OldBehindNew _ refl more.1 in
+    plus (begins (codes "+") line) old.1
+
+shows_nothing : (kind : FaultKind) (line : List ℕ) → hint kind line ≡ seen.Nothing → ShowsNothing kind line
+shows_nothing kind.UnknownCommand line none = plain_line line (command_word line) (form_hint line) none
+shows_nothing kind.BadGroup line none = plain_line line (first_word (words_of line)) seen.Nothing none
+shows_nothing kind.BadName line none = plain (misnamed (words_of line)) seen.Nothing none
+shows_nothing kind.WrongNumberOfWords line none =
+    let returns = passed (list_any is_return (words_of line)) seen.CarriageReturn _ refl none in
+    (returns.0, (passed (list_any begins_quoted (words_of line)) seen.Quotes seen.Nothing refl returns.1).0)
+shows_nothing kind.BadPath line none =
+    let returns = passed (ends_in_return (path_word line)) seen.CarriageReturn _ refl none in
+    (returns.0, (passed (list_any is_strange (path_word line)) seen.Strange seen.Nothing refl returns.1).0)
+shows_nothing kind.BadNumber line none =
+    let end = passed (is_end line) seen.TooFar _ refl none in
+    let returns = passed (ends_in_return (number_word line)) seen.CarriageReturn _ refl end.1 in
+    (end.0, returns.0, (passed (is_zero (number_word line)) seen.Zero seen.Nothing refl returns.1).0)
+shows_nothing kind.BadLine line none = (passed (is_cut line) seen.TooLong seen.Nothing refl none).0
+shows_nothing kind.BadEdit line none = new_line line none
+shows_nothing kind.EditNotEnded line none = tt
+shows_nothing kind.TooManyClients line none = tt
+shows_nothing kind.TooManyCommands line none = tt
+shows_nothing kind.GroupNotEnded line none = tt
+
+pub are_seen : HintsAreSeen
+are_seen = record { told = is_so; none = shows_nothing }

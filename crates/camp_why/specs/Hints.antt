@@ -3,9 +3,11 @@ use Rattle.std.specs.Prelude.{◌≡◌, ℕ, Bool, true, false, not, ◌&&◌, 
 use Rattle.std.specs.List.{ends_with, list_any, starts_with}
 use Rattle.camp_base.specs.Bytes.{is_name}
 use Rattle.camp_base.specs.Signs.{is_capital_letter, is_printing, quote, tab}
+use Rattle.camp_script.specs.Behind.{behind_word}
 use Rattle.camp_script.specs.Lines.{words_of}
+use Rattle.camp_script.specs.Pieces.{begins_edit, begins_with}
 use Rattle.camp_script.specs.declared.faults.FaultKind.{FaultKind}
-use Rattle.camp_script.specs.declared.faults.FaultKind.TheVariants.{BadEdit, BadGroup, BadName, BadNumber, BadPath, UnknownCommand, WrongNumberOfWords}
+use Rattle.camp_script.specs.declared.faults.FaultKind.TheVariants.{BadEdit, BadGroup, BadLine, BadName, BadNumber, BadPath, UnknownCommand, WrongNumberOfWords}
 use Rattle.camp_why.specs.declared.hints.Hint.{Hint}
 use Rattle.camp_why.specs.declared.hints.Hint.TheVariants as seen
 
@@ -15,9 +17,17 @@ use Rattle.camp_why.specs.declared.hints.Hint.TheVariants as seen
 abbrev pub begins : List ℕ → List ℕ → Bool
 begins front line = starts_with ◌==◌ line front
 
--- whether a line ends with a carriage return
+-- whether a line or a word ends with a carriage return
 abbrev pub ends_in_return : List ℕ → Bool
 ends_in_return line = ends_with ◌==◌ line (codes "\r")
+
+-- whether a word is a carriage return alone
+abbrev pub is_return : List ℕ → Bool
+is_return word = bytes_eq word (codes "\r")
+
+-- whether a word is the number 0
+abbrev pub is_zero : List ℕ → Bool
+is_zero word = bytes_eq word (codes "0")
 
 -- whether a line begins with a space or a tab
 abbrev pub begins_blank : List ℕ → Bool
@@ -31,11 +41,11 @@ begins_end line = begins (codes "end ") line || begins (codes "end\t") line
 abbrev pub is_end : List ℕ → Bool
 is_end line = bytes_eq line (codes "end")
 
--- whether a line has no byte, or none but a carriage return
+-- whether a line has no byte
 abbrev pub is_empty : List ℕ → Bool
-is_empty line = length line == 0 || bytes_eq line (codes "\r")
+is_empty line = length line == 0
 
--- whether a line is read in part, as one of too many bytes is: it has 4,098 bytes, and `?` in place of the second
+-- whether a line is as one of too many bytes is read: it has 4,098 bytes, and `?` for the second
 abbrev pub is_cut : List ℕ → Bool
 is_cut line = length line == 4098 && slice_index line 1 == 63
 
@@ -65,48 +75,87 @@ abbrev pub misnamed : List (List ℕ) → List ℕ
 misnamed [] = []
 misnamed (word ∷ words) = if is_name word then misnamed words else word
 
+-- the last two words, behind these two
+abbrev pub last_words : List ℕ → List ℕ → List (List ℕ) → List ℕ × List ℕ
+last_words before last [] = (before, last)
+last_words before last (word ∷ words) = last_words last word words
+
+-- the line of a call: what stands behind `whatif`, or else the whole line
+abbrev pub call_part : List ℕ → List ℕ
+call_part line = if begins_with (codes "whatif") (words_of line) then behind_word line else line
+
+-- the word that says what a call does: of a record its fourth, and of any other its first
+abbrev pub call_word : List ℕ → List ℕ
+call_word line =
+    if begins_with (codes "record") (words_of line)
+    then first_word (words_of (behind_word (behind_word (behind_word line))))
+    else first_word (words_of line)
+
+-- the word that should be one of a command: behind `help`, or that of the call
+abbrev pub command_word : List ℕ → List ℕ
+command_word line =
+    if begins_with (codes "help") (words_of line) then first_word (words_of (behind_word line)) else call_word (call_part line)
+
+-- the word that should be a path: in the line of an edit the last but one, and else the last
+abbrev pub path_word : List ℕ → List ℕ
+path_word line =
+    if begins_edit (words_of (call_part line)) then (last_words [] [] (words_of line)).0 else (last_words [] [] (words_of line)).1
+
+-- the word that should be a number: the last
+abbrev pub number_word : List ℕ → List ℕ
+number_word line = (last_words [] [] (words_of line)).1
+
 -- ---- what is to be seen
 
--- in a word that is no command, or no name
-abbrev pub word_hint : List ℕ → Hint
-word_hint word =
-    if list_any is_strange word then seen.Strange
+-- in a word that is no command, or no name; where nothing is, this other hint
+abbrev pub word_hint : List ℕ → Hint → Hint
+word_hint word other =
+    if ends_in_return word then seen.CarriageReturn
+    else (if list_any is_strange word then seen.Strange
     else (if list_any is_quote word then seen.Quotes
     else (if list_any is_capital_letter word then seen.Capitals
+    else other)))
+
+-- of the first word of a line that is no command
+abbrev pub form_hint : List ℕ → Hint
+form_hint line =
+    if begins_with (codes "client") (words_of line) then seen.OfScript
+    else (if begins_with (codes "whatif") (words_of line) then seen.NoCall
+    else (if begins_with (codes "help") (words_of line) then seen.NoTopic
     else seen.Nothing))
 
--- in a line of which the first word begins no command
-abbrev pub command_hint : List ℕ → Hint
-command_hint line =
+-- in a line with a word that should be one of a command, by that word and by what there is else
+abbrev pub line_hint : List ℕ → List ℕ → Hint → Hint
+line_hint line word other =
     if is_cut line then seen.TooLong
     else (if begins_signed (first_word (words_of line)) then seen.OfBody
-    else (if ends_in_return line then seen.CarriageReturn
-    else word_hint (first_word (words_of line))))
-
--- in a line with a word that should be a name
-abbrev pub name_hint : List ℕ → Hint
-name_hint line = if ends_in_return line then seen.CarriageReturn else word_hint (misnamed (words_of line))
+    else word_hint word other)
 
 -- in a line with too few words, or too many
-abbrev pub count_hint : List ℕ → Hint
-count_hint line =
-    if ends_in_return line then seen.CarriageReturn
-    else (if list_any begins_quoted (words_of line) then seen.Quotes
+abbrev pub count_hint : List (List ℕ) → Hint
+count_hint words =
+    if list_any is_return words then seen.CarriageReturn
+    else (if list_any begins_quoted words then seen.Quotes
     else seen.Nothing)
 
--- in a line with a word that should be a path
+-- in a word that should be a path
 abbrev pub path_hint : List ℕ → Hint
-path_hint line =
-    if ends_in_return line then seen.CarriageReturn
-    else (if list_any is_strange line then seen.Strange
+path_hint word =
+    if ends_in_return word then seen.CarriageReturn
+    else (if list_any is_strange word then seen.Strange
     else seen.Nothing)
 
 -- in a line with a number, or in the `end` of an edit whose numbers are too great
 abbrev pub number_hint : List ℕ → Hint
 number_hint line =
     if is_end line then seen.TooFar
-    else (if ends_in_return line then seen.CarriageReturn
-    else seen.Nothing)
+    else (if ends_in_return (number_word line) then seen.CarriageReturn
+    else (if is_zero (number_word line) then seen.Zero
+    else seen.Nothing))
+
+-- in a line of a body that may be too long
+abbrev pub long_hint : List ℕ → Hint
+long_hint line = if is_cut line then seen.TooLong else seen.Nothing
 
 -- in a line of a body
 abbrev pub edit_hint : List ℕ → Hint
@@ -122,12 +171,13 @@ edit_hint line =
 
 -- what is to be seen in a line that has a fault of a kind
 abbrev pub hint : FaultKind → List ℕ → Hint
-hint UnknownCommand line = command_hint line
-hint BadGroup line = command_hint line
-hint BadName line = name_hint line
-hint WrongNumberOfWords line = count_hint line
-hint BadPath line = path_hint line
+hint UnknownCommand line = line_hint line (command_word line) (form_hint line)
+hint BadGroup line = line_hint line (first_word (words_of line)) seen.Nothing
+hint BadName line = word_hint (misnamed (words_of line)) seen.Nothing
+hint WrongNumberOfWords line = count_hint (words_of line)
+hint BadPath line = path_hint (path_word line)
 hint BadNumber line = number_hint line
+hint BadLine line = long_hint line
 hint BadEdit line = edit_hint line
 hint other line = seen.Nothing
 
@@ -135,10 +185,17 @@ hint other line = seen.Nothing
 
 -- the word that has the fault; the line, where the kind names no word
 abbrev pub faulty : FaultKind → List ℕ → List ℕ
-faulty UnknownCommand line = first_word (words_of line)
+faulty UnknownCommand line = command_word line
 faulty BadGroup line = first_word (words_of line)
 faulty BadName line = misnamed (words_of line)
+faulty BadPath line = path_word line
+faulty BadNumber line = number_word line
 faulty other line = line
+
+-- whether it ends with a carriage return; of too few words, or too many, whether one is nothing else
+abbrev pub has_return : FaultKind → List ℕ → Bool
+has_return WrongNumberOfWords line = list_any is_return (words_of line)
+has_return kind line = ends_in_return (faulty kind line)
 
 -- whether it has a quotation mark; of too few words, or too many, whether one begins with it
 abbrev pub has_quote : FaultKind → List ℕ → Bool
@@ -149,11 +206,15 @@ has_quote kind line = list_any is_quote (faulty kind line)
 abbrev pub IsSeen : FaultKind → List ℕ → Hint → Type 0
 IsSeen kind line seen.Nothing = Unit {0}
 IsSeen kind line seen.OfBody = begins_signed (first_word (words_of line)) ≡ true
+IsSeen kind line seen.OfScript = begins_with (codes "client") (words_of line) ≡ true
+IsSeen kind line seen.NoCall = begins_with (codes "whatif") (words_of line) ≡ true
+IsSeen kind line seen.NoTopic = begins_with (codes "help") (words_of line) ≡ true
 IsSeen kind line seen.TooLong = is_cut line ≡ true
-IsSeen kind line seen.CarriageReturn = ends_in_return line ≡ true
+IsSeen kind line seen.CarriageReturn = has_return kind line ≡ true
 IsSeen kind line seen.Strange = list_any is_strange (faulty kind line) ≡ true
 IsSeen kind line seen.Quotes = has_quote kind line ≡ true
 IsSeen kind line seen.Capitals = list_any is_capital_letter (faulty kind line) ≡ true
+IsSeen kind line seen.Zero = is_zero (faulty kind line) ≡ true
 IsSeen kind line seen.Empty = is_empty line ≡ true
 IsSeen kind line seen.Blank = begins_blank line ≡ true
 IsSeen kind line seen.NoLine = is_end line ≡ true
@@ -162,6 +223,28 @@ IsSeen kind line seen.MoreThanEnd = begins_end line ≡ true
 IsSeen kind line seen.OldBehindNew = begins (codes "-") line ≡ true
 IsSeen kind line seen.NoSign = begins_signed line ≡ false
 
--- so it is of each kind and each line
-abbrev pub HintsAreSeen : Type 0
-HintsAreSeen = (kind : FaultKind) (line : List ℕ) → IsSeen kind line (hint kind line)
+-- nothing of this is to be seen in a word that should be a name, or one of a command
+pub record IsPlain (word : List ℕ) : Type 0 where
+  pub returns : ends_in_return word ≡ false
+  pub strange : list_any is_strange word ≡ false
+  pub quotes : list_any is_quote word ≡ false
+  pub capitals : list_any is_capital_letter word ≡ false
+
+-- nothing is to be seen in a line with a fault of a kind
+abbrev pub ShowsNothing : FaultKind → List ℕ → Type 0
+ShowsNothing UnknownCommand line = IsPlain (command_word line)
+ShowsNothing BadGroup line = IsPlain (first_word (words_of line))
+ShowsNothing BadName line = IsPlain (misnamed (words_of line))
+ShowsNothing WrongNumberOfWords line =
+    (list_any is_return (words_of line) ≡ false) × (list_any begins_quoted (words_of line) ≡ false)
+ShowsNothing BadPath line = (ends_in_return (path_word line) ≡ false) × (list_any is_strange (path_word line) ≡ false)
+ShowsNothing BadNumber line =
+    (is_end line ≡ false) × (ends_in_return (number_word line) ≡ false) × (is_zero (number_word line) ≡ false)
+ShowsNothing BadLine line = is_cut line ≡ false
+ShowsNothing BadEdit line = begins (codes "+") line ≡ true
+ShowsNothing other line = Unit {0}
+
+-- so it is of each kind and each line; and where nothing is told, nothing is to be seen
+pub record HintsAreSeen : Type 0 where
+  pub told : (kind : FaultKind) (line : List ℕ) → IsSeen kind line (hint kind line)
+  pub none : (kind : FaultKind) (line : List ℕ) → hint kind line ≡ seen.Nothing → ShowsNothing kind line

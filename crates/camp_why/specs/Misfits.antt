@@ -33,11 +33,15 @@ other_line at (expected ∷ old) (stands ∷ lines) =
 abbrev pub lacking : Edit → ℕ → Option (List ℕ)
 lacking hunk has = slice_get hunk.old (has - (hunk.line - 1))
 
+-- the line, counted from 1, at which that one would stand
+abbrev pub lacking_at : Edit → ℕ → ℕ
+lacking_at hunk has = suc (hunk.line - 1 + (has - (hunk.line - 1)))
+
 -- that a file of so many lines ends before the edit does
 abbrev pub ends_before : Edit → ℕ → Option Misfit
 ends_before hunk has =
     if nat_lt has (hunk.line - 1 + length hunk.old)
-    then Some (EndsBefore has (hunk.line - 1 + length hunk.old) (lacking hunk has)) else None
+    then Some (EndsBefore has (hunk.line - 1 + length hunk.old) (lacking_at hunk has) (lacking hunk has)) else None
 
 -- the first reason, or else the second
 abbrev pub misfit_or : Option Misfit → Option Misfit → Option Misfit
@@ -101,8 +105,8 @@ StandThere hunk lines count =
     slice_get lines (hunk.line - 1 + at) ≡ Some stands → stands ≡ expected
 
 -- an edit wants so many lines, and the file has fewer: each old line that finds one finds itself, and this is the first that
--- finds none
-pub record ReachesBehind (change : Primitive) (tree : Files) (has wants : ℕ) (lacks : Option (List ℕ)) : Type 0 where
+-- finds none, at this line
+pub record ReachesBehind (change : Primitive) (tree : Files) (has wants at : ℕ) (lacks : Option (List ℕ)) : Type 0 where
   pub hunk : Edit
   pub lines : Lines
   pub edits : Edits change tree hunk lines
@@ -111,6 +115,7 @@ pub record ReachesBehind (change : Primitive) (tree : Files) (has wants : ℕ) (
   pub behind : has < wants
   pub alike : StandThere hunk lines (length hunk.old)
   pub is_lacked : lacks ≡ slice_get hunk.old (length lines - (hunk.line - 1))
+  pub is_at : at ≡ suc (hunk.line - 1 + (length lines - (hunk.line - 1)))
 
 -- at a line, counted from 1, another one stands than an edit takes away, and at none before it
 pub record MeetsOther (change : Primitive) (tree : Files) (at : ℕ) (stands expected : List ℕ) : Type 0 where
@@ -129,5 +134,5 @@ abbrev pub IsMisfit : Primitive → Files → Misfit → Type 0
 IsMisfit change tree FileIsThere = AddsAgain change tree
 IsMisfit change tree NoFile = ChangesNone change tree
 IsMisfit change tree (HasLines count) = RemovesLines change tree count
-IsMisfit change tree (EndsBefore has wants lacks) = ReachesBehind change tree has wants lacks
+IsMisfit change tree (EndsBefore has wants at lacks) = ReachesBehind change tree has wants at lacks
 IsMisfit change tree (OtherLine at stands expected) = MeetsOther change tree at stands expected

@@ -1,14 +1,14 @@
 //! What is to be seen in a line that has a fault.
-ghost use Rattle.std.specs.Prelude.{◌≡◌};
+ghost use Rattle.std.specs.Prelude.{◌≡◌, []};
 ghost use Rattle.std.specs.List.{list_any};
 ghost use Rattle.camp_base.specs.Signs.{is_capital_letter};
 ghost use Rattle.camp_script.specs.Lines.{words_of};
-ghost use Rattle.camp_why.specs.Hints.{begins_blank, begins_end, begins_quoted, begins_signed, command_hint, count_hint, edit_hint, ends_in_return, first_word, hint, is_cut, is_empty, is_end, is_quote, is_strange, misnamed, name_hint, number_hint, path_hint, word_hint};
+ghost use Rattle.camp_why.specs.Hints.{begins_blank, begins_end, begins_quoted, begins_signed, call_part, call_word, command_word, count_hint, edit_hint, ends_in_return, first_word, form_hint, hint, is_cut, is_empty, is_end, is_quote, is_return, is_strange, is_zero, last_words, line_hint, long_hint, misnamed, number_hint, number_word, path_hint, path_word, word_hint};
 
 use camp_base::Name;
-use camp_script::{FaultKind, Words};
+use camp_script::{FaultKind, Words, begins_edit, begins_with, behind_word};
 
-/// The bytes of a line that is read in part, as one of too many bytes is.
+/// The bytes of a line that has too many, as it is read.
 const CUT_BYTES: usize = 4098;
 
 /// What is to be seen in a line that has a fault.
@@ -16,11 +16,17 @@ const CUT_BYTES: usize = 4098;
 pub enum Hint {
     /// Nothing but the fault.
     Nothing,
-    /// It is a line of a body, and stands in none.
+    /// It begins with the sign of a line of a body, and stands in none.
     OfBody,
-    /// It has too many bytes, and is read in part.
+    /// It is `client`, which is a line of scripts alone.
+    OfScript,
+    /// It has the first word `whatif`, and no call behind it.
+    NoCall,
+    /// It has the first word `help`, and no command behind it.
+    NoTopic,
+    /// It is as one of too many bytes is read.
     TooLong,
-    /// It ends with a carriage return.
+    /// A word ends with a carriage return, or is nothing else.
     CarriageReturn,
     /// A word has a byte that is no printing character of ASCII.
     Strange,
@@ -28,6 +34,8 @@ pub enum Hint {
     Quotes,
     /// A word has a capital letter.
     Capitals,
+    /// A number is 0.
+    Zero,
     /// It is empty.
     Empty,
     /// It begins with a blank.
@@ -49,46 +57,52 @@ pub fn look_at(kind: FaultKind, line: &[u8]) -> Hint
     ensures exact { result ≡ hint kind line.now }
 {
     match kind {
-        FaultKind::UnknownCommand | FaultKind::BadGroup => command_hint(line),
-        FaultKind::BadName => name_hint(line),
+        FaultKind::UnknownCommand => line_hint(line, command_word(line), form_hint(line)),
+        FaultKind::BadGroup => line_hint(line, first_word(line), Hint::Nothing),
+        FaultKind::BadName => word_hint(misnamed(line), Hint::Nothing),
         FaultKind::WrongNumberOfWords => count_hint(line),
-        FaultKind::BadPath => path_hint(line),
+        FaultKind::BadPath => path_hint(path_word(line)),
         FaultKind::BadNumber => number_hint(line),
+        FaultKind::BadLine => long_hint(line),
         FaultKind::BadEdit => edit_hint(line),
         _ => Hint::Nothing,
     }
 }
 
-// What is to be seen in a line of which the first word begins no command.
-fn command_hint(line: &[u8]) -> Hint
-    ensures { result ≡ command_hint line.now }
+// What is to be seen in a line with a word that should be one of a command, by that word and by what there is
+// else.
+fn line_hint(line: &[u8], word: &[u8], other: Hint) -> Hint
+    ensures { result ≡ line_hint line.now word.now other }
 {
     if is_cut(line) {
         return Hint::TooLong;
     }
-    let word = first_word(line);
-    if begins_signed(word) {
+    if begins_signed(first_word(line)) {
         return Hint::OfBody;
     }
-    if ends_in_return(line) {
-        return Hint::CarriageReturn;
-    }
-    word_hint(word)
+    word_hint(word, other)
 }
 
-fn name_hint(line: &[u8]) -> Hint
-    ensures { result ≡ name_hint line.now }
+// What is to be seen of the first word of a line that is no command.
+fn form_hint(line: &[u8]) -> Hint
+    ensures { result ≡ form_hint line.now }
 {
-    if ends_in_return(line) {
-        return Hint::CarriageReturn;
+    if begins_with(line, b"client") {
+        return Hint::OfScript;
     }
-    word_hint(misnamed(line))
+    if begins_with(line, b"whatif") {
+        return Hint::NoCall;
+    }
+    if begins_with(line, b"help") {
+        return Hint::NoTopic;
+    }
+    Hint::Nothing
 }
 
 fn count_hint(line: &[u8]) -> Hint
-    ensures { result ≡ count_hint line.now }
+    ensures { result ≡ count_hint (words_of line.now) }
 {
-    if ends_in_return(line) {
+    if has_return(line) {
         return Hint::CarriageReturn;
     }
     if has_quoted(line) {
@@ -97,13 +111,13 @@ fn count_hint(line: &[u8]) -> Hint
     Hint::Nothing
 }
 
-fn path_hint(line: &[u8]) -> Hint
-    ensures { result ≡ path_hint line.now }
+fn path_hint(path: &[u8]) -> Hint
+    ensures { result ≡ path_hint path.now }
 {
-    if ends_in_return(line) {
+    if ends_in_return(path) {
         return Hint::CarriageReturn;
     }
-    if has_strange(line) {
+    if has_strange(path) {
         return Hint::Strange;
     }
     Hint::Nothing
@@ -115,8 +129,21 @@ fn number_hint(line: &[u8]) -> Hint
     if is_end(line) {
         return Hint::TooFar;
     }
-    if ends_in_return(line) {
+    let number = number_word(line);
+    if ends_in_return(number) {
         return Hint::CarriageReturn;
+    }
+    if number == b"0".as_slice() {
+        return Hint::Zero;
+    }
+    Hint::Nothing
+}
+
+fn long_hint(line: &[u8]) -> Hint
+    ensures { result ≡ long_hint line.now }
+{
+    if is_cut(line) {
+        return Hint::TooLong;
     }
     Hint::Nothing
 }
@@ -149,10 +176,13 @@ fn edit_hint(line: &[u8]) -> Hint
     Hint::NoSign
 }
 
-// What is to be seen in a word that is no command, or no name.
-fn word_hint(word: &[u8]) -> Hint
-    ensures { result ≡ word_hint word.now }
+// What is to be seen in a word that is no command, or no name; where nothing is, another hint.
+fn word_hint(word: &[u8], other: Hint) -> Hint
+    ensures { result ≡ word_hint word.now other }
 {
+    if ends_in_return(word) {
+        return Hint::CarriageReturn;
+    }
     if has_strange(word) {
         return Hint::Strange;
     }
@@ -162,7 +192,68 @@ fn word_hint(word: &[u8]) -> Hint
     if has_capitals(word) {
         return Hint::Capitals;
     }
-    Hint::Nothing
+    other
+}
+
+// The word that should be one of a command: behind `help`, or that of the call.
+fn command_word(line: &[u8]) -> &[u8]
+    ensures { result.now ≡ command_word line.now }
+{
+    if begins_with(line, b"help") {
+        return first_word(behind_word(line));
+    }
+    call_word(call_part(line))
+}
+
+// The word that says what a call does: of a record its fourth, and of any other its first.
+fn call_word(line: &[u8]) -> &[u8]
+    ensures { result.now ≡ call_word line.now }
+{
+    if begins_with(line, b"record") {
+        return first_word(behind_word(behind_word(behind_word(line))));
+    }
+    first_word(line)
+}
+
+/// The line of a call: what stands behind `whatif`, or else the whole line.
+pub fn call_part(line: &[u8]) -> &[u8]
+    ensures exact { result.now ≡ call_part line.now }
+{
+    if begins_with(line, b"whatif") {
+        return behind_word(line);
+    }
+    line
+}
+
+// The word of a line that should be a path: in the line of an edit the last but one, and else the last.
+fn path_word(line: &[u8]) -> &[u8]
+    ensures { result.now ≡ path_word line.now }
+{
+    let (before, last) = last_words(line);
+    if begins_edit(call_part(line)) {
+        return before;
+    }
+    last
+}
+
+// The word of a line that should be a number: the last.
+fn number_word(line: &[u8]) -> &[u8]
+    ensures { result.now ≡ number_word line.now }
+{
+    last_words(line).1
+}
+
+// The last two words of a line; empty ones, where there are not so many.
+fn last_words(line: &[u8]) -> (&[u8], &[u8])
+    ensures { (result.0.now, result.1.now) ≡ last_words [] [] (words_of line.now) }
+{
+    let mut before: &[u8] = &[];
+    let mut last: &[u8] = &[];
+    for word in Words::new(line) {
+        before = last;
+        last = word;
+    }
+    (before, last)
 }
 
 // The first word of a line; an empty one, where there is none.
@@ -193,6 +284,18 @@ fn has_quoted(line: &[u8]) -> bool
 {
     for word in Words::new(line) {
         if begins_quoted(word) {
+            return true;
+        }
+    }
+    false
+}
+
+// Whether a word of a line is a carriage return alone.
+fn has_return(line: &[u8]) -> bool
+    ensures { result ≡ list_any is_return (words_of line.now) }
+{
+    for word in Words::new(line) {
+        if word == b"\r".as_slice() {
             return true;
         }
     }
@@ -238,10 +341,10 @@ fn is_end(line: &[u8]) -> bool
 fn is_empty(line: &[u8]) -> bool
     ensures { result ≡ is_empty line.now }
 {
-    line.is_empty() || line == b"\r".as_slice()
+    line.is_empty()
 }
 
-// Whether a line is read in part, as one of too many bytes is.
+// Whether a line is as one of too many bytes is read.
 fn is_cut(line: &[u8]) -> bool
     ensures { result ≡ is_cut line.now }
 {

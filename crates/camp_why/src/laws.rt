@@ -17,7 +17,7 @@ pub fn refusals_have_grounds()
     ensures law { RefusalsHaveGrounds }
 {}
 
-/// What is told of a line with a fault is to be seen there.
+/// What is told of a line with a fault is to be seen there; and where nothing is told, nothing is to be seen.
 pub fn hints_are_seen()
     ensures law { HintsAreSeen }
 {}

@@ -18,10 +18,11 @@ pub enum Misfit {
     /// A file is to be removed, and it has so many lines.
     HasLines(usize),
     /// An edit reaches behind the last line of the file: that has so many, and the edit wants so many at least. The
-    /// first old line that finds none, where there is one.
+    /// first old line that finds none, where there is one, and at which line, counted from 1, it would stand.
     EndsBefore {
         has: usize,
         wants: usize,
+        at: usize,
         lacks: Option<Line>,
     },
     /// At a line, counted from 1, another one stands than an edit takes away.
@@ -117,9 +118,15 @@ fn ends_before(hunk: &Hunk, has: usize) -> Result<Option<Misfit>, AllocError>
     if has >= wants {
         return Ok(None);
     }
-    let lacks = match old.get(has.saturating_sub(from)) {
+    let found = has.saturating_sub(from);
+    let lacks = match old.get(found) {
         Some(line) => Some(line.try_clone()?),
         None => None,
     };
-    Ok(Some(Misfit::EndsBefore { has, wants, lacks }))
+    Ok(Some(Misfit::EndsBefore {
+        has,
+        wants,
+        at: from + found + 1,
+        lacks,
+    }))
 }

@@ -6,6 +6,7 @@ use Rattle.camp_repo.specs.Objects.{repository}
 use Rattle.camp_repo.specs.States.{Contents}
 use Rattle.camp_script.specs.Lines.{lines_of}
 use Rattle.camp_script.specs.declared.faults.LineFault.{LineFault}
+use Rattle.camp_talk.specs.Accounts.{Account, kept_behind}
 use Rattle.camp_talk.specs.Answers.{Answers, Learns, Standing, Tells, is_silent}
 use Rattle.camp_talk.specs.Asking.{asked_by}
 use Rattle.camp_talk.specs.Cutting.{IsCommand}
@@ -17,18 +18,18 @@ use Rattle.camp_talk.specs.declared.faults.LoadFault.{LoadFault}
 use Rattle.camp_talk.specs.declared.questions.Asked.{Asked}
 
 -- what is kept for `why`, by the lines of a command and what it asks
-abbrev pub LearnsWith : Bool → Standing → List (List ℕ) → Result Asked LineFault → List ℕ → List ℕ → Type 0
+abbrev pub LearnsWith : Bool → Standing → List (List ℕ) → Result Asked LineFault → List ℕ → Account → Type 0
 LearnsWith true before lines asked text cause =
     (state : Contents) × (replay repository before.history ≡ Some state) × (cause ≡ cause_with before.cause state lines asked text)
-LearnsWith false before lines asked text cause = cause ≡ before.cause
+LearnsWith false before lines asked text cause = cause ≡ kept_behind text before.cause
 
 -- by the text of its answer
-abbrev pub LearnsOf : Standing → List (List ℕ) → Result Asked LineFault → List ℕ → List ℕ → Type 0
+abbrev pub LearnsOf : Standing → List (List ℕ) → Result Asked LineFault → List ℕ → Account → Type 0
 LearnsOf before lines asked text cause = LearnsWith (is_failure text) before lines asked text cause
 
 -- what a command asks is answered by this text, and the cause is kept where it is not done; or it asks something, there
 -- was no memory, and nothing has changed
-abbrev pub IsSaid : {Z E : Type 0} → Standing → List ℕ → Result (Vec ℕ Z) E → Entries → List ℕ → Type 0
+abbrev pub IsSaid : {Z E : Type 0} → Standing → List ℕ → Result (Vec ℕ Z) E → Entries → Account → Type 0
 IsSaid before command (Ok text) now cause =
     Tells before (asked_by command) text.items now × Learns before command text.items cause
 IsSaid before command (Err error) now cause =

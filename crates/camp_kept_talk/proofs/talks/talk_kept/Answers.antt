@@ -1,4 +1,5 @@
-use Rattle.std.proofs.Common.{◌≡◌, ℕ, Bool, true, false, List, [], Ok, refl, rules, subst, sym}
+use Rattle.camp_talk.specs.Accounts.{Account, no_account}
+use Rattle.std.proofs.Common.{◌≡◌, ℕ, Bool, true, false, List, Ok, refl, rules, subst, sym}
 use Rattle.std.specs.Io.Buffered.{reader_remaining}
 use Rattle.camp_kept_talk.specs.Going.{Comes, Goes}
 use Rattle.camp_kept_talk.proofs.Leading.{at, begins, talk_stops}
@@ -11,13 +12,13 @@ loop-held-init g c = (
       let now = g.W.Write.contents c.args.writer.now in
       let kept = c.args.kept.now in
       subst
-      (λ (lines : ℕ). Goes g.D.Disk.seen g.D.Disk.may_leave a a now now c.new-held.result.answers.items (at kept.book 0 [])
-      (at kept.book lines c.new-held.result.cause.items) kept)
+      (λ (lines : ℕ). Goes g.D.Disk.seen g.D.Disk.may_leave a a now now c.new-held.result.answers.items (at kept.book 0 no_account)
+      (at kept.book lines c.new-held.result.cause) kept)
       (sym c.new-held.ensures.first)
-      (subst (λ (cause : List ℕ). Goes g.D.Disk.seen g.D.Disk.may_leave a a now now c.new-held.result.answers.items (at kept.book 0 []) (at kept.book 0 cause) kept)
+      (subst (λ (cause : Account). Goes g.D.Disk.seen g.D.Disk.may_leave a a now now c.new-held.result.answers.items (at kept.book 0 no_account) (at kept.book 0 cause) kept)
       (sym c.new-held.ensures.cause)
-      (subst (λ (held : List ℕ). Goes g.D.Disk.seen g.D.Disk.may_leave a a now now held (at kept.book 0 []) (at kept.book 0 []) kept)
-      (sym c.new-held.ensures.none) (begins g.D.Disk.seen g.D.Disk.may_leave a now now (at kept.book 0 []) kept 0 [] holds))),
+      (subst (λ (held : List ℕ). Goes g.D.Disk.seen g.D.Disk.may_leave a a now now held (at kept.book 0 no_account) (at kept.book 0 no_account) kept)
+      (sym c.new-held.ensures.none) (begins g.D.Disk.seen g.D.Disk.may_leave a now now (at kept.book 0 no_account) kept 0 no_account holds))),
   refl,
 )
 
@@ -28,10 +29,10 @@ loop-held-preserved g c =
           (λ (more : Bool). Comes g.D.Disk.seen g.D.Disk.may_leave (reader_remaining g.R.Read.remaining c.args.reader.now)
           (reader_remaining g.R.Read.remaining c.stored_turn.new.reader) (g.W.Write.contents c.args.writer.now)
           (g.W.Write.contents c.stored_turn.new.writer) c.stored_turn.new.held.answers.items
-          (record { history = c.args.kept.now.book; lines = 0; cause = [] })
-          (record { history = c.stored_turn.new.kept.book; lines = c.stored_turn.new.held.lines; cause = c.stored_turn.new.held.cause.items }) (Ok more) c.stored_turn.new.kept) more
+          (record { history = c.args.kept.now.book; lines = 0; cause = no_account })
+          (record { history = c.stored_turn.new.kept.book; lines = c.stored_turn.new.held.lines; cause = c.stored_turn.new.held.cause }) (Ok more) c.stored_turn.new.kept) more
           (c.in_ok-stored_turn.ensures.goes (reader_remaining g.R.Read.remaining c.args.reader.now) (g.W.Write.contents c.args.writer.now)
-          (record { history = c.args.kept.now.book; lines = 0; cause = [] }) (c.loop-held.invariant.0 holds)),
+          (record { history = c.args.kept.now.book; lines = 0; cause = no_account }) (c.loop-held.invariant.0 holds)),
       search rules,
     )
 
@@ -39,7 +40,7 @@ pub returns-in_err-stored_turn-clause-promises : goal.returns-in_err-stored_turn
 returns-in_err-stored_turn-clause-promises g c holds =
     let a = reader_remaining g.R.Read.remaining c.args.reader.now in
     let now = g.W.Write.contents c.args.writer.now in
-    let first = at c.args.kept.now.book 0 [] in
+    let first = at c.args.kept.now.book 0 no_account in
     talk_stops g.D.Disk.seen g.D.Disk.may_leave a (reader_remaining g.R.Read.remaining c.stored_turn.new.reader) now (g.W.Write.contents c.stored_turn.new.writer) first
     c.stored_turn.new.kept c.from_residual.result c.in_err-stored_turn.field-0.0 c.from_residual.ensures.1 (c.in_err-stored_turn.ensures.goes a now first (c.loop-held.invariant.0 holds))
 
@@ -49,7 +50,7 @@ returns-clause-promises g c holds =
     subst
     (λ (more : Bool). Comes g.D.Disk.seen g.D.Disk.may_leave (reader_remaining g.R.Read.remaining c.args.reader.now)
     (reader_remaining g.R.Read.remaining c.stored_turn.new.reader) (g.W.Write.contents c.args.writer.now)
-    (g.W.Write.contents c.stored_turn.new.writer) c.stored_turn.new.held.answers.items (record { history = c.args.kept.now.book; lines = 0; cause = [] })
-    (record { history = c.stored_turn.new.kept.book; lines = c.stored_turn.new.held.lines; cause = c.stored_turn.new.held.cause.items }) (Ok more) c.stored_turn.new.kept) none
+    (g.W.Write.contents c.stored_turn.new.writer) c.stored_turn.new.held.answers.items (record { history = c.args.kept.now.book; lines = 0; cause = no_account })
+    (record { history = c.stored_turn.new.kept.book; lines = c.stored_turn.new.held.lines; cause = c.stored_turn.new.held.cause }) (Ok more) c.stored_turn.new.kept) none
     (c.in_ok-stored_turn.ensures.goes (reader_remaining g.R.Read.remaining c.args.reader.now) (g.W.Write.contents c.args.writer.now)
-    (record { history = c.args.kept.now.book; lines = 0; cause = [] }) (c.loop-held.invariant.0 holds))
+    (record { history = c.args.kept.now.book; lines = 0; cause = no_account }) (c.loop-held.invariant.0 holds))

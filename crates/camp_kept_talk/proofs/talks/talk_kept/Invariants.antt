@@ -1,4 +1,5 @@
-use Rattle.std.specs.Prelude.{◌≡◌, [], ◌-◌, ◌^◌}
+use Rattle.camp_talk.specs.Accounts.{no_account}
+use Rattle.std.specs.Prelude.{◌≡◌, ◌-◌, ◌^◌}
 use Rattle.std.specs.Io.Buffered.{reader_remaining}
 use Rattle.camp_kept.specs.Keeping.{Holds, calls_in, disk_in}
 use Rattle.camp_kept_talk.specs.Going.{Goes}
@@ -8,8 +9,8 @@ abbrev pub invariant-loop-held : goal.invariant-loop-held
 invariant-loop-held g l =
     (Holds g.D.Disk.seen g.D.Disk.may_leave (calls_in l.initial.kept) l.initial.kept
     → Goes g.D.Disk.seen g.D.Disk.may_leave (reader_remaining g.R.Read.remaining l.initial.reader) (reader_remaining g.R.Read.remaining l.reader)
-    (g.W.Write.contents l.initial.writer) (g.W.Write.contents l.writer) l.held.answers.items (record { history = l.initial.kept.book; lines = 0; cause = [] })
-    (record { history = l.kept.book; lines = l.held.lines; cause = l.held.cause.items }) l.kept)
+    (g.W.Write.contents l.initial.writer) (g.W.Write.contents l.writer) l.held.answers.items (record { history = l.initial.kept.book; lines = 0; cause = no_account })
+    (record { history = l.kept.book; lines = l.held.lines; cause = l.held.cause }) l.kept)
     × (g.D.Disk.is_clean (disk_in l.kept) ≡ g.D.Disk.is_clean (disk_in l.initial.kept))
 
 abbrev pub decreases-loop-held : goal.decreases-loop-held

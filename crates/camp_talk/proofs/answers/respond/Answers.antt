@@ -9,5 +9,5 @@ returns-in_err-cause-clause-nothing c =
     let fails : is_failure c.in_ok-text.text.items ≡ true =
     ap is_failure (sym c.deref.ensures.value) ∙ sym c.is_failure.ensures ∙ c.if-is_failure.true in
     let something : c.args.command.now.asked ≢ Ok Nothing =
-    failures_ask (record { history = c.args.book.now; lines = c.args.before; cause = c.as_slice.result.now }) c.args.command.now.asked c.in_ok-text.text.items c.answer.new.book fails c.in_ok-text.ensures.text in
+    failures_ask (record { history = c.args.book.now; lines = c.args.before; cause = c.args.cause.now }) c.args.command.now.asked c.in_ok-text.text.items c.answer.new.book fails c.in_ok-text.ensures.text in
     search (rules, something)

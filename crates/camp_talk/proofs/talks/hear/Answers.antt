@@ -15,7 +15,7 @@ lines g c =
 
 pub returns-in_err-command-clause-none : goal.returns-in_err-command-clause-none
 returns-in_err-command-clause-none g c =
-    let before : Standing = record { history = c.args.book.now; lines = c.args.lines; cause = c.args.cause.now.items } in
+    let before : Standing = record { history = c.args.book.now; lines = c.args.lines; cause = c.args.cause.now } in
     let none = reads_none _ _ before _ c.in_err-command.ensures.fault c.in_err-command.ensures.within in
     search (rules, none)
 
@@ -31,7 +31,7 @@ pub returns-clause-hears : goal.returns-clause-hears
 returns-clause-hears g c =
     let command = c.in_ok-command.command in
     let read = c.in_ok-command.ensures.command in
-    let before : Standing = record { history = c.args.book.now; lines = c.args.lines; cause = c.args.cause.now.items } in
+    let before : Standing = record { history = c.args.book.now; lines = c.args.lines; cause = c.args.cause.now } in
     let after = c.in-Some-checked_add.after in
     let then = (goal.at.returns-clause-hears g c).After-count_lines in
     let counts : after ≡ c.args.lines + length (lines_of read.command) = omega (arith, lines g then) in
@@ -41,7 +41,7 @@ returns-clause-hears g c =
     record {
       command = read.command;
       reads = read.reads;
-      says = said_so before c.respond.new.book c.respond.new.cause.items read.command (lines_of command.bytes.items) command.asked gives read.lines
+      says = said_so before c.respond.new.book c.respond.new.cause read.command (lines_of command.bytes.items) command.asked gives read.lines
           c.respond.result c.respond.ensures.text c.respond.ensures.learns c.respond.ensures.kept c.respond.ensures.same
           c.respond.ensures.nothing silent;
       counts = counts;

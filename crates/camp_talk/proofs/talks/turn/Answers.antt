@@ -5,9 +5,9 @@ use Rattle.camp_talk.proofs.talks.turn.Goals as goal
 
 pub returns-in_err-heard-clause-turns : goal.returns-in_err-heard-clause-turns
 returns-in_err-heard-clause-turns g c =
-    let before : Standing = record { history = c.args.book.now; lines = c.args.lines.now; cause = c.args.cause.now.items } in
-    let after : Standing = record { history = c.hear.new.book; lines = c.args.lines.now; cause = c.hear.new.cause.items } in
-    let same = same_standing c.args.lines.now c.hear.new.book c.args.book.now c.hear.new.cause.items c.args.cause.now.items
+    let before : Standing = record { history = c.args.book.now; lines = c.args.lines.now; cause = c.args.cause.now } in
+    let after : Standing = record { history = c.hear.new.book; lines = c.args.lines.now; cause = c.hear.new.cause } in
+    let same = same_standing c.args.lines.now c.hear.new.book c.args.book.now c.hear.new.cause c.args.cause.now
     c.in_err-heard.ensures.same.0 c.in_err-heard.ensures.same.1 in
     let turns = broken _ _ _ _ before after _ c.in_err-heard.ensures.none (Keeps-refl (g.W.Write.contents c.args.writer.now)) same in
     search (rules, turns)
@@ -15,8 +15,8 @@ returns-in_err-heard-clause-turns g c =
 pub returns-in-Ok-clause-turns : goal.returns-in-Ok-clause-turns
 returns-in-Ok-clause-turns g c =
     let heard = c.in_ok-heard.heard in
-    let before : Standing = record { history = c.args.book.now; lines = c.args.lines.now; cause = c.args.cause.now.items } in
-    let after : Standing = record { history = c.hear.new.book; lines = heard.lines; cause = c.hear.new.cause.items } in
+    let before : Standing = record { history = c.args.book.now; lines = c.args.lines.now; cause = c.args.cause.now } in
+    let after : Standing = record { history = c.hear.new.book; lines = heard.lines; cause = c.hear.new.cause } in
     let hears = c.in_ok-heard.ensures.hears in
     record {
       said = record { command = hears.command; answer = said_text heard.said };
@@ -36,9 +36,9 @@ returns-in-Ok-clause-counts g c =
 pub returns-clause-turns : goal.returns-clause-turns
 returns-clause-turns g c =
     let heard = c.in_ok-heard.heard in
-    let before : Standing = record { history = c.args.book.now; lines = c.args.lines.now; cause = c.args.cause.now.items } in
-    let after : Standing = record { history = c.hear.new.book; lines = c.args.lines.now; cause = c.hear.new.cause.items } in
-    let behind : Standing = record { history = c.hear.new.book; lines = heard.lines; cause = c.hear.new.cause.items } in
+    let before : Standing = record { history = c.args.book.now; lines = c.args.lines.now; cause = c.args.cause.now } in
+    let after : Standing = record { history = c.hear.new.book; lines = c.args.lines.now; cause = c.hear.new.cause } in
+    let behind : Standing = record { history = c.hear.new.book; lines = heard.lines; cause = c.hear.new.cause } in
     let hears = c.in_ok-heard.ensures.hears in
     stopped _ _ _ _ before after c.in-Err.why c.in-Err.ensures.0 (record {
       whole = heard.is_whole;

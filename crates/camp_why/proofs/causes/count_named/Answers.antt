@@ -1,4 +1,4 @@
-use Rattle.camp_why.proofs.Words.{◌∙◌, ◌≡◌, ◌≤◌, ℕ, List, ap, arith, length, refl, sym}
+use Rattle.camp_why.proofs.Words.{◌∙◌, ◌≡◌, ◌≤◌, ℕ, List, ap, arith, length, sym}
 use Rattle.camp_branch.specs.Branches.{is_among, name_of}
 use Rattle.camp_repo.proofs.NameSteps.{count_fits, counted, passed_over}
 use Rattle.camp_catch.specs.declared.catches.Catch.{Catch}
