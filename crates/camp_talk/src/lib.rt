@@ -3,7 +3,6 @@
 
 mod answers;
 mod asking;
-mod commands;
 mod dialogues;
 mod faults;
 mod frames;
