@@ -1,6 +1,6 @@
 -- A command that was read is one: by its first line, and what that takes with it.
-use Rattle.camp_talk.proofs.Words.{◌≡◌, ℕ, Bool, true, false, List, [], ◌∷◌, ◌++◌, length, map, Option, refl, sym, ap, subst, ◌∙◌, arith, lines_of, script_of_lines, CommandLines, Consumes, Consumes-trans, Ends, HasRead, IsCommand, IsLeft, ReadsCommand, ReadsHeld, ReadsLine, ReadsLines, ReadsOn, ReadsWithin, StopsAtLine, StopsOn, ended, with_last, TakesAll, append-nil, length-map, lines_in, ◌≤◌, as_read, call_line, first_of, script_in, taken, wants}
-use Rattle.camp_script.proofs.CommandCuts.{none_wanted, takes_wanted}
+use Rattle.camp_talk.proofs.Words.{◌≡◌, ℕ, Bool, true, false, List, [], ◌∷◌, ◌++◌, length, map, Option, refl, sym, ap, subst, ◌∙◌, arith, lines_of, script_of_lines, CommandLines, Consumes, Consumes-trans, Ends, HasRead, IsCommand, IsLeft, ReadsCommand, ReadsHeld, ReadsLine, ReadsLines, ReadsNext, ReadsWithin, StopsAtLine, ended, with_last, TakesAll, append-nil, length-map, lines_in, ◌≤◌, as_read, call_line, first_of, script_in, taken, wants}
+use Rattle.camp_script.proofs.CommandCuts.{none_wanted, one_wanted, takes_wanted}
 use Rattle.camp_talk.proofs.Cuts.{EndsWithLine, ends_with_line, with_last-append}
 use Rattle.camp_talk.proofs.Parts.{behind, ends_behind, lines_are_read, lines_behind, lines_held, none_left}
 
@@ -58,6 +58,12 @@ pub record IsHanded (a b : Option (List ℕ)) (whole : Bool) (bytes : List ℕ) 
   pub has : HasRead command first rest
   pub same : script_of_lines (first ∷ rest) ≡ script_in (lines_of bytes)
 
+-- lines of a command are handed on: whole ones, or all that the input has
+abbrev pub HandsOn : Option (List ℕ) → Option (List ℕ) → Bool → List ℕ → CommandLines → Type 0
+HandsOn a b true bytes command =
+    (first : List ℕ) × (rest : List (List ℕ)) × ReadsLines a b [] bytes (first ∷ rest) [] × HasRead command (call_line first) rest
+HandsOn a b false bytes command = IsHanded a b false bytes command
+
 -- the first line that was read
 pub line_read : (a b : Option (List ℕ)) (bytes : List ℕ) {old : List ℕ} {told whole : Bool} → ReadsLine a b told old bytes → old ≡ [] → told ≡ whole → ReadsLine a b whole [] bytes
 line_read a b bytes {old} {told} {whole} line none is =
@@ -71,7 +77,7 @@ call_read x bytes has call first read =
 -- the first line was handed on
 module _ (a b : Option (List ℕ)) (mid : List ℕ) (x : CommandLines) (has : HasRead x (call_line (first_of (lines_of mid))) []) where
   -- the input ends in or behind it
-  pub first_left : ReadsLine a b false [] mid → IsHanded a b false mid x
+  first_left : ReadsLine a b false [] mid → IsHanded a b false mid x
   first_left (last, reads, ends) = record {
     held = is_left a b mid [] last reads (takes_last a b mid last) ends;
     first = call_line (first_of (lines_of mid));
@@ -87,42 +93,56 @@ module _ (a b : Option (List ℕ)) (mid : List ℕ) (x : CommandLines) (has : Ha
   has_line : (line : List ℕ) → ReadsLines a b [] mid (line ∷ []) [] → HasRead x (call_line line) []
   has_line line reads = subst (λ (ls : List (List ℕ)). HasRead x (call_line (first_of ls)) []) (lines_are a b mid (line ∷ []) [] reads) has
 
-  -- and so were the lines that it takes
-  pub first_with : (c : Option (List ℕ)) (bytes : List ℕ) (y : CommandLines) (whole : Bool) → ReadsLine a b true [] mid
-      → ReadsOn b c whole mid bytes x y → (whole ≡ true → wants y.wanted ≡ false) → IsHanded a c whole bytes y
-  first_with c bytes y true (line, reads) (lines, then, goes) all =
-      let now : HasRead y (call_line line) lines = goes (call_line line) [] (has_line line reads) in
-      let read : ReadsLines a c [] bytes (line ∷ lines) [] = behind a b c [] mid bytes (line ∷ []) lines [] reads then in
+  pub first_on : (whole : Bool) → ReadsLine a b whole [] mid → HandsOn a b whole mid x
+  first_on true (line, reads) = (line, [], reads, has_line line reads)
+  first_on false read = first_left read
+
+-- the next line is handed on, and nothing else is read
+module _ (a b c : Option (List ℕ)) (mid bytes : List ℕ) (x y : CommandLines) (on : HandsOn a b true mid x) where
+  pub next_on : (whole : Bool) → ReadsNext b c whole mid bytes x y → HandsOn a c whole bytes y
+  next_on true (line, then, goes) =
+      let (first, rest, reads, has) = on in
+      (first, rest ++ line ∷ [], behind a b c [] mid bytes (first ∷ rest) (line ∷ []) [] reads then, goes (call_line first) rest has)
+  next_on false (last, then, goes, ends) =
+      let (first, rest, reads, has) = on in
+      let all = rest ++ with_last [] last in
+      let now : HasRead y (call_line first) all = goes (call_line first) rest has in
+      let read : ReadsLines a c [] bytes ((first ∷ rest) ++ []) last = behind a b c [] mid bytes (first ∷ rest) [] last reads then in
+      let same : with_last ((first ∷ rest) ++ []) last ≡ first ∷ all = with_last-append (first ∷ rest) [] last in
+      let taken_is : taken first all ≡ all = ap (taken first) (sym (append-nil all)) ∙ now.takes [] ∙ append-nil all in
       record {
-        held = is_command a c bytes line lines read (λ others.
-            now.takes others ∙ ap (λ (ls : List (List ℕ)). lines ++ ls) (none_wanted y.wanted (all refl) others) ∙ append-nil lines);
-        first = call_line line;
-        rest = lines;
-        has = now;
-        same = sym (ap script_in (lines_are a c bytes (line ∷ lines) [] read));
-      }
-  first_with c bytes y false (line, reads) (lines, last, then, goes, ends) all =
-      let rest = with_last lines last in
-      let now : HasRead y (call_line line) rest = goes (call_line line) [] (has_line line reads) in
-      let read : ReadsLines a c [] bytes (line ∷ lines) last = behind a b c [] mid bytes (line ∷ []) lines last reads then in
-      let same : with_last (line ∷ lines) last ≡ line ∷ rest = with_last-append (line ∷ []) lines last in
-      let taken_is : taken line rest ≡ rest = ap (taken line) (sym (append-nil rest)) ∙ now.takes [] ∙ append-nil rest in
-      record {
-        held = is_left a c bytes (line ∷ lines) last read (subst TakesAll (sym same) taken_is)
+        held = is_left a c bytes ((first ∷ rest) ++ []) last read (subst TakesAll (sym same) taken_is)
             (ends_behind a b c (ended reads.whole ++ reads.left) reads.consumes ends);
-        first = call_line line;
-        rest = rest;
+        first = call_line first;
+        rest = all;
         has = now;
-        same = sym (ap script_in (lines_are a c bytes (line ∷ lines) last read ∙ same));
+        same = sym (ap script_in (lines_are a c bytes ((first ∷ rest) ++ []) last read ∙ same));
       }
 
-  -- reading stops in them
-  pub rest_within : (c : Option (List ℕ)) → ReadsLine a b true [] mid → StopsOn b c x → ReadsWithin a c
-  rest_within c (line, reads) stops = record {
-    some = (ended reads.whole ++ reads.left) ++ stops.some;
-    reads = Consumes-trans a b c (ended reads.whole ++ reads.left) stops.some reads.consumes stops.reads;
-    is = subst TakesAll (sym (lines_behind a b [] mid (line ∷ []) reads stops.some)) (stops.all (call_line line) [] (has_line line reads));
-  }
+  -- reading stops in the next line
+  pub stops_on : wants x.wanted ≡ true → StopsAtLine b c → ReadsWithin a c
+  stops_on more stops =
+      let (first, rest, reads, has) = on in
+      let tail = lines_in stops.some in
+      let few : length tail ≤ 1 = omega (arith, length-map (lines_of stops.some) as_read, stops.one) in
+      record {
+        some = (ended reads.whole ++ reads.left) ++ stops.some;
+        reads = Consumes-trans a b c (ended reads.whole ++ reads.left) stops.some reads.consumes stops.reads;
+        is = subst TakesAll (sym (lines_behind a b [] mid (first ∷ rest) reads stops.some))
+            (has.takes tail ∙ ap (λ (ls : List (List ℕ)). rest ++ ls) (one_wanted x.wanted more tail few));
+      }
+
+-- all was handed on
+pub all_on : (a b : Option (List ℕ)) (bytes : List ℕ) (x : CommandLines) (whole : Bool) → HandsOn a b whole bytes x → (whole ≡ true → wants x.wanted ≡ false) → IsHanded a b whole bytes x
+all_on a b bytes x false on all = on
+all_on a b bytes x true (first, rest, reads, has) all = record {
+  held = is_command a b bytes first rest reads (λ others.
+      has.takes others ∙ ap (λ (ls : List (List ℕ)). rest ++ ls) (none_wanted x.wanted (all refl) others) ∙ append-nil rest);
+  first = call_line first;
+  rest = rest;
+  has = has;
+  same = sym (ap script_in (lines_are a b bytes (first ∷ rest) [] reads));
+}
 
 -- ---- no more was read than a command has
 

@@ -1,8 +1,6 @@
 -- What is read of a command, part behind part.
-use Rattle.camp_talk.proofs.Words.{◌≡◌, ◌≢◌, ℕ, ◌-◌, ◌≤◌, ◌<◌, Bool, true, false, cond, nat_lt, List, [], ◌∷◌, ◌++◌, length, map, take, drop, All, Consumes, Consumes-nil, Consumes-trans, drop-append_seam, take-append_seam, flat_map-append, lines_of, as_read, lines_in, Option, None, Some, refl, sym, ap, subst, ◌∙◌, append_assoc, append-nil, arith, length-append, map-append, All-append, All-cons, All-drop, All-head, All-nil, All-tail, All-take, CommandLines, Ends, GoesOn, HasRead, IsLine, ReadsLine, ReadsLines, ReadsOn, StopsAtLine, StopsOn, ended, with_last, length-map, wants}
-use Rattle.camp_script.specs.CommandLines.{taken}
-use Rattle.camp_script.proofs.CommandCuts.{one_wanted}
-use Rattle.camp_talk.proofs.Cuts.{lines-ended, lines_read, with_last-append}
+use Rattle.camp_talk.proofs.Words.{◌≡◌, ◌≢◌, ℕ, ◌-◌, ◌≤◌, ◌<◌, Bool, true, false, cond, nat_lt, List, [], ◌∷◌, ◌++◌, length, map, take, drop, All, Consumes, Consumes-trans, drop-append_seam, take-append_seam, flat_map-append, lines_of, as_read, lines_in, Option, None, Some, refl, sym, ap, subst, ◌∙◌, append_assoc, append-nil, arith, length-append, map-append, All-append, All-cons, All-drop, All-head, All-nil, All-tail, All-take, CommandLines, Ends, GoesOn, HasRead, IsLine, ReadsLine, ReadsLines, ReadsNext, ended, with_last}
+use Rattle.camp_talk.proofs.Cuts.{lines-ended, lines_read}
 
 -- ---- lines as they are read
 
@@ -94,19 +92,6 @@ module _ (a b c : Option (List ℕ)) (old mid new : List ℕ) where
           ∙ sym (append_assoc (ended lines) (ended more) last)
           ∙ ap (λ bytes. bytes ++ last) (sym (flat_map-append (λ line. line ++ 10 ∷ []) lines more))
 
--- nothing is read yet
-pub no_lines : (a : Option (List ℕ)) (old : List ℕ) → ReadsLines a a old old [] []
-no_lines a old = record {
-  whole = [];
-  left = [];
-  are_read = refl;
-  is_read = refl;
-  grows = sym (append-nil old);
-  consumes = Consumes-nil a;
-  are_lines = All-nil IsLine;
-  is_line = All-nil (λ byte. byte ≢ 10);
-}
-
 -- the last line of bytes
 pub line_at : (a b : Option (List ℕ)) (old new line : List ℕ) → ReadsLines a b old new (line ∷ []) []
     → take (length new - 1 - length old) (drop (length old) new) ≡ line
@@ -121,69 +106,25 @@ line_at a b old new line reads =
 
 -- ---- lines that are handed on to a command
 
-goes_behind : (x y z : CommandLines) (lines more : List (List ℕ)) → GoesOn x y lines → GoesOn y z more → GoesOn x z (lines ++ more)
-goes_behind x y z lines more one two first rest has =
-    subst (HasRead z first) (append_assoc rest lines more) (two first (rest ++ lines) (one first rest has))
-
--- nothing is handed on yet
-pub nothing_on : (a : Option (List ℕ)) (old : List ℕ) (x : CommandLines) → ReadsOn a a true old old x x
-nothing_on a old x = ([], no_lines a old, λ first rest has. subst (HasRead x first) (sym (append-nil rest)) has)
-
-module _ (a b c : Option (List ℕ)) (old mid new : List ℕ) (x y z : CommandLines) where
-  -- lines behind lines
-  on_behind : (whole : Bool) → ReadsOn a b true old mid x y → ReadsOn b c whole mid new y z → ReadsOn a c whole old new x z
-  on_behind true (lines, first, one) (more, then, two) =
-      (lines ++ more, behind a b c old mid new lines more [] first then, goes_behind x y z lines more one two)
-  on_behind false (lines, first, one) (more, last, then, two, ends) = (
-    lines ++ more,
-    last,
-    behind a b c old mid new lines more last first then,
-    subst (GoesOn x z) (sym (with_last-append lines more last)) (goes_behind x y z lines (with_last more last) one two),
-    ends_behind a b c (ended first.whole ++ first.left) first.consumes ends,
-  )
-
-  pub on : {told whole : Bool} → ReadsOn a b true old mid x y → told ≡ whole → ReadsOn b c told mid new y z → ReadsOn a c whole old new x z
-  on {told} {whole} first is then = on_behind whole first (subst (λ (w : Bool). ReadsOn b c w mid new y z) is then)
-
--- reading stops behind lines
-pub stops_on : (a b c : Option (List ℕ)) (old mid : List ℕ) (x y : CommandLines) → ReadsOn a b true old mid x y → wants y.wanted ≡ true → StopsAtLine b c → StopsOn a c x
-stops_on a b c old mid x y (lines, reads, goes) more stops = record {
-  some = (ended reads.whole ++ reads.left) ++ stops.some;
-  reads = Consumes-trans a b c (ended reads.whole ++ reads.left) stops.some reads.consumes stops.reads;
-  all = λ first rest has.
-      ap (λ (ls : List (List ℕ)). taken first (rest ++ ls)) are ∙ ap (taken first) (sym (append_assoc rest lines tail))
-      ∙ (goes first rest has).takes tail ∙ ap (λ (ls : List (List ℕ)). (rest ++ lines) ++ ls) (one_wanted y.wanted more tail few)
-      ∙ append_assoc rest lines tail ∙ ap (λ (ls : List (List ℕ)). rest ++ ls) (sym are);
-}
-  where
-    tail : List (List ℕ)
-    tail = lines_in stops.some
-
-    few : length tail ≤ 1
-    few = omega (arith, length-map (lines_of stops.some) as_read, stops.one)
-
-    are : lines_in ((ended reads.whole ++ reads.left) ++ stops.some) ≡ lines ++ tail
-    are = lines_behind a b old mid lines reads stops.some
-
 -- a line was read, and handed on
 module _ (a b : Option (List ℕ)) (old new given : List ℕ) (x y : CommandLines)
     (goes : (first : List ℕ) (rest : List (List ℕ)) → HasRead x first rest → HasRead y first (rest ++ given ∷ [])) where
-  pub line_on : (reads : ReadsLine a b true old new) → given ≡ reads.0 → ReadsOn a b true old new x y
-  line_on (line, reads) is = (line ∷ [], reads, subst (λ (l : List ℕ). GoesOn x y (l ∷ [])) is goes)
+  pub line_on : (reads : ReadsLine a b true old new) → given ≡ reads.0 → ReadsNext a b true old new x y
+  line_on (line, reads) is = (line, reads, subst (λ (l : List ℕ). GoesOn x y (l ∷ [])) is goes)
 
-  pub last_on : (reads : ReadsLine a b false old new) → given ≡ reads.0 → 0 < length given → ReadsOn a b false old new x y
+  pub last_on : (reads : ReadsLine a b false old new) → given ≡ reads.0 → 0 < length given → ReadsNext a b false old new x y
   last_on ([], reads, ends) is some = absurd (omega (arith, some, ap (λ (bytes : List ℕ). length bytes) is))
   last_on (byte ∷ last, reads, ends) is some =
-      ([], byte ∷ last, reads, subst (λ (l : List ℕ). GoesOn x y (l ∷ [])) is goes, ends)
+      (byte ∷ last, reads, subst (λ (l : List ℕ). GoesOn x y (l ∷ [])) is goes, ends)
 
 -- what had no LF
 pub last_is : (a b : Option (List ℕ)) (old new : List ℕ) (reads : ReadsLine a b false old new) → drop (length old) new ≡ reads.0
 last_is a b old new (last, reads, ends) = ap (drop (length old)) reads.grows ∙ drop-append_seam old last
 
 -- there was no more
-pub none_on : (a b : Option (List ℕ)) (old new : List ℕ) (x : CommandLines) → ReadsLine a b false old new → length new ≤ length old → ReadsOn a b false old new x x
+pub none_on : (a b : Option (List ℕ)) (old new : List ℕ) (x : CommandLines) → ReadsLine a b false old new → length new ≤ length old → ReadsNext a b false old new x x
 none_on a b old new x ([], reads, ends) none =
-    ([], [], reads, λ first rest has. subst (HasRead x first) (sym (append-nil rest)) has, ends)
+    ([], reads, λ first rest has. subst (HasRead x first) (sym (append-nil rest)) has, ends)
 none_on a b old new x (byte ∷ last, reads, ends) none =
     absurd (omega (arith, none, ap (λ (bytes : List ℕ). length bytes) reads.grows, length-append old (byte ∷ last)))
 

@@ -24,7 +24,7 @@ pub use Rattle.camp_talk.specs.Asking.{asked_by, asked_of, first_of, question_of
 pub use Rattle.camp_talk.specs.Cutting.{IsCommand, IsLeft, TakesAll, as_read, call_line, call_lines, lines_in, script_in, taken}
 pub use Rattle.camp_talk.specs.Entries.{Entries}
 pub use Rattle.camp_talk.specs.Inside.Hearing.{DoesOne, Hears, IsSaid, LearnsOf, LoadsOne}
-pub use Rattle.camp_talk.specs.Inside.Parts.{Ends, EndsAt, GoesOn, IsLine, IsLonger, IsReading, ReadsHeld, ReadsLine, ReadsLines, ReadsOn, StopsAtLine, StopsOn, Takes, ended, feed_of, last_seen, seen_of, with_last}
+pub use Rattle.camp_talk.specs.Inside.Parts.{Ends, EndsAt, GoesOn, IsLine, IsLonger, IsReading, ReadsHeld, ReadsLine, ReadsLines, ReadsNext, StopsAtLine, Takes, ended, feed_of, last_seen, seen_of, with_last}
 pub use Rattle.camp_talk.specs.Inside.Said.{IsNotWriting, IsWriting, said_text}
 pub use Rattle.camp_talk.specs.Loads.{Done, Fails, TellsSuccess, Wants, tells_failure}
 pub use Rattle.camp_talk.specs.Talks.{AppendsSome, Breaks, EndsSo, Exchange, Exchanges, Follow, Holds, ReadsCommand, ReadsNone, ReadsTooMuch, ReadsWithin, Stops, Turns}

@@ -1,11 +1,11 @@
 //! A command of a reader, and what it asks.
-ghost use Rattle.std.specs.Prelude.{◌≡◌, length, Ok, false, true, IfOk, IfErr};
+ghost use Rattle.std.specs.Prelude.{◌≡◌, length, Ok, true, IfOk, IfErr};
 ghost use Rattle.camp_script.specs.CommandLines.{wants};
 ghost use Rattle.camp_script.specs.Gives.{Gives};
 ghost use Rattle.camp_script.specs.Lines.{is_skipped, lines_of, words_of};
 ghost use Rattle.camp_talk.specs.Asking.{asked_of, first_of};
 ghost use Rattle.camp_talk.specs.Cutting.{script_in};
-ghost use Rattle.camp_talk.specs.Inside.Parts.{IsLonger, IsReading, ReadsHeld, ReadsOn, StopsAtLine, StopsOn};
+ghost use Rattle.camp_talk.specs.Inside.Parts.{IsLonger, IsReading, ReadsHeld, ReadsNext, StopsAtLine};
 ghost use Rattle.camp_talk.specs.Talks.{ReadsWithin};
 ghost use Rattle.camp_talk.specs.declared.questions.Asked.{Asked as SaidAsked};
 
@@ -71,18 +71,13 @@ fn read_lines<R: BufRead>(alloc: Global, reader: &mut R) -> Result<Lines, TalkFa
     ensures within { IfErr result (λ why. ReadsWithin (R.remaining reader.old) (R.remaining reader.new)) }
 {
     let mut bytes = Vec::new(alloc);
-    let is_whole = read_line(reader, &mut bytes)?;
+    let mut is_whole = read_line(reader, &mut bytes)?;
     let Ok(mut command) = CommandLines::new(alloc, call_line(first_line(&bytes))) else {
         return Err(TalkFault::Memory);
     };
-    if !is_whole {
-        return Ok(Lines {
-            bytes,
-            is_whole,
-            script: command.finish(),
-        });
+    while is_whole && command.wants_more() {
+        is_whole = read_next(reader, &mut bytes, &mut command)?;
     }
-    let is_whole = read_rest(reader, &mut bytes, &mut command)?;
     Ok(Lines {
         bytes,
         is_whole,
@@ -90,34 +85,14 @@ fn read_lines<R: BufRead>(alloc: Global, reader: &mut R) -> Result<Lines, TalkFa
     })
 }
 
-// Reads the lines that a command takes behind its first. Whether they are all; where they are not, the input has ended.
-fn read_rest<R: BufRead>(
-    reader: &mut R,
-    bytes: &mut Vec<u8>,
-    command: &mut CommandLines,
-) -> Result<bool, TalkFault>
-    ensures rest { IfOk result (λ whole. ReadsOn (R.remaining reader.old) (R.remaining reader.new)
-        whole bytes.old.items bytes.new.items command.old command.new) }
-    ensures all { IfOk result (λ whole. whole ≡ true → wants command.new.wanted ≡ false) }
-    ensures fault { IfErr result IsReading }
-    ensures stops { IfErr result (λ why. StopsOn (R.remaining reader.old) (R.remaining reader.new) command.old) }
-{
-    while command.wants_more() {
-        if !read_next(reader, bytes, command)? {
-            return Ok(false);
-        }
-    }
-    Ok(true)
-}
-
-// Reads the next line of a command.
+// Reads the next line of a command. Whether it has its LF; where it has none, the input has ended.
 fn read_next<R: BufRead>(
     reader: &mut R,
     bytes: &mut Vec<u8>,
     command: &mut CommandLines,
 ) -> Result<bool, TalkFault>
     requires { wants command.old.wanted ≡ true }
-    ensures next { IfOk result (λ whole. ReadsOn (R.remaining reader.old) (R.remaining reader.new)
+    ensures next { IfOk result (λ whole. ReadsNext (R.remaining reader.old) (R.remaining reader.new)
         whole bytes.old.items bytes.new.items command.old command.new) }
     ensures longer { IfOk result (λ whole. whole ≡ true → IsLonger bytes.old.items bytes.new.items) }
     ensures fault { IfErr result IsReading }

@@ -3,7 +3,7 @@ use Rattle.std.specs.Prelude.{◌≡◌, ◌≢◌, ◌==◌, ◌^◌, ◌<◌, 
 use Rattle.std.specs.List.{All, flat_map}
 use Rattle.std.specs.Io.KnownBytes.{Consumes, IsAtEnd}
 use Rattle.camp_base.specs.Signs.{newline}
-use Rattle.camp_script.specs.CommandLines.{HasRead, taken}
+use Rattle.camp_script.specs.CommandLines.{HasRead}
 use Rattle.camp_script.specs.Lines.{lines_of}
 use Rattle.camp_script.specs.declared.command_lines.CommandLines.{CommandLines}
 use Rattle.camp_talk.specs.Cutting.{as_read, lines_in}
@@ -56,13 +56,6 @@ module _ (remaining rest : Option (List ℕ)) where
     pub reads : Consumes remaining rest some
     pub one : length (lines_of some) ≤ 1
 
-  -- some of the lines were read that a command takes, and maybe a part of the next: no other
-  pub record StopsOn (command : CommandLines) : Type 0 where
-    pub some : List ℕ
-    pub reads : Consumes remaining rest some
-    pub all : (first : List ℕ) (lines : List (List ℕ)) → HasRead command first lines
-        → taken first (lines ++ lines_in some) ≡ lines ++ lines_in some
-
   -- where the end of the input is seen, nothing is left
   abbrev pub EndsAt : Seen → Type 0
   EndsAt seen.End = Ends
@@ -92,11 +85,11 @@ module _ (remaining rest : Option (List ℕ)) where
   ReadsLine true old new = (line : List ℕ) × ReadsLines old new (line ∷ []) []
   ReadsLine false old new = (last : List ℕ) × ReadsLines old new [] last × Ends
 
-  -- lines were read, put behind bytes, and handed on to a command; where the input has ended, so was what had no LF
-  abbrev pub ReadsOn : Bool → List ℕ → List ℕ → CommandLines → CommandLines → Type 0
-  ReadsOn true old new before after = (lines : List (List ℕ)) × ReadsLines old new lines [] × GoesOn before after lines
-  ReadsOn false old new before after = (lines : List (List ℕ)) × (last : List ℕ) × ReadsLines old new lines last
-      × GoesOn before after (with_last lines last) × Ends
+  -- the next line of a command was read, and handed on; or the input has ended, and what had no LF was
+  abbrev pub ReadsNext : Bool → List ℕ → List ℕ → CommandLines → CommandLines → Type 0
+  ReadsNext true old new before after = (line : List ℕ) × ReadsLines old new (line ∷ []) [] × GoesOn before after (line ∷ [])
+  ReadsNext false old new before after =
+      (last : List ℕ) × ReadsLines old new [] last × GoesOn before after (with_last [] last) × Ends
 
   -- a command was read, and bytes are its lines, as they are read
   pub record ReadsHeld (whole : Bool) (held : List ℕ) : Type 0 where

@@ -1,5 +1,7 @@
-use Rattle.camp_talk.proofs.Words.{rules, Bool, refl, sym, subst, Gives, ReadsHeld, ReadsWithin}
-use Rattle.camp_talk.proofs.Firsts.{call_read, first_left, first_with, first_within, line_read, rest_within, stops_within}
+use Rattle.camp_talk.proofs.Words.{rules, ◌≡◌, ◌∙◌, Bool, true, false, true≢false, refl, sym, subst, Gives, ReadsWithin, wants}
+use Rattle.camp_talk.proofs.Firsts.{HandsOn, IsHanded, all_on, call_read, first_on, first_within, line_read, next_on, stops_on, stops_within}
+use Rattle.camp_talk.proofs.readings.read_lines.Given.{Over}
+use Rattle.camp_talk.proofs.readings.read_lines.Goals.{After-finish, then-loop-is_whole-test+else-wants_more, else-loop-is_whole-test}
 use Rattle.camp_talk.proofs.readings.read_lines.Goals as goal
 
 pub returns-in_err-is_whole-clause-within : goal.returns-in_err-is_whole-clause-within
@@ -15,51 +17,47 @@ returns-in_default-clause-within g c =
     let bytes = c.read_line.new.text.items in
     first_within a b bytes c.in_ok-is_whole.is_whole (line_read a b bytes c.in_ok-is_whole.ensures.line c.new-bytes.ensures.items refl)
 
-pub returns-then-not-is_whole-clause-command : goal.returns-then-not-is_whole-clause-command
-returns-then-not-is_whole-clause-command g c =
+pub loop-is_whole-init : goal.loop-is_whole-init
+loop-is_whole-init g c =
     let a = g.R.Read.remaining c.args.reader.now in
     let b = g.R.Read.remaining c.read_line.new.reader in
     let bytes = c.read_line.new.text.items in
     let has = call_read c.in-Ok.command bytes c.in-Ok.ensures.first c.call_line.ensures c.first_line.ensures.value c.deref.ensures.value in
-    let left = first_left a b bytes c.in-Ok.command has (line_read a b bytes c.in_ok-is_whole.ensures.line c.new-bytes.ensures.items c.if-not-is_whole.true) in
-    subst (λ (w : Bool). ReadsHeld a b w bytes) (sym c.if-not-is_whole.true) left.held
-
-pub returns-then-not-is_whole-clause-script : goal.returns-then-not-is_whole-clause-script
-returns-then-not-is_whole-clause-script g c =
-    let a = g.R.Read.remaining c.args.reader.now in
-    let b = g.R.Read.remaining c.read_line.new.reader in
-    let bytes = c.read_line.new.text.items in
-    let has = call_read c.in-Ok.command bytes c.in-Ok.ensures.first c.call_line.ensures c.first_line.ensures.value c.deref.ensures.value in
-    let left = first_left a b bytes c.in-Ok.command has (line_read a b bytes c.in_ok-is_whole.ensures.line c.new-bytes.ensures.items c.if-not-is_whole.true) in
-    subst (Gives c.finish.result) left.same (c.finish.ensures.given left.first left.rest left.has)
+    first_on a b bytes c.in-Ok.command has c.in_ok-is_whole.is_whole (line_read a b bytes c.in_ok-is_whole.ensures.line c.new-bytes.ensures.items refl)
 
 pub returns-in_err-is_whole-2-clause-within : goal.returns-in_err-is_whole-2-clause-within
 returns-in_err-is_whole-2-clause-within g c =
     let a = g.R.Read.remaining c.args.reader.now in
-    let b = g.R.Read.remaining c.read_line.new.reader in
-    let d = g.R.Read.remaining c.read_rest.new.reader in
-    let bytes = c.read_line.new.text.items in
-    let has = call_read c.in-Ok.command bytes c.in-Ok.ensures.first c.call_line.ensures c.first_line.ensures.value c.deref.ensures.value in
-    let within : ReadsWithin a d = rest_within a b bytes c.in-Ok.command has d
-    (line_read a b bytes c.in_ok-is_whole.ensures.line c.new-bytes.ensures.items c.if-not-is_whole.false) c.in_err-is_whole-2.ensures.stops in
+    let b = g.R.Read.remaining c.loop-is_whole.reader in
+    let d = g.R.Read.remaining c.read_next.new.reader in
+    let on = subst (λ (w : Bool). HandsOn a b w c.loop-is_whole.bytes.items c.loop-is_whole.command) c.loop-is_whole-test.true c.loop-is_whole.invariant in
+    let within : ReadsWithin a d = stops_on a b d c.loop-is_whole.bytes.items c.read_next.new.bytes.items c.loop-is_whole.command c.read_next.new.command on
+    (sym c.wants_more.ensures.exact ∙ c.if-wants_more.true) c.in_err-is_whole-2.ensures.stops in
     search (rules, within)
 
-pub returns-clause-command : goal.returns-clause-command
-returns-clause-command g c =
+pub loop-is_whole-preserved : goal.loop-is_whole-preserved
+loop-is_whole-preserved g c =
     let a = g.R.Read.remaining c.args.reader.now in
-    let b = g.R.Read.remaining c.read_line.new.reader in
-    let bytes = c.read_line.new.text.items in
-    let has = call_read c.in-Ok.command bytes c.in-Ok.ensures.first c.call_line.ensures c.first_line.ensures.value c.deref.ensures.value in
-    let all = first_with a b bytes c.in-Ok.command has (g.R.Read.remaining c.read_rest.new.reader) c.read_rest.new.bytes.items c.read_rest.new.command c.in_ok-is_whole-2.is_whole
-    (line_read a b bytes c.in_ok-is_whole.ensures.line c.new-bytes.ensures.items c.if-not-is_whole.false) c.in_ok-is_whole-2.ensures.rest c.in_ok-is_whole-2.ensures.all in
-    all.held
+    let b = g.R.Read.remaining c.loop-is_whole.reader in
+    let on = subst (λ (w : Bool). HandsOn a b w c.loop-is_whole.bytes.items c.loop-is_whole.command) c.loop-is_whole-test.true c.loop-is_whole.invariant in
+    next_on a b (g.R.Read.remaining c.read_next.new.reader) c.loop-is_whole.bytes.items c.read_next.new.bytes.items c.loop-is_whole.command c.read_next.new.command on
+    c.in_ok-is_whole-2.is_whole c.in_ok-is_whole-2.ensures.next
+
+-- all lines are handed on
+all : (g : Over) (c : After-finish g) → IsHanded (g.R.Read.remaining c.args.reader.now) (g.R.Read.remaining c.loop-is_whole.reader) c.loop-is_whole.is_whole c.loop-is_whole.bytes.items c.loop-is_whole.command
+all g c =
+    all_on _ _ c.loop-is_whole.bytes.items c.loop-is_whole.command c.loop-is_whole.is_whole c.loop-is_whole.invariant (λ whole. enough whole)
+  where
+    enough : c.loop-is_whole.is_whole ≡ true → wants c.loop-is_whole.command.wanted ≡ false
+    enough whole = elim c.loop-is_whole-test.branch [
+      | then-loop-is_whole-test+else-wants_more w ↦ sym w.wants_more.ensures.exact ∙ w.if-wants_more.false
+      | else-loop-is_whole-test w ↦ absurd (true≢false (sym whole ∙ w.loop-is_whole-test.false))
+    ]
+
+pub returns-clause-command : goal.returns-clause-command
+returns-clause-command g c = (all g (goal.at.returns-clause-command g c).After-finish).held
 
 pub returns-clause-script : goal.returns-clause-script
 returns-clause-script g c =
-    let a = g.R.Read.remaining c.args.reader.now in
-    let b = g.R.Read.remaining c.read_line.new.reader in
-    let bytes = c.read_line.new.text.items in
-    let has = call_read c.in-Ok.command bytes c.in-Ok.ensures.first c.call_line.ensures c.first_line.ensures.value c.deref.ensures.value in
-    let all = first_with a b bytes c.in-Ok.command has (g.R.Read.remaining c.read_rest.new.reader) c.read_rest.new.bytes.items c.read_rest.new.command c.in_ok-is_whole-2.is_whole
-    (line_read a b bytes c.in_ok-is_whole.ensures.line c.new-bytes.ensures.items c.if-not-is_whole.false) c.in_ok-is_whole-2.ensures.rest c.in_ok-is_whole-2.ensures.all in
-    subst (Gives c.finish-2.result) all.same (c.finish-2.ensures.given all.first all.rest all.has)
+    let all = all g (goal.at.returns-clause-script g c).After-finish in
+    subst (Gives c.finish.result) all.same (c.finish.ensures.given all.first all.rest all.has)
