@@ -2,7 +2,7 @@
 use Rattle.std.proofs.lemmas.Fmt.{decimal_digit, decimal_step}
 use Rattle.std.specs.Fmt.{decimal}
 use Rattle.std.specs.Prelude.{◌%◌, ◌/◌}
-use Rattle.camp_talk.proofs.Words.{◌≡◌, ◌∙◌, true, List, [], ◌∷◌, ◌+◌, ◌<◌, ◌≤◌, ◌^◌, ℕ, Ok, Some, ap, append-nil, arith, codes, first_of, lines_of, words_of, refl, sym, subst, ◌++◌, true≢false, Call, reply_text, asked_by, lines_in}
+use Rattle.camp_talk.proofs.Words.{◌≡◌, ◌∙◌, true, List, [], ◌∷◌, ◌+◌, ◌<◌, ◌≤◌, ◌^◌, ℕ, Ok, Option, Some, ap, append-nil, arith, codes, first_of, lines_of, words_of, refl, sym, subst, ◌++◌, true≢false, Call, reply_text, asked_by, lines_in}
 use Rattle.camp_script.specs.Texts.{line_text}
 use Rattle.camp_call.specs.declared.replies.Refusal.{Refusal}
 use Rattle.camp_call.specs.declared.replies.Refusal.TheVariants as refusal
