@@ -43,7 +43,7 @@ abbrev items_from : Bool → List Entry → List Item
 items_from in_group entries = pieces (λ entry. begins_group (entry_words entry)) ends_group in_group entries
 
 -- the entries of lines, of which the first ones are in a body or not
-abbrev entries_from : Bool → List NumberedLine → List Entry
+abbrev pub entries_from : Bool → List NumberedLine → List Entry
 entries_from in_body lines = pieces (λ line. begins_edit (words_on line)) ends_body in_body lines
 
 -- the rest of a script, from the rest of a group on

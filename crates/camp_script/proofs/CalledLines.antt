@@ -1,4 +1,4 @@
--- The canonical text of a call, line by line, and what its first line is alone.
+-- The canonical text of a call, line by line.
 use Rattle.camp_script.proofs.Common.{◌≡◌, ℕ, ◌+◌, ◌≤◌, ◌==◌, Bool, true, false, cond, ◌&&◌, List, [], ◌∷◌, ◌++◌, map, length, codes, count_by, refl, sym, ap, ◌∙◌, append_assoc, append-nil, arith, false≢true, Result, Ok, Err, flat_map, flat_map-cons, AllByRecursion, join_with_byte, Primitive, Add, Remove, Hunk, is_writing, Call, ◌>>=◌, Command, Nothing, Ask, BeginEdit, BeginGroup, BeginSection, command_of, lines_of, words_of, begins_edit, begins_group, begins_with, is_full, read_from, start, obey, with_call, LineFault, line_text, signed_line, Lines, is_name, is_line, IsChange, IsScriptCall, call_text, change_body, change_text, record_text, section_text, script_of, script_of_lines, call_words}
 use Rattle.camp_call.specs.declared.calls.Call.TheVariants as call
 use Rattle.camp_script.specs.Canonical.{change_head, script_text}
@@ -211,64 +211,3 @@ ends_called (call.Obliterate branch names) = (join_with_byte 32 (call_words (cal
 ends_called (call.Tree branch) = (join_with_byte 32 (call_words (call.Tree branch)), refl)
 ends_called (call.Conflicts branch) = (join_with_byte 32 (call_words (call.Conflicts branch)), refl)
 ends_called (call.Names branch) = (join_with_byte 32 (call_words (call.Names branch)), refl)
-
--- ---- the first line of a script, alone
-
-abbrev Reading : Type 0
-Reading = Result (List (List Call)) LineFault
-
--- what a first line is alone, by its words
-pub record FirstIs (words : List (List ℕ)) (reading : Reading) : Type 0 where
-  pub edit : begins_edit words ≡ true → reading ≡ Err (record { line = 1; kind = EditNotEnded })
-  pub group : begins_edit words ≡ false → begins_group words ≡ true → reading ≡ Err (record { line = 1; kind = GroupNotEnded })
-  pub other : begins_edit words ≡ false → begins_group words ≡ false → begins_with (codes "client") words ≡ false → (script : List (List Call)) × (reading ≡ Ok script)
-
-never : {A : Type 0} (b : Bool) → b ≡ true → b ≡ false → A
-never b is other = absurd (false≢true (sym other ∙ is))
-
-not_full : (b : Bool) → (b && false) ≡ false
-not_full true = refl
-not_full false = refl
-
-module _ (words : List (List ℕ)) (rest : List (List ℕ)) (script : List (List Call)) where
-  abbrev reading : Result Command LineFault → List (List ℕ) → Reading
-  reading r lines = (r >>= obey 1 start) >>= λ next. read_from 2 next lines
-
-  first_is : (r : Result Command LineFault) → Holds (Fits words) r → reading r rest ≡ Ok script → FirstIs words (reading r [])
-  first_is (Err fault) fit is = cc
-  first_is (Ok Nothing) fit is = record {
-    edit = λ e. never (begins_edit words) e fit.value.edits;
-    group = λ e g. never (begins_group words) g fit.value.groups;
-    other = λ e g c. (_, refl);
-  }
-  first_is (Ok (Ask new)) fit is = record {
-    edit = λ e. never (begins_edit words) e fit.value.edits;
-    group = λ e g. never (begins_group words) g fit.value.groups;
-    other = λ e g c. (_, ap (λ b. cond b (Err (record { line = 1; kind = TooManyCommands })) (Ok (with_call start new)) >>= λ next. read_from 2 next []) (not_full (is_writing new)));
-  }
-  first_is (Ok (BeginEdit branch name path place)) fit is = record {
-    edit = λ e. refl;
-    group = λ e g. never (begins_edit words) fit.value.edits e;
-    other = λ e g c. never (begins_edit words) fit.value.edits e;
-  }
-  first_is (Ok (BeginGroup branch name)) fit is = record {
-    edit = λ e. never (begins_edit words) e fit.value.edits;
-    group = λ e g. refl;
-    other = λ e g c. never (begins_group words) fit.value.groups g;
-  }
-  first_is (Ok BeginSection) fit is = record {
-    edit = λ e. never (begins_edit words) e fit.value.edits;
-    group = λ e g. never (begins_group words) g fit.value.groups;
-    other = λ e g c. never (begins_with (codes "client") words) fit.value.sections c;
-  }
-
--- the first line of lines that are a script
-pub first_alone : (first : List ℕ) (rest : List (List ℕ)) (script : List (List Call)) → script_of_lines (first ∷ rest) ≡ Ok script → FirstIs (words_of first) (script_of_lines (first ∷ []))
-first_alone first rest script is =
-    let told = first_is (words_of first) rest script (command_of 1 (words_of first)) (fits 1 (words_of first)) (reads_as_defined (first ∷ rest) ∙ is) in
-    let same = sym (reads_as_defined (first ∷ [])) in
-    record {
-      edit = λ e. same ∙ told.edit e;
-      group = λ e g. same ∙ told.group e g;
-      other = λ e g c. let found = told.other e g c in (found.0, same ∙ found.1);
-    }

@@ -5,6 +5,7 @@ pub mod CalledLines
 pub mod CanonicalCalls
 pub mod CanonicalLines
 pub mod CanonicalNumbers
+pub mod CommandCuts
 pub mod EndSteps
 pub mod FirstWords
 pub mod HistoryLemmas

@@ -1,6 +1,7 @@
 pub mod Behind
 pub mod Canonical
 pub mod Changes
+pub mod CommandLines
 pub mod Commands
 pub mod Faults
 pub mod Gives

@@ -1,5 +1,6 @@
 //! The words by which lines fall into edits and groups. They say nothing of faults.
 ghost use Rattle.std.specs.Prelude.{◌≡◌};
+ghost use Rattle.camp_script.specs.CommandLines.{wanted_after};
 ghost use Rattle.camp_script.specs.Lines.{words_of};
 ghost use Rattle.camp_script.specs.Pieces.{begins_edit, begins_with};
 
@@ -15,9 +16,9 @@ pub fn begins_with(line: &[u8], word: &[u8]) -> bool
     }
 }
 
-/// Whether a line begins an edit, whose body follows, by its first words alone.
-pub fn begins_edit(line: &[u8]) -> bool
-    ensures exact { result ≡ begins_edit (words_of line.now) }
+// Whether a line begins an edit, whose body follows, by its first words alone.
+fn begins_edit(line: &[u8]) -> bool
+    ensures { result ≡ begins_edit (words_of line.now) }
 {
     let mut words = Words::new(line);
     let Some(first) = words.next() else {
@@ -38,5 +39,33 @@ pub fn begins_edit(line: &[u8]) -> bool
     match words.next() {
         Some(change) => change == b"edit".as_slice(),
         None => false,
+    }
+}
+
+/// Which lines a command still takes.
+#[derive(Clone, Copy, Debug)]
+pub(crate) enum Wanted {
+    Nothing,
+    /// Those of a body, up to `end`.
+    Body,
+    /// Those of a group, up to `done`.
+    Group,
+    /// Those of a body, and then of its group.
+    GroupBody,
+}
+
+impl Wanted {
+    /// What it takes behind a line.
+    pub(crate) fn after(self, line: &[u8]) -> Wanted
+        ensures { result ≡ wanted_after self line.now }
+    {
+        match self {
+            Wanted::Nothing => Wanted::Nothing,
+            Wanted::Body if line == b"end".as_slice() => Wanted::Nothing,
+            Wanted::GroupBody if line == b"end".as_slice() => Wanted::Group,
+            Wanted::Group if begins_edit(line) => Wanted::GroupBody,
+            Wanted::Group if begins_with(line, b"done") => Wanted::Nothing,
+            same => same,
+        }
     }
 }

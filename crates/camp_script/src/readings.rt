@@ -5,9 +5,10 @@ ghost use Rattle.camp_script.specs.Gives.{Advances, GivesFaultFirst, GivesPath};
 ghost use Rattle.camp_script.specs.Reading.{is_full};
 ghost use Rattle.camp_script.specs.Inside.Progress.{start, with_call, with_record, after_call, after_client, after_record, finished};
 ghost use Rattle.camp_script.specs.declared.faults.FaultKind.TheVariants as kind;
-ghost use Rattle.camp_script.specs.Inside.Steps.{after_line, SaysSomething};
+ghost use Rattle.camp_script.specs.Inside.Steps.{after_line, SaysSomething, wanted_in};
 ghost use Rattle.camp_script.specs.Inside.ReadingFields.{open_record_of};
 
+use crate::cuts::Wanted;
 use crate::faults::{FaultKind, ScriptFault, at_line};
 use crate::records::OpenRecord;
 use crate::scripts::Script;
@@ -94,6 +95,17 @@ impl Reading {
         match self.open_record.take() {
             None => self.read_words(number, line),
             Some(begun) => self.read_record_line(number, line, begun),
+        }
+    }
+
+    /// What a command takes behind its first line, by the record that this has opened.
+    pub(crate) fn wanted(&self) -> Wanted
+        ensures { result ≡ wanted_in self.now.open_record }
+    {
+        match &self.open_record {
+            None => Wanted::Nothing,
+            Some(begun) if begun.grouped => Wanted::Group,
+            Some(_) => Wanted::Body,
         }
     }
 

@@ -1,5 +1,5 @@
 -- The canonical text of a call is a command, which asks just this call; and no other command stands before it.
-use Rattle.camp_talk.proofs.Words.{◌≡◌, ℕ, suc, ◌+◌, ◌≤◌, Bool, true, false, cond, ◌==◌, nat_lt, List, [], ◌∷◌, ◌++◌, length, length-append, map, drop, codes, Result, Ok, refl, sym, ap, subst, ◌∙◌, arith, append_assoc, append-nil, map-append, length-map, ⊎_elim, cases_Bool, flat_map, onto_first, lines-feed, lines-other, Call, LineFault, lines_of, words_of, begins_with, begins_edit, script_of_lines, IsCommand, IsLeft, TakesAll, as_read, body_of, call_line, ends_body, group_of, lines_in, script_in, taken, taken_by, asked_by, asked_of, first_of}
+use Rattle.camp_talk.proofs.Words.{◌≡◌, ℕ, suc, ◌+◌, ◌≤◌, Bool, true, false, cond, ◌==◌, nat_lt, List, [], ◌∷◌, ◌++◌, length, length-append, map, drop, codes, Ok, refl, sym, ap, subst, ◌∙◌, arith, append_assoc, append-nil, map-append, length-map, ⊎_elim, cases_Bool, flat_map, onto_first, lines-feed, lines-other, Call, lines_of, words_of, begins_with, begins_edit, script_of_lines, IsCommand, IsLeft, TakesAll, as_read, bytes_eq, call_line, lines_in, script_in, taken, wants, asked_by, asked_of, first_of}
 use Rattle.std.specs.List.{AllByRecursion, join_with_byte}
 use Rattle.std.proofs.lemmas.Bool.{cond-true}
 use Rattle.std.proofs.lemmas.Bool.Decides.{nat_tests}
@@ -9,102 +9,89 @@ use Rattle.camp_prim.specs.declared.primitives.Primitive.{Primitive}
 use Rattle.camp_prim.specs.declared.primitives.Primitive.TheVariants.{Add, Remove, Hunk}
 use Rattle.camp_script.specs.Behind.{behind_word}
 use Rattle.camp_script.specs.Canonical.{IsChange, IsScriptCall, call_text, change_head}
-use Rattle.camp_script.specs.Pieces.{begins_group}
+use Rattle.camp_script.specs.CommandLines as command
+use Rattle.camp_script.specs.CommandLines.{wanted_after, wanted_lines}
+use Rattle.camp_script.specs.declared.cuts.Wanted.{Wanted}
+use Rattle.camp_script.specs.declared.cuts.Wanted.TheVariants as want
 use Rattle.camp_script.proofs.CanonicalLines.{words_of-joined}
-use Rattle.camp_script.proofs.CalledLines.{FirstIs, body_lines, change_lines, ends_called, first_alone, first_words_of, head_are, lines_behind, lines_called, record_rest, record_words, regrouped_lines, text_reads, words_called}
+use Rattle.camp_script.proofs.CommandCuts.{first_takes_by_words, nothing_wanted, wanted_words}
+use Rattle.camp_script.proofs.CalledLines.{body_lines, change_lines, ends_called, first_words_of, head_are, lines_behind, lines_called, record_rest, record_words, regrouped_lines, text_reads, words_called}
 use Rattle.camp_talk.specs.Asking.{asked_with}
 use Rattle.camp_talk.specs.Laws.{IsReadWhole}
 use Rattle.camp_talk.specs.declared.questions.Asked.TheVariants as asked
-use Rattle.camp_talk.proofs.Cuts.{body_ends, body_goes, entry_alone, entry_with, group_ends, group_goes}
 
 -- ---- what the first line of a call takes with it
 
-side_goes : (sign : ℕ) → ((line : List ℕ) → ends_body (sign ∷ line) ≡ false) → (lines others : List (List ℕ))
-    → body_of (map (λ line. sign ∷ line) lines ++ others) ≡ map (λ line. sign ∷ line) lines ++ body_of others
-side_goes sign goes [] others = refl
-side_goes sign goes (line ∷ lines) others =
-    body_goes (sign ∷ line) (map (λ line. sign ∷ line) lines ++ others) (goes line)
-    ∙ ap (λ ls. (sign ∷ line) ∷ ls) (side_goes sign goes lines others)
+-- the lines of a body, where this is wanted in it, and that behind it
+module _ (want next : Wanted) (more : wants want ≡ true) (after : (line : List ℕ) → wanted_after want line ≡ cond (bytes_eq line (codes "end")) next want) where
+  line_wanted : (line : List ℕ) (others : List (List ℕ)) → wanted_lines want (line ∷ others) ≡ line ∷ wanted_lines (cond (bytes_eq line (codes "end")) next want) others
+  line_wanted line others =
+      ap (λ b. cond b (line ∷ wanted_lines (wanted_after want line) others) []) more ∙ ap (λ w. line ∷ wanted_lines w others) (after line)
 
--- a body is taken whole
-body_taken : (old new others : List (List ℕ))
-    → body_of (((map (λ line. 45 ∷ line) old ++ map (λ line. 43 ∷ line) new) ++ codes "end" ∷ []) ++ others)
-    ≡ (map (λ line. 45 ∷ line) old ++ map (λ line. 43 ∷ line) new) ++ codes "end" ∷ []
-body_taken old new others =
-    let minus = map (λ (line : List ℕ). 45 ∷ line) old in
-    let plus = map (λ (line : List ℕ). 43 ∷ line) new in
-    ap body_of (regrouped_lines minus plus (codes "end" ∷ []) others)
-    ∙ side_goes 45 (λ line. refl) old (plus ++ (codes "end" ∷ others))
-    ∙ ap (λ ls. minus ++ ls) (side_goes 43 (λ line. refl) new (codes "end" ∷ others) ∙ ap (λ ls. plus ++ ls) (body_ends (codes "end") others refl))
-    ∙ sym (append_assoc minus plus (codes "end" ∷ []))
+  side_wanted : (sign : ℕ) → ((line : List ℕ) → bytes_eq (sign ∷ line) (codes "end") ≡ false) → (lines others : List (List ℕ))
+      → wanted_lines want (map (λ line. sign ∷ line) lines ++ others) ≡ map (λ line. sign ∷ line) lines ++ wanted_lines want others
+  side_wanted sign goes [] others = refl
+  side_wanted sign goes (line ∷ lines) others =
+      line_wanted (sign ∷ line) (map (λ line. sign ∷ line) lines ++ others)
+      ∙ ap (λ b. (sign ∷ line) ∷ wanted_lines (cond b next want) (map (λ line. sign ∷ line) lines ++ others)) (goes line)
+      ∙ ap (λ ls. (sign ∷ line) ∷ ls) (side_wanted sign goes lines others)
+
+  body_wanted : (old new others : List (List ℕ))
+      → wanted_lines want (((map (λ line. 45 ∷ line) old ++ map (λ line. 43 ∷ line) new) ++ codes "end" ∷ []) ++ others)
+      ≡ ((map (λ line. 45 ∷ line) old ++ map (λ line. 43 ∷ line) new) ++ codes "end" ∷ []) ++ wanted_lines next others
+  body_wanted old new others =
+      let minus = map (λ (line : List ℕ). 45 ∷ line) old in
+      let plus = map (λ (line : List ℕ). 43 ∷ line) new in
+      ap (wanted_lines want) (regrouped_lines minus plus (codes "end" ∷ []) others)
+      ∙ side_wanted 45 (λ line. refl) old (plus ++ (codes "end" ∷ others))
+      ∙ ap (λ ls. minus ++ ls) (side_wanted 43 (λ line. refl) new (codes "end" ∷ others) ∙ ap (λ ls. plus ++ ls) (line_wanted (codes "end") others))
+      ∙ sym (regrouped_lines minus plus (codes "end" ∷ []) (wanted_lines next others))
+
+-- the line of a group
+head_wanted : (head : List ℕ) (words : List (List ℕ)) (others : List (List ℕ)) → words_of head ≡ words
+    → wanted_lines want.Group (head ∷ others) ≡ head ∷ wanted_lines (cond (begins_edit words) want.GroupBody (cond (begins_with (codes "done") words) want.Nothing want.Group)) others
+head_wanted head words others is =
+    ap (λ ws. head ∷ wanted_lines (cond (begins_edit ws) want.GroupBody (cond (begins_with (codes "done") ws) want.Nothing want.Group)) others) is
 
 -- a change of a group goes before others
-change_taken : (change : Primitive) (others : List (List ℕ)) → IsChange change → group_of (change_lines change ++ others) ≡ change_lines change ++ group_of others
-change_taken (Add path) others h =
-    let head = join_with_byte 32 (codes "add" ∷ path ∷ []) in
-    let words = words_of-joined (codes "add") (path ∷ []) (head_are (Add path) h) in
-    group_goes head [] (head ∷ others) others (entry_alone head others (ap begins_edit words)) (ap (begins_with (codes "done")) words)
-change_taken (Remove path) others h =
-    let head = join_with_byte 32 (codes "remove" ∷ path ∷ []) in
-    let words = words_of-joined (codes "remove") (path ∷ []) (head_are (Remove path) h) in
-    group_goes head [] (head ∷ others) others (entry_alone head others (ap begins_edit words)) (ap (begins_with (codes "done")) words)
-change_taken (Hunk edit) others h =
-    let head = join_with_byte 32 (change_head (Hunk edit)) in
-    let body = body_lines (Hunk edit) in
-    let words : words_of head ≡ change_head (Hunk edit) = words_of-joined (codes "edit") _ (head_are (Hunk edit) h) in
-    group_goes head body (head ∷ (body ++ others)) others
-    (entry_with head others body (ap begins_edit words) (body_taken edit.old edit.new others))
-    (ap (begins_with (codes "done")) words)
+change_wanted : (change : Primitive) (others : List (List ℕ)) → IsChange change → wanted_lines want.Group (change_lines change ++ others) ≡ change_lines change ++ wanted_lines want.Group others
+change_wanted (Add path) others h = head_wanted _ _ others (words_of-joined (codes "add") (path ∷ []) (head_are (Add path) h))
+change_wanted (Remove path) others h = head_wanted _ _ others (words_of-joined (codes "remove") (path ∷ []) (head_are (Remove path) h))
+change_wanted (Hunk edit) others h =
+    head_wanted (join_with_byte 32 (change_head (Hunk edit))) (change_head (Hunk edit)) (body_lines (Hunk edit) ++ others) (words_of-joined (codes "edit") _ (head_are (Hunk edit) h))
+    ∙ ap (λ ls. join_with_byte 32 (change_head (Hunk edit)) ∷ ls) (body_wanted want.GroupBody want.Group refl (λ line. refl) edit.old edit.new others)
 
 -- and so do all
-group_taken : (changes : List Primitive) (others : List (List ℕ)) → AllByRecursion IsChange changes
-    → group_of (flat_map change_lines changes ++ codes "done" ∷ others) ≡ flat_map change_lines changes ++ codes "done" ∷ []
-group_taken [] others h =
-    let words : words_of (codes "done") ≡ codes "done" ∷ [] = words_of-joined (codes "done") [] (refl, tt) in
-    group_ends (codes "done") [] (codes "done" ∷ others) others (entry_alone (codes "done") others (ap begins_edit words)) (ap (begins_with (codes "done")) words)
-group_taken (change ∷ changes) others h =
-    let behind = flat_map change_lines changes in
-    let cons = flat_map-cons change_lines change changes in
-    ap (λ ls. group_of (ls ++ codes "done" ∷ others)) cons
-    ∙ ap group_of (append_assoc (change_lines change) behind (codes "done" ∷ others))
-    ∙ change_taken change (behind ++ codes "done" ∷ others) h.0
-    ∙ ap (λ ls. change_lines change ++ ls) (group_taken changes others h.1)
-    ∙ sym (append_assoc (change_lines change) behind (codes "done" ∷ []))
-    ∙ ap (λ ls. ls ++ codes "done" ∷ []) (sym cons)
+group_wanted : (changes : List Primitive) (others : List (List ℕ)) → AllByRecursion IsChange changes
+    → wanted_lines want.Group ((flat_map change_lines changes ++ codes "done" ∷ []) ++ others) ≡ flat_map change_lines changes ++ codes "done" ∷ []
+group_wanted [] others h =
+    head_wanted (codes "done") (codes "done" ∷ []) others (words_of-joined (codes "done") [] (refl, tt)) ∙ ap (λ ls. codes "done" ∷ ls) (nothing_wanted others)
+group_wanted (change ∷ changes) others h =
+    let done = codes "done" ∷ [] in
+    let behind = flat_map change_lines changes ++ done in
+    let whole : flat_map change_lines (change ∷ changes) ++ done ≡ change_lines change ++ behind =
+    ap (λ ls. ls ++ done) (flat_map-cons change_lines change changes) ∙ append_assoc (change_lines change) (flat_map change_lines changes) done in
+    ap (λ ls. wanted_lines want.Group (ls ++ others)) whole ∙ ap (wanted_lines want.Group) (append_assoc (change_lines change) behind others)
+    ∙ change_wanted change (behind ++ others) h.0 ∙ ap (λ ls. change_lines change ++ ls) (group_wanted changes others h.1) ∙ sym whole
 
-group_behind : (words : List (List ℕ)) (reading : Result (List (List Call)) LineFault) (changes : List Primitive) (others : List (List ℕ)) → AllByRecursion IsChange changes
-    → begins_edit words ≡ false → begins_group words ≡ true → FirstIs words reading
-    → taken_by reading ((flat_map change_lines changes ++ codes "done" ∷ []) ++ others) ≡ flat_map change_lines changes ++ codes "done" ∷ []
-group_behind words reading changes others h no_edit group is =
-    let lines = (flat_map change_lines changes ++ codes "done" ∷ []) ++ others in
-    ap (λ (r : Result (List (List Call)) LineFault). taken_by r lines) (is.group no_edit group)
-    ∙ ap group_of (append_assoc (flat_map change_lines changes) (codes "done" ∷ []) others)
-    ∙ group_taken changes others h
+record_wanted : (branch name : List ℕ) (changes : List Primitive) (others : List (List ℕ)) → AllByRecursion IsChange changes
+    → wanted_lines (wanted_words (record_words branch name changes)) (record_rest changes ++ others) ≡ record_rest changes
+record_wanted branch name [] others h = group_wanted [] others h
+record_wanted branch name (Add path ∷ []) others h = nothing_wanted others
+record_wanted branch name (Remove path ∷ []) others h = nothing_wanted others
+record_wanted branch name (Hunk edit ∷ []) others h =
+    body_wanted want.Body want.Nothing refl (λ line. refl) edit.old edit.new others
+    ∙ ap (λ ls. body_lines (Hunk edit) ++ ls) (nothing_wanted others) ∙ append-nil (body_lines (Hunk edit))
+record_wanted branch name (change ∷ next ∷ changes) others h = group_wanted (change ∷ next ∷ changes) others h
 
-alone_behind : (words : List (List ℕ)) (reading : Result (List (List Call)) LineFault) (others : List (List ℕ))
-    → begins_edit words ≡ false → begins_group words ≡ false → begins_with (codes "client") words ≡ false → FirstIs words reading → taken_by reading others ≡ []
-alone_behind words reading others no_edit no_group no_client is =
-    ap (λ (r : Result (List (List Call)) LineFault). taken_by r others) (is.other no_edit no_group no_client).1
-
-record_behind : (branch name : List ℕ) (changes : List Primitive) (reading : Result (List (List Call)) LineFault) (others : List (List ℕ)) → AllByRecursion IsChange changes
-    → FirstIs (record_words branch name changes) reading → taken_by reading (record_rest changes ++ others) ≡ record_rest changes
-record_behind branch name [] reading others h is = group_behind (record_words branch name []) reading [] others h refl refl is
-record_behind branch name (Add path ∷ []) reading others h is = alone_behind (record_words branch name (Add path ∷ [])) reading others refl refl refl is
-record_behind branch name (Remove path ∷ []) reading others h is = alone_behind (record_words branch name (Remove path ∷ [])) reading others refl refl refl is
-record_behind branch name (Hunk edit ∷ []) reading others h is =
-    ap (λ (r : Result (List (List Call)) LineFault). taken_by r (body_lines (Hunk edit) ++ others)) (is.edit refl)
-    ∙ body_taken edit.old edit.new others
-record_behind branch name (change ∷ next ∷ changes) reading others h is =
-    group_behind (record_words branch name (change ∷ next ∷ changes)) reading (change ∷ next ∷ changes) others h refl refl is
-
-takes_behind : (c : Call) (reading : Result (List (List Call)) LineFault) (others : List (List ℕ)) → IsScriptCall c → FirstIs (first_words_of c) reading → taken_by reading (lines_behind c ++ others) ≡ lines_behind c
-takes_behind (call.Branch new from) reading others h is = alone_behind (first_words_of (call.Branch new from)) reading others refl refl refl is
-takes_behind (call.Record branch name changes) reading others h is = record_behind branch name changes reading others h.3 is
-takes_behind (call.Pull from to names) reading others h is = alone_behind (first_words_of (call.Pull from to names)) reading others refl refl refl is
-takes_behind (call.Obliterate branch names) reading others h is = alone_behind (first_words_of (call.Obliterate branch names)) reading others refl refl refl is
-takes_behind (call.Tree branch) reading others h is = alone_behind (first_words_of (call.Tree branch)) reading others refl refl refl is
-takes_behind (call.Conflicts branch) reading others h is = alone_behind (first_words_of (call.Conflicts branch)) reading others refl refl refl is
-takes_behind (call.Names branch) reading others h is = alone_behind (first_words_of (call.Names branch)) reading others refl refl refl is
+behind_wanted : (c : Call) (others : List (List ℕ)) → IsScriptCall c → wanted_lines (wanted_words (first_words_of c)) (lines_behind c ++ others) ≡ lines_behind c
+behind_wanted (call.Branch new from) others h = nothing_wanted others
+behind_wanted (call.Record branch name changes) others h = record_wanted branch name changes others h.3
+behind_wanted (call.Pull from to names) others h = nothing_wanted others
+behind_wanted (call.Obliterate branch names) others h = nothing_wanted others
+behind_wanted (call.Tree branch) others h = nothing_wanted others
+behind_wanted (call.Conflicts branch) others h = nothing_wanted others
+behind_wanted (call.Names branch) others h = nothing_wanted others
 
 -- ---- what a call asks, by its words
 
@@ -167,9 +154,10 @@ module _ (c : Call) (can : IsScriptCall c) (short : IsReadWhole c) where
 
   takes_just : (others : List (List ℕ)) → taken first (lines_behind c ++ others) ≡ lines_behind c
   takes_just others =
-      ap (λ line. taken_by (script_of_lines (line ∷ [])) (lines_behind c ++ others)) call_is
-      ∙ takes_behind c (script_of_lines (first ∷ [])) others can
-      (subst (λ (words : List (List ℕ)). FirstIs words (script_of_lines (first ∷ []))) (words_called c can) (first_alone first (lines_behind c) ((c ∷ []) ∷ []) whole))
+      ap (λ line. command.taken line (lines_behind c ++ others)) call_is
+      ∙ first_takes_by_words first (lines_behind c) ((c ∷ []) ∷ []) whole (lines_behind c ++ others)
+      ∙ ap (λ words. wanted_lines (wanted_words words) (lines_behind c ++ others)) (words_called c can)
+      ∙ behind_wanted c others can
 
   pub is_command : IsCommand (call_text c)
   is_command = record {

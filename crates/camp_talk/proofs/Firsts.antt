@@ -1,31 +1,8 @@
 -- A command that was read is one: by its first line, and what that takes with it.
-use Rattle.camp_talk.proofs.Words.{◌≡◌, ℕ, Bool, true, false, List, [], ◌∷◌, ◌++◌, length, map, Option, Result, Ok, Err, refl, sym, ap, subst, ◌∙◌, arith, Call, lines_of, script_of_lines, LineFault, Consumes, Consumes-trans, Ends, IsCommand, IsLeft, ReadsCommand, ReadsHeld, ReadsLine, ReadsLines, ReadsPart, ReadsWithin, StopsAtLine, StopsIn, ended, last_part, with_last, TakesAll, append-nil, length-map, lines_in, ◌≤◌, as_read, call_line, script_in, taken, taken_at, taken_by}
-use Rattle.camp_script.specs.declared.faults.FaultKind.{FaultKind}
-use Rattle.camp_script.specs.declared.faults.FaultKind.TheVariants.{UnknownCommand, WrongNumberOfWords, BadName}
-use Rattle.camp_script.specs.declared.faults.FaultKind.TheVariants.{BadPath, BadNumber, BadLine, BadEdit}
-use Rattle.camp_script.specs.declared.faults.FaultKind.TheVariants.{EditNotEnded, TooManyClients, TooManyCommands}
-use Rattle.camp_script.specs.declared.faults.FaultKind.TheVariants.{BadGroup, GroupNotEnded}
-use Rattle.camp_talk.proofs.Cuts.{EndsWithLine, ends_with_line}
+use Rattle.camp_talk.proofs.Words.{◌≡◌, ℕ, Bool, true, false, List, [], ◌∷◌, ◌++◌, length, map, Option, refl, sym, ap, subst, ◌∙◌, arith, lines_of, script_of_lines, CommandLines, Consumes, Consumes-trans, Ends, HasRead, IsCommand, IsLeft, ReadsCommand, ReadsHeld, ReadsLine, ReadsLines, ReadsNext, ReadsWithin, StopsAtLine, ended, with_last, TakesAll, append-nil, length-map, lines_in, ◌≤◌, as_read, call_line, first_of, script_in, taken, wants}
+use Rattle.camp_script.proofs.CommandCuts.{none_wanted, one_wanted, takes_wanted}
+use Rattle.camp_talk.proofs.Cuts.{EndsWithLine, ends_with_line, with_last-append}
 use Rattle.camp_talk.proofs.Parts.{behind, ends_behind, lines_are_read, lines_behind, lines_held, none_left}
-
--- nothing of no lines
-nothing_at : (kind : FaultKind) → taken_at kind [] ≡ []
-nothing_at EditNotEnded = refl
-nothing_at GroupNotEnded = refl
-nothing_at UnknownCommand = refl
-nothing_at WrongNumberOfWords = refl
-nothing_at BadName = refl
-nothing_at BadPath = refl
-nothing_at BadNumber = refl
-nothing_at BadLine = refl
-nothing_at BadEdit = refl
-nothing_at TooManyClients = refl
-nothing_at TooManyCommands = refl
-nothing_at BadGroup = refl
-
-nothing_by : (reading : Result (List (List Call)) LineFault) → taken_by reading [] ≡ []
-nothing_by (Ok script) = refl
-nothing_by (Err fault) = nothing_at fault.kind
 
 module _ (a b : Option (List ℕ)) (bytes : List ℕ) where
   -- lines that were read are a command, where the first takes just the others
@@ -66,50 +43,113 @@ module _ (a b : Option (List ℕ)) (bytes : List ℕ) where
         reads = (reads.consumes, subst TakesAll (sym same) takes, ends);
       }
 
-  script_is : (line : List ℕ) → ReadsLines a b [] bytes (line ∷ []) []
-      → script_in (lines_of bytes) ≡ script_of_lines (call_line line ∷ [])
-  script_is line reads =
-      ap script_in (ap lines_of reads.grows ∙ lines_held a b [] bytes (line ∷ []) [] reads)
-
   takes_last : (last : List ℕ) → TakesAll (with_last [] last)
   takes_last [] = tt
-  takes_last (byte ∷ last) = nothing_by (script_of_lines (call_line (byte ∷ last) ∷ []))
+  takes_last (byte ∷ last) = takes_wanted (call_line (byte ∷ last)) []
 
-  -- the input ends in or behind the first line
-  pub first_left : ReadsLine a b false [] bytes → ReadsHeld a b false bytes
-  first_left (last, reads, ends) = is_left [] last reads (takes_last last) ends
+  lines_are : (lines : List (List ℕ)) (last : List ℕ) → ReadsLines a b [] bytes lines last → lines_of bytes ≡ with_last lines last
+  lines_are lines last reads = ap lines_of reads.grows ∙ lines_held a b [] bytes lines last reads
 
-  -- a first line that has no fault, and is whole alone
-  pub first_alone : (whole : Bool) (script : List (List Call)) → ReadsLine a b whole [] bytes → script_in (lines_of bytes) ≡ Ok script
-      → ReadsHeld a b whole bytes
-  first_alone false script reads is = first_left reads
-  first_alone true script (line, reads) is =
-      is_command line [] reads (λ others. ap (λ r. taken_by r others) (sym (script_is line reads) ∙ is))
+-- a command was read, and its lines were handed on
+pub record IsHanded (a b : Option (List ℕ)) (whole : Bool) (bytes : List ℕ) (command : CommandLines) : Type 0 where
+  pub held : ReadsHeld a b whole bytes
+  pub first : List ℕ
+  pub rest : List (List ℕ)
+  pub has : HasRead command first rest
+  pub same : script_of_lines (first ∷ rest) ≡ script_in (lines_of bytes)
 
-module _ (a b c : Option (List ℕ)) (first bytes : List ℕ) (fault : LineFault) where
-  -- a first line with a fault, and what it takes with it
-  pub first_with : (whole : Bool) → ReadsLine a b true [] first → script_in (lines_of first) ≡ Err fault
-      → ReadsPart b c (taken_at fault.kind) (last_part whole) first bytes → ReadsHeld a c whole bytes
-  first_with true (line, reads) is (lines, then, closes) =
-      let same = sym (script_is a b first line reads) ∙ is in
-      is_command a c bytes line lines (behind a b c [] first bytes (line ∷ []) lines [] reads then)
-      (λ others. ap (λ r. taken_by r (lines ++ others)) same ∙ closes others)
-  first_with false (line, reads) is (lines, last, then, all, ends) =
-      let same = sym (script_is a b first line reads) ∙ is in
-      is_left a c bytes (line ∷ lines) last (behind a b c [] first bytes (line ∷ []) lines last reads then)
-      (by last same all) (ends_behind a b c (ended reads.whole ++ reads.left) reads.consumes ends)
+-- lines of a command are handed on: whole ones, or all that the input has
+abbrev pub HandsOn : Option (List ℕ) → Option (List ℕ) → Bool → List ℕ → CommandLines → Type 0
+HandsOn a b true bytes command =
+    (first : List ℕ) × (rest : List (List ℕ)) × ReadsLines a b [] bytes (first ∷ rest) [] × HasRead command (call_line first) rest
+HandsOn a b false bytes command = IsHanded a b false bytes command
+
+-- the first line that was read
+pub line_read : (a b : Option (List ℕ)) (bytes : List ℕ) {old : List ℕ} {told whole : Bool} → ReadsLine a b told old bytes → old ≡ [] → told ≡ whole → ReadsLine a b whole [] bytes
+line_read a b bytes {old} {told} {whole} line none is =
+    subst (λ (w : Bool). ReadsLine a b w [] bytes) is (subst (λ (old : List ℕ). ReadsLine a b told old bytes) none line)
+
+pub call_read : (x : CommandLines) {call first read : List ℕ} (bytes : List ℕ) → HasRead x call [] → call ≡ call_line first → first ≡ first_of (lines_of read) → read ≡ bytes
+    → HasRead x (call_line (first_of (lines_of bytes))) []
+call_read x bytes has call first read =
+    subst (λ (l : List ℕ). HasRead x l []) (call ∙ ap call_line (first ∙ ap (λ (bytes : List ℕ). first_of (lines_of bytes)) read)) has
+
+-- the first line was handed on
+module _ (a b : Option (List ℕ)) (mid : List ℕ) (x : CommandLines) (has : HasRead x (call_line (first_of (lines_of mid))) []) where
+  -- the input ends in or behind it
+  first_left : ReadsLine a b false [] mid → IsHanded a b false mid x
+  first_left (last, reads, ends) = record {
+    held = is_left a b mid [] last reads (takes_last a b mid last) ends;
+    first = call_line (first_of (lines_of mid));
+    rest = [];
+    has = has;
+    same = subst (λ (ls : List (List ℕ)). script_of_lines (call_line (first_of ls) ∷ []) ≡ script_in ls) (sym (lines_are a b mid [] last reads)) (script_is last);
+  }
     where
-      by : (last : List ℕ) → script_of_lines (call_line line ∷ []) ≡ Err fault
-          → taken_at fault.kind (with_last lines last) ≡ with_last lines last → TakesAll (with_last (line ∷ lines) last)
-      by [] same all = ap (λ r. taken_by r lines) same ∙ all
-      by (byte ∷ last) same all = ap (λ r. taken_by r (lines ++ (byte ∷ last) ∷ [])) same ∙ all
+      script_is : (last : List ℕ) → script_of_lines (call_line (first_of (with_last [] last)) ∷ []) ≡ script_in (with_last [] last)
+      script_is [] = refl
+      script_is (byte ∷ last) = refl
+
+  has_line : (line : List ℕ) → ReadsLines a b [] mid (line ∷ []) [] → HasRead x (call_line line) []
+  has_line line reads = subst (λ (ls : List (List ℕ)). HasRead x (call_line (first_of ls)) []) (lines_are a b mid (line ∷ []) [] reads) has
+
+  pub first_on : (whole : Bool) → ReadsLine a b whole [] mid → HandsOn a b whole mid x
+  first_on true (line, reads) = (line, [], reads, has_line line reads)
+  first_on false read = first_left read
+
+-- the next line is handed on, and nothing else is read
+module _ (a b c : Option (List ℕ)) (mid bytes : List ℕ) (x y : CommandLines) (on : HandsOn a b true mid x) where
+  pub next_on : (whole : Bool) → ReadsNext b c whole mid bytes x y → HandsOn a c whole bytes y
+  next_on true (line, then, goes) =
+      let (first, rest, reads, has) = on in
+      (first, rest ++ line ∷ [], behind a b c [] mid bytes (first ∷ rest) (line ∷ []) [] reads then, goes (call_line first) rest has)
+  next_on false (last, then, goes, ends) =
+      let (first, rest, reads, has) = on in
+      let all = rest ++ with_last [] last in
+      let now : HasRead y (call_line first) all = goes (call_line first) rest has in
+      let read : ReadsLines a c [] bytes ((first ∷ rest) ++ []) last = behind a b c [] mid bytes (first ∷ rest) [] last reads then in
+      let same : with_last ((first ∷ rest) ++ []) last ≡ first ∷ all = with_last-append (first ∷ rest) [] last in
+      let taken_is : taken first all ≡ all = ap (taken first) (sym (append-nil all)) ∙ now.takes [] ∙ append-nil all in
+      record {
+        held = is_left a c bytes ((first ∷ rest) ++ []) last read (subst TakesAll (sym same) taken_is)
+            (ends_behind a b c (ended reads.whole ++ reads.left) reads.consumes ends);
+        first = call_line first;
+        rest = all;
+        has = now;
+        same = sym (ap script_in (lines_are a c bytes ((first ∷ rest) ++ []) last read ∙ same));
+      }
+
+  -- reading stops in the next line
+  pub stops_on : wants x.wanted ≡ true → StopsAtLine b c → ReadsWithin a c
+  stops_on more stops =
+      let (first, rest, reads, has) = on in
+      let tail = lines_in stops.some in
+      let few : length tail ≤ 1 = omega (arith, length-map (lines_of stops.some) as_read, stops.one) in
+      record {
+        some = (ended reads.whole ++ reads.left) ++ stops.some;
+        reads = Consumes-trans a b c (ended reads.whole ++ reads.left) stops.some reads.consumes stops.reads;
+        is = subst TakesAll (sym (lines_behind a b [] mid (first ∷ rest) reads stops.some))
+            (has.takes tail ∙ ap (λ (ls : List (List ℕ)). rest ++ ls) (one_wanted x.wanted more tail few));
+      }
+
+-- all was handed on
+pub all_on : (a b : Option (List ℕ)) (bytes : List ℕ) (x : CommandLines) (whole : Bool) → HandsOn a b whole bytes x → (whole ≡ true → wants x.wanted ≡ false) → IsHanded a b whole bytes x
+all_on a b bytes x false on all = on
+all_on a b bytes x true (first, rest, reads, has) all = record {
+  held = is_command a b bytes first rest reads (λ others.
+      has.takes others ∙ ap (λ (ls : List (List ℕ)). rest ++ ls) (none_wanted x.wanted (all refl) others) ∙ append-nil rest);
+  first = call_line first;
+  rest = rest;
+  has = has;
+  same = sym (ap script_in (lines_are a b bytes (first ∷ rest) [] reads));
+}
 
 -- ---- no more was read than a command has
 
 -- a line at most is taken whole
 takes_few : (lines : List (List ℕ)) → length lines ≤ 1 → TakesAll lines
 takes_few [] few = tt
-takes_few (line ∷ []) few = nothing_by (script_of_lines (call_line line ∷ []))
+takes_few (line ∷ []) few = takes_wanted (call_line line) []
 takes_few (line ∷ next ∷ lines) few = absurd (omega (arith, few))
 
 pub stops_within : (a b : Option (List ℕ)) → StopsAtLine a b → ReadsWithin a b
@@ -124,26 +164,13 @@ pub first_within : (a b : Option (List ℕ)) (bytes : List ℕ) (whole : Bool) �
 first_within a b bytes true (line, reads) = record {
   some = ended reads.whole ++ reads.left;
   reads = reads.consumes;
-  is = subst TakesAll (sym (lines_are_read a b [] bytes (line ∷ []) [] reads)) (nothing_by (script_of_lines (call_line line ∷ [])));
+  is = subst TakesAll (sym (lines_are_read a b [] bytes (line ∷ []) [] reads)) (takes_wanted (call_line line) []);
 }
 first_within a b bytes false (last, reads, ends) = record {
   some = ended reads.whole ++ reads.left;
   reads = reads.consumes;
   is = subst TakesAll (sym (lines_are_read a b [] bytes [] last reads)) (takes_last a b bytes last);
 }
-
--- reading stops behind a first line, in what that takes with it
-pub rest_within : (a b c : Option (List ℕ)) (first : List ℕ) (fault : LineFault) → ReadsLine a b true [] first
-    → script_in (lines_of first) ≡ Err fault → StopsIn b c (taken_at fault.kind) → ReadsWithin a c
-rest_within a b c first fault (line, reads) is stops =
-    let lines = lines_in stops.some in
-    let same = sym (script_is a b first line reads) ∙ is in
-    record {
-      some = (ended reads.whole ++ reads.left) ++ stops.some;
-      reads = Consumes-trans a b c (ended reads.whole ++ reads.left) stops.some reads.consumes stops.reads;
-      is = subst TakesAll (sym (lines_behind a b [] first (line ∷ []) reads stops.some))
-          (ap (λ (r : Result (List (List Call)) LineFault). taken_by r lines) same ∙ stops.all);
-    }
 
 -- a command is no more than a command
 pub command_left : (a b : Option (List ℕ)) (whole : Bool) (command : List ℕ) → ReadsCommand a b whole command → IsLeft command

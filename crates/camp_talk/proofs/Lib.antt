@@ -1,5 +1,4 @@
 mod Words
-pub mod CallLines
 pub mod CanonicalCommands
 pub mod CountLemmas
 pub mod Cuts

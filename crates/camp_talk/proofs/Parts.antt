@@ -1,6 +1,6 @@
 -- What is read of a command, part behind part.
-use Rattle.camp_talk.proofs.Words.{◌≡◌, ◌≢◌, ℕ, ◌-◌, Bool, true, false, cond, nat_lt, List, [], ◌∷◌, ◌++◌, length, map, take, drop, codes, All, Consumes, Consumes-nil, Consumes-trans, drop-append_seam, take-append_seam, flat_map-append, lines_of, words_of, begins_edit, begins_with, Part, More, Whole, Cut, as_read, body_of, ends_body, entries_of, group_of, lines_in, Option, None, Some, refl, sym, ap, subst, ◌∙◌, append_assoc, append-nil, arith, length-append, map-append, All-append, All-cons, All-drop, All-head, All-nil, All-tail, All-take, Ends, IsLine, ReadsLine, ReadsLines, ReadsPart, StopsAtLine, StopsIn, ended, entry_part, with_last, length-map, ◌≤◌, ◌<◌}
-use Rattle.camp_talk.proofs.Cuts.{body_ends, body_goes, body_left, entry_alone, either_empty, entry_with, group_ends, group_goes, group_left, lines-ended, lines_read, with_last-append}
+use Rattle.camp_talk.proofs.Words.{◌≡◌, ◌≢◌, ℕ, ◌-◌, ◌≤◌, ◌<◌, Bool, true, false, cond, nat_lt, List, [], ◌∷◌, ◌++◌, length, map, take, drop, All, Consumes, Consumes-trans, drop-append_seam, take-append_seam, flat_map-append, lines_of, as_read, lines_in, Option, None, Some, refl, sym, ap, subst, ◌∙◌, append_assoc, append-nil, arith, length-append, map-append, All-append, All-cons, All-drop, All-head, All-nil, All-tail, All-take, CommandLines, Ends, GoesOn, HasRead, IsLine, ReadsLine, ReadsLines, ReadsNext, ended, with_last}
+use Rattle.camp_talk.proofs.Cuts.{lines-ended, lines_read}
 
 -- ---- lines as they are read
 
@@ -92,50 +92,6 @@ module _ (a b c : Option (List ℕ)) (old mid new : List ℕ) where
           ∙ sym (append_assoc (ended lines) (ended more) last)
           ∙ ap (λ bytes. bytes ++ last) (sym (flat_map-append (λ line. line ++ 10 ∷ []) lines more))
 
-  -- a part behind lines with which the taking goes on
-  module _ (take : List (List ℕ) → List (List ℕ)) where
-    part_behind : (part : Part) → ReadsPart a b take More old mid → ReadsPart b c take part mid new
-        → ReadsPart a c take part old new
-    part_behind More (lines, first, goes) (more, then, on) = (
-      lines ++ more,
-      behind lines more [] first then,
-      λ others. ap take (append_assoc lines more others) ∙ goes (more ++ others)
-          ∙ ap (λ ls. lines ++ ls) (on others) ∙ sym (append_assoc lines more (take others)),
-    )
-    part_behind Whole (lines, first, goes) (more, then, on) = (
-      lines ++ more,
-      behind lines more [] first then,
-      λ others. ap take (append_assoc lines more others) ∙ goes (more ++ others) ∙ ap (λ ls. lines ++ ls) (on others),
-    )
-    part_behind Cut (lines, first, goes) (more, last, then, all, end) = (
-      lines ++ more,
-      last,
-      behind lines more last first then,
-      ap take (with_last-append lines more last) ∙ goes (with_last more last) ∙ ap (λ ls. lines ++ ls) all
-          ∙ sym (with_last-append lines more last),
-      ends_behind a b c (ended first.whole ++ first.left) first.consumes end,
-    )
-
-    pub part_on : {told part : Part} → ReadsPart a b take More old mid → told ≡ part → ReadsPart b c take told mid new → ReadsPart a c take part old new
-    part_on {told} {part} first is then = part_behind part first (subst (λ (p : Part). ReadsPart b c take p mid new) is then)
-
--- nothing is read yet
-pub no_lines : (a : Option (List ℕ)) (old : List ℕ) → ReadsLines a a old old [] []
-no_lines a old = record {
-  whole = [];
-  left = [];
-  are_read = refl;
-  is_read = refl;
-  grows = sym (append-nil old);
-  consumes = Consumes-nil a;
-  are_lines = All-nil IsLine;
-  is_line = All-nil (λ byte. byte ≢ 10);
-}
-
-pub none_read : (a : Option (List ℕ)) (take : List (List ℕ) → List (List ℕ)) (old : List ℕ)
-    → ReadsPart a a take More old old
-none_read a take old = ([], no_lines a old, λ others. refl)
-
 -- the last line of bytes
 pub line_at : (a b : Option (List ℕ)) (old new line : List ℕ) → ReadsLines a b old new (line ∷ []) []
     → take (length new - 1 - length old) (drop (length old) new) ≡ line
@@ -148,129 +104,29 @@ line_at a b old new line reads =
     ∙ ap (λ bytes. take (length line) (drop (length old) bytes)) all
     ∙ ap (take (length line)) (drop-append_seam old (line ++ 10 ∷ [])) ∙ take-append_seam line (10 ∷ [])
 
--- reading stops behind lines with which the taking goes on
-pub part_stops : (a b c : Option (List ℕ)) (take : List (List ℕ) → List (List ℕ)) (old mid : List ℕ)
-    → ReadsPart a b take More old mid → StopsIn b c take → StopsIn a c take
-part_stops a b c take old mid (lines, reads, goes) stops = record {
-  some = (ended reads.whole ++ reads.left) ++ stops.some;
-  reads = Consumes-trans a b c (ended reads.whole ++ reads.left) stops.some reads.consumes stops.reads;
-  all = ap take are ∙ goes (lines_in stops.some) ∙ ap (λ (ls : List (List ℕ)). lines ++ ls) stops.all ∙ sym are;
-}
-  where
-    are : lines_in ((ended reads.whole ++ reads.left) ++ stops.some) ≡ lines ++ lines_in stops.some
-    are = lines_behind a b old mid lines reads stops.some
+-- ---- lines that are handed on to a command
 
--- a line at most: it is taken, if it is there
-module _ (take : List (List ℕ) → List (List ℕ)) (none : take [] ≡ []) (one : (line : List ℕ) → take (line ∷ []) ≡ line ∷ []) where
-  all_taken : (lines : List (List ℕ)) → length lines ≤ 1 → take lines ≡ lines
-  all_taken [] few = none
-  all_taken (line ∷ []) few = one line
-  all_taken (line ∷ next ∷ lines) few = absurd (omega (arith, few))
+-- a line was read, and handed on
+module _ (a b : Option (List ℕ)) (old new given : List ℕ) (x y : CommandLines)
+    (goes : (first : List ℕ) (rest : List (List ℕ)) → HasRead x first rest → HasRead y first (rest ++ given ∷ [])) where
+  pub line_on : (reads : ReadsLine a b true old new) → given ≡ reads.0 → ReadsNext a b true old new x y
+  line_on (line, reads) is = (line, reads, subst (λ (l : List ℕ). GoesOn x y (l ∷ [])) is goes)
 
-  pub line_stops : (a b : Option (List ℕ)) → StopsAtLine a b → StopsIn a b take
-  line_stops a b stops = record {
-    some = stops.some;
-    reads = stops.reads;
-    all = all_taken (lines_in stops.some) (omega (arith, length-map (lines_of stops.some) as_read, stops.one));
-  }
+  pub last_on : (reads : ReadsLine a b false old new) → given ≡ reads.0 → 0 < length given → ReadsNext a b false old new x y
+  last_on ([], reads, ends) is some = absurd (omega (arith, some, ap (λ (bytes : List ℕ). length bytes) is))
+  last_on (byte ∷ last, reads, ends) is some =
+      (byte ∷ last, reads, subst (λ (l : List ℕ). GoesOn x y (l ∷ [])) is goes, ends)
 
--- ---- the lines of bodies
+-- what had no LF
+pub last_is : (a b : Option (List ℕ)) (old new : List ℕ) (reads : ReadsLine a b false old new) → drop (length old) new ≡ reads.0
+last_is a b old new (last, reads, ends) = ap (drop (length old)) reads.grows ∙ drop-append_seam old last
 
-body_of_one : (line : List ℕ) → body_of (line ∷ []) ≡ line ∷ []
-body_of_one line = ap (λ (ls : List (List ℕ)). line ∷ ls) (either_empty (ends_body line))
-
-pub body_line_stops : (a b : Option (List ℕ)) → StopsAtLine a b → StopsIn a b body_of
-body_line_stops = line_stops body_of refl body_of_one
-
-pub body_line_ends : (a b : Option (List ℕ)) (old new line : List ℕ) → ReadsLines a b old new (line ∷ []) []
-    → ends_body line ≡ true → ReadsPart a b body_of Whole old new
-body_line_ends a b old new line reads ends = (line ∷ [], reads, λ others. body_ends line others ends)
-
-pub body_line_goes : (a b : Option (List ℕ)) (old new line : List ℕ) → ReadsLines a b old new (line ∷ []) []
-    → ends_body line ≡ false → ReadsPart a b body_of More old new
-body_line_goes a b old new line reads goes = (line ∷ [], reads, λ others. body_goes line others goes)
-
-pub body_line_cut : (a b : Option (List ℕ)) (old new : List ℕ) → ReadsLine a b false old new
-    → ReadsPart a b body_of Cut old new
-body_line_cut a b old new (last, reads, end) = ([], last, reads, body_left last, end)
-
--- ---- the entries of groups
-
-abbrev pub begins : List ℕ → Bool
-begins line = begins_edit (words_of line)
-
-abbrev pub is_done : List ℕ → Bool
-is_done line = begins_with (codes "done") (words_of line)
-
-alone_left : (last : List ℕ) (b : Bool) → begins last ≡ b → group_of (last ∷ []) ≡ last ∷ []
-alone_left last true opens = group_left last [] (last ∷ []) [] (entry_with last [] [] opens refl) refl
-alone_left last false alone = group_left last [] (last ∷ []) [] (entry_alone last [] alone) refl
-
-last_left : (last : List ℕ) → group_of (with_last [] last) ≡ with_last [] last
-last_left [] = refl
-last_left (byte ∷ last) = alone_left (byte ∷ last) (begins (byte ∷ last)) refl
-
-pub entry_cut : (a b : Option (List ℕ)) (old new : List ℕ) → ReadsLine a b false old new
-    → ReadsPart a b group_of Cut old new
-entry_cut a b old new (last, reads, end) = ([], last, reads, last_left last, end)
-
-pub entry_read : (a b : Option (List ℕ)) (old new head : List ℕ) (body : List (List ℕ))
-    → ReadsLines a b old new (head ∷ body) []
-    → ((others : List (List ℕ))
-    → entries_of (head ∷ (body ++ others)) ≡ record { head = head; rest = body } ∷ entries_of others)
-    → (ends : Bool) → is_done head ≡ ends → ReadsPart a b group_of (entry_part ends) old new
-entry_read a b old new head body reads first true ends =
-    (head ∷ body, reads, λ others. group_ends head body (head ∷ (body ++ others)) others (first others) ends)
-entry_read a b old new head body reads first false goes =
-    (head ∷ body, reads, λ others. group_goes head body (head ∷ (body ++ others)) others (first others) goes)
-
-pub entry_read_alone : (a b : Option (List ℕ)) (old new head : List ℕ) → ReadsLines a b old new (head ∷ []) []
-    → begins head ≡ false → (ends : Bool) → is_done head ≡ ends → ReadsPart a b group_of (entry_part ends) old new
-entry_read_alone a b old new head reads alone =
-    entry_read a b old new head [] reads (λ others. entry_alone head others alone)
-
-pub entry_read_whole : (a b c : Option (List ℕ)) (old mid new head : List ℕ) → ReadsLines a b old mid (head ∷ []) []
-    → begins head ≡ true → ReadsPart b c body_of Whole mid new → (ends : Bool) → is_done head ≡ ends
-    → ReadsPart a c group_of (entry_part ends) old new
-entry_read_whole a b c old mid new head reads opens (body, then, closes) =
-    entry_read a c old new head body (behind a b c old mid new (head ∷ []) body [] reads then)
-    (λ others. entry_with head others body opens (closes others))
-
-pub entry_read_cut : (a b c : Option (List ℕ)) (old mid new head : List ℕ) → ReadsLines a b old mid (head ∷ []) []
-    → begins head ≡ true → ReadsPart b c body_of Cut mid new → ReadsPart a c group_of Cut old new
-entry_read_cut a b c old mid new head reads opens (body, last, then, all, end) =
-    let lines = with_last body last in
-    let first = entry_with head [] lines opens (ap body_of (append-nil lines) ∙ all) in (
-      head ∷ body,
-      last,
-      behind a b c old mid new (head ∷ []) body last reads then,
-      ap group_of (with_last-append (head ∷ []) body last ∙ ap (λ ls. head ∷ ls) (sym (append-nil lines)))
-          ∙ group_left head lines (head ∷ (lines ++ [])) [] first refl ∙ sym (with_last-append (head ∷ []) body last),
-      ends_behind a b c (ended reads.whole ++ reads.left) reads.consumes end,
-    )
-
-pub entry_line_stops : (a b : Option (List ℕ)) → StopsAtLine a b → StopsIn a b group_of
-entry_line_stops = line_stops group_of refl (λ line. alone_left line (begins line) refl)
-
--- reading stops in the body of an entry
-pub entry_body_stops : (a b c : Option (List ℕ)) (old mid head : List ℕ) → ReadsLines a b old mid (head ∷ []) []
-    → begins head ≡ true → StopsIn b c body_of → StopsIn a c group_of
-entry_body_stops a b c old mid head reads opens stops = record {
-  some = (ended reads.whole ++ reads.left) ++ stops.some;
-  reads = Consumes-trans a b c (ended reads.whole ++ reads.left) stops.some reads.consumes stops.reads;
-  all = ap group_of are ∙ taken ∙ sym are;
-}
-  where
-    lines : List (List ℕ)
-    lines = lines_in stops.some
-
-    are : lines_in ((ended reads.whole ++ reads.left) ++ stops.some) ≡ head ∷ lines
-    are = lines_behind a b old mid (head ∷ []) reads stops.some
-
-    taken : group_of (head ∷ lines) ≡ head ∷ lines
-    taken =
-        ap (λ (ls : List (List ℕ)). group_of (head ∷ ls)) (sym (append-nil lines))
-        ∙ group_left head lines (head ∷ (lines ++ [])) [] (entry_with head [] lines opens (ap body_of (append-nil lines) ∙ stops.all)) refl
+-- there was no more
+pub none_on : (a b : Option (List ℕ)) (old new : List ℕ) (x : CommandLines) → ReadsLine a b false old new → length new ≤ length old → ReadsNext a b false old new x x
+none_on a b old new x ([], reads, ends) none =
+    ([], reads, λ first rest has. subst (HasRead x first) (sym (append-nil rest)) has, ends)
+none_on a b old new x (byte ∷ last, reads, ends) none =
+    absurd (omega (arith, none, ap (λ (bytes : List ℕ). length bytes) reads.grows, length-append old (byte ∷ last)))
 
 -- ---- what was read is longer
 
@@ -284,8 +140,3 @@ line_longer a b old new line reads =
       length-append (line ++ 10 ∷ []) [],
       length-append line (10 ∷ []),
     )
-
-pub lines_longer : (a b : Option (List ℕ)) (old new : List ℕ) (lines : List (List ℕ)) (last : List ℕ) → ReadsLines a b old new lines last
-    → length old ≤ length new
-lines_longer a b old new lines last reads =
-    omega (arith, ap (λ (bytes : List ℕ). length bytes) reads.grows, length-append old (ended lines ++ last))

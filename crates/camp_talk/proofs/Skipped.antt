@@ -1,11 +1,13 @@
 -- A line that is skipped asks nothing, and takes no other with it.
-use Rattle.camp_talk.proofs.Words.{◌≡◌, ℕ, ◌==◌, true, false, true≢false, cond, List, [], ◌∷◌, codes, Ok, refl, sym, ap, ◌∙◌, eqb-true, bytes_eq, begins_with, is_skipped, words_of, script_of_lines, asked_of, first_of, call_line, TakesAll, taken, taken_by}
+use Rattle.camp_talk.proofs.Words.{◌≡◌, ℕ, ◌==◌, true, false, true≢false, cond, List, [], ◌∷◌, codes, Ok, refl, sym, ap, ◌∙◌, eqb-true, bytes_eq, begins_with, is_skipped, words_of, script_of_lines, asked_of, first_of, call_line, map, TakesAll, taken}
 use Rattle.std.specs.Prelude.{slice_index}
 use Rattle.camp_script.proofs.Agreement.{reads_as_defined}
 use Rattle.camp_script.specs.Behind.{behind_word}
+use Rattle.camp_script.specs.CommandLines as command
 use Rattle.camp_script.specs.Commands.{Nothing, command_of}
 use Rattle.camp_script.specs.Inside.Progress.{start}
 use Rattle.camp_script.specs.Inside.Steps.{obeyed, read_from}
+use Rattle.camp_script.specs.Pieces.{NumberedLine, numbered}
 use Rattle.camp_script.specs.Words.{◌>>=◌}
 use Rattle.camp_talk.specs.Asking.{asked_with}
 use Rattle.camp_talk.specs.declared.questions.Asked.TheVariants as asked
@@ -42,7 +44,9 @@ module _ (line : List ℕ) (skipped : is_skipped (words_of line) ≡ true) where
       ∙ ap (λ asked. obeyed 1 start asked >>= λ next. read_from 2 next []) (no_command (words_of line) skipped)
 
   alone : (rest : List (List ℕ)) → taken line rest ≡ rest → rest ≡ []
-  alone rest all = sym all ∙ ap (λ script. taken_by script rest) no_call
+  alone rest all =
+      sym all ∙ ap (λ b. command.taken (cond b (behind_word line) line) rest) (no_foresight (words_of line) skipped)
+      ∙ ap (λ asked. map (λ (l : NumberedLine). l.bytes) (command.taken_by asked (numbered 2 rest))) (no_command (words_of line) skipped)
 
   asks_nothing : asked_of (line ∷ []) ≡ Ok asked.Nothing
   asks_nothing = ap (asked_with (words_of line)) no_call ∙ nothing_asked (words_of line) skipped

@@ -12,23 +12,23 @@ pub use Rattle.camp_call.specs.declared.calls.Call.{Call}
 pub use Rattle.camp_script.proofs.LineLemmas.{lines-feed, lines-other, lines_without_end}
 pub use Rattle.camp_script.specs.Gives.{Gives, IsFaultOf}
 pub use Rattle.camp_script.specs.Lines.{is_blank, is_skipped, lines_of, without_end, words_of}
-pub use Rattle.camp_script.specs.Pieces.{Piece, begins_edit, begins_with, pieces, up_to}
+pub use Rattle.camp_script.specs.CommandLines.{HasRead, wants}
+pub use Rattle.camp_script.specs.Pieces.{begins_edit, begins_with}
+pub use Rattle.camp_script.specs.declared.command_lines.CommandLines.{CommandLines}
 pub use Rattle.camp_script.specs.Reading.{script_of, script_of_lines}
 pub use Rattle.camp_script.specs.Texts.{name_text, reply_text}
 pub use Rattle.camp_script.specs.declared.faults.LineFault.{LineFault}
 pub use Rattle.camp_script.specs.declared.faults.ScriptFault.{ScriptFault}
 pub use Rattle.camp_talk.specs.Answers.{Answers, Learns, Standing, Tells, TellsWant, is_silent}
 pub use Rattle.camp_talk.specs.Asking.{asked_by, asked_of, first_of, question_of, short_question}
-pub use Rattle.camp_talk.specs.Cutting.{IsCommand, IsLeft, TakesAll, as_read, body_of, call_line, call_lines, ends_body, ends_group, entries_of, entry_lines, group_of, lines_in, script_in, taken, taken_at, taken_by}
+pub use Rattle.camp_talk.specs.Cutting.{IsCommand, IsLeft, TakesAll, as_read, call_line, call_lines, lines_in, script_in, taken}
 pub use Rattle.camp_talk.specs.Entries.{Entries}
 pub use Rattle.camp_talk.specs.Inside.Hearing.{DoesOne, Hears, IsSaid, LearnsOf, LoadsOne}
-pub use Rattle.camp_talk.specs.Inside.Parts.{Ends, EndsAt, IsLine, IsLonger, IsReading, ReadsHeld, ReadsLine, ReadsLines, ReadsPart, StopsAtLine, StopsIn, Takes, ended, entry_part, feed_of, last_part, last_seen, seen_of, with_last}
+pub use Rattle.camp_talk.specs.Inside.Parts.{Ends, EndsAt, GoesOn, IsLine, IsLonger, IsReading, ReadsHeld, ReadsLine, ReadsLines, ReadsNext, StopsAtLine, Takes, ended, feed_of, last_seen, seen_of, with_last}
 pub use Rattle.camp_talk.specs.Inside.Said.{IsNotWriting, IsWriting, said_text}
 pub use Rattle.camp_talk.specs.Loads.{Done, Fails, TellsSuccess, Wants, tells_failure}
 pub use Rattle.camp_talk.specs.Talks.{AppendsSome, Breaks, EndsSo, Exchange, Exchanges, Follow, Holds, ReadsCommand, ReadsNone, ReadsTooMuch, ReadsWithin, Stops, Turns}
 pub use Rattle.camp_talk.specs.Told.{IsTold, annotated_line, catch_line, names_told}
-pub use Rattle.camp_talk.specs.declared.commands.Part.{Part}
-pub use Rattle.camp_talk.specs.declared.commands.Part.TheVariants.{Cut, More, Whole}
 pub use Rattle.camp_talk.specs.declared.lines.Seen.{Seen}
 pub use Rattle.camp_talk.specs.declared.questions.Asked.{Asked}
 pub use Rattle.camp_questions.specs.Dependencies.{AreHeldBy, AreNeeded}

@@ -1,15 +1,13 @@
 -- How the lines of a conversation fall into commands: a first line, and those that it takes with it.
-use Rattle.std.specs.Prelude.{◌≡◌, ℕ, Bool, false, nat_lt, List, [], ◌∷◌, ◌++◌, length, map, take, drop, Result, Ok, Err, bytes_eq, codes, if◌then◌else◌}
-use Rattle.std.specs.List.{flat_map}
+use Rattle.std.specs.Prelude.{◌≡◌, ℕ, nat_lt, List, [], ◌∷◌, ◌++◌, length, map, take, drop, Result, codes, if◌then◌else◌}
 use Rattle.camp_base.specs.Limits.{longest_line}
 use Rattle.camp_base.specs.Signs.{newline}
 use Rattle.camp_call.specs.declared.calls.Call.{Call}
 use Rattle.camp_script.specs.Behind.{behind_word}
+use Rattle.camp_script.specs.CommandLines as command
 use Rattle.camp_script.specs.Lines.{lines_of, words_of}
-use Rattle.camp_script.specs.Pieces.{Piece, begins_edit, begins_with, pieces, up_to}
+use Rattle.camp_script.specs.Pieces.{begins_with}
 use Rattle.camp_script.specs.Reading.{script_of_lines}
-use Rattle.camp_script.specs.declared.faults.FaultKind.{FaultKind}
-use Rattle.camp_script.specs.declared.faults.FaultKind.TheVariants.{EditNotEnded, GroupNotEnded}
 use Rattle.camp_script.specs.declared.faults.LineFault.{LineFault}
 
 -- bytes of a line that is read whole
@@ -41,45 +39,9 @@ call_lines (first ∷ rest) = call_line first ∷ rest
 abbrev pub script_in : List (List ℕ) → Result (List (List Call)) LineFault
 script_in lines = script_of_lines (call_lines lines)
 
--- whether a line ends the body of an edit: it is just `end`
-abbrev pub ends_body : List ℕ → Bool
-ends_body line = bytes_eq line (codes "end")
-
--- the lines of a body: up to `end`
-abbrev pub body_of : List (List ℕ) → List (List ℕ)
-body_of lines = up_to ends_body lines
-
--- lines in entries, as those of a script: a line, and for one that begins an edit the lines of its body
-abbrev pub entries_of : List (List ℕ) → List (Piece (List ℕ))
-entries_of lines = pieces (λ line. begins_edit (words_of line)) ends_body false lines
-
--- whether an entry ends a group: its first word is `done`
-abbrev pub ends_group : Piece (List ℕ) → Bool
-ends_group entry = begins_with (codes "done") (words_of entry.head)
-
--- the lines of an entry
-abbrev pub entry_lines : Piece (List ℕ) → List (List ℕ)
-entry_lines entry = entry.head ∷ entry.rest
-
--- the lines of a group: those of its entries, up to `done`
-abbrev pub group_of : List (List ℕ) → List (List ℕ)
-group_of lines = flat_map entry_lines (up_to ends_group (entries_of lines))
-
--- what a first line takes with it of the lines behind it, where its call has this fault as a script of its own
-abbrev pub taken_at : FaultKind → List (List ℕ) → List (List ℕ)
-taken_at EditNotEnded lines = body_of lines
-taken_at GroupNotEnded lines = group_of lines
-taken_at other lines = []
-
--- what a first line takes with it, by the script that its call is alone: a body, where its edit is not ended; a group,
--- where that is not ended; and nothing else, so that a first line with another fault stands alone
-abbrev pub taken_by : Result (List (List Call)) LineFault → List (List ℕ) → List (List ℕ)
-taken_by (Ok script) lines = []
-taken_by (Err fault) lines = taken_at fault.kind lines
-
--- what a first line takes with it of the lines behind it
+-- what a first line takes with it of the lines behind it, as its call does
 abbrev pub taken : List ℕ → List (List ℕ) → List (List ℕ)
-taken first lines = taken_by (script_of_lines (call_line first ∷ [])) lines
+taken first lines = command.taken (call_line first) lines
 
 -- bytes are a command: they end with a line, and whatever follows, the first line takes just those behind it
 pub record IsCommand (bytes : List ℕ) : Type 0 where

@@ -1,31 +1,21 @@
 //! What a command asks.
-ghost use Rattle.std.specs.Prelude.{◌≡◌, ◌≤◌, List, Result, length};
+ghost use Rattle.std.specs.Prelude.{◌≡◌, List, Result};
 ghost use Rattle.camp_call.specs.declared.calls.Call.{Call as SaidCall};
 ghost use Rattle.camp_script.specs.Gives.{Gives};
 ghost use Rattle.camp_script.specs.Lines.{is_skipped, lines_of, words_of};
 ghost use Rattle.camp_script.specs.declared.faults.LineFault.{LineFault as SaidFault};
 ghost use Rattle.camp_talk.specs.Asking.{asked_in, asked_with, call_in, first_of, foreseen_in, is_why, why_of};
-ghost use Rattle.camp_talk.specs.Cutting.{call_line, script_in};
+ghost use Rattle.camp_talk.specs.Cutting.{call_line};
 
 use crate::question_words::{fault, read_question};
 use crate::questions::{Asked, Question};
 use bstr::ByteSlice;
 use camp_call::Call;
-use camp_script::{
-    FaultKind, Script, ScriptFault, Words, begins_with, behind_word, read_script, without_end,
-};
+use camp_script::{FaultKind, Script, ScriptFault, Words, begins_with, behind_word, without_end};
 use std::alloc::Global;
 
-/// Reads the script that the call of a command is.
-pub(crate) fn read_script_in(alloc: Global, command: &[u8]) -> Result<Script, ScriptFault>
-    ensures { Gives result (script_in (lines_of command.now)) }
-{
-    let line = first_line(command);
-    let start = line.len() - call_line(line).len();
-    read_script(alloc, &command[start..])
-}
-
-fn call_line(line: &[u8]) -> &[u8]
+/// The call of a first line.
+pub(crate) fn call_line(line: &[u8]) -> &[u8]
     ensures { result.now ≡ call_line line.now }
 {
     if begins_with(line, b"whatif") {
@@ -72,7 +62,6 @@ pub(crate) fn read_asked(
 /// The first line of bytes; an empty one, where there is none.
 pub(crate) fn first_line(bytes: &[u8]) -> &[u8]
     ensures value { result.now ≡ first_of (lines_of bytes.now) }
-    ensures within { length result.now ≤ length bytes.now }
 {
     match bytes.lines_with_terminator().next() {
         Some(line) => without_end(line),

@@ -4,7 +4,6 @@
 mod accounts;
 mod answers;
 mod asking;
-mod commands;
 mod dialogues;
 mod faults;
 mod frames;

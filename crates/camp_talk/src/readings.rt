@@ -1,20 +1,20 @@
 //! A command of a reader, and what it asks.
 ghost use Rattle.std.specs.Prelude.{◌≡◌, length, Ok, true, IfOk, IfErr};
+ghost use Rattle.camp_script.specs.CommandLines.{wants};
 ghost use Rattle.camp_script.specs.Gives.{Gives};
 ghost use Rattle.camp_script.specs.Lines.{is_skipped, lines_of, words_of};
 ghost use Rattle.camp_talk.specs.Asking.{asked_of, first_of};
-ghost use Rattle.camp_talk.specs.Cutting.{script_in, taken_at};
-ghost use Rattle.camp_talk.specs.Inside.Parts.{IsReading, ReadsHeld, ReadsPart, StopsIn, last_part};
+ghost use Rattle.camp_talk.specs.Cutting.{script_in};
+ghost use Rattle.camp_talk.specs.Inside.Parts.{IsLonger, IsReading, ReadsHeld, ReadsNext, StopsAtLine};
 ghost use Rattle.camp_talk.specs.Talks.{ReadsWithin};
 ghost use Rattle.camp_talk.specs.declared.questions.Asked.{Asked as SaidAsked};
 
 use crate::TalkFault;
-use crate::asking::{first_line, is_skipped, read_asked, read_script_in};
-use crate::commands::{read_body, read_group};
-use crate::lines::read_line;
+use crate::asking::{call_line, first_line, is_skipped, read_asked};
+use crate::lines::{last_line, read_line};
 use crate::questions::Asked;
 use bstr::ByteSlice;
-use camp_script::{FaultKind, Script, ScriptFault};
+use camp_script::{CommandLines, Script, ScriptFault};
 use std::alloc::Global;
 use std::io::BufRead;
 
@@ -29,7 +29,7 @@ pub(crate) struct Command {
 
 // The lines of a command, and the script that its call is.
 #[derive(Drop)]
-struct CommandLines {
+struct Lines {
     bytes: Vec<u8>,
     is_whole: bool,
     script: Result<Script, ScriptFault>,
@@ -45,7 +45,7 @@ pub(crate) fn read_command<R: BufRead>(alloc: Global, reader: &mut R) -> Result<
     ensures fault { IfErr result IsReading }
     ensures within { IfErr result (λ why. ReadsWithin (R.remaining reader.old) (R.remaining reader.new)) }
 {
-    let CommandLines {
+    let Lines {
         bytes,
         is_whole,
         script,
@@ -63,7 +63,7 @@ pub(crate) fn read_command<R: BufRead>(alloc: Global, reader: &mut R) -> Result<
 }
 
 // Reads the lines of a command.
-fn read_lines<R: BufRead>(alloc: Global, reader: &mut R) -> Result<CommandLines, TalkFault>
+fn read_lines<R: BufRead>(alloc: Global, reader: &mut R) -> Result<Lines, TalkFault>
     ensures command { IfOk result (λ lines.
         ReadsHeld (R.remaining reader.old) (R.remaining reader.new) lines.is_whole lines.bytes.items) }
     ensures script { IfOk result (λ lines. Gives lines.script (script_in (lines_of lines.bytes.items))) }
@@ -71,49 +71,42 @@ fn read_lines<R: BufRead>(alloc: Global, reader: &mut R) -> Result<CommandLines,
     ensures within { IfErr result (λ why. ReadsWithin (R.remaining reader.old) (R.remaining reader.new)) }
 {
     let mut bytes = Vec::new(alloc);
-    let is_whole = read_line(reader, &mut bytes)?;
-    match read_script_in(alloc, &bytes) {
-        Ok(script) => Ok(CommandLines {
-            bytes,
-            is_whole,
-            script: Ok(script),
-        }),
-        Err(ScriptFault::Line(fault)) => {
-            if !is_whole {
-                return Ok(CommandLines {
-                    bytes,
-                    is_whole,
-                    script: Err(ScriptFault::Line(fault)),
-                });
-            }
-            let is_whole = read_rest(reader, &mut bytes, fault.kind)?;
-            let script = read_script_in(alloc, &bytes);
-            Ok(CommandLines {
-                bytes,
-                is_whole,
-                script,
-            })
-        }
-        Err(ScriptFault::Memory) => Err(TalkFault::Memory),
+    let mut is_whole = read_line(reader, &mut bytes)?;
+    let Ok(mut command) = CommandLines::new(alloc, call_line(first_line(&bytes))) else {
+        return Err(TalkFault::Memory);
+    };
+    while is_whole && command.wants_more() {
+        is_whole = read_next(reader, &mut bytes, &mut command)?;
     }
+    Ok(Lines {
+        bytes,
+        is_whole,
+        script: command.finish(),
+    })
 }
 
-// Reads what a first line takes with it, where it has a fault of this kind as a script of its own.
-fn read_rest<R: BufRead>(
+// Reads the next line of a command. Whether it has its LF; where it has none, the input has ended.
+fn read_next<R: BufRead>(
     reader: &mut R,
-    text: &mut Vec<u8>,
-    kind: FaultKind,
+    bytes: &mut Vec<u8>,
+    command: &mut CommandLines,
 ) -> Result<bool, TalkFault>
-    ensures part { IfOk result (λ whole. ReadsPart (R.remaining reader.old) (R.remaining reader.new)
-        (taken_at kind) (last_part whole) text.old.items text.new.items) }
+    requires { wants command.old.wanted ≡ true }
+    ensures next { IfOk result (λ whole. ReadsNext (R.remaining reader.old) (R.remaining reader.new)
+        whole bytes.old.items bytes.new.items command.old command.new) }
+    ensures longer { IfOk result (λ whole. whole ≡ true → IsLonger bytes.old.items bytes.new.items) }
     ensures fault { IfErr result IsReading }
-    ensures stops { IfErr result (λ why. StopsIn (R.remaining reader.old) (R.remaining reader.new) (taken_at kind)) }
+    ensures stops { IfErr result (λ why. StopsAtLine (R.remaining reader.old) (R.remaining reader.new)) }
 {
-    match kind {
-        FaultKind::EditNotEnded => read_body(reader, text),
-        FaultKind::GroupNotEnded => read_group(reader, text),
-        _ => Ok(true),
+    let start = bytes.len();
+    if read_line(reader, bytes)? {
+        command.read_line(last_line(bytes, start));
+        return Ok(true);
     }
+    if start < bytes.len() {
+        command.read_line(&bytes[start..]);
+    }
+    Ok(false)
 }
 
 /// The number of the lines of bytes.

@@ -10,6 +10,8 @@ use Rattle.camp_script.specs.Words.{◌>>=◌}
 use Rattle.camp_script.specs.Inside.Progress.{Progress, OpenRecord, OpenEdit, with_record, with_edit, with_open_edit}
 use Rattle.camp_script.specs.Inside.Progress.{with_one_more, record_at, after_call, after_head, after_client}
 use Rattle.camp_script.specs.Inside.Progress.{after_record, after_change, finished}
+use Rattle.camp_script.specs.declared.cuts.Wanted.{Wanted}
+use Rattle.camp_script.specs.declared.cuts.Wanted.TheVariants as want
 use Rattle.camp_script.specs.declared.faults.LineFault.{LineFault}
 
 -- after the line of a number, outside groups and bodies, by what it asks for
@@ -74,3 +76,8 @@ SaysSomethingIn (Some body) bytes = Unit {0}
 abbrev pub SaysSomething : Option OpenRecord → List ℕ → Type 0
 SaysSomething None bytes = is_skipped (words_of bytes) ≡ false
 SaysSomething (Some begun) bytes = SaysSomethingIn begun.open_edit bytes
+
+-- what a command takes behind its first line, by the record that this has opened
+abbrev pub wanted_in : Option OpenRecord → Wanted
+wanted_in None = want.Nothing
+wanted_in (Some begun) = if begun.grouped then want.Group else want.Body

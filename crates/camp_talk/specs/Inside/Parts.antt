@@ -3,10 +3,10 @@ use Rattle.std.specs.Prelude.{◌≡◌, ◌≢◌, ◌==◌, ◌^◌, ◌<◌, 
 use Rattle.std.specs.List.{All, flat_map}
 use Rattle.std.specs.Io.KnownBytes.{Consumes, IsAtEnd}
 use Rattle.camp_base.specs.Signs.{newline}
+use Rattle.camp_script.specs.CommandLines.{HasRead}
 use Rattle.camp_script.specs.Lines.{lines_of}
+use Rattle.camp_script.specs.declared.command_lines.CommandLines.{CommandLines}
 use Rattle.camp_talk.specs.Cutting.{as_read, lines_in}
-use Rattle.camp_talk.specs.declared.commands.Part.{Part}
-use Rattle.camp_talk.specs.declared.commands.Part.TheVariants as part
 use Rattle.camp_talk.specs.declared.faults.TalkFault.{TalkFault}
 use Rattle.camp_talk.specs.declared.faults.TalkFault.TheVariants.{Internal, Memory, Read, Write}
 use Rattle.camp_talk.specs.Talks.{ReadsCommand}
@@ -26,15 +26,10 @@ abbrev pub with_last : List (List ℕ) → List ℕ → List (List ℕ)
 with_last lines [] = lines
 with_last lines (byte ∷ last) = lines ++ (byte ∷ last) ∷ []
 
--- what was read, where that is all that is taken or all that there is
-abbrev pub last_part : Bool → Part
-last_part true = part.Whole
-last_part false = part.Cut
-
--- what was read, where that is the last of what is taken, or more is to come
-abbrev pub entry_part : Bool → Part
-entry_part true = part.Whole
-entry_part false = part.More
+-- where these lines of a command were read, these more are read behind them
+abbrev pub GoesOn : CommandLines → CommandLines → List (List ℕ) → Type 0
+GoesOn before after more =
+    (first : List ℕ) (rest : List (List ℕ)) → HasRead before first rest → HasRead after first (rest ++ more)
 
 -- what is seen of a line where so many bytes are shown, and so many of them stand before an LF
 abbrev pub seen_of : ℕ → ℕ → Seen
@@ -60,12 +55,6 @@ module _ (remaining rest : Option (List ℕ)) where
     pub some : List ℕ
     pub reads : Consumes remaining rest some
     pub one : length (lines_of some) ≤ 1
-
-  -- of the lines that are taken some were read, and maybe a part of the next: no other
-  pub record StopsIn (take : List (List ℕ) → List (List ℕ)) : Type 0 where
-    pub some : List ℕ
-    pub reads : Consumes remaining rest some
-    pub all : take (lines_in some) ≡ lines_in some
 
   -- where the end of the input is seen, nothing is left
   abbrev pub EndsAt : Seen → Type 0
@@ -96,15 +85,11 @@ module _ (remaining rest : Option (List ℕ)) where
   ReadsLine true old new = (line : List ℕ) × ReadsLines old new (line ∷ []) []
   ReadsLine false old new = (last : List ℕ) × ReadsLines old new [] last × Ends
 
-  -- of the lines that are taken: some were read, and more are to come; all were, whatever follows; or the input has
-  -- ended, and all that it had are taken
-  abbrev pub ReadsPart : (List (List ℕ) → List (List ℕ)) → Part → List ℕ → List ℕ → Type 0
-  ReadsPart take part.More old new = (lines : List (List ℕ)) × ReadsLines old new lines []
-      × ((others : List (List ℕ)) → take (lines ++ others) ≡ lines ++ take others)
-  ReadsPart take part.Whole old new = (lines : List (List ℕ)) × ReadsLines old new lines []
-      × ((others : List (List ℕ)) → take (lines ++ others) ≡ lines)
-  ReadsPart take part.Cut old new = (lines : List (List ℕ)) × (last : List ℕ) × ReadsLines old new lines last
-      × (take (with_last lines last) ≡ with_last lines last) × Ends
+  -- the next line of a command was read, and handed on; or the input has ended, and what had no LF was
+  abbrev pub ReadsNext : Bool → List ℕ → List ℕ → CommandLines → CommandLines → Type 0
+  ReadsNext true old new before after = (line : List ℕ) × ReadsLines old new (line ∷ []) [] × GoesOn before after (line ∷ [])
+  ReadsNext false old new before after =
+      (last : List ℕ) × ReadsLines old new [] last × GoesOn before after (with_last [] last) × Ends
 
   -- a command was read, and bytes are its lines, as they are read
   pub record ReadsHeld (whole : Bool) (held : List ℕ) : Type 0 where

@@ -1,0 +1,86 @@
+//! Commands whose lines come one by one.
+ghost use Rattle.std.specs.Prelude.{◌≡◌, ◌∷◌, ◌++◌, [], List, ℕ, IfOk, true};
+ghost use Rattle.camp_script.specs.CommandLines.{HasRead, wants};
+ghost use Rattle.camp_script.specs.Gives.{Gives};
+ghost use Rattle.camp_script.specs.Reading.{script_of_lines};
+
+use crate::cuts::Wanted;
+use crate::faults::ScriptFault;
+use crate::readings::Reading;
+use crate::scripts::Script;
+use std::alloc::{AllocError, Global};
+
+/// A command as its lines come: its first line, and those of the body or of the group that it takes with it. Behind a
+/// fault the others are passed over up to `end` or `done`.
+#[derive(Drop)]
+pub struct CommandLines {
+    reading: Reading,
+    number: u64,
+    fault: Option<ScriptFault>,
+    wanted: Wanted,
+}
+
+impl CommandLines {
+    /// The command that begins with a line.
+    pub fn new(alloc: Global, line: &[u8]) -> Result<CommandLines, AllocError>
+        ensures first { IfOk result (λ command. HasRead command line.now []) }
+    {
+        let mut reading = Reading::new(alloc);
+        match reading.read_line(1, line) {
+            Ok(()) => {
+                let wanted = reading.wanted();
+                Ok(CommandLines {
+                    reading,
+                    number: 1,
+                    fault: None,
+                    wanted,
+                })
+            }
+            Err(ScriptFault::Line(fault)) => Ok(CommandLines {
+                reading,
+                number: 1,
+                fault: Some(ScriptFault::Line(fault)),
+                wanted: Wanted::Nothing,
+            }),
+            Err(ScriptFault::Memory) => Err(AllocError),
+        }
+    }
+
+    /// Whether it takes one more line.
+    pub fn wants_more(&self) -> bool
+        ensures exact { result ≡ wants self.now.wanted }
+    {
+        !matches!(self.wanted, Wanted::Nothing)
+    }
+
+    /// Reads the next line. Where memory runs out, or there is no number for the line, the command has the fault
+    /// that memory ran out.
+    pub fn read_line(&mut self, line: &[u8])
+        requires { wants self.old.wanted ≡ true }
+        ensures next { (first : List ℕ) (rest : List (List ℕ)) → HasRead self.old first rest → HasRead self.new first (rest ++ line.now ∷ []) }
+    {
+        self.wanted = self.wanted.after(line);
+        if self.fault.is_some() {
+            return;
+        }
+        let Some(number) = self.number.checked_add(1) else {
+            self.fault = Some(ScriptFault::Memory);
+            return;
+        };
+        self.number = number;
+        if let Err(fault) = self.reading.read_line(number, line) {
+            self.fault = Some(fault);
+        }
+    }
+
+    /// The script that its lines are.
+    pub fn finish(self) -> Result<Script, ScriptFault>
+        ensures given { (first : List ℕ) (rest : List (List ℕ)) → HasRead self first rest → Gives result (script_of_lines (first ∷ rest)) }
+    {
+        let CommandLines { reading, fault, .. } = self;
+        match fault {
+            Some(fault) => Err(fault),
+            None => reading.finish(),
+        }
+    }
+}

@@ -1,9 +1,0 @@
-use Rattle.camp_talk.proofs.Words.{group_of, ReadsPart, More, ◌-◌, ◌^◌, length}
-use Rattle.camp_talk.proofs.commands.read_group.Given as goal
-
-abbrev pub invariant-loop : goal.invariant-loop
-invariant-loop g l =
-    ReadsPart (g.R.Read.remaining l.initial.reader) (g.R.Read.remaining l.reader) group_of More l.initial.text.items l.text.items
-
-abbrev pub decreases-loop : goal.decreases-loop
-decreases-loop g l = 2 ^ 64 - length l.text.items
