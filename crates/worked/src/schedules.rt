@@ -10,6 +10,7 @@ pub(crate) mod orders;
 pub(crate) mod players;
 pub(crate) mod replays;
 pub(crate) mod scripts;
+pub(crate) mod talks;
 
 use crate::plays::faults::PlayFault;
 use crate::plays::runs::{Way, output_of};

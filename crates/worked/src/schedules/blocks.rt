@@ -2,7 +2,7 @@
 //! the script.
 use crate::plays::commands::{append_line, read_numbers};
 use crate::plays::faults::PlayFault;
-use crate::schedules::ends::{Side, play_ends};
+use crate::schedules::ends::{FRAMES, Means, RUNS, Side, TALK, play_ends};
 use crate::schedules::gates::Delays;
 use crate::schedules::orders::play_script;
 use crate::schedules::replays::Counts;
@@ -26,12 +26,11 @@ enum Task {
     Open,
     Orders,
     Drawn,
-    Reads,
-    Writes,
+    Ends(&'static [Means], Side),
 }
 
 /// What the line of a task begins with and ends with. Its numbers stand between.
-const TASKS: [(&[u8], &[u8], Task); 9] = [
+const TASKS: [(&[u8], &[u8], Task); 13] = [
     (b"each", b" output", Task::Each),
     (b"locked", b" counts", Task::Locked),
     (b"head ", b" output", Task::Output),
@@ -39,8 +38,12 @@ const TASKS: [(&[u8], &[u8], Task); 9] = [
     (b"head ", b" open", Task::Open),
     (b"orders ", b"", Task::Orders),
     (b"drawn ", b"", Task::Drawn),
-    (b"reads ", b"", Task::Reads),
-    (b"writes ", b"", Task::Writes),
+    (b"reads ", b"", Task::Ends(&RUNS, Side::Reads)),
+    (b"writes ", b"", Task::Ends(&RUNS, Side::Writes)),
+    (b"talk reads ", b"", Task::Ends(&TALK, Side::Reads)),
+    (b"talk writes ", b"", Task::Ends(&TALK, Side::Writes)),
+    (b"frames reads ", b"", Task::Ends(&FRAMES, Side::Reads)),
+    (b"frames writes ", b"", Task::Ends(&FRAMES, Side::Writes)),
 ];
 
 /// The task that a line says, and its numbers.
@@ -108,8 +111,7 @@ impl Block {
                 &self.delays,
             )),
             Task::Orders => play_script(rt, alloc, script, numbers[0]),
-            Task::Reads => play_ends(rt, alloc, script, Side::Reads, numbers),
-            Task::Writes => play_ends(rt, alloc, script, Side::Writes, numbers),
+            Task::Ends(all, side) => play_ends(rt, alloc, script, all, side, numbers),
             _ => counts_text(alloc, task, self.counts(rt, alloc, task, numbers[0])),
         }
     }

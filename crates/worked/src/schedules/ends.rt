@@ -1,10 +1,11 @@
 //! Readers and writers that serve a few bytes a call, are interrupted, and fail at each of their calls.
 use crate::plays::faults::PlayFault;
-use crate::plays::runs::{Way, output_of, run_way};
+use crate::plays::runs::{Way, run_way};
+use crate::schedules::talks::{Form, hold};
 use camp_run::RunFault;
 use std::alloc::Global;
 use std::io;
-use std::io::{ErrorKind, Read, Write};
+use std::io::{BufReader, ErrorKind, Read, Write};
 use std::sync::Wait;
 use std::thread::Threads;
 
@@ -33,6 +34,15 @@ impl Calls {
 
     fn ample() -> Calls {
         Calls::new(u32::MAX, 0, usize::MAX, None)
+    }
+
+    /// One call that moves no bytes. It is not interrupted.
+    fn next_flush(&mut self) -> io::Result<()> {
+        if self.served > 0 {
+            self.served -= 1;
+            return Ok(());
+        }
+        Err(self.last.unwrap_or(ErrorKind::WriteZero).into())
     }
 
     /// How many of so many bytes the next call moves.
@@ -70,12 +80,27 @@ impl<'a> Read for Reader<'a> {
     }
 }
 
-/// Is to take these bytes.
+/// Is to take these bytes. What it took stands there at once, or where it is flushed.
 #[derive(Drop)]
 struct Writer<'a> {
     rest: &'a [u8],
     took_others: bool,
+    holds: bool,
+    /// How many bytes of the rest stand there when those that it holds do not.
+    unseen: usize,
     calls: Calls,
+}
+
+impl<'a> Writer<'a> {
+    fn new(answers: &'a [u8], holds: bool, calls: Calls) -> Writer<'a> {
+        Writer {
+            rest: answers,
+            took_others: false,
+            holds,
+            unseen: answers.len(),
+            calls,
+        }
+    }
 }
 
 impl<'a> Write for Writer<'a> {
@@ -85,10 +110,17 @@ impl<'a> Write for Writer<'a> {
             Some(rest) => self.rest = rest,
             None => self.took_others = true,
         }
+        if !self.holds {
+            self.unseen = self.rest.len();
+        }
         Ok(count)
     }
 
     fn flush(&mut self) -> io::Result<()> {
+        if self.holds {
+            self.calls.next_flush()?;
+        }
+        self.unseen = self.rest.len();
         Ok(())
     }
 }
@@ -111,12 +143,55 @@ const WRITER_FAILS: [Option<ErrorKind>; 3] = [
     Some(ErrorKind::OutOfMemory),
 ];
 
+/// How a script is answered: it is run, or it is a conversation.
+#[derive(Clone, Copy)]
+pub(crate) enum Means {
+    Run(Way),
+    Talk(Form),
+}
+
+/// What is told by each of them has to be the same.
+pub(crate) const RUNS: [Means; 3] = [
+    Means::Run(Way::Book),
+    Means::Run(Way::Locked),
+    Means::Run(Way::Head),
+];
+
+pub(crate) const TALK: [Means; 1] = [Means::Talk(Form::Lines)];
+
+pub(crate) const FRAMES: [Means; 1] = [Means::Talk(Form::Frames)];
+
+impl Means {
+    /// The writer of a conversation is flushed behind each answer.
+    fn flushes(self) -> bool {
+        matches!(self, Means::Talk(_))
+    }
+
+    fn answer<T: Threads + Wait + Sync, R: Read, W: Write>(
+        self,
+        rt: &T,
+        alloc: Global,
+        reader: &mut R,
+        writer: &mut W,
+        error: ErrorKind,
+    ) -> Result<Result<(), RunFault>, PlayFault> {
+        match self {
+            Means::Run(way) => Ok(run_way(rt, alloc, way, false, reader, writer)),
+            Means::Talk(form) => {
+                let reader = BufReader::new(alloc, reader)?;
+                hold(alloc, form, reader, writer, error)
+            }
+        }
+    }
+}
+
 /// A script and its answers, and a side that fails: it moves up to so many bytes a call, and is
 /// interrupted so many times before each.
 #[derive(Clone, Copy)]
 struct Plan<'a> {
     script: &'a [u8],
     answers: &'a [u8],
+    all: &'static [Means],
     side: Side,
     size: u32,
     times: u32,
@@ -137,12 +212,12 @@ impl<'a> Plan<'a> {
         }
     }
 
-    /// Runs the script one way, where so many calls are served.
+    /// Answers the script by these means, where so many calls are served.
     fn end<R: Threads + Wait + Sync>(
         self,
         rt: &R,
         alloc: Global,
-        way: Way,
+        means: Means,
         served: usize,
         last: Option<ErrorKind>,
     ) -> Result<End, PlayFault> {
@@ -155,12 +230,9 @@ impl<'a> Plan<'a> {
             rest: self.script,
             calls: reads,
         };
-        let mut writer = Writer {
-            rest: self.answers,
-            took_others: false,
-            calls: writes,
-        };
-        let result = run_way(rt, alloc, way, false, &mut reader, &mut writer);
+        let mut writer = Writer::new(self.answers, means.flushes(), writes);
+        let error = last.unwrap_or(ErrorKind::WriteZero);
+        let result = means.answer(rt, alloc, &mut reader, &mut writer, error)?;
         if result == Err(RunFault::Memory) {
             return Err(PlayFault::Memory);
         }
@@ -169,7 +241,7 @@ impl<'a> Plan<'a> {
         }
         Ok(End {
             result,
-            written: self.answers.len().saturating_sub(writer.rest.len()),
+            written: self.answers.len().saturating_sub(writer.unseen),
         })
     }
 }
@@ -199,26 +271,44 @@ impl Told {
     }
 }
 
-/// The answers to a script, and what runs come to of which none, one, two and so on of the calls on a side
+/// The answers to a script, and what comes of it where none, one, two and so on of the calls on a side
 /// are served, up to those that are answered.
 pub(crate) fn play_ends<R: Threads + Wait + Sync>(
     rt: &R,
     alloc: Global,
     script: &[u8],
+    all: &'static [Means],
     side: Side,
     numbers: [u32; 2],
 ) -> Result<Vec<u8>, PlayFault> {
-    let mut text = output_of(rt, alloc, Way::Book, script, false)?;
+    let mut text = answers_of(rt, alloc, script, all)?;
     let [size, times] = numbers;
     let plan = Plan {
         script,
         answers: &text,
+        all,
         side,
         size,
         times,
     };
     let told = ends_of(rt, alloc, plan)?;
     text.extend_from_slice(&told)?;
+    Ok(text)
+}
+
+/// The answers to a script by the first of some means.
+fn answers_of<R: Threads + Wait + Sync>(
+    rt: &R,
+    alloc: Global,
+    script: &[u8],
+    all: &[Means],
+) -> Result<Vec<u8>, PlayFault> {
+    let mut text = Vec::new(alloc);
+    let Some(means) = all.first() else {
+        return Ok(text);
+    };
+    let mut reader = script;
+    means.answer(rt, alloc, &mut reader, &mut text, ErrorKind::Other)??;
     Ok(text)
 }
 
@@ -249,8 +339,8 @@ fn end_each_way<R: Threads + Wait + Sync>(
     served: usize,
     told: &mut Told,
 ) -> Result<(), PlayFault> {
-    for way in [Way::Book, Way::Locked, Way::Head] {
-        end_one_way(rt, alloc, plan, way, served, told)?;
+    for means in plan.all {
+        end_one_way(rt, alloc, plan, *means, served, told)?;
     }
     Ok(())
 }
@@ -259,12 +349,12 @@ fn end_one_way<R: Threads + Wait + Sync>(
     rt: &R,
     alloc: Global,
     plan: Plan<'_>,
-    way: Way,
+    means: Means,
     served: usize,
     told: &mut Told,
 ) -> Result<(), PlayFault> {
     for last in plan.fails() {
-        let end = plan.end(rt, alloc, way, served, *last)?;
+        let end = plan.end(rt, alloc, means, served, *last)?;
         told.note(end)?;
     }
     Ok(())

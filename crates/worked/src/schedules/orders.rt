@@ -4,7 +4,7 @@ use crate::schedules::batons::Baton;
 use crate::schedules::players::Player;
 use crate::schedules::{expect_same, output_over_head};
 use camp_repo::{Book, Call, State};
-use camp_script::{append_history, read_script};
+use camp_script::{read_script, write_history};
 use std::alloc::{AllocError, Global};
 use std::sync::Wait;
 use std::thread::Threads;
@@ -73,19 +73,19 @@ impl<'a> Game<'a> {
     }
 
     /// The answers and the history.
-    fn text(&self, alloc: Global) -> Result<Vec<u8>, AllocError> {
+    fn text(&self, alloc: Global) -> Result<Vec<u8>, PlayFault> {
         let mut text = Vec::new(alloc);
-        self.append_text(&mut text)?;
+        self.append_clients(&mut text)?;
+        write_history(alloc, self.book.history(), &mut text)?;
         Ok(text)
     }
 
-    fn append_text(&self, text: &mut Vec<u8>) -> Result<(), AllocError> {
+    fn append_clients(&self, text: &mut Vec<u8>) -> Result<(), AllocError> {
         text.extend_from_slice(&self.opening.text)?;
         text.extend_from_slice(b"client 1\n")?;
         text.extend_from_slice(&self.first.text)?;
         text.extend_from_slice(b"client 2\n")?;
-        text.extend_from_slice(&self.second.text)?;
-        append_history(text, self.book.history())
+        text.extend_from_slice(&self.second.text)
     }
 }
 
