@@ -6,6 +6,8 @@
 //!   So they are joined to the context at once, and the rest is added one by one.
 //! - What a primitive passes as it is, and what is its own normal order then, stays as it is where the
 //!   primitive is added, and is shared.
+//! - Whether a look tells that the context, and the whole, is its own normal order is found out once, when a
+//!   contexted patch is made, and kept with it (`Contexted::context_is_ordered`, `whole_is_ordered`).
 //! - A patch without a context, whose inverse passes the whole of another contexted patch as it is, does
 //!   not conflict with it: the two merge with nothing in common. No list is made of it.
 //! - Contexted patches that change other files, under other absolute labels, do not conflict: their normal
