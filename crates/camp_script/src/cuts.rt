@@ -16,9 +16,9 @@ pub fn begins_with(line: &[u8], word: &[u8]) -> bool
     }
 }
 
-// Whether a line begins an edit, whose body follows, by its first words alone.
-fn begins_edit(line: &[u8]) -> bool
-    ensures { result ≡ begins_edit (words_of line.now) }
+/// Whether a line begins an edit, whose body follows, by its first words alone.
+pub fn begins_edit(line: &[u8]) -> bool
+    ensures exact { result ≡ begins_edit (words_of line.now) }
 {
     let mut words = Words::new(line);
     let Some(first) = words.next() else {

@@ -20,7 +20,7 @@ mod writing;
 
 pub use canonical::{canonical_text_reads_back, what_is_read_can_be_written};
 pub use command_lines::CommandLines;
-pub use cuts::begins_with;
+pub use cuts::{begins_edit, begins_with};
 pub use faults::{CallFault, FaultKind, LineFault, ScriptFault, WriteFault};
 pub use histories::{append_history, write_history};
 pub use lines::{FirstWords, Words, behind_word, first_words, without_end};
