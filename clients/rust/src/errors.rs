@@ -86,7 +86,8 @@ pub enum Refusal {
         /// What it stands on.
         on: Name,
     },
-    /// The two branches have this patch in forms that do not agree, or it can't be brought before what only one has.
+    /// Both branches have this patch, but in one of them it can't be brought before what only that one has; or the two
+    /// have it in forms that do not agree.
     Disagrees(Name),
     /// Two patches do not merge.
     DoesNotMerge {
