@@ -1,6 +1,7 @@
 mod Words
 pub mod CanonicalCommands
 pub mod CountLemmas
+pub mod CutOff
 pub mod Cuts
 pub mod Failing
 pub mod Firsts

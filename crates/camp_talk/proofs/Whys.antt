@@ -9,7 +9,7 @@ use Rattle.camp_call.specs.declared.replies.Refusal.{Refusal}
 use Rattle.camp_call.specs.declared.replies.Refusal.TheVariants as refusal
 use Rattle.camp_call.specs.declared.replies.Reply.TheVariants.{Refused}
 use Rattle.camp_repo.specs.States.{Contents}
-use Rattle.camp_talk.specs.Accounts.{Account}
+use Rattle.camp_talk.specs.Accounts.{Account, passed}
 use Rattle.camp_talk.specs.Against.{call_about, sides_text, target}
 use Rattle.camp_talk.specs.Asking.{reason_at}
 use Rattle.camp_talk.specs.Laws.{CausesAreTold, FaultsAreTold, NamesCause, RefusalsAreTold, names_in}
@@ -129,5 +129,5 @@ faults_told before state command answer fault asks own = record {
   line = line_at fault.line (lines_in command);
   is = refl;
   tells = ap (λ reading. (cause_with before state (lines_in command) reading answer).told) asks
-      ∙ ap (λ (other : Bool). (cond other before (fault_account fault (lines_in command) answer)).told) own;
+      ∙ ap (λ (other : Bool). (cond other (passed before (first_of (lines_in command))) (fault_account fault (lines_in command) answer)).told) own;
 }

@@ -1,19 +1,91 @@
 -- What a conversation keeps for `why`.
-use Rattle.std.specs.Prelude.{ℕ, Bool, false, ◌||◌, ◌==◌, List, [], length, bytes_eq, codes, if◌then◌else◌}
+use Rattle.std.specs.Prelude.{ℕ, Bool, true, false, ◌||◌, ◌==◌, List, [], ◌∷◌, length, bytes_eq, codes, if◌then◌else◌}
+use Rattle.camp_script.specs.Behind.{behind_word}
+use Rattle.camp_script.specs.Lines.{words_of}
+use Rattle.camp_script.specs.Pieces.{begins_edit, begins_with}
+use Rattle.camp_talk.specs.declared.awaited.Awaited.{Awaited}
+use Rattle.camp_talk.specs.declared.awaited.Awaited.TheVariants.{Body, Group, GroupBody, Nothing}
+use Rattle.camp_why.specs.Hints.{call_part, first_word}
 
--- what is kept of the last fault or refusal: the lines that tell why, none where there was none; and whether it was a
--- fault in the first line of an edit or a group, behind which no other command came yet: the lines of its body may follow
+-- ---- the lines of a command that was cut off
+
+-- whether a line of it may still come
+abbrev pub awaits_some : Awaited → Bool
+awaits_some Nothing = false
+awaits_some Body = true
+awaits_some Group = true
+awaits_some GroupBody = true
+
+-- which may come behind a line: as in a command that is not cut off, a body ends with `end`, and a group with `done`
+abbrev pub awaited_after : Awaited → List ℕ → Awaited
+awaited_after Nothing line = Nothing
+awaited_after Body line = if bytes_eq line (codes "end") then Nothing else Body
+awaited_after GroupBody line = if bytes_eq line (codes "end") then Group else GroupBody
+awaited_after Group line =
+    if begins_edit (words_of line) then GroupBody
+    else (if begins_with (codes "done") (words_of line) then Nothing else Group)
+
+-- whether a word is one of three: small, with a capital letter, and in capitals
+abbrev pub is_form : List ℕ → List ℕ → List ℕ → List ℕ → Bool
+is_form small capital capitals word = bytes_eq word small || (bytes_eq word capital || bytes_eq word capitals)
+
+-- whether a line is a record, by its first word; of one behind `whatif`, by that behind it
+abbrev pub is_record : List ℕ → Bool
+is_record line =
+    is_form (codes "record") (codes "Record") (codes "RECORD") (first_word (words_of (call_part line)))
+
+-- whether a word of a record says that no lines follow
+abbrev pub is_short : List ℕ → Bool
+is_short word =
+    is_form (codes "add") (codes "Add") (codes "ADD") word || is_form (codes "remove") (codes "Remove") (codes "REMOVE") word
+
+-- whether it says that those of a group do, also where LF has CR before it
+abbrev pub is_group : List ℕ → Bool
+is_group word =
+    is_form (codes "group") (codes "Group") (codes "GROUP") word
+    || is_form (codes "group\r") (codes "Group\r") (codes "GROUP\r") word
+
+-- whether it says that those of a body do
+abbrev pub is_edit : List ℕ → Bool
+is_edit word = is_form (codes "edit") (codes "Edit") (codes "EDIT") word
+
+-- which lines follow, by the first of some words that says it; else these
+abbrev pub said_in : List (List ℕ) → Awaited → Awaited
+said_in [] other = other
+said_in (word ∷ words) other =
+    if is_short word then Nothing
+    else (if is_group word then Group
+    else (if is_edit word then Body
+    else said_in words other))
+
+-- which lines follow a record, by what stands behind its branch: by the words behind the name, as its change is one of
+-- them; else by the word in the place of the name, which may be forgotten; else a body
+abbrev pub left_behind : List ℕ → Awaited
+left_behind line = said_in (words_of (behind_word line)) (said_in (words_of line) Body)
+
+-- which lines follow a line that is cut off from them: none, where it is no record
+abbrev pub left_by : List ℕ → Awaited
+left_by line = if is_record line then left_behind (behind_word (behind_word (call_part line))) else Nothing
+
+-- ---- what is kept
+
+-- what is kept of the last fault or refusal: the lines that tell why, none where there was none; and which lines of its
+-- command may still come, where that is a record that was cut off by a fault in its first line
 pub record Account : Type 0 where
   pub told : List ℕ
-  pub inside : Bool
+  pub awaited : Awaited
 
 -- of no fault and no refusal
 abbrev pub no_account : Account
-no_account = record { told = []; inside = false }
+no_account = record { told = []; awaited = Nothing }
 
--- the same lines; those of a body are over
+-- the same lines; none of its command may come
 abbrev pub closed : Account → Account
-closed account = record { told = account.told; inside = false }
+closed account = record { told = account.told; awaited = Nothing }
+
+-- the same lines; one of its command came
+abbrev pub passed : Account → List ℕ → Account
+passed account line = record { told = account.told; awaited = awaited_after account.awaited line }
 
 -- whether an answer leaves a conversation at its place: there is none, or memory ran out
 abbrev pub leaves_place : List ℕ → Bool

@@ -16,7 +16,7 @@ longest_read = 1_048_576
 
 -- a line as it is read. A longer one than that is too long: its first byte is read, `?` in place of the second, and then
 -- as many bytes as a line of a file has at most. So it begins no command; in a body it has the fault of a line that is
--- too long; and a comment stays one, where `#` is its first byte.
+-- too long, where it has a sign; and a comment stays one, where `#` is its first byte.
 abbrev pub as_read : List ℕ → List ℕ
 as_read [] = []
 as_read (first ∷ rest) =

@@ -18,7 +18,7 @@ use Rattle.camp_script.specs.Keeping.{calls_of, kept_text}
 use Rattle.camp_script.specs.Lines.{lines_of}
 use Rattle.camp_script.specs.Texts.{reply_text}
 use Rattle.camp_script.specs.declared.faults.LineFault.{LineFault}
-use Rattle.camp_talk.specs.Accounts.{Account}
+use Rattle.camp_talk.specs.Accounts.{Account, awaits_some, is_record, left_by, passed}
 use Rattle.camp_talk.specs.Against.{absent_sides, call_about, lack_text, lacked_text, no_branch_text, sides_text, target}
 use Rattle.camp_talk.specs.Answers.{Answers, Standing, memory_text}
 use Rattle.camp_talk.specs.Asking.{asked_by, first_of}
@@ -29,7 +29,7 @@ use Rattle.camp_talk.specs.Frames.{Counter, ServesAt, ServesInTurn}
 use Rattle.camp_talk.specs.Loads.{Loads, tells_failure}
 use Rattle.camp_talk.specs.Refusals.{reason_of, saying}
 use Rattle.camp_talk.specs.Told.{counted}
-use Rattle.camp_talk.specs.Whys.{cause_found, cause_of, cause_text, comes_of_another, cure_at, hint_text, line_at, refusal_told, rule, shown_line, word_text}
+use Rattle.camp_talk.specs.Whys.{cause_found, cause_of, cause_text, comes_of_another, cure_at, fault_lines, hint_text, is_unknown, line_at, refusal_told, rule, shown_line, word_text}
 use Rattle.camp_talk.specs.declared.faults.LoadFault.TheVariants.{Answer, Memory, Talk}
 use Rattle.camp_talk.specs.declared.faults.LoadFault.{LoadFault}
 use Rattle.camp_talk.specs.declared.questions.Asked.TheVariants as asked
@@ -158,5 +158,31 @@ pub record TellsFault (fault : LineFault) (command answer lines : List ℕ) : Ty
 abbrev pub FaultsAreTold : Type 0
 FaultsAreTold =
     (before : Account) (state : Contents) (command answer : List ℕ) (fault : LineFault) → asked_by command ≡ Err fault →
-    comes_of_another before.inside fault.kind (lines_in command) ≡ false →
+    comes_of_another before.awaited fault.kind (first_of (lines_in command)) ≡ false →
     TellsFault fault command answer (cause_of before state command answer).told
+
+-- what is kept of a command is of a record that was cut off: the command has a fault in its first line, which is one of a
+-- record; the lines tell of it; and those may come that follow such a line
+pub record IsCutOff (command answer : List ℕ) (now : Account) : Type 0 where
+  pub fault : LineFault
+  pub asks : asked_by command ≡ Err fault
+  pub first : fault.line ≡ 1
+  pub is : is_record (first_of (lines_in command)) ≡ true
+  pub tells : now.told ≡ fault_lines fault.kind (first_of (lines_in command)) answer
+  pub awaits : now.awaited ≡ left_by (first_of (lines_in command))
+
+-- what was kept before waits for a line, and the command is taken for it, as it has the fault of a line that begins no
+-- command, and is no record: the same is told
+pub record IsNextLine (before : Account) (command : List ℕ) (now : Account) : Type 0 where
+  pub fault : LineFault
+  pub asks : asked_by command ≡ Err fault
+  pub awaits : awaits_some before.awaited ≡ true
+  pub unknown : is_unknown fault.kind ≡ true
+  pub other : is_record (first_of (lines_in command)) ≡ false
+  pub is : now ≡ passed before (first_of (lines_in command))
+
+-- only so what is kept of a command that is not done waits for lines
+abbrev pub RecordsAreAwaited : Type 0
+RecordsAreAwaited =
+    (before : Account) (state : Contents) (command answer : List ℕ) → awaits_some (cause_of before state command answer).awaited ≡ true →
+    IsCutOff command answer (cause_of before state command answer) ⊎ IsNextLine before command (cause_of before state command answer)

@@ -1,29 +1,30 @@
 -- What is told of the last command that was not done.
-use Rattle.std.specs.Prelude.{ℕ, ◌-◌, Bool, true, false, ◌||◌, ◌&&◌, ◌==◌, List, [], ◌∷◌, ◌++◌, length, drop, take, nat_lt, Option, None, Some, Result, Ok, Err, bytes_eq, codes, if◌then◌else◌}
+use Rattle.std.specs.Prelude.{ℕ, ◌-◌, Bool, true, false, not, ◌||◌, ◌&&◌, ◌==◌, List, [], ◌∷◌, ◌++◌, length, drop, take, nat_lt, Option, None, Some, Result, Ok, Err, bytes_eq, codes, if◌then◌else◌}
 use Rattle.std.specs.Char.{is_ascii_whitespace}
 use Rattle.std.specs.Fmt.{decimal}
 use Rattle.std.specs.List.{suffix_len}
 use Rattle.camp_call.specs.declared.calls.Call.{Call}
 use Rattle.camp_call.specs.declared.replies.Refusal.TheVariants as refusal
 use Rattle.camp_repo.specs.States.{Contents}
-use Rattle.camp_script.specs.Behind.{behind_word}
 use Rattle.camp_script.specs.Lines.{lines_of, words_of}
 use Rattle.camp_script.specs.declared.faults.FaultKind.{FaultKind}
 use Rattle.camp_script.specs.declared.faults.FaultKind.TheVariants as kind
 use Rattle.camp_script.specs.declared.faults.LineFault.{LineFault}
-use Rattle.camp_talk.specs.Accounts.{Account}
+use Rattle.camp_talk.specs.Accounts.{Account, awaits_some, is_record, left_by, passed}
 use Rattle.camp_talk.specs.Against.{about, absent_sides, branches_line, depends_cure, lacked_text, new_text, nothing_text, record_cure, recorded_text, sides_text, target}
 use Rattle.camp_talk.specs.Asking.{asked_by, first_of, reason_at}
 use Rattle.camp_talk.specs.Cutting.{lines_in}
 use Rattle.camp_talk.specs.Pages.{page}
 use Rattle.camp_talk.specs.Refusals.{cure, saying}
 use Rattle.camp_talk.specs.Told.{counted}
+use Rattle.camp_talk.specs.declared.awaited.Awaited.{Awaited}
+use Rattle.camp_talk.specs.declared.awaited.Awaited.TheVariants.{Nothing}
 use Rattle.camp_talk.specs.declared.questions.Asked.{Asked}
 use Rattle.camp_talk.specs.declared.questions.Asked.TheVariants as asked
 use Rattle.camp_talk.specs.declared.questions.Reason.{Reason}
 use Rattle.camp_talk.specs.declared.questions.Reason.TheVariants as reason
 use Rattle.camp_why.specs.Causes.{explained}
-use Rattle.camp_why.specs.Hints.{begins, begins_signed, call_part, first_word, hint, misnamed}
+use Rattle.camp_why.specs.Hints.{begins, hint, misnamed}
 use Rattle.camp_why.specs.declared.causes.Cause.{Cause}
 use Rattle.camp_why.specs.declared.causes.Cause.TheVariants as cause
 use Rattle.camp_why.specs.declared.hints.Hint.{Hint}
@@ -56,7 +57,8 @@ hint_text seen.OfBody = page (codes "It begins with - or +, as a line of a body 
 hint_text seen.OfScript = page (codes "It is a line of scripts alone: a conversation has one client." ∷ [])
 hint_text seen.NoCall = page (codes "Behind whatif stands branch, record, pull, obliterate, tree, conflicts or names." ∷ [])
 hint_text seen.NoTopic = page (codes "Behind help stands the first word of a command, or refused." ∷ [])
-hint_text seen.TooLong = page (codes "It has 4098 bytes, the second is ?: so a line of more than 1048576 bytes is read." ∷ [])
+hint_text seen.OfInner = page (codes "It is a line of a body or a group, and none has begun here." ∷ [])
+hint_text seen.TooLong = page (codes "It has 4098 bytes, the second is ?: a line of more than 1048576 bytes is read like that." ∷ [])
 hint_text seen.CarriageReturn = page (codes "It ends with a carriage return: end each line with LF alone." ∷ [])
 hint_text seen.Strange = page (
     codes "It has a byte that is no printing ASCII character: commands, names and paths have none." ∷ [])
@@ -64,6 +66,7 @@ hint_text seen.Quotes = page (
     codes "It has a quotation mark: quotes do not join words, and no command or name has one." ∷ [])
 hint_text seen.Capitals = page (codes "It has a capital letter: commands and names have small letters alone." ∷ [])
 hint_text seen.Zero = page (codes "The number is 0, and the least is 1." ∷ [])
+hint_text seen.ZeroInFront = page (codes "The number begins with 0: write it without a zero in front." ∷ [])
 hint_text seen.Empty = page (
     codes "It is empty: for an empty line of the file write - or + alone." ∷
     codes "If the body was to be over, a line that is just end is missing." ∷ [])
@@ -279,56 +282,32 @@ refusal_lines state asked line answer (Some reason) =
 
 -- ---- of any
 
--- whether the first word of a command is that of a line of a body or a group, also where LF has CR before it
-abbrev pub is_inner : List ℕ → Bool
-is_inner word =
-    begins_signed word || (bytes_eq word (codes "end") || (bytes_eq word (codes "end\r")
-    || (bytes_eq word (codes "done") || (bytes_eq word (codes "done\r")
-    || (bytes_eq word (codes "add") || (bytes_eq word (codes "remove") || bytes_eq word (codes "edit")))))))
-
--- whether a word of a record says that lines follow, also where it has a capital letter, or LF has CR before it
-abbrev pub is_longer : List ℕ → Bool
-is_longer word =
-    bytes_eq word (codes "edit") || (bytes_eq word (codes "Edit") || (bytes_eq word (codes "group")
-    || (bytes_eq word (codes "group\r") || bytes_eq word (codes "Group"))))
-
--- whether a word of a record says that none do
-abbrev pub is_short : List ℕ → Bool
-is_short word = bytes_eq word (codes "add") || bytes_eq word (codes "remove")
-
--- whether the first of some words that says either says that lines follow
-abbrev pub announces : List (List ℕ) → Bool
-announces [] = false
-announces (word ∷ words) = if is_longer word then true else (if is_short word then false else announces words)
-
--- whether the lines of a body or a group may follow a line, by the words of its call from the fourth on
-abbrev pub is_head : List ℕ → Bool
-is_head line = announces (words_of (behind_word (behind_word (behind_word (call_part line)))))
-
--- whether a fault is one in the first line of a command, and lines of a body or a group may follow that
-abbrev pub cuts_off : ℕ → List (List ℕ) → Bool
-cuts_off number lines = number == 1 && is_head (first_of lines)
+-- which lines may follow a command with a fault in the line of a number: where that is its first, those that it was cut
+-- off from
+abbrev pub cut_off : ℕ → List ℕ → Awaited
+cut_off number line = if number == 1 then left_by line else Nothing
 
 -- whether a kind is that of a line that begins no command
 abbrev pub is_unknown : FaultKind → Bool
 is_unknown kind.UnknownCommand = true
 is_unknown other = false
 
--- whether a fault comes of one before it: its command is a line of a body or a group that was cut off
-abbrev pub comes_of_another : Bool → FaultKind → List (List ℕ) → Bool
-comes_of_another inside kind lines = inside && (is_unknown kind && is_inner (first_word (words_of (first_of lines))))
+-- whether a fault comes of one before it: its line may be one of a body or a group that was cut off. It begins no
+-- command, and is no record.
+abbrev pub comes_of_another : Awaited → FaultKind → List ℕ → Bool
+comes_of_another awaited kind line = awaits_some awaited && (is_unknown kind && not (is_record line))
 
 -- what is kept of a command with a fault of its own
 abbrev pub fault_account : LineFault → List (List ℕ) → List ℕ → Account
 fault_account fault lines answer = record {
   told = fault_lines fault.kind (line_at fault.line lines) answer;
-  inside = cuts_off fault.line lines;
+  awaited = cut_off fault.line (first_of lines);
 }
 
--- what is kept of a command with a fault; where that comes of a fault before it, what was kept of that one stays
+-- what is kept of a command with a fault; where that comes of a fault before it, the lines that tell of that one stay
 abbrev pub fault_cause : Account → LineFault → List (List ℕ) → List ℕ → Account
 fault_cause before fault lines answer =
-    if comes_of_another before.inside fault.kind lines then before
+    if comes_of_another before.awaited fault.kind (first_of lines) then passed before (first_of lines)
     else fault_account fault lines answer
 
 -- what is kept of a command that is not done, by what was kept before, the state, its lines, what it asks and its answer
@@ -336,7 +315,7 @@ abbrev pub cause_with : Account → Contents → List (List ℕ) → Result Aske
 cause_with before state lines (Err fault) answer = fault_cause before fault lines answer
 cause_with before state lines (Ok asked) answer = record {
   told = refusal_lines state asked (first_of lines) answer (reason_in (words_of (first_of (lines_of answer))));
-  inside = false;
+  awaited = Nothing;
 }
 
 -- by the state, the command and its answer

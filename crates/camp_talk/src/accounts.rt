@@ -1,7 +1,8 @@
 //! What a conversation keeps for `why`.
 ghost use Rattle.std.specs.Prelude.{◌≡◌, IfOk};
-ghost use Rattle.camp_talk.specs.Accounts.{closed, leaves_place, no_account};
+ghost use Rattle.camp_talk.specs.Accounts.{closed, leaves_place, no_account, passed};
 
+use crate::awaited::Awaited;
 use std::alloc::{AllocError, Global};
 use std::marker::Model;
 
@@ -10,8 +11,8 @@ use std::marker::Model;
 pub struct Account {
     /// The lines that tell why; none, where there was none.
     told: Vec<u8>,
-    /// It was a fault in the first line of an edit or a group, and no other command came yet.
-    inside: bool,
+    /// Which lines of its command may still come, where that was cut off by a fault in its first line.
+    awaited: Awaited,
 }
 
 impl Model for Account {
@@ -19,7 +20,7 @@ impl Model for Account {
 
     ghost Value = { Account };
 
-    ghost view = { λ account. record { told = account.told.items; inside = account.inside } };
+    ghost view = { λ account. record { told = account.told.items; awaited = account.awaited } };
 }
 
 impl Account {
@@ -29,15 +30,15 @@ impl Account {
     {
         Account {
             told: Vec::new(alloc),
-            inside: false,
+            awaited: Awaited::Nothing,
         }
     }
 
     /// Of a fault or a refusal with these lines.
-    pub(crate) fn of(told: Vec<u8>, inside: bool) -> Account
-        ensures { result ≡ record { told = told.items; inside = inside } }
+    pub(crate) fn of(told: Vec<u8>, awaited: Awaited) -> Account
+        ensures { result ≡ record { told = told.items; awaited = awaited } }
     {
-        Account { told, inside }
+        Account { told, awaited }
     }
 
     pub(crate) fn told(&self) -> &[u8]
@@ -46,27 +47,28 @@ impl Account {
         &self.told
     }
 
-    pub(crate) fn is_inside(&self) -> bool
-        ensures { result ≡ self.now.inside }
+    pub(crate) fn awaited(&self) -> Awaited
+        ensures { result ≡ self.now.awaited }
     {
-        self.inside
+        self.awaited
     }
 
-    pub(crate) fn try_clone(&self, alloc: Global) -> Result<Account, AllocError>
-        ensures { IfOk result (λ copy. copy ≡ self.now) }
+    /// The same, where one line more of its command came.
+    pub(crate) fn passed(&self, alloc: Global, line: &[u8]) -> Result<Account, AllocError>
+        ensures { IfOk result (λ account. account ≡ passed self.now line.now) }
     {
         let told = Vec::from_slice(alloc, &self.told)?;
         Ok(Account {
             told,
-            inside: self.inside,
+            awaited: self.awaited.after(line),
         })
     }
 
-    /// The lines of a body are over.
+    /// No line of its command may come.
     pub(crate) fn close(&mut self)
         ensures { self.new ≡ closed self.old }
     {
-        self.inside = false;
+        self.awaited = Awaited::Nothing;
     }
 }
 

@@ -1,4 +1,4 @@
-ghost use Rattle.camp_talk.specs.Laws.{CausesAreTold, CountsAreTold, FailuresAreTold, FaultsAreTold, KeptIsLoaded, RefusalsAreTold, RequestsAreServedInTurn};
+ghost use Rattle.camp_talk.specs.Laws.{CausesAreTold, CountsAreTold, FailuresAreTold, FaultsAreTold, KeptIsLoaded, RecordsAreAwaited, RefusalsAreTold, RequestsAreServedInTurn};
 
 /// The first line of an answer that is counted tells how many lines follow.
 #[tactic(auto, using(crate::proofs::CountLemmas::counts_are_told))]
@@ -38,4 +38,10 @@ pub fn refusals_are_told()
 /// Where a command has a fault of its own, the lines that tell why tell of the line that has it.
 pub fn faults_are_told()
     ensures law { FaultsAreTold }
+{}
+
+/// What is kept waits for lines of a body or a group only where a record was cut off by a fault in its first line, and
+/// each command behind it is one of these lines.
+pub fn records_are_awaited()
+    ensures law { RecordsAreAwaited }
 {}

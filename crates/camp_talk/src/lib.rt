@@ -4,6 +4,7 @@
 mod accounts;
 mod answers;
 mod asking;
+mod awaited;
 mod dialogues;
 mod faults;
 mod frames;
@@ -40,7 +41,7 @@ pub use faults::{LoadFault, TalkFault};
 pub use frames::{FrameFault, FramedConversation};
 pub use laws::{
     causes_are_told, counts_are_told, failures_are_told, faults_are_told, kept_is_loaded,
-    refusals_are_told, requests_are_served_in_turn,
+    records_are_awaited, refusals_are_told, requests_are_served_in_turn,
 };
 pub use loads::load;
 pub use questions::{Question, Reason, Topic};

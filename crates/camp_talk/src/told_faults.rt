@@ -1,15 +1,16 @@
 //! Why a command with a fault was not done.
 ghost use Rattle.std.specs.Prelude.{◌≡◌, ◌++◌, IfOk, take};
-ghost use Rattle.camp_script.specs.Lines.{lines_of, words_of};
-ghost use Rattle.camp_talk.specs.Whys.{announces, body_rule, comes_of_another, cut_text, cuts_off, fault_account, fault_cause, fault_lines, hint_text, is_head, is_inner, is_longer, is_short, line_at, misnamed_text, most_shown, no_name_text, rule, shown_line, word_text};
+ghost use Rattle.camp_script.specs.Lines.{lines_of};
+ghost use Rattle.camp_talk.specs.Whys.{body_rule, comes_of_another, cut_off, cut_text, fault_account, fault_cause, fault_lines, hint_text, line_at, misnamed_text, most_shown, no_name_text, rule, shown_line, word_text};
 
 use crate::Account;
 use crate::asking::first_line;
+use crate::awaited::{Awaited, is_record, left_by};
 use crate::questions::Reason;
 use crate::told_refusals::cure;
 use bstr::ByteSlice;
-use camp_script::{FaultKind, LineFault, Words, behind_word, without_end};
-use camp_why::{Hint, call_part, look_at, misnamed};
+use camp_script::{FaultKind, LineFault, without_end};
+use camp_why::{Hint, look_at, misnamed};
 use std::alloc::{AllocError, Global};
 
 /// The most bytes of a line that are shown.
@@ -25,8 +26,9 @@ pub(crate) fn fault_cause(
 ) -> Result<Account, AllocError>
     ensures { IfOk result (λ cause. cause ≡ fault_cause before.now fault.now (lines_of command.now) answer.now) }
 {
-    if comes_of_another(before.is_inside(), fault.kind, command) {
-        return before.try_clone(alloc);
+    let line = first_line(command);
+    if comes_of_another(before.awaited(), fault.kind, line) {
+        return before.passed(alloc, line);
     }
     fault_account(alloc, fault, command, answer)
 }
@@ -41,82 +43,26 @@ fn fault_account(
     ensures { IfOk result (λ cause. cause ≡ fault_account fault.now (lines_of command.now) answer.now) }
 {
     let told = fault_lines(alloc, fault.kind, line_at(command, fault.line), answer)?;
-    Ok(Account::of(told, cuts_off(fault.line, command)))
+    Ok(Account::of(told, cut_off(fault.line, first_line(command))))
 }
 
-// Whether a fault comes of one before it: its command is a line of a body or a group that was cut off.
-fn comes_of_another(inside: bool, kind: FaultKind, command: &[u8]) -> bool
-    ensures { result ≡ comes_of_another inside kind (lines_of command.now) }
+// Whether a fault comes of one before it: its line may be one of a body or a group that was cut off. It begins no
+// command, and is no record.
+fn comes_of_another(awaited: Awaited, kind: FaultKind, line: &[u8]) -> bool
+    ensures { result ≡ comes_of_another awaited kind line.now }
 {
-    if !inside || kind != FaultKind::UnknownCommand {
-        return false;
+    awaited.is_some() && kind == FaultKind::UnknownCommand && !is_record(line)
+}
+
+// Which lines may follow a command with a fault in the line of a number: where that is its first, those that it
+// was cut off from.
+fn cut_off(number: u64, line: &[u8]) -> Awaited
+    ensures { result ≡ cut_off number line.now }
+{
+    if number == 1 {
+        return left_by(line);
     }
-    match Words::new(first_line(command)).next() {
-        Some(word) => is_inner(word),
-        None => false,
-    }
-}
-
-// Whether the first word of a command is that of a line of a body or a group.
-fn is_inner(word: &[u8]) -> bool
-    ensures { result ≡ is_inner word.now }
-{
-    word.starts_with(b"+")
-        || word.starts_with(b"-")
-        || word == b"end".as_slice()
-        || word == b"end\r".as_slice()
-        || word == b"done".as_slice()
-        || word == b"done\r".as_slice()
-        || word == b"add".as_slice()
-        || word == b"remove".as_slice()
-        || word == b"edit".as_slice()
-}
-
-// Whether a fault is one in the first line of a command, and lines of a body or a group may follow that.
-fn cuts_off(number: u64, command: &[u8]) -> bool
-    ensures { result ≡ cuts_off number (lines_of command.now) }
-{
-    number == 1 && is_head(first_line(command))
-}
-
-// Whether the lines of a body or a group may follow a line, by the words of its call from the fourth on.
-fn is_head(line: &[u8]) -> bool
-    ensures { result ≡ is_head line.now }
-{
-    announces(behind_word(behind_word(behind_word(call_part(line)))))
-}
-
-// Whether the first word of a line that says whether lines follow says that they do.
-fn announces(line: &[u8]) -> bool
-    ensures { result ≡ announces (words_of line.now) }
-{
-    for word in Words::new(line) {
-        if is_longer(word) {
-            return true;
-        }
-        if is_short(word) {
-            return false;
-        }
-    }
-    false
-}
-
-// Whether a word of a record says that no lines follow.
-fn is_short(word: &[u8]) -> bool
-    ensures { result ≡ is_short word.now }
-{
-    word == b"add".as_slice() || word == b"remove".as_slice()
-}
-
-// Whether a word of a record says that lines follow.
-fn is_longer(word: &[u8]) -> bool
-    ensures { result ≡ is_longer word.now }
-{
-    word == b"edit".as_slice()
-        || word == b"Edit".as_slice()
-        || word == b"group".as_slice()
-        || word == b"group\r".as_slice()
-        || word == b"Group".as_slice()
+    Awaited::Nothing
 }
 
 // The line of a number, counted from 1; an empty one, where there is none.
@@ -221,8 +167,9 @@ fn hint_text(hint: Hint) -> &'static str
             "Behind whatif stands branch, record, pull, obliterate, tree, conflicts or names.\n"
         }
         Hint::NoTopic => "Behind help stands the first word of a command, or refused.\n",
+        Hint::OfInner => "It is a line of a body or a group, and none has begun here.\n",
         Hint::TooLong => {
-            "It has 4098 bytes, the second is ?: so a line of more than 1048576 bytes is read.\n"
+            "It has 4098 bytes, the second is ?: a line of more than 1048576 bytes is read like that.\n"
         }
         Hint::CarriageReturn => "It ends with a carriage return: end each line with LF alone.\n",
         Hint::Strange => {
@@ -233,6 +180,7 @@ fn hint_text(hint: Hint) -> &'static str
         }
         Hint::Capitals => "It has a capital letter: commands and names have small letters alone.\n",
         Hint::Zero => "The number is 0, and the least is 1.\n",
+        Hint::ZeroInFront => "The number begins with 0: write it without a zero in front.\n",
         Hint::Empty => {
             "It is empty: for an empty line of the file write - or + alone.\n\
             If the body was to be over, a line that is just end is missing.\n"

@@ -12,6 +12,7 @@ ghost use Rattle.camp_why.specs.declared.misfits.Misfit.TheVariants.{EndsBefore}
 
 use crate::Account;
 use crate::asking::first_line;
+use crate::awaited::Awaited;
 use crate::questions::{Asked, Reason};
 use crate::told::counted;
 use crate::told_against::{
@@ -68,7 +69,7 @@ pub(crate) fn cause_of(
         Ok(asked) => {
             let line = first_line(command);
             let told = refusal_lines(alloc, state, asked, line, answer, reason_in(answer))?;
-            Ok(Account::of(told, false))
+            Ok(Account::of(told, Awaited::Nothing))
         }
         Err(ScriptFault::Line(fault)) => fault_cause(alloc, before, fault, command, answer),
         Err(ScriptFault::Memory) => Err(AllocError),

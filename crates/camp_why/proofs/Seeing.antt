@@ -7,7 +7,7 @@ use Rattle.camp_script.specs.Lines.{words_of}
 use Rattle.camp_script.specs.Pieces.{begins_with}
 use Rattle.camp_script.specs.declared.faults.FaultKind.{FaultKind}
 use Rattle.camp_script.specs.declared.faults.FaultKind.TheVariants as kind
-use Rattle.camp_why.specs.Hints.{HintsAreSeen, IsPlain, IsSeen, ShowsNothing, begins, begins_blank, begins_end, begins_quoted, begins_signed, command_word, edit_hint, ends_in_return, faulty, first_word, form_hint, has_quote, has_return, hint, is_cut, is_empty, is_end, is_quote, is_return, is_strange, is_zero, line_hint, misnamed, number_word, path_word, word_hint}
+use Rattle.camp_why.specs.Hints.{HintsAreSeen, IsPlain, IsSeen, ShowsNothing, begins, begins_blank, begins_end, begins_inner, begins_quoted, begins_signed, begins_zero, command_word, edit_hint, ends_in_return, faulty, first_word, form_hint, has_quote, has_return, hint, is_capital_end, is_cut, is_empty, is_end, is_quote, is_return, is_strange, is_zero, line_hint, misnamed, number_word, path_word, unsigned_hint, word_hint}
 use Rattle.camp_why.specs.declared.hints.Hint.{Hint}
 use Rattle.camp_why.specs.declared.hints.Hint.TheVariants as seen
 
@@ -18,6 +18,18 @@ pick P false first second holds fails = fails refl
 
 no_sign : (line : List ℕ) → begins (codes "-") line ≡ false → begins (codes "+") line ≡ false → begins_signed line ≡ false
 no_sign line minus plus = (λ j. plus j || minus j)
+
+-- `end` in capitals has a capital letter
+by_form : (capital mixed : Bool) (line : List ℕ) → (capital ≡ true → line ≡ codes "END") → (mixed ≡ true → line ≡ codes "End")
+    → (capital || mixed) ≡ true → list_any is_capital_letter line ≡ true
+by_form true mixed line all first either = ap (list_any is_capital_letter) (all refl)
+by_form false true line all first either = ap (list_any is_capital_letter) (first refl)
+by_form false false line all first either = absurd (false≢true either)
+
+capital_end : (line : List ℕ) → is_capital_end line ≡ true → list_any is_capital_letter line ≡ true
+capital_end line =
+    by_form (bytes_eq line (codes "END")) (bytes_eq line (codes "End")) line
+    (bytes_eq-Decides line (codes "END")).0 (bytes_eq-Decides line (codes "End")).0
 
 -- in the word that has the fault, or else
 module _ (k : FaultKind) (line : List ℕ) (returns : has_return k line ≡ ends_in_return (faulty k line)) (quotes : has_quote k line ≡ list_any is_quote (faulty k line)) where
@@ -38,18 +50,25 @@ module _ (k : FaultKind) (line : List ℕ) where
   in_form =
       pick (IsSeen k line) (begins_with (codes "client") (words_of line)) seen.OfScript _ (λ e. e) (λ none.
       pick (IsSeen k line) (begins_with (codes "whatif") (words_of line)) seen.NoCall _ (λ e. e) (λ none.
-      pick (IsSeen k line) (begins_with (codes "help") (words_of line)) seen.NoTopic seen.Nothing (λ e. e) (λ none. tt)))
+      pick (IsSeen k line) (begins_with (codes "help") (words_of line)) seen.NoTopic _ (λ e. e) (λ none.
+      pick (IsSeen k line) (begins_inner line) seen.OfInner seen.Nothing (λ e. e) (λ none. tt))))
 
-  in_body : has_return k line ≡ ends_in_return line → IsSeen k line (edit_hint line)
-  in_body returns =
-      pick (IsSeen k line) (is_empty line) seen.Empty _ (λ e. e) (λ none.
-      pick (IsSeen k line) (begins_blank line) seen.Blank _ (λ e. e) (λ none.
-      pick (IsSeen k line) (is_end line) seen.NoLine _ (λ e. e) (λ none.
-      pick (IsSeen k line) (bytes_eq line (codes "end\r")) seen.CarriageReturn _
-      (λ e. returns ∙ ap ends_in_return ((bytes_eq-Decides line (codes "end\r")).0 e)) (λ none.
-      pick (IsSeen k line) (begins_end line) seen.MoreThanEnd _ (λ e. e) (λ none.
-      pick (IsSeen k line) (begins (codes "-") line) seen.OldBehindNew _ (λ e. e) (λ minus.
-      pick (IsSeen k line) (begins (codes "+") line) seen.Nothing seen.NoSign (λ e. tt) (λ plus. no_sign line minus plus)))))))
+  module _ (returns : has_return k line ≡ ends_in_return line) (word : faulty k line ≡ line) where
+    unsigned : begins_signed line ≡ false → IsSeen k line (unsigned_hint line)
+    unsigned none_signed =
+        pick (IsSeen k line) (ends_in_return line) seen.CarriageReturn _ (λ e. returns ∙ e) (λ none.
+        pick (IsSeen k line) (is_capital_end line) seen.Capitals seen.NoSign
+        (λ e. ap (list_any is_capital_letter) word ∙ capital_end line e) (λ none. none_signed))
+
+    in_body : IsSeen k line (edit_hint line)
+    in_body =
+        pick (IsSeen k line) (is_cut line) seen.TooLong _ (λ e. e) (λ none.
+        pick (IsSeen k line) (is_empty line) seen.Empty _ (λ e. e) (λ none.
+        pick (IsSeen k line) (begins_blank line) seen.Blank _ (λ e. e) (λ none.
+        pick (IsSeen k line) (is_end line) seen.NoLine _ (λ e. e) (λ none.
+        pick (IsSeen k line) (begins_end line) seen.MoreThanEnd _ (λ e. e) (λ none.
+        pick (IsSeen k line) (begins (codes "-") line) seen.OldBehindNew _ (λ e. e) (λ minus.
+        pick (IsSeen k line) (begins (codes "+") line) seen.Nothing _ (λ e. tt) (λ plus. unsigned (no_sign line minus plus))))))))
 
 is_so : (kind : FaultKind) (line : List ℕ) → IsSeen kind line (hint kind line)
 is_so kind.UnknownCommand line = in_line kind.UnknownCommand line refl refl (form_hint line) (in_form kind.UnknownCommand line)
@@ -64,8 +83,9 @@ is_so kind.BadPath line =
 is_so kind.BadNumber line =
     pick (IsSeen kind.BadNumber line) (is_end line) seen.TooFar _ (λ e. e) (λ none.
     pick (IsSeen kind.BadNumber line) (ends_in_return (number_word line)) seen.CarriageReturn _ (λ e. e) (λ none.
-    pick (IsSeen kind.BadNumber line) (is_zero (number_word line)) seen.Zero seen.Nothing (λ e. e) (λ none. tt)))
-is_so kind.BadEdit line = in_body kind.BadEdit line refl
+    pick (IsSeen kind.BadNumber line) (is_zero (number_word line)) seen.Zero _ (λ e. e) (λ none.
+    pick (IsSeen kind.BadNumber line) (begins_zero (number_word line)) seen.ZeroInFront seen.Nothing (λ e. e) (λ none. tt))))
+is_so kind.BadEdit line = in_body kind.BadEdit line refl refl
 is_so kind.BadLine line = pick (IsSeen kind.BadLine line) (is_cut line) seen.TooLong seen.Nothing (λ e. e) (λ none. tt)
 is_so kind.EditNotEnded line = tt
 is_so kind.TooManyClients line = tt
@@ -98,19 +118,25 @@ plain_line line word other none =
     let signed = passed (begins_signed (first_word (words_of line))) seen.OfBody _ refl whole.1 in
     plain word other signed.1
 
-plus : (test : Bool) → cond test seen.Nothing seen.NoSign ≡ seen.Nothing → test ≡ true
-plus true none = refl
-plus false none = absurd (false≢true (ap is_nothing none))
+-- of a line without a sign something is told
+tells_some : (returns capitals : Bool) → is_nothing (cond returns seen.CarriageReturn (cond capitals seen.Capitals seen.NoSign)) ≡ false
+tells_some true capitals = refl
+tells_some false true = refl
+tells_some false false = refl
 
-new_line : (line : List ℕ) → edit_hint line ≡ seen.Nothing → begins (codes "+") line ≡ true
+plus : (test : Bool) (other : Hint) → is_nothing other ≡ false → cond test seen.Nothing other ≡ seen.Nothing → test ≡ true
+plus true other some none = refl
+plus false other some none = absurd (false≢true (sym some ∙ ap is_nothing none))
+
+new_line : (line : List ℕ) → edit_hint line ≡ seen.Nothing → ShowsNothing kind.BadEdit line
 new_line line none =
-    let empty = passed (is_empty line) seen.Empty _ refl none in
+    let whole = passed (is_cut line) seen.TooLong _ refl none in
+    let empty = passed (is_empty line) seen.Empty _ refl whole.1 in
     let blank = passed (begins_blank line) seen.Blank _ refl empty.1 in
     let end = passed (is_end line) seen.NoLine _ refl blank.1 in
-    let returns = passed (bytes_eq line (codes "end\r")) seen.CarriageReturn _ refl end.1 in
-    let more = passed (begins_end line) seen.MoreThanEnd _ refl returns.1 in
+    let more = passed (begins_end line) seen.MoreThanEnd _ refl end.1 in
     let old = passed (begins (codes "-") line) seen.OldBehindNew _ refl more.1 in
-    plus (begins (codes "+") line) old.1
+    (whole.0, plus (begins (codes "+") line) (unsigned_hint line) (tells_some (ends_in_return line) (is_capital_end line)) old.1)
 
 shows_nothing : (kind : FaultKind) (line : List ℕ) → hint kind line ≡ seen.Nothing → ShowsNothing kind line
 shows_nothing kind.UnknownCommand line none = plain_line line (command_word line) (form_hint line) none
@@ -125,7 +151,8 @@ shows_nothing kind.BadPath line none =
 shows_nothing kind.BadNumber line none =
     let end = passed (is_end line) seen.TooFar _ refl none in
     let returns = passed (ends_in_return (number_word line)) seen.CarriageReturn _ refl end.1 in
-    (end.0, returns.0, (passed (is_zero (number_word line)) seen.Zero seen.Nothing refl returns.1).0)
+    let zero = passed (is_zero (number_word line)) seen.Zero _ refl returns.1 in
+    (end.0, returns.0, (passed (begins_zero (number_word line)) seen.ZeroInFront seen.Nothing refl zero.1).0)
 shows_nothing kind.BadLine line none = (passed (is_cut line) seen.TooLong seen.Nothing refl none).0
 shows_nothing kind.BadEdit line none = new_line line none
 shows_nothing kind.EditNotEnded line none = tt

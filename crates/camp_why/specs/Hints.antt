@@ -25,9 +25,17 @@ ends_in_return line = ends_with ◌==◌ line (codes "\r")
 abbrev pub is_return : List ℕ → Bool
 is_return word = bytes_eq word (codes "\r")
 
+-- whether a word begins with the digit 0
+abbrev pub begins_zero : List ℕ → Bool
+begins_zero word = begins (codes "0") word
+
+-- whether a byte is another than the digit 0
+abbrev pub is_other_than_zero : ℕ → Bool
+is_other_than_zero byte = not (byte == 48)
+
 -- whether a word is the number 0
 abbrev pub is_zero : List ℕ → Bool
-is_zero word = bytes_eq word (codes "0")
+is_zero word = begins_zero word && not (list_any is_other_than_zero word)
 
 -- whether a line begins with a space or a tab
 abbrev pub begins_blank : List ℕ → Bool
@@ -36,6 +44,17 @@ begins_blank line = begins (codes " ") line || begins (codes "\t") line
 -- whether a line has the first word `end`, and a blank behind it
 abbrev pub begins_end : List ℕ → Bool
 begins_end line = begins (codes "end ") line || begins (codes "end\t") line
+
+-- whether a line has a first word that stands only in a body or a group
+abbrev pub begins_inner : List ℕ → Bool
+begins_inner line =
+    begins_with (codes "end") (words_of line) || (begins_with (codes "done") (words_of line)
+    || (begins_with (codes "add") (words_of line) || (begins_with (codes "remove") (words_of line)
+    || begins_with (codes "edit") (words_of line))))
+
+-- whether a line is `end` in capitals
+abbrev pub is_capital_end : List ℕ → Bool
+is_capital_end line = bytes_eq line (codes "END") || bytes_eq line (codes "End")
 
 -- whether a line ends a body
 abbrev pub is_end : List ℕ → Bool
@@ -122,7 +141,8 @@ form_hint line =
     if begins_with (codes "client") (words_of line) then seen.OfScript
     else (if begins_with (codes "whatif") (words_of line) then seen.NoCall
     else (if begins_with (codes "help") (words_of line) then seen.NoTopic
-    else seen.Nothing))
+    else (if begins_inner line then seen.OfInner
+    else seen.Nothing)))
 
 -- in a line with a word that should be one of a command, by that word and by what there is else
 abbrev pub line_hint : List ℕ → List ℕ → Hint → Hint
@@ -151,23 +171,31 @@ number_hint line =
     if is_end line then seen.TooFar
     else (if ends_in_return (number_word line) then seen.CarriageReturn
     else (if is_zero (number_word line) then seen.Zero
-    else seen.Nothing))
+    else (if begins_zero (number_word line) then seen.ZeroInFront
+    else seen.Nothing)))
 
 -- in a line of a body that may be too long
 abbrev pub long_hint : List ℕ → Hint
 long_hint line = if is_cut line then seen.TooLong else seen.Nothing
 
+-- in a line of a body without a sign
+abbrev pub unsigned_hint : List ℕ → Hint
+unsigned_hint line =
+    if ends_in_return line then seen.CarriageReturn
+    else (if is_capital_end line then seen.Capitals
+    else seen.NoSign)
+
 -- in a line of a body
 abbrev pub edit_hint : List ℕ → Hint
 edit_hint line =
-    if is_empty line then seen.Empty
+    if is_cut line then seen.TooLong
+    else (if is_empty line then seen.Empty
     else (if begins_blank line then seen.Blank
     else (if is_end line then seen.NoLine
-    else (if bytes_eq line (codes "end\r") then seen.CarriageReturn
     else (if begins_end line then seen.MoreThanEnd
     else (if begins (codes "-") line then seen.OldBehindNew
     else (if begins (codes "+") line then seen.Nothing
-    else seen.NoSign))))))
+    else unsigned_hint line))))))
 
 -- what is to be seen in a line that has a fault of a kind
 abbrev pub hint : FaultKind → List ℕ → Hint
@@ -209,12 +237,14 @@ IsSeen kind line seen.OfBody = begins_signed (first_word (words_of line)) ≡ tr
 IsSeen kind line seen.OfScript = begins_with (codes "client") (words_of line) ≡ true
 IsSeen kind line seen.NoCall = begins_with (codes "whatif") (words_of line) ≡ true
 IsSeen kind line seen.NoTopic = begins_with (codes "help") (words_of line) ≡ true
+IsSeen kind line seen.OfInner = begins_inner line ≡ true
 IsSeen kind line seen.TooLong = is_cut line ≡ true
 IsSeen kind line seen.CarriageReturn = has_return kind line ≡ true
 IsSeen kind line seen.Strange = list_any is_strange (faulty kind line) ≡ true
 IsSeen kind line seen.Quotes = has_quote kind line ≡ true
 IsSeen kind line seen.Capitals = list_any is_capital_letter (faulty kind line) ≡ true
 IsSeen kind line seen.Zero = is_zero (faulty kind line) ≡ true
+IsSeen kind line seen.ZeroInFront = begins_zero (faulty kind line) ≡ true
 IsSeen kind line seen.Empty = is_empty line ≡ true
 IsSeen kind line seen.Blank = begins_blank line ≡ true
 IsSeen kind line seen.NoLine = is_end line ≡ true
@@ -239,9 +269,9 @@ ShowsNothing WrongNumberOfWords line =
     (list_any is_return (words_of line) ≡ false) × (list_any begins_quoted (words_of line) ≡ false)
 ShowsNothing BadPath line = (ends_in_return (path_word line) ≡ false) × (list_any is_strange (path_word line) ≡ false)
 ShowsNothing BadNumber line =
-    (is_end line ≡ false) × (ends_in_return (number_word line) ≡ false) × (is_zero (number_word line) ≡ false)
+    (is_end line ≡ false) × (ends_in_return (number_word line) ≡ false) × (begins_zero (number_word line) ≡ false)
 ShowsNothing BadLine line = is_cut line ≡ false
-ShowsNothing BadEdit line = begins (codes "+") line ≡ true
+ShowsNothing BadEdit line = (is_cut line ≡ false) × (begins (codes "+") line ≡ true)
 ShowsNothing other line = Unit {0}
 
 -- so it is of each kind and each line; and where nothing is told, nothing is to be seen

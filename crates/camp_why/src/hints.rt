@@ -3,7 +3,7 @@ ghost use Rattle.std.specs.Prelude.{◌≡◌, []};
 ghost use Rattle.std.specs.List.{list_any};
 ghost use Rattle.camp_base.specs.Signs.{is_capital_letter};
 ghost use Rattle.camp_script.specs.Lines.{words_of};
-ghost use Rattle.camp_why.specs.Hints.{begins_blank, begins_end, begins_quoted, begins_signed, call_part, call_word, command_word, count_hint, edit_hint, ends_in_return, first_word, form_hint, hint, is_cut, is_empty, is_end, is_quote, is_return, is_strange, is_zero, last_words, line_hint, long_hint, misnamed, number_hint, number_word, path_hint, path_word, word_hint};
+ghost use Rattle.camp_why.specs.Hints.{begins_blank, begins_end, begins_inner, begins_quoted, begins_signed, begins_zero, call_part, call_word, command_word, count_hint, edit_hint, ends_in_return, first_word, form_hint, hint, is_capital_end, is_cut, is_empty, is_end, is_other_than_zero, is_quote, is_return, is_strange, is_zero, last_words, line_hint, long_hint, misnamed, number_hint, number_word, path_hint, path_word, unsigned_hint, word_hint};
 
 use camp_base::Name;
 use camp_script::{FaultKind, Words, begins_edit, begins_with, behind_word};
@@ -24,18 +24,22 @@ pub enum Hint {
     NoCall,
     /// It has the first word `help`, and no command behind it.
     NoTopic,
+    /// It has the first word of a line of a body or a group, and stands in none.
+    OfInner,
     /// It is as one of too many bytes is read.
     TooLong,
-    /// A word ends with a carriage return, or is nothing else.
+    /// It ends with a carriage return, or a word does, or is nothing else.
     CarriageReturn,
     /// A word has a byte that is no printing character of ASCII.
     Strange,
     /// A word has a quotation mark.
     Quotes,
-    /// A word has a capital letter.
+    /// A word has a capital letter, or the `end` of a body has.
     Capitals,
     /// A number is 0.
     Zero,
+    /// A number begins with 0, and is another one.
+    ZeroInFront,
     /// It is empty.
     Empty,
     /// It begins with a blank.
@@ -96,6 +100,9 @@ fn form_hint(line: &[u8]) -> Hint
     if begins_with(line, b"help") {
         return Hint::NoTopic;
     }
+    if begins_inner(line) {
+        return Hint::OfInner;
+    }
     Hint::Nothing
 }
 
@@ -133,8 +140,11 @@ fn number_hint(line: &[u8]) -> Hint
     if ends_in_return(number) {
         return Hint::CarriageReturn;
     }
-    if number == b"0".as_slice() {
+    if is_zero(number) {
         return Hint::Zero;
+    }
+    if begins_zero(number) {
+        return Hint::ZeroInFront;
     }
     Hint::Nothing
 }
@@ -152,6 +162,9 @@ fn long_hint(line: &[u8]) -> Hint
 fn edit_hint(line: &[u8]) -> Hint
     ensures { result ≡ edit_hint line.now }
 {
+    if is_cut(line) {
+        return Hint::TooLong;
+    }
     if is_empty(line) {
         return Hint::Empty;
     }
@@ -161,9 +174,6 @@ fn edit_hint(line: &[u8]) -> Hint
     if is_end(line) {
         return Hint::NoLine;
     }
-    if line == b"end\r".as_slice() {
-        return Hint::CarriageReturn;
-    }
     if begins_end(line) {
         return Hint::MoreThanEnd;
     }
@@ -172,6 +182,19 @@ fn edit_hint(line: &[u8]) -> Hint
     }
     if line.starts_with(b"+") {
         return Hint::Nothing;
+    }
+    unsigned_hint(line)
+}
+
+// What is to be seen in a line of a body without a sign.
+fn unsigned_hint(line: &[u8]) -> Hint
+    ensures { result ≡ unsigned_hint line.now }
+{
+    if ends_in_return(line) {
+        return Hint::CarriageReturn;
+    }
+    if is_capital_end(line) {
+        return Hint::Capitals;
     }
     Hint::NoSign
 }
@@ -330,6 +353,41 @@ fn begins_end(line: &[u8]) -> bool
     ensures { result ≡ begins_end line.now }
 {
     line.starts_with(b"end ") || line.starts_with(b"end\t")
+}
+
+// Whether the first word of a line is one that stands only in a body or a group.
+fn begins_inner(line: &[u8]) -> bool
+    ensures { result ≡ begins_inner line.now }
+{
+    begins_with(line, b"end")
+        || begins_with(line, b"done")
+        || begins_with(line, b"add")
+        || begins_with(line, b"remove")
+        || begins_with(line, b"edit")
+}
+
+fn is_capital_end(line: &[u8]) -> bool
+    ensures { result ≡ is_capital_end line.now }
+{
+    line == b"END".as_slice() || line == b"End".as_slice()
+}
+
+fn begins_zero(word: &[u8]) -> bool
+    ensures { result ≡ begins_zero word.now }
+{
+    word.starts_with(b"0")
+}
+
+fn is_zero(word: &[u8]) -> bool
+    ensures { result ≡ is_zero word.now }
+{
+    begins_zero(word) && !has_other_than_zero(word)
+}
+
+fn has_other_than_zero(word: &[u8]) -> bool
+    ensures { result ≡ list_any is_other_than_zero word.now }
+{
+    word.iter().any(|byte| !matches!(byte, b'0'))
 }
 
 fn is_end(line: &[u8]) -> bool

@@ -1,0 +1,114 @@
+//! The lines of a command that was cut off by a fault in its first line.
+ghost use Rattle.std.specs.Prelude.{◌≡◌};
+ghost use Rattle.camp_script.specs.Lines.{words_of};
+ghost use Rattle.camp_talk.specs.Accounts.{awaited_after, awaits_some, is_edit, is_form, is_group, is_record, is_short, left_behind, left_by, said_in};
+
+use camp_script::{Words, begins_edit, begins_with, behind_word};
+use camp_why::call_part;
+
+/// Which lines of a command may still come that was cut off from them.
+#[derive(Clone, Copy, Debug)]
+pub(crate) enum Awaited {
+    Nothing,
+    /// Those of a body, up to `end`.
+    Body,
+    /// Those of a group, up to `done`.
+    Group,
+    /// Those of a body, and then of its group.
+    GroupBody,
+}
+
+impl Awaited {
+    pub(crate) fn is_some(self) -> bool
+        ensures { result ≡ awaits_some self }
+    {
+        !matches!(self, Awaited::Nothing)
+    }
+
+    /// What may come behind a line.
+    pub(crate) fn after(self, line: &[u8]) -> Awaited
+        ensures { result ≡ awaited_after self line.now }
+    {
+        match self {
+            Awaited::Nothing => Awaited::Nothing,
+            Awaited::Body if line == b"end".as_slice() => Awaited::Nothing,
+            Awaited::GroupBody if line == b"end".as_slice() => Awaited::Group,
+            Awaited::Group if begins_edit(line) => Awaited::GroupBody,
+            Awaited::Group if begins_with(line, b"done") => Awaited::Nothing,
+            same => same,
+        }
+    }
+}
+
+/// Which lines follow a line that is cut off from them. None do, where it is no record.
+pub(crate) fn left_by(line: &[u8]) -> Awaited
+    ensures { result ≡ left_by line.now }
+{
+    if is_record(line) {
+        return left_behind(behind_word(behind_word(call_part(line))));
+    }
+    Awaited::Nothing
+}
+
+/// Whether a line is a record, also behind `whatif`.
+pub(crate) fn is_record(line: &[u8]) -> bool
+    ensures { result ≡ is_record line.now }
+{
+    match Words::new(call_part(line)).next() {
+        Some(word) => is_form(word, b"record", b"Record", b"RECORD"),
+        None => false,
+    }
+}
+
+// Which lines follow a record, by what stands behind its branch.
+fn left_behind(line: &[u8]) -> Awaited
+    ensures { result ≡ left_behind line.now }
+{
+    said_in(behind_word(line), said_in(line, Awaited::Body))
+}
+
+// Which lines follow, by the first word of a line that says it; else these.
+fn said_in(line: &[u8], other: Awaited) -> Awaited
+    ensures { result ≡ said_in (words_of line.now) other }
+{
+    for word in Words::new(line) {
+        if is_short(word) {
+            return Awaited::Nothing;
+        }
+        if is_group(word) {
+            return Awaited::Group;
+        }
+        if is_edit(word) {
+            return Awaited::Body;
+        }
+    }
+    other
+}
+
+// Whether a word of a record says that no lines follow.
+fn is_short(word: &[u8]) -> bool
+    ensures { result ≡ is_short word.now }
+{
+    is_form(word, b"add", b"Add", b"ADD") || is_form(word, b"remove", b"Remove", b"REMOVE")
+}
+
+// Whether it says that those of a group do.
+fn is_group(word: &[u8]) -> bool
+    ensures { result ≡ is_group word.now }
+{
+    is_form(word, b"group", b"Group", b"GROUP") || is_form(word, b"group\r", b"Group\r", b"GROUP\r")
+}
+
+// Whether it says that those of a body do.
+fn is_edit(word: &[u8]) -> bool
+    ensures { result ≡ is_edit word.now }
+{
+    is_form(word, b"edit", b"Edit", b"EDIT")
+}
+
+// Whether a word is one of three: small, with a capital letter, and in capitals.
+fn is_form(word: &[u8], small: &[u8], capital: &[u8], capitals: &[u8]) -> bool
+    ensures { result ≡ is_form small.now capital.now capitals.now word.now }
+{
+    word == small || word == capital || word == capitals
+}
