@@ -1,4 +1,4 @@
--- Two branches whose fronts hold the same patches in the same state.
+-- Two branches whose beginnings hold the same patches in the same state.
 use Rattle.std.specs.Prelude.{◌≡◌, ℕ, ◌+◌, ◌≤◌, List, drop, length, take}
 use Rattle.camp_catch.specs.Arranging.{Align}
 use Rattle.camp_catch.specs.Laws.{keys_of}

@@ -153,9 +153,9 @@ impl Branch {
         })
     }
 
-    /// How long a front of another branch is known to agree with a front of this one: at least as
-    /// long as it was known, with all catches behind it that are the same in both, and longer where
-    /// further catches of both are the same patches in other orders.
+    /// How long the beginnings of another branch and of this one are that agree. `known` is a
+    /// length for which they do. Behind that the answer takes in all catches that are the same in
+    /// both, and further ones where these are the same patches in other orders.
     pub fn agreed(&self, from: &Branch, known: usize) -> Result<usize, AllocError>
         requires { Agree from.now self.now known }
         ensures agree { IfOk result (Agree from.now self.now) }
@@ -169,8 +169,8 @@ impl Branch {
         )
     }
 
-    /// The branch with what the wanted patches of another one become behind it, or why they can't
-    /// come there.
+    /// The branch with the wanted patches of another one pulled behind its own, or why they can't
+    /// be pulled.
     pub fn pulled(&self, from: &Branch, wanted: &NameSet) -> Result<Branch, Unmade<Blocked>>
         requires lacked { AreLacked self.now (names_in wanted.now) }
         ensures exact { ComesTo (PullGives from.now self.now (names_in wanted.now)) result }
@@ -179,8 +179,8 @@ impl Branch {
         self.pulled_behind(from, wanted, known)
     }
 
-    /// The same, where fronts of the two branches are known to agree. It looks only at what stands
-    /// behind them.
+    /// The same, where beginnings of the two branches are known to agree. It looks only at what
+    /// stands behind them.
     pub fn pulled_behind(
         &self,
         from: &Branch,
@@ -210,8 +210,8 @@ impl Branch {
         Ok(self.with_end(start, &arranged.first, &arranged.rest, staying)?)
     }
 
-    /// The branch whose catches from a place on are brought into another order, and then end before
-    /// those that go, with the names of the patches that it has then.
+    /// The branch whose catches from a place on are brought into another order, and then cut off
+    /// before those that go. It gets the names of the patches that it has left.
     fn with_end(
         &self,
         start: usize,

@@ -1,11 +1,11 @@
-//! A pull begins behind fronts that agree.
+//! A pull begins behind beginnings of the two branches that agree.
 //!
-//! Fronts of two branches agree where the first n catches of the one, brought into the order of the first
-//! n of the other, are those. All their patches are common, so they come to the front of both by
-//! themselves, and come into order by moves inside the front alone: arranging, aligning and comparing
-//! leave them as they are, and go on behind them. Catches that are the same in both are passed by. How far
-//! fronts of the same labels reach from there is guessed by sums over the labels; that they agree, where they
-//! reach at all, is then found out by aligning them, and where they do not, the plain pull tells why.
+//! The first n catches of two branches agree where those of the one, brought into the order of those of the
+//! other, are the same. All their patches are common. So nothing has to pass them on its way to the front,
+//! and they come into order among themselves: arranging, aligning and comparing leave them as they are, and
+//! go on behind them. Catches that are the same in both are passed over. Sums over the labels guess how many
+//! more catches have the same labels. Where that is not none, aligning these finds out whether they agree;
+//! and where they do not, the plain pull tells why.
 ghost use Rattle.std.specs.Prelude.{◌+◌, ◌≤◌, drop, length, IfOk};
 ghost use Rattle.camp_branch.specs.Agreeing.{Agree, ReachesAll};
 ghost use Rattle.camp_branch.specs.Inside.Alike.{DifferBehind};
@@ -15,9 +15,9 @@ use camp_catch::{Catch, Unmade};
 use camp_share::{Shared, SharedList};
 use std::alloc::{AllocError, Global};
 
-/// How long fronts of two lists are that agree, at least as long as it is known. They are longer by
-/// the catches behind them that are the same, and by further ones of both that have the same labels
-/// and agree.
+/// How long the beginnings of two lists are that agree. `known` is a length for which they do. The
+/// answer is longer by the catches behind it that are the same in both, and by further ones that
+/// have the same labels and agree.
 pub(crate) fn agreed(
     alloc: Global,
     from: &SharedList<Shared<Catch>>,
@@ -44,7 +44,7 @@ pub(crate) fn agreed(
     }
 }
 
-/// How many catches behind fronts of two lists are the same in both.
+/// How many catches of two lists, behind the first `known`, are the same in both.
 fn same_behind(
     from: &SharedList<Shared<Catch>>,
     to: &SharedList<Shared<Catch>>,
@@ -56,6 +56,7 @@ fn same_behind(
     ensures fits_too { known + result ≤ length to.now }
     ensures most { DifferBehind (drop known from.now) (drop known to.now) result }
 {
+    // The proof is told that a length is a number of the machine.
     prove!(from.len() <= usize::MAX);
     let mut others = to.iter_from(known);
     let mut same = 0;
@@ -71,8 +72,8 @@ fn same_behind(
     same
 }
 
-/// How many catches of two lists behind fronts have, as it seems by sums over them, the same labels.
-/// They may still differ.
+/// How many catches of two lists, behind the first `known`, seem to have the same labels: sums over
+/// the labels are equal. The labels may still differ.
 fn alike_in_labels(
     from: &SharedList<Shared<Catch>>,
     to: &SharedList<Shared<Catch>>,
@@ -83,6 +84,7 @@ fn alike_in_labels(
     ensures fits { known + result ≤ length from.now }
     ensures fits_too { known + result ≤ length to.now }
 {
+    // The proof is told that a length is a number of the machine.
     prove!(from.len() <= usize::MAX);
     let mut others = to.iter_from(known);
     let mut difference: u64 = 0;

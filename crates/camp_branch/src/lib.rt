@@ -1,5 +1,5 @@
 //! Branches as lists of catches: the patches that they have, the trees that they lead to, and what
-//! comes of pulling patches from one into another and of taking patches out.
+//! pulling patches from one into another, or taking patches out, leads to.
 #![tactic(auto)]
 
 mod branches;

@@ -16,7 +16,7 @@ use camp_prim::Key;
 use camp_share::Shared;
 use std::alloc::{AllocError, Global};
 
-/// What the wanted catches of `from` become behind `to`, or why they can't come there.
+/// What the wanted catches of `from` become behind those of `to`, or why they can't be pulled.
 pub(crate) fn pull(
     alloc: Global,
     from: &[Shared<Catch>],

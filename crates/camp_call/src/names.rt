@@ -43,20 +43,6 @@ impl Names {
     pub fn is_same(&self, other: &Names) -> bool
         ensures exact { IsTrue result ↔ (self.now ≡ other.now) }
     {
-        if self.names.len() != other.names.len() {
-            return false;
-        }
-        for (at, name) in self.names.iter().enumerate() {
-            if !is_same_name(name, &other.names[at]) {
-                return false;
-            }
-        }
-        true
+        self.as_slice() == other.as_slice()
     }
-}
-
-fn is_same_name(name: &Name, other: &Name) -> bool
-    ensures { IsTrue result ↔ (name.now ≡ other.now) }
-{
-    name == other
 }

@@ -1,4 +1,4 @@
--- What comes of making something that may be blocked, where memory may run out too.
+-- The result of making something: it may be blocked, and memory may run out.
 use Rattle.std.specs.Prelude.{Result, Ok, Err}
 use Rattle.camp_catch.specs.declared.faults.Unmade.{Unmade}
 use Rattle.camp_catch.specs.declared.faults.Unmade.TheVariants.{Blocked, Memory}

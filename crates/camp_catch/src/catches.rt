@@ -9,15 +9,15 @@ use camp_share::Share;
 use std::alloc::AllocError;
 use std::slice;
 
-/// A patch of a branch: plain, or in conflict with others.
+/// One change of a patch as it stands in a branch: plain, or in conflict with others.
 #[derive(Drop)]
 pub enum Catch {
     Plain(Named),
     Conflictor(Conflictor),
 }
 
-/// A patch in conflict. It has the effect; what it conflicts with, and itself, are seen from the state
-/// after that.
+/// A change in conflict. `effect` is what it does to a tree. What it conflicts with, and which change
+/// it is, are seen from the state behind the effect.
 #[derive(Drop)]
 pub struct Conflictor {
     pub effect: Seq,

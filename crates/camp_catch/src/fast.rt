@@ -1,5 +1,5 @@
-//! Faster ways to what the rules say. Each says of itself when it goes, and there the rule's result is
-//! its own.
+//! Faster ways to the results of the rules. Each says when it may be taken; there its result is that
+//! of the rule.
 //!
 //! - Two plain catches that keep their lines change places, or merge, as they are. So no catch is made
 //!   anew. One that is made is not compared with the one before, which takes longer than to keep both.

@@ -61,14 +61,13 @@ pub fn lists_are_unique()
     ensures law { ListsAreUnique }
 {}
 
-/// Any two catches commute, or they do not, and so with merging.
+/// Of any two catches it is decided whether they commute, and whether they merge.
 #[tactic(auto, using(crate::proofs::ListResults::are_decided))]
 pub fn catches_are_decided()
     ensures law { CatchesAreDecided }
 {}
 
-/// Exactly one of two facts holds of a list: it is arranged, aligned or merged, or there are the
-/// labels where it sticks.
+/// Each list either can be arranged, aligned or merged, or sticks at some labels; never both.
 #[tactic(auto, using(crate::proofs::ListResults::lists_succeed_or_stick))]
 pub fn lists_succeed_or_stick()
     ensures law { ListsSucceedOrStick }

@@ -74,8 +74,8 @@ fn first_conflict(alloc: Global, a: &Named, b: &Named) -> Result<(Catch, Catch),
     Ok((Catch::Conflictor(after), Catch::Conflictor(beside)))
 }
 
-/// A plain catch and a conflictor: it joins the conflictor where it conflicts with what that is, as
-/// seen before its effect.
+/// A plain catch and a conflictor: the plain one joins the conflictor's set where it conflicts with
+/// the conflictor's identity, as that is seen from before the effect.
 fn plain_and_conflictor(
     alloc: Global,
     a: &Named,
@@ -90,7 +90,8 @@ fn plain_and_conflictor(
     Ok(plain_beside_conflictor(a, k)?)
 }
 
-/// Whether a patch is in conflict with what a conflictor is, as seen from before its effect.
+/// Whether a patch conflicts with the identity of a conflictor, as that is seen from before the
+/// conflictor's effect.
 pub(crate) fn conflicts_with(alloc: Global, a: &Named, k: &Conflictor) -> Result<bool, AllocError>
     ensures { IfOk result (TellsPlainConflict a.now k.now) }
 {

@@ -54,7 +54,7 @@ pub(crate) fn one_before(a: &Named, s: &Seq, k: &Conflictor) -> Result<Conflicto
 }
 
 /// `(s, X', i')`, where `r` added to `X` and `i` gives `X'` and `i'`
-pub(crate) fn both_before(r: &Seq, s: Seq, k: &Conflictor) -> Result<Conflictor, AllocError>
+fn both_before(r: &Seq, s: Seq, k: &Conflictor) -> Result<Conflictor, AllocError>
     ensures { IfOk result (Becomes (λ t. t ≡ s) (AddsAll r.now) (AddsAll r.now) k.now) }
 {
     others_before(r, s, k, &k.conflicts)

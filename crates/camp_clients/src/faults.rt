@@ -4,7 +4,7 @@ ghost use Rattle.camp_clients.specs.declared.faults.LockFault.TheVariants as fau
 use std::alloc::{AllocError, AllocFailed};
 use thiserror::Error;
 
-/// Why a run over a lock came to nothing.
+/// Why a run over a lock has no result.
 #[derive(Clone, Copy, PartialEq, Eq, Debug, Error)]
 pub enum LockFault {
     #[error("out of memory")]

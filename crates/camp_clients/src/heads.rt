@@ -18,7 +18,7 @@ use std::sync::Wait;
 use std::thread;
 use std::thread::Threads;
 
-/// What sections over one head came to: the answers of each, and the history.
+/// The results of sections over one head: the answers to each, and the history.
 #[derive(Drop)]
 pub struct HeadRun<State: Object> {
     pub answers: Vec<Answers<State>>,
@@ -78,15 +78,8 @@ fn each_meets<State: Object>(
     Ok((all, known))
 }
 
-/// Whether a seat that met so many clients has seen no more since, or met none.
-fn stays(met: usize, earlier: u64, now: u64) -> bool
-    ensures { IsTrue result → (met ≡ 0) ⊎ (earlier ≡ now) }
-{
-    met == 0 || earlier == now
-}
-
-/// A seat that met so many clients meets one more, and then knows what that has seen. Tells too whether it
-/// had seen all of it before, which the first client need not be asked.
+/// A seat that met so many clients meets one more, and then knows what that one has seen. Tells too
+/// whether the seat had seen all of it before; of the first client it says so without a look.
 fn meets_client<State: Object>(
     head: &Head<State>,
     known: Seat<State>,
@@ -108,14 +101,8 @@ fn meets_client<State: Object>(
     if answer.is_err() {
         return Err(AllocError);
     }
-    let stays = stays(met, earlier, known.position());
+    let stays = met == 0 || earlier == known.position();
     Ok((known, Client { seat, answers }, stays))
-}
-
-fn both(one: bool, other: bool) -> bool
-    ensures { IsTrue result → IsTrue one × IsTrue other }
-{
-    one && other
 }
 
 /// A seat meets each client, and then knows what they have seen. Tells too whether it saw nothing new at
@@ -143,7 +130,7 @@ fn meets_each<State: Object>(
     for client in clients {
         let (other, client, same) = meets_client::<State>(head, known, client, all.len())?;
         known = other;
-        stays = both(stays, same);
+        stays = stays && same;
         all.push(client)?;
     }
     Ok((known, all, stays))
@@ -285,6 +272,7 @@ where
         let (clients, opener) = each_meets::<State>(self.alloc, self.head, clients, opener)?;
         let clients = self.clients(clients)?;
         let (opener, clients) = meet_all::<State>(self.alloc, self.head, opener, clients)?;
+        // Its clauses show the proof that what the seat has seen is legal.
         let _number = opener.number();
         let answers = answers_of(self.alloc, opening, clients)?;
         Ok((opener, answers))

@@ -7,7 +7,7 @@ use crate::sections::{Answers, ask_all};
 use camp_object::{Book, BookDesk, Desk, Object};
 use std::alloc::{AllocError, Global};
 
-/// What sections over one book came to: the answers of each, and the book.
+/// The results of sections over one book: the answers to each, and the book.
 #[derive(Drop)]
 pub struct BookRun<State: Object> {
     pub answers: Vec<Answers<State>>,

@@ -11,7 +11,7 @@ use std::alloc::{AllocError, Global};
 /// The answers to a section of calls, in order.
 pub type Answers<State> = Vec<Result<<State as Object>::Reply, Fault>>;
 
-/// Asks the calls of a section in order. Want of memory ends it, in an answer too.
+/// Asks the calls of a section in order. Want of memory ends it, also where an answer tells it.
 pub fn ask_all<State: Object, D: Desk<State>>(
     alloc: Global,
     desk: &mut D,
@@ -33,7 +33,7 @@ pub fn ask_all<State: Object, D: Desk<State>>(
     Ok(answers)
 }
 
-/// The answer, but want of memory as an error.
+/// The answer; want of memory becomes an error.
 pub(crate) fn unless_memory<Reply>(
     answer: Result<Reply, Fault>,
 ) -> Result<Result<Reply, Fault>, AllocError>
@@ -45,7 +45,8 @@ pub(crate) fn unless_memory<Reply>(
     }
 }
 
-/// What was there first, and behind it what each thread brought; or want of memory where one wanted it.
+/// The values that were there first, and behind them what each thread brought; or want of memory, where
+/// a thread wanted it.
 pub(crate) fn gather<X: Drop>(
     first: Vec<X>,
     made: Vec<Result<X, AllocError>>,

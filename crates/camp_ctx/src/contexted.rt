@@ -109,7 +109,7 @@ impl Contexted {
         self.patch().is_same(other.patch())
     }
 
-    /// Whether a look has told that the context is its own normal order. Where it says no, it may still be.
+    /// A quick test, made once. True: the context is its own normal order. False: it may or may not be.
     pub(crate) fn context_is_ordered(&self) -> bool
         ensures { IsTrue result → Norm self.now.context self.now.context }
     {

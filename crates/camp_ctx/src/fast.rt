@@ -1,5 +1,5 @@
-//! Faster ways to what the rules say. Each says of itself when it goes, and there the rule's result is
-//! its own.
+//! Faster ways to the results of the rules. Each says when it may be taken; there its result is that
+//! of the rule.
 //!
 //! - A chain is added in one pass. Where the elements of a list, from some place on, neither swap nor
 //!   cancel with what stands behind them, adding them one by one puts each in front and orders nothing.

@@ -10,8 +10,8 @@ pub fn adding_always_gives()
     ensures law { AddingGives }
 {}
 
-/// What is valid behind a primitive or a list becomes valid before it, where that is added or passes
-/// by.
+/// Adding and passing by keep what is valid: what is valid behind a primitive or a list becomes
+/// something that is valid before it.
 pub fn adding_and_passing_keep_valid()
     ensures law { KeepValid }
 {}

@@ -14,10 +14,10 @@ use camp_row::{Entry, Row, Trail};
 use camp_share::Share as _;
 use std::alloc::AllocError;
 
-/// So many versions a seat notes at most.
+/// The most versions that a seat notes.
 const MOST_NOTED: usize = 16;
 
-/// Where a seat has noted as many versions as it may, it lets go of the oldest.
+/// Drops the oldest version that a seat noted, if it has noted as many as it may.
 fn make_room<State: Object>(bases: &mut Vec<Base<State>>)
     ensures { (gone : ℕ) × (bases.new.items ≡ drop gone bases.old.items) }
 {
@@ -87,13 +87,6 @@ impl<State: Object> Seat<State> {
         self.state = state;
         Ok(())
     }
-
-    /// Counts a version that was taken over.
-    fn count_version(&mut self)
-        ensures { self.new ≡ self.old }
-    {
-        self.adopted = self.adopted.saturating_add(1);
-    }
 }
 
 impl<State: Object> camp_share::Share for Version<State> {
@@ -122,7 +115,7 @@ impl<State: Object> Head<State> {
         self.versions.get(number)
     }
 
-    /// Where it is told what the version in the slot of a number was made from.
+    /// The slot beside the version of a number, which tells what that was made from.
     pub(crate) fn origin_slot(&self, number: usize) -> Option<&OriginSlot<State>>
         ensures { IfSome result (λ slot. slot.now.tag ≡ self.now.slots) }
     {
@@ -130,7 +123,7 @@ impl<State: Object> Head<State> {
     }
 
     /// The version that lies in a slot.
-    pub(crate) fn version_of(&self, base: &Base<State>) -> Option<&Version<State>>
+    fn version_of(&self, base: &Base<State>) -> Option<&Version<State>>
         requires { IsBaseAt self.now.slots (based base.now) }
         ensures is { IfSome result (λ version. version.now ≡ base.now.version.value) }
         ensures stored { IfSome result (λ version. All (λ mark. Shows self.now.store mark.call) version.now) }
@@ -186,7 +179,7 @@ impl<State: Object> Head<State> {
         Some(self.version_of(base)?.len())
     }
 
-    /// What the version was made from that another was made from.
+    /// What the version before was made from: the one that this one was made from.
     fn before(&self, origin: &Origin<State>) -> Option<&Origin<State>>
         requires { IsMadeFrom self.now.slots origin.now }
         ensures is { IfSome result (λ before. IsMadeFrom self.now.slots before.now) }
@@ -201,8 +194,8 @@ impl<State: Object> Head<State> {
         Some(before)
     }
 
-    /// How many calls a seat and a version have in common without a look at them: from what the version
-    /// was made from it goes back to a version that the seat noted.
+    /// How many calls a seat and a version have in common, without comparing calls: it goes back from
+    /// the version to the one that it was made from, and on, up to one that the seat noted.
     fn common(&self, seat: &Seat<State>, origin: &Origin<State>) -> usize
         requires seat { IsSeatOf self.now seat.now }
         requires origin { IsMadeFrom self.now.slots origin.now }
@@ -221,7 +214,8 @@ impl<State: Object> Head<State> {
         0
     }
 
-    /// Whether a version begins with the calls that a seat has seen, where so many are known to be the same.
+    /// Whether a version begins with the calls that a seat has seen. The first `from` are known to be the
+    /// same.
     fn begins(&self, seat: &Seat<State>, version: &Version<State>, from: usize) -> bool
         requires seat { IsSeatOf self.now seat.now }
         requires version { All (λ mark. Shows self.now.store mark.call) version.now }
@@ -241,7 +235,7 @@ impl<State: Object> Head<State> {
         true
     }
 
-    /// Whether what a version has behind a seat comes next along the trail.
+    /// Whether the calls of a version that a seat has not seen come next along the trail.
     fn leads_on(&self, seat: &mut Seat<State>, trail: &Trail, version: &Version<State>) -> bool
         requires row { seat.old.known.row ≡ self.now.row }
         requires leads { Leads seat.old.known seat.old.known.seen trail.now }
@@ -264,7 +258,8 @@ impl<State: Object> Head<State> {
         true
     }
 
-    /// Whether a version goes on from what a seat has seen, where so many calls are known to be the same.
+    /// Whether a version begins with what a seat has seen, and goes on along the trail. The first `from`
+    /// calls are known to be the same.
     fn goes_on(
         &self,
         seat: &mut Seat<State>,
@@ -282,7 +277,7 @@ impl<State: Object> Head<State> {
         self.begins(seat, version, from) && self.leads_on(seat, trail, version)
     }
 
-    /// Notes a version with which a seat's calls begin: only the last few are of use.
+    /// Notes a version with which a seat's calls begin. Only the last few notes are kept.
     pub(crate) fn note(&self, seat: &mut Seat<State>, base: Base<State>)
         requires seat { IsSeatOf self.now seat.old }
         requires base { IsBaseAt self.now.slots (based base) }
@@ -295,8 +290,7 @@ impl<State: Object> Head<State> {
         let _noted = seat.bases.push(base);
     }
 
-    /// The version of a slot and its length, if there is one that is longer than one number and at most
-    /// as long as another.
+    /// The version of a slot and its length, if it has more than `seen` calls and at most `reach`.
     fn found_at(&self, number: usize, seen: u64, reach: u64) -> Option<(&Origin<State>, u64)>
         ensures { IfSome result (λ found. IsFound self.now.slots seen reach found.0.now found.1) }
     {
@@ -309,8 +303,8 @@ impl<State: Object> Head<State> {
         }
     }
 
-    /// The longest version of those that seats handed on beyond one position and not beyond another, and its
-    /// length.
+    /// Of the versions that seats handed on, the longest with more than `seen` calls and at most `reach`,
+    /// and its length.
     fn longest_handed_on(&self, seen: u64, reach: u64) -> Option<(&Origin<State>, u64)>
         ensures { IfSome result (λ found. IsFound self.now.slots seen reach found.0.now found.1) }
     {
@@ -325,7 +319,7 @@ impl<State: Object> Head<State> {
         longest
     }
 
-    /// The same of those that were kept at positions.
+    /// The same, of the versions that are kept at positions.
     fn longest_kept(&self, seen: u64, reach: u64) -> Option<(&Origin<State>, u64)>
         ensures { IfSome result (λ found. IsFound self.now.slots seen reach found.0.now found.1) }
     {
@@ -344,7 +338,7 @@ impl<State: Object> Head<State> {
         None
     }
 
-    /// The same of all.
+    /// The same, of all versions.
     fn longest(&self, seen: u64, reach: u64) -> Option<(&Origin<State>, u64)>
         ensures { IfSome result (λ found. IsFound self.now.slots seen reach found.0.now found.1) }
     {
@@ -379,7 +373,7 @@ impl<State: Object> Head<State> {
         seat.is_whole();
         seat.adopt(&self.row, trail, version)?;
         self.note(seat, base.again());
-        seat.count_version();
+        seat.adopted = seat.adopted.saturating_add(1);
         Ok(())
     }
 

@@ -42,6 +42,7 @@ impl<State: Object> Head<State> {
         ensures asks { Ask State.object (caller_at self.now seat.old) (history_of seat.old) kept.call result (history_of seat.new) }
         ensures one_seat { seats_of self.now ≡ 1 → IsNotBusy result }
     {
+        // A look at a field shows the proof what holds of the head.
         let _tries = self.tries;
         let answer = match kept.place {
             Place::Here(call) => self.ask_question(seat, &call),

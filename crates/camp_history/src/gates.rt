@@ -1,17 +1,17 @@
-/// What a caller does between the steps of its calls, to tests mostly. It changes no answer. That it is
-/// told of each step, and by which numbers, is only tested.
+/// A gate is told of the steps of calls, and may wait there; tests mostly use one. It changes no
+/// answer. That it is told of each step, and with which numbers, is only tested.
 pub trait Gate {
-    /// Before a call of a seat, by the call's number.
+    /// Told before a call of a seat, with the call's number.
     fn before(&self, seat: u32, call: u32);
 
-    /// Just before an exchange, by how many this call has lost.
+    /// Told just before an exchange, with how many this call has lost.
     fn exchange(&self, seat: u32, lost: u32);
 
-    /// After a call.
+    /// Told after a call.
     fn after(&self, seat: u32, call: u32);
 }
 
-/// Does nothing.
+/// A gate that does nothing.
 #[derive(Clone, Copy, Debug)]
 pub struct NoGate;
 

@@ -60,7 +60,7 @@ impl<'a, Call> MarksLeft<'a, Call> {
     }
 }
 
-/// Marks once more, with room for one behind them.
+/// A copy of marks, with room for one more.
 pub(crate) fn copies<Call>(
     alloc: std::alloc::Global,
     marks: &[Mark<Call>],

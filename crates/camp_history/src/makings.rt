@@ -115,8 +115,8 @@ impl<State: Object> Head<State> {
     }
 
     /// Hands on what a seat has seen and decided, for seats that are behind: a seat that asks no more
-    /// saves them deciding it. It does so once; where no versions are kept, nothing comes of it. The
-    /// only fault is want of memory: then nothing is handed on, and all else is as it was.
+    /// saves them deciding it. It does so once; where no versions are kept, it does nothing. The only
+    /// fault is want of memory: then nothing is handed on, and all else is as it was.
     pub fn hand_on(&self, seat: &Seat<State>) -> Result<(), Fault>
         requires { IsSeatOf self.now seat.now }
         ensures only_memory { IfErr result (λ fault. fault ≡ Memory) }

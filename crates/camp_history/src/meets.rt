@@ -35,7 +35,8 @@ impl<State: Object> Head<State> {
         }
     }
 
-    /// A seat sees all of the chain that was found; what another has decided is taken over.
+    /// A seat sees all of the chain that was found. What the other one has decided is taken over
+    /// from it.
     fn follow_other(&self, seat: &mut Seat<State>, other: &Seat<State>) -> Result<(), AllocError>
         requires of { IsSeatOf self.now seat.old }
         requires other { IsSeatOf self.now other.now }
@@ -61,7 +62,8 @@ impl<State: Object> Head<State> {
         0
     }
 
-    /// Of two seats that found one chain, the calls agree as far as both have seen it.
+    /// Of two seats that found one chain, the calls agree as far as both have seen it. It is for the proof alone: that
+    /// two marks of one place show one call is a clause of `agrees`, which compares nothing.
     fn compare(&self, a: &Seat<State>, b: &Seat<State>)
         requires seats { IsSeatOf self.now a.now × IsSeatOf self.now b.now }
         requires chain { a.now.known.ahead ≡ b.now.known.ahead }

@@ -15,10 +15,10 @@ use camp_row::{Next, Pass, Row, Trail};
 use camp_share::Shared;
 use std::alloc::AllocError;
 
-/// So many calls a seat keeps by itself before it moves them into a list. A version is kept for each 64 calls, and
-/// most of these have fewer of them, so that a seat that takes one over need not move them.
+/// A seat keeps the marks of this many calls for itself before it moves them into the list that copies share. Most
+/// versions, one for each 64 calls, have fewer, so that a seat that takes one over need not move them.
 const FEW: usize = 40;
-/// More than the calls of any head.
+/// No head has more calls.
 const MOST_LISTED: usize = 4_194_304;
 
 /// Drafts the next cell, with a call's place, and exchanges.
@@ -38,7 +38,7 @@ impl<State: Object> Seat<State> {
     ghost use Rattle.camp_history.specs.Seats.{history_of};
     ghost use Rattle.camp_history.specs.Inside.Steps.{entries_of, DecidesAt, Publishes, FindsMore};
 
-    /// What holds of every seat.
+    /// What holds of every seat. It does nothing at run: a caller's proof reads its clauses.
     pub(crate) fn is_whole(&self)
         ensures places { entries_of self.now ≡ self.now.known.seen }
         ensures legal { IsLegal State.object (history_of self.now) }
@@ -89,7 +89,7 @@ impl<State: Object> Seat<State> {
     }
 
     /// Moves the last calls into the list that copies share, once there are some.
-    pub(crate) fn settle(&mut self) -> Result<(), AllocError>
+    fn settle(&mut self) -> Result<(), AllocError>
         ensures { self.new ≡ self.old }
     {
         let len = self.front.len();
@@ -128,6 +128,7 @@ impl<State: Object> Seat<State> {
     ) -> Result<Decided<State, State::Reply>, AllocError>
         ensures { IfOk result (DecidesAt State.object (history_of self.now) call.now) }
     {
+        // A look at a field shows the proof what holds of the seat.
         let _len = self.tail.len();
         self.state.decide(call)
     }

@@ -27,7 +27,8 @@ pub record SwapsOnTwoPaths (p q q' p' : Primitive) : Type 0 where
   pub second : q' ≡ q
   pub first : p' ≡ p
 
--- h k <-> k' h, where k stands a gap below what h leaves: k' stands as far below what h takes away
+-- h k <-> k' h, where k is the lower hunk: it stands a gap below the lines that h leaves, and k' as far below those
+-- that h takes away
 pub record SwapsBelow (p q q' p' : Primitive) : Type 0 where
   pub h : Edit
   pub k : Edit
@@ -40,7 +41,8 @@ pub record SwapsBelow (p q q' p' : Primitive) : Type 0 where
   pub second : q' ≡ Hunk (at_line (h.line + length h.old + gap) k)
   pub first : p' ≡ p
 
--- h k <-> k h', where h stands a gap below what k takes away: h' stands as far below what k leaves
+-- h k <-> k h', where h is the lower hunk: it stands a gap below the lines that k takes away, and h' as far below
+-- those that k leaves
 pub record SwapsAbove (p q q' p' : Primitive) : Type 0 where
   pub h : Edit
   pub k : Edit

@@ -9,9 +9,9 @@ use crate::swaps::targets_of;
 use crate::{Named, Primitive};
 use std::mem;
 
-/// Lets two neighbours change places: `first` then holds what `second` is before it, and `second`
-/// what `first` is behind that. Answers false where they can't, and leaves both as they were. It
-/// takes no memory.
+/// Commutes two neighbours of a list where they stand: `first` then holds what the second one has
+/// become, and `second` what the first one has become. Answers false where they don't commute, and
+/// leaves both as they were. It takes no memory.
 pub fn exchange(first: &mut Named, second: &mut Named) -> bool
     ensures exact { Changes Swapped (first.old, second.old) result (first.new, second.new) }
 {

@@ -13,8 +13,8 @@ use crate::{Hunk, Named, Primitive};
 use std::alloc::AllocError;
 
 /// What `p` and then `q` become in the other order: `Some((q', p'))`, where `q'` and then `p'` do
-/// what `p` and then `q` do, and None where they can't change places. None is answered whatever
-/// memory does.
+/// what `p` and then `q` do, and None where they don't commute. None is answered even where there
+/// is no memory.
 pub fn commute(p: &Named, q: &Named) -> Result<Option<(Named, Named)>, AllocError>
     ensures exact { IfOk result (FindsPair (Swap p.now q.now)) }
     ensures laws { IfOk result (λ found. IfSome found (λ pair. SwapLaws p.now q.now pair.0 pair.1)) }
@@ -33,7 +33,7 @@ pub fn commute(p: &Named, q: &Named) -> Result<Option<(Named, Named)>, AllocErro
     }
 }
 
-/// What two primitives become is determined.
+/// Two primitives commute to one pair at most.
 pub fn swap_is_unique()
     ensures law { SwapIsUnique }
 {}
@@ -95,8 +95,9 @@ fn hunk_targets(h: &Hunk, k: &Hunk) -> Option<Targets>
     None
 }
 
-/// The line to which the lower hunk comes where it stands behind what a hunk at line `upper` leaves,
-/// and is to stand as far behind what that takes. None where it can't pass it, or leaves the range.
+/// The line to which the lower hunk moves. It stands some lines below what the hunk at line `upper`
+/// leaves, and is to stand as many lines below what that one takes away. None where it can't pass,
+/// or would leave its range.
 fn line_below(upper: u32, takes: usize, leaves: usize, lower: &Hunk) -> Option<u32>
     requires { upper + takes + leaves ≤ greatest_reach }
     ensures { Finds (ComesTo upper takes leaves lower.now) result }

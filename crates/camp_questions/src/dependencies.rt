@@ -15,9 +15,9 @@ use camp_repo::{Branch, Names, State};
 use camp_share::Shared;
 use std::alloc::{AllocError, Global};
 
-/// What these names need in a branch: these, and each on which bringing them to the front of the branch
-/// sticks. They are told in the order of the branch. A pull into another branch may want others, which
-/// `along` tells.
+/// What these names need in a branch: the names themselves, and each patch that stops them on their way
+/// to its front. They are told in the order of the branch. A pull into another branch may want others,
+/// which `along` tells.
 pub fn needs(state: &State, branch: &Name, names: &[Name]) -> Result<Names, Unanswered>
     ensures exact { Tells (AreNeeded state.now branch.now names.now) result }
 {
@@ -27,8 +27,8 @@ pub fn needs(state: &State, branch: &Name, names: &[Name]) -> Result<Names, Unan
     Ok(in_order(branch, &needed)?)
 }
 
-/// The names that must go with these where they are taken out of a branch: these, and each of a patch
-/// that depends on one of them. They are told in the order of the branch.
+/// The names that must go with these where they are taken out of a branch: the names themselves, and
+/// each patch that depends on one of them. They are told in the order of the branch.
 pub fn held_by(state: &State, branch: &Name, names: &[Name]) -> Result<Names, Unanswered>
     ensures exact { Tells (AreHeldBy state.now branch.now names.now) result }
 {

@@ -6,12 +6,12 @@ use camp_base::{Name, Tree};
 use camp_repo::{Call, Conflicts, Decided, Reply, State};
 use std::alloc::AllocError;
 
-/// What a call would come to.
+/// What a call would lead to.
 #[derive(Drop)]
 pub struct Foreseen {
     /// The reply that it would get.
     pub reply: Reply,
-    /// The branch that it would write to, as it would stand then, where it would be accepted.
+    /// Where it would be accepted: the branch that it would write to, as that would stand then.
     pub changed: Option<Standing>,
 }
 
@@ -30,6 +30,7 @@ pub fn what_if(state: &State, call: &Call) -> Result<Foreseen, AllocError>
     ensures exact { IfOk result (λ seen. Foresees state.now call.now seen) }
     ensures memory { IfErr result (λ error. MayWantForesight state.now call.now) }
 {
+    // Its clauses show the proof that the state is lawful.
     let _lawful = state.count();
     match state.decide(call)? {
         Decided::Answer(reply) => Ok(Foreseen {

@@ -36,7 +36,7 @@ pub(crate) fn all_needed(branch: &Branch, names: &[Name]) -> Result<Vec<Needed>,
     }
 }
 
-/// The same by what bringing each to the front sticks on.
+/// The same, found by bringing each patch to the front: what stops it is needed.
 fn all_stuck(
     alloc: Global,
     catches: &[Shared<Catch>],

@@ -9,7 +9,7 @@ use Rattle.camp_repo.specs.declared.states.State.TheInside.{Inside}
 abbrev pub contents_of : Inside → Contents
 contents_of state = record { branches = zip state.names.keys state.branches; count = state.count }
 
--- there are as many names as branches, the state is lawful, and what is known of fronts of its branches holds
+-- there are as many names as branches, the state is lawful, and what is known of beginnings of its branches holds
 pub record IsState (state : Inside) : Type 0 where
   pub as_many : length state.names.keys ≡ length state.branches
   pub lawful : IsLawfulState (contents_of state)

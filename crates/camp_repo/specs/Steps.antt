@@ -1,4 +1,4 @@
--- What a call comes to, by the tests of its kind in their order: the first that fails decides.
+-- What a call leads to. Each kind of call has its tests, in an order, and the first that fails decides.
 use Rattle.std.specs.Prelude.{ℕ, ◌+◌, Bool, true, false, not, ◌&&◌, ◌||◌, nat_le, nat_lt, if◌then◌else◌, List, [], ◌∷◌, ◌++◌}
 use Rattle.std.specs.Prelude.{length, filter, Option, None, Some, Result, Ok, Err, bytes_eq, is_some}
 use Rattle.std.specs.Option.{option_map_or}

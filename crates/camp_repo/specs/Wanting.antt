@@ -16,7 +16,7 @@ HasBranch state name P = IsSomeAnd (catches_of state.branches name) P
 abbrev pub HasAll : List (List ℕ) → List Catch → Type 0
 HasAll names catches = first_lacked catches names ≡ None
 
--- whether names are given, and they are none
+-- whether a list is given, and has no name
 abbrev pub lists_none : Option (List (List ℕ)) → Bool
 lists_none None = false
 lists_none (Some names) = is_empty names

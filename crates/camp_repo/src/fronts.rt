@@ -8,10 +8,11 @@ use camp_share::{Share, SharedList};
 use std::alloc::{AllocError, Global};
 use std::marker::Model;
 
-/// Of how many pairs of branches the state keeps what is known of their fronts.
+/// The most pairs of branches of which a state keeps how long their beginnings agree.
 const MAX_PAIRS: usize = 64;
 
-/// How long fronts of two branches, by their places in the order of creation, are known to agree.
+/// Two branches, by their places in the order of creation, and how long their beginnings are known
+/// to agree.
 #[derive(Clone, Copy, Debug, PartialEq, Eq)]
 pub(crate) struct KnownFront {
     pub(crate) from: usize,
@@ -25,8 +26,8 @@ impl Share for KnownFront {
     }
 }
 
-/// How long fronts of pairs of branches are known to agree. Where there are too many pairs, the one that
-/// came first goes. What is learned of a pair once more stands where it stood before.
+/// Pairs of branches, and how long the beginnings of each are known to agree. Where there are too many
+/// pairs, the oldest is dropped. A pair of which more is learned keeps its place.
 #[derive(Drop)]
 pub(crate) struct KnownFronts {
     fronts: SharedList<KnownFront>,
@@ -51,7 +52,8 @@ impl KnownFronts {
         }
     }
 
-    /// How long fronts of two branches are known to agree: 0 where nothing is known of them.
+    /// How long the beginnings of two branches are known to agree: 0 where nothing is known of
+    /// them.
     pub(crate) fn between(&self, from: usize, to: usize) -> usize
         ensures { (branches : List (List Catch)) → AllByRecursion (AgreesIn branches) self.now
             → (theirs ours : List Catch) → slice_get branches from ≡ Some theirs → slice_get branches to ≡ Some ours
@@ -65,7 +67,7 @@ impl KnownFronts {
         0
     }
 
-    /// What is known, and of two branches how long their fronts agree.
+    /// All pairs, with how long the beginnings of two branches agree.
     pub(crate) fn learned(
         &self,
         from: usize,
@@ -79,8 +81,8 @@ impl KnownFronts {
         Ok(KnownFronts { fronts })
     }
 
-    /// What is known, and of a copy of a branch: so long it agrees with that branch, and with others as
-    /// far as that does, where there is room.
+    /// All pairs, and those of a new branch that is a copy of another, as long as there is room: the
+    /// copy agrees with that one for this length, and with others as far as that one does.
     pub(crate) fn copied(
         &self,
         of: usize,
@@ -98,7 +100,7 @@ impl KnownFronts {
         Ok(KnownFronts { fronts })
     }
 
-    /// The same. It shares all with this one.
+    /// An equal value. It shares everything with this one.
     pub(crate) fn try_clone(&self) -> Result<KnownFronts, AllocError>
         ensures { IfOk result (λ copy. copy ≡ self.now) }
     {
@@ -116,8 +118,8 @@ fn is_of(front: &KnownFront, from: usize, to: usize) -> bool
     front.to == to
 }
 
-/// What is known, and of two branches how long their fronts agree, where that stood if they had one.
-/// Where there are too many pairs, the one that came first goes.
+/// All pairs, with how long the beginnings of two branches agree: at the place of their pair, if
+/// there is one. Where there are too many pairs, the oldest is dropped.
 fn with_front(
     known: &SharedList<KnownFront>,
     from: usize,
@@ -138,7 +140,7 @@ fn with_front(
     others.pushed(front)
 }
 
-/// What is known, and what of it holds of a copy of a branch too, where there is room for more.
+/// All pairs, and behind them those that hold of a copy of a branch too, as long as there is room.
 fn taken_over(
     known: &SharedList<KnownFront>,
     of: usize,
@@ -159,7 +161,7 @@ fn taken_over(
     Ok(all)
 }
 
-/// What is known of a branch, as it holds of its copy.
+/// A pair with a branch in it, as it holds of the branch's copy.
 fn of_copy(front: &KnownFront, of: usize, copy: usize) -> Option<KnownFront>
     ensures { IfSome result (λ other. (branches : List (List Catch)) → AgreesIn branches front.now
         → slice_get branches copy ≡ slice_get branches of → AgreesIn branches other) }
@@ -182,7 +184,7 @@ fn of_copy(front: &KnownFront, of: usize, copy: usize) -> Option<KnownFront>
     None
 }
 
-/// The place of what is known of two branches.
+/// The place of the pair of two branches, if there is one.
 fn place_of(known: &SharedList<KnownFront>, from: usize, to: usize) -> Option<usize>
     ensures { IfSome result (λ at. at < length known.now) }
 {

@@ -12,7 +12,7 @@ use camp_branch::NameSet;
 use camp_share::{MapBuilder, SharedMap};
 use std::alloc::AllocError;
 
-/// The first listed name of which a branch has no patch; where there is no list, none.
+/// The first listed name of which a branch has no patch. Where there is no list, no name is lacked.
 pub(crate) fn first_lacked(branch: &Branch, names: &Option<Names>) -> Option<Name>
     ensures { result ≡ first_lacked branch.now (listed branch.now names.now) }
 {
@@ -22,7 +22,7 @@ pub(crate) fn first_lacked(branch: &Branch, names: &Option<Names>) -> Option<Nam
     }
 }
 
-/// Whether names are given, and they are none.
+/// Whether a list is given, and has no name.
 pub(crate) fn lists_none(names: &Option<Names>) -> bool
     ensures { result ≡ lists_none names.now }
 {
@@ -32,8 +32,8 @@ pub(crate) fn lists_none(names: &Option<Names>) -> bool
     }
 }
 
-/// The listed names, or all names of the one branch, of which the other has no patch. Fronts of the
-/// two, so long, agree.
+/// Of the listed names, or where there is no list of all names of `theirs`: those of which `ours`
+/// has no patch. Beginnings of the two, of this length, agree.
 pub(crate) fn wanted(
     ours: &Branch,
     theirs: &Branch,
@@ -50,8 +50,8 @@ pub(crate) fn wanted(
     }
 }
 
-/// The names of which a branch has no patch, of the catches of another one behind fronts of the two
-/// that agree.
+/// The names of the patches that `theirs` has and `ours` lacks. Beginnings of the two agree, so
+/// only the catches of `theirs` behind that are looked at.
 fn wanted_behind(ours: &Branch, theirs: &Branch, long: usize) -> Result<NameSet, AllocError>
     requires { Agree theirs.now ours.now long }
     ensures { IfOk result (λ set. (name : List ℕ) →
@@ -83,8 +83,9 @@ fn wanted_of(branch: &Branch, names: &[Name]) -> Result<NameSet, AllocError>
     Ok(set.into_map()?)
 }
 
-/// Whether a branch would be too long with the catches of these names of another, which it lacks.
-/// Fronts of the two, so long, agree: what is counted stands behind them.
+/// Whether a branch would be too long with the catches that another one has of these names. The
+/// branch lacks the names, and beginnings of the two, of this length, agree: so only what stands
+/// behind those is counted.
 pub(crate) fn is_full_with(ours: &Branch, theirs: &Branch, names: &NameSet, long: usize) -> bool
     requires agree { Agree theirs.now ours.now long }
     requires lacked { AreLacked ours.now (names_in names.now) }
@@ -94,18 +95,8 @@ pub(crate) fn is_full_with(ours: &Branch, theirs: &Branch, names: &NameSet, long
     if len.saturating_add(theirs.catches().len() - long) <= MAX_CATCHES {
         return false;
     }
-    let more = count_of(ours, theirs, names, long);
+    let more = count_behind(theirs, names, long);
     len.saturating_add(more) > MAX_CATCHES
-}
-
-/// How many catches of a branch have names that the other one lacks. What `ours` has is known to the
-/// proof alone: nothing of it is counted.
-fn count_of(ours: &Branch, theirs: &Branch, names: &NameSet, long: usize) -> usize
-    requires agree { Agree theirs.now ours.now long }
-    requires lacked { AreLacked ours.now (names_in names.now) }
-    ensures { result ≡ length (catches_named (names_in names.now) theirs.now) }
-{
-    count_behind(theirs, names, long)
 }
 
 /// How many catches of a branch from a place on have one of these names.
@@ -113,6 +104,7 @@ fn count_behind(branch: &Branch, names: &NameSet, from: usize) -> usize
     ensures { result ≡ length (catches_named (names_in names.now) (drop from branch.now)) }
 {
     let catches = branch.catches();
+    // The proof is told that a length is a number of the machine.
     prove!(catches.len() <= usize::MAX);
     let mut count = 0;
     for catch in catches.iter_from(from) {

@@ -37,7 +37,8 @@ fn is_long(change: &Primitive) -> bool
     }
 }
 
-/// The tree that changes lead to, each from that which those before it leave, or why they don't.
+/// The tree after all changes, each made in the tree that those before it leave; or why one of them
+/// can't be made.
 pub(crate) fn changed(tree: &Tree, changes: &[Primitive]) -> Result<Tree, Unmade<Refusal>>
     ensures { ComesTo (λ led. led ≡ changed changes.now tree.now) result }
 {

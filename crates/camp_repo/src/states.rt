@@ -88,7 +88,7 @@ impl State {
         }
     }
 
-    /// A state that is the same. It shares all with this one.
+    /// An equal state. It shares everything with this one.
     pub fn try_clone(&self) -> Result<State, AllocError>
         ensures exact { IfOk result (λ copy. copy ≡ self.now) }
     {
@@ -142,7 +142,7 @@ impl State {
         Some((place, branch))
     }
 
-    /// How long fronts of two branches, by their places, are known to agree.
+    /// How long the beginnings of two branches, given by their places, are known to agree.
     pub(crate) fn agreed(&self, from: usize, to: usize) -> usize
         ensures { (theirs ours : List Catch) → slice_get (catches_in self.now.branches) from ≡ Some theirs
             → slice_get (catches_in self.now.branches) to ≡ Some ours → Agree theirs ours result }
@@ -151,7 +151,7 @@ impl State {
     }
 
     /// The state after one more accepted call, where the branch at a place has grown to this one. What is
-    /// known of fronts holds on.
+    /// known of beginnings stays true.
     pub(crate) fn with_grown(&self, place: usize, branch: Branch) -> Result<State, AllocError>
         requires counts { self.now.count < 2 ^ 64 - 1 }
         requires grown { (old : List Catch) × (more : List Catch)
@@ -164,8 +164,8 @@ impl State {
         self.with_branch_at(place, branch, known)
     }
 
-    /// The same of a branch that has grown by a pull from the one at another place, and fronts of the two
-    /// agreed so long.
+    /// The same after a pull from the branch at another place. The beginnings of the two agreed for this
+    /// length.
     pub(crate) fn with_pulled(
         &self,
         from: usize,
@@ -187,7 +187,7 @@ impl State {
     }
 
     /// The state after one more accepted call, where the branch at a place becomes this one. All that was
-    /// known of fronts is forgotten.
+    /// known of beginnings is forgotten.
     pub(crate) fn with_replaced(&self, place: usize, branch: Branch) -> Result<State, AllocError>
         requires counts { self.now.count < 2 ^ 64 - 1 }
         requires within { place < length self.now.branches }

@@ -13,7 +13,8 @@ use camp_catch::Unmade;
 use std::alloc::AllocError;
 
 impl State {
-    /// What a call comes to, by the tests of its kind in their order: the first that fails decides.
+    /// What a call leads to. Each kind of call has its tests, in an order, and the first that fails
+    /// decides.
     pub fn decide(&self, call: &Call) -> Result<Decided<State, Reply>, AllocError>
         requires { self.now.count < 2 ^ 64 - 1 }
         ensures exact { IfOk result (λ decided. decided ≡ step self.now call.now) }

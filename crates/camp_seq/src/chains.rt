@@ -22,7 +22,8 @@ pub fn can_swap(p: &Named, q: &Named) -> bool
     commutes(p, q)
 }
 
-/// Whether the first element of a list does not swap with the one before it, or there is none.
+/// Whether `p` does not swap with the first element of the list behind it. True where that list is
+/// empty.
 fn stays_before(p: &Named, s: &[Named]) -> bool
     ensures { IsTrue result ↔ StaysBefore p.now s.now }
 {

@@ -1,5 +1,5 @@
-//! Faster ways to what the rules say. Each says of itself when it goes, and there the rule's result is
-//! its own.
+//! Faster ways to the results of the rules. Each says when it may be taken; there its result is that
+//! of the rule.
 //!
 //! - A list is its own normal order where the label of each element is not less than any before it, or the
 //!   element does not swap with the one before it. Then no element can come before one with a greater label.

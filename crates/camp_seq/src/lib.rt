@@ -21,6 +21,7 @@ pub use laws::{
     clean_merge_closes, clean_merge_is_equivalent, clean_merge_is_passing_the_inverse,
     clean_merge_is_symmetric, equivalent_lists_run_alike, every_list_has_a_normal_order,
     inverse_of_a_list_leads_back, lists_of_results_are_equivalent, results_of_lists_are_determined,
+    splits_are_by_labels,
 };
 pub use merges::{clean_merge, invert_all};
 pub use normal_forms::{normal_order_is_a_normal_form, six_orders_of_three_agree};

@@ -29,7 +29,7 @@ impl Seq {
         }
     }
 
-    /// The list without a primitive, with room for as many.
+    /// The list without a primitive, with room for so many.
     pub fn with_room(alloc: Global, room: usize) -> Result<Seq, AllocError>
         ensures exact { IfOk result (λ seq. seq ≡ []) }
     {

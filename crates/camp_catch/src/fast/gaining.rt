@@ -15,7 +15,8 @@ use camp_share::{Share, Shared};
 use std::alloc::{AllocError, Global};
 use std::marker::Model;
 
-/// A catch, and what it has gained since its set was made: the set is made once for them all.
+/// A catch, and the conflicts that it has gained since its set was made. The set is made anew once
+/// for all of them.
 #[derive(Drop)]
 pub(crate) struct Gaining {
     catch: Shared<Catch>,
@@ -91,7 +92,8 @@ impl Gaining {
         }
     }
 
-    /// Goes behind the `j` of the same state, where nobody reads what that becomes.
+    /// Merges with the `j` of the same state, and becomes what it is behind `j`. What `j` becomes
+    /// is not made, since nobody reads it.
     pub(crate) fn go_behind(&mut self, j: &Gaining) -> Result<bool, AllocError>
         ensures exact { IfOk result (λ done. Changes (MergesBehind j.now) self.old done self.new) }
     {

@@ -9,8 +9,8 @@ use camp_prim::{Named, stay};
 use camp_seq::stays_past;
 
 impl Contexted {
-    /// Whether the contexted patch is as it was where `a` is added, and `a` passes by it. Where it says
-    /// no, it may still be. It takes no memory.
+    /// A quick test. True: adding `a` leaves the contexted patch as it is, and `a` passes by it. False:
+    /// it may or may not. It takes no memory.
     pub fn stays_behind(&self, a: &Named) -> bool
         ensures sound { IsTrue result → Adds a.now self.now self.now }
         ensures passes { IsTrue result → PassesBy a.now self.now self.now }
@@ -27,7 +27,7 @@ impl Contexted {
 }
 
 impl CtxSet {
-    /// Whether each member is as it was where `a` is added. Where it says no, they may still be. It
+    /// A quick test. True: adding `a` leaves each member as it is. False: it may or may not. It
     /// takes no memory.
     pub fn stays_behind(&self, a: &Named) -> bool
         ensures sound { IsTrue result → EachMember (Adds a.now) self.now self.now }

@@ -20,7 +20,7 @@ Precedes (q ∷ s) p p' s' =
 abbrev pub PrecedesInPlace : List Named × Named → List Named × Named → Type 0
 PrecedesInPlace old new = Precedes old.0 old.1 new.1 new.0
 
--- p does not come to before an element of a and what is behind it
+-- a and then s stand before p: on its way to the left p comes to no place before an element of a
 abbrev pub IsHeld : List Named → List Named → Named → Type 0
 IsHeld [] s p = Unit {0}
 IsHeld (y ∷ a) s p = ((p' : Named) (t : List Named) → ¬ (Precedes (y ∷ (a ++ s)) p p' t)) × IsHeld a s p

@@ -1,5 +1,7 @@
 use Rattle.camp_clients.proofs.Words.{◌≡◌, sym, ap, ◌∙◌, subst, refl, IsFront, own, IsSeatOf, history_of, sight_of, IsMet, IsSeen, front_front, front_self}
 use Rattle.camp_clients.proofs.Meeting.{met_still, seen_still, zip_push, all_first, all_rest}
+use Rattle.std.specs.Bool.{IsTrue}
+use Rattle.camp_clients.proofs.heads.meets_each.Goals.{else-stays, then-stays}
 use Rattle.camp_clients.proofs.heads.meets_each.Goals as goal
 
 pub loop-client-preserved : goal.loop-client-preserved
@@ -17,10 +19,15 @@ loop-client-preserved g c =
           (zip_push (IsSeen (sight_of c.args.head.now) now) c.loop-client.yielded c.loop-client.all.items c.in-Some.client _
           (seen_still (sight_of c.args.head.now) (history_of c.loop-client.known) now m.grows c.loop-client.yielded c.loop-client.all.items inv.clients)
           m.client);
-      stays = λ yes. rw c.in_ok-push.ensures.items
+      stays = λ yes.
+          let both : IsTrue c.loop-client.stays × IsTrue c.in_ok-other.same = elim c.if-stays.branch [
+            | then-stays w ↦ (w.if-stays.true, sym w.stays-is ∙ yes)
+            | else-stays w ↦ absurd (let e = sym (sym w.stays-is ∙ yes) ∙ w.if-stays.false in cc)
+          ] in
+          rw c.in_ok-push.ensures.items
           (zip_push (IsMet (sight_of c.args.head.now) now) c.loop-client.yielded c.loop-client.all.items c.in-Some.client _
           (met_still (sight_of c.args.head.now) (history_of c.loop-client.known) now c.len-in-loop-client.result _ _ m.grows
-          refl refl c.loop-client.yielded c.loop-client.all.items (c.len-in-loop-client.ensures ∙ c.loop-client.all.ok.0) (m.stays (c.both-stays.ensures yes).1) (inv.stays (c.both-stays.ensures yes).0))
+          refl refl c.loop-client.yielded c.loop-client.all.items (c.len-in-loop-client.ensures ∙ c.loop-client.all.ok.0) (m.stays both.1) (inv.stays both.0))
           m.met);
     }
 

@@ -20,13 +20,13 @@ returns-clause-more g c =
     let old = c.args.seat.now in
     let new = c.adopt.new.self in
     let more : SeesMore old new = adopts_more old new c.args.version.now c.is_whole.ensures.places c.is_whole.ensures.sound c.requires.goes_on c.in_ok-adopt.ensures.ok in
-    subst (SeesMore old) (sym c.count_version.ensures) (sees_same old new c.note.new.seat more c.note.ensures.known c.note.ensures.marks)
+    subst (SeesMore old) (sym c.seat.view_is) (sees_same old new c.note.new.seat more c.note.ensures.known c.note.ensures.marks)
 
 pub returns-clause-ahead : goal.returns-clause-ahead
 returns-clause-ahead g c =
-    ap (λ seat. seat.known.ahead) c.count_version.ensures ∙ ap (λ known. known.ahead) c.note.ensures.known ∙ ap (λ known. known.ahead) c.in_ok-adopt.ensures.ok.known
+    ap (λ seat. seat.known.ahead) c.seat.view_is ∙ ap (λ known. known.ahead) c.note.ensures.known ∙ ap (λ known. known.ahead) c.in_ok-adopt.ensures.ok.known
 
 pub returns-clause-leads : goal.returns-clause-leads
 returns-clause-leads g c =
-    let known = ap (λ seat. seat.known) c.count_version.ensures ∙ c.note.ensures.known in
+    let known = ap (λ seat. seat.known) c.seat.view_is ∙ c.note.ensures.known in
     subst (λ known. Leads known known.seen c.adopt.new.trail) (sym known) c.in_ok-adopt.ensures.leads
