@@ -17,7 +17,7 @@ ghost use Rattle.camp_catch.specs.declared.catches.Catch.TheVariants.{Plain};
 use crate::seen::{against, both_behind, in_conflict_with, joined, one_before, takes_back};
 use crate::values::{bare, inverse};
 use crate::{Catch, Conflictor};
-use camp_ctx::{Contexted, conflict, merge_behind_common};
+use camp_ctx::{Contexted, conflict, conflict_behind, merge_behind_common};
 use camp_prim::{Named, commute};
 use camp_seq::{Seq, invert_all, ordered, past};
 use std::alloc::{AllocError, Global};
@@ -95,6 +95,9 @@ fn plain_and_conflictor(
 pub(crate) fn conflicts_with(alloc: Global, a: &Named, k: &Conflictor) -> Result<bool, AllocError>
     ensures { IfOk result (TellsPlainConflict a.now k.now) }
 {
+    if let Some(found) = conflict_behind(a, &k.effect, &k.identity)? {
+        return Ok(found);
+    }
     let own = bare(alloc, a)?;
     let seen = Contexted::add(&k.effect, &k.identity)?;
     conflict(&own, &seen)
@@ -212,7 +215,7 @@ pub(crate) fn seen_behind(list: &Seq, x: &Contexted) -> Result<Contexted, AllocE
     ensures { IfOk result (AddsAll (inverse_all list.now) x.now) }
 {
     let back = invert_all(list)?;
-    Contexted::add(&back, x)
+    Contexted::add_given(back, x)
 }
 
 /// Two conflictors, each in conflict with the other's identity too where they are in conflict.

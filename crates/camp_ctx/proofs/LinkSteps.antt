@@ -1,5 +1,7 @@
 -- What neither swaps nor cancels with its neighbour is kept before the context.
-use Rattle.camp_ctx.proofs.Words.{List, [], ◌∷◌, ◌++◌, refl, subst, inverse_of, label_of, Swap, Named, chain_is_ordered, front_of_chain, Adds, AddsAll, Cancels, GivesNone, PassesBy, keep, ContextedPatch, Links}
+use Rattle.camp_ctx.proofs.Words.{◌≡◌, ◌<◌, ◌∙◌, ap, ℕ, length, List, [], ◌∷◌, ◌++◌, refl, subst, inverse_of, label_of, Swap, Named, chain_is_ordered, front_of_chain, Adds, AddsAll, Cancels, GivesNone, PassesBy, keep, ContextedPatch, Links}
+use Rattle.std.proofs.Common.{append-nil}
+use Rattle.camp_ctx.specs.Inside.Links.{LinksFrom}
 use Rattle.camp_seq.specs.Chains.{Chain}
 
 abbrev at : List Named → Named → ContextedPatch
@@ -17,6 +19,19 @@ no_passing a (q ∷ s) patch l y w = l.0 (w.past_context.0, (w.past_context.1, w
 chain_more : (a : Named) (s : List Named) (patch : Named) → Chain s → Links a s patch → Chain (a ∷ s)
 chain_more a [] patch c l = (tt, tt)
 chain_more a (q ∷ s) patch c l = (l.0, c)
+
+-- a list that is all put before nothing becomes the context
+pub all_linked : (r s : List Named) (x : ContextedPatch) (patch : Named) (start : ℕ) → s ≡ [] → s ≡ x.context → patch ≡ x.patch → start ≡ 0 → LinksFrom r s patch start → AddsAll r x (at r x.patch)
+all_linked r s x patch start none own same whole w =
+    let all : LinksFrom r s patch 0 = subst (LinksFrom r s patch) whole w in
+    let before : at s patch ≡ x = λ i. record { context = own i; patch = same i } in
+    let after : at (r ++ s) patch ≡ at r x.patch = λ i. record { context = (ap (λ t. r ++ t) none ∙ append-nil r) i; patch = same i } in
+    subst (AddsAll r x) after (subst (λ y. AddsAll r y (at (r ++ s) patch)) before all.1)
+
+pub chain_linked : (r s : List Named) (patch : Named) (start : ℕ) → s ≡ [] → start ≡ 0 → 0 < length r → LinksFrom r s patch start → Chain r
+chain_linked r s patch start none whole some w =
+    let all : LinksFrom r s patch 0 = subst (LinksFrom r s patch) whole w in
+    subst Chain (ap (λ t. r ++ t) none ∙ append-nil r) (all.2 some)
 
 -- a chain with one primitive more before it
 pub record Linked (r s : List Named) (patch : Named) : Type 0 where

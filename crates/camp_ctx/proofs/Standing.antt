@@ -1,9 +1,10 @@
 -- What stays as it is where a primitive passes it as it is.
-use Rattle.camp_ctx.proofs.Words.{◌≡◌, ◌∙◌, ℕ, suc, ◌<◌, ◌≤◌, length, Some, None, Bool, true, false, cond, List, [], ◌∷◌, ◌++◌, map, refl, sym, ap, subst, inl, inr, arith, slice_get, none-some, same_Some, entries, get-entries, len, len-entries, find, eq_by_cmp, inverse_of, label_of, key_of, key_cmp, Swap, Key, Label, Named, inverse_of-inverse_of, Norm, Splits, Parts, Passes, passes_row, chain_is_ordered, Adds, PassesBy}
+use Rattle.camp_ctx.proofs.Words.{◌≡◌, ◌∙◌, ℕ, suc, get_or, ◌<◌, ◌≤◌, length, Some, None, Bool, true, false, cond, List, [], ◌∷◌, ◌++◌, map, refl, sym, ap, subst, inl, inr, arith, slice_get, none-some, same_Some, entries, get-entries, len, len-entries, find, eq_by_cmp, inverse_of, label_of, key_of, key_cmp, Swap, Key, Label, Named, inverse_of-inverse_of, Norm, Splits, Parts, Passes, passes_row, chain_is_ordered, Adds, PassesBy}
 use Rattle.std.proofs.lemmas.List.Folds.{list_any-append}
 use Rattle.std.proofs.Common.{◌||◌}
 use Rattle.camp_prim.specs.Labels.{label_cmp}
 use Rattle.camp_ctx.proofs.Words.{commute, MergesBehindCommon, common_labels, has_label, Conflict, ChangesAt, ContextedPatches, EachMember, ContextedPatch, whole}
+use Rattle.camp_ctx.specs.Contexts.{bare}
 use Rattle.camp_ctx.specs.Inside.Apart.{LacksLabels, NoCleanMerge}
 use Rattle.camp_ctx.proofs.CommonLabels.{IsIn, in_from_fronts, in_from_has}
 use Rattle.camp_ctx.proofs.ConflictSteps.{conflicts_from, merges_as_the_rests}
@@ -104,6 +105,11 @@ first_of_context x [] p is there = absurd (none-some p (sym there))
 first_of_context x (q ∷ s) p is there =
     (s ++ x.patch ∷ [], ap (λ c. c ++ x.patch ∷ []) (sym is) ∙ ap (λ y. y ∷ s ++ x.patch ∷ []) (sym (same_Some p q there)))
 
+-- the first of a list is the first of it with one more
+pub first_of_list : (s : List Named) (patch q : Named) → 0 < length s → q ≡ get_or s 0 q → (rest : List Named) × (s ++ patch ∷ [] ≡ q ∷ rest)
+first_of_list [] patch q some is = absurd (omega arith)
+first_of_list (p ∷ s) patch q some is = (s ++ patch ∷ [], ap (λ y. y ∷ s ++ patch ∷ []) (sym is))
+
 -- lists do not merge where their first primitives do not
 pub firsts_stop : (s t rest more : List Named) (p q : Named) → s ≡ p ∷ rest → t ≡ q ∷ more → NoCleanMerge (p ∷ []) (q ∷ []) → NoCleanMerge s t
 firsts_stop s t rest more p q first second never = rw (first, second) (λ t' s' w.
@@ -119,3 +125,14 @@ clashes x y lacks own other never t' s' w =
     let front = no_split (common_labels s t) s nothing own in
     let behind = no_split (common_labels s t) t nothing other in
     conflicts_from s t x y refl refl (merges_as_the_rests s t (common_labels s t) refl [] [] s t front behind refl None (λ pair. never pair.0 pair.1)) t' s' w
+
+-- what goes back past a list and a patch behind it, where all stay as they are, does not conflict with them
+pub none_behind : (a patch : Named) (s : List Named) → Passes (inverse_of a) (s ++ patch ∷ []) (s ++ patch ∷ []) (inverse_of a) → Norm (s ++ patch ∷ []) (s ++ patch ∷ []) → ¬ (Conflict (bare a) (record { context = s; patch = patch }))
+none_behind a patch s passes own conflict =
+    let t : List Named = s ++ patch ∷ [] in
+    conflict t (a ∷ []) (subst (λ p. MergesBehindCommon (p ∷ []) t t (p ∷ [])) (inverse_of-inverse_of a) (merges_aside (inverse_of a) t passes own))
+
+-- and what does not merge with them, under a label that they don't have, does
+pub some_behind : (a patch : Named) (s : List Named) → has_label (s ++ patch ∷ []) (label_of a) ≡ false → NoCleanMerge (a ∷ []) (s ++ patch ∷ []) → Norm (s ++ patch ∷ []) (s ++ patch ∷ []) → Conflict (bare a) (record { context = s; patch = patch })
+some_behind a patch s lacks stops own =
+    clashes (bare a) (record { context = s; patch = patch }) (lacks, tt) (chain_is_ordered (a ∷ []) (tt, tt)) own stops

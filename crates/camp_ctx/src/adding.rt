@@ -7,10 +7,10 @@ ghost use Rattle.camp_seq.specs.NormalOrder.{Norm};
 ghost use Rattle.camp_ctx.specs.Adding.{Adds, AddsAll, Cancels, Keeps, PassesBy, PassesByAll};
 
 use crate::conflicts::has_label;
-use crate::fast::linked;
+use crate::fast::{becomes_context, linked};
 use crate::{Contexted, join};
 use camp_prim::{Named, commute};
-use camp_seq::{Seq, front, ordered, past};
+use camp_seq::{Seq, are_own_orders_of_chain, front, ordered_before, past};
 use std::alloc::{AllocError, Global};
 use std::slice;
 
@@ -26,6 +26,19 @@ impl Contexted {
             sum = Contexted::add_one(&items[at], &sum)?;
         }
         Ok(sum)
+    }
+
+    /// The same of a list that is given away. Where all of it is put before an empty context as it stands, it
+    /// becomes the context, and nothing of it is copied.
+    pub fn add_given(r: Seq, x: &Contexted) -> Result<Contexted, AllocError>
+        ensures exact { IfOk result (λ y. AddsAll r x.now y) }
+    {
+        if !becomes_context(&r, x) {
+            return Contexted::add(&r, x);
+        }
+        let patch = x.patch().try_clone()?;
+        let told = are_own_orders_of_chain(r.items(), &patch);
+        Contexted::told(x.allocator(), r, patch, told)
     }
 
     /// What is seen behind a primitive, as it is seen before it: its inverse at the front of the
@@ -129,5 +142,6 @@ fn kept(a: &Named, x: &Contexted) -> Result<Contexted, AllocError>
 fn in_order(alloc: Global, context: Seq, patch: Named) -> Result<Contexted, AllocError>
     ensures { IfOk result (λ y. Norm context y.context × (y.patch ≡ patch)) }
 {
-    Contexted::new(alloc, ordered(context), patch)
+    let (context, told) = ordered_before(context, &patch);
+    Contexted::told(alloc, context, patch, told)
 }

@@ -1,4 +1,4 @@
-ghost use Rattle.std.specs.Prelude.{◌≡◌, ◌↔◌, IfOk, IsTrue};
+ghost use Rattle.std.specs.Prelude.{◌≡◌, ◌↔◌, [], ◌∷◌, ◌++◌, IfOk, IsTrue};
 ghost use Rattle.camp_seq.specs.NormalOrder.{Norm};
 ghost use Rattle.camp_ctx.specs.Contexts.{context_key, whole};
 
@@ -43,7 +43,22 @@ impl Contexted {
     pub fn new(alloc: Global, context: Seq, patch: Named) -> Result<Contexted, AllocError>
         ensures exact { IfOk result (λ x. x ≡ record { context = context; patch = patch }) }
     {
-        let (context_is_ordered, whole_is_ordered) = are_own_orders(context.items(), &patch);
+        let told = are_own_orders(context.items(), &patch);
+        Contexted::told(alloc, context, patch, told)
+    }
+
+    /// `c:p`, where a look has told whether the context is its own normal order, and whether the whole is.
+    pub(crate) fn told(
+        alloc: Global,
+        context: Seq,
+        patch: Named,
+        told: (bool, bool),
+    ) -> Result<Contexted, AllocError>
+        requires context { IsTrue told.0 → Norm context context }
+        requires all { IsTrue told.1 → Norm (context ++ patch ∷ []) (context ++ patch ∷ []) }
+        ensures { IfOk result (λ x. x ≡ record { context = context; patch = patch }) }
+    {
+        let (context_is_ordered, whole_is_ordered) = told;
         let parts = Shared::new(
             alloc,
             Parts {

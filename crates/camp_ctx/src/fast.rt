@@ -4,10 +4,17 @@
 //! - A chain is added in one pass. Where the elements of a list, from some place on, neither swap nor
 //!   cancel with what stands behind them, adding them one by one puts each in front and orders nothing.
 //!   So they are joined to the context at once, and the rest is added one by one.
+//! - A chain that is given away, and is all put before an empty context, becomes the context. No element of it is
+//!   copied.
+//! - A patch without a context is looked at beside a chain that is all put before another patch: where its inverse
+//!   passes them as they are, it does not conflict with them, and where it does not merge with the first of them,
+//!   under a label that they don't have, it does. What is seen behind the chain is not made.
 //! - What a primitive passes as it is, and what is its own normal order then, stays as it is where the
 //!   primitive is added, and is shared.
 //! - Whether a look tells that the context, and the whole, is its own normal order is found out once, when a
-//!   contexted patch is made, and kept with it (`Contexted::context_is_ordered`, `whole_is_ordered`).
+//!   contexted patch is made, and kept with it (`Contexted::context_is_ordered`, `whole_is_ordered`). A context that
+//!   is put in order is looked at once for both, and of a chain the last element alone, where the patch doesn't pass
+//!   that.
 //! - A patch without a context, whose inverse passes the whole of another contexted patch as it is, does
 //!   not conflict with it: the two merge with nothing in common. No list is made of it.
 //! - Contexted patches that change other files, under other absolute labels, do not conflict: their normal
@@ -17,11 +24,13 @@
 //!   of them.
 //! - Two lists with no label in common merge as they stand where each is its own normal order: a split
 //!   takes nothing off. Where their first primitives do not merge, the lists do not, and neither is copied.
+mod behind;
 mod conflicts;
 mod elsewhere;
 mod links;
 mod stays;
 
+pub use behind::conflict_behind;
 pub(crate) use conflicts::{are_apart, clash, merge_apart, stand_aside};
 pub(crate) use elsewhere::are_elsewhere;
-pub(crate) use links::linked;
+pub(crate) use links::{becomes_context, linked};

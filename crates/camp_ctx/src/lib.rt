@@ -12,6 +12,7 @@ mod sets;
 
 pub use conflicts::{conflict, merge_behind_common};
 pub use contexted::Contexted;
+pub use fast::conflict_behind;
 pub use joins::join;
 pub use laws::{
     adding_always_gives, adding_and_passing_keep_valid, adding_the_empty_list_changes_nothing,

@@ -141,6 +141,15 @@ with_one_more s last x greatest more long is in_order stays =
     let front : s ≡ take i s ++ last ∷ [] = sym (take_all (i + 1) s (omega arith)) ∙ take_more s i last (omega arith) ∙ ap (λ y. take i s ++ y ∷ []) (sym is) in
     subst (λ l. Norm (l ++ x ∷ []) (l ++ x ∷ [])) (sym front) (more_in_order (take i s) last x greatest more (subst (λ l. IsInOrder l greatest) front in_order) stays).ordered
 
+-- a chain, and an element that does not swap with its last
+pub chain_with_last : (s : List Named) (last x : Named) → 0 < length s → last ≡ get_or s (length s - 1) last → Chain s → ¬ (CanSwap last x) → Norm (s ++ x ∷ []) (s ++ x ∷ [])
+chain_with_last s last x long is c stuck =
+    let i = length s - 1 in
+    let e : i + 1 ≡ length s = omega arith in
+    let front : s ≡ take i s ++ last ∷ [] = sym (take_all (i + 1) s (omega arith)) ∙ take_more s i last (omega arith) ∙ ap (λ y. take i s ++ y ∷ []) (sym is) in
+    let own : Norm (take i s ++ last ∷ []) (take i s ++ last ∷ []) = subst (λ l. Norm l l) front (chain_is_ordered s c) in
+    subst (λ l. Norm (l ++ x ∷ []) (l ++ x ∷ [])) (sym front) (ordered_with (take i s ++ last ∷ []) x own (inr (stuck_behind (take i s) last x stuck)))
+
 -- a list of nothing
 pub none_in_order : (s : List Named) (test : Bool) → test ≡ (length s == 0) → test ≡ true → Norm s s
 none_in_order [] test counts is = chain_is_ordered [] tt

@@ -12,4 +12,4 @@ mod looks;
 
 pub(crate) use insertions::order_by_insertion;
 pub(crate) use looks::is_stopped;
-pub use looks::{are_own_orders, is_own_order, stays_past};
+pub use looks::{are_own_orders, are_own_orders_of_chain, is_own_order, stays_past};

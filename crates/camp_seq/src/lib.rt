@@ -15,7 +15,7 @@ mod seqs;
 mod splits;
 
 pub use chains::{can_swap, is_chain};
-pub use fast::{are_own_orders, is_own_order, stays_past};
+pub use fast::{are_own_orders, are_own_orders_of_chain, is_own_order, stays_past};
 pub use fronts::front;
 pub use laws::{
     clean_merge_closes, clean_merge_is_equivalent, clean_merge_is_passing_the_inverse,
@@ -25,7 +25,7 @@ pub use laws::{
 };
 pub use merges::{clean_merge, invert_all};
 pub use normal_forms::{normal_order_is_a_normal_form, six_orders_of_three_agree};
-pub use orders::{norm, ordered};
+pub use orders::{norm, ordered, ordered_before};
 pub use passes::{past, past_all};
 pub use rooms::{has_room, reach_gives_room};
 pub use runs::apply_all;

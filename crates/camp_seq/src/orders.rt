@@ -1,4 +1,4 @@
-ghost use Rattle.std.specs.Prelude.{List, ◌≡◌, ◌<◌, ◌↔◌, length, IfOk, IsTrue};
+ghost use Rattle.std.specs.Prelude.{List, [], ◌∷◌, ◌++◌, ◌≡◌, ◌<◌, ◌↔◌, length, IfOk, IsTrue};
 ghost use Rattle.std.specs.Ordering.{is_lt};
 ghost use Rattle.std.specs.declared.cmp.Ordering.TheVariants.{Less};
 ghost use Rattle.camp_prim.specs.declared.named.Named.{Named};
@@ -9,7 +9,7 @@ ghost use Rattle.camp_seq.specs.NormalOrder.{Norm};
 ghost use Rattle.camp_seq.specs.Room.{HasRoom};
 
 use crate::Seq;
-use crate::fast::{is_own_order, order_by_insertion};
+use crate::fast::{are_own_orders, is_own_order, order_by_insertion};
 use crate::fronts::bring;
 use crate::rooms::surely_has_room;
 use camp_prim::{Label, Named};
@@ -35,6 +35,22 @@ pub fn ordered(mut s: Seq) -> Seq
     s
 }
 
+/// The list in normal order, in its place in memory, and what a look at it tells then: whether it is its own
+/// normal order, and whether it is with one more element behind it. It takes no memory.
+pub fn ordered_before(mut s: Seq, last: &Named) -> (Seq, (bool, bool))
+    ensures order { Norm s result.0 }
+    ensures list { IsTrue result.1.0 → Norm result.0 result.0 }
+    ensures with_last { IsTrue result.1.1 → Norm (result.0 ++ last.now ∷ []) (result.0 ++ last.now ∷ []) }
+{
+    let told = are_own_orders(&s.items, last);
+    if told.0 {
+        return (s, told);
+    }
+    order_anew(&mut s.items);
+    let told = are_own_orders(&s.items, last);
+    (s, told)
+}
+
 fn ordered_copy(s: &Seq) -> Result<Seq, AllocError>
     ensures { IfOk result (λ ordered. Norm s.now ordered) }
 {
@@ -51,9 +67,15 @@ fn ordered_copy(s: &Seq) -> Result<Seq, AllocError>
 pub(crate) fn order(items: &mut [Named])
     ensures { Norm items.old items.new }
 {
-    if is_own_order(items) {
-        return;
+    if !is_own_order(items) {
+        order_anew(items);
     }
+}
+
+/// The same where a look does not tell that the list is in order.
+fn order_anew(items: &mut [Named])
+    ensures { Norm items.old items.new }
+{
     if surely_has_room(items) {
         order_by_insertion(items);
     } else {

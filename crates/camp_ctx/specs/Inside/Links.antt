@@ -1,9 +1,9 @@
 -- Primitives that are added by putting them before a context as they stand.
-use Rattle.std.specs.Prelude.{◌≢◌, ℕ, ◌≤◌, List, [], ◌∷◌, ◌++◌, length, drop}
+use Rattle.std.specs.Prelude.{◌≢◌, ℕ, ◌<◌, ◌≤◌, List, [], ◌∷◌, ◌++◌, length, drop}
 use Rattle.camp_prim.specs.Effect.{inverse_of}
 use Rattle.camp_prim.specs.Labels.{label_of}
 use Rattle.camp_prim.specs.declared.named.Named.{Named}
-use Rattle.camp_seq.specs.Chains.{CanSwap}
+use Rattle.camp_seq.specs.Chains.{CanSwap, Chain}
 use Rattle.camp_ctx.specs.Adding.{AddsAll}
 
 -- a neither swaps with what stands behind it nor is taken away with it
@@ -11,8 +11,9 @@ abbrev pub Links : Named → List Named → Named → Type 0
 Links a [] patch = ¬ (CanSwap a patch)
 Links a (q ∷ s) patch = ¬ (CanSwap a q) × (label_of q ≢ label_of (inverse_of a))
 
--- from a place on the elements are put before the context as they stand
+-- from a place on the elements are put before the context as they stand, and where there are any, no two neighbours swap then
 abbrev pub LinksFrom : List Named → List Named → Named → ℕ → Type 0
 LinksFrom r s patch at =
     (at ≤ length r)
     × AddsAll (drop at r) (record { context = s; patch = patch }) (record { context = drop at r ++ s; patch = patch })
+    × (at < length r → Chain (drop at r ++ s))

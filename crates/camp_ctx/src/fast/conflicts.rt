@@ -120,7 +120,7 @@ pub(crate) fn merge_apart(s: &Seq, t: &Seq) -> Result<Option<(Seq, Seq)>, AllocE
 }
 
 /// Whether the first primitives of two lists don't merge.
-fn stop_each_other(s: &[Named], t: &[Named]) -> Result<bool, AllocError>
+pub(crate) fn stop_each_other(s: &[Named], t: &[Named]) -> Result<bool, AllocError>
     ensures { IfOk result (λ yes. IsTrue yes → NoCleanMerge s.now t.now) }
 {
     match (s.first(), t.first()) {

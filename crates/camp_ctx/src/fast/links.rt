@@ -1,14 +1,14 @@
 //! A chain is added in one pass.
-ghost use Rattle.std.specs.Prelude.{◌≡◌, ◌≢◌, ◌≤◌, ◌++◌, ◌↔◌, length, drop, IfOk, IsTrue};
+ghost use Rattle.std.specs.Prelude.{◌≡◌, ◌≢◌, ◌<◌, ◌≤◌, ◌++◌, ◌↔◌, length, drop, IfOk, IsTrue};
 ghost use Rattle.camp_prim.specs.Effect.{inverse_of};
 ghost use Rattle.camp_prim.specs.Labels.{label_of};
-ghost use Rattle.camp_seq.specs.Chains.{CanSwap};
+ghost use Rattle.camp_seq.specs.Chains.{CanSwap, Chain};
 ghost use Rattle.camp_ctx.specs.Adding.{AddsAll};
 ghost use Rattle.camp_ctx.specs.Inside.Links.{Links, LinksFrom};
 
 use crate::{Contexted, join};
 use camp_prim::Named;
-use camp_seq::{can_swap, is_chain};
+use camp_seq::{Seq, are_own_orders_of_chain, can_swap, is_chain};
 use std::alloc::AllocError;
 
 /// The part of a list that is put before a context as it stands, from a place on, and the sum with
@@ -23,8 +23,30 @@ pub(crate) fn linked(r: &[Named], x: &Contexted) -> Result<(usize, Contexted), A
     }
     let context = join(x.allocator(), &r[start..], x.context().items())?;
     let patch = x.patch().try_clone()?;
-    let sum = Contexted::new(x.allocator(), context, patch)?;
+    let told = are_own_orders_of_chain(context.items(), &patch);
+    let sum = Contexted::told(x.allocator(), context, patch, told)?;
     Ok((start, sum))
+}
+
+/// Whether all of a list, and there is some, is put before a contexted patch without a context as it stands.
+pub(crate) fn becomes_context(r: &Seq, x: &Contexted) -> bool
+    ensures some { IsTrue result → 0 < length r.now }
+    ensures chain { IsTrue result → Chain r.now }
+    ensures added { IsTrue result → AddsAll r.now x.now (record { context = r.now; patch = x.now.patch }) }
+{
+    let items = r.items();
+    let context = x.context().items();
+    if items.is_empty() {
+        return false;
+    }
+    if !context.is_empty() {
+        return false;
+    }
+    let start = links_from(items, context, x.patch());
+    if start > 0 {
+        return false;
+    }
+    true
 }
 
 /// From which place on the elements of a list are put before a context as they stand: no two

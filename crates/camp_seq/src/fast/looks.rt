@@ -2,6 +2,7 @@
 ghost use Rattle.std.specs.Prelude.{◌<◌, List, [], ◌∷◌, ◌++◌, length, IfSome, IsTrue};
 ghost use Rattle.camp_prim.specs.Labels.{label_of};
 ghost use Rattle.camp_prim.specs.declared.named.Named.{Named};
+ghost use Rattle.camp_seq.specs.Chains.{Chain};
 ghost use Rattle.camp_seq.specs.Inside.NextInOrder.{IsInOrder, StaysLast};
 ghost use Rattle.camp_seq.specs.NormalOrder.{Norm};
 ghost use Rattle.camp_seq.specs.Passing.{Passes};
@@ -36,6 +37,23 @@ pub fn are_own_orders(items: &[Named], last: &Named) -> (bool, bool)
             (true, stays)
         }
     }
+}
+
+/// The same of a list in which no two neighbours swap. Where one more element does not swap with the last of
+/// them, the others are not looked at.
+pub fn are_own_orders_of_chain(items: &[Named], last: &Named) -> (bool, bool)
+    requires { Chain items.now }
+    ensures list { IsTrue result.0 → Norm items.now items.now }
+    ensures with_last { IsTrue result.1 → Norm (items.now ++ last.now ∷ []) (items.now ++ last.now ∷ []) }
+{
+    let count = items.len();
+    if count < 2 {
+        return are_own_orders(items, last);
+    }
+    if can_swap(&items[count - 1], last) {
+        return are_own_orders(items, last);
+    }
+    (true, true)
 }
 
 /// The element with the greatest label of a list, where a look at each tells that it is its own normal order.
