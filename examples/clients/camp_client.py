@@ -27,11 +27,17 @@ class Camp:
         self.run.stdin.close()
         return self.run.wait()
 
+    def told(self, word, branch):
+        """The lines behind the first of an answer that begins with the word of its question; any other is an error."""
+        first, *lines = self.ask(f"{word} {branch}\n").split("\n")
+        if first.split()[0] != word:
+            raise ValueError(f"{word} {branch}: {first}")
+        return lines[:-1]
+
     def tree(self, branch):
         """The files of a branch: the lines of each, by its path."""
-        lines = iter(self.ask(f"tree {branch}\n").split("\n"))
-        heads = (next(lines).split() for _ in range(int(next(lines).split()[1])))
-        return {path: [next(lines)[1:] for _ in range(int(count))] for _, path, count in heads}
+        lines = iter(self.told("tree", branch))
+        return {path: [next(lines)[1:] for _ in range(int(count))] for _, path, count in map(str.split, lines)}
 
     def record(self, branch, name, path, old, new):
         """Records what changed between the lines of a file, from its end to its beginning, so that no edit moves another."""
@@ -42,7 +48,7 @@ class Camp:
 
     def conflicts(self, branch):
         """The pairs of patches that are in conflict."""
-        return [tuple(it.split()) for it in self.ask(f"conflicts {branch}\n").splitlines()[1:]]
+        return [tuple(it.split()) for it in self.told("conflicts", branch)]
 
     def take(self, branch, name, path, side):
         """Takes a side: the lines that the file has in another branch are recorded behind the conflict."""

@@ -79,9 +79,9 @@ Refusals, and what to do:
                                 of an edit or 1000000 lines in a file are the most
   10                            the change does not fit the files: see tree, and mend path, LINE or lines
   11 PATCH ON                   PATCH stands on ON: pull ON too, or obliterate PATCH too
-  12 NAME                       the branches hold this patch in forms that do not agree, or it can't
-                                come before what only one of them has: obliterate it and what stands on
-                                it in one of them, and pull again
+  12 NAME                       both branches have this patch, and in one of them it can't come before
+                                what only that one has, or the two have it in forms that do not agree:
+                                obliterate it and what stands on it in one of them, and pull again
   13 LEFT RIGHT                 the two do not merge: pull without RIGHT, or obliterate LEFT first
   14 BRANCH                     the two branches are one: name another
 
@@ -94,4 +94,5 @@ Exit status:
   2  the command line is refused
   3  memory ran out, or input or output failed; standard error says which
 
-More: docs/scripts.md has the whole language and its faults, and examples/ has scripts to run.";
+More: docs/scripts.md has the whole language and its faults, and examples/ has scripts to run. A
+conversation (camp_shell) tells the cause of a fault or a refusal: ask it why.";

@@ -7,7 +7,7 @@ use std::io::{self, BufRead, Read, Write};
 
 /// What stands before the first prompt.
 const GREETING: &[u8] =
-    b"camp holds branches of named patches. help tells the commands, why tells what was wrong, quit ends.\n";
+    b"camp holds branches of named patches. help tells the commands, why what was wrong; end ends a body, done a group, quit all.\n";
 
 /// A conversation with prompts.
 #[derive(Drop)]

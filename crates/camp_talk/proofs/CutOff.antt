@@ -1,31 +1,50 @@
--- Whose lines are waited for.
+-- Whose lines are waited for, and of which fault is told.
 use Rattle.std.specs.Prelude.{◌&&◌}
 use Rattle.camp_talk.proofs.Words.{◌≡◌, ◌∙◌, ℕ, Bool, true, false, true≢false, cond, List, Ok, Err, Result, not, ap, ◌==◌, ◌⊎◌, eqb-true, inl, inr, refl, sym, asked_by, first_of, lines_in, Asked, LineFault}
 use Rattle.camp_repo.specs.States.{Contents}
-use Rattle.camp_script.specs.Behind.{behind_word}
-use Rattle.camp_talk.specs.Accounts.{Account, awaits_some, is_record, left_behind, left_by, passed}
-use Rattle.camp_talk.specs.Laws.{IsNextLine, IsCutOff, RecordsAreAwaited}
-use Rattle.camp_talk.specs.Whys.{cause_with, comes_of_another, cut_off, fault_account, fault_lines, is_unknown, line_at}
+use Rattle.camp_talk.specs.Accounts.{Account, awaits_some, begins_command, left_by, may_be, passed}
+use Rattle.camp_talk.specs.Laws.{FaultsAreTold, IsCutOff, IsLineOf, IsNextLine, IsOfItsOwn, RecordsAreAwaited}
+use Rattle.camp_talk.specs.Whys.{cause_of, cause_with, comes_of_another, cut_off, fault_account, fault_lines, is_unknown, line_at, may_record}
 use Rattle.camp_talk.specs.declared.awaited.Awaited.{Awaited}
 use Rattle.camp_talk.specs.declared.awaited.Awaited.TheVariants.{Nothing}
-use Rattle.camp_why.specs.Hints.{call_part}
+use Rattle.camp_script.specs.declared.faults.FaultKind.{FaultKind}
 
-by_tests : (first is : Bool) (some : Awaited) → awaits_some (cond first (cond is some Nothing) Nothing) ≡ true → (first ≡ true) × (is ≡ true)
+by_tests : (first is : Bool) (some : Awaited) → awaits_some (cond (first && is) some Nothing) ≡ true → (first ≡ true) × (is ≡ true)
 by_tests true true some waits = (refl, refl)
 by_tests true false some waits = absurd (true≢false (sym waits))
 by_tests false is some waits = absurd (true≢false (sym waits))
 
--- lines are waited for behind a first line that is a record
-behind_first : (number : ℕ) (line : List ℕ) → awaits_some (cut_off number line) ≡ true
-    → ((number == 1) ≡ true) × (is_record line ≡ true)
-behind_first number line waits =
-    by_tests (number == 1) (is_record line) (left_behind (behind_word (behind_word (call_part line)))) waits
+-- lines are waited for behind a first line that is a record, or may be
+behind_first : (number : ℕ) (kind : FaultKind) (line : List ℕ) → awaits_some (cut_off number kind line) ≡ true
+    → ((number == 1) ≡ true) × (may_record kind line ≡ true)
+behind_first number kind line waits = by_tests (number == 1) (may_record kind line) (left_by line) waits
 
 parts : (waits unknown is : Bool) → (waits && (unknown && not is)) ≡ true → (waits ≡ true) × (unknown ≡ true) × (is ≡ false)
 parts true true false e = (refl, refl, refl)
 parts true true true e = absurd (true≢false (sym e))
 parts true false is e = absurd (true≢false (sym e))
 parts false unknown is e = absurd (true≢false (sym e))
+
+whole : (waits unknown is : Bool) → waits ≡ true → unknown ≡ true → is ≡ false → (waits && (unknown && not is)) ≡ true
+whole true true false a b c = refl
+whole true true true a b c = absurd (true≢false c)
+whole true false is a b c = absurd (true≢false (sym b))
+whole false unknown is a b c = absurd (true≢false (sym a))
+
+fails : (waits unknown is : Bool) → (waits ≡ false) ⊎ ((unknown ≡ false) ⊎ (is ≡ true)) → (waits && (unknown && not is)) ≡ false
+fails false unknown is own = refl
+fails true false is own = refl
+fails true true true own = refl
+fails true true false (inl e) = absurd (true≢false e)
+fails true true false (inr (inl e)) = absurd (true≢false e)
+fails true true false (inr (inr e)) = absurd (true≢false (sym e))
+
+-- whether a fault comes of another one, by its parts
+is_line : (before : Account) (kind : FaultKind) (line : List ℕ) → IsLineOf before kind line → comes_of_another before.awaited kind line ≡ true
+is_line before kind line taken = whole (may_be before.awaited line) (is_unknown kind) (begins_command line) taken.0 taken.1 taken.2
+
+is_own : (before : Account) (kind : FaultKind) (line : List ℕ) → IsOfItsOwn before kind line → comes_of_another before.awaited kind line ≡ false
+is_own before kind line own = fails (may_be before.awaited line) (is_unknown kind) (begins_command line) own
 
 module _ (before : Account) (state : Contents) (command answer : List ℕ) where
   abbrev Waits : Account → Type 0
@@ -36,18 +55,23 @@ module _ (before : Account) (state : Contents) (command answer : List ℕ) where
       → awaits_some (cond other (passed before (first_of (lines_in command))) (fault_account fault (lines_in command) answer)).awaited ≡ true
       → Waits (cond other (passed before (first_of (lines_in command))) (fault_account fault (lines_in command) answer))
   by_other fault asks true comes waits =
-      let all = parts (awaits_some before.awaited) (is_unknown fault.kind) (is_record (first_of (lines_in command))) comes in
-      inr (record { fault = fault; asks = asks; awaits = all.0; unknown = all.1; other = all.2; is = refl })
+      inr (record {
+        fault = fault;
+        asks = asks;
+        taken = parts (may_be before.awaited (first_of (lines_in command))) (is_unknown fault.kind) (begins_command (first_of (lines_in command))) comes;
+        is = refl;
+      })
   by_other fault asks false own waits =
-      let both = behind_first fault.line (first_of (lines_in command)) waits in
+      let both = behind_first fault.line fault.kind (first_of (lines_in command)) waits in
       let first = eqb-true fault.line 1 both.0 in
       inl (record {
         fault = fault;
         asks = asks;
         first = first;
         is = both.1;
-        tells = ap (λ number. fault_lines fault.kind (line_at number (lines_in command)) answer) first;
-        awaits = ap (λ b. cond b (left_by (first_of (lines_in command))) Nothing) both.0;
+        tells = ap (λ number. fault_lines fault.kind (line_at number (lines_in command)) answer (cut_off fault.line fault.kind (first_of (lines_in command)))) first;
+        awaits = ap (λ b. cond (b && may_record fault.kind (first_of (lines_in command))) (left_by (first_of (lines_in command))) Nothing) both.0
+            ∙ ap (λ b. cond b (left_by (first_of (lines_in command))) Nothing) both.1;
       })
 
   by_asked : (asked : Result Asked LineFault) → asked_by command ≡ asked
@@ -59,3 +83,24 @@ module _ (before : Account) (state : Contents) (command answer : List ℕ) where
 
 pub records_awaited : RecordsAreAwaited
 records_awaited before state command answer waits = by_asked before state command answer (asked_by command) refl waits
+
+-- what is kept of a command with a fault, by whether that comes of another one
+told_by : (before : Account) (state : Contents) (command answer : List ℕ) (fault : LineFault) → asked_by command ≡ Err fault
+    → (comes : Bool) → comes_of_another before.awaited fault.kind (first_of (lines_in command)) ≡ comes
+    → cause_of before state command answer
+    ≡ cond comes (passed before (first_of (lines_in command))) (fault_account fault (lines_in command) answer)
+told_by before state command answer fault asks comes is =
+    ap (λ reading. cause_with before state (lines_in command) reading answer) asks
+    ∙ ap (λ other. cond other (passed before (first_of (lines_in command))) (fault_account fault (lines_in command) answer)) is
+
+pub faults_told : FaultsAreTold
+faults_told = record {
+  own = λ before state command answer fault asks own. record {
+    line = line_at fault.line (lines_in command);
+    is = refl;
+    tells = ap (λ (account : Account). account.told)
+        (told_by before state command answer fault asks false (is_own before fault.kind (first_of (lines_in command)) own));
+  };
+  line = λ before state command answer fault asks taken.
+      told_by before state command answer fault asks true (is_line before fault.kind (first_of (lines_in command)) taken);
+}

@@ -1,7 +1,7 @@
 -- The causes that are told.
 use Rattle.std.proofs.lemmas.Fmt.{decimal_digit, decimal_step}
 use Rattle.std.specs.Fmt.{decimal}
-use Rattle.std.specs.Prelude.{◌%◌, ◌/◌, Bool, cond}
+use Rattle.std.specs.Prelude.{◌%◌, ◌/◌}
 use Rattle.camp_talk.proofs.Naming.{is_named}
 use Rattle.camp_talk.proofs.Words.{◌≡◌, ◌∙◌, true, List, [], ◌∷◌, ◌+◌, ◌<◌, ◌≤◌, ◌^◌, ℕ, Ok, Some, ap, append-nil, arith, codes, first_of, lines_of, words_of, refl, sym, subst, ◌++◌, true≢false, Call, reply_text, asked_by, lines_in}
 use Rattle.camp_script.specs.Texts.{line_text}
@@ -9,12 +9,12 @@ use Rattle.camp_call.specs.declared.replies.Refusal.{Refusal}
 use Rattle.camp_call.specs.declared.replies.Refusal.TheVariants as refusal
 use Rattle.camp_call.specs.declared.replies.Reply.TheVariants.{Refused}
 use Rattle.camp_repo.specs.States.{Contents}
-use Rattle.camp_talk.specs.Accounts.{Account, passed}
+use Rattle.camp_talk.specs.Accounts.{Account}
 use Rattle.camp_talk.specs.Against.{call_about, sides_text, target}
 use Rattle.camp_talk.specs.Asking.{reason_at}
-use Rattle.camp_talk.specs.Laws.{CausesAreTold, FaultsAreTold, NamesCause, RefusalsAreTold, names_in}
+use Rattle.camp_talk.specs.Laws.{CausesAreTold, NamesCause, RefusalsAreTold, names_in}
 use Rattle.camp_talk.specs.Refusals.{reason_of, saying}
-use Rattle.camp_talk.specs.Whys.{cause_of, cause_with, cure_at, fault_account, found_text, line_at, reason_in, refusal_lines, shown_line}
+use Rattle.camp_talk.specs.Whys.{cause_of, cause_with, cure_at, found_text, reason_in, refusal_lines, shown_line}
 use Rattle.camp_talk.specs.declared.questions.Asked.TheVariants as asked
 use Rattle.camp_talk.specs.declared.questions.Reason.{Reason}
 use Rattle.camp_talk.specs.declared.questions.Reason.TheVariants as reason
@@ -122,12 +122,4 @@ refusals_told before state command call refused lawful is range are_names asks c
   named = is_named state call refused (have_grounds state call refused lawful is range comes);
   tells = ap (λ reading. (cause_with before state (lines_in command) reading (reply_text (Refused refused))).told) asks
       ∙ ap (refusal_lines state (asked.Call call) (first_of (lines_in command)) (reply_text (Refused refused))) (reason_of_answer refused are_names);
-}
-
-pub faults_told : FaultsAreTold
-faults_told before state command answer fault asks own = record {
-  line = line_at fault.line (lines_in command);
-  is = refl;
-  tells = ap (λ reading. (cause_with before state (lines_in command) reading answer).told) asks
-      ∙ ap (λ (other : Bool). (cond other (passed before (first_of (lines_in command))) (fault_account fault (lines_in command) answer)).told) own;
 }

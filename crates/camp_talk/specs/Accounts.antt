@@ -4,21 +4,31 @@ use Rattle.camp_script.specs.Behind.{behind_word}
 use Rattle.camp_script.specs.Lines.{words_of}
 use Rattle.camp_script.specs.Pieces.{begins_edit, begins_with}
 use Rattle.camp_talk.specs.declared.awaited.Awaited.{Awaited}
-use Rattle.camp_talk.specs.declared.awaited.Awaited.TheVariants.{Body, Group, GroupBody, Nothing}
-use Rattle.camp_why.specs.Hints.{call_part, first_word}
+use Rattle.camp_talk.specs.declared.awaited.Awaited.TheVariants.{Body, Group, GroupBody, Nothing, Signed}
+use Rattle.camp_why.specs.Hints.{begins_signed, call_part, first_word}
 
 -- ---- the lines of a command that was cut off
 
 -- whether a line of it may still come
 abbrev pub awaits_some : Awaited → Bool
 awaits_some Nothing = false
+awaits_some Signed = true
 awaits_some Body = true
 awaits_some Group = true
 awaits_some GroupBody = true
 
+-- whether a line may be one of it
+abbrev pub may_be : Awaited → List ℕ → Bool
+may_be Nothing line = false
+may_be Signed line = begins_signed line
+may_be Body line = true
+may_be Group line = true
+may_be GroupBody line = true
+
 -- which may come behind a line: as in a command that is not cut off, a body ends with `end`, and a group with `done`
 abbrev pub awaited_after : Awaited → List ℕ → Awaited
 awaited_after Nothing line = Nothing
+awaited_after Signed line = Body
 awaited_after Body line = if bytes_eq line (codes "end") then Nothing else Body
 awaited_after GroupBody line = if bytes_eq line (codes "end") then Group else GroupBody
 awaited_after Group line =
@@ -33,6 +43,14 @@ is_form small capital capitals word = bytes_eq word small || (bytes_eq word capi
 abbrev pub is_record : List ℕ → Bool
 is_record line =
     is_form (codes "record") (codes "Record") (codes "RECORD") (first_word (words_of (call_part line)))
+
+-- whether the first word of a line is that of a command which may be unknown by what stands behind it
+abbrev pub begins_command : List ℕ → Bool
+begins_command line =
+    is_record line
+    || (begins_with (codes "help") (words_of line)
+    || (begins_with (codes "whatif") (words_of line)
+    || begins_with (codes "client") (words_of line)))
 
 -- whether a word of a record says that no lines follow
 abbrev pub is_short : List ℕ → Bool
@@ -59,18 +77,18 @@ said_in (word ∷ words) other =
     else said_in words other))
 
 -- which lines follow a record, by what stands behind its branch: by the words behind the name, as its change is one of
--- them; else by the word in the place of the name, which may be forgotten; else a body
+-- them; else by the word in the place of the name, which may be forgotten; else a line with a sign, and then a body
 abbrev pub left_behind : List ℕ → Awaited
-left_behind line = said_in (words_of (behind_word line)) (said_in (words_of line) Body)
+left_behind line = said_in (words_of (behind_word line)) (said_in (words_of line) Signed)
 
--- which lines follow a line that is cut off from them: none, where it is no record
+-- which lines follow a line that is cut off from them, where it is a record, or may be one that is misspelt
 abbrev pub left_by : List ℕ → Awaited
-left_by line = if is_record line then left_behind (behind_word (behind_word (call_part line))) else Nothing
+left_by line = left_behind (behind_word (behind_word (call_part line)))
 
 -- ---- what is kept
 
 -- what is kept of the last fault or refusal: the lines that tell why, none where there was none; and which lines of its
--- command may still come, where that is a record that was cut off by a fault in its first line
+-- command may still come, where that is a record that was cut off by a fault in its first line, or may be one
 pub record Account : Type 0 where
   pub told : List ℕ
   pub awaited : Awaited

@@ -17,8 +17,9 @@ use Rattle.camp_script.specs.Canonical.{AreNames, IsScriptCall, call_text}
 use Rattle.camp_script.specs.Keeping.{calls_of, kept_text}
 use Rattle.camp_script.specs.Lines.{lines_of}
 use Rattle.camp_script.specs.Texts.{reply_text}
+use Rattle.camp_script.specs.declared.faults.FaultKind.{FaultKind}
 use Rattle.camp_script.specs.declared.faults.LineFault.{LineFault}
-use Rattle.camp_talk.specs.Accounts.{Account, awaits_some, is_record, left_by, passed}
+use Rattle.camp_talk.specs.Accounts.{Account, awaits_some, begins_command, left_by, may_be, passed}
 use Rattle.camp_talk.specs.Against.{absent_sides, call_about, lack_text, lacked_text, no_branch_text, sides_text, target}
 use Rattle.camp_talk.specs.Answers.{Answers, Standing, memory_text}
 use Rattle.camp_talk.specs.Asking.{asked_by, first_of}
@@ -29,7 +30,7 @@ use Rattle.camp_talk.specs.Frames.{Counter, ServesAt, ServesInTurn}
 use Rattle.camp_talk.specs.Loads.{Loads, tells_failure}
 use Rattle.camp_talk.specs.Refusals.{reason_of, saying}
 use Rattle.camp_talk.specs.Told.{counted}
-use Rattle.camp_talk.specs.Whys.{cause_found, cause_of, cause_text, comes_of_another, cure_at, fault_lines, hint_text, is_unknown, line_at, refusal_told, rule, shown_line, word_text}
+use Rattle.camp_talk.specs.Whys.{awaited_text, cause_found, cause_of, cause_text, cure_at, cut_off, fault_lines, hint_text, is_unknown, line_at, may_record, refusal_told, rule, shown_line, word_text}
 use Rattle.camp_talk.specs.declared.faults.LoadFault.TheVariants.{Answer, Memory, Talk}
 use Rattle.camp_talk.specs.declared.faults.LoadFault.{LoadFault}
 use Rattle.camp_talk.specs.declared.questions.Asked.TheVariants as asked
@@ -147,38 +148,49 @@ RefusalsAreTold =
     TellsRefusal state call refusal (first_of (lines_in command)) (cause_of before state command (reply_text (Refused refusal))).told
 
 -- lines behind a command with a fault tell of it: they are its answer, the line that has the fault, as much of it as is
--- shown, which word is no name, what is to be seen there, and the rule
+-- shown, which word is no name, what is to be seen there, the rule, and which lines behind it are taken for its own
 pub record TellsFault (fault : LineFault) (command answer lines : List ℕ) : Type 0 where
   pub line : List ℕ
   pub is : line ≡ line_at fault.line (lines_in command)
   pub tells : lines ≡ answer ++ shown_line line ++ word_text fault.kind line
       ++ hint_text (hint fault.kind line) ++ rule fault.kind
+      ++ awaited_text (cut_off fault.line fault.kind (first_of (lines_in command)))
 
--- where a command has a fault that comes of none before it, the lines behind it tell of it
-abbrev pub FaultsAreTold : Type 0
-FaultsAreTold =
-    (before : Account) (state : Contents) (command answer : List ℕ) (fault : LineFault) → asked_by command ≡ Err fault →
-    comes_of_another before.awaited fault.kind (first_of (lines_in command)) ≡ false →
-    TellsFault fault command answer (cause_of before state command answer).told
+-- a command with a fault is taken for a line of the one before it: it may be one, and begins no command
+abbrev pub IsLineOf : Account → FaultKind → List ℕ → Type 0
+IsLineOf before kind line =
+    (may_be before.awaited line ≡ true) × (is_unknown kind ≡ true) × (begins_command line ≡ false)
+
+-- it has a fault of its own: it can't be such a line, or begins a command
+abbrev pub IsOfItsOwn : Account → FaultKind → List ℕ → Type 0
+IsOfItsOwn before kind line =
+    (may_be before.awaited line ≡ false) ⊎ ((is_unknown kind ≡ false) ⊎ (begins_command line ≡ true))
+
+-- where a command has a fault of its own, the lines behind it tell of it; where it is taken for a line of the one before
+-- it, what was kept of that one stays, but for which lines may come
+pub record FaultsAreTold : Type 0 where
+  pub own : (before : Account) (state : Contents) (command answer : List ℕ) (fault : LineFault) → asked_by command ≡ Err fault →
+      IsOfItsOwn before fault.kind (first_of (lines_in command)) →
+      TellsFault fault command answer (cause_of before state command answer).told
+  pub line : (before : Account) (state : Contents) (command answer : List ℕ) (fault : LineFault) → asked_by command ≡ Err fault →
+      IsLineOf before fault.kind (first_of (lines_in command)) →
+      cause_of before state command answer ≡ passed before (first_of (lines_in command))
 
 -- what is kept of a command is of a record that was cut off: the command has a fault in its first line, which is one of a
--- record; the lines tell of it; and those may come that follow such a line
+-- record, or may be; the lines tell of it; and those may come that follow such a line
 pub record IsCutOff (command answer : List ℕ) (now : Account) : Type 0 where
   pub fault : LineFault
   pub asks : asked_by command ≡ Err fault
   pub first : fault.line ≡ 1
-  pub is : is_record (first_of (lines_in command)) ≡ true
-  pub tells : now.told ≡ fault_lines fault.kind (first_of (lines_in command)) answer
+  pub is : may_record fault.kind (first_of (lines_in command)) ≡ true
+  pub tells : now.told ≡ fault_lines fault.kind (first_of (lines_in command)) answer now.awaited
   pub awaits : now.awaited ≡ left_by (first_of (lines_in command))
 
--- what was kept before waits for a line, and the command is taken for it, as it has the fault of a line that begins no
--- command, and is no record: the same is told
+-- what was kept before waits for a line, and the command is taken for it: the same is told
 pub record IsNextLine (before : Account) (command : List ℕ) (now : Account) : Type 0 where
   pub fault : LineFault
   pub asks : asked_by command ≡ Err fault
-  pub awaits : awaits_some before.awaited ≡ true
-  pub unknown : is_unknown fault.kind ≡ true
-  pub other : is_record (first_of (lines_in command)) ≡ false
+  pub taken : IsLineOf before fault.kind (first_of (lines_in command))
   pub is : now ≡ passed before (first_of (lines_in command))
 
 -- only so what is kept of a command that is not done waits for lines

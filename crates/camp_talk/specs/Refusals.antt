@@ -59,7 +59,7 @@ cure reason.TooLarge = page (
     codes "The limits: 256 branches, 4096 changes in a branch, 65535 lines in a side of an edit," ∷
     codes "1000000 lines in a file. Cut the edit or the patch in parts, or take patches out of the branch." ∷ [])
 cure reason.DoesNotApply = page (
-    codes "add wants no file, remove a file without lines, and an edit its old lines at LINE." ∷
+    codes "add wants no file, remove a file without lines, and an edit a file with its old lines at LINE." ∷
     codes "Until more is recorded, file BRANCH PATH tells what is there before the first change." ∷ [])
 cure reason.Depends = page (
     codes "In a pull list ON too; along tells all that it has to list. In an obliterate list PATCH too; held" ∷

@@ -10,7 +10,7 @@ use Rattle.camp_script.specs.Lines.{lines_of, words_of}
 use Rattle.camp_script.specs.declared.faults.FaultKind.{FaultKind}
 use Rattle.camp_script.specs.declared.faults.FaultKind.TheVariants as kind
 use Rattle.camp_script.specs.declared.faults.LineFault.{LineFault}
-use Rattle.camp_talk.specs.Accounts.{Account, awaits_some, is_record, left_by, passed}
+use Rattle.camp_talk.specs.Accounts.{Account, begins_command, is_record, left_by, may_be, passed}
 use Rattle.camp_talk.specs.Against.{about, absent_sides, branches_line, depends_cure, lacked_text, new_text, nothing_text, record_cure, recorded_text, sides_text, target}
 use Rattle.camp_talk.specs.Asking.{asked_by, first_of, reason_at}
 use Rattle.camp_talk.specs.Cutting.{lines_in}
@@ -18,7 +18,7 @@ use Rattle.camp_talk.specs.Pages.{page}
 use Rattle.camp_talk.specs.Refusals.{cure, saying}
 use Rattle.camp_talk.specs.Told.{counted}
 use Rattle.camp_talk.specs.declared.awaited.Awaited.{Awaited}
-use Rattle.camp_talk.specs.declared.awaited.Awaited.TheVariants.{Nothing}
+use Rattle.camp_talk.specs.declared.awaited.Awaited.TheVariants.{Body, Group, GroupBody, Nothing, Signed}
 use Rattle.camp_talk.specs.declared.questions.Asked.{Asked}
 use Rattle.camp_talk.specs.declared.questions.Asked.TheVariants as asked
 use Rattle.camp_talk.specs.declared.questions.Reason.{Reason}
@@ -55,6 +55,8 @@ abbrev pub hint_text : Hint → List ℕ
 hint_text seen.Nothing = []
 hint_text seen.OfBody = page (codes "It begins with - or +, as a line of a body does, and no body has begun here." ∷ [])
 hint_text seen.OfScript = page (codes "It is a line of scripts alone: a conversation has one client." ∷ [])
+hint_text seen.NoChange = page (
+    codes "The fourth word of a record is add, remove, edit or group; a name has no blank." ∷ [])
 hint_text seen.NoCall = page (codes "Behind whatif stands branch, record, pull, obliterate, tree, conflicts or names." ∷ [])
 hint_text seen.NoTopic = page (codes "Behind help stands the first word of a command, or refused." ∷ [])
 hint_text seen.OfInner = page (codes "It is a line of a body or a group, and none has begun here." ∷ [])
@@ -64,7 +66,7 @@ hint_text seen.Strange = page (
     codes "It has a byte that is no printing ASCII character: commands, names and paths have none." ∷ [])
 hint_text seen.Quotes = page (
     codes "It has a quotation mark: quotes do not join words, and no command or name has one." ∷ [])
-hint_text seen.Capitals = page (codes "It has a capital letter: commands and names have small letters alone." ∷ [])
+hint_text seen.Capitals = page (codes "It has a capital letter: commands, names and end have none." ∷ [])
 hint_text seen.Zero = page (codes "The number is 0, and the least is 1." ∷ [])
 hint_text seen.ZeroInFront = page (codes "The number begins with 0: write it without a zero in front." ∷ [])
 hint_text seen.Empty = page (
@@ -143,10 +145,19 @@ abbrev pub word_text : FaultKind → List ℕ → List ℕ
 word_text kind.BadName line = misnamed_text (misnamed (words_of line))
 word_text other line = []
 
--- the answer, the line, the word that has the fault, what is to be seen there, the rule, and what to write
-abbrev pub fault_lines : FaultKind → List ℕ → List ℕ → List ℕ
-fault_lines kind line answer =
-    answer ++ shown_line line ++ word_text kind line ++ hint_text (hint kind line) ++ rule kind
+-- that the lines behind it are taken for its own, where they may be
+abbrev pub awaited_text : Awaited → List ℕ
+awaited_text Nothing = []
+awaited_text Signed = []
+awaited_text Body = page (codes "Behind it lines that begin no command are taken for its body, up to end." ∷ [])
+awaited_text Group = page (codes "Behind it lines that begin no command are taken for its group, up to done." ∷ [])
+awaited_text GroupBody = page (codes "Behind it lines that begin no command are taken for its group, up to done." ∷ [])
+
+-- the answer, the line, the word that has the fault, what is to be seen there, the rule, what to write, and which lines
+-- behind it are taken for its own
+abbrev pub fault_lines : FaultKind → List ℕ → List ℕ → Awaited → List ℕ
+fault_lines kind line answer awaited =
+    answer ++ shown_line line ++ word_text kind line ++ hint_text (hint kind line) ++ rule kind ++ awaited_text awaited
 
 -- ---- of a command that is refused
 
@@ -170,9 +181,9 @@ met_text at stands expected =
 abbrev pub two_numbers : List ℕ → ℕ → List ℕ → ℕ → List ℕ → List ℕ
 two_numbers front first middle second back = front ++ decimal first ++ middle ++ decimal second ++ back
 
--- the old line that finds none, and the line at which it would stand
+-- the old line that finds none, and the line at which it would stand; without old lines, that LINE is too great
 abbrev pub lacks_text : ℕ → Option (List ℕ) → List ℕ
-lacks_text at None = []
+lacks_text at None = codes "LINE is " ++ decimal at ++ codes ": it is at most one more than the file has lines.\n"
 lacks_text at (Some line) =
     codes "There is no line " ++ decimal at ++ codes ", where the edit takes away\n-" ++ line ++ codes "\n"
 
@@ -282,27 +293,38 @@ refusal_lines state asked line answer (Some reason) =
 
 -- ---- of any
 
--- which lines may follow a command with a fault in the line of a number: where that is its first, those that it was cut
--- off from
-abbrev pub cut_off : ℕ → List ℕ → Awaited
-cut_off number line = if number == 1 then left_by line else Nothing
-
--- whether a kind is that of a line that begins no command
+-- whether a kind is that of an unknown command
 abbrev pub is_unknown : FaultKind → Bool
 is_unknown kind.UnknownCommand = true
 is_unknown other = false
 
--- whether a fault comes of one before it: its line may be one of a body or a group that was cut off. It begins no
--- command, and is no record.
+-- whether a line with a fault of a kind begins no command
+abbrev pub is_no_command : FaultKind → List ℕ → Bool
+is_no_command kind line = is_unknown kind && not (begins_command line)
+
+-- whether it is a record, or may be one whose first word is misspelt
+abbrev pub may_record : FaultKind → List ℕ → Bool
+may_record kind line = is_record line || is_no_command kind line
+
+-- which lines may follow a command with a fault of a kind in the line of a number: where that is its first, those that it
+-- was cut off from
+abbrev pub cut_off : ℕ → FaultKind → List ℕ → Awaited
+cut_off number kind line = if number == 1 && may_record kind line then left_by line else Nothing
+
+-- whether a fault comes of one before it: its line begins no command, and may be one of a body or a group that was cut off
 abbrev pub comes_of_another : Awaited → FaultKind → List ℕ → Bool
-comes_of_another awaited kind line = awaits_some awaited && (is_unknown kind && not (is_record line))
+comes_of_another awaited kind line = may_be awaited line && is_no_command kind line
+
+-- what is kept of a command with a fault of its own, by which lines may follow it
+abbrev pub account_of : LineFault → List (List ℕ) → List ℕ → Awaited → Account
+account_of fault lines answer awaited = record {
+  told = fault_lines fault.kind (line_at fault.line lines) answer awaited;
+  awaited = awaited;
+}
 
 -- what is kept of a command with a fault of its own
 abbrev pub fault_account : LineFault → List (List ℕ) → List ℕ → Account
-fault_account fault lines answer = record {
-  told = fault_lines fault.kind (line_at fault.line lines) answer;
-  awaited = cut_off fault.line (first_of lines);
-}
+fault_account fault lines answer = account_of fault lines answer (cut_off fault.line fault.kind (first_of lines))
 
 -- what is kept of a command with a fault; where that comes of a fault before it, the lines that tell of that one stay
 abbrev pub fault_cause : Account → LineFault → List (List ℕ) → List ℕ → Account

@@ -1,7 +1,8 @@
 //! The lines of a command that was cut off by a fault in its first line.
 ghost use Rattle.std.specs.Prelude.{◌≡◌};
 ghost use Rattle.camp_script.specs.Lines.{words_of};
-ghost use Rattle.camp_talk.specs.Accounts.{awaited_after, awaits_some, is_edit, is_form, is_group, is_record, is_short, left_behind, left_by, said_in};
+ghost use Rattle.camp_why.specs.Hints.{begins_signed};
+ghost use Rattle.camp_talk.specs.Accounts.{awaited_after, begins_command, is_edit, is_form, is_group, is_record, is_short, left_behind, left_by, may_be, said_in};
 
 use camp_script::{Words, begins_edit, begins_with, behind_word};
 use camp_why::call_part;
@@ -10,6 +11,8 @@ use camp_why::call_part;
 #[derive(Clone, Copy, Debug)]
 pub(crate) enum Awaited {
     Nothing,
+    /// A line with a sign, and then those of a body.
+    Signed,
     /// Those of a body, up to `end`.
     Body,
     /// Those of a group, up to `done`.
@@ -19,10 +22,15 @@ pub(crate) enum Awaited {
 }
 
 impl Awaited {
-    pub(crate) fn is_some(self) -> bool
-        ensures { result ≡ awaits_some self }
+    /// Whether a line may be one of them.
+    pub(crate) fn may_be(self, line: &[u8]) -> bool
+        ensures { result ≡ may_be self line.now }
     {
-        !matches!(self, Awaited::Nothing)
+        match self {
+            Awaited::Nothing => false,
+            Awaited::Signed => begins_signed(line),
+            _ => true,
+        }
     }
 
     /// What may come behind a line.
@@ -31,6 +39,7 @@ impl Awaited {
     {
         match self {
             Awaited::Nothing => Awaited::Nothing,
+            Awaited::Signed => Awaited::Body,
             Awaited::Body if line == b"end".as_slice() => Awaited::Nothing,
             Awaited::GroupBody if line == b"end".as_slice() => Awaited::Group,
             Awaited::Group if begins_edit(line) => Awaited::GroupBody,
@@ -40,14 +49,21 @@ impl Awaited {
     }
 }
 
-/// Which lines follow a line that is cut off from them. None do, where it is no record.
+/// Which lines follow a line that is cut off from them, where it is a record, or may be one that is misspelt.
 pub(crate) fn left_by(line: &[u8]) -> Awaited
     ensures { result ≡ left_by line.now }
 {
-    if is_record(line) {
-        return left_behind(behind_word(behind_word(call_part(line))));
-    }
-    Awaited::Nothing
+    left_behind(behind_word(behind_word(call_part(line))))
+}
+
+/// Whether the first word of a line is that of a command which may be unknown by what stands behind it.
+pub(crate) fn begins_command(line: &[u8]) -> bool
+    ensures { result ≡ begins_command line.now }
+{
+    is_record(line)
+        || begins_with(line, b"help")
+        || begins_with(line, b"whatif")
+        || begins_with(line, b"client")
 }
 
 /// Whether a line is a record, also behind `whatif`.
@@ -60,11 +76,17 @@ pub(crate) fn is_record(line: &[u8]) -> bool
     }
 }
 
+fn begins_signed(line: &[u8]) -> bool
+    ensures { result ≡ begins_signed line.now }
+{
+    line.starts_with(b"+") || line.starts_with(b"-")
+}
+
 // Which lines follow a record, by what stands behind its branch.
 fn left_behind(line: &[u8]) -> Awaited
     ensures { result ≡ left_behind line.now }
 {
-    said_in(behind_word(line), said_in(line, Awaited::Body))
+    said_in(behind_word(line), said_in(line, Awaited::Signed))
 }
 
 // Which lines follow, by the first word of a line that says it; else these.

@@ -1,5 +1,6 @@
 //! Turns that are taken one after the other.
 ghost use Rattle.std.specs.Prelude.{◌≡◌, ◌-◌, ◌^◌, ◌<◌, Bool, IfOk, Result, true, ℕ};
+ghost use Rattle.camp_talk.specs.Accounts.{no_account};
 ghost use Rattle.camp_talk.specs.Dialogues.{TakesTurns};
 ghost use Rattle.camp_talk.specs.Talks.{Turns};
 
@@ -49,7 +50,13 @@ pub struct Conversation<R, W> {
 
 impl<R: BufRead, W: Write> Conversation<R, W> {
     /// Before the first command.
-    pub fn new(alloc: Global, book: Book<State>, reader: R, writer: W) -> Conversation<R, W> {
+    pub fn new(alloc: Global, book: Book<State>, reader: R, writer: W) -> Conversation<R, W>
+        ensures book { result.book ≡ book }
+        ensures first { result.lines ≡ 0 }
+        ensures cause { result.cause ≡ no_account }
+        ensures reader { result.reader ≡ reader }
+        ensures writer { result.writer ≡ writer }
+    {
         Conversation {
             alloc,
             book,

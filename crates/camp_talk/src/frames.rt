@@ -75,7 +75,12 @@ pub struct FramedConversation<R, W> {
 
 impl<R: BufRead, W: Write> FramedConversation<R, W> {
     /// Before the first request.
-    pub fn new(alloc: Global, book: Book<State>, reader: R, writer: W) -> FramedConversation<R, W> {
+    pub fn new(alloc: Global, book: Book<State>, reader: R, writer: W) -> FramedConversation<R, W>
+        ensures book { result.book ≡ book }
+        ensures first { result.served ≡ 0 }
+        ensures reader { result.reader ≡ reader }
+        ensures writer { result.writer ≡ writer }
+    {
         FramedConversation {
             alloc,
             book,

@@ -1,11 +1,11 @@
 //! Why a command with a fault was not done.
 ghost use Rattle.std.specs.Prelude.{◌≡◌, ◌++◌, IfOk, take};
 ghost use Rattle.camp_script.specs.Lines.{lines_of};
-ghost use Rattle.camp_talk.specs.Whys.{body_rule, comes_of_another, cut_off, cut_text, fault_account, fault_cause, fault_lines, hint_text, line_at, misnamed_text, most_shown, no_name_text, rule, shown_line, word_text};
+ghost use Rattle.camp_talk.specs.Whys.{account_of, awaited_text, body_rule, comes_of_another, cut_off, cut_text, fault_account, fault_cause, fault_lines, hint_text, is_no_command, line_at, may_record, misnamed_text, most_shown, no_name_text, rule, shown_line, word_text};
 
 use crate::Account;
 use crate::asking::first_line;
-use crate::awaited::{Awaited, is_record, left_by};
+use crate::awaited::{Awaited, begins_command, is_record, left_by};
 use crate::questions::Reason;
 use crate::told_refusals::cure;
 use bstr::ByteSlice;
@@ -42,27 +42,56 @@ fn fault_account(
 ) -> Result<Account, AllocError>
     ensures { IfOk result (λ cause. cause ≡ fault_account fault.now (lines_of command.now) answer.now) }
 {
-    let told = fault_lines(alloc, fault.kind, line_at(command, fault.line), answer)?;
-    Ok(Account::of(told, cut_off(fault.line, first_line(command))))
+    let awaited = cut_off(fault.line, fault.kind, first_line(command));
+    account_of(alloc, fault, command, answer, awaited)
 }
 
-// Whether a fault comes of one before it: its line may be one of a body or a group that was cut off. It begins no
-// command, and is no record.
+// The same, by which lines may follow it.
+fn account_of(
+    alloc: Global,
+    fault: &LineFault,
+    command: &[u8],
+    answer: &[u8],
+    awaited: Awaited,
+) -> Result<Account, AllocError>
+    ensures { IfOk result (λ cause. cause ≡ account_of fault.now (lines_of command.now) answer.now awaited) }
+{
+    let line = line_at(command, fault.line);
+    let told = fault_lines(alloc, fault.kind, line, answer, awaited)?;
+    Ok(Account::of(told, awaited))
+}
+
+// Whether a fault comes of one before it: its line begins no command, and may be one of a body or a group that was
+// cut off.
 fn comes_of_another(awaited: Awaited, kind: FaultKind, line: &[u8]) -> bool
     ensures { result ≡ comes_of_another awaited kind line.now }
 {
-    awaited.is_some() && kind == FaultKind::UnknownCommand && !is_record(line)
+    awaited.may_be(line) && is_no_command(kind, line)
 }
 
-// Which lines may follow a command with a fault in the line of a number: where that is its first, those that it
-// was cut off from.
-fn cut_off(number: u64, line: &[u8]) -> Awaited
-    ensures { result ≡ cut_off number line.now }
+// Whether a line with a fault of a kind begins no command.
+fn is_no_command(kind: FaultKind, line: &[u8]) -> bool
+    ensures { result ≡ is_no_command kind line.now }
 {
-    if number == 1 {
+    kind == FaultKind::UnknownCommand && !begins_command(line)
+}
+
+// Which lines may follow a command with a fault of a kind in the line of a number: where that is its first, those
+// that it was cut off from.
+fn cut_off(number: u64, kind: FaultKind, line: &[u8]) -> Awaited
+    ensures { result ≡ cut_off number kind line.now }
+{
+    if number == 1 && may_record(kind, line) {
         return left_by(line);
     }
     Awaited::Nothing
+}
+
+// Whether a line with a fault of a kind is a record, or may be one whose first word is misspelt.
+fn may_record(kind: FaultKind, line: &[u8]) -> bool
+    ensures { result ≡ may_record kind line.now }
+{
+    is_record(line) || is_no_command(kind, line)
 }
 
 // The line of a number, counted from 1; an empty one, where there is none.
@@ -79,21 +108,39 @@ fn line_at(command: &[u8], number: u64) -> &[u8]
     &[]
 }
 
-// Of a command with a fault: its answer, the line, what is to be seen in it, the rule, and what to write.
+// Of a command with a fault: its answer, the line, what is to be seen in it, the rule, what to write, and which
+// lines behind it are taken for its own.
 fn fault_lines(
     alloc: Global,
     kind: FaultKind,
     line: &[u8],
     answer: &[u8],
+    awaited: Awaited,
 ) -> Result<Vec<u8>, AllocError>
-    ensures { IfOk result (λ text. text.items ≡ fault_lines kind line.now answer.now) }
+    ensures { IfOk result (λ text. text.items ≡ fault_lines kind line.now answer.now awaited) }
 {
     let mut text = Vec::from_slice(alloc, answer)?;
     append_line(&mut text, line)?;
     append_word(&mut text, kind, line)?;
     text.extend_from_slice(hint_text(look_at(kind, line)).as_bytes())?;
     text.extend_from_slice(rule(kind).as_bytes())?;
+    text.extend_from_slice(awaited_text(awaited).as_bytes())?;
     Ok(text)
+}
+
+// That the lines behind it are taken for its own, where they may be.
+fn awaited_text(awaited: Awaited) -> &'static str
+    ensures { result.now ≡ awaited_text awaited }
+{
+    match awaited {
+        Awaited::Nothing | Awaited::Signed => "",
+        Awaited::Body => {
+            "Behind it lines that begin no command are taken for its body, up to end.\n"
+        }
+        Awaited::Group | Awaited::GroupBody => {
+            "Behind it lines that begin no command are taken for its group, up to done.\n"
+        }
+    }
 }
 
 /// Appends a line behind `>`, as much of it as is shown.
@@ -163,6 +210,9 @@ fn hint_text(hint: Hint) -> &'static str
             "It begins with - or +, as a line of a body does, and no body has begun here.\n"
         }
         Hint::OfScript => "It is a line of scripts alone: a conversation has one client.\n",
+        Hint::NoChange => {
+            "The fourth word of a record is add, remove, edit or group; a name has no blank.\n"
+        }
         Hint::NoCall => {
             "Behind whatif stands branch, record, pull, obliterate, tree, conflicts or names.\n"
         }
@@ -178,7 +228,7 @@ fn hint_text(hint: Hint) -> &'static str
         Hint::Quotes => {
             "It has a quotation mark: quotes do not join words, and no command or name has one.\n"
         }
-        Hint::Capitals => "It has a capital letter: commands and names have small letters alone.\n",
+        Hint::Capitals => "It has a capital letter: commands, names and end have none.\n",
         Hint::Zero => "The number is 0, and the least is 1.\n",
         Hint::ZeroInFront => "The number begins with 0: write it without a zero in front.\n",
         Hint::Empty => {

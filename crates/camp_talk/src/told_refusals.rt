@@ -99,7 +99,7 @@ pub(crate) fn cure(reason: Reason) -> &'static str
             1000000 lines in a file. Cut the edit or the patch in parts, or take patches out of the branch.\n"
         }
         Reason::DoesNotApply => {
-            "add wants no file, remove a file without lines, and an edit its old lines at LINE.\n\
+            "add wants no file, remove a file without lines, and an edit a file with its old lines at LINE.\n\
             Until more is recorded, file BRANCH PATH tells what is there before the first change.\n"
         }
         Reason::Depends => {

@@ -402,12 +402,21 @@ fn ends_before_text(
     Ok(text)
 }
 
+// That LINE of an edit without old lines is too great.
+fn too_far_text(alloc: Global, at: usize) -> Result<Vec<u8>, AllocError>
+    ensures { IfOk result (λ text. text.items ≡ lacks_text at None) }
+{
+    Ok(format!(in alloc;
+        "LINE is {at}: it is at most one more than the file has lines.\n"
+    )?.into_bytes())
+}
+
 // The old line that finds none, and the line at which it would stand.
 fn lacks_text(alloc: Global, at: usize, lacks: &Option<Line>) -> Result<Vec<u8>, AllocError>
     ensures { IfOk result (λ text. text.items ≡ lacks_text at lacks.now) }
 {
     let Some(line) = lacks else {
-        return Ok(Vec::new(alloc));
+        return too_far_text(alloc, at);
     };
     let mut text = format!(in alloc;
         "There is no line {at}, where the edit takes away\n-"

@@ -52,6 +52,10 @@ begins_inner line =
     || (begins_with (codes "add") (words_of line) || (begins_with (codes "remove") (words_of line)
     || begins_with (codes "edit") (words_of line))))
 
+-- whether a line is `end`, or nothing, but for a carriage return
+abbrev pub is_returned_end : List ℕ → Bool
+is_returned_end line = bytes_eq line (codes "end\r") || is_return line
+
 -- whether a line is `end` in capitals
 abbrev pub is_capital_end : List ℕ → Bool
 is_capital_end line = bytes_eq line (codes "END") || bytes_eq line (codes "End")
@@ -135,14 +139,19 @@ word_hint word other =
     else (if list_any is_capital_letter word then seen.Capitals
     else other)))
 
+-- whether a line is a record, also behind `whatif`
+abbrev pub begins_record : List ℕ → Bool
+begins_record line = begins_with (codes "record") (words_of (call_part line))
+
 -- of the first word of a line that is no command
 abbrev pub form_hint : List ℕ → Hint
 form_hint line =
     if begins_with (codes "client") (words_of line) then seen.OfScript
+    else (if begins_record line then seen.NoChange
     else (if begins_with (codes "whatif") (words_of line) then seen.NoCall
     else (if begins_with (codes "help") (words_of line) then seen.NoTopic
     else (if begins_inner line then seen.OfInner
-    else seen.Nothing)))
+    else seen.Nothing))))
 
 -- in a line with a word that should be one of a command, by that word and by what there is else
 abbrev pub line_hint : List ℕ → List ℕ → Hint → Hint
@@ -165,13 +174,17 @@ path_hint word =
     else (if list_any is_strange word then seen.Strange
     else seen.Nothing)
 
+-- whether the number of a refusal has a zero in front, which LINE may have
+abbrev pub has_zero_in_front : List ℕ → Bool
+has_zero_in_front line = begins_with (codes "help") (words_of line) && begins_zero (number_word line)
+
 -- in a line with a number, or in the `end` of an edit whose numbers are too great
 abbrev pub number_hint : List ℕ → Hint
 number_hint line =
     if is_end line then seen.TooFar
     else (if ends_in_return (number_word line) then seen.CarriageReturn
     else (if is_zero (number_word line) then seen.Zero
-    else (if begins_zero (number_word line) then seen.ZeroInFront
+    else (if has_zero_in_front line then seen.ZeroInFront
     else seen.Nothing)))
 
 -- in a line of a body that may be too long
@@ -181,7 +194,7 @@ long_hint line = if is_cut line then seen.TooLong else seen.Nothing
 -- in a line of a body without a sign
 abbrev pub unsigned_hint : List ℕ → Hint
 unsigned_hint line =
-    if ends_in_return line then seen.CarriageReturn
+    if is_returned_end line then seen.CarriageReturn
     else (if is_capital_end line then seen.Capitals
     else seen.NoSign)
 
@@ -235,6 +248,7 @@ abbrev pub IsSeen : FaultKind → List ℕ → Hint → Type 0
 IsSeen kind line seen.Nothing = Unit {0}
 IsSeen kind line seen.OfBody = begins_signed (first_word (words_of line)) ≡ true
 IsSeen kind line seen.OfScript = begins_with (codes "client") (words_of line) ≡ true
+IsSeen kind line seen.NoChange = (kind ≡ UnknownCommand) × (begins_record line ≡ true)
 IsSeen kind line seen.NoCall = begins_with (codes "whatif") (words_of line) ≡ true
 IsSeen kind line seen.NoTopic = begins_with (codes "help") (words_of line) ≡ true
 IsSeen kind line seen.OfInner = begins_inner line ≡ true
@@ -244,14 +258,14 @@ IsSeen kind line seen.Strange = list_any is_strange (faulty kind line) ≡ true
 IsSeen kind line seen.Quotes = has_quote kind line ≡ true
 IsSeen kind line seen.Capitals = list_any is_capital_letter (faulty kind line) ≡ true
 IsSeen kind line seen.Zero = is_zero (faulty kind line) ≡ true
-IsSeen kind line seen.ZeroInFront = begins_zero (faulty kind line) ≡ true
+IsSeen kind line seen.ZeroInFront = (begins_with (codes "help") (words_of line) ≡ true) × (begins_zero (faulty kind line) ≡ true)
 IsSeen kind line seen.Empty = is_empty line ≡ true
 IsSeen kind line seen.Blank = begins_blank line ≡ true
-IsSeen kind line seen.NoLine = is_end line ≡ true
-IsSeen kind line seen.TooFar = is_end line ≡ true
+IsSeen kind line seen.NoLine = (kind ≡ BadEdit) × (is_end line ≡ true)
+IsSeen kind line seen.TooFar = (kind ≡ BadNumber) × (is_end line ≡ true)
 IsSeen kind line seen.MoreThanEnd = begins_end line ≡ true
-IsSeen kind line seen.OldBehindNew = begins (codes "-") line ≡ true
-IsSeen kind line seen.NoSign = begins_signed line ≡ false
+IsSeen kind line seen.OldBehindNew = (kind ≡ BadEdit) × (begins (codes "-") line ≡ true)
+IsSeen kind line seen.NoSign = (begins_signed line ≡ false) × (is_end line ≡ false) × (is_empty line ≡ false)
 
 -- nothing of this is to be seen in a word that should be a name, or one of a command
 pub record IsPlain (word : List ℕ) : Type 0 where
@@ -260,16 +274,26 @@ pub record IsPlain (word : List ℕ) : Type 0 where
   pub quotes : list_any is_quote word ≡ false
   pub capitals : list_any is_capital_letter word ≡ false
 
+-- a line begins with no sign and with no word that says where it belongs
+pub record HasNoForm (line : List ℕ) : Type 0 where
+  pub signed : begins_signed (first_word (words_of line)) ≡ false
+  pub of_script : begins_with (codes "client") (words_of line) ≡ false
+  pub records : begins_record line ≡ false
+  pub foresees : begins_with (codes "whatif") (words_of line) ≡ false
+  pub helps : begins_with (codes "help") (words_of line) ≡ false
+  pub inner : begins_inner line ≡ false
+
 -- nothing is to be seen in a line with a fault of a kind
 abbrev pub ShowsNothing : FaultKind → List ℕ → Type 0
-ShowsNothing UnknownCommand line = IsPlain (command_word line)
+ShowsNothing UnknownCommand line = IsPlain (command_word line) × HasNoForm line
 ShowsNothing BadGroup line = IsPlain (first_word (words_of line))
 ShowsNothing BadName line = IsPlain (misnamed (words_of line))
 ShowsNothing WrongNumberOfWords line =
     (list_any is_return (words_of line) ≡ false) × (list_any begins_quoted (words_of line) ≡ false)
 ShowsNothing BadPath line = (ends_in_return (path_word line) ≡ false) × (list_any is_strange (path_word line) ≡ false)
 ShowsNothing BadNumber line =
-    (is_end line ≡ false) × (ends_in_return (number_word line) ≡ false) × (begins_zero (number_word line) ≡ false)
+    (is_end line ≡ false) × (ends_in_return (number_word line) ≡ false) × (is_zero (number_word line) ≡ false)
+    × (has_zero_in_front line ≡ false)
 ShowsNothing BadLine line = is_cut line ≡ false
 ShowsNothing BadEdit line = (is_cut line ≡ false) × (begins (codes "+") line ≡ true)
 ShowsNothing other line = Unit {0}

@@ -3,7 +3,7 @@ ghost use Rattle.std.specs.Prelude.{◌≡◌, []};
 ghost use Rattle.std.specs.List.{list_any};
 ghost use Rattle.camp_base.specs.Signs.{is_capital_letter};
 ghost use Rattle.camp_script.specs.Lines.{words_of};
-ghost use Rattle.camp_why.specs.Hints.{begins_blank, begins_end, begins_inner, begins_quoted, begins_signed, begins_zero, call_part, call_word, command_word, count_hint, edit_hint, ends_in_return, first_word, form_hint, hint, is_capital_end, is_cut, is_empty, is_end, is_other_than_zero, is_quote, is_return, is_strange, is_zero, last_words, line_hint, long_hint, misnamed, number_hint, number_word, path_hint, path_word, unsigned_hint, word_hint};
+ghost use Rattle.camp_why.specs.Hints.{begins_blank, begins_end, begins_inner, begins_quoted, begins_signed, begins_zero, call_part, call_word, command_word, count_hint, edit_hint, ends_in_return, first_word, form_hint, has_zero_in_front, hint, is_capital_end, is_cut, is_empty, is_end, is_other_than_zero, is_quote, is_return, is_returned_end, is_strange, is_zero, last_words, line_hint, long_hint, misnamed, number_hint, number_word, path_hint, path_word, unsigned_hint, word_hint};
 
 use camp_base::Name;
 use camp_script::{FaultKind, Words, begins_edit, begins_with, behind_word};
@@ -20,6 +20,8 @@ pub enum Hint {
     OfBody,
     /// It is `client`, which is a line of scripts alone.
     OfScript,
+    /// It is a record, and its fourth word is none of add, remove, edit and group.
+    NoChange,
     /// It has the first word `whatif`, and no call behind it.
     NoCall,
     /// It has the first word `help`, and no command behind it.
@@ -38,7 +40,7 @@ pub enum Hint {
     Capitals,
     /// A number is 0.
     Zero,
-    /// A number begins with 0, and is another one.
+    /// The number of a refusal begins with 0, and is another one.
     ZeroInFront,
     /// It is empty.
     Empty,
@@ -94,6 +96,9 @@ fn form_hint(line: &[u8]) -> Hint
     if begins_with(line, b"client") {
         return Hint::OfScript;
     }
+    if begins_with(call_part(line), b"record") {
+        return Hint::NoChange;
+    }
     if begins_with(line, b"whatif") {
         return Hint::NoCall;
     }
@@ -143,10 +148,17 @@ fn number_hint(line: &[u8]) -> Hint
     if is_zero(number) {
         return Hint::Zero;
     }
-    if begins_zero(number) {
+    if has_zero_in_front(line) {
         return Hint::ZeroInFront;
     }
     Hint::Nothing
+}
+
+// Whether the last word of a line is the number of a refusal with a zero in front.
+fn has_zero_in_front(line: &[u8]) -> bool
+    ensures { result ≡ has_zero_in_front line.now }
+{
+    begins_with(line, b"help") && begins_zero(number_word(line))
 }
 
 fn long_hint(line: &[u8]) -> Hint
@@ -190,7 +202,7 @@ fn edit_hint(line: &[u8]) -> Hint
 fn unsigned_hint(line: &[u8]) -> Hint
     ensures { result ≡ unsigned_hint line.now }
 {
-    if ends_in_return(line) {
+    if is_returned_end(line) {
         return Hint::CarriageReturn;
     }
     if is_capital_end(line) {
@@ -364,6 +376,13 @@ fn begins_inner(line: &[u8]) -> bool
         || begins_with(line, b"add")
         || begins_with(line, b"remove")
         || begins_with(line, b"edit")
+}
+
+// Whether a line is `end`, or nothing, but for a carriage return.
+fn is_returned_end(line: &[u8]) -> bool
+    ensures { result ≡ is_returned_end line.now }
+{
+    line == b"end\r".as_slice() || line == b"\r".as_slice()
 }
 
 fn is_capital_end(line: &[u8]) -> bool

@@ -1,4 +1,4 @@
-use Rattle.camp_talk.proofs.Whys.{faults_told}
+use Rattle.camp_talk.proofs.CutOff.{faults_told}
 use Rattle.camp_talk.proofs.laws.faults_are_told.Goals as goal
 
 pub returns : goal.returns
