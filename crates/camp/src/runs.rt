@@ -11,10 +11,9 @@ use std::alloc::Global;
 use std::io::{Read, Write};
 use std::sync::Wait;
 use std::thread::Threads;
-use std::time::Clock;
 
 /// Runs the script that a reader gives in the way that the options ask for.
-pub(crate) fn run<T: Threads + Wait + Sync + Clock, R: Read, W: Write>(
+pub(crate) fn run<T: Threads + Wait + Sync, R: Read, W: Write>(
     rt: &T,
     alloc: Global,
     asked: &Options,

@@ -220,6 +220,7 @@ impl<'a, R: Wait, State: Object, G: Gate> Run<'a, R, State, G> {
         } = client;
         let answers = self.at_seat(&mut seat)?;
         let _handed = self.head.hand_on(&seat);
+        self.gate.end(seat.number());
         Ok(Client { seat, answers })
     }
 }

@@ -9,6 +9,10 @@ pub trait Gate {
 
     /// Told after a call.
     fn after(&self, seat: u32, call: u32);
+
+    /// After the last call of a seat, and behind what it has handed on. Who asks at a seat by hand need not
+    /// tell.
+    fn end(&self, _seat: u32) {}
 }
 
 /// A gate that does nothing.

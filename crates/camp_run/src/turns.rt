@@ -2,25 +2,28 @@
 ghost use Rattle.std.specs.Prelude.{◌<◌};
 
 use camp_head::Gate;
+use std::array::from_fn;
+use std::sync::Wait;
 use std::sync::atomic::{AtomicU64, Ordering};
-use std::thread;
-use std::time::{Clock, Duration};
+use std::time::Duration;
 
-/// So many microseconds the client that comes next sleeps between two looks. The second one sleeps four times as
-/// long, the third one nine times, and so on.
-const PAUSE: u64 = 30;
+/// So many microseconds the client that comes next sleeps between two looks, where nobody wakes it. The second one
+/// sleeps four times as long, the third one nine times, and so on.
+const PAUSE: u64 = 100;
 /// From this place on all sleep so long.
 const MOST_TIMES: u64 = 8;
+/// Who has looked so often in the turn of one client sleeps four times as long from then on.
+const FEW_LOOKS: u32 = 4;
 /// So often a client looks at most.
 const MOST_LOOKS: u32 = 1_000;
 /// So often it finds the same step of a call before it takes the one that asks it for stopped.
-const MOST_UNCHANGED: u32 = 20;
-/// So often it looks at once before it takes the one that is between two calls for gone.
-const LOOKS_AT_ONCE: u32 = 1_000;
+const MOST_UNCHANGED: u32 = 8;
+/// So often it finds the same before it takes the one that is between two calls for gone.
+const UNCHANGED_BETWEEN: u32 = 2;
 
 /// As many as a head has seats.
 const SEATS: u64 = 64;
-/// It has asked a question, or nothing.
+/// It has asked a question, or nothing, or all of its calls.
 const RESTS: u64 = 0;
 /// It asks a call.
 const ASKS: u64 = 1;
@@ -60,30 +63,142 @@ fn set_between(bits: u64, step: u64, seat: u32) -> u64 {
     (bits.rotate_right(first) & nearer).count_ones() as u64
 }
 
+/// How often a client that comes next finds the same before it takes the turn. Behind the opening, at seat 0, it waits
+/// until no more clients begin, so that they go ahead in their order.
+fn looks_before_taking(step: u64) -> u32 {
+    match kind_of(step) {
+        RESTS if step % SEATS != 0 => 0,
+        RESTS => 1,
+        HAS_EXCHANGED => UNCHANGED_BETWEEN,
+        _ => MOST_UNCHANGED,
+    }
+}
+
+/// What a client that waits has found.
+#[derive(Drop)]
+struct Watch {
+    /// The last step, and a bit for each seat that waited.
+    found: (u64, u64),
+    /// So often it found both once more.
+    unchanged: u32,
+    /// So often it found the turn with one seat.
+    looks: u32,
+}
+
+impl Watch {
+    fn new() -> Watch {
+        Watch {
+            found: (0, 0),
+            unchanged: 0,
+            looks: 0,
+        }
+    }
+
+    fn look(&mut self, step: u64, waiting: u64) {
+        let (last, before) = self.found;
+        let is_same = step == last && waiting == before;
+        let is_one_turn = step % SEATS == last % SEATS;
+        self.unchanged = if is_same {
+            self.unchanged.saturating_add(1)
+        } else {
+            0
+        };
+        self.looks = if is_one_turn {
+            self.looks.saturating_add(1)
+        } else {
+            0
+        };
+        self.found = (step, waiting);
+    }
+
+    /// Whether the turn is over for one before whom so many wait, as far as it can see.
+    fn is_over(&self, before: u64) -> bool {
+        let step = self.found.0;
+        before == 0 && self.unchanged >= looks_before_taking(step)
+            || self.unchanged >= MOST_UNCHANGED
+    }
+
+    /// How long one before whom so many wait sleeps.
+    fn pause(&self, before: u64) -> Duration {
+        let times = before.min(MOST_TIMES - 1) + 1;
+        let pause = PAUSE * times * times;
+        let is_long = self.looks > FEW_LOOKS;
+        Duration::from_micros(if is_long {
+            pause.saturating_mul(4)
+        } else {
+            pause
+        })
+    }
+}
+
+fn place_of(seat: u64) -> usize
+    ensures { result < 64 }
+{
+    (seat % SEATS) as usize
+}
+
+/// Where the clients sleep.
+#[derive(Drop)]
+struct Bells {
+    /// How often the client of each seat was woken.
+    rung: [AtomicU64; 64],
+}
+
+impl Bells {
+    fn new() -> Bells {
+        Bells {
+            rung: from_fn(|_| AtomicU64::new(0)),
+        }
+    }
+
+    fn rung(&self, seat: u64) -> u64 {
+        self.rung[place_of(seat)].load(Ordering::SeqCst)
+    }
+
+    /// Wakes the client of a seat.
+    fn ring(&self, seat: u64) {
+        let place = place_of(seat);
+        self.rung[place].fetch_add(1, Ordering::SeqCst);
+        self.rung[place].wake_one();
+    }
+
+    /// The client of a seat sleeps, unless it was woken since it looked.
+    fn sleep<R: Wait>(&self, rt: &R, seat: u64, rung: u64, time: Duration) {
+        let low = (rung % 4_294_967_296) as u32;
+        self.rung[place_of(seat)].park_timeout(rt, low, time);
+    }
+}
+
 /// A gate at which clients take turns: one goes ahead with its calls, and those that want to exchange beside it
 /// wait for a while, in the order of their seats. Where all exchange at once one of them wins, and the others decide
 /// what they lose, and decide it anew. It changes no answer. Who waits has published nothing, so nobody waits for
 /// it; and who has the turn and does nothing loses it.
 #[derive(Drop)]
-pub struct Turns<'a, C: Clock> {
-    clock: &'a C,
+pub struct Turns<'a, R: Wait> {
+    rt: &'a R,
     /// The last step of the client whose turn it is.
     step: AtomicU64,
     /// A bit for each seat that waits.
     waiting: AtomicU64,
+    bells: Bells,
 }
 
-impl<'a, C: Clock> Turns<'a, C> {
-    pub fn new(clock: &'a C) -> Turns<'a, C> {
+impl<'a, R: Wait> Turns<'a, R> {
+    pub fn new(rt: &'a R) -> Turns<'a, R> {
         Turns {
-            clock,
+            rt,
             step: AtomicU64::new(RESTS),
             waiting: AtomicU64::new(0),
+            bells: Bells::new(),
         }
     }
 
     fn last_step(&self) -> u64 {
         self.step.load(Ordering::SeqCst)
+    }
+
+    fn all_waiting(&self) -> u64 {
+        self.waiting.load(Ordering::SeqCst)
     }
 
     /// Makes a step behind one, if that is still the last one.
@@ -94,45 +209,45 @@ impl<'a, C: Clock> Turns<'a, C> {
             .is_ok()
     }
 
-    /// Whether the client of a step asks no more, as far as one can see.
-    fn is_over(&self, step: u64) -> bool {
-        match kind_of(step) {
-            RESTS => true,
-            HAS_EXCHANGED => (0..LOOKS_AT_ONCE).all(|_| self.last_step() == step),
-            _ => false,
+    /// Wakes the first of the seats from one on whose bits are set.
+    fn wake_first(&self, from: u64, bits: u64) {
+        if bits != 0 {
+            self.bells
+                .ring(from.wrapping_add(bits.trailing_zeros() as u64));
         }
     }
 
-    fn sleep(&self, micros: u64) {
-        thread::sleep(self.clock, Duration::from_micros(micros));
+    /// Wakes the client that comes next, and the one that comes behind it.
+    fn wake_next(&self, seat: u32) {
+        let from = seat as u64 % SEATS + 1;
+        let bits = self.all_waiting().rotate_right(from as u32);
+        self.wake_first(from, bits);
+        self.wake_first(from, bits & bits.wrapping_sub(1));
     }
 
-    /// Waits for the turn, for a while at most, and takes it. Who comes next takes it at once when it is over, and
-    /// another one where it finds it so twice.
-    fn wait(&self, seat: u32) {
-        let (mut last, mut unchanged) = (self.last_step(), 0u32);
-        self.sleep(PAUSE * between(last, seat));
+    /// Waits for the turn, for a while at most, and takes it. Who is woken and does not come next exchanges once
+    /// without it: that shows it the newest calls, so that it has few to see when its turn comes.
+    fn wait(&self, seat: u32, lost: u32) {
+        let rung = self.bells.rung(seat as u64);
+        let mut watch = Watch::new();
         for _ in 0..MOST_LOOKS {
-            let before = set_between(self.waiting.load(Ordering::SeqCst), last, seat);
-            let times = before.min(MOST_TIMES - 1) + 1;
-            self.sleep(PAUSE * times * times);
+            let heard = self.bells.rung(seat as u64);
             let step = self.last_step();
-            unchanged = if step == last {
-                unchanged.saturating_add(1)
-            } else {
-                0
-            };
-            last = step;
-            let is_next = before == 0 || unchanged > 0;
-            let is_free = is_next && self.is_over(step) || unchanged >= MOST_UNCHANGED;
-            if is_free && self.go(step, EXCHANGES, seat) {
+            watch.look(step, self.all_waiting());
+            let before = set_between(watch.found.1, step, seat);
+            if watch.is_over(before) && self.go(step, EXCHANGES, seat) {
                 return;
             }
+            if lost == 0 && heard != rung {
+                return;
+            }
+            let pause = watch.pause(before);
+            self.bells.sleep(self.rt, seat as u64, heard, pause);
         }
     }
 }
 
-impl<'a, C: Clock> Gate for Turns<'a, C> {
+impl<'a, R: Wait> Gate for Turns<'a, R> {
     fn before(&self, seat: u32, _call: u32) {
         let step = self.last_step();
         if is_of(step, seat) {
@@ -141,14 +256,14 @@ impl<'a, C: Clock> Gate for Turns<'a, C> {
     }
 
     /// Behind a wait the exchange is mostly lost, and so shows the newest call; the next one comes at once.
-    fn exchange(&self, seat: u32, _lost: u32) {
+    fn exchange(&self, seat: u32, lost: u32) {
         let step = self.last_step();
         if is_of(step, seat) && self.go(step, EXCHANGES, seat) {
             return;
         }
         let bit = 1u64.rotate_left(seat % 64);
         self.waiting.fetch_or(bit, Ordering::SeqCst);
-        self.wait(seat);
+        self.wait(seat, lost);
         self.waiting.fetch_and(!bit, Ordering::SeqCst);
     }
 
@@ -163,5 +278,12 @@ impl<'a, C: Clock> Gate for Turns<'a, C> {
             RESTS
         };
         self.go(step, kind, seat);
+    }
+
+    fn end(&self, seat: u32) {
+        let step = self.last_step();
+        if is_of(step, seat) && self.go(step, RESTS, seat) {
+            self.wake_next(seat);
+        }
     }
 }
