@@ -4,11 +4,9 @@
 mod books;
 mod desks;
 mod faults;
-mod numbers;
 mod objects;
 
 pub use books::Book;
 pub use desks::{BookDesk, Desk};
 pub use faults::Fault;
-pub use numbers::{NumberCall, NumberReply, Numbers};
 pub use objects::{Decided, Object};

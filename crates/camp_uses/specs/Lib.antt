@@ -1,4 +1,6 @@
 pub mod Asked
+pub mod NumberLaws
+pub mod NumberList
 pub mod Questioned
 pub mod Runs
 pub mod Shared

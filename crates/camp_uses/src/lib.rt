@@ -8,6 +8,7 @@ pub mod examples;
 pub mod heads;
 pub mod keeping;
 pub mod lists;
+pub mod numbers;
 pub mod patches;
 pub mod questions;
 pub mod repositories;

@@ -3,7 +3,7 @@ ghost use Rattle.std.specs.Prelude.{◌≤◌, ◌<◌, length};
 
 use bstr::ByteSlice;
 
-/// How many lines the first entry of a table has. A run and a schedule go on up to an empty line, a command
+/// How many lines the first entry of a table has. A run and a conversation go on up to an empty line, a command
 /// with a body up to its end; any other entry is one line.
 pub(crate) fn entry_len(lines: &[&[u8]]) -> usize
     requires { 0 < length lines.now }
@@ -26,13 +26,10 @@ pub(crate) fn entry_len(lines: &[&[u8]]) -> usize
     }
 }
 
-/// Whether a line begins a run or a schedule.
+/// Whether a line begins a run or a conversation.
 pub(crate) fn is_run(line: &[u8]) -> bool {
-    line.starts_with(b"run ") || line == SCHEDULE
+    line.starts_with(b"run ") || line.starts_with(b"ends ")
 }
-
-/// The line that begins a schedule.
-pub(crate) const SCHEDULE: &[u8] = b"schedule";
 
 /// Whether a line begins a command: with the number of a seat, or with the word that repeats it.
 pub(crate) fn is_command(line: &[u8]) -> bool {

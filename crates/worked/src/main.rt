@@ -16,9 +16,10 @@
 //! | `seen SEAT`, `meet SEAT SEAT` | how much a seat has seen; the first seat meets the second |
 //! | `adopted SEAT` | how many versions the seat has adopted |
 //! | `hand-on SEAT` | the seat hands on what it has seen |
-//! | `run book`, `run locked`, `run head` | the script below, up to an empty line |
-//! | `run locked ranked`, `run head ranked` | the same, whatever the order of its clients |
-//! | `schedule` | what the block below, up to an empty line, says of a script, its threads and their gates |
+//! | `no-merge LEFT RIGHT` | the text of a refusal |
+//! | `run book`, `run locked`, `run head`, `run head TRIES` | the script below, up to an empty line, behind its gates |
+//! | `run locked counts` and the like | how its calls were answered, whatever the order of its clients |
+//! | `ends WAY: READS BYTES WRITES BYTES TIMES` | the script or conversation below, with a reader and a writer that fail |
 //!
 //! The notation is that of `camp_notation`. What wants memory is done again. The exit status tells what was
 //! wanted: 0 where nothing was, 3 where one line wanted memory, 4 where the input was not read or a line not
@@ -32,7 +33,6 @@
 mod entries;
 mod lines;
 mod plays;
-mod schedules;
 mod tables;
 mod values;
 mod wants;

@@ -1,21 +1,22 @@
-//! Books and heads: what an entry that is no call asks, of a book, a head, a run or a schedule.
+//! Books and heads: what an entry that is no call asks, of a book, a head or a run.
 
 pub(crate) mod commands;
+pub(crate) mod ends;
 pub(crate) mod faults;
-pub(crate) mod ranks;
+pub(crate) mod gates;
 pub(crate) mod runs;
 pub(crate) mod seatings;
 
-use crate::entries::{SCHEDULE, is_command, is_run};
-use crate::plays::commands::{Command, command_of, number, read_numbers};
+use crate::entries::{is_command, is_run};
+use crate::plays::commands::{Command, NO_COMMAND, command_of, names_of, number, read_numbers};
+use crate::plays::ends::play_ends;
 use crate::plays::faults::PlayFault;
 use crate::plays::runs::{joined, run, run_of};
 use crate::plays::seatings::Seating;
-use crate::schedules::blocks::play_block;
 use crate::wants::Wants;
 use crate::words::split_word;
 use camp_head::HeadFault;
-use camp_repo::{Book, Call, Fault, Reply, State};
+use camp_repo::{Book, Call, Fault, Refusal, Reply, State};
 use camp_script::{append_history, append_reply};
 use std::alloc::{AllocError, Global};
 use std::sync::Wait;
@@ -31,7 +32,7 @@ pub(crate) enum Stage {
 /// What is answered to a call.
 pub(crate) type Answer = Result<Reply, Fault>;
 
-/// Whether an entry is none of a table of values: it begins with one of these words, or is a run, a schedule
+/// Whether an entry is none of a table of values: it begins with one of these words, or is a run
 /// or a command.
 pub(crate) fn is_play(line: &[u8]) -> bool {
     let (word, _) = split_word(line);
@@ -41,7 +42,7 @@ pub(crate) fn is_play(line: &[u8]) -> bool {
 fn is_word(word: &[u8]) -> bool {
     matches!(
         word,
-        b"book" | b"head" | b"history" | b"meet" | b"seen" | b"adopted" | b"hand-on"
+        b"book" | b"head" | b"history" | b"meet" | b"seen" | b"adopted" | b"hand-on" | b"no-merge"
     )
 }
 
@@ -81,8 +82,8 @@ impl Stage {
         if let Some(how) = run_of(first) {
             return wants.again(|| run(rt, alloc, how, rest));
         }
-        if *first == SCHEDULE {
-            return wants.again(|| play_block(rt, alloc, rest));
+        if let Some(words) = first.strip_prefix(b"ends ") {
+            return wants.again(|| play_ends(rt, alloc, words, rest));
         }
         if is_command(first) {
             return self.ask(rt, alloc, entry, wants);
@@ -144,6 +145,7 @@ impl Stage {
             b"seen" => self.seating()?.seen_text(alloc, number(rest)?),
             b"adopted" => self.seating()?.adopted_text(alloc, number(rest)?),
             b"hand-on" => self.hand_on(alloc, rest),
+            b"no-merge" => no_merge(alloc, rest),
             _ => Err(NO_LINE),
         }
     }
@@ -208,8 +210,16 @@ fn answer_text(alloc: Global, answer: &Answer) -> Result<Vec<u8>, PlayFault> {
     Ok(text)
 }
 
+/// The text of the refusal of a pull whose branches don't merge: no script is known that is told it.
+fn no_merge(alloc: Global, names: &[u8]) -> Result<Vec<u8>, PlayFault> {
+    let Some((left, right)) = names_of(names) else {
+        return Err(NO_COMMAND);
+    };
+    answer_text(alloc, &Ok(Reply::Refused(Refusal::NoMerge { left, right })))
+}
+
 /// Appends what is answered, if it is not want of memory.
-pub(crate) fn append_answer(text: &mut Vec<u8>, answer: &Answer) -> Result<(), PlayFault> {
+fn append_answer(text: &mut Vec<u8>, answer: &Answer) -> Result<(), PlayFault> {
     if let Err(Fault::Memory) = answer {
         return Err(PlayFault::Memory);
     }

@@ -1,6 +1,6 @@
 //! Books and heads: a command of a table, with its seat and how often it is asked.
 use crate::plays::faults::PlayFault;
-use crate::words::number_of;
+use crate::words::{number_of, split_word};
 use bstr::ByteSlice;
 use camp_base::Name;
 use camp_call::{Call, Names};
@@ -34,7 +34,7 @@ pub(crate) fn command_of<'a>(entry: &'a [&'a [u8]]) -> Result<Command<'a>, PlayF
     })
 }
 
-const NO_COMMAND: PlayFault = PlayFault::Wrong("no command");
+pub(crate) const NO_COMMAND: PlayFault = PlayFault::Wrong("no command");
 
 /// The number that a line begins with, and what stands behind it.
 fn number_before(line: &[u8]) -> Result<(u32, &[u8]), PlayFault> {
@@ -100,7 +100,7 @@ fn append_first(text: &mut Vec<u8>, line: &[u8], time: u32) -> Result<(), AllocE
 }
 
 /// A line of a body, or `repeat COUNT LINE`, which stands for so many.
-pub(crate) fn append_line(text: &mut Vec<u8>, line: &[u8]) -> Result<(), PlayFault> {
+fn append_line(text: &mut Vec<u8>, line: &[u8]) -> Result<(), PlayFault> {
     let (count, line) = match line.strip_prefix(b"repeat ") {
         Some(rest) => number_before(rest)?,
         None => (1, line),
@@ -127,14 +127,20 @@ fn last_of(calls: Vec<Call>) -> Result<Call, PlayFault> {
 // The calls that no script has: with an empty list of names, as `pull-listed FROM TO` and
 // `obliterate-listed BRANCH`.
 fn listless_pull(alloc: Global, branches: &[u8]) -> Result<Call, PlayFault> {
-    let Some((from, to)) = branches.split_once_str(b" ") else {
-        return Err(NO_COMMAND);
-    };
-    let (Ok(from), Ok(to)) = (Name::new(from), Name::new(to)) else {
+    let Some((from, to)) = names_of(branches) else {
         return Err(NO_COMMAND);
     };
     let names = Some(no_names(alloc));
     Ok(Call::Pull { from, to, names })
+}
+
+/// The two names that words tell.
+pub(crate) fn names_of(words: &[u8]) -> Option<(Name, Name)> {
+    let (first, second) = split_word(words);
+    match (Name::new(first), Name::new(second)) {
+        (Ok(first), Ok(second)) => Some((first, second)),
+        _ => None,
+    }
 }
 
 fn listless_obliterate(alloc: Global, branch: &[u8]) -> Result<Call, PlayFault> {

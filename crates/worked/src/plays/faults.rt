@@ -1,9 +1,8 @@
 //! Books and heads: why a command has no answer.
-use camp_clients::LockFault;
-use camp_head::HeadFault;
 use camp_object::Fault;
 use camp_run::RunFault;
-use camp_script::{LineFault, ScriptFault, WriteFault};
+use camp_script::ScriptFault;
+use camp_talk::{FrameFault, TalkFault};
 use std::alloc::{AllocError, AllocFailed};
 use std::io;
 use thiserror::Error;
@@ -13,9 +12,12 @@ use thiserror::Error;
 pub(crate) enum PlayFault {
     #[error("out of memory")]
     Memory,
-    /// A script has this fault.
+    /// A script was not run, or not answered.
     #[error("{0}")]
-    Script(LineFault),
+    Run(RunFault),
+    /// A conversation ended with an error of its reader or writer.
+    #[error("{0}: {1}")]
+    Talk(TalkFault, io::Error),
     /// Something is not as it has to be.
     #[error("{0}")]
     Wrong(&'static str),
@@ -33,7 +35,7 @@ impl<T: Drop> From<AllocFailed<T>> for PlayFault {
     }
 }
 
-/// A text in memory is not written where memory is wanted.
+/// A buffer is not made where memory is wanted.
 impl From<io::Error> for PlayFault {
     fn from(_error: io::Error) -> PlayFault {
         PlayFault::Memory
@@ -43,17 +45,8 @@ impl From<io::Error> for PlayFault {
 impl From<ScriptFault> for PlayFault {
     fn from(fault: ScriptFault) -> PlayFault {
         match fault {
-            ScriptFault::Line(fault) => PlayFault::Script(fault),
+            ScriptFault::Line(fault) => PlayFault::Run(RunFault::Script(fault)),
             ScriptFault::Memory => PlayFault::Memory,
-        }
-    }
-}
-
-impl From<WriteFault> for PlayFault {
-    fn from(fault: WriteFault) -> PlayFault {
-        match fault {
-            WriteFault::Memory => PlayFault::Memory,
-            WriteFault::Write(_) => PlayFault::Wrong("cannot write"),
         }
     }
 }
@@ -61,20 +54,27 @@ impl From<WriteFault> for PlayFault {
 impl From<RunFault> for PlayFault {
     fn from(fault: RunFault) -> PlayFault {
         match fault {
-            RunFault::Script(fault) => PlayFault::Script(fault),
-            RunFault::Foreign => PlayFault::Wrong("foreign call"),
             RunFault::Memory => PlayFault::Memory,
-            RunFault::Read => PlayFault::Wrong("cannot read"),
-            RunFault::Write => PlayFault::Wrong("cannot write"),
+            fault => PlayFault::Run(fault),
         }
     }
 }
 
-impl From<HeadFault> for PlayFault {
-    fn from(fault: HeadFault) -> PlayFault {
+impl From<TalkFault> for PlayFault {
+    fn from(fault: TalkFault) -> PlayFault {
         match fault {
-            HeadFault::Memory => PlayFault::Memory,
-            HeadFault::BadSize => PlayFault::Wrong("bad size"),
+            TalkFault::Memory => PlayFault::Memory,
+            TalkFault::Read(error) | TalkFault::Write(error) => PlayFault::Talk(fault, error),
+            TalkFault::Internal => PlayFault::Wrong("internal fault"),
+        }
+    }
+}
+
+impl From<FrameFault> for PlayFault {
+    fn from(fault: FrameFault) -> PlayFault {
+        match fault {
+            FrameFault::Talk(fault) => PlayFault::from(fault),
+            _ => PlayFault::Wrong("no frames"),
         }
     }
 }
@@ -84,15 +84,6 @@ impl From<Fault> for PlayFault {
         match fault {
             Fault::Memory => PlayFault::Memory,
             _ => PlayFault::Wrong("busy or full"),
-        }
-    }
-}
-
-impl From<LockFault> for PlayFault {
-    fn from(fault: LockFault) -> PlayFault {
-        match fault {
-            LockFault::Memory => PlayFault::Memory,
-            LockFault::Foreign => PlayFault::Wrong("foreign call"),
         }
     }
 }

@@ -1,17 +1,19 @@
 //! Books and heads: scripts that are run in one thread, over a lock or over a head.
 use crate::plays::faults::PlayFault;
-use crate::plays::ranks::ranked;
-use camp_run::{NoGate, RunFault, run_book, run_head, run_locked};
+use crate::plays::gates::Delays;
+use crate::words::number_of;
+use bstr::ByteSlice;
+use camp_run::{RunFault, run_book, run_head, run_locked};
 use std::alloc::{AllocError, Global};
 use std::io::{Read, Write};
 use std::sync::Wait;
 use std::thread::Threads;
 
-/// How a script is run, and whether the numbers that its clients are told are ranked.
+/// How a script is run, and whether its answers are counted.
 #[derive(Clone, Copy)]
 pub(crate) struct Manner {
     way: Way,
-    is_ranked: bool,
+    is_counted: bool,
 }
 
 #[derive(Clone, Copy)]
@@ -20,66 +22,81 @@ pub(crate) enum Way {
     Book,
     /// In threads over a lock.
     Locked,
-    /// In threads over a head, where a call is given up after 100 lost exchanges.
-    Head,
+    /// In threads over a head, where a call is given up after so many lost exchanges.
+    Head(u32),
 }
 
 /// The run that a line tells.
 pub(crate) fn run_of(line: &[u8]) -> Option<Manner> {
-    match line.strip_suffix(b" ranked") {
+    let line = line.strip_prefix(b"run ")?;
+    match line.strip_suffix(b" counts") {
         Some(line) => Some(Manner {
             way: way_of(line)?,
-            is_ranked: true,
+            is_counted: true,
         }),
         None => Some(Manner {
             way: way_of(line)?,
-            is_ranked: false,
+            is_counted: false,
         }),
     }
 }
 
-fn way_of(line: &[u8]) -> Option<Way> {
-    match line {
-        b"run book" => Some(Way::Book),
-        b"run locked" => Some(Way::Locked),
-        b"run head" => Some(Way::Head),
-        _ => None,
+pub(crate) fn way_of(words: &[u8]) -> Option<Way> {
+    match words {
+        b"book" => Some(Way::Book),
+        b"locked" => Some(Way::Locked),
+        b"head" => Some(Way::Head(100)),
+        _ => Some(Way::Head(number_of(words.strip_prefix(b"head ")?)?)),
     }
 }
 
-/// What the script of these lines writes.
+/// What the script of these lines writes, behind those that say where its seats wait for each other.
 pub(crate) fn run<R: Threads + Wait + Sync>(
     rt: &R,
     alloc: Global,
     how: Manner,
     lines: &[&[u8]],
 ) -> Result<Vec<u8>, PlayFault> {
+    let mut delays = Delays::new(alloc);
+    let lines = delays.read(lines)?;
     let script = joined(alloc, lines)?;
-    // A history has the order of the threads.
-    let written = output_of(rt, alloc, how.way, &script, !how.is_ranked)?;
-    if how.is_ranked {
-        Ok(ranked(alloc, &written)?)
+    let written = output_of(rt, alloc, how, &script, &delays)?;
+    if !delays.are_kept() {
+        return Err(PlayFault::Wrong("a seat gave up"));
+    }
+    if how.is_counted {
+        Ok(counts_of(alloc, &written)?)
     } else {
         Ok(written)
     }
 }
 
-/// What a script writes one way, with its history where it is wanted. A run that wants memory, as its writer
-/// may, has written nothing.
-pub(crate) fn output_of<R: Threads + Wait + Sync>(
+/// What a script writes, with its history where its answers are not counted: it has the order of the threads. A
+/// run that wants memory, as its writer may, has written nothing.
+fn output_of<R: Threads + Wait + Sync>(
     rt: &R,
     alloc: Global,
-    way: Way,
+    how: Manner,
     script: &[u8],
-    history: bool,
+    delays: &Delays,
 ) -> Result<Vec<u8>, PlayFault> {
     let mut reader = script;
     let mut written = Vec::new(alloc);
-    match run_way(rt, alloc, way, history, &mut reader, &mut written) {
+    match run_way(
+        rt,
+        alloc,
+        how.way,
+        !how.is_counted,
+        delays,
+        &mut reader,
+        &mut written,
+    ) {
         Ok(()) => Ok(written),
-        Err(RunFault::Memory | RunFault::Write) if written.is_empty() => Err(PlayFault::Memory),
-        Err(RunFault::Memory) => Err(PlayFault::Wrong("out of memory, and a text")),
-        Err(fault) => Err(PlayFault::from(fault)),
+        Err(PlayFault::Memory | PlayFault::Run(RunFault::Write)) if written.is_empty() => {
+            Err(PlayFault::Memory)
+        }
+        Err(PlayFault::Memory) => Err(PlayFault::Wrong("out of memory, and a text")),
+        Err(fault) => Err(fault),
     }
 }
 
@@ -89,14 +106,35 @@ pub(crate) fn run_way<T: Threads + Wait + Sync, R: Read, W: Write>(
     alloc: Global,
     way: Way,
     history: bool,
+    delays: &Delays,
     reader: &mut R,
     writer: &mut W,
-) -> Result<(), RunFault> {
-    match way {
+) -> Result<(), PlayFault> {
+    let ended = match way {
         Way::Book => run_book(alloc, reader, writer, history),
         Way::Locked => run_locked(rt, alloc, reader, writer, history),
-        Way::Head => run_head(rt, alloc, reader, writer, history, 100, &NoGate),
-    }
+        Way::Head(tries) => {
+            if tries == 0 || tries > 1_000 {
+                return Err(PlayFault::Wrong("1 to 1000 tries"));
+            }
+            run_head(rt, alloc, reader, writer, history, tries, delays)
+        }
+    };
+    Ok(ended?)
+}
+
+/// How many calls were accepted, refused and busy.
+fn counts_of(alloc: Global, answers: &[u8]) -> Result<Vec<u8>, AllocError> {
+    let accepted = count(answers, b"ok ");
+    let refused = count(answers, b"refused ");
+    let busy = count(answers, b"busy ");
+    let text = format!(in alloc; "accepted {accepted} refused {refused} busy {busy}\n")?;
+    Ok(text.into_bytes())
+}
+
+/// How many lines begin so.
+fn count(text: &[u8], front: &[u8]) -> usize {
+    text.lines().filter(|line| line.starts_with(front)).count()
 }
 
 /// Lines as one text.

@@ -1,8 +1,7 @@
 //! Values: the arguments of a call, each read from its text.
 use crate::tables::Table;
-use crate::values::numbers::{Numbers, read_number, read_numbers};
-use crate::values::places::{Places, read_places};
-use camp_base::{Name, Path, Tree};
+use crate::values::numbers::{Number, Numbers, read_number, read_numbers};
+use camp_base::{Path, Tree};
 use camp_catch::Catch;
 use camp_ctx::{Contexted, CtxSet};
 use camp_notation::{
@@ -88,13 +87,6 @@ impl Argument for Vec<u8> {
     }
 }
 
-impl Argument for Name {
-    fn read(table: &Table, text: &[u8]) -> Result<Name, NotationError> {
-        let word = read_word(table.alloc(), text)?;
-        Ok(Name::new(&word)?)
-    }
-}
-
 impl Argument for Path {
     fn read(table: &Table, text: &[u8]) -> Result<Path, NotationError> {
         let word = read_word(table.alloc(), text)?;
@@ -113,6 +105,12 @@ impl Argument for Lines {
 impl Argument for u32 {
     fn read(_table: &Table, text: &[u8]) -> Result<u32, NotationError> {
         read_number(text)
+    }
+}
+
+impl Argument for Number {
+    fn read(_table: &Table, text: &[u8]) -> Result<Number, NotationError> {
+        Ok(Number(read_number(text)?))
     }
 }
 
@@ -168,12 +166,5 @@ impl Argument for Vec<Shared<Catch>> {
 impl Argument for Numbers {
     fn read(table: &Table, text: &[u8]) -> Result<Numbers, NotationError> {
         read_numbers(table.alloc(), text)
-    }
-}
-
-/// A shared map from names to numbers.
-impl Argument for Places {
-    fn read(table: &Table, text: &[u8]) -> Result<Places, NotationError> {
-        read_places(table.alloc(), text)
     }
 }

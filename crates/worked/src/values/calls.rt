@@ -1,11 +1,9 @@
 //! Values: the calls, looked for among those on one kind of value after the other.
 use crate::tables::Table;
 use crate::values::arguments::{Argument, Arguments, One, Three, Two};
-use crate::values::results::{Outcome, word};
+use crate::values::results::{Answer, Outcome, word};
 use crate::values::splits::split;
-use crate::values::{
-    bases, bytes, catch_lists, catches, clients, contexts, lists, primitives, sets, shares, trees,
-};
+use crate::values::{bases, catches, contexts, lists, primitives, shares, trees};
 use camp_notation::NotationError;
 
 /// A line that is a call. Its arguments may name what stands in the table.
@@ -21,9 +19,6 @@ pub(crate) fn answer(line: CallLine<'_>) -> Outcome {
     if let Some(outcome) = bases::answer(line) {
         return outcome;
     }
-    if let Some(outcome) = bytes::answer(line) {
-        return outcome;
-    }
     if let Some(outcome) = trees::answer(line) {
         return outcome;
     }
@@ -36,19 +31,10 @@ pub(crate) fn answer(line: CallLine<'_>) -> Outcome {
     if let Some(outcome) = contexts::answer(line) {
         return outcome;
     }
-    if let Some(outcome) = sets::answer(line) {
-        return outcome;
-    }
     if let Some(outcome) = catches::answer(line) {
         return outcome;
     }
-    if let Some(outcome) = catch_lists::answer(line) {
-        return outcome;
-    }
     if let Some(outcome) = shares::answer(line) {
-        return outcome;
-    }
-    if let Some(outcome) = clients::answer(line) {
         return outcome;
     }
     word(line.table, "no such call")
@@ -69,20 +55,20 @@ impl<'a> CallLine<'a> {
     }
 
     /// The result of a call with one argument.
-    pub(crate) fn one<A: Argument, F: FnOnce(&Table, &A) -> Outcome>(self, call: F) -> Outcome
+    pub(crate) fn one<A: Argument, R: Answer, F: FnOnce(&A) -> R>(self, call: F) -> Outcome
         requires { F.IsAlwaysCallable call }
     {
-        self.ask(|table: &Table, on: &One<A>| call(table, &on.first))
+        self.ask(|table: &Table, on: &One<A>| call(&on.first).outcome(table))
     }
 
     /// The result of a call with two arguments.
-    pub(crate) fn two<A: Argument, B: Argument, F: FnOnce(&Table, &A, &B) -> Outcome>(
+    pub(crate) fn two<A: Argument, B: Argument, R: Answer, F: FnOnce(&A, &B) -> R>(
         self,
         call: F,
     ) -> Outcome
         requires { F.IsAlwaysCallable call }
     {
-        self.ask(|table: &Table, on: &Two<A, B>| { call(table, &on.first, &on.rest.first) })
+        self.ask(|table: &Table, on: &Two<A, B>| { call(&on.first, &on.rest.first).outcome(table) })
     }
 
     /// The result of a call with three arguments.
@@ -90,12 +76,13 @@ impl<'a> CallLine<'a> {
         A: Argument,
         B: Argument,
         C: Argument,
-        F: FnOnce(&Table, &A, &B, &C) -> Outcome,
+        R: Answer,
+        F: FnOnce(&A, &B, &C) -> R,
     >(self, call: F) -> Outcome
         requires { F.IsAlwaysCallable call }
     {
         self.ask(|table: &Table, on: &Three<A, B, C>| {
-            call(table, &on.first, &on.rest.first, &on.rest.rest.first)
+            call(&on.first, &on.rest.first, &on.rest.rest.first).outcome(table)
         })
     }
 

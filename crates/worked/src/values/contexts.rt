@@ -1,55 +1,41 @@
-//! Values: the calls on contexted patches.
+//! Values: the calls on contexted patches, and on sets of them.
 use crate::tables::Table;
+use crate::values::arguments::Two;
 use crate::values::calls::CallLine;
-use crate::values::results::{Outcome, Shown, both, found_one, key_text, made, yes_or_no};
-use camp_ctx::{Contexted, conflict, merge_behind_common};
-use camp_prim::Named;
+use crate::values::results::{Answer, Outcome, Shown};
+use camp_ctx::{Contexted, CtxSet, conflict, merge_behind_common};
+use camp_prim::Label;
 use camp_seq::Seq;
+use std::alloc::AllocError;
 
-/// The result of a call on contexted patches.
+/// The result of a call on contexted patches or on sets of them. An absolute label is written as a label
+/// without a caret.
 pub(crate) fn answer(line: CallLine<'_>) -> Option<Outcome> {
     let outcome = match line.name {
-        b"read_contexted" => line.one(|table: &Table, x: &Contexted| x.shown(table)),
-        b"contexted" => line.two(united),
-        b"copy_contexted" => line.one(|table: &Table, x: &Contexted| {
-            made(table, x.try_clone())
-        }),
-        b"key_of_contexted" => line.one(key),
-        b"are_same_contexted" => line.two(|table: &Table, x: &Contexted, y: &Contexted| {
-            yes_or_no(table, x.is_same(y))
-        }),
-        b"add_one" => line.two(|table: &Table, p: &Named, x: &Contexted| {
-            made(table, Contexted::add_one(p, x))
-        }),
-        b"add" => line.two(|table: &Table, list: &Seq, x: &Contexted| {
-            made(table, Contexted::add(list, x))
-        }),
-        b"pass_one_by" => line.two(|table: &Table, p: &Named, x: &Contexted| {
-            found_one(table, Contexted::past_one(p, x))
-        }),
-        b"pass_by" => line.two(|table: &Table, list: &Seq, x: &Contexted| {
-            found_one(table, Contexted::past(list, x))
-        }),
-        b"conflict" => line.two(are_in_conflict),
-        b"merge_behind_common" => line.two(|table: &Table, left: &Seq, right: &Seq| {
-            both(table, merge_behind_common(table.alloc(), left, right))
-        }),
+        b"read_contexted" => line.one(Contexted::try_clone),
+        b"add_one" => line.two(Contexted::add_one),
+        b"add" => line.two(Contexted::add),
+        b"pass_by" => line.two(Contexted::past),
+        b"conflict" => line.two(|x: &Contexted, y: &Contexted| conflict(x, y)),
+        b"merge_behind_common" => line.ask(merged),
+        b"read_set" => line.one(CtxSet::try_clone),
+        b"sole" => line.one(sole),
+        b"insert" => line.two(CtxSet::insert),
+        b"without" => line.two(without),
+        b"add_to_set" => line.two(CtxSet::add),
         _ => return None,
     };
     Some(outcome)
 }
 
-/// A patch in a context, made of the two.
-fn united(table: &Table, context: &Seq, patch: &Named) -> Outcome {
-    let context = context.try_clone()?;
-    let patch = patch.try_clone()?;
-    made(table, Contexted::new(table.alloc(), context, patch))
+fn merged(table: &Table, on: &Two<Seq, Seq>) -> Outcome {
+    merge_behind_common(table.alloc(), &on.first, &on.rest.first).outcome(table)
 }
 
-fn key(table: &Table, x: &Contexted) -> Outcome {
-    Ok(key_text(table, x.key())?)
+fn sole(set: &CtxSet) -> Option<Result<Contexted, AllocError>> {
+    set.sole().map(|member| member.try_clone())
 }
 
-fn are_in_conflict(table: &Table, x: &Contexted, y: &Contexted) -> Outcome {
-    yes_or_no(table, conflict(x, y)?)
+fn without(set: &CtxSet, label: &Label) -> Result<CtxSet, AllocError> {
+    set.without(&label.key())
 }

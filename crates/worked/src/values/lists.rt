@@ -1,64 +1,35 @@
 //! Values: the calls on lists of primitives.
 use crate::tables::Table;
-use crate::values::arguments::Then;
+use crate::values::arguments::{Then, Two};
 use crate::values::calls::CallLine;
-use crate::values::results::{Outcome, Shown, both, changed, made, word, yes_or_no};
+use crate::values::results::{Answer, Outcome, changed};
 use camp_base::Tree;
-use camp_notation::{NotationError, listing, word_text};
 use camp_prim::{Label, Named};
 use camp_seq::{Seq, apply_all, clean_merge, front, invert_all, norm, past, past_all, split};
 
 /// The result of a call on lists of primitives.
 pub(crate) fn answer(line: CallLine<'_>) -> Option<Outcome> {
     let outcome = match line.name {
-        b"copy_list" => line.one(|table: &Table, list: &Seq| made(table, list.try_clone())),
-        b"push" => line.two(pushed),
-        b"past" => line.two(|table: &Table, p: &Named, list: &Seq| { both(table, past(p, list)) }),
-        b"past_all" => line.two(|table: &Table, left: &Seq, right: &Seq| {
-            both(table, past_all(left, right))
-        }),
-        b"front" => line.two(|table: &Table, list: &Seq, label: &Label| {
-            both(table, front(list, label))
-        }),
-        b"split" => line.ask(|table: &Table, on: &Then<Seq, Vec<Label>>| {
-            both(table, split(&on.first, &on.rest))
-        }),
-        b"norm" => line.one(|table: &Table, list: &Seq| made(table, norm(list))),
-        b"invert_all" => line.one(|table: &Table, list: &Seq| { made(table, invert_all(list)) }),
-        b"clean_merge" => line.two(|table: &Table, left: &Seq, right: &Seq| {
-            both(table, clean_merge(left, right))
-        }),
-        b"apply_all" => line.two(applied),
-        b"are_same_lists" => line.two(|table: &Table, left: &Seq, right: &Seq| {
-            yes_or_no(table, left.is_same(right))
-        }),
-        b"listing" => line.one(listed),
+        b"past" => line.two(|p: &Named, list: &Seq| past(p, list)),
+        b"past_all" => line.two(|left: &Seq, right: &Seq| past_all(left, right)),
+        b"front" => line.two(|list: &Seq, label: &Label| front(list, label)),
+        b"split" => line.ask(split_by),
+        b"norm" => line.one(|list: &Seq| norm(list)),
+        b"invert_all" => line.one(|list: &Seq| invert_all(list)),
+        b"clean_merge" => line.two(|left: &Seq, right: &Seq| clean_merge(left, right)),
+        b"apply_all" => line.ask(applied),
         _ => return None,
     };
     Some(outcome)
 }
 
-/// A list with one more behind it. One that has wanted memory is as it was.
-fn pushed(table: &Table, before: &Seq, p: &Named) -> Outcome {
-    let copy = p.try_clone()?;
-    let mut list = before.try_clone()?;
-    if list.push(copy).is_ok() {
-        list.shown(table)
-    } else if list.is_same(before) {
-        Err(NotationError::Memory)
-    } else {
-        word(table, "out of memory, and another list")
-    }
+fn split_by(table: &Table, on: &Then<Seq, Vec<Label>>) -> Outcome {
+    split(&on.first, &on.rest).outcome(table)
 }
 
-fn applied(table: &Table, whole: &Seq, before: &Tree) -> Outcome {
+fn applied(table: &Table, on: &Two<Seq, Tree>) -> Outcome {
+    let before = &on.rest.first;
     let mut tree = before.try_clone()?;
-    let answer = apply_all(whole, &mut tree);
+    let answer = apply_all(&on.first, &mut tree);
     changed(table, before, tree, answer)
-}
-
-/// The lines of a listing, as one word.
-fn listed(table: &Table, list: &Seq) -> Outcome {
-    let text = listing(table.alloc(), table.known(), list)?;
-    Ok(word_text(table.alloc(), text.as_bytes())?)
 }

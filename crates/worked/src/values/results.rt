@@ -1,8 +1,7 @@
 //! Values: how results are shown, and read back.
 use crate::tables::Table;
 use crate::values::numbers::{Numbers, numbers_text};
-use crate::values::places::{Places, places_text};
-use camp_base::{Apply, BaseFault, Tree};
+use camp_base::{Apply, Tree};
 use camp_catch::Catch;
 use camp_ctx::{Contexted, CtxSet};
 use camp_notation::{
@@ -13,7 +12,6 @@ use camp_prim::{Key, Label, Named};
 use camp_seq::Seq;
 use camp_share::Shared;
 use std::alloc::AllocError;
-use std::cmp::Ordering;
 
 /// The result of a call, or in which words it is refused.
 pub(crate) type Outcome = Result<String, NotationError>;
@@ -73,25 +71,54 @@ impl Shown for Catch {
     }
 }
 
+impl Shown for Vec<Shared<Catch>> {
+    fn shown(&self, table: &Table) -> Outcome {
+        let text = catches_text(table.alloc(), table.known(), self)?;
+        match read_catches(table.alloc(), table.known(), text.as_bytes()) {
+            Ok(read) => told(text, are_same(self, &read)),
+            Err(why) => Err(why),
+        }
+    }
+}
+
 impl Shown for Numbers {
     fn shown(&self, table: &Table) -> Outcome {
         Ok(numbers_text(table.alloc(), self)?)
     }
 }
 
-impl Shown for Places {
+impl Shown for bool {
     fn shown(&self, table: &Table) -> Outcome {
-        Ok(places_text(table.alloc(), self)?)
+        word(table, if *self { "yes" } else { "no" })
     }
 }
 
-/// The text of a list of catches, which is read back too.
-pub(crate) fn catch_list_text(table: &Table, list: &[Shared<Catch>]) -> Outcome {
-    let text = catches_text(table.alloc(), table.known(), list)?;
-    match read_catches(table.alloc(), table.known(), text.as_bytes()) {
-        Ok(read) => told(text, are_same(list, &read)),
-        Err(why) => Err(why),
+/// A result, or none.
+impl<T: Shown> Shown for Option<T> {
+    fn shown(&self, table: &Table) -> Outcome {
+        match self {
+            Some(value) => value.shown(table),
+            None => word(table, "none"),
+        }
     }
+}
+
+/// Two results, one behind the other.
+impl<T: Shown, U: Shown> Shown for (T, U) {
+    fn shown(&self, table: &Table) -> Outcome {
+        let first = self.0.shown(table)?;
+        match self.1.shown(table) {
+            Ok(second) => joined(first, &second),
+            Err(why) => Err(why),
+        }
+    }
+}
+
+pub(crate) fn joined(first: String, second: &str) -> Outcome {
+    let mut text = first;
+    text.push_str(", ")?;
+    text.push_str(second)?;
+    Ok(text)
 }
 
 fn are_same(list: &[Shared<Catch>], other: &[Shared<Catch>]) -> bool {
@@ -112,11 +139,34 @@ fn told(text: String, is_read_back: bool) -> Outcome {
     Ok(text)
 }
 
-/// The result of a call.
-pub(crate) fn made<T: Shown + Drop>(table: &Table, value: Result<T, AllocError>) -> Outcome {
-    match value {
-        Ok(value) => show(table, &value),
-        Err(_) => Err(NotationError::Memory),
+/// What a call may answer: a value, or a value unless memory is wanted.
+pub(crate) trait Answer: Drop {
+    /// The result of the call.
+    fn outcome(self, table: &Table) -> Outcome;
+}
+
+impl Answer for bool {
+    fn outcome(self, table: &Table) -> Outcome {
+        show(table, &self)
+    }
+}
+
+/// A value, or none.
+impl<A: Answer> Answer for Option<A> {
+    fn outcome(self, table: &Table) -> Outcome {
+        match self {
+            Some(answer) => answer.outcome(table),
+            None => word(table, "none"),
+        }
+    }
+}
+
+impl<T: Shown + Drop> Answer for Result<T, AllocError> {
+    fn outcome(self, table: &Table) -> Outcome {
+        match self {
+            Ok(value) => show(table, &value),
+            Err(_) => Err(NotationError::Memory),
+        }
     }
 }
 
@@ -129,68 +179,9 @@ pub(crate) fn show<T: Shown>(table: &Table, value: &T) -> Outcome {
     }
 }
 
-/// One result of a call, or none.
-pub(crate) fn found<T: Shown>(table: &Table, value: Option<&T>) -> Outcome {
-    match value {
-        Some(value) => value.shown(table),
-        None => none(table),
-    }
-}
-
-/// One result of a call that takes memory, or none.
-pub(crate) fn found_one<T: Shown + Drop>(
-    table: &Table,
-    value: Result<Option<T>, AllocError>,
-) -> Outcome {
-    match value {
-        Ok(Some(value)) => value.shown(table),
-        Ok(None) => none(table),
-        Err(_) => Err(NotationError::Memory),
-    }
-}
-
-/// Two results of a call, one behind the other, or none.
-pub(crate) fn both<T: Shown + Drop, U: Shown + Drop>(
-    table: &Table,
-    pair: Result<Option<(T, U)>, AllocError>,
-) -> Outcome {
-    match pair {
-        Ok(Some((first, second))) => pair_text(table, &first, &second),
-        Ok(None) => none(table),
-        Err(_) => Err(NotationError::Memory),
-    }
-}
-
-/// Two results of a call, one behind the other.
-pub(crate) fn pair_text<T: Shown, U: Shown>(table: &Table, first: &T, second: &U) -> Outcome {
-    let first = first.shown(table)?;
-    match second.shown(table) {
-        Ok(second) => joined(first, ", ", &second),
-        Err(why) => Err(why),
-    }
-}
-
-/// No result.
-pub(crate) fn none(table: &Table) -> Outcome {
-    word(table, "none")
-}
-
 /// A word as it is.
 pub(crate) fn word(table: &Table, text: &str) -> Outcome {
     Ok(String::from_str(table.alloc(), text)?)
-}
-
-/// The answer to a question.
-pub(crate) fn yes_or_no(table: &Table, is_so: bool) -> Outcome {
-    word(table, if is_so { "yes" } else { "no" })
-}
-
-/// A text, what stands between, and another text.
-pub(crate) fn joined(first: String, between: &str, second: &str) -> Outcome {
-    let mut text = first;
-    text.push_str(between)?;
-    text.push_str(second)?;
-    Ok(text)
 }
 
 /// An absolute label: a label without a caret.
@@ -203,17 +194,6 @@ pub(crate) fn key_text(table: &Table, key: Key) -> Result<String, AllocError> {
     label_text(table.alloc(), label)
 }
 
-pub(crate) fn order(table: &Table, order: Ordering) -> Outcome {
-    word(
-        table,
-        match order {
-            Ordering::Less => "less",
-            Ordering::Equal => "equal",
-            Ordering::Greater => "greater",
-        },
-    )
-}
-
 /// The tree that a change leaves, or in which words it is refused. A change that is refused and yet
 /// leaves another tree is told.
 pub(crate) fn changed(
@@ -223,7 +203,7 @@ pub(crate) fn changed(
     answer: Result<(), Apply>,
 ) -> Outcome {
     match answer {
-        Ok(()) => made(table, Ok(after)),
+        Ok(()) => show(table, &after),
         Err(why) => refused(table, why, after.is_same(before)),
     }
 }
@@ -233,13 +213,5 @@ fn refused(table: &Table, why: Apply, is_kept: bool) -> Outcome {
         _ if !is_kept => Ok(format!(in table.alloc(); "{why}, and another tree")?),
         Apply::DoesNotApply => Ok(format!(in table.alloc(); "{why}")?),
         Apply::Memory => Err(NotationError::Memory),
-    }
-}
-
-/// In which words bytes are refused.
-pub(crate) fn fault(table: &Table, fault: BaseFault) -> Outcome {
-    match fault {
-        BaseFault::Memory => Err(NotationError::Memory),
-        _ => Ok(format!(in table.alloc(); "{fault}")?),
     }
 }

@@ -1,8 +1,8 @@
 //! Values: the calls on trees.
 use crate::tables::Table;
-use crate::values::arguments::Five;
+use crate::values::arguments::{Five, Two};
 use crate::values::calls::CallLine;
-use crate::values::results::{Outcome, changed, made, none, yes_or_no};
+use crate::values::results::{Outcome, changed, word};
 use camp_base::{Line, Path, Tree};
 use camp_notation::lines_text;
 use camp_prim::Lines;
@@ -12,31 +12,21 @@ use std::alloc::AllocError;
 /// The result of a call on trees.
 pub(crate) fn answer(line: CallLine<'_>) -> Option<Outcome> {
     let outcome = match line.name {
-        b"len" => line.one(file_count),
-        b"is_empty" => line.one(|table: &Table, tree: &Tree| { yes_or_no(table, tree.is_empty()) }),
-        b"file" => line.two(file),
-        b"at" => line.two(at),
-        b"copy_tree" => line.one(|table: &Table, tree: &Tree| made(table, tree.try_clone())),
-        b"add_file" => line.two(add_file),
-        b"remove_file" => line.two(remove_file),
+        b"is_empty" => line.one(Tree::is_empty),
+        b"file" => line.ask(file),
+        b"copy_tree" => line.one(Tree::try_clone),
+        b"add_file" => line.ask(add_file),
+        b"remove_file" => line.ask(remove_file),
         b"splice" => line.ask(splice),
-        b"are_same_trees" => line.two(|table: &Table, left: &Tree, right: &Tree| {
-            yes_or_no(table, left.is_same(right))
-        }),
         _ => return None,
     };
     Some(outcome)
 }
 
-fn file_count(table: &Table, tree: &Tree) -> Outcome {
-    let count = tree.len();
-    Ok(format!(in table.alloc(); "{count}")?)
-}
-
-fn file(table: &Table, tree: &Tree, path: &Path) -> Outcome {
-    match tree.file(path) {
+fn file(table: &Table, on: &Two<Tree, Path>) -> Outcome {
+    match on.first.file(&on.rest.first) {
         Some(lines) => Ok(file_text(table, lines)?),
-        None => none(table),
+        None => word(table, "none"),
     }
 }
 
@@ -45,28 +35,16 @@ fn file_text(table: &Table, lines: &SharedList<Line>) -> Result<String, AllocErr
     lines_text(table.alloc(), &lines)
 }
 
-fn at(table: &Table, tree: &Tree, index: &u32) -> Outcome {
-    match tree.at(*index as usize) {
-        Some((path, lines)) => Ok(entry_text(table, path, lines)?),
-        None => none(table),
-    }
+fn add_file(table: &Table, on: &Two<Tree, Path>) -> Outcome {
+    let mut tree = on.first.try_clone()?;
+    let answer = tree.add_file(&on.rest.first);
+    changed(table, &on.first, tree, answer)
 }
 
-fn entry_text(table: &Table, path: &Path, lines: &SharedList<Line>) -> Result<String, AllocError> {
-    let lines = file_text(table, lines)?;
-    format!(in table.alloc(); "{path}: {lines}")
-}
-
-fn add_file(table: &Table, before: &Tree, path: &Path) -> Outcome {
-    let mut tree = before.try_clone()?;
-    let answer = tree.add_file(path);
-    changed(table, before, tree, answer)
-}
-
-fn remove_file(table: &Table, before: &Tree, path: &Path) -> Outcome {
-    let mut tree = before.try_clone()?;
-    let answer = tree.remove_file(path);
-    changed(table, before, tree, answer)
+fn remove_file(table: &Table, on: &Two<Tree, Path>) -> Outcome {
+    let mut tree = on.first.try_clone()?;
+    let answer = tree.remove_file(&on.rest.first);
+    changed(table, &on.first, tree, answer)
 }
 
 /// Lines in place of others.

@@ -1,4 +1,4 @@
-//! Gates at which seats wait for each other.
+//! Books and heads: gates at which the seats of a run wait for each other.
 use crate::plays::commands::number;
 use crate::plays::faults::PlayFault;
 use crate::words::split_word;
@@ -53,6 +53,7 @@ impl Delay {
     }
 }
 
+/// Where seats wait for each other.
 #[derive(Drop)]
 pub(crate) struct Delays {
     all: Vec<Delay>,
@@ -65,8 +66,19 @@ impl Delays {
         }
     }
 
+    /// Reads those lines at the front that begin with `wait`. The lines behind them.
+    pub(crate) fn read<'a>(&mut self, lines: &'a [&'a [u8]]) -> Result<&'a [&'a [u8]], PlayFault> {
+        for (at, line) in lines.iter().enumerate() {
+            match line.strip_prefix(b"wait ") {
+                Some(words) => self.push(words)?,
+                None => return Ok(&lines[at..]),
+            }
+        }
+        Ok(&[])
+    }
+
     /// One more, by words such as `before 1 0 until after 2 0`.
-    pub(crate) fn push(&mut self, words: &[u8]) -> Result<(), PlayFault> {
+    fn push(&mut self, words: &[u8]) -> Result<(), PlayFault> {
         let (at, until) = moments_of(words)?;
         let delay = Delay {
             at,

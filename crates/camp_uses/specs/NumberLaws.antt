@@ -3,11 +3,11 @@ use Rattle.std.proofs.Common.{◌≡◌, ℕ, ◌+◌, Bool, true, false, List, 
 use Rattle.std.proofs.Common.{None, Some, refl, ap, ◌∙◌, if◌then◌else◌}
 use Rattle.std.proofs.lemmas.List.{length_push}
 use Rattle.camp_object.specs.Objects.{IsLawfulObject}
-use Rattle.camp_object.specs.NumberList.{numbers_object, inserted, has_number, is_insert, position_of, Replies}
-use Rattle.camp_object.specs.declared.numbers.NumberCall.{NumberCall}
-use Rattle.camp_object.specs.declared.numbers.NumberCall.TheVariants.{Insert, Show}
-use Rattle.camp_object.specs.declared.numbers.NumberReply.{NumberReply}
-use Rattle.camp_object.specs.declared.numbers.NumberReply.TheVariants.{Done, Present, Shown}
+use Rattle.camp_uses.specs.NumberList.{numbers_object, inserted, has_number, is_insert, position_of, Replies}
+use Rattle.camp_uses.specs.declared.numbers.NumberCall.{NumberCall}
+use Rattle.camp_uses.specs.declared.numbers.NumberCall.TheVariants.{Insert, Show}
+use Rattle.camp_uses.specs.declared.numbers.NumberReply.{NumberReply}
+use Rattle.camp_uses.specs.declared.numbers.NumberReply.TheVariants.{Done, Present, Shown}
 
 -- what an insertion leaves is one longer
 longer : (numbers next : List ℕ) (number : ℕ) (present : Bool)

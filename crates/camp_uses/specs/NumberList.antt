@@ -1,12 +1,12 @@
--- The example: a list of numbers that takes each number once.
+-- A list of numbers that takes each number once.
 use Rattle.std.specs.Prelude.{◌≡◌, ℕ, Bool, true, false, List, [], ◌∷◌, ◌++◌, length}
 use Rattle.std.specs.Prelude.{Option, None, Some, IsSomeAnd, ◌==◌, if◌then◌else◌}
 use Rattle.std.specs.List.{list_any}
 use Rattle.camp_object.specs.Objects.{Sequential}
-use Rattle.camp_object.specs.declared.numbers.NumberCall.{NumberCall}
-use Rattle.camp_object.specs.declared.numbers.NumberCall.TheVariants.{Insert, Show}
-use Rattle.camp_object.specs.declared.numbers.NumberReply.{NumberReply}
-use Rattle.camp_object.specs.declared.numbers.NumberReply.TheVariants.{Done, Present, Shown}
+use Rattle.camp_uses.specs.declared.numbers.NumberCall.{NumberCall}
+use Rattle.camp_uses.specs.declared.numbers.NumberCall.TheVariants.{Insert, Show}
+use Rattle.camp_uses.specs.declared.numbers.NumberReply.{NumberReply}
+use Rattle.camp_uses.specs.declared.numbers.NumberReply.TheVariants.{Done, Present, Shown}
 
 -- whether a number is in the list
 abbrev pub has_number : List ℕ → ℕ → Bool

@@ -1,11 +1,12 @@
+//! An object of one's own: what `camp_object` and the crates above it ask need not be a repository.
 ghost use Rattle.std.specs.Prelude.{◌≡◌};
-ghost use Rattle.camp_object.specs.NumberList.{has_number};
+ghost use Rattle.camp_uses.specs.NumberList.{has_number};
 
-use crate::{Decided, Object};
+use camp_object::{Decided, Object};
 use std::alloc::{AllocError, Global};
 use std::marker::Model;
 
-/// An example of an object: numbers in the order in which they came, each once.
+/// Numbers in the order in which they came, each once.
 #[derive(Drop)]
 pub struct Numbers {
     numbers: Vec<u32>,
@@ -50,8 +51,8 @@ impl Object for Numbers {
 
     type Reply = NumberReply;
 
-    ghost use Rattle.camp_object.specs.NumberList.{numbers_object};
-    ghost use Rattle.camp_object.specs.NumberLaws.{numbers_are_lawful};
+    ghost use Rattle.camp_uses.specs.NumberList.{numbers_object};
+    ghost use Rattle.camp_uses.specs.NumberLaws.{numbers_are_lawful};
 
     ghost object = { numbers_object };
 
