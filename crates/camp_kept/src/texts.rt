@@ -10,7 +10,7 @@ ghost use Rattle.camp_script.specs.Reading.{script_of};
 ghost use Rattle.camp_store.specs.Logs.{texts_of};
 
 use camp_repo::Call;
-use camp_script::{ScriptFault, append_accepted, read_script};
+use camp_script::{ScriptFault, accepted_text, read_script};
 use std::alloc::{AllocError, Global};
 
 /// The first text of a store.
@@ -26,18 +26,9 @@ pub(crate) fn texts_to_keep(
 {
     let mut texts = Vec::new(alloc);
     for entry in history {
-        texts.push(text_of(alloc, &entry.1)?)?;
+        texts.push(accepted_text(alloc, &entry.1)?)?;
     }
     Ok(texts)
-}
-
-fn text_of(alloc: Global, call: &Call) -> Result<Vec<u8>, AllocError>
-    ensures text { IfOk result (λ text. text.items ≡ call_text call.now) }
-    ensures stands { IfOk result (λ _. CanStand call.now) }
-{
-    let mut text = Vec::new(alloc);
-    append_accepted(&mut text, call)?;
-    Ok(text)
 }
 
 /// The call whose text this is, if it is one that a script can ask.
@@ -49,7 +40,7 @@ pub(crate) fn call_of(alloc: Global, text: &[u8]) -> Result<Option<Call>, AllocE
     let Some(call) = only_call_of(alloc, text)? else {
         return Ok(None);
     };
-    let canonical = text_of(alloc, &call)?;
+    let canonical = accepted_text(alloc, &call)?;
     if canonical.as_slice() != text {
         return Ok(None);
     }

@@ -29,7 +29,7 @@ pub record LeadsBack (history : List (ℕ × Call)) (state : Contents) : Type 0 
   pub comes : IsSerial (calls_of history ∷ []) (dones 1 (calls_of history) ∷ []) (at_seat_0 history)
   pub leads : replay repository (at_seat_0 history) ≡ Some state
 
--- so it is for each history that leads to a state, if it has 65,536 calls at most, and `append_script` wrote its text
+-- so it is for each history that leads to a state, if it has 65,536 calls at most, and `kept_text` made its text
 abbrev pub KeptLeadsBack : Type 0
 KeptLeadsBack = (history : List (ℕ × Call)) (state : Contents) → replay repository history ≡ Some state
     → AllByRecursion CanStand (calls_of history) → length history ≤ most_writing_calls → LeadsBack history state

@@ -10,7 +10,7 @@ ghost use Rattle.camp_run.specs.declared.faults.RunFault.TheVariants as fault;
 use crate::RunFault;
 use camp_clients::Answers;
 use camp_repo::{Call, State};
-use camp_script::{append_history, append_sections, write_text};
+use camp_script::{output_text, write_text};
 use std::alloc::{AllocError, Global};
 use std::io::Write;
 
@@ -25,12 +25,8 @@ pub(crate) fn text_of(
     ensures { IfOk result (λ text.
         text.items ≡ output_text (lists_of answers.now) (if_wanted wants_history history.now)) }
 {
-    let mut text = Vec::new(alloc);
-    append_sections(&mut text, answers)?;
-    if wants_history {
-        append_history(&mut text, history)?;
-    }
-    Ok(text)
+    let history = if wants_history { Some(history) } else { None };
+    output_text(alloc, answers, history)
 }
 
 /// Writes a text. The only fault is that the writer failed.

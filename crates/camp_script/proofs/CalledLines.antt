@@ -1,13 +1,9 @@
 -- The canonical text of a call, line by line.
-use Rattle.camp_script.proofs.Common.{◌≡◌, ℕ, ◌+◌, ◌≤◌, ◌==◌, Bool, true, false, cond, ◌&&◌, List, [], ◌∷◌, ◌++◌, map, length, codes, count_by, refl, sym, ap, ◌∙◌, append_assoc, append-nil, arith, false≢true, Result, Ok, Err, flat_map, flat_map-cons, AllByRecursion, join_with_byte, Primitive, Add, Remove, Hunk, is_writing, Call, ◌>>=◌, Command, Nothing, Ask, BeginEdit, BeginGroup, BeginSection, command_of, lines_of, words_of, begins_edit, begins_group, begins_with, is_full, read_from, start, obey, with_call, LineFault, line_text, signed_line, Lines, is_name, is_line, IsChange, IsScriptCall, call_text, change_body, change_text, record_text, section_text, script_of, script_of_lines, call_words}
+use Rattle.camp_script.proofs.Common.{◌≡◌, ℕ, ◌≤◌, ◌==◌, Bool, true, false, cond, List, [], ◌∷◌, ◌++◌, map, codes, count_by, refl, sym, ap, ◌∙◌, append_assoc, append-nil, arith, Ok, flat_map, flat_map-cons, AllByRecursion, join_with_byte, Primitive, Add, Remove, Hunk, is_writing, Call, lines_of, words_of, line_text, signed_line, Lines, is_name, is_line, IsChange, IsScriptCall, call_text, change_body, change_text, record_text, section_text, script_of, call_words}
 use Rattle.camp_call.specs.declared.calls.Call.TheVariants as call
 use Rattle.camp_script.specs.Canonical.{change_head, script_text}
-use Rattle.camp_script.specs.declared.faults.FaultKind.TheVariants.{EditNotEnded, GroupNotEnded, TooManyCommands}
-use Rattle.camp_script.proofs.Agreement.{reads_as_defined}
-use Rattle.camp_script.proofs.Asked.{Fits, fits, is_edit, is_group, is_section}
 use Rattle.camp_script.proofs.CanonicalCalls.{listed_are_words, name_is_word, names_are_words, next_line, path_is_word, place_is_word, reads_back, regrouped}
 use Rattle.camp_script.proofs.CanonicalLines.{AreWords, first_line, first_words, words_of-joined}
-use Rattle.camp_script.proofs.Holding.{Holds}
 
 -- ---- the text of a call is a script of this call
 

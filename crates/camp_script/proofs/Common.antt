@@ -11,7 +11,7 @@ pub use Rattle.std.proofs.lemmas.List.Sums.{prefix_len-le-length, prefix_len_pas
 pub use Rattle.std.specs.FinMap.{entries, len, len-entries}
 pub use Rattle.std.specs.Fmt.{decimal}
 pub use Rattle.std.specs.List.{All, AllByRecursion, flat_map, join_with_byte, list_all}
-pub use Rattle.std.specs.Prelude.{IfOk, IsTrue, bytes_eq, fold, if◌then◌else◌}
+pub use Rattle.std.specs.Prelude.{IfOk, IsTrue, OnOk, bytes_eq, fold, if◌then◌else◌}
 pub use Rattle.camp_base.specs.Bytes.{is_line, is_name, is_name_byte, is_path}
 pub use Rattle.camp_base.specs.Signs.{is_between, is_graphic}
 pub use Rattle.camp_call.specs.Calls.{is_writing}
@@ -29,13 +29,12 @@ pub use Rattle.camp_script.specs.Inside.Spaces.{spaced}
 pub use Rattle.camp_script.specs.Inside.Steps.{SaysSomething, after_body, after_line, after_record_line, heed, obey, obeyed, read_from}
 pub use Rattle.camp_script.specs.Keeping.{CanStand, calls_of, kept_text}
 pub use Rattle.camp_script.specs.Lines.{is_blank, is_skipped, lines_of, without_empty_last, without_end, words_of}
-pub use Rattle.camp_script.specs.Outputs.{HaveTexts, answers_text, client_text, clients_text}
+pub use Rattle.camp_script.specs.Outputs.{HaveTexts, answers_text, client_answers, clients_answers}
 pub use Rattle.camp_script.specs.Pieces.{Entry, Item, NumberedLine, begins_edit, begins_group, begins_with, clients_of, ends_body, ends_group, entries_of, entry_words, first_section, items_of, numbered, pieces, up_to, words_on}
 pub use Rattle.camp_script.specs.Reading.{after_client, after_item, is_full, script_of, script_of_lines, with_asked}
 pub use Rattle.camp_script.specs.Texts.{HasText, file_text, line_text, name_text, pair_text, signed_line, tree_text}
 pub use Rattle.camp_script.specs.Wanting.{ScriptMayWant, first_command}
 pub use Rattle.camp_script.specs.Words.{in_turn, is_line_number, name_at, names_at, no_words, number_at, one_word, path_at, two_words, value_of, ◌>>=◌}
-pub use Rattle.camp_script.specs.Writing.{Extends}
 pub use Rattle.camp_script.specs.declared.faults.LineFault.{LineFault}
 pub use Rattle.camp_script.specs.declared.faults.ScriptFault.{ScriptFault}
 pub use Rattle.camp_script.specs.declared.faults.ScriptFault.TheVariants.{Line, Memory}

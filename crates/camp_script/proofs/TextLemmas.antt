@@ -1,17 +1,12 @@
 -- Texts that grow part by part.
-use Rattle.camp_script.proofs.Common.{take_more, take_rest, take_all, flat_map-append, flat_map-cons, decimal, Extends, ◌≡◌, ℕ, ◌+◌, ◌-◌, ◌<◌, ◌≤◌, List, [], ◌∷◌, ◌++◌, length, take, drop, codes, refl, sym, ap, ◌∙◌, append_assoc, append-nil, take-append-drop, None, Some, Result, Ok, Err, arith, Files, entries, len, len-entries, line_text, tree_text, file_text}
+use Rattle.camp_script.proofs.Common.{AllByRecursion, take_more, take_rest, take_all, flat_map-append, decimal, ◌≡◌, ℕ, ◌+◌, ◌-◌, ◌<◌, ◌≤◌, List, [], ◌∷◌, ◌++◌, length, take, drop, codes, sym, ap, ◌∙◌, append_assoc, append-nil, take-append-drop, None, Some, arith, Files, entries, len, len-entries, line_text, tree_text, file_text}
 use Rattle.std.proofs.lemmas.Option.{slice_get-get_or, slice_get_within, get_or_from_slice_get, none-some}
 use Rattle.std.specs.List.{flat_map, slice_get}
-use Rattle.std.specs.Result.{IsErr}
 
--- what was there stays in front
-pub kept : {E : Type 0} (old bytes more now new : List ℕ) (result : Result (Unit {0}) E) → IsErr result → now ≡ old ++ more → new ≡ now → Extends old bytes result new
-kept old bytes more now new (Ok done) is grown same = absurd (cc)
-kept old bytes more now new (Err other) is grown same = (more, same ∙ grown)
-
-pub kept_further : {E : Type 0} (old bytes more last now later new : List ℕ) (result : Result (Unit {0}) E) → IsErr result → now ≡ old ++ more → later ≡ now ++ last → new ≡ later → Extends old bytes result new
-kept_further old bytes more last now later new result is grown further same =
-    kept old bytes (more ++ last) later new result is (further ∙ ap (λ t. t ++ last) grown ∙ append_assoc old more last) same
+-- one more element of which something holds
+pub all_more : {A : Type 0} (P : A → Type 0) (xs : List A) (x : A) → AllByRecursion P xs → P x → AllByRecursion P (xs ++ x ∷ [])
+all_more P [] x h k = (k, tt)
+all_more P (y ∷ ys) x h k = (h.0, all_more P ys x h.1 k)
 
 -- one more piece of a text
 pub one_more : {X : Type 0} (f : X → List ℕ) (old now new : List ℕ) (xs : List X) (i : ℕ) (x : X) → now ≡ old ++ flat_map f (take i xs) → slice_get xs i ≡ Some x → new ≡ now ++ f x → new ≡ old ++ flat_map f (take (i + 1) xs)
@@ -28,25 +23,6 @@ no_file tree n i is within none =
       | [] ↦ λ h e. omega arith
       | file ∷ files ↦ λ h e. none-some _ (sym e ∙ slice_get-get_or (file ∷ files) i file h)
     ] inside none
-
--- a text that is to grow by all of a list grows by the front of it that is done, and the rest is left
-pub record GrowsBy {X : Type 0} (f : X → List ℕ) (old now : List ℕ) (xs rest : List X) : Type 0 where
-  pub done : List ℕ
-  pub grown : now ≡ old ++ done
-  pub left : flat_map f xs ≡ done ++ flat_map f rest
-
-pub nothing_done : {X : Type 0} (f : X → List ℕ) (old : List ℕ) (xs : List X) → GrowsBy f old old xs xs
-nothing_done f old xs = record { done = []; grown = sym (append-nil old); left = refl }
-
-pub one_done : {X : Type 0} (f : X → List ℕ) (old now new : List ℕ) (xs : List X) (x : X) (rest : List X) → GrowsBy f old now xs (x ∷ rest) → new ≡ now ++ f x → GrowsBy f old new xs rest
-one_done f old now new xs x rest w is = record {
-  done = w.done ++ f x;
-  grown = is ∙ ap (λ t. t ++ f x) w.grown ∙ append_assoc old w.done (f x);
-  left = w.left ∙ ap (λ t. w.done ++ t) (flat_map-cons f x rest) ∙ sym (append_assoc w.done (f x) (flat_map f rest));
-}
-
-pub all_done : {X : Type 0} (f : X → List ℕ) (old now : List ℕ) (xs : List X) → GrowsBy f old now xs [] → now ≡ old ++ flat_map f xs
-all_done f old now xs w = w.grown ∙ ap (λ t. old ++ t) (sym (append-nil w.done) ∙ sym w.left)
 
 -- all files of a tree
 pub tree_done : (tree : Files) (old count begun now : List ℕ) (n i : ℕ) → count ≡ decimal (len tree) → begun ≡ old ++ line_text (codes "tree" ∷ count ∷ []) → now ≡ begun ++ flat_map file_text (take i (entries tree)) → n ≡ len tree → n ≤ i → now ≡ old ++ tree_text tree

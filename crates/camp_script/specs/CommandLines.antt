@@ -56,7 +56,8 @@ abbrev pub wanted_lines : Wanted → List (List ℕ) → List (List ℕ)
 wanted_lines wanted [] = []
 wanted_lines wanted (line ∷ lines) = if wants wanted then line ∷ wanted_lines (wanted_after wanted line) lines else []
 
--- what is left of a command comes to a script: where no line had a fault, what a reader comes to; else the fault
+-- what is left of a command comes to a script: where no line had a fault, what a reader comes to; else the
+-- fault of the line that had one. Where memory ran out, this says nothing of the script.
 abbrev pub ComesTo : Option ScriptFault → ℕ → Progress → List (List ℕ) → Result (List (List Call)) LineFault → Type 0
 ComesTo None number reading others script = script ≡ read_from (number + 1) reading others
 ComesTo (Some fault) number reading others script = IsFaultOf fault script

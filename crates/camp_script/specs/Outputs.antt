@@ -17,18 +17,18 @@ abbrev pub answers_text : List (Result Reply Fault) → List ℕ
 answers_text answers = flat_map answer_text answers
 
 -- the answers of a client, behind a line that tells its number
-abbrev pub client_text : ℕ → List (Result Reply Fault) → List ℕ
-client_text number answers = line_text (codes "client" ∷ decimal number ∷ []) ++ answers_text answers
+abbrev pub client_answers : ℕ → List (Result Reply Fault) → List ℕ
+client_answers number answers = line_text (codes "client" ∷ decimal number ∷ []) ++ answers_text answers
 
 -- the answers of the clients from a number on
-abbrev pub clients_text : ℕ → List (List (Result Reply Fault)) → List ℕ
-clients_text number [] = []
-clients_text number (answers ∷ clients) = client_text number answers ++ clients_text (number + 1) clients
+abbrev pub clients_answers : ℕ → List (List (Result Reply Fault)) → List ℕ
+clients_answers number [] = []
+clients_answers number (answers ∷ clients) = client_answers number answers ++ clients_answers (number + 1) clients
 
 -- the answers of the opening, and then those of the clients
 abbrev pub sections_text : List (List (Result Reply Fault)) → List ℕ
 sections_text [] = []
-sections_text (opening ∷ clients) = answers_text opening ++ clients_text 1 clients
+sections_text (opening ∷ clients) = answers_text opening ++ clients_answers 1 clients
 
 -- a history, where it is wanted
 abbrev pub wanted_text : Option (List (ℕ × Call)) → List ℕ

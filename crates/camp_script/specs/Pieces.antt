@@ -1,5 +1,6 @@
--- How the lines of a script fall into edits, groups and sections. A line's first words decide it, and nothing is a fault
--- here: where a line has one, reading ends there, and how the lines behind it are cut does not matter.
+-- How lines fall into edits, groups and sections. A line's first words decide it, and nothing is a fault here: behind a line
+-- that has one they fall as behind any other. A script is read no further than its first fault; in a conversation the lines
+-- behind a fault still say where its command ends.
 --
 -- An example, a group of one edit and then a question. These six lines are four entries, and those are two items:
 --     1  record main all group     entry 1               item 1, which begins a group

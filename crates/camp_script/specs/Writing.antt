@@ -1,18 +1,8 @@
--- What appending and writing a text does to the bytes that are there.
+-- What writing a text does to the bytes that are there.
 use Rattle.std.specs.Prelude.{◌≡◌, ◌<◌, ℕ, List, ◌++◌, length, Option, Result, Ok, Err}
 use Rattle.std.specs.Io.KnownBytes.{Appends, Keeps}
 use Rattle.camp_script.specs.declared.faults.WriteFault.{WriteFault}
 use Rattle.camp_script.specs.declared.faults.WriteFault.TheVariants.{Memory, Write}
-
--- Ok: the bytes grow by these. Not Ok: what was there stays in front.
-abbrev pub Extends : {E : Type 0} → List ℕ → List ℕ → Result (Unit {0}) E → List ℕ → Type 0
-Extends old bytes (Ok done) new = new ≡ old ++ bytes
-Extends old bytes (Err error) new = (more : List ℕ) × (new ≡ old ++ more)
-
--- Ok: the bytes grow by these. Not Ok: they stay as they were.
-abbrev pub ExtendsOrKeeps : {E : Type 0} → List ℕ → List ℕ → Result (Unit {0}) E → List ℕ → Type 0
-ExtendsOrKeeps old bytes (Ok done) new = new ≡ old ++ bytes
-ExtendsOrKeeps old bytes (Err error) new = new ≡ old
 
 -- known bytes grow by a front of a text, and not by all of it
 abbrev pub AppendsFront : Option (List ℕ) → Option (List ℕ) → List ℕ → Type 0

@@ -53,7 +53,7 @@ impl Reading {
         self.read_command(number, word, words)
     }
 
-    // A command: its first word, and those behind it.
+    // A command: its first word, and those behind it. It stands apart so that its fault is proved for all lines at once.
     fn read_command(
         &mut self,
         number: u64,
@@ -290,16 +290,13 @@ impl Reading {
         ensures { Asks number self.now result (question number word.now (map (λ word. word.now) words.now)) }
     {
         if word == b"tree".as_slice() {
-            let branch = branch_at(number, words)?;
-            return Ok(Asked::Call(Call::Tree(branch)));
+            return Ok(Asked::Call(Call::Tree(branch_at(number, words)?)));
         }
         if word == b"conflicts".as_slice() {
-            let branch = branch_at(number, words)?;
-            return Ok(Asked::Call(Call::Conflicts(branch)));
+            return Ok(Asked::Call(Call::Conflicts(branch_at(number, words)?)));
         }
         if word == b"names".as_slice() {
-            let branch = branch_at(number, words)?;
-            return Ok(Asked::Call(Call::Names(branch)));
+            return Ok(Asked::Call(Call::Names(branch_at(number, words)?)));
         }
         Err(at_line(number, FaultKind::UnknownCommand))
     }

@@ -74,8 +74,8 @@ impl fmt::Display for LineFault {
 impl Error for LineFault {}
 
 /// The fault of a kind at a line.
-pub(crate) fn at_line(line: u64, kind: FaultKind) -> ScriptFault
-    ensures { result ≡ ScriptFault.Line (record { line = line; kind = kind }) }
+pub fn at_line(line: u64, kind: FaultKind) -> ScriptFault
+    ensures exact { result ≡ ScriptFault.Line (record { line = line; kind = kind }) }
 {
     ScriptFault::Line(LineFault { line, kind })
 }

@@ -2,7 +2,7 @@
 ghost use Rattle.std.specs.Prelude.{◌≡◌, ◌≢◌, ◌≤◌, ◌<◌, ◌+◌, ◌∷◌, [], if◌then◌else◌, false, IfErr, IfOk, Ok, Some, length, map, nat_lt};
 ghost use Rattle.std.specs.Option.{option_map};
 ghost use Rattle.camp_base.specs.Bytes.{is_line};
-ghost use Rattle.camp_base.specs.Limits.{greatest_reach};
+ghost use Rattle.camp_base.specs.Limits.{greatest_reach, most_changes};
 ghost use Rattle.camp_prim.specs.Hunks.{IsInRange};
 ghost use Rattle.camp_script.specs.declared.faults.FaultKind.TheVariants as kind;
 ghost use Rattle.camp_script.specs.Faults.{fault_at};
@@ -112,7 +112,7 @@ impl Reading {
     // A change of a whole file in a group.
     fn add_change(&mut self, mut begun: OpenRecord, change: Primitive) -> Result<(), ScriptFault>
         requires open { IsOpen self.old.calls begun }
-        requires room { length begun.changes.items < 64 }
+        requires room { length begun.changes.items < most_changes }
         ensures { Advances result self.new (Ok (with_record self.old (with_one_more (open_record_of begun) change))) }
     {
         begun.changes.push(change)?;
@@ -124,7 +124,7 @@ impl Reading {
     // The head of an edit in a group.
     fn open_edit(&mut self, number: u64, mut begun: OpenRecord, path: Path, line: u32)
         requires open { IsOpen self.old.calls begun }
-        requires room { length begun.changes.items < 64 }
+        requires room { length begun.changes.items < most_changes }
         requires counted { 1 ≤ line }
         ensures { self.new ≡ with_record self.old (with_edit (open_record_of begun) path line number) }
     {
@@ -245,7 +245,7 @@ impl Reading {
         change: Primitive,
     ) -> Result<(), ScriptFault>
         requires open { IsOpen self.old.calls begun }
-        requires room { length begun.changes.items < 64 }
+        requires room { length begun.changes.items < most_changes }
         ensures { Advances result self.new (after_change number self.old (open_record_of begun) change) }
     {
         begun.changes.push(change)?;

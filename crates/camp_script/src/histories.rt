@@ -1,12 +1,16 @@
-//! The text of a history.
-ghost use Rattle.std.specs.Prelude.{◌∷◌};
-ghost use Rattle.camp_script.specs.HistoryTexts.{change_words, changes_words, call_words, entry_text, entries_text, history_text};
+//! The text of a history, and the words of its calls.
+ghost use Rattle.std.specs.Prelude.{◌≡◌, ◌∷◌, ◌++◌, IfOk, OnOk};
+ghost use Rattle.std.specs.List.{join_with_byte};
+ghost use Rattle.camp_base.specs.Signs.{space};
+ghost use Rattle.camp_script.specs.Canonical.{AreNames};
+ghost use Rattle.camp_script.specs.HistoryTexts.{change_words, changes_words, call_words, entry_text, history_text};
 ghost use Rattle.camp_script.specs.Inside.Spaces.{spaced};
-ghost use Rattle.camp_script.specs.Writing.{Extends, ExtendsOrKeeps, Writes};
+ghost use Rattle.camp_script.specs.Inside.Written.{CanStandOnLine};
+ghost use Rattle.camp_script.specs.Writing.{Writes};
 
 use crate::WriteFault;
-use crate::spaces::{extend_by_count, extend_by_named, extend_by_number, extend_by_words};
-use crate::texts::write_text;
+use crate::spaces::{append_count, append_named, append_number, append_words};
+use crate::texts::write_made;
 use camp_base::Name;
 use camp_call::Call;
 use camp_prim::Primitive;
@@ -23,117 +27,106 @@ pub fn write_history<W: Write>(
 ) -> Result<(), WriteFault>
     ensures writes { Writes (W.contents writer.old) (history_text history.now) result (W.contents writer.new) }
 {
+    write_made(writer, history_text(alloc, history))
+}
+
+/// The text of a history.
+pub fn history_text(alloc: Global, history: &[(u32, Call)]) -> Result<Vec<u8>, AllocError>
+    ensures text { IfOk result (λ text. text.items ≡ history_text history.now) }
+{
     let mut text = Vec::new(alloc);
-    if append_history(&mut text, history).is_err() {
-        return Err(WriteFault::Memory);
-    }
-    match write_text(writer, &text) {
-        Ok(()) => Ok(()),
-        Err(error) => Err(WriteFault::Write(error)),
-    }
+    append_history(&mut text, history)?;
+    Ok(text)
 }
 
-/// Appends the text of a history. Where memory runs out the text stays as it was.
-pub fn append_history(text: &mut Vec<u8>, history: &[(u32, Call)]) -> Result<(), AllocError>
-    ensures text { ExtendsOrKeeps text.old.items (history_text history.now) result text.new.items }
+pub(crate) fn append_history(text: &mut Vec<u8>, history: &[(u32, Call)]) -> Result<(), AllocError>
+    ensures { OnOk result (text.new.items ≡ text.old.items ++ history_text history.now) }
 {
-    let length = text.len();
-    let appended = extend_by_history(text, history);
-    if appended.is_err() {
-        text.truncate(length);
-    }
-    appended
-}
-
-// Here and below, where memory runs out, a part of what was to come may stand behind the text.
-fn extend_by_history(text: &mut Vec<u8>, history: &[(u32, Call)]) -> Result<(), AllocError>
-    ensures { Extends text.old.items (history_text history.now) result text.new.items }
-{
-    extend_by_count(text, b"history", history.len() as u64)?;
-    extend_by_entries(text, history)
-}
-
-fn extend_by_entries(text: &mut Vec<u8>, history: &[(u32, Call)]) -> Result<(), AllocError>
-    ensures { Extends text.old.items (entries_text 1 history.now) result text.new.items }
-{
+    append_count(text, b"history", history.len() as u64)?;
     let mut at = 0;
     for (seat, call) in history {
         at += 1;
-        extend_by_entry(text, at, *seat, call)?;
+        append_entry(text, at, *seat, call)?;
     }
     Ok(())
 }
 
-fn extend_by_entry(text: &mut Vec<u8>, at: u64, seat: u32, call: &Call) -> Result<(), AllocError>
-    ensures { Extends text.old.items (entry_text at (seat, call.now)) result text.new.items }
+fn append_entry(text: &mut Vec<u8>, at: u64, seat: u32, call: &Call) -> Result<(), AllocError>
+    ensures { OnOk result (text.new.items ≡ text.old.items ++ entry_text at (seat, call.now)) }
 {
     text.extend_from_slice(Buffer::new().format(at).as_bytes())?;
-    extend_by_number(text, u64::from(seat))?;
-    extend_by_call(text, call)?;
+    append_number(text, u64::from(seat))?;
+    text.push(b' ')?;
+    append_call_words(text, call)?;
     Ok(text.push(b'\n')?)
 }
 
-fn extend_by_call(text: &mut Vec<u8>, call: &Call) -> Result<(), AllocError>
-    ensures { Extends text.old.items (spaced (call_words call.now)) result text.new.items }
+/// The words of a call, as a history has it, with a space between each two.
+pub(crate) fn append_call_words(text: &mut Vec<u8>, call: &Call) -> Result<(), AllocError>
+    ensures text { OnOk result (text.new.items ≡ text.old.items ++ join_with_byte space (call_words call.now)) }
+    ensures stands { IfOk result (λ _. CanStandOnLine call.now) }
 {
     match call {
-        Call::Branch { new, from } => extend_by_command(text, b"branch", &[*new, *from]),
+        Call::Branch { new, from } => append_command(text, b"branch", &[*new, *from], &[]),
         Call::Record {
             branch,
             name,
             changes,
         } => {
-            extend_by_command(text, b"record", &[*branch, *name])?;
-            extend_by_changes(text, changes.prims())
+            append_command(text, b"record", &[*branch, *name], &[])?;
+            append_changes_words(text, changes.prims())
         }
-        Call::Pull { from, to, names } => {
-            extend_by_command(text, b"pull", &[*from, *to])?;
-            match names {
-                None => Ok(()),
-                Some(names) => extend_by_named(text, names.as_slice()),
-            }
-        }
+        Call::Pull { from, to, names } => match names {
+            None => append_command(text, b"pull", &[*from, *to], &[]),
+            Some(names) => append_command(text, b"pull", &[*from, *to], names.as_slice()),
+        },
         Call::Obliterate { branch, names } => {
-            extend_by_words(text, &[b"obliterate".as_slice(), branch.bytes()])?;
-            extend_by_named(text, names.as_slice())
+            append_command(text, b"obliterate", &[*branch], names.as_slice())
         }
-        Call::Tree(branch) => extend_by_command(text, b"tree", &[*branch]),
-        Call::Conflicts(branch) => extend_by_command(text, b"conflicts", &[*branch]),
-        Call::Names(branch) => extend_by_command(text, b"names", &[*branch]),
+        Call::Tree(branch) => append_command(text, b"tree", &[*branch], &[]),
+        Call::Conflicts(branch) => append_command(text, b"conflicts", &[*branch], &[]),
+        Call::Names(branch) => append_command(text, b"names", &[*branch], &[]),
     }
 }
 
-// The word of a command, and names.
-fn extend_by_command(text: &mut Vec<u8>, word: &[u8], names: &[Name]) -> Result<(), AllocError>
-    ensures { Extends text.old.items (spaced (word.now ∷ names.now)) result text.new.items }
+// The word of a command, names, and names that are listed.
+fn append_command(
+    text: &mut Vec<u8>,
+    word: &[u8],
+    names: &[Name],
+    listed: &[Name],
+) -> Result<(), AllocError>
+    ensures text { OnOk result (text.new.items ≡ text.old.items ++ join_with_byte space (word.now ∷ names.now ++ listed.now)) }
+    ensures names { IfOk result (λ _. AreNames names.now × AreNames listed.now) }
 {
-    extend_by_words(text, &[word])?;
-    extend_by_named(text, names)
+    text.extend_from_slice(word)?;
+    append_named(text, names)?;
+    append_named(text, listed)
 }
 
-fn extend_by_changes(text: &mut Vec<u8>, changes: &[Primitive]) -> Result<(), AllocError>
-    ensures { Extends text.old.items (spaced (changes_words changes.now)) result text.new.items }
+fn append_changes_words(text: &mut Vec<u8>, changes: &[Primitive]) -> Result<(), AllocError>
+    ensures { OnOk result (text.new.items ≡ text.old.items ++ spaced (changes_words changes.now)) }
 {
     match changes {
-        [change] => extend_by_change(text, change),
+        [change] => append_change_words(text, change),
         _ => {
-            extend_by_words(text, &[b"group"])?;
-            extend_by_number(text, changes.len() as u64)
+            append_words(text, &[b"group"])?;
+            append_number(text, changes.len() as u64)
         }
     }
 }
 
-fn extend_by_change(text: &mut Vec<u8>, change: &Primitive) -> Result<(), AllocError>
-    ensures { Extends text.old.items (spaced (change_words change.now)) result text.new.items }
+fn append_change_words(text: &mut Vec<u8>, change: &Primitive) -> Result<(), AllocError>
+    ensures { OnOk result (text.new.items ≡ text.old.items ++ spaced (change_words change.now)) }
 {
     match change {
-        Primitive::Add(path) => extend_by_words(text, &[b"add".as_slice(), path.bytes()]),
-        Primitive::Remove(path) => extend_by_words(text, &[b"remove".as_slice(), path.bytes()]),
+        Primitive::Add(path) => append_words(text, &[b"add".as_slice(), path.bytes()]),
+        Primitive::Remove(path) => append_words(text, &[b"remove".as_slice(), path.bytes()]),
         Primitive::Hunk(hunk) => {
-            extend_by_words(text, &[b"edit".as_slice(), hunk.path().bytes()])?;
-            extend_by_number(text, u64::from(hunk.line()))?;
-            extend_by_number(text, hunk.old().len() as u64)?;
-            extend_by_number(text, hunk.new().len() as u64)
+            append_words(text, &[b"edit".as_slice(), hunk.path().bytes()])?;
+            append_number(text, u64::from(hunk.line()))?;
+            append_number(text, hunk.old().len() as u64)?;
+            append_number(text, hunk.new().len() as u64)
         }
     }
 }

@@ -21,14 +21,14 @@ mod writing;
 pub use canonical::{canonical_text_reads_back, what_is_read_can_be_written};
 pub use command_lines::CommandLines;
 pub use cuts::{begins_edit, begins_with};
-pub use faults::{CallFault, FaultKind, LineFault, ScriptFault, WriteFault};
-pub use histories::{append_history, write_history};
+pub use faults::{CallFault, FaultKind, LineFault, ScriptFault, WriteFault, at_line};
+pub use histories::{history_text, write_history};
 pub use lines::{FirstWords, Words, behind_word, first_words, without_end};
-pub use outputs::append_sections;
+pub use outputs::output_text;
 pub use scripts::{Script, read_script};
-pub use texts::{append_reply, write_reply, write_text};
+pub use texts::{answer_text, append_lines, append_names, append_pairs, write_reply, write_text};
 pub use words::{count_of, name_at, names_at, no_words, one_word, path_at, two_words};
-pub use writing::{append_accepted, append_call, append_calls, append_changes, append_script};
+pub use writing::{accepted_text, call_text, changes_text, kept_text, section_text};
 
 /// The most sections of a script: the opening, and one for each client.
 pub const MAX_SECTIONS: usize = 64;

@@ -1,83 +1,85 @@
-//! The text of given answers, section by section.
-ghost use Rattle.std.specs.Prelude.{map};
+//! The text of given answers, section by section, and of the history behind them.
+ghost use Rattle.std.specs.Prelude.{◌≡◌, ◌++◌, map, IfOk, OnOk};
 ghost use Rattle.std.specs.List.{All};
-ghost use Rattle.camp_script.specs.Outputs.{HaveTexts, answers_text, client_text, clients_text, sections_text};
+ghost use Rattle.std.specs.Option.{option_map};
+ghost use Rattle.camp_script.specs.Outputs.{HaveTexts, answers_text, client_answers, clients_answers, output_text, sections_text};
 ghost use Rattle.camp_script.specs.Texts.{HasText};
-ghost use Rattle.camp_script.specs.Writing.{Extends, ExtendsOrKeeps};
 
-use crate::spaces::extend_by_count;
-use crate::texts::extend_by_answer;
-use camp_call::Reply;
+use crate::histories::append_history;
+use crate::spaces::append_count;
+use crate::texts::append_answer;
+use camp_call::{Call, Reply};
 use camp_object::Fault;
-use std::alloc::AllocError;
+use std::alloc::{AllocError, Global};
 
-/// Appends the text of the answers of an opening and of clients, those of each client behind a line that
-/// tells its number. Where memory runs out the text stays as it was.
-pub fn append_sections(
-    text: &mut Vec<u8>,
+/// The text of the answers of an opening and of clients, those of each client behind a line that tells its number;
+/// and behind them that of a history, if there is one.
+pub fn output_text(
+    alloc: Global,
     sections: &[Vec<Result<Reply, Fault>>],
-) -> Result<(), AllocError>
+    history: Option<&[(u32, Call)]>,
+) -> Result<Vec<u8>, AllocError>
     requires { HaveTexts (map (λ section. section.items) sections.now) }
-    ensures text { ExtendsOrKeeps text.old.items (sections_text (map (λ section. section.items) sections.now)) result text.new.items }
+    ensures text { IfOk result (λ text. text.items
+        ≡ output_text (map (λ section. section.items) sections.now) (option_map (λ entries. entries.now) history.entry)) }
 {
-    let length = text.len();
-    let appended = extend_by_sections(text, sections);
-    if appended.is_err() {
-        text.truncate(length);
+    let mut text = Vec::new(alloc);
+    append_sections(&mut text, sections)?;
+    if let Some(history) = history {
+        append_history(&mut text, history)?;
     }
-    appended
+    Ok(text)
 }
 
-// Here and below, where memory runs out, a part of what was to come may stand behind the text.
-fn extend_by_sections(
+fn append_sections(
     text: &mut Vec<u8>,
     sections: &[Vec<Result<Reply, Fault>>],
 ) -> Result<(), AllocError>
     requires { HaveTexts (map (λ section. section.items) sections.now) }
-    ensures { Extends text.old.items (sections_text (map (λ section. section.items) sections.now)) result text.new.items }
+    ensures { OnOk result (text.new.items ≡ text.old.items ++ sections_text (map (λ section. section.items) sections.now)) }
 {
     match sections {
         [] => Ok(()),
         [opening, clients @ ..] => {
-            extend_by_answers(text, opening)?;
-            extend_by_clients(text, clients)
+            append_answers(text, opening)?;
+            append_clients(text, clients)
         }
     }
 }
 
-fn extend_by_clients(
+fn append_clients(
     text: &mut Vec<u8>,
     clients: &[Vec<Result<Reply, Fault>>],
 ) -> Result<(), AllocError>
     requires { HaveTexts (map (λ section. section.items) clients.now) }
-    ensures { Extends text.old.items (clients_text 1 (map (λ section. section.items) clients.now)) result text.new.items }
+    ensures { OnOk result (text.new.items ≡ text.old.items ++ clients_answers 1 (map (λ section. section.items) clients.now)) }
 {
     let mut number = 0;
     for answers in clients {
         number += 1;
-        extend_by_client(text, number, answers)?;
+        append_client(text, number, answers)?;
     }
     Ok(())
 }
 
-fn extend_by_client(
+fn append_client(
     text: &mut Vec<u8>,
     number: u64,
     answers: &[Result<Reply, Fault>],
 ) -> Result<(), AllocError>
     requires { All HasText answers.now }
-    ensures { Extends text.old.items (client_text number answers.now) result text.new.items }
+    ensures { OnOk result (text.new.items ≡ text.old.items ++ client_answers number answers.now) }
 {
-    extend_by_count(text, b"client", number)?;
-    extend_by_answers(text, answers)
+    append_count(text, b"client", number)?;
+    append_answers(text, answers)
 }
 
-fn extend_by_answers(text: &mut Vec<u8>, answers: &[Result<Reply, Fault>]) -> Result<(), AllocError>
+fn append_answers(text: &mut Vec<u8>, answers: &[Result<Reply, Fault>]) -> Result<(), AllocError>
     requires { All HasText answers.now }
-    ensures { Extends text.old.items (answers_text answers.now) result text.new.items }
+    ensures { OnOk result (text.new.items ≡ text.old.items ++ answers_text answers.now) }
 {
     for answer in answers {
-        extend_by_answer(text, answer)?;
+        append_answer(text, answer)?;
     }
     Ok(())
 }

@@ -198,7 +198,7 @@ impl Reading {
         let alloc = self.allocator();
         let calls = mem::replace(&mut self.calls, Vec::new(alloc));
         self.writes = 0;
-        let _ = self.open_record.take();
+        self.open_record = None;
         self.closed.push(calls)?;
         Ok(())
     }

@@ -1,13 +1,13 @@
-//! The texts of answers, appended to bytes and written to a writer.
-ghost use Rattle.std.specs.Prelude.{◌∷◌, codes, IfOk, IsTrue, MatchResult};
+//! The texts of answers, and how a text is written.
+ghost use Rattle.std.specs.Prelude.{◌≡◌, ◌∷◌, ◌++◌, codes, List, IfOk, IsTrue, MatchResult, OnOk, ℕ};
 ghost use Rattle.std.specs.List.{flat_map};
 ghost use Rattle.std.specs.Io.KnownBytes.{Appends};
 ghost use Rattle.camp_base.specs.Bytes.{is_line};
-ghost use Rattle.camp_script.specs.Texts.{line_text, refusal_words, signed_line, file_text, tree_text, reply_text, answer_text, HasText, pair_text, conflicts_text, name_text, names_text};
-ghost use Rattle.camp_script.specs.Writing.{Extends, ExtendsOrKeeps, AppendsFront, Writes};
+ghost use Rattle.camp_script.specs.Texts.{line_text, refusal_words, signed_line, file_text, tree_text, reply_text, answer_text, HasText, pair_text, name_text};
+ghost use Rattle.camp_script.specs.Writing.{AppendsFront, Writes};
 
 use crate::WriteFault;
-use crate::spaces::{extend_by_count, extend_by_line, extend_by_numbered};
+use crate::spaces::{append_count, append_line, append_numbered};
 use camp_base::{Line, Name, Path, Tree};
 use camp_call::{Refusal, Reply};
 use camp_object::Fault;
@@ -27,10 +27,19 @@ pub fn write_reply<W: Write>(
     requires { HasText answer.now }
     ensures writes { Writes (W.contents writer.old) (answer_text answer.now) result (W.contents writer.new) }
 {
-    let mut text = Vec::new(alloc);
-    if append_reply(&mut text, answer).is_err() {
+    write_made(writer, answer_text(alloc, answer))
+}
+
+/// Writes a text, if there was memory for it.
+pub(crate) fn write_made<W: Write>(
+    writer: &mut W,
+    made: Result<Vec<u8>, AllocError>,
+) -> Result<(), WriteFault>
+    ensures { (text : List ℕ) → IfOk made (λ made. made.items ≡ text) → Writes (W.contents writer.old) text result (W.contents writer.new) }
+{
+    let Ok(text) = made else {
         return Err(WriteFault::Memory);
-    }
+    };
     match write_text(writer, &text) {
         Ok(()) => Ok(()),
         Err(error) => Err(WriteFault::Write(error)),
@@ -62,146 +71,132 @@ pub fn write_text<W: Write>(writer: &mut W, text: &[u8]) -> io::Result<()>
     Err(ErrorKind::TimedOut.into())
 }
 
-/// Appends the text of the answer to a call. Where memory runs out the text stays as it was.
-pub fn append_reply(text: &mut Vec<u8>, answer: &Result<Reply, Fault>) -> Result<(), AllocError>
+/// The text of the answer to a call.
+pub fn answer_text(alloc: Global, answer: &Result<Reply, Fault>) -> Result<Vec<u8>, AllocError>
     requires { HasText answer.now }
-    ensures text { ExtendsOrKeeps text.old.items (answer_text answer.now) result text.new.items }
+    ensures text { IfOk result (λ text. text.items ≡ answer_text answer.now) }
 {
-    let length = text.len();
-    let appended = extend_by_answer(text, answer);
-    if appended.is_err() {
-        text.truncate(length);
-    }
-    appended
+    let mut text = Vec::new(alloc);
+    append_answer(&mut text, answer)?;
+    Ok(text)
 }
 
-// Here and below, where memory runs out, a part of what was to come may stand behind the text.
-pub(crate) fn extend_by_answer(
+pub(crate) fn append_answer(
     text: &mut Vec<u8>,
     answer: &Result<Reply, Fault>,
 ) -> Result<(), AllocError>
     requires { HasText answer.now }
-    ensures { Extends text.old.items (answer_text answer.now) result text.new.items }
+    ensures { OnOk result (text.new.items ≡ text.old.items ++ answer_text answer.now) }
 {
     match answer {
-        Ok(reply) => extend_by_reply(text, reply),
-        Err(Fault::Busy { lost }) => { extend_by_count(text, b"busy", u64::from(*lost)) }
-        Err(Fault::Full) => extend_by_line(text, b"full", &[]),
+        Ok(reply) => append_reply(text, reply),
+        Err(Fault::Busy { lost }) => append_count(text, b"busy", u64::from(*lost)),
+        Err(Fault::Full) => append_line(text, b"full", &[]),
         Err(Fault::Memory) => unreachable!(),
     }
 }
 
-fn extend_by_reply(text: &mut Vec<u8>, reply: &Reply) -> Result<(), AllocError>
-    ensures { Extends text.old.items (reply_text reply.now) result text.new.items }
+fn append_reply(text: &mut Vec<u8>, reply: &Reply) -> Result<(), AllocError>
+    ensures { OnOk result (text.new.items ≡ text.old.items ++ reply_text reply.now) }
 {
     match reply {
-        Reply::Done(at) => extend_by_count(text, b"ok", *at),
-        Reply::Refused(refusal) => extend_by_refusal(text, refusal),
-        Reply::Tree(tree) => extend_by_tree(text, tree),
-        Reply::Conflicts(conflicts) => extend_by_conflicts(text, conflicts.pairs()),
-        Reply::Names(names) => extend_by_names(text, names.as_slice()),
+        Reply::Done(at) => append_count(text, b"ok", *at),
+        Reply::Refused(refusal) => append_refusal(text, refusal),
+        Reply::Tree(tree) => append_tree(text, tree),
+        Reply::Conflicts(conflicts) => {
+            append_count(text, b"conflicts", conflicts.pairs().len() as u64)?;
+            append_pairs(text, conflicts.pairs())
+        }
+        Reply::Names(names) => {
+            append_count(text, b"names", names.as_slice().len() as u64)?;
+            append_names(text, names.as_slice())
+        }
     }
 }
 
-fn extend_by_refusal(text: &mut Vec<u8>, refusal: &Refusal) -> Result<(), AllocError>
-    ensures { Extends text.old.items (line_text (codes "refused" ∷ refusal_words refusal.now)) result text.new.items }
+fn append_refusal(text: &mut Vec<u8>, refusal: &Refusal) -> Result<(), AllocError>
+    ensures { OnOk result (text.new.items ≡ text.old.items ++ line_text (codes "refused" ∷ refusal_words refusal.now)) }
 {
     match refusal {
-        Refusal::NoBranch(branch) => extend_by_numbered(text, b"refused", 4, &[*branch]),
-        Refusal::BranchExists(branch) => extend_by_numbered(text, b"refused", 5, &[*branch]),
-        Refusal::PatchExists(name) => extend_by_numbered(text, b"refused", 6, &[*name]),
-        Refusal::NoPatch(name) => extend_by_numbered(text, b"refused", 7, &[*name]),
-        Refusal::NothingToDo => extend_by_numbered(text, b"refused", 8, &[]),
-        Refusal::TooLarge => extend_by_numbered(text, b"refused", 9, &[]),
-        Refusal::DoesNotApply => extend_by_numbered(text, b"refused", 10, &[]),
-        Refusal::Depends { patch, on } => {
-            extend_by_numbered(text, b"refused", 11, &[*patch, *on])
-        }
-        Refusal::Diverged(name) => extend_by_numbered(text, b"refused", 12, &[*name]),
-        Refusal::NoMerge { left, right } => {
-            extend_by_numbered(text, b"refused", 13, &[*left, *right])
-        }
-        Refusal::SameBranch(branch) => extend_by_numbered(text, b"refused", 14, &[*branch]),
+        Refusal::NoBranch(branch) => append_numbered(text, b"refused", 4, &[*branch]),
+        Refusal::BranchExists(branch) => append_numbered(text, b"refused", 5, &[*branch]),
+        Refusal::PatchExists(name) => append_numbered(text, b"refused", 6, &[*name]),
+        Refusal::NoPatch(name) => append_numbered(text, b"refused", 7, &[*name]),
+        Refusal::NothingToDo => append_numbered(text, b"refused", 8, &[]),
+        Refusal::TooLarge => append_numbered(text, b"refused", 9, &[]),
+        Refusal::DoesNotApply => append_numbered(text, b"refused", 10, &[]),
+        Refusal::Depends { patch, on } => append_numbered(text, b"refused", 11, &[*patch, *on]),
+        Refusal::Diverged(name) => append_numbered(text, b"refused", 12, &[*name]),
+        Refusal::NoMerge { left, right } => append_numbered(text, b"refused", 13, &[*left, *right]),
+        Refusal::SameBranch(branch) => append_numbered(text, b"refused", 14, &[*branch]),
     }
 }
 
-fn extend_by_conflicts(text: &mut Vec<u8>, pairs: &[(Name, Name)]) -> Result<(), AllocError>
-    ensures { Extends text.old.items (conflicts_text pairs.now) result text.new.items }
-{
-    extend_by_count(text, b"conflicts", pairs.len() as u64)?;
-    extend_by_pairs(text, pairs)
-}
-
-fn extend_by_pairs(text: &mut Vec<u8>, pairs: &[(Name, Name)]) -> Result<(), AllocError>
-    ensures { Extends text.old.items (flat_map pair_text pairs.now) result text.new.items }
+/// Appends pairs of names, each on a line. Where memory runs out some of it may stand there.
+pub fn append_pairs(text: &mut Vec<u8>, pairs: &[(Name, Name)]) -> Result<(), AllocError>
+    ensures text { OnOk result (text.new.items ≡ text.old.items ++ flat_map pair_text pairs.now) }
 {
     for (first, second) in pairs {
-        extend_by_line(text, first.bytes(), &[second.bytes()])?;
+        append_line(text, first.bytes(), &[second.bytes()])?;
     }
     Ok(())
 }
 
-fn extend_by_names(text: &mut Vec<u8>, names: &[Name]) -> Result<(), AllocError>
-    ensures { Extends text.old.items (names_text names.now) result text.new.items }
-{
-    extend_by_count(text, b"names", names.len() as u64)?;
-    extend_by_name_lines(text, names)
-}
-
-fn extend_by_name_lines(text: &mut Vec<u8>, names: &[Name]) -> Result<(), AllocError>
-    ensures { Extends text.old.items (flat_map name_text names.now) result text.new.items }
+/// Appends names, each on a line. Where memory runs out some of it may stand there.
+pub fn append_names(text: &mut Vec<u8>, names: &[Name]) -> Result<(), AllocError>
+    ensures text { OnOk result (text.new.items ≡ text.old.items ++ flat_map name_text names.now) }
 {
     for name in names {
-        extend_by_line(text, name.bytes(), &[])?;
+        append_line(text, name.bytes(), &[])?;
     }
     Ok(())
 }
 
-fn extend_by_tree(text: &mut Vec<u8>, tree: &Tree) -> Result<(), AllocError>
-    ensures { Extends text.old.items (tree_text tree.now) result text.new.items }
+fn append_tree(text: &mut Vec<u8>, tree: &Tree) -> Result<(), AllocError>
+    ensures { OnOk result (text.new.items ≡ text.old.items ++ tree_text tree.now) }
 {
-    extend_by_count(text, b"tree", tree.len() as u64)?;
+    append_count(text, b"tree", tree.len() as u64)?;
     for index in 0..tree.len() {
         let Some((path, lines)) = tree.at(index) else {
             unreachable!();
         };
-        extend_by_file(text, path, lines)?;
+        append_file(text, path, lines)?;
     }
     Ok(())
 }
 
-fn extend_by_file(
-    text: &mut Vec<u8>,
-    path: &Path,
-    lines: &SharedList<Line>,
-) -> Result<(), AllocError>
-    ensures { Extends text.old.items (file_text (path.now, lines.now)) result text.new.items }
+fn append_file(text: &mut Vec<u8>, path: &Path, lines: &SharedList<Line>) -> Result<(), AllocError>
+    ensures { OnOk result (text.new.items ≡ text.old.items ++ file_text (path.now, lines.now)) }
 {
     let mut count = Buffer::new();
     let words = [path.bytes(), count.format(lines.len()).as_bytes()];
-    extend_by_line(text, b"file", &words)?;
-    extend_by_lines(text, lines)
+    append_line(text, b"file", &words)?;
+    append_lines(text, b'=', lines)
 }
 
-fn extend_by_lines(text: &mut Vec<u8>, lines: &SharedList<Line>) -> Result<(), AllocError>
-    ensures { Extends text.old.items (flat_map (signed_line 61) lines.now) result text.new.items }
+/// Appends lines, each behind a sign. Where memory runs out some of it may stand there.
+pub fn append_lines(
+    text: &mut Vec<u8>,
+    sign: u8,
+    lines: &SharedList<Line>,
+) -> Result<(), AllocError>
+    ensures text { OnOk result (text.new.items ≡ text.old.items ++ flat_map (signed_line sign) lines.now) }
 {
     for line in lines.iter() {
-        extend_by_signed_line(text, b'=', line)?;
+        append_signed_line(text, sign, line)?;
     }
     Ok(())
 }
 
-pub(crate) fn extend_by_signed_line(
+pub(crate) fn append_signed_line(
     text: &mut Vec<u8>,
     sign: u8,
     line: &Line,
 ) -> Result<(), AllocError>
-    ensures text { Extends text.old.items (signed_line sign line.now) result text.new.items }
+    ensures text { OnOk result (text.new.items ≡ text.old.items ++ signed_line sign line.now) }
     ensures line { IfOk result (λ _. IsTrue (is_line line.now)) }
 {
     text.push(sign)?;
     text.extend_from_slice(line.bytes())?;
-    text.push(b'\n')?;
-    Ok(())
+    Ok(text.push(b'\n')?)
 }

@@ -2,7 +2,7 @@
 ghost use Rattle.std.specs.Prelude.{◌≡◌, ◌≢◌, ◌≤◌, IfErr, IfOk, List, Ok, length, map, ℕ};
 ghost use Rattle.std.specs.List.{list_all};
 ghost use Rattle.camp_base.specs.Signs.{is_digit};
-ghost use Rattle.camp_script.specs.Words.{count_of, no_words, one_word, two_words, three_words, name_at, names_at, number_at, value_of, is_line_number};
+ghost use Rattle.camp_script.specs.Words.{count_of, no_words, one_word, two_words, three_words, name_at, names_at, number_at, value_of};
 ghost use Rattle.camp_script.specs.Gives.{Gives, GivesFaultFirst, GivesPath, IsFaultFirst};
 
 use crate::faults::{FaultKind, ScriptFault, at_line};
@@ -14,8 +14,8 @@ use std::alloc::{AllocError, Global};
 /// The most digits of the number of a line.
 const MAX_DIGITS: usize = 10;
 
-/// The greatest number of a line.
-const MAX_LINE: u64 = 1_073_741_823;
+/// The greatest number of a line of a file.
+const LAST_LINE: u64 = 1_073_741_823;
 
 /// No word, where no word is to stand.
 pub fn no_words(number: u64, words: &[&[u8]]) -> Result<(), ScriptFault>
@@ -97,7 +97,7 @@ pub(crate) fn test_names(number: u64, words: Words<'_>) -> Result<(), ScriptFaul
     ensures told { IfErr result (λ fault. fault ≢ ScriptFault.Memory) }
 {
     for word in words {
-        let _name = name_at(number, word)?;
+        name_at(number, word)?;
     }
     Ok(())
 }
@@ -124,30 +124,23 @@ pub(crate) fn number_at(number: u64, word: &[u8]) -> Result<u32, ScriptFault>
     ensures counted { IfOk result (λ line. 1 ≤ line) }
     ensures told { IfErr result (λ fault. fault ≢ ScriptFault.Memory) }
 {
-    if !is_line_number(word) {
+    let Some(value) = count_of(word) else {
         return Err(at_line(number, FaultKind::BadNumber));
+    };
+    if 1 <= value && value <= LAST_LINE {
+        return Ok(value as u32);
     }
-    Ok(value_of(word) as u32)
+    Err(at_line(number, FaultKind::BadNumber))
 }
 
 /// The number that a word of 1 to 10 decimal digits spells.
 pub fn count_of(word: &[u8]) -> Option<u64>
     ensures exact { result ≡ count_of word.now }
 {
-    if word.is_empty() || MAX_DIGITS < word.len() || !has_digits(word) {
+    if word.is_empty() || word.len() > MAX_DIGITS || !has_digits(word) {
         return None;
     }
     Some(value_of(word))
-}
-
-fn is_line_number(word: &[u8]) -> bool
-    ensures { result ≡ is_line_number word.now }
-{
-    if word.is_empty() || word.len() > MAX_DIGITS || !has_digits(word) {
-        return false;
-    }
-    let value = value_of(word);
-    1 <= value && value <= MAX_LINE
 }
 
 fn has_digits(word: &[u8]) -> bool

@@ -3,7 +3,7 @@ ghost use Rattle.std.specs.Prelude.{◌≡◌, ◌≢◌, ◌+◌, Result, Ok, t
 ghost use Rattle.std.specs.Io.KnownBytes.{Appends};
 ghost use Rattle.camp_script.specs.Gives.{Gives};
 ghost use Rattle.camp_script.specs.Lines.{lines_of};
-ghost use Rattle.camp_script.specs.Texts.{HasText, answer_text};
+ghost use Rattle.camp_script.specs.Texts.{answer_text};
 ghost use Rattle.camp_script.specs.declared.faults.LineFault.{LineFault as SaidFault};
 ghost use Rattle.camp_talk.specs.Answers.{Replies, Tells, fault_text};
 ghost use Rattle.camp_talk.specs.Inside.Hearing.{LearnsOf};
@@ -20,7 +20,7 @@ use crate::told_whys::{cause_of, is_failure, tell_why};
 use crate::{Account, TalkFault};
 use camp_object::Fault;
 use camp_repo::{Book, Call, Object, Reply, State};
-use camp_script::{FaultKind, ScriptFault, append_reply, write_text};
+use camp_script::{FaultKind, ScriptFault, answer_text, write_text};
 use itoa::Buffer;
 use std::alloc::{AllocError, Global};
 use std::io::Write;
@@ -131,19 +131,6 @@ fn accepted_text(alloc: Global, book: &Book<State>) -> Result<Vec<u8>, AllocErro
     answer_text(alloc, &Ok(Reply::Done(at)))
 }
 
-/// The text of an answer to a call.
-pub(crate) fn answer_text(
-    alloc: Global,
-    answer: &Result<Reply, Fault>,
-) -> Result<Vec<u8>, AllocError>
-    requires { HasText answer.now }
-    ensures { IfOk result (λ text. text.items ≡ answer_text answer.now) }
-{
-    let mut text = Vec::new(alloc);
-    append_reply(&mut text, answer)?;
-    Ok(text)
-}
-
 /// The text of the answer to a command with a fault, by the number of the lines before it.
 pub(crate) fn fault_text(
     alloc: Global,
@@ -155,9 +142,7 @@ pub(crate) fn fault_text(
 {
     let mut number = Buffer::new();
     let line = number.format(u128::from(before) + u128::from(line));
-    let mut text = format!(in alloc; "fault {line} {kind}")?.into_bytes();
-    text.push(b'\n')?;
-    Ok(text)
+    Ok(format!(in alloc; "fault {line} {kind}\n")?.into_bytes())
 }
 
 // Writes an answer and flushes it. Of none, nothing is flushed.

@@ -7,11 +7,13 @@ ghost use Rattle.camp_script.specs.declared.faults.LineFault.{LineFault as SaidF
 ghost use Rattle.camp_talk.specs.Asking.{asked_in, asked_with, call_in, first_of, foreseen_in, is_why, why_of};
 ghost use Rattle.camp_talk.specs.Cutting.{call_line};
 
-use crate::question_words::{fault, read_question};
+use crate::question_words::read_question;
 use crate::questions::{Asked, Question};
 use bstr::ByteSlice;
 use camp_call::Call;
-use camp_script::{FaultKind, Script, ScriptFault, Words, begins_with, behind_word, without_end};
+use camp_script::{
+    FaultKind, Script, ScriptFault, Words, at_line, begins_with, behind_word, without_end,
+};
 use std::alloc::Global;
 
 /// The call of a first line.
@@ -75,10 +77,10 @@ fn call_in(script: Script) -> Result<Option<Call>, ScriptFault>
 {
     let mut sections = script.into_sections();
     let Some(mut calls) = sections.pop() else {
-        return Err(fault(FaultKind::UnknownCommand));
+        return Err(at_line(1, FaultKind::UnknownCommand));
     };
     if !sections.is_empty() {
-        return Err(fault(FaultKind::UnknownCommand));
+        return Err(at_line(1, FaultKind::UnknownCommand));
     }
     if calls.is_empty() {
         return Ok(None);
@@ -108,7 +110,7 @@ fn read_why(words: Words<'_>) -> Result<Asked, ScriptFault>
     let mut words = words;
     match words.next() {
         None => Ok(Asked::Why),
-        Some(_) => Err(fault(FaultKind::WrongNumberOfWords)),
+        Some(_) => Err(at_line(1, FaultKind::WrongNumberOfWords)),
     }
 }
 
@@ -117,6 +119,6 @@ fn read_what_if(script: Script) -> Result<Asked, ScriptFault>
 {
     match call_in(script)? {
         Some(call) => Ok(Asked::Question(Question::WhatIf(call))),
-        None => Err(fault(FaultKind::UnknownCommand)),
+        None => Err(at_line(1, FaultKind::UnknownCommand)),
     }
 }

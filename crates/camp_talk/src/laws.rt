@@ -19,7 +19,7 @@ pub fn requests_are_served_in_turn()
     ensures law { RequestsAreServedInTurn }
 {}
 
-/// What `keep` wrote of a history, or `append_script`, is loaded by `load`: its calls are accepted again, and come
+/// What `keep` wrote of a history, or `kept_text` made, is loaded by `load`: its calls are accepted again, and come
 /// to its state, however many they are. A load that does not come to its end has accepted the first of them.
 pub fn kept_is_loaded()
     ensures law { KeptIsLoaded }

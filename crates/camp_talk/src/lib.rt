@@ -25,7 +25,6 @@ mod told_faults;
 mod told_foresight;
 mod told_graphs;
 mod told_help;
-mod told_histories;
 mod told_lines;
 mod told_names;
 mod told_patches;

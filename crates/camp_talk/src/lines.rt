@@ -1,19 +1,19 @@
 //! The lines of a reader, behind one another.
 ghost use Rattle.std.specs.Io.KnownBytes.{Consumes};
-ghost use Rattle.std.specs.Prelude.{◌≡◌, ◌==◌, ◌+◌, ◌-◌, ◌<◌, ◌≤◌, ◌++◌, [], length, take, drop, IfOk, IfErr, OnErr};
+ghost use Rattle.std.specs.Prelude.{◌≡◌, ◌==◌, ◌+◌, ◌-◌, ◌^◌, ◌<◌, ◌≤◌, ◌++◌, [], length, take, drop, IfOk, IfErr, OnErr};
 ghost use Rattle.std.specs.List.{position_or_len};
 ghost use Rattle.camp_base.specs.Signs.{newline};
-ghost use Rattle.camp_talk.specs.Cutting.{as_read};
+ghost use Rattle.camp_talk.specs.Cutting.{as_read, longest_read};
 ghost use Rattle.camp_talk.specs.Inside.Parts.{IsReading, ReadsLine, StopsAtLine, Takes, feed_of, last_seen, seen_of};
 
 use crate::TalkFault;
 use std::io::{self, BufRead, ErrorKind};
 
-/// The most bytes of a line.
-const MAX_LINE: usize = 1_048_576;
+/// The most bytes of a line that is read whole.
+const LONGEST_READ: usize = 1_048_576;
 
 // A line of so many is too long.
-const TOO_LONG: usize = 1_048_577;
+const TOO_LONG: usize = LONGEST_READ + 1;
 
 // So many bytes are read of a line that is too long.
 const CUT_LINE: usize = 4_098;
@@ -52,7 +52,7 @@ pub(crate) fn read_line<R: BufRead>(reader: &mut R, text: &mut Vec<u8>) -> Resul
 /// has its LF; where it has none, the input has ended.
 pub(crate) fn read_front<R: BufRead>(reader: &mut R, text: &mut Vec<u8>) -> Result<bool, TalkFault>
     ensures front { IfOk result (λ whole. Takes (R.remaining reader.old) (R.remaining reader.new)
-        1_048_577 (last_seen whole) text.old.items text.new.items) }
+        (longest_read + 1) (last_seen whole) text.old.items text.new.items) }
     ensures fault { IfErr result IsReading }
     ensures stops { IfErr result (λ why. StopsAtLine (R.remaining reader.old) (R.remaining reader.new)) }
 {
@@ -141,7 +141,7 @@ fn seen_of(shown: usize, len: usize) -> Seen
 
 // How many bytes of a line are taken, with its LF where that was seen.
 fn taken_len(len: usize, seen: Seen) -> usize
-    requires { len < 18_446_744_073_709_551_615 }
+    requires { len < 2 ^ 64 - 1 }
     ensures { result ≡ len + length (feed_of seen) }
 {
     match seen {
@@ -155,7 +155,7 @@ fn cut_line(text: &mut Vec<u8>, start: usize)
     requires { start ≤ length text.old.items }
     ensures { text.new.items ≡ take start text.old.items ++ as_read (drop start text.old.items) }
 {
-    if text.len() - start <= MAX_LINE {
+    if text.len() - start <= LONGEST_READ {
         return;
     }
     text[start + 1] = b'?';

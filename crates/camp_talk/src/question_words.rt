@@ -8,17 +8,10 @@ use crate::topics::help_topic;
 use camp_base::{Name, Path};
 use camp_call::Names;
 use camp_script::{
-    FaultKind, LineFault, ScriptFault, Words, first_words, name_at, names_at, no_words, one_word,
+    FaultKind, ScriptFault, Words, at_line, first_words, name_at, names_at, no_words, one_word,
     path_at, two_words,
 };
 use std::alloc::Global;
-
-/// The fault of a kind in the first line of a command.
-pub(crate) fn fault(kind: FaultKind) -> ScriptFault
-    ensures { result ≡ ScriptFault.Line (record { line = 1; kind = kind }) }
-{
-    ScriptFault::Line(LineFault { line: 1, kind })
-}
 
 /// The question that a first word and those behind it ask, if they ask one.
 pub(crate) fn read_question(
@@ -82,11 +75,8 @@ fn conflict_question(
         return Ok(Some(Question::Open(branch)));
     }
     if word == b"side".as_slice() {
-        let (branch, patch) = two_names(words)?;
-        return Ok(Some(Question::Side {
-            branch,
-            name: patch,
-        }));
+        let (branch, name) = two_names(words)?;
+        return Ok(Some(Question::Side { branch, name }));
     }
     if word == b"marks".as_slice() {
         let (branch, path) = branch_and_path(alloc, words)?;
@@ -125,10 +115,10 @@ fn branch_and_names(alloc: Global, mut words: Words<'_>) -> Result<(Name, Names)
     ensures { Gives result (branch_and_names words.entry) }
 {
     let Some(branch) = words.next() else {
-        return Err(fault(FaultKind::WrongNumberOfWords));
+        return Err(at_line(1, FaultKind::WrongNumberOfWords));
     };
     if words.again().next().is_none() {
-        return Err(fault(FaultKind::WrongNumberOfWords));
+        return Err(at_line(1, FaultKind::WrongNumberOfWords));
     }
     let branch = name_at(1, branch)?;
     let names = names_at(alloc, 1, words)?;
@@ -139,7 +129,7 @@ fn branch_and_any_names(alloc: Global, mut words: Words<'_>) -> Result<(Name, Na
     ensures { Gives result (branch_and_any_names words.entry) }
 {
     let Some(branch) = words.next() else {
-        return Err(fault(FaultKind::WrongNumberOfWords));
+        return Err(at_line(1, FaultKind::WrongNumberOfWords));
     };
     let branch = name_at(1, branch)?;
     let names = names_at(alloc, 1, words)?;
@@ -153,13 +143,13 @@ fn branches_and_names(
     ensures { Gives result (branches_and_names words.entry) }
 {
     let Some(from) = words.next() else {
-        return Err(fault(FaultKind::WrongNumberOfWords));
+        return Err(at_line(1, FaultKind::WrongNumberOfWords));
     };
     let Some(to) = words.next() else {
-        return Err(fault(FaultKind::WrongNumberOfWords));
+        return Err(at_line(1, FaultKind::WrongNumberOfWords));
     };
     let Some(_) = words.again().next() else {
-        return Err(fault(FaultKind::WrongNumberOfWords));
+        return Err(at_line(1, FaultKind::WrongNumberOfWords));
     };
     let from = name_at(1, from)?;
     let to = name_at(1, to)?;

@@ -3,11 +3,11 @@ ghost use Rattle.std.specs.Prelude.{IfOk};
 ghost use Rattle.camp_talk.specs.Told.{TellsAt, TellsQuestion};
 
 use crate::Question;
+use crate::told::counted;
 use crate::told_conflicts::{tell_marks, tell_open, tell_side};
 use crate::told_foresight::tell_foreseen;
 use crate::told_graphs::tell_graph;
 use crate::told_help::tell_help;
-use crate::told_histories::{tell_history, tell_kept};
 use crate::told_lines::{tell_annotated, tell_file};
 use crate::told_names::{tell_branches, tell_found};
 use crate::told_patches::tell_shown;
@@ -15,6 +15,7 @@ use camp_questions::{
     along, annotate, file, held_by, marks, missing, needs, open_pairs, picture_of, show, side,
 };
 use camp_repo::{Book, Call, State};
+use camp_script::{history_text, kept_text};
 use std::alloc::{AllocError, Global};
 
 /// The text of the answer to a question about the repository of a book.
@@ -61,8 +62,8 @@ pub(crate) fn answer_at(
             tell_graph(alloc, picture_of(state, branch, names.as_slice()))
         }
         Question::WhatIf(call) => tell_foreseen(alloc, state, call),
-        Question::History => tell_history(alloc, history),
-        Question::Keep => tell_kept(alloc, history),
+        Question::History => history_text(alloc, history),
+        Question::Keep => counted(alloc, "keep", &kept_text(alloc, history)?),
         Question::Help(topic) => tell_help(alloc, *topic),
     }
 }

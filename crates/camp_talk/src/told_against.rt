@@ -1,11 +1,12 @@
 //! What stands against a command that is refused: the branches that it names, what is there, and what is not.
 ghost use Rattle.std.specs.Prelude.{◌≡◌, ◌++◌, IfOk, Some, take};
-ghost use Rattle.camp_talk.specs.Against.{about, absent_sides, absent_text, branches_line, call_about, depends_cure, first_lacked_of, had_text, holders, holders_line, holds, lack_line, lack_text, lacked_text, lacks, more_names, most_names, names_line, new_text, no_branch_text, no_patch_text, nothing_text, other_target, place_word, question_about, question_lacks, record_cure, recorded_text, sides_text, target, target_text, there_text};
+ghost use Rattle.camp_talk.specs.Against.{about, absent_sides, absent_text, branches_line, depends_cure, had_text, holders, holders_line, holds, lack_line, lack_text, lacked_text, lacks, more_names, most_names, names_line, new_text, no_branch_text, no_patch_text, nothing_text, other_target, place_word, record_cure, recorded_text, sides_text, target, there_text};
 
 use crate::questions::{Asked, Question, Reason};
+use crate::told::joined;
 use crate::told_refusals::cure;
 use camp_base::Name;
-use camp_call::{Call, Names};
+use camp_call::Call;
 use camp_repo::{Branch, State};
 use std::alloc::{AllocError, Global};
 
@@ -26,24 +27,12 @@ pub(crate) fn tell_sides(alloc: Global, asked: &Asked) -> Result<Vec<u8>, AllocE
     let Some((place, branch)) = about(asked) else {
         return Ok(Vec::new(alloc));
     };
-    let mut text = Vec::from_slice(alloc, place_word(place).as_bytes())?;
-    text.extend_from_slice(b" is ")?;
-    text.extend_from_slice(branch.bytes())?;
-    append_target(&mut text, &target(asked))?;
-    text.extend_from_slice(b".\n")?;
-    Ok(text)
-}
-
-// Appends that the branch TO is this one, where there is one.
-fn append_target(text: &mut Vec<u8>, to: &Option<Name>) -> Result<(), AllocError>
-    ensures { IfOk result (λ _. text.new.items ≡ text.old.items ++ target_text to.now) }
-{
-    let Some(to) = to else {
-        return Ok(());
+    let place = place_word(place).as_bytes();
+    let Some(to) = target(asked) else {
+        return joined(alloc, &[place, b" is ", branch.bytes(), b".\n"]);
     };
-    text.extend_from_slice(b", and TO is ")?;
-    text.extend_from_slice(to.bytes())?;
-    Ok(())
+    let (from, to) = (branch.bytes(), to.bytes());
+    joined(alloc, &[place, b" is ", from, b", and TO is ", to, b".\n"])
 }
 
 /// Of the branches that a command names, which are not there; and which there are.
@@ -210,41 +199,28 @@ fn about(asked: &Asked) -> Option<(Place, Name)>
     ensures { result ≡ about asked.now }
 {
     match asked {
-        Asked::Call(call) => Some(call_about(call)),
-        Asked::Question(question) => question_about(question),
-        Asked::Nothing | Asked::Why => None,
-    }
-}
-
-fn call_about(call: &Call) -> (Place, Name)
-    ensures { result ≡ call_about call.now }
-{
-    match call {
-        Call::Branch { from, .. } | Call::Pull { from, .. } => (Place::From, *from),
-        Call::Record { branch, .. }
-        | Call::Obliterate { branch, .. }
-        | Call::Tree(branch)
-        | Call::Conflicts(branch)
-        | Call::Names(branch) => (Place::Branch, *branch),
-    }
-}
-
-fn question_about(question: &Question) -> Option<(Place, Name)>
-    ensures { result ≡ question_about question.now }
-{
-    match question {
-        Question::Missing { from, .. } | Question::Along { from, .. } => {
+        Asked::Call(Call::Branch { from, .. } | Call::Pull { from, .. })
+        | Asked::Question(Question::Missing { from, .. } | Question::Along { from, .. }) => {
             Some((Place::From, *from))
         }
-        Question::Needs { branch, .. }
-        | Question::Held { branch, .. }
-        | Question::Show { branch, .. }
-        | Question::Annotate { branch, .. }
-        | Question::Open(branch)
-        | Question::Side { branch, .. }
-        | Question::Marks { branch, .. }
-        | Question::File { branch, .. }
-        | Question::Graph { branch, .. } => Some((Place::Branch, *branch)),
+        Asked::Call(
+            Call::Record { branch, .. }
+            | Call::Obliterate { branch, .. }
+            | Call::Tree(branch)
+            | Call::Conflicts(branch)
+            | Call::Names(branch),
+        )
+        | Asked::Question(
+            Question::Needs { branch, .. }
+            | Question::Held { branch, .. }
+            | Question::Show { branch, .. }
+            | Question::Annotate { branch, .. }
+            | Question::Open(branch)
+            | Question::Side { branch, .. }
+            | Question::Marks { branch, .. }
+            | Question::File { branch, .. }
+            | Question::Graph { branch, .. },
+        ) => Some((Place::Branch, *branch)),
         _ => None,
     }
 }
@@ -265,34 +241,23 @@ fn lacks(branch: &Branch, asked: &Asked) -> Option<Name>
     ensures { result ≡ lacks branch.now asked.now }
 {
     match asked {
-        Asked::Call(Call::Pull { names, .. }) => first_lacked_of(branch, names),
-        Asked::Call(Call::Obliterate { names, .. }) => branch.first_lacked(names.as_slice()),
-        Asked::Question(question) => question_lacks(branch, question),
-        _ => None,
-    }
-}
-
-fn question_lacks(branch: &Branch, question: &Question) -> Option<Name>
-    ensures { result ≡ question_lacks branch.now question.now }
-{
-    match question {
-        Question::Needs { names, .. }
-        | Question::Held { names, .. }
-        | Question::Along { names, .. }
-        | Question::Graph { names, .. } => branch.first_lacked(names.as_slice()),
-        Question::Show { name, .. } | Question::Side { name, .. } => {
+        Asked::Call(
+            Call::Pull {
+                names: Some(names),
+                ..
+            }
+            | Call::Obliterate { names, .. },
+        )
+        | Asked::Question(
+            Question::Needs { names, .. }
+            | Question::Held { names, .. }
+            | Question::Along { names, .. }
+            | Question::Graph { names, .. },
+        ) => branch.first_lacked(names.as_slice()),
+        Asked::Question(Question::Show { name, .. } | Question::Side { name, .. }) => {
             branch.first_lacked(&[*name])
         }
         _ => None,
-    }
-}
-
-fn first_lacked_of(branch: &Branch, names: &Option<Names>) -> Option<Name>
-    ensures { result ≡ first_lacked_of branch.now names.now }
-{
-    match names {
-        Some(names) => branch.first_lacked(names.as_slice()),
-        None => None,
     }
 }
 
@@ -331,10 +296,10 @@ fn there_text(alloc: Global, state: &State, branch: &Name) -> Result<Vec<u8>, Al
     if state.branch(branch).is_none() {
         return Ok(Vec::new(alloc));
     }
-    let mut text = Vec::from_slice(alloc, b"There is a branch ")?;
-    text.extend_from_slice(branch.bytes())?;
-    text.extend_from_slice(b".\n")?;
-    Ok(text)
+    joined(
+        alloc,
+        &[b"There is a branch ".as_slice(), branch.bytes(), b".\n"],
+    )
 }
 
 // That a branch lacks a patch, and which have it.
@@ -361,6 +326,7 @@ fn lack_line(alloc: Global, branch: &Name, patch: &Name) -> Result<Vec<u8>, Allo
     Ok(text)
 }
 
+// Appends that there is no patch of a name, behind the word for what lacks it.
 fn append_no_patch(text: &mut Vec<u8>, patch: &Name) -> Result<(), AllocError>
     ensures { IfOk result (λ _. text.new.items ≡ text.old.items ++ no_patch_text patch.now) }
 {
@@ -400,14 +366,12 @@ fn holders_line(alloc: Global, patch: &Name, branches: &[Name]) -> Result<Vec<u8
     ensures { IfOk result (λ text. text.items ≡ holders_line patch.now branches.now) }
 {
     if branches.is_empty() {
-        let mut text = Vec::from_slice(alloc, b"No branch has ")?;
-        text.extend_from_slice(patch.bytes())?;
-        text.extend_from_slice(b".\n")?;
-        return Ok(text);
+        return joined(
+            alloc,
+            &[b"No branch has ".as_slice(), patch.bytes(), b".\n"],
+        );
     }
-    let mut words = Vec::from_slice(alloc, b"Branches with ")?;
-    words.extend_from_slice(patch.bytes())?;
-    words.push(b':')?;
+    let words = joined(alloc, &[b"Branches with ".as_slice(), patch.bytes(), b":"])?;
     names_line(alloc, &words, branches)
 }
 

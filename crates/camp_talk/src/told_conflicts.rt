@@ -1,16 +1,14 @@
 //! Conflicts, and what their sides say, as texts.
 ghost use Rattle.std.specs.Prelude.{◌≡◌, ◌++◌, IfOk, OnOk};
 ghost use Rattle.std.specs.List.{flat_map};
-ghost use Rattle.camp_script.specs.Texts.{pair_text};
 ghost use Rattle.camp_talk.specs.Inside.Said.{TellsFound};
 ghost use Rattle.camp_talk.specs.Told.{marked_lines, marks_told, open_told, place_text, side_text, side_told};
 
 use crate::told::{counted, unanswered};
-use crate::told_lines::{append_lines, no_file};
-use camp_base::Name;
+use crate::told_lines::no_file;
 use camp_questions::{Marked, MarkedFile, Place, Said, Unanswered, Version};
 use camp_repo::Conflicts;
-use camp_script::append_changes;
+use camp_script::{append_lines, append_pairs, changes_text};
 use std::alloc::{AllocError, Global};
 
 /// The pairs of patches in an open conflict.
@@ -22,24 +20,12 @@ pub(crate) fn tell_open(
 {
     match found {
         Ok(pairs) => {
-            let text = pair_lines(alloc, pairs.pairs())?;
+            let mut text = Vec::new(alloc);
+            append_pairs(&mut text, pairs.pairs())?;
             counted(alloc, "open", &text)
         }
         Err(why) => unanswered(alloc, why),
     }
-}
-
-fn pair_lines(alloc: Global, pairs: &[(Name, Name)]) -> Result<Vec<u8>, AllocError>
-    ensures { IfOk result (λ text. text.items ≡ flat_map pair_text pairs.now) }
-{
-    let mut text = Vec::new(alloc);
-    for pair in pairs {
-        text.extend_from_slice(pair.0.bytes())?;
-        text.push(b' ')?;
-        text.extend_from_slice(pair.1.bytes())?;
-        text.push(b'\n')?;
-    }
-    Ok(text)
 }
 
 /// The changes of the side of a patch.
@@ -50,11 +36,7 @@ pub(crate) fn tell_side(
     ensures { IfOk result (λ text. TellsFound side_told found text.items) }
 {
     match found {
-        Ok(said) => {
-            let mut text = Vec::new(alloc);
-            append_changes(&mut text, said.changes())?;
-            counted(alloc, "side", &text)
-        }
+        Ok(said) => counted(alloc, "side", &changes_text(alloc, said.changes())?),
         Err(why) => unanswered(alloc, why),
     }
 }
@@ -93,9 +75,8 @@ fn append_place(alloc: Global, text: &mut Vec<u8>, place: &Place) -> Result<(), 
     append_lines(text, b'=', place.before())?;
     let sides = place.sides().len();
     let lines = place.lines().len();
-    let head = format!(in alloc; "conflict {sides} {lines}")?.into_bytes();
+    let head = format!(in alloc; "conflict {sides} {lines}\n")?.into_bytes();
     text.extend_from_slice(&head)?;
-    text.push(b'\n')?;
     append_lines(text, b'=', place.lines())?;
     append_sides(alloc, text, place.sides())
 }
@@ -115,8 +96,7 @@ fn append_side(alloc: Global, text: &mut Vec<u8>, side: &Version) -> Result<(), 
     text.extend_from_slice(b"side ")?;
     text.extend_from_slice(side.name.bytes())?;
     let lines = side.lines.len();
-    let count = format!(in alloc; " {lines}")?.into_bytes();
+    let count = format!(in alloc; " {lines}\n")?.into_bytes();
     text.extend_from_slice(&count)?;
-    text.push(b'\n')?;
     append_lines(text, b'+', &side.lines)
 }

@@ -7,7 +7,7 @@ ghost use Rattle.camp_talk.specs.Told.{foreseen_told, standing_text};
 use crate::told::counted;
 use camp_questions::{Foreseen, Standing, what_if};
 use camp_repo::{Call, Reply, State};
-use camp_script::append_reply;
+use camp_script::answer_text;
 use std::alloc::{AllocError, Global};
 
 /// The reply that a call would get, and how the branch that it would write to would stand. A count of
@@ -30,18 +30,23 @@ pub(crate) fn tell_foreseen(
 fn tell_seen(alloc: Global, seen: Foreseen) -> Result<Vec<u8>, AllocError>
     ensures { IfOk result (λ text. text.items ≡ foreseen_told seen) }
 {
-    let mut text = Vec::new(alloc);
-    append_reply(&mut text, &Ok(seen.reply))?;
-    append_standing(&mut text, seen.changed)?;
+    let mut text = answer_text(alloc, &Ok(seen.reply))?;
+    append_standing(alloc, &mut text, seen.changed)?;
     counted(alloc, "whatif", &text)
 }
 
-fn append_standing(text: &mut Vec<u8>, standing: Option<Standing>) -> Result<(), AllocError>
+fn append_standing(
+    alloc: Global,
+    text: &mut Vec<u8>,
+    standing: Option<Standing>,
+) -> Result<(), AllocError>
     ensures { OnOk result (text.new.items ≡ text.old.items ++ standing_text standing) }
 {
     let Some(standing) = standing else {
         return Ok(());
     };
-    append_reply(text, &Ok(Reply::Conflicts(standing.conflicts)))?;
-    append_reply(text, &Ok(Reply::Tree(standing.tree)))
+    let conflicts = answer_text(alloc, &Ok(Reply::Conflicts(standing.conflicts)))?;
+    text.extend_from_slice(&conflicts)?;
+    let tree = answer_text(alloc, &Ok(Reply::Tree(standing.tree)))?;
+    text.extend_from_slice(&tree)
 }

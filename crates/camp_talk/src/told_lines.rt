@@ -1,13 +1,13 @@
 //! The lines of a file, and the patches that put them there.
-ghost use Rattle.std.specs.Prelude.{◌≡◌, ◌++◌, IfOk, OnOk};
+ghost use Rattle.std.specs.Prelude.{◌≡◌, IfOk};
 ghost use Rattle.std.specs.List.{flat_map, zip};
-ghost use Rattle.camp_script.specs.Texts.{signed_line};
 ghost use Rattle.camp_talk.specs.Inside.Said.{TellsFound};
 ghost use Rattle.camp_talk.specs.Told.{annotated_line, annotated_told, file_told, no_file_told};
 
 use crate::told::{counted, unanswered};
 use camp_base::{Line, Name};
 use camp_questions::{Annotated, Unanswered};
+use camp_script::append_lines;
 use camp_share::SharedList;
 use std::alloc::{AllocError, Global};
 
@@ -32,9 +32,7 @@ pub(crate) fn tell_annotated(
 pub(crate) fn no_file(alloc: Global) -> Result<Vec<u8>, AllocError>
     ensures { IfOk result (λ text. text.items ≡ no_file_told) }
 {
-    let mut text = Vec::new(alloc);
-    text.extend_from_slice(b"no file\n")?;
-    Ok(text)
+    Vec::from_slice(alloc, b"no file\n")
 }
 
 /// The lines of a file.
@@ -53,22 +51,6 @@ pub(crate) fn tell_file(
         Ok(None) => no_file(alloc),
         Err(why) => unanswered(alloc, why),
     }
-}
-
-/// Puts lines behind a text, each behind a sign.
-pub(crate) fn append_lines(
-    text: &mut Vec<u8>,
-    sign: u8,
-    lines: &SharedList<Line>,
-) -> Result<(), AllocError>
-    ensures { OnOk result (text.new.items ≡ text.old.items ++ flat_map (signed_line sign) lines.now) }
-{
-    for line in lines.iter() {
-        text.push(sign)?;
-        text.extend_from_slice(line.bytes())?;
-        text.push(b'\n')?;
-    }
-    Ok(())
 }
 
 fn annotated_lines(

@@ -1,15 +1,13 @@
 //! Questions that are answered with names.
 ghost use Rattle.std.specs.Prelude.{◌≡◌, codes, IfOk};
-ghost use Rattle.std.specs.List.{flat_map};
 ghost use Rattle.camp_questions.specs.Files.{branch_names};
-ghost use Rattle.camp_script.specs.Texts.{name_text};
 ghost use Rattle.camp_talk.specs.Inside.Said.{TellsFound};
 ghost use Rattle.camp_talk.specs.Told.{names_told};
 
 use crate::told::{counted, unanswered};
-use camp_base::Name;
 use camp_questions::{Unanswered, branches};
 use camp_repo::{Names, State};
+use camp_script::append_names;
 use std::alloc::{AllocError, Global};
 
 /// The names that a question comes to, behind the word of its command.
@@ -38,17 +36,7 @@ pub(crate) fn tell_branches(alloc: Global, state: &State) -> Result<Vec<u8>, All
 fn tell_names(alloc: Global, word: &str, names: &Names) -> Result<Vec<u8>, AllocError>
     ensures { IfOk result (λ text. text.items ≡ names_told word.now names.now) }
 {
-    let lines = name_lines(alloc, names.as_slice())?;
+    let mut lines = Vec::new(alloc);
+    append_names(&mut lines, names.as_slice())?;
     counted(alloc, word, &lines)
-}
-
-fn name_lines(alloc: Global, names: &[Name]) -> Result<Vec<u8>, AllocError>
-    ensures { IfOk result (λ text. text.items ≡ flat_map name_text names.now) }
-{
-    let mut text = Vec::new(alloc);
-    for name in names {
-        text.extend_from_slice(name.bytes())?;
-        text.push(b'\n')?;
-    }
-    Ok(text)
 }

@@ -8,7 +8,7 @@ use crate::told::{counted, unanswered};
 use camp_catch::Catch;
 use camp_notation::catch_text;
 use camp_questions::{Shown, Unanswered};
-use camp_script::append_changes;
+use camp_script::changes_text;
 use camp_share::Shared;
 use std::alloc::{AllocError, Global};
 
@@ -20,17 +20,13 @@ pub(crate) fn tell_shown(
     ensures { IfOk result (λ text. TellsFound patch_told found text.items) }
 {
     match found {
-        Ok(shown) => tell_patch(alloc, &shown),
+        Ok(patch) => {
+            let mut text = catch_lines(alloc, patch.catches())?;
+            text.extend_from_slice(&changes_text(alloc, patch.changes())?)?;
+            counted(alloc, "show", &text)
+        }
         Err(why) => unanswered(alloc, why),
     }
-}
-
-fn tell_patch(alloc: Global, patch: &Shown) -> Result<Vec<u8>, AllocError>
-    ensures { IfOk result (λ text. text.items ≡ patch_told patch.now) }
-{
-    let mut text = catch_lines(alloc, patch.catches())?;
-    append_changes(&mut text, patch.changes())?;
-    counted(alloc, "show", &text)
 }
 
 fn catch_lines(alloc: Global, catches: &[Shared<Catch>]) -> Result<Vec<u8>, AllocError>

@@ -8,10 +8,9 @@ ghost use Rattle.camp_talk.specs.Asking.{first_begun, first_of, help_line, later
 ghost use Rattle.camp_talk.specs.Help.{example};
 
 use crate::asking::first_line;
-use crate::question_words::fault;
 use crate::questions::{Reason, Topic};
 use crate::told_help::{commands, example};
-use camp_script::{FaultKind, ScriptFault, begins_with};
+use camp_script::{FaultKind, ScriptFault, at_line, begins_with};
 
 /// What help is asked for, by the words behind `help`.
 pub(crate) fn help_topic(words: &[&[u8]]) -> Result<Topic, ScriptFault>
@@ -21,7 +20,7 @@ pub(crate) fn help_topic(words: &[&[u8]]) -> Result<Topic, ScriptFault>
         [] => Ok(Topic::Commands),
         [word] => word_topic(word),
         [word, number] => refusal_topic(word, number),
-        _ => Err(fault(FaultKind::WrongNumberOfWords)),
+        _ => Err(at_line(1, FaultKind::WrongNumberOfWords)),
     }
 }
 
@@ -42,7 +41,7 @@ fn refusal_topic(word: &[u8], number: &[u8]) -> Result<Topic, ScriptFault>
     if word == b"refused".as_slice() {
         return reason_topic(reason_at(number));
     }
-    Err(fault(FaultKind::WrongNumberOfWords))
+    Err(at_line(1, FaultKind::WrongNumberOfWords))
 }
 
 fn reason_topic(found: Option<Reason>) -> Result<Topic, ScriptFault>
@@ -50,7 +49,7 @@ fn reason_topic(found: Option<Reason>) -> Result<Topic, ScriptFault>
 {
     match found {
         Some(reason) => Ok(Topic::Refusal(reason)),
-        None => Err(fault(FaultKind::BadNumber)),
+        None => Err(at_line(1, FaultKind::BadNumber)),
     }
 }
 
@@ -116,7 +115,7 @@ fn topic_at(word: &[u8]) -> Result<Topic, ScriptFault>
     let commands = commands();
     match first_begun(word, &commands) {
         Some(command) => Ok(*command),
-        None => Err(fault(FaultKind::UnknownCommand)),
+        None => Err(at_line(1, FaultKind::UnknownCommand)),
     }
 }
 

@@ -8,14 +8,14 @@ ghost use Rattle.camp_talk.specs.Talks.{HasRisen};
 ghost use Rattle.camp_talk.specs.Views.{AnswersView, Shows, beyond_text};
 ghost use Rattle.camp_talk.specs.declared.questions.Asked.{Asked as SaidAsked};
 
-use crate::answers::{answer_text, fault_text};
+use crate::answers::fault_text;
 use crate::lines::hold;
 use crate::questions::{Asked, Question};
 use crate::readings::{count_lines, read_command};
 use crate::tellings::answer_at;
 use crate::{State, TalkFault};
 use camp_repo::{Call, Decided};
-use camp_script::ScriptFault;
+use camp_script::{ScriptFault, answer_text};
 use itoa::Buffer;
 use std::alloc::{AllocError, Global};
 use std::io::BufRead;
@@ -132,7 +132,5 @@ fn beyond_text(alloc: Global, before: u64) -> Result<Vec<u8>, AllocError>
 {
     let mut number = Buffer::new();
     let line = number.format(u128::from(before) + 1);
-    let mut text = format!(in alloc; "fault {line} not asked of a view")?.into_bytes();
-    text.push(b'\n')?;
-    Ok(text)
+    Ok(format!(in alloc; "fault {line} not asked of a view\n")?.into_bytes())
 }

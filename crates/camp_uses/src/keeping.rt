@@ -8,7 +8,7 @@ ghost use Rattle.camp_script.specs.Sections.{most_writing_calls};
 use camp_clients::serial;
 use camp_repo::{Book, State};
 use camp_run::{kept_text_leads_back, one_by_one_is_serial};
-use camp_script::{append_script, read_script};
+use camp_script::{kept_text, read_script};
 use std::alloc::{AllocError, Global};
 
 /// The book that comes back when a book is written as a script, and the script is read and asked.
@@ -19,8 +19,7 @@ pub fn keep_and_read(alloc: Global, book: &Book<State>) -> Result<Book<State>, A
 {
     kept_text_leads_back();
     one_by_one_is_serial();
-    let mut text = Vec::new(alloc);
-    append_script(&mut text, book.history())?;
+    let text = kept_text(alloc, book.history())?;
     let Ok(script) = read_script(alloc, &text) else {
         return Err(AllocError);
     };

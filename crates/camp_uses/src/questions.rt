@@ -7,7 +7,7 @@ use crate::calls::record;
 use camp_base::Name;
 use camp_questions::{Unanswered, along, along_is_enough, held_by, held_can_go, show};
 use camp_repo::{Call, Decided, Refusal, Reply, State, accepted_calls_have_effect};
-use camp_script::{Script, append_accepted, canonical_text_reads_back, read_script};
+use camp_script::{Script, accepted_text, canonical_text_reads_back, read_script};
 use std::alloc::Global;
 
 /// Pulls patches with all that come along. Where that is accepted, the branch that is pulled into has
@@ -87,8 +87,7 @@ pub fn show_and_read(
     let Some(call) = record(*to, *name, shown.into_changes()) else {
         return Ok(None);
     };
-    let mut text = Vec::new(alloc);
-    append_accepted(&mut text, &call)?;
+    let text = accepted_text(alloc, &call)?;
     let Ok(script) = read_script(alloc, &text) else {
         return Err(Unanswered::Memory);
     };

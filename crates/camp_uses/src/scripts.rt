@@ -4,16 +4,14 @@ ghost use Rattle.std.specs.Fmt.{decimal};
 ghost use Rattle.camp_script.specs.declared.faults.ScriptFault.TheVariants as fault;
 
 use camp_repo::Reply;
-use camp_script::{Script, ScriptFault, append_reply, read_script};
+use camp_script::{Script, ScriptFault, answer_text, read_script};
 use std::alloc::{AllocError, Global};
 
 /// The text of the reply to an accepted call.
 pub fn done(alloc: Global, at: u64) -> Result<Vec<u8>, AllocError>
     ensures exact { IfOk result (λ text. text.items ≡ codes "ok " ++ decimal at ++ codes "\n") }
 {
-    let mut text = Vec::new(alloc);
-    append_reply(&mut text, &Ok(Reply::Done(at)))?;
-    Ok(text)
+    answer_text(alloc, &Ok(Reply::Done(at)))
 }
 
 /// The script without a byte: one section, without a call.

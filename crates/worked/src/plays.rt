@@ -17,7 +17,7 @@ use crate::wants::Wants;
 use crate::words::split_word;
 use camp_head::HeadFault;
 use camp_repo::{Book, Call, Fault, Refusal, Reply, State};
-use camp_script::{append_history, append_reply};
+use camp_script::{answer_text, history_text};
 use std::alloc::{AllocError, Global};
 use std::sync::Wait;
 use std::thread::Threads;
@@ -104,7 +104,7 @@ impl Stage {
         for time in 1..=command.count {
             let answer = self.ask_once(rt, alloc, command, time, wants)?;
             if time == command.count {
-                last = wants.again(|| answer_text(alloc, &answer))?;
+                last = wants.again(|| told(alloc, &answer))?;
             }
         }
         Ok(last)
@@ -168,8 +168,8 @@ impl Stage {
 
     fn history(&self, alloc: Global, seat: &[u8]) -> Result<Vec<u8>, PlayFault> {
         match self {
-            Stage::Book(book) => history_text(alloc, book.history()),
-            Stage::Head(seating) => history_text(alloc, &seating.history(number(seat)?)?),
+            Stage::Book(book) => Ok(history_text(alloc, book.history())?),
+            Stage::Head(seating) => Ok(history_text(alloc, &seating.history(number(seat)?)?)?),
         }
     }
 
@@ -204,32 +204,20 @@ fn sizes_of(words: &[u8]) -> Result<[u32; 4], PlayFault> {
     Ok(sizes)
 }
 
-fn answer_text(alloc: Global, answer: &Answer) -> Result<Vec<u8>, PlayFault> {
-    let mut text = Vec::new(alloc);
-    append_answer(&mut text, answer)?;
-    Ok(text)
-}
-
 /// The text of the refusal of a pull whose branches don't merge: no script is known that is told it.
 fn no_merge(alloc: Global, names: &[u8]) -> Result<Vec<u8>, PlayFault> {
     let Some((left, right)) = names_of(names) else {
         return Err(NO_COMMAND);
     };
-    answer_text(alloc, &Ok(Reply::Refused(Refusal::NoMerge { left, right })))
+    told(alloc, &Ok(Reply::Refused(Refusal::NoMerge { left, right })))
 }
 
-/// Appends what is answered, if it is not want of memory.
-fn append_answer(text: &mut Vec<u8>, answer: &Answer) -> Result<(), PlayFault> {
+/// The text of what is answered, if it is not want of memory.
+fn told(alloc: Global, answer: &Answer) -> Result<Vec<u8>, PlayFault> {
     if let Err(Fault::Memory) = answer {
         return Err(PlayFault::Memory);
     }
-    Ok(append_reply(text, answer)?)
-}
-
-fn history_text(alloc: Global, history: &[(u32, Call)]) -> Result<Vec<u8>, PlayFault> {
-    let mut text = Vec::new(alloc);
-    append_history(&mut text, history)?;
-    Ok(text)
+    Ok(answer_text(alloc, answer)?)
 }
 
 fn append_fault(alloc: Global, text: &mut Vec<u8>, fault: PlayFault) -> Result<(), AllocError> {

@@ -16,10 +16,10 @@ loop-entry-preserved c =
     let i = c.loop-entry.entry-index in
     let x = c.entry-item.result in
     let next : take (i + 1) xs ≡ take i xs ++ x ∷ [] = search (rules, take_more) in
-    let text : c.in_ok-text_of.field-0.items ≡ call_text x.1 = search rules in
+    let text : c.in_ok-accepted_text.field-0.items ≡ call_text x.1 = search rules in
     let stands : CanStand x.1 = search rules in
-    let pushed : texts_of c.push.new.self.items ≡ texts_of c.loop-entry.texts.items ++ c.in_ok-text_of.field-0.items ∷ [] =
-    ap texts_of c.in_ok-push.ensures.items ∙ texts_of-push c.loop-entry.texts.items c.in_ok-text_of.field-0 in
+    let pushed : texts_of c.push.new.self.items ≡ texts_of c.loop-entry.texts.items ++ c.in_ok-accepted_text.field-0.items ∷ [] =
+    ap texts_of c.in_ok-push.ensures.items ∙ texts_of-push c.loop-entry.texts.items c.in_ok-accepted_text.field-0 in
     let calls : calls_of (take (i + 1) xs) ≡ calls_of (take i xs) ++ x.1 ∷ [] =
     ap (λ l. calls_of l) next ∙ map-append (λ e. e.1) (take i xs) (x ∷ []) in (
       pushed

@@ -8,15 +8,15 @@ loop-word-init c = ([], subst (NamesFrom c.args.number c.args.words []) (sym c.i
 pub loop-word-preserved : goal.loop-word-preserved
 loop-word-preserved c =
     let (done, so) = c.loop-word.invariant in
-    (done ++ c.in_ok-_name._name ∷ [], one_named c.args.number c.args.words done c.loop-word.word-iterator c.next.new.self c.in-Some.word.now c.in_ok-_name._name so c.in-Some.ensures.steps c.in_ok-_name.ensures.given)
+    (done ++ c.in_ok-name_at.field-0 ∷ [], one_named c.args.number c.args.words done c.loop-word.word-iterator c.next.new.self c.in-Some.word.now c.in_ok-name_at.field-0 so c.in-Some.ensures.steps c.in_ok-name_at.ensures.given)
 
 pub returns-clause-passed : goal.returns-clause-passed
 returns-clause-passed c =
     let (done, so) = c.loop-word.invariant in
     (done, all_named c.args.number c.args.words done c.loop-word.word-iterator so c.in-None.ensures.steps.0)
 
-pub returns-in_err-_name-clause-given : goal.returns-in_err-_name-clause-given
-returns-in_err-_name-clause-given c =
+pub returns-in_err-name_at-clause-given : goal.returns-in_err-name_at-clause-given
+returns-in_err-name_at-clause-given c =
     let (done, so) = c.loop-word.invariant in
-    let told = fault_named c.args.number c.args.words done c.loop-word.word-iterator c.next.new.self c.in-Some.word.now c.in_err-_name.field-0.0 so c.in-Some.ensures.steps c.in_err-_name.ensures.given c.in_err-_name.ensures.told in
+    let told = fault_named c.args.number c.args.words done c.loop-word.word-iterator c.next.new.self c.in-Some.word.now c.in_err-name_at.field-0.0 so c.in-Some.ensures.steps c.in_err-name_at.ensures.given c.in_err-name_at.ensures.told in
     search (rules, told)

@@ -1,7 +1,0 @@
-use Rattle.camp_talk.proofs.Words.{◌≡◌, ◌++◌, flat_map}
-use Rattle.camp_script.specs.Texts.{signed_line}
-use Rattle.camp_talk.proofs.told_lines.append_lines.Given as goal
-
-abbrev pub invariant-loop-line : goal.invariant-loop-line
-invariant-loop-line l =
-    l.text.items ++ flat_map (signed_line l.sign) l.line-iterator ≡ l.initial.text.items ++ flat_map (signed_line l.sign) l.lines
