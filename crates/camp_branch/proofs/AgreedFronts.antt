@@ -1,4 +1,4 @@
--- Two branches whose fronts agree: a pull goes by what stands behind those.
+-- Two branches whose beginnings agree: a pull goes by what stands behind those.
 use Rattle.camp_branch.proofs.Words.{◌≡◌, ◌≤◌, ◌+◌, ℕ, Bool, true, ◌||◌, Ok, Err, List, [], ◌∷◌, ◌++◌, map, bytes_eq, take, drop, length, slice_range, ◌-◌, refl, sym, ap, ◌∙◌, subst, inl, inr, arith, append_assoc, length-append, length-take-le, take-append-drop, take-append-le, Key, Align, AlignSticks, Arrange, ArrangeSticks, ComesFirst, IsOf, Catch, keep_labels, Agree, has_patch, is_among, name_of, DiffersAt, MergedLast, MergesBehind, Outcome, PullBy, PullGives, SameThen, common_names, Blocked, Contains, catch_key, keys_of, AllByRecursion, or_assoc, or_comm, or_left, and_from}
 use Rattle.std.proofs.Math.Seq.{take-append-add, take-length}
 use Rattle.camp_catch.specs.Laws.{KeysAlign}
@@ -37,7 +37,7 @@ comes_within key (j ∷ list) more k others (inr w) =
     let come = w.1 in
     inr (w.0, (come.0, come.1, come.2 ++ more, comes_within key list more come.0 come.2 come.3, come.4, ap (λ l. l ++ more) come.5))
 
--- a front that comes into the order of another does so with more behind both
+-- a beginning that comes into the order of another does so with more behind both
 pub aligned_front : (others front to_common from_common aligned : List Catch) → Align (keys_of others) front others → Align (keys_of to_common) from_common aligned → Align (keys_of (others ++ to_common)) (front ++ from_common) (others ++ aligned)
 aligned_front [] front to_common from_common aligned v w = subst (λ f. Align (keys_of to_common) (f ++ from_common) aligned) v w
 aligned_front (g ∷ others) front to_common from_common aligned v w =
@@ -57,7 +57,7 @@ differs_front : (front aligned to_common : List Catch) (name : List ℕ) → Dif
 differs_front [] aligned to_common name w = w
 differs_front (k ∷ front) aligned to_common name w = inr (refl, differs_front front aligned to_common name w)
 
--- a front of `from`, and the one of `to` with which it agrees
+-- a beginning of `from`, and the one of `to` with which it agrees
 module _ (names : List (List ℕ)) (front others : List Catch) (a : AllOf names front) (b : AllOf names others) (agree : Align (keys_of others) front others) where
   last_front : (chosen beside to : List Catch) (outcome : Outcome) → MergedLast chosen beside (λ taken rest o. o ≡ Ok (to ++ taken)) outcome → MergedLast chosen beside (λ taken rest o. o ≡ Ok ((others ++ to) ++ taken)) (fronted others outcome)
   last_front chosen beside to outcome (inl w) =
@@ -120,7 +120,7 @@ module _ (front others from to : List Catch) (agree : Align (keys_of others) fro
       let other = front_has others to n e in
       (is_among_is (common_names (front ++ from) (others ++ to)) n).1 (among_common (front ++ from) (others ++ to) n ∙ and_from _ _ one other)
 
-  -- a pull of two branches by what stands behind fronts that agree
+  -- a pull of two branches by what stands behind beginnings that agree
   pub pull_behind : (wanted : List (List ℕ)) (outcome : Outcome) → PullBy (common_names (front ++ from) (others ++ to)) from to wanted outcome → PullGives (front ++ from) (others ++ to) wanted (fronted others outcome)
   pull_behind wanted outcome w =
       let common = common_names (front ++ from) (others ++ to) in
@@ -190,7 +190,7 @@ pub split_has : (list : List Catch) (m : ℕ) (n : List ℕ) → has_patch list 
 split_has list m n =
     ap (λ l. has_patch l n) (sym (take-append-drop m list)) ∙ has_split (take m list) (drop m list) n
 
--- the patches of a front that agrees are in the other branch too
+-- the patches of a beginning that agrees are in the other branch too
 pub agreed_has : (from to : List Catch) (m : ℕ) → Agree from to m → (n : List ℕ) → has_patch (take m from) n ≡ true → has_patch to n ≡ true
 agreed_has from to m w n e =
     split_has to m n ∙ or_left (has_patch (take m to) n) (has_patch (drop m to) n) (sym (agree_names (take m from) (take m to) w.same n) ∙ e)

@@ -6,7 +6,7 @@ use Rattle.camp_branch.specs.Agreeing.{BeginAlike, ReachesAll}
 use Rattle.camp_branch.specs.Inside.Alike.{DifferBehind}
 use Rattle.camp_branch.proofs.AgreedFronts.{agree_more, as_it_is}
 
--- so long a front of two lists is the same, and this stands behind it
+-- so long a beginning of two lists is the same, and this stands behind it
 pub record AlikeSoFar (from to rest others : List Catch) (n : ℕ) : Type 0 where
   pub front : List Catch
   pub is : from ≡ front ++ rest

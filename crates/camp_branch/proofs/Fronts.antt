@@ -52,7 +52,7 @@ behind_place catches own behind start n is was part =
     let long = length-drop start catches in
     part ∙ take_all (n - start) (drop start catches) (omega (is, long, arith)) ∙ ap (drop start) was
 
--- what stands behind a front that stays, and which names stay
+-- what stands behind a beginning that stays, and which names stay
 pub record StaysInFront (own : List Catch) (gone : List (List ℕ)) (staying : Names) (start : ℕ) (behind : List Catch) : Type 0 where
   pub stays : (n : List ℕ) → contains_key staying n ≡ (has_patch own n && not (is_among gone n))
   pub at : start ≡ front_of (keys staying) own

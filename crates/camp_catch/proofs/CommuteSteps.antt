@@ -1,5 +1,5 @@
 -- What the bodies of commuting know at their answers.
-use Rattle.camp_prim.proofs.SwapLaws.{own_inverse, square}
+use Rattle.camp_prim.proofs.CommuteLaws.{own_inverse, square}
 use Rattle.camp_seq.proofs.GatherSteps.{length-passes}
 use Rattle.camp_catch.specs.Inside.Pairs.{JoinsBehindEffects}
 use Rattle.camp_catch.proofs.Words.{Bool, IfOk, List, None, Option, Result, Some, [], ap, arith, eqb-true, inl, inr, length, refl, sym, true, ◌==◌, ◌∙◌, ◌∷◌, ◌≡◌, ◌≤◌, nil_from_length, IfOk-weaker, empty_of_len, get, get-empty, len, remove, FindsPair, inverse_of, key_cmp, Key, Named, Passes, PassesAll, ContextedPatch, ContextedPatches, bare, context_key, patch_key, CommuteConflictors, CommutePlainConflictor, ConflictDissolves, OneOfSeveralConflicts, OnlyConflictGoes, PlainLeavesTheSet, PlainPastConflictor, TwoConflictorsApart, Catch, Conflictor}

@@ -25,7 +25,7 @@ added_fits r s j k w old new behind run step seen =
 pub along : (s t : List Named) → s ~ t → (old new : Files) → AppliesAll s old new → AppliesAll t old new
 along s t e old new run = (equivalent_run s t e old new).0 run
 
--- two lists change places and lead to the same tree
+-- two lists commute and lead to the same tree
 pub places_change : (r s s' r' : List Named) → (r ++ s) ~ (s' ++ r') → (old between new : Files) → AppliesAll r old between → AppliesAll s between new → (other : Files) × AppliesAll s' old other × AppliesAll r' other new
 places_change r s s' r' e old between new first second =
     cut_run s' r' old new (along (r ++ s) (s' ++ r') e old new (joined_runs r s old between new first second))

@@ -1,5 +1,5 @@
 -- The cases of merging exclude one another, and each is determined.
-use Rattle.camp_catch.proofs.Words.{List, ap, refl, subst, sym, ◌∷◌, inverse_of-inverse_of, Decided, decided_by, swap_or_not, swap_unique, inverse_of, Swap, Named, passes_row, row_passes, Merges, MergesOne, inverse_all, one_add_of_all, one_merge_behind, conflict_or_not, merge_behind_or_not, Conflict, ContextedPatch, bare, MergeCasesExclude, against, in_conflict_with, joined_by, with_effect, MergeIsUnique, Clean, FirstConflict, JoinsWhere, MergeCatch, MergePlainConflictor, Mirror, PlainBesideConflictor, PlainJoinsConflictor, TwoConflictors, Catch, Plain, Conflictor}
+use Rattle.camp_catch.proofs.Words.{List, ap, refl, subst, sym, ◌∷◌, inverse_of-inverse_of, Decided, decided_by, swap_or_not, swap_unique, inverse_of, Commute, Named, passes_row, row_passes, Merges, MergesOne, inverse_all, one_add_of_all, one_merge_behind, conflict_or_not, merge_behind_or_not, Conflict, ContextedPatch, bare, MergeCasesExclude, against, in_conflict_with, joined_by, with_effect, MergeIsUnique, Clean, FirstConflict, JoinsWhere, MergeCatch, MergePlainConflictor, Mirror, PlainBesideConflictor, PlainJoinsConflictor, TwoConflictors, Catch, Plain, Conflictor}
 use Rattle.camp_catch.proofs.CommuteCases.{IsDetermined}
 use Rattle.camp_catch.proofs.Determined.{Determined, both, chain, either, just, made_of, not_or_not, pairs, where_holds}
 use Rattle.camp_catch.proofs.PartsDetermined.{adds_all, adds_to, all_added_to, one_passes, order}
@@ -7,7 +7,7 @@ use Rattle.camp_catch.proofs.PartsDetermined.{adds_all, adds_to, all_added_to, o
 -- two primitives merge cleanly where the inverse of the first commutes
 clean_merge : (a b : Named) → Determined (λ (p : Named × Named). Merges a b p.0 p.1)
 clean_merge a b =
-    made_of (pairs (λ x z y w. swap_unique (inverse_of a) b x y z w) (swap_or_not (inverse_of a) b)) (λ x. (x.0, inverse_of x.1)) (λ x w. subst (Swap (inverse_of a) b x.0) (sym (inverse_of-inverse_of x.1)) w) (λ p m. ((p.0, inverse_of p.1), m, λ t. (p.0, sym (inverse_of-inverse_of p.1) t)))
+    made_of (pairs (λ x z y w. swap_unique (inverse_of a) b x y z w) (swap_or_not (inverse_of a) b)) (λ x. (x.0, inverse_of x.1)) (λ x w. subst (Commute (inverse_of a) b x.0) (sym (inverse_of-inverse_of x.1)) w) (λ p m. ((p.0, inverse_of p.1), m, λ t. (p.0, sym (inverse_of-inverse_of p.1) t)))
 
 -- a primitive merges cleanly with a list where its inverse passes the list
 row : (a : Named) (s : List Named) → Determined (λ (p : List Named × Named). MergesOne a s p.0 p.1)

@@ -1,4 +1,4 @@
--- Two conflictors without an effect change places as they are, but for their sets.
+-- Two conflictors without an effect commute as they are, but for their sets.
 use Rattle.std.proofs.Common.{◌≡◌, ◌≢◌, All, [], None, refl, subst, sym}
 use Rattle.std.specs.FinMap.{get}
 use Rattle.camp_seq.specs.Running.{inverse_all}
@@ -11,7 +11,7 @@ use Rattle.camp_catch.specs.Inside.Pairs.{JoinsBehindEffects}
 use Rattle.camp_catch.specs.declared.catches.Catch.{Catch}
 use Rattle.camp_catch.specs.declared.catches.Conflictor.{Conflictor}
 
--- two empty effects change places
+-- two empty effects commute
 none_pass : (ys : ContextedPatches) → EffectsPass [] [] ys [] []
 none_pass ys = record {
   common = [];

@@ -1,20 +1,20 @@
 -- What stops plain patches on their way to the front of a list with room.
 use Rattle.camp_seq.proofs.LawOfThree.{law_of_three}
-use Rattle.camp_catch.proofs.Words.{Contains, List, [], ap, inl, inr, refl, subst, sym, ℕ, ◌++◌, ◌∙◌, ◌∷◌, ◌≡◌, ◌⊎◌, append_assoc, swap_or_not, key_of, label_of, Swap, Key, Named, after_one, before, behind, equal_are, passed, swapped, one_precedes, passes_push, precedes_back, room_before, room_behind, room_of_equivalent, backwards, through, ◌~◌, Precedes, Passes, HasRoom}
+use Rattle.camp_catch.proofs.Words.{Contains, List, [], ap, inl, inr, refl, subst, sym, ℕ, ◌++◌, ◌∙◌, ◌∷◌, ◌≡◌, ◌⊎◌, append_assoc, swap_or_not, key_of, label_of, Commute, Key, Named, after_one, before, behind, equal_are, passed, swapped, one_precedes, passes_push, precedes_back, room_before, room_behind, room_of_equivalent, backwards, through, ◌~◌, Precedes, Passes, HasRoom}
 
--- what comes to before a list leaves it the same but for swaps
+-- what comes to before a list leaves it the same but for the order of neighbours that commute
 pub came : (s : List Named) (k k' : Named) (s' : List Named) → Precedes s k k' s' → (s ++ k ∷ []) ~ (k' ∷ s')
 came s k k' s' w = backwards (passed k' s' s k (precedes_back s k k' s' w))
 
 -- the rooms of a step: j passes a, and k comes before what is behind them
-rooms : (j a q p' : Named) (s : List Named) (k k1 : Named) (s1 : List Named) → HasRoom (j ∷ a ∷ (s ++ k ∷ [])) → Swap j a q p' → Precedes s k k1 s1 → HasRoom (p' ∷ (s ++ k ∷ [])) × HasRoom (j ∷ a ∷ k1 ∷ [])
+rooms : (j a q p' : Named) (s : List Named) (k k1 : Named) (s1 : List Named) → HasRoom (j ∷ a ∷ (s ++ k ∷ [])) → Commute j a q p' → Precedes s k k1 s1 → HasRoom (p' ∷ (s ++ k ∷ [])) × HasRoom (j ∷ a ∷ k1 ∷ [])
 rooms j a q p' s k k1 s1 room v n =
     (room_behind q _ (room_of_equivalent _ _ (swapped j a q p' (s ++ k ∷ []) v) room), room_before (j ∷ a ∷ k1 ∷ []) s1 (room_of_equivalent _ _ (after_one j _ _ (after_one a _ _ (came s k k1 s1 n))) room))
 
 -- where j passes a list, and k comes before all of the list and passes j behind it, it passes j before it too
-passes_before : (j : Named) (s s' : List Named) (j' k kt last k1 : Named) (s1 : List Named) → HasRoom (j ∷ (s ++ k ∷ [])) → Passes j s s' j' → Swap j' k kt last → Precedes s k k1 s1 → (first : Named) × (next : Named) × Swap j k1 first next
+passes_before : (j : Named) (s s' : List Named) (j' k kt last k1 : Named) (s1 : List Named) → HasRoom (j ∷ (s ++ k ∷ [])) → Passes j s s' j' → Commute j' k kt last → Precedes s k k1 s1 → (first : Named) × (next : Named) × Commute j k1 first next
 passes_before j [] s' j' k kt last k1 s1 room m w n =
-    (kt, last, subst (λ x. Swap x k1 kt last) m.1 (subst (λ x. Swap j' x kt last) (sym n.0) w))
+    (kt, last, subst (λ x. Commute x k1 kt last) m.1 (subst (λ x. Commute j' x kt last) (sym n.0) w))
 passes_before j (a ∷ s) s' j' k kt last k1 s1 room m w n =
     let room = rooms j a m.0 m.1 s k n.0 n.2 room m.3 n.3 in
     let before = passes_before m.1 s m.2 j' k kt last n.0 n.2 room.0 m.4 w n.3 in
@@ -26,16 +26,16 @@ record PassesBehind (j' k y j1 : Named) (s' s1 : List Named) : Type 0 where
   coming : Named
   last : Named
   rest : List Named
-  past_last : Swap j' k coming last
+  past_last : Commute j' k coming last
   past_list : Precedes s' coming y rest
   passes : Passes j1 s1 rest last
 
-passes_behind : (j : Named) (s s' : List Named) (j' k k1 : Named) (s1 : List Named) (y j1 : Named) → HasRoom (j ∷ (s ++ k ∷ [])) → Passes j s s' j' → Precedes s k k1 s1 → Swap j k1 y j1 → PassesBehind j' k y j1 s' s1
+passes_behind : (j : Named) (s s' : List Named) (j' k k1 : Named) (s1 : List Named) (y j1 : Named) → HasRoom (j ∷ (s ++ k ∷ [])) → Passes j s s' j' → Precedes s k k1 s1 → Commute j k1 y j1 → PassesBehind j' k y j1 s' s1
 passes_behind j [] s' j' k k1 s1 y j1 room m n w = record {
   coming = y;
   last = j1;
   rest = [];
-  past_last = subst (λ x. Swap x k y j1) (sym m.1) (subst (λ x. Swap j x y j1) n.0 w);
+  past_last = subst (λ x. Commute x k y j1) (sym m.1) (subst (λ x. Commute j x y j1) n.0 w);
   past_list = subst (λ t. Precedes t y y []) (sym m.0) (refl, refl);
   passes = subst (λ t. Passes j1 t [] j1) (sym n.1) (refl, refl);
 }
@@ -57,9 +57,9 @@ abbrev pub Stops : List Named → Named → Key → Type 0
 Stops [] k on = ⊥
 Stops (j ∷ s) k on =
     Stops s k on
-    ⊎ ((coming : Named) × (t : List Named) × Precedes s k coming t × ((k' j' : Named) → ¬ (Swap j coming k' j')) × (on ≡ key_of (label_of j)))
+    ⊎ ((coming : Named) × (t : List Named) × Precedes s k coming t × ((k' j' : Named) → ¬ (Commute j coming k' j')) × (on ≡ key_of (label_of j)))
 
-of_swapped : (j k k' j' : Named) → Swap j k k' j' → j'.name ≡ j.name
+of_swapped : (j k k' j' : Named) → Commute j k k' j' → j'.name ≡ j.name
 of_swapped j k k' j' w = ap (λ l. l.name) w.anywhere.first
 
 module _ (names : List (List ℕ)) where

@@ -13,11 +13,11 @@ pub use Rattle.camp_prim.proofs.Applied.{applies_once}
 pub use Rattle.camp_prim.proofs.Inverses.{inverse_of-inverse_of, leads_back}
 pub use Rattle.camp_prim.proofs.LabelOrder.{key_total}
 pub use Rattle.camp_prim.proofs.Moving.{told_not}
-pub use Rattle.camp_prim.proofs.SwapDecided.{Decided, decided_by, le_or_not, swap_or_not}
-pub use Rattle.camp_prim.proofs.SwapUnique.{swap_unique}
+pub use Rattle.camp_prim.proofs.CommuteDecided.{Decided, decided_by, le_or_not, swap_or_not}
+pub use Rattle.camp_prim.proofs.CommuteUnique.{swap_unique}
 pub use Rattle.camp_prim.specs.Effect.{Applies, inverse_of}
 pub use Rattle.camp_prim.specs.Labels.{key_cmp, key_of, label_of}
-pub use Rattle.camp_prim.specs.Swaps.{Swap}
+pub use Rattle.camp_prim.specs.Commuting.{Commute}
 pub use Rattle.camp_prim.specs.declared.labels.Key.{Key}
 pub use Rattle.camp_prim.specs.declared.named.Named.{Named}
 pub use Rattle.camp_seq.proofs.ListEquivalence.{after_one, all_passed, before, behind, equal_are, fronted, joined, ordered, passed, split, swapped}

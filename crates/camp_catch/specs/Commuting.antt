@@ -1,5 +1,5 @@
--- When two catches, one after the other, may change places, and what they become. The letters of the cases: j is [a] or
--- (r, X, i), k is [b] or (s, Y, l); the sets X, Y, Z are conflicts, i and l identities. Each list that a case makes is put
+-- When two catches, one after the other, may commute, and what they become. The letters of the cases: j is [a] or (r,
+-- X, i), k is [b] or (s, Y, l); the sets X, Y, Z are conflicts, i and l identities. Each list that a case makes is put
 -- in normal order as it is made; an inverse s^ is taken as it is. A catch is in a set where its absolute label is.
 use Rattle.std.specs.Prelude.{◌≡◌, ◌≢◌, ◌⊎◌, ◌≤◌, ◌&&◌, List, [], ◌∷◌, ◌++◌, map, filter, Some, None}
 use Rattle.std.specs.List.{All}
@@ -7,7 +7,7 @@ use Rattle.std.specs.FinMap.{get, contains_key, remove, len}
 use Rattle.camp_prim.specs.Effect.{inverse_of}
 use Rattle.camp_prim.specs.Labels.{label_of}
 use Rattle.camp_prim.specs.declared.labels.Label.{Label}
-use Rattle.camp_prim.specs.Swaps.{Swap}
+use Rattle.camp_prim.specs.Commuting.{Commute}
 use Rattle.camp_prim.specs.declared.named.Named.{Named}
 use Rattle.camp_seq.specs.NormalOrder.{Norm, Splits}
 use Rattle.camp_seq.specs.Passing.{Passes, PassesAll, Fronts}
@@ -24,7 +24,7 @@ use Rattle.camp_catch.specs.declared.catches.Conflictor.{Conflictor}
 pub record BothPlain (a b : Named) (k' j' : Catch) : Type 0 where
   pub b' : Named
   pub a' : Named
-  pub swap : Swap a b b' a'
+  pub swap : Commute a b b' a'
   pub second : k' ≡ Plain b'
   pub first : j' ≡ Plain a'
 
@@ -55,7 +55,7 @@ pub record ConflictorPastPlain (j : Conflictor) (b : Named) (k' j' : Catch) : Ty
 abbrev pub labels_undone : List Named → ContextedPatches → List Label
 labels_undone r ys = map label_of (filter (λ p. p.inverse && contains_key ys (patch_key p)) r)
 
--- two effects change places, but for what r undoes of Y, which stays first: r is split by the labels undone, and joined
+-- two effects commute, but for what r undoes of Y, which stays first: r is split by the labels undone, and joined
 -- is what is behind the common part
 -- common rr s ~ common s' rr', where r ~ common rr by the labels undone, and rr s ~ s' rr'
 pub record EffectsPass (r s : List Named) (ys : ContextedPatches) (effect rr' : List Named) : Type 0 where
@@ -156,8 +156,8 @@ CommuteCatch (Plain a) (Catch.Conflictor k) k' j' = CommutePlainConflictor a k k
 CommuteCatch (Catch.Conflictor j) (Plain b) k' j' = ConflictorPastPlain j b k' j'
 CommuteCatch (Catch.Conflictor j) (Catch.Conflictor k) k' j' = CommuteConflictors j k k' j'
 
--- what may be wanting memory: two plain catches where they change places, and any others
+-- what may be wanting memory: two plain catches where they commute, and any others
 abbrev pub MayWant : Catch → Catch → Type 0
-MayWant (Plain a) (Plain b) = (b' : Named) × ((a' : Named) × Swap a b b' a')
+MayWant (Plain a) (Plain b) = (b' : Named) × ((a' : Named) × Commute a b b' a')
 MayWant (Plain a) (Catch.Conflictor k) = Unit {0}
 MayWant (Catch.Conflictor j) k = Unit {0}

@@ -7,7 +7,7 @@ ghost use Rattle.camp_catch.specs.Catches.{catch_key};
 ghost use Rattle.camp_catch.specs.Inside.InPlace.{ComesFirstInPlace, FirstWith, Lacks};
 ghost use Rattle.camp_catch.specs.Making.{ComesTo};
 
-use crate::moves::{come_before, copies};
+use crate::moves::{come_before, share_all};
 use crate::{Catch, Unmade};
 use camp_prim::Key;
 use camp_share::Shared;
@@ -25,7 +25,7 @@ pub fn align(
         (λ aligned. Align order.now list.now aligned.items)
         (AlignSticks order.now list.now)) result }
 {
-    let mut aligned = copies(alloc, list)?;
+    let mut aligned = share_all(alloc, list)?;
     put_in_order(alloc, &mut aligned, order)?;
     Ok(aligned)
 }

@@ -22,7 +22,7 @@ use camp_seq::{Seq, front, past, past_all};
 use std::alloc::{AllocError, Global};
 
 /// What two catches and one after the other become in the other order: `Some((k', j'))`, where `k'`
-/// and then `j'` do what `j` and then `k` do. None where they can't change places. Of two plain
+/// and then `j'` do what `j` and then `k` do. None where they don't commute. Of two plain
 /// catches None is answered whatever memory does.
 pub fn commute(alloc: Global, j: &Catch, k: &Catch) -> Result<Option<(Catch, Catch)>, AllocError>
     ensures exact { IfOk result (FindsPair (CommuteCatch j.now k.now)) }

@@ -167,7 +167,7 @@ fn joins_behind_effects(
     Ok(Some((Catch::Conflictor(moved), Catch::Conflictor(own))))
 }
 
-/// Two effects change places, but for what the first undoes of a set, which stays first.
+/// Two effects commute, but for what the first undoes of a set, which stays first.
 fn effects_pass(
     alloc: Global,
     r: &Seq,

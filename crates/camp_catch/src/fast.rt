@@ -1,12 +1,12 @@
 //! Faster ways to the results of the rules. Each says when it may be taken; there its result is that
 //! of the rule.
 //!
-//! - Two plain catches that keep their lines change places, or merge, as they are. So no catch is made
+//! - Two plain catches that keep their lines commute, or merge, as they are. So no catch is made
 //!   anew. One that is made is not compared with the one before, which takes longer than to keep both.
-//! - A plain catch and a conflictor change places as they are where the plain one is not in the
+//! - A plain catch and a conflictor commute as they are where the plain one is not in the
 //!   conflictor's set, passes its effect as it is, and leaves its conflicts and its identity as they are.
-//!   A plain one comes before a conflictor so where its inverse passes it so, by the square law of swaps.
-//! - Two conflictors without an effect change places as they are where the first is not in the set of the
+//!   A plain one comes before a conflictor so where its inverse passes it so, by the square law of commuting.
+//! - Two conflictors without an effect commute as they are where the first is not in the set of the
 //!   second, nor in the context of its identity: what would be added to the sets is empty. Where the first is
 //!   one of several in the set of the second, it leaves that set, and the second joins its own.
 //! - A plain catch and a conflictor of one state stay as they are where the inverse of the plain one

@@ -1,7 +1,7 @@
 ghost use Rattle.std.specs.Prelude.{◌≡◌, IfOk};
 ghost use Rattle.camp_base.specs.Answers.{FindsPair};
 ghost use Rattle.camp_prim.specs.Effect.{inverse_of};
-ghost use Rattle.camp_prim.specs.Swaps.{Swap};
+ghost use Rattle.camp_prim.specs.Commuting.{Commute};
 ghost use Rattle.camp_prim.specs.declared.named.Named.{Named};
 ghost use Rattle.camp_seq.specs.Merging.{Merges};
 ghost use Rattle.camp_seq.specs.Passing.{Passes};
@@ -58,7 +58,7 @@ fn clean(a: &Named, b: &Named) -> Result<Option<(Catch, Catch)>, AllocError>
 
 /// `a^ b <-> b' a'^`
 fn commute_inverse(a: &Named, b: &Named) -> Result<Option<(Named, Named)>, AllocError>
-    ensures exact { IfOk result (FindsPair (Swap (inverse_of a.now) b.now)) }
+    ensures exact { IfOk result (FindsPair (Commute (inverse_of a.now) b.now)) }
 {
     let back = inverse(a)?;
     commute(&back, b)

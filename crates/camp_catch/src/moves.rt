@@ -21,7 +21,7 @@ pub(crate) fn come_before(
         (StopsAt list.old coming.old)) }
 {
     for at in (0..list.len()).rev() {
-        if !exchange(alloc, &mut list[at], coming)? {
+        if !commute_in_place(alloc, &mut list[at], coming)? {
             return Ok(Some(list[at].key()));
         }
     }
@@ -29,7 +29,11 @@ pub(crate) fn come_before(
 }
 
 /// Commutes `j` and the `k` behind it, where each stays in its place in memory.
-fn exchange(alloc: Global, j: &mut Shared<Catch>, k: &mut Shared<Catch>) -> Result<bool, AllocError>
+fn commute_in_place(
+    alloc: Global,
+    j: &mut Shared<Catch>,
+    k: &mut Shared<Catch>,
+) -> Result<bool, AllocError>
     ensures exact { IfOk result (λ done. Changes CommutesInPlace (j.old, k.old) done (j.new, k.new)) }
 {
     if commute_as_they_are(j, k)? {
@@ -45,7 +49,7 @@ fn exchange(alloc: Global, j: &mut Shared<Catch>, k: &mut Shared<Catch>) -> Resu
 }
 
 /// A copy of a list, which shares its catches.
-pub(crate) fn copies(
+pub(crate) fn share_all(
     alloc: Global,
     list: &[Shared<Catch>],
 ) -> Result<Vec<Shared<Catch>>, AllocError>

@@ -1,5 +1,5 @@
 -- Lemmas on what one answer says.
-use Rattle.camp_clients.proofs.Words.{◌≡◌, ℕ, ◌+◌, ◌≤◌, true, false, cond, List, [], ◌∷◌, ◌++◌, length, Option, None, Some, IsSome, Result, Ok, Err, MatchOption, refl, sym, ◌∙◌, ap, subst, arith, Ask, Caller, Accepts, AddsNothing, Sequential, IsLawfulObject, Fault, Memory, Busy, Full, own_at, where_done, IsFront, IsLegal, IsAccepted, IsAnswered, replay, own, Asks, GoesOn, HasMemory, told, own_mine}
+use Rattle.camp_clients.proofs.Words.{◌≡◌, ℕ, ◌+◌, ◌≤◌, true, false, cond, List, [], ◌∷◌, ◌++◌, length, Option, None, Some, IsSome, Result, Ok, Err, MatchOption, refl, sym, ◌∙◌, ap, subst, arith, Ask, Caller, Accepts, AddsNothing, Sequential, IsLawfulObject, Fault, Memory, Busy, Full, own_at, where_done, IsBeginning, IsLegal, IsAccepted, IsAnswered, replay, own, Asks, GoesOn, HasMemory, told, own_mine}
 use Rattle.std.proofs.lemmas.List.{append-nil, append_cancel_right, length-append}
 use Rattle.std.specs.Option.{option_and_then}
 use Rattle.camp_clients.proofs.Histories.{last_accepted}
@@ -70,10 +70,10 @@ module _ {Call : Type 0} (caller : Caller) (seen : List (ℕ × Call)) (call : C
       ∙ ap (λ n. own_at caller.seat 0 seen ++ (n, call) ∷ []) (sym done_position)
 
 module _ {State Call Reply : Type 0} (object : Sequential State Call Reply) (caller : Caller) (seen : List (ℕ × Call)) (call : Call) (now : List (ℕ × Call)) where
-  adds_none : IsFront seen now → AddsNothing caller seen now → own_at caller.seat 0 now ≡ own_at caller.seat 0 seen ++ []
+  adds_none : IsBeginning seen now → AddsNothing caller seen now → own_at caller.seat 0 now ≡ own_at caller.seat 0 seen ++ []
   adds_none grows nothing = own_at_front caller.seat seen now grows nothing.own_stays ∙ sym (append-nil (own_at caller.seat 0 seen))
 
-  at_reply : IsFront seen now → (at : Option ℕ) (reply : Reply)
+  at_reply : IsBeginning seen now → (at : Option ℕ) (reply : Reply)
       → MatchOption at (AddsNothing caller seen now × IsAnswered object now call reply) (λ at. Accepts caller seen call at now)
       → own_at caller.seat 0 now ≡ own_at caller.seat 0 seen ++ where_done at call []
   at_reply grows None reply says = adds_none grows says.0

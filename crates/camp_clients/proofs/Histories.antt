@@ -1,13 +1,13 @@
 -- Lemmas on histories: their parts, and the calls of a seat in them.
-use Rattle.camp_clients.proofs.Words.{◌≡◌, ℕ, ◌==◌, true, List, [], ◌∷◌, ◌++◌, Some, IsSome, refl, sym, ◌∙◌, ap, subst, inl, inr, append-nil, append_cancel_left, eqb_tells, IsFront, IsLegal, IsAccepted, own, Sequential, own-append, run-append}
+use Rattle.camp_clients.proofs.Words.{◌≡◌, ℕ, ◌==◌, true, List, [], ◌∷◌, ◌++◌, Some, IsSome, refl, sym, ◌∙◌, ap, subst, inl, inr, append-nil, append_cancel_left, eqb_tells, IsBeginning, IsLegal, IsAccepted, own, Sequential, own-append, run-append}
 
 pub same_seat : (seat : ℕ) → (seat == seat) ≡ true
 same_seat seat = elim (eqb_tells seat seat) [ inl same ↦ same.0 | inr other ↦ absurd (other.1 refl) ]
 
--- where a seat has as many calls in the whole as in the front, the rest has none of it
-pub own_rest : {Call : Type 0} (seat : ℕ) (f h : List (ℕ × Call)) (front : IsFront f h) → own seat h ≡ own seat f → own seat front.rest ≡ []
-own_rest seat f h front same =
-    append_cancel_left (own seat f) (own seat front.rest) [] (sym (own-append seat f front.rest) ∙ ap (own seat) front.makes ∙ same ∙ sym (append-nil (own seat f)))
+-- where a seat has as many calls in the whole as in the beginning, the rest has none of it
+pub own_rest : {Call : Type 0} (seat : ℕ) (f h : List (ℕ × Call)) (beginning : IsBeginning f h) → own seat h ≡ own seat f → own seat beginning.rest ≡ []
+own_rest seat f h beginning same =
+    append_cancel_left (own seat f) (own seat beginning.rest) [] (sym (own-append seat f beginning.rest) ∙ ap (own seat) beginning.makes ∙ same ∙ sym (append-nil (own seat f)))
 
 -- the last call of a legal history was accepted before it
 pub last_accepted : {State Call Reply : Type 0} (object : Sequential State Call Reply) (h : List (ℕ × Call)) (entry : ℕ × Call)

@@ -1,7 +1,7 @@
 mod Words
 pub mod Asking
 pub mod Comparing
-pub mod Fronts
+pub mod SectionSteps
 pub mod Gathering
 pub mod Histories
 pub mod Meeting

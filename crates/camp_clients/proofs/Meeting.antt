@@ -1,7 +1,7 @@
 -- Lemmas on clients that meet the opening's seat, before and after their threads.
-use Rattle.camp_clients.proofs.Words.{◌≡◌, ◌⊎◌, ℕ, ◌+◌, ◌<◌, suc, zero, IfOk, List, [], ◌∷◌, ◌++◌, length, get_or, map, Option, None, Some, MatchOption, append_assoc, Result, Ok, Err, refl, sym, ◌∙◌, ap, subst, add-one, inl, inr, arith, All, AllZip, IsFront, IsAnswered, IsLegal, own, Sequential, Fault, Memory, Busy, Full, Asks, SaysAmongThreads, IsDone, told, Sight, AreNew, HasMet, IsSeen, IsMet, Ran, caller_of, own_at, done_at, HasFronts, IsShared, OwnDone, section_of, Section, front_front, front_whole, own-append}
+use Rattle.camp_clients.proofs.Words.{◌≡◌, ◌⊎◌, ℕ, ◌+◌, ◌<◌, suc, zero, IfOk, List, [], ◌∷◌, ◌++◌, length, get_or, map, Option, None, Some, MatchOption, append_assoc, Result, Ok, Err, refl, sym, ◌∙◌, ap, subst, add-one, inl, inr, arith, All, AllZip, IsBeginning, IsAnswered, IsLegal, own, Sequential, Fault, Memory, Busy, Full, Asks, SaysAmongThreads, IsDone, told, Sight, AreNew, HasMet, IsSeen, IsMet, Ran, caller_of, own_at, done_at, HasBeginnings, IsShared, OwnDone, section_of, Section, begins_through, begins_whole, own-append}
 use Rattle.std.proofs.lemmas.List.{append-nil, length-append, length-map, get_or-map, nil_from_length}
-use Rattle.camp_clients.proofs.Fronts.{section_grows, section_map, section_own_at, says, own_at_front, own_at_none}
+use Rattle.camp_clients.proofs.SectionSteps.{section_grows, section_map, section_own_at, says, own_at_front, own_at_none}
 pub use Rattle.camp_clients.proofs.Gathering.{all_first, all_rest, gathered_alone, ok_holds, ok_map, zip_all, zip_at, zip_length, zip_push}
 use Rattle.camp_clients.proofs.Histories.{append_nil_right}
 
@@ -25,16 +25,16 @@ module _ {A B C : Type 0} (R : A → B → Type 0) (S : B → C → Type 0) wher
   zip_then (a ∷ xs) (b ∷ ys) [] one two = absurd two
   zip_then (a ∷ xs) (b ∷ ys) (c ∷ zs) one two = ((b, one.0, two.0), zip_then xs ys zs one.1 two.1)
 
--- a section's first front can be moved back over calls of others
+-- a section's first beginning can be moved back over calls of others
 module _ {State Call Reply : Type 0} (object : Sequential State Call Reply) (seat tries : ℕ)
-    (earlier first : List (ℕ × Call)) (front : IsFront earlier first) (none : own seat front.rest ≡ []) where
+    (earlier first : List (ℕ × Call)) (beginning : IsBeginning earlier first) (none : own seat beginning.rest ≡ []) where
   earlier_reply : (call : Call) (at : Option ℕ) (reply : Reply) (next : List (ℕ × Call))
-      → MatchOption at (IsFront first next × IsAnswered object next call reply) (λ at. IsDone seat first call at next)
-      → MatchOption at (IsFront earlier next × IsAnswered object next call reply) (λ at. IsDone seat earlier call at next)
-  earlier_reply call None reply next said = (front_front front said.0, said.1)
+      → MatchOption at (IsBeginning first next × IsAnswered object next call reply) (λ at. IsDone seat first call at next)
+      → MatchOption at (IsBeginning earlier next × IsAnswered object next call reply) (λ at. IsDone seat earlier call at next)
+  earlier_reply call None reply next said = (begins_through beginning said.0, said.1)
   earlier_reply call (Some at) reply next said = record {
     stood = said.stood;
-    since = front_front front said.since;
+    since = begins_through beginning said.since;
     ends = said.ends;
     position = said.position;
   }
@@ -43,23 +43,23 @@ module _ {State Call Reply : Type 0} (object : Sequential State Call Reply) (sea
   says_earlier call (Ok reply) next said = earlier_reply call (object.done_at reply) reply next said
   says_earlier call (Err Memory) next said = said
   says_earlier call (Err (Busy lost)) next said = record {
-    others = front.rest ++ said.others;
-    makes = sym (append_assoc earlier front.rest said.others) ∙ ap (λ h. h ++ said.others) front.makes ∙ said.makes;
-    none_own = own-append seat front.rest said.others ∙ ap (λ xs. xs ++ own seat said.others) none ∙ said.none_own;
-    enough = omega (arith, said.enough, length-append front.rest said.others);
+    others = beginning.rest ++ said.others;
+    makes = sym (append_assoc earlier beginning.rest said.others) ∙ ap (λ h. h ++ said.others) beginning.makes ∙ said.makes;
+    none_own = own-append seat beginning.rest said.others ∙ ap (λ xs. xs ++ own seat said.others) none ∙ said.none_own;
+    enough = omega (arith, said.enough, length-append beginning.rest said.others);
     all_lost = said.all_lost;
   }
   says_earlier call (Err Full) next said = said
 
-  pub fronts_earlier : (calls : List Call) (answers : List (Result Reply Fault)) (history : List (ℕ × Call)) → IsFront earlier history
-      → HasFronts object seat tries first calls answers history → HasFronts object seat tries earlier calls answers history
-  fronts_earlier [] [] history within fronts = record { last = earlier; fronts = refl; within = within }
-  fronts_earlier [] (a ∷ answers) history within fronts = absurd fronts.fronts
-  fronts_earlier (c ∷ calls) [] history within fronts = absurd fronts.fronts
-  fronts_earlier (c ∷ calls) (a ∷ answers) history within fronts = record {
-    last = fronts.last;
-    fronts = (fronts.fronts.0, says_earlier c a fronts.fronts.0 fronts.fronts.1, fronts.fronts.2);
-    within = fronts.within;
+  pub fronts_earlier : (calls : List Call) (answers : List (Result Reply Fault)) (history : List (ℕ × Call)) → IsBeginning earlier history
+      → HasBeginnings object seat tries first calls answers history → HasBeginnings object seat tries earlier calls answers history
+  fronts_earlier [] [] history within beginnings = record { last = earlier; beginnings = refl; within = within }
+  fronts_earlier [] (a ∷ answers) history within beginnings = absurd beginnings.beginnings
+  fronts_earlier (c ∷ calls) [] history within beginnings = absurd beginnings.beginnings
+  fronts_earlier (c ∷ calls) (a ∷ answers) history within beginnings = record {
+    last = beginnings.last;
+    beginnings = (beginnings.beginnings.0, says_earlier c a beginnings.beginnings.0 beginnings.beginnings.1, beginnings.beginnings.2);
+    within = beginnings.within;
   }
 
 -- from a new client to the end of the run
@@ -80,14 +80,14 @@ module _ {State Call Reply Client : Type 0} (object : Sequential State Call Repl
     none_between = append_nil_right (own (sight.number c0) opened) (own (sight.number c0) m1.knows.rest)
         (sym (own-append (sight.number c0) opened m1.knows.rest) ∙ ap (own (sight.number c0)) m1.knows.makes ∙ none_own)
 
-    client_fronts : HasFronts object (sight.number c0) tries opened (section_of sections (sight.number c0)) (sight.answers c3) history
-    client_fronts = subst (λ answers. HasFronts object (sight.number c0) tries opened (section_of sections (sight.number c0)) answers history) same_answers
+    client_fronts : HasBeginnings object (sight.number c0) tries opened (section_of sections (sight.number c0)) (sight.answers c3) history
+    client_fronts = subst (λ answers. HasBeginnings object (sight.number c0) tries opened (section_of sections (sight.number c0)) answers history) same_answers
         (fronts_earlier object (sight.number c0) tries opened (sight.seen c1) m1.knows none_between (section_of sections (sight.number c0)) (sight.answers c2) history
-        (front_front m1.knows
-        (front_front (section_grows object (caller_of tries per_seat (sight.number c0)) (sight.seen c1) _ _ (sight.seen c2) asked) met.known))
+        (begins_through m1.knows
+        (begins_through (section_grows object (caller_of tries per_seat (sight.number c0)) (sight.seen c1) _ _ (sight.seen c2) asked) met.known))
         (record {
           last = sight.seen c2;
-          fronts = section_map (Asks object (caller_of tries per_seat (sight.number c0))) (SaysAmongThreads object (sight.number c0) tries)
+          beginnings = section_map (Asks object (caller_of tries per_seat (sight.number c0))) (SaysAmongThreads object (sight.number c0) tries)
               (says object (caller_of tries per_seat (sight.number c0))) (sight.seen c1) _ _ (sight.seen c2) asked;
           within = met.known;
         }))
@@ -104,7 +104,7 @@ module _ {State Call Reply Client : Type 0} (object : Sequential State Call Repl
 
   -- what the run says of a client's seat
   pub record Holds (seat : ℕ) (answers : List (Result Reply Fault)) : Type 0 where
-    pub fronts : HasFronts object seat tries opened (section_of sections seat) answers history
+    pub beginnings : HasBeginnings object seat tries opened (section_of sections seat) answers history
     pub own_done : own_at seat 0 history ≡ done_at (told object) (section_of sections seat) answers
 
   pub clients_hold : (l0 l1 l2 l3 : List Client) → AreNew sight l0 → AllZip (HasMet sight opened) l0 l1 → AllZip (Ran object sight tries per_seat sections) l1 l2
@@ -119,28 +119,28 @@ module _ {State Call Reply Client : Type 0} (object : Sequential State Call Repl
       let new = fresh k d below in
       let c0 = get_or l0 k d in
       let c3 = get_or l3 k d in
-      let fronts = client_fronts c0 at.0 at.2.0 c3 new.2 at.1 at.2.1 at.2.2 in
+      let beginnings = client_fronts c0 at.0 at.2.0 c3 new.2 at.1 at.2.1 at.2.2 in
       let own_done = client_own c0 at.0 at.2.0 c3 new.2 at.1 at.2.1 at.2.2 in
       record {
-        fronts = subst (λ n. HasFronts object n tries opened (section_of sections n) (sight.answers c3) history) new.1 fronts;
+        beginnings = subst (λ n. HasBeginnings object n tries opened (section_of sections n) (sight.answers c3) history) new.1 beginnings;
         own_done = subst (λ n. own_at n 0 history ≡ done_at (told object) (section_of sections n) (sight.answers c3)) new.1 own_done;
       }
 
 -- clients that were met stay so where the history stays, or there are none
-pub met_still : {Client Call Answer : Type 0} (sight : Sight Client Call Answer) (h more : List (ℕ × Call)) (count from to : ℕ) → IsFront h more
+pub met_still : {Client Call Answer : Type 0} (sight : Sight Client Call Answer) (h more : List (ℕ × Call)) (count from to : ℕ) → IsBeginning h more
     → from ≡ length h → to ≡ length more → (before after : List Client) → count ≡ length after → (count ≡ 0) ⊎ (from ≡ to)
     → AllZip (IsMet sight h) before after → AllZip (IsMet sight more) before after
 met_still sight h more count from to grows is_from is_to before after is_count (inr same) met =
-    subst (λ history. AllZip (IsMet sight history) before after) (front_whole h more grows (omega (arith, is_from, is_to, same))) met
+    subst (λ history. AllZip (IsMet sight history) before after) (begins_whole h more grows (omega (arith, is_from, is_to, same))) met
 met_still sight h more count from to grows is_from is_to [] [] is_count (inl none) met = tt
 met_still sight h more count from to grows is_from is_to (b ∷ before) [] is_count (inl none) met = absurd met
 met_still sight h more count from to grows is_from is_to before (a ∷ after) is_count (inl none) met = absurd (omega (arith, is_count, none))
 
 -- where the history grows, it begins with what was seen still
-pub seen_still : {Client Call Answer : Type 0} (sight : Sight Client Call Answer) (h more : List (ℕ × Call)) → IsFront h more
+pub seen_still : {Client Call Answer : Type 0} (sight : Sight Client Call Answer) (h more : List (ℕ × Call)) → IsBeginning h more
     → (before after : List Client) → AllZip (IsSeen sight h) before after → AllZip (IsSeen sight more) before after
 seen_still sight h more grows before after seen =
-    zip_map (IsSeen sight h) (IsSeen sight more) (λ b a is. record { is_seat = is.is_seat; number = is.number; answers = is.answers; seen = is.seen; known = front_front is.known grows }) before after seen
+    zip_map (IsSeen sight h) (IsSeen sight more) (λ b a is. record { is_seat = is.is_seat; number = is.number; answers = is.answers; seen = is.seen; known = begins_through is.known grows }) before after seen
 
 -- a client that meets the seat once more, and sees no further call of its own, has none in the history beyond those
 -- that it had seen
@@ -200,7 +200,7 @@ module _ {State Call Reply Client : Type 0} (object : Sequential State Call Repl
     (as_many : length clients + 1 ≡ length sections)
     (holds : (k : ℕ) (d : Client) → k < length clients → Holds object sight tries per_seat sections opened history (k + 1) (sight.answers (get_or clients k d)))
     (ran : Section (Asks object (caller_of tries per_seat 0)) [] (section_of sections 0) opening opened)
-    (front : IsFront opened history) (same : own 0 history ≡ own 0 opened) where
+    (beginning : IsBeginning opened history) (same : own 0 history ≡ own 0 opened) where
   all : List (List (Result Reply Fault))
   all = opening ∷ map sight.answers clients
 
@@ -210,13 +210,13 @@ module _ {State Call Reply Client : Type 0} (object : Sequential State Call Repl
 
   own_done : OwnDone (told object) sections all history
   unfolding all
-  own_done zero below = own_at_front 0 opened history front same
+  own_done zero below = own_at_front 0 opened history beginning same
       ∙ section_own_at object (caller_of tries per_seat 0) [] (section_of sections 0) opening opened ran
   own_done (suc k) below = (at_client k (omega arith)).own_done
 
-  at_clients : (seat : ℕ) → 0 < seat → seat < length sections → HasFronts object seat tries opened (section_of sections seat) (section_of all seat) history
+  at_clients : (seat : ℕ) → 0 < seat → seat < length sections → HasBeginnings object seat tries opened (section_of sections seat) (section_of all seat) history
   at_clients zero some below = absurd (omega arith)
-  at_clients (suc k) some below = (at_client k (omega arith)).fronts
+  at_clients (suc k) some below = (at_client k (omega arith)).beginnings
 
   pub shared_run : IsLegal object history → All (λ entry. entry.0 < length sections) history
       → IsShared object tries sections (opening ∷ map sight.answers clients) history
@@ -227,8 +227,8 @@ module _ {State Call Reply Client : Type 0} (object : Sequential State Call Repl
     exactly = record { own_done = own_done; no_other = no_other };
     opening = record {
       last = opened;
-      fronts = section_map (Asks object (caller_of tries per_seat 0)) (SaysAmongThreads object 0 tries) (says object (caller_of tries per_seat 0)) [] _ _ opened ran;
-      within = front;
+      beginnings = section_map (Asks object (caller_of tries per_seat 0)) (SaysAmongThreads object 0 tries) (says object (caller_of tries per_seat 0)) [] _ _ opened ran;
+      within = beginning;
     };
     clients = at_clients;
   }

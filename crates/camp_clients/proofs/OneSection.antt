@@ -1,27 +1,27 @@
 -- Lemmas on a section whose calls stand in a history one after the other, with nothing between them.
-use Rattle.camp_clients.proofs.Words.{◌≡◌, ℕ, ◌+◌, ◌<◌, List, [], ◌∷◌, ◌++◌, length, Option, None, Some, Result, Ok, Err, MatchOption, refl, sym, ◌∙◌, ap, subst, append_assoc, inl, inr, arith, All-same, cases_lt, All, IsFront, IsAnswered, own, Sequential, Fault, Memory, Busy, Full, IsDone, IsOvertaken, SaysAmongThreads, SaysAlone, told, own_at, where_done, done_at, Section, front_front, own-append, length-own-all, length-own-within, HasOpening, front_whole, length-front}
+use Rattle.camp_clients.proofs.Words.{◌≡◌, ℕ, ◌+◌, ◌<◌, List, [], ◌∷◌, ◌++◌, length, Option, None, Some, Result, Ok, Err, MatchOption, refl, sym, ◌∙◌, ap, subst, append_assoc, inl, inr, arith, All-same, cases_lt, All, IsBeginning, IsAnswered, own, Sequential, Fault, Memory, Busy, Full, IsDone, IsOvertaken, SaysAmongThreads, SaysAlone, told, own_at, where_done, done_at, Section, begins_through, own-append, length-own-all, length-own-within, HasOpening, begins_whole, length-beginning}
 use Rattle.std.proofs.lemmas.List.{length-append, get_or-append-add}
-use Rattle.camp_clients.proofs.Fronts.{says_grows, section_front, own_at_first, own_at_mine, same_first}
+use Rattle.camp_clients.proofs.SectionSteps.{says_grows, section_front, own_at_first, own_at_mine, same_first}
 
--- what holds of all elements holds of those behind a front
-pub all_behind : {X : Type 0} (P : X → Type 0) (front whole : List X) (begins : IsFront front whole) → All P whole → All P begins.rest
-all_behind P front whole begins all k d below =
-    subst P (get_or-append-add front begins.rest k d)
-    (All-same P (front ++ begins.rest) whole begins.makes all (length front + k) d (omega (arith, below, length-append front begins.rest)))
+-- what holds of all elements holds of those behind a beginning
+pub all_behind : {X : Type 0} (P : X → Type 0) (beginning whole : List X) (begins : IsBeginning beginning whole) → All P whole → All P begins.rest
+all_behind P beginning whole begins all k d below =
+    subst P (get_or-append-add beginning begins.rest k d)
+    (All-same P (beginning ++ begins.rest) whole begins.makes all (length beginning + k) d (omega (arith, below, length-append beginning begins.rest)))
 
 module _ {State Call Reply : Type 0} (object : Sequential State Call Reply) (seat tries : ℕ) where
-  -- the first of these positions lies behind a front
+  -- the first of these positions lies behind a beginning
   abbrev pub Behind : List (ℕ × Call) → List (ℕ × Call) → Type 0
-  Behind front left = (at : ℕ) (call : Call) (more : List (ℕ × Call)) → left ≡ (at, call) ∷ more → length front < at
+  Behind beginning left = (at : ℕ) (call : Call) (more : List (ℕ × Call)) → left ≡ (at, call) ∷ more → length beginning < at
 
   behind_reply : (before : List (ℕ × Call)) (call : Call) (at : Option ℕ) (reply : Reply) (next left : List (ℕ × Call))
-      → MatchOption at (IsFront before next × IsAnswered object next call reply) (λ at. IsDone seat before call at next)
+      → MatchOption at (IsBeginning before next × IsAnswered object next call reply) (λ at. IsDone seat before call at next)
       → Behind next left → Behind before (where_done at call left)
   behind_reply before call None reply next left says behind at other more is =
-      let further = behind at other more is in omega (arith, length-front says.0)
+      let further = behind at other more is in omega (arith, length-beginning says.0)
   behind_reply before call (Some told) reply next left says behind at other more is =
       let first = same_first _ _ _ _ _ _ is in
-      omega (arith, first.0, says.position, ap length says.ends, length-append says.stood ((seat, call) ∷ []), length-front says.since)
+      omega (arith, first.0, says.position, ap length says.ends, length-append says.stood ((seat, call) ∷ []), length-beginning says.since)
 
   behind_says : (before : List (ℕ × Call)) (call : Call) (answer : Result Reply Fault) (next left : List (ℕ × Call))
       → SaysAmongThreads object seat tries before call answer next → Behind next left → Behind before (where_done (told object answer) call left)
@@ -31,7 +31,7 @@ module _ {State Call Reply : Type 0} (object : Sequential State Call Reply) (sea
       let further = behind at other more is in omega (arith, ap length says.makes, length-append before says.others)
   behind_says before call (Err Full) next left says behind = absurd says
 
-  -- what a section tells lies behind its first front
+  -- what a section tells lies behind its first beginning
   pub section_behind : (first : List (ℕ × Call)) (calls : List Call) (answers : List (Result Reply Fault)) (last : List (ℕ × Call))
       → Section (SaysAmongThreads object seat tries) first calls answers last → Behind first (done_at (told object) calls answers)
   section_behind first [] [] last s = λ at call more is. absurd (cc is)
@@ -41,12 +41,12 @@ module _ {State Call Reply : Type 0} (object : Sequential State Call Reply) (sea
       behind_says first c a s.0 (done_at (told object) calls answers) s.1 (section_behind s.0 calls answers last s.2)
 
 module _ {State Call Reply : Type 0} (object : Sequential State Call Reply) (seat : ℕ) (history : List (ℕ × Call)) where
-  -- a front of the history, and behind it these calls of the seat with their positions
-  pub record Leaves (front left : List (ℕ × Call)) : Type 0 where
-    pub begins : IsFront front history
-    pub are : own_at seat (length front) begins.rest ≡ left
+  -- a beginning of the history, and behind it these calls of the seat with their positions
+  pub record Leaves (beginning left : List (ℕ × Call)) : Type 0 where
+    pub begins : IsBeginning beginning history
+    pub are : own_at seat (length beginning) begins.rest ≡ left
 
-  -- the next call that is done lengthens the front, by itself
+  -- the next call that is done lengthens the beginning, by itself
   done_leaves : (before : List (ℕ × Call)) (call : Call) (next left : List (ℕ × Call)) (at : ℕ)
       → Leaves before ((at, call) ∷ left) → next ≡ before ++ (seat, call) ∷ [] → at ≡ length next → Leaves next left
   done_leaves before call next left at leaves is position =
@@ -72,7 +72,8 @@ module _ {State Call Reply : Type 0} (object : Sequential State Call Reply) (sea
   says_leaves before call (Ok reply) next left leaves says = reply_leaves before call (object.done_at reply) reply next left leaves says
   says_leaves before call (Err fault) next left leaves says = absurd says
 
-  -- a section that was asked alone, whose calls are those behind its first front, leaves none of them behind its last
+  -- a section that was asked alone, whose calls are those behind its first beginning, leaves none of them behind its
+  -- last
   section_leaves : (first : List (ℕ × Call)) (calls : List Call) (answers : List (Result Reply Fault)) (last : List (ℕ × Call))
       → Section (SaysAlone object seat) first calls answers last → Leaves first (done_at (told object) calls answers) → Leaves last []
   section_leaves first [] [] last s leaves = subst (λ f. Leaves f []) s leaves
@@ -94,31 +95,31 @@ module _ {State Call Reply : Type 0} (object : Sequential State Call Reply) (sea
       (entry.1, own_at seat (before + 1) rest, sym are ∙ own_at_mine seat before entry rest (mine 0 entry (omega arith)))
 
   module _ (mine : All (λ entry. entry.0 ≡ seat) history) where
-    -- where all calls are the seat's, a front that isn't all of the history leaves the next position first
-    next_position : (front left : List (ℕ × Call)) → Leaves front left → length front < length history
-        → (call : Call) × (more : List (ℕ × Call)) × (left ≡ (length front + 1, call) ∷ more)
-    next_position front left leaves below =
-        let parts : length (front ++ leaves.begins.rest) ≡ length history = ap length leaves.begins.makes in
-        first_position (length front) leaves.begins.rest left (all_behind (λ entry. entry.0 ≡ seat) front history leaves.begins mine)
-        (omega (arith, length-append front leaves.begins.rest)) leaves.are
+    -- where all calls are the seat's, a beginning that isn't all of the history leaves the next position first
+    next_position : (beginning left : List (ℕ × Call)) → Leaves beginning left → length beginning < length history
+        → (call : Call) × (more : List (ℕ × Call)) × (left ≡ (length beginning + 1, call) ∷ more)
+    next_position beginning left leaves below =
+        let parts : length (beginning ++ leaves.begins.rest) ≡ length history = ap length leaves.begins.makes in
+        first_position (length beginning) leaves.begins.rest left (all_behind (λ entry. entry.0 ≡ seat) beginning history leaves.begins mine)
+        (omega (arith, length-append beginning leaves.begins.rest)) leaves.are
 
     -- and one that leaves nothing is all of it
-    pub leaves_none : (front : List (ℕ × Call)) → Leaves front [] → front ≡ history
-    leaves_none front leaves = elim (cases_lt (length front) (length history)) [
-      | inl below ↦ (let next = next_position front [] leaves below in absurd (cc next.2))
-      | inr past ↦ front_whole front history leaves.begins past
+    pub leaves_none : (beginning : List (ℕ × Call)) → Leaves beginning [] → beginning ≡ history
+    leaves_none beginning leaves = elim (cases_lt (length beginning) (length history)) [
+      | inl below ↦ (let next = next_position beginning [] leaves below in absurd (cc next.2))
+      | inr past ↦ begins_whole beginning history leaves.begins past
     ]
 
     module _ (tries : ℕ) (some : 0 < tries) where
-      module _ (before : List (ℕ × Call)) (call : Call) (next left : List (ℕ × Call)) (within : IsFront next history) (behind : Behind object seat tries next left) where
-        -- nothing is left between a front and the next one where no call is done
-        no_more : Leaves before left → IsFront before next → next ≡ before
-        no_more leaves grows = sym (front_whole before next grows (elim (cases_lt (length before) (length history)) [
+      module _ (before : List (ℕ × Call)) (call : Call) (next left : List (ℕ × Call)) (within : IsBeginning next history) (behind : Behind object seat tries next left) where
+        -- nothing is left between a beginning and the next one where no call is done
+        no_more : Leaves before left → IsBeginning before next → next ≡ before
+        no_more leaves grows = sym (begins_whole before next grows (elim (cases_lt (length before) (length history)) [
           | inl below ↦ (
               let position = next_position before left leaves below in
               let behind = behind (length before + 1) position.0 position.1 position.2 in
               omega arith)
-          | inr past ↦ omega (arith, length-front within)
+          | inr past ↦ omega (arith, length-beginning within)
         ]))
 
         -- and nothing but the call where it is done
@@ -126,13 +127,13 @@ module _ {State Call Reply : Type 0} (object : Sequential State Call Reply) (sea
         done_next at leaves done =
             let long = length-append done.stood ((seat, call) ∷ []) in
             let ends = ap length done.ends in
-            let position = next_position before ((at, call) ∷ left) leaves (omega (arith, long, ends, length-front done.since, length-front within)) in
+            let position = next_position before ((at, call) ∷ left) leaves (omega (arith, long, ends, length-beginning done.since, length-beginning within)) in
             let first = same_first _ _ _ _ _ _ position.2 in
-            let same = front_whole before done.stood done.since (omega (arith, first.0, done.position, long, ends)) in
+            let same = begins_whole before done.stood done.since (omega (arith, first.0, done.position, long, ends)) in
             sym done.ends ∙ ap (λ f. f ++ (seat, call) ∷ []) (sym same)
 
         reply_alone : (at : Option ℕ) (reply : Reply) → Leaves before (where_done at call left)
-            → MatchOption at (IsFront before next × IsAnswered object next call reply) (λ at. IsDone seat before call at next)
+            → MatchOption at (IsBeginning before next × IsAnswered object next call reply) (λ at. IsDone seat before call at next)
             → MatchOption at ((next ≡ before) × IsAnswered object before call reply) (λ at. (next ≡ before ++ (seat, call) ∷ []) × (at ≡ length next))
         reply_alone None reply leaves says =
             let same = no_more leaves says.0 in (same, subst (λ f. IsAnswered object f call reply) same says.1)
@@ -174,7 +175,7 @@ module _ {State Call Reply : Type 0} (object : Sequential State Call Reply) (sea
 
       -- a section whose calls are all that the history has was asked alone
       pub section_is_alone : (first : List (ℕ × Call)) (calls : List Call) (answers : List (Result Reply Fault)) (last : List (ℕ × Call))
-          → IsFront last history → Leaves first (done_at (told object) calls answers) → Section (SaysAmongThreads object seat tries) first calls answers last
+          → IsBeginning last history → Leaves first (done_at (told object) calls answers) → Section (SaysAmongThreads object seat tries) first calls answers last
           → Section (SaysAlone object seat) first calls answers last
       section_is_alone first [] [] last within leaves s = s
       section_is_alone first [] (a ∷ answers) last within leaves s = absurd s
@@ -182,7 +183,7 @@ module _ {State Call Reply : Type 0} (object : Sequential State Call Reply) (sea
       section_is_alone first (c ∷ calls) (a ∷ answers) last within leaves s =
           let left = done_at (told object) calls answers in
           let grows = section_front (SaysAmongThreads object seat tries) (says_grows object seat tries) s.0 calls answers last s.2 in
-          let next = front_front grows within in
+          let next = begins_through grows within in
           let alone = says_is_alone first c s.0 left next (section_behind object seat tries s.0 calls answers last s.2) a leaves s.1 in
           (s.0, alone, section_is_alone s.0 calls answers last within (says_leaves first c a s.0 left leaves alone) s.2)
 

@@ -1,7 +1,7 @@
 -- The opening of a run over a head runs alone.
-use Rattle.camp_clients.proofs.Words.{◌≡◌, ℕ, suc, ◌+◌, ◌<◌, ◌≤◌, ◌==◌, eq-eqb, true, false, cond, List, [], ◌∷◌, ◌++◌, length, Option, None, Some, Result, Ok, Err, MatchOption, refl, sym, ◌∙◌, ap, subst, inl, inr, arith, cases_lt, append-nil, IsFront, IsAnswered, own, Sequential, Fault, length-front, IsDone, SaysAmongThreads, told, own_at, where_done, done_at, section_of, Section, front_self, All, AllByRecursion, All-cons, All-nil, All-same, OpeningIsAlone}
+use Rattle.camp_clients.proofs.Words.{◌≡◌, ℕ, suc, ◌+◌, ◌<◌, ◌≤◌, ◌==◌, eq-eqb, true, false, cond, List, [], ◌∷◌, ◌++◌, length, Option, None, Some, Result, Ok, Err, MatchOption, refl, sym, ◌∙◌, ap, subst, inl, inr, arith, cases_lt, append-nil, IsBeginning, IsAnswered, own, Sequential, Fault, length-beginning, IsDone, SaysAmongThreads, told, own_at, where_done, done_at, section_of, Section, begins_self, All, AllByRecursion, All-cons, All-nil, All-same, OpeningIsAlone}
 use Rattle.std.proofs.Math.ListN.{get_or-append}
-use Rattle.camp_clients.proofs.Fronts.{says_grows, section_front, own_at-append, own_at_behind}
+use Rattle.camp_clients.proofs.SectionSteps.{says_grows, section_front, own_at-append, own_at_behind}
 use Rattle.camp_clients.proofs.OneSection.{section_behind, section_is_alone}
 
 -- no position lies past a number
@@ -19,7 +19,7 @@ none_between seat end h (entry ∷ list) is all =
     let behind = own_at_behind seat end h entry.0 entry.1 list is in
     let first = all.0 in absurd (omega arith)
 
--- a seat whose first position lies behind a front has no call in it
+-- a seat whose first position lies behind a beginning has no call in it
 none_before : {Call : Type 0} (seat before : ℕ) (h more : List (ℕ × Call))
     → ((at : ℕ) (call : Call) (rest : List (ℕ × Call)) → own_at seat before (h ++ more) ≡ (at, call) ∷ rest → before + length h < at)
     → own seat h ≡ []
@@ -32,11 +32,11 @@ none_before {Call = Call} seat before (entry ∷ h) more =
       | false ↦ (λ behind. none_before seat (before + 1) h more (λ at call rest is. let past = behind at call rest is in omega arith))
     ]
 
--- what holds of all elements holds of those of a front
-all_of_front : {X : Type 0} (P : X → Type 0) (front whole : List X) (begins : IsFront front whole) → All P whole → All P front
-all_of_front P front whole begins all k d below =
-    subst P (get_or-append front begins.rest d k below)
-    (All-same P (front ++ begins.rest) whole begins.makes all k d (omega (arith, below, ap length begins.makes, length-front begins)))
+-- what holds of all elements holds of those of a beginning
+all_of_front : {X : Type 0} (P : X → Type 0) (beginning whole : List X) (begins : IsBeginning beginning whole) → All P whole → All P beginning
+all_of_front P beginning whole begins all k d below =
+    subst P (get_or-append beginning begins.rest d k below)
+    (All-same P (beginning ++ begins.rest) whole begins.makes all k d (omega (arith, below, ap length begins.makes, length-beginning begins)))
 
 -- a call of a seat is one of its calls
 has_own : {Call : Type 0} (seat : ℕ) (entry : ℕ × Call) (h : List (ℕ × Call)) → entry.0 ≡ seat → own seat (entry ∷ h) ≡ [] → ⊥
@@ -61,9 +61,9 @@ all_of_first seats (entry ∷ h) below none =
     (all_of_first seats h (λ k d here. below (suc k) d (omega arith)) (λ seat some few. own_tail seat entry h (none seat some few)))
 
 module _ {State Call Reply : Type 0} (object : Sequential State Call Reply) (seat tries : ℕ) where
-  -- what a section tells lies in its last front
+  -- what a section tells lies in its last beginning
   done_up_to : (before : List (ℕ × Call)) (call : Call) (at : Option ℕ) (reply : Reply) (next left : List (ℕ × Call)) (end : ℕ)
-      → MatchOption at (IsFront before next × IsAnswered object next call reply) (λ at. IsDone seat before call at next)
+      → MatchOption at (IsBeginning before next × IsAnswered object next call reply) (λ at. IsDone seat before call at next)
       → length next ≤ end → AreUpTo end left → AreUpTo end (where_done at call left)
   done_up_to before call None reply next left end says within all = all
   done_up_to before call (Some at) reply next left end says within all = (let is = says.position in omega arith, all)
@@ -81,12 +81,12 @@ module _ {State Call Reply : Type 0} (object : Sequential State Call Reply) (sea
   section_up_to first (c ∷ calls) [] last s = absurd s
   section_up_to first (c ∷ calls) (a ∷ answers) last s =
       says_up_to first c a s.0 (done_at (told object) calls answers) (length last) s.1
-      (length-front (section_front (SaysAmongThreads object seat tries) (says_grows object seat tries) s.0 calls answers last s.2))
+      (length-beginning (section_front (SaysAmongThreads object seat tries) (says_grows object seat tries) s.0 calls answers last s.2))
       (section_up_to s.0 calls answers last s.2)
 
-  -- a front that holds what a section tells has all calls of its seat
+  -- a beginning that holds what a section tells has all calls of its seat
   own_at_last : (last history : List (ℕ × Call)) (calls : List Call) (answers : List (Result Reply Fault))
-      → (within : IsFront last history) → own_at seat 0 history ≡ done_at (told object) calls answers
+      → (within : IsBeginning last history) → own_at seat 0 history ≡ done_at (told object) calls answers
       → Section (SaysAmongThreads object seat tries) [] calls answers last → own_at seat 0 last ≡ done_at (told object) calls answers
   own_at_last last history calls answers within is s =
       let from_end : length last ≡ 0 + length last = omega arith in
@@ -105,15 +105,15 @@ opening_alone object tries sections answers history some opens run =
     let within = run.opening.within in
     let below = all_of_front (λ entry. entry.0 < length sections) last history within run.exactly.no_other in
     let mine = all_of_first (length sections) last below (λ seat client few.
-    let fronts = run.clients seat client few in
+    let beginnings = run.clients seat client few in
     none_before seat 0 last within.rest (λ at call rest is.
-    let behind = section_behind object seat tries last (section_of sections seat) (section_of answers seat) fronts.last fronts.fronts at call rest
+    let behind = section_behind object seat tries last (section_of sections seat) (section_of answers seat) beginnings.last beginnings.beginnings at call rest
     (sym (run.exactly.own_done seat few) ∙ ap (own_at seat 0) (sym within.makes) ∙ is) in
     omega arith)) in
-    let own_is = own_at_last object 0 tries last history calls replies within (run.exactly.own_done 0 opens) run.opening.fronts in
+    let own_is = own_at_last object 0 tries last history calls replies within (run.exactly.own_done 0 opens) run.opening.beginnings in
     record {
       last = last;
-      alone = section_is_alone object 0 last mine tries some [] calls replies last (front_self last)
-          (record { begins = record { rest = last; makes = refl }; are = own_is }) run.opening.fronts;
+      alone = section_is_alone object 0 last mine tries some [] calls replies last (begins_self last)
+          (record { begins = record { rest = last; makes = refl }; are = own_is }) run.opening.beginnings;
       within = within;
     }

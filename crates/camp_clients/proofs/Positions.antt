@@ -1,6 +1,6 @@
 -- Lemmas on calls with their positions.
 use Rattle.std.proofs.lemmas.List.{append-nil, drop_all, drop_more}
-use Rattle.camp_clients.proofs.Words.{cases_lt, eqb_tells, IsFront, own, own_at, where_done, done_at, ◌≡◌, ℕ, ◌+◌, ◌==◌, true, false, cond, List, [], ◌∷◌, ◌++◌, length, Option, None, Some, refl, sym, ◌∙◌, ap, zero-add, inl, inr, min, drop, get_or, ◌<◌, ◌≤◌, eq-eqb, arith}
+use Rattle.camp_clients.proofs.Words.{cases_lt, eqb_tells, IsBeginning, own, own_at, where_done, done_at, ◌≡◌, ℕ, ◌+◌, ◌==◌, true, false, cond, List, [], ◌∷◌, ◌++◌, length, Option, None, Some, refl, sym, ◌∙◌, ap, zero-add, inl, inr, min, drop, get_or, ◌<◌, ◌≤◌, eq-eqb, arith}
 use Rattle.camp_clients.proofs.Histories.{own_rest, same_seat}
 
 -- the calls of a seat in two parts of a history, one after the other
@@ -62,11 +62,11 @@ own_at_none seat before (entry ∷ h) =
     as (λ b. cond b (entry.1 ∷ own seat h) (own seat h) ≡ [] → cond b ((before + 1, entry.1) ∷ own_at seat (before + 1) h) (own_at seat (before + 1) h) ≡ [])
     [ true ↦ (λ none. absurd (cc none)) | false ↦ (λ none. own_at_none seat (before + 1) h none) ]
 
--- a front with all calls of a seat has them at the same positions
-pub own_at_front : {Call : Type 0} (seat : ℕ) (f h : List (ℕ × Call)) (front : IsFront f h) → own seat h ≡ own seat f → own_at seat 0 h ≡ own_at seat 0 f
-own_at_front seat f h front same =
-    let none = own_at_none seat (0 + length f) front.rest (own_rest seat f h front same) in
-    sym (ap (own_at seat 0) front.makes) ∙ own_at-append seat 0 f front.rest ∙ ap (λ xs. own_at seat 0 f ++ xs) none ∙ append-nil (own_at seat 0 f)
+-- a beginning with all calls of a seat has them at the same positions
+pub own_at_front : {Call : Type 0} (seat : ℕ) (f h : List (ℕ × Call)) (beginning : IsBeginning f h) → own seat h ≡ own seat f → own_at seat 0 h ≡ own_at seat 0 f
+own_at_front seat f h beginning same =
+    let none = own_at_none seat (0 + length f) beginning.rest (own_rest seat f h beginning same) in
+    sym (ap (own_at seat 0) beginning.makes) ∙ own_at-append seat 0 f beginning.rest ∙ ap (λ xs. own_at seat 0 f ++ xs) none ∙ append-nil (own_at seat 0 f)
 
 pub where_done-append : {Call : Type 0} (at : Option ℕ) (call : Call) (rest : List (ℕ × Call)) → where_done at call [] ++ rest ≡ where_done at call rest
 where_done-append None call rest = refl

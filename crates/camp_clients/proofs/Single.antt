@@ -1,6 +1,6 @@
 -- Lemmas on runs of a single section, and on the calls that are done in runs one after the other.
-use Rattle.camp_clients.proofs.Words.{◌≡◌, ℕ, ◌+◌, ◌<◌, List, [], ◌∷◌, ◌++◌, length, MatchOption, Result, Ok, Err, refl, subst, arith, All, IsFront, IsAnswered, IsLegal, Sequential, Fault, Section, front_self, front_front, SaysAmongThreads, SaysAlone, StepsAlone, told, legal_front, All-weaker, DoneWasAccepted, LockedIsSerial, SharedIsSerial, InTurn, IsExactly, OneByOne}
-use Rattle.camp_clients.proofs.Fronts.{alone_grows, section_front, section_within}
+use Rattle.camp_clients.proofs.Words.{◌≡◌, ℕ, ◌+◌, ◌<◌, List, [], ◌∷◌, ◌++◌, length, MatchOption, Result, Ok, Err, refl, subst, arith, All, IsBeginning, IsAnswered, IsLegal, Sequential, Fault, Section, begins_self, begins_through, SaysAmongThreads, SaysAlone, StepsAlone, told, legal_front, All-weaker, DoneWasAccepted, LockedIsSerial, SharedIsSerial, InTurn, IsExactly, OneByOne}
+use Rattle.camp_clients.proofs.SectionSteps.{alone_grows, section_front, section_within}
 use Rattle.camp_clients.proofs.Histories.{last_accepted}
 use Rattle.camp_clients.proofs.OneSection.{alone_begins, leaves_none, section_is_alone}
 
@@ -18,7 +18,7 @@ module _ {State Call Reply : Type 0} (object : Sequential State Call Reply) wher
         (leaves_none object 0 history mine last (alone_begins object 0 history calls answers last s (exactly.own_done 0 (omega arith)))) s
 
     -- and so has one that was asked over a head
-    pub shared_is_whole : (tries : ℕ) → 0 < tries → (last : List (ℕ × Call)) → IsFront last history
+    pub shared_is_whole : (tries : ℕ) → 0 < tries → (last : List (ℕ × Call)) → IsBeginning last history
         → Section (SaysAmongThreads object 0 tries) [] calls answers last → Section (SaysAlone object 0) [] calls answers history
     shared_is_whole tries some last within s =
         alone_is_whole last (section_is_alone object 0 history mine tries some [] calls answers last within
@@ -27,7 +27,7 @@ module _ {State Call Reply : Type 0} (object : Sequential State Call Reply) wher
   pub shared_is_serial : SharedIsSerial object
   shared_is_serial tries calls [] history some run = absurd (let many = run.as_many in cc)
   shared_is_serial tries calls (answers ∷ []) history some run =
-      (history, shared_is_whole calls answers [] history run.exactly tries some run.opening.last run.opening.within run.opening.fronts, refl)
+      (history, shared_is_whole calls answers [] history run.exactly tries some run.opening.last run.opening.within run.opening.beginnings, refl)
   shared_is_serial tries calls (answers ∷ other ∷ others) history some run = absurd (let many = run.as_many in omega arith)
 
   pub locked_is_serial : LockedIsSerial object
@@ -38,36 +38,36 @@ module _ {State Call Reply : Type 0} (object : Sequential State Call Reply) wher
 
   -- the history only grows in a run one after the other
   in_turn_grows : (seat : ℕ) (first : List (ℕ × Call)) (sections : List (List Call)) (answers : List (List (Result Reply Fault))) (last : List (ℕ × Call))
-      → OneByOne object seat first sections answers last → IsFront first last
-  in_turn_grows seat first [] [] last o = subst (IsFront first) o (front_self first)
+      → OneByOne object seat first sections answers last → IsBeginning first last
+  in_turn_grows seat first [] [] last o = subst (IsBeginning first) o (begins_self first)
   in_turn_grows seat first [] (a ∷ answers) last o = absurd o
   in_turn_grows seat first (c ∷ sections) [] last o = absurd o
   in_turn_grows seat first (c ∷ sections) (a ∷ answers) last o =
-      front_front (section_front (SaysAlone object seat) (alone_grows object seat) first c a o.0 o.1)
+      begins_through (section_front (SaysAlone object seat) (alone_grows object seat) first c a o.0 o.1)
       (in_turn_grows (seat + 1) o.0 sections answers last o.2)
 
   module _ (history : List (ℕ × Call)) (legal : IsLegal object history) where
-    steps_alone : (seat : ℕ) (before : List (ℕ × Call)) (call : Call) (answer : Result Reply Fault) (front : List (ℕ × Call))
-        → IsFront front history → SaysAlone object seat before call answer front → StepsAlone object seat before call answer front
-    steps_alone seat before call (Ok reply) front within says = record {
+    steps_alone : (seat : ℕ) (before : List (ℕ × Call)) (call : Call) (answer : Result Reply Fault) (beginning : List (ℕ × Call))
+        → IsBeginning beginning history → SaysAlone object seat before call answer beginning → StepsAlone object seat before call answer beginning
+    steps_alone seat before call (Ok reply) beginning within says = record {
       says = says;
       accepted = λ at is.
-          let done = subst (λ told. MatchOption told ((front ≡ before) × IsAnswered object before call reply) (λ at. (front ≡ before ++ (seat, call) ∷ []) × (at ≡ length front))) is says in
+          let done = subst (λ told. MatchOption told ((beginning ≡ before) × IsAnswered object before call reply) (λ at. (beginning ≡ before ++ (seat, call) ∷ []) × (at ≡ length beginning))) is says in
           last_accepted object before (seat, call) (subst (IsLegal object) done.0 (legal_front object within legal));
     }
-    steps_alone seat before call (Err fault) front within says = absurd says
+    steps_alone seat before call (Err fault) beginning within says = absurd says
 
     steps_in_turn : (seat : ℕ) (first : List (ℕ × Call)) (sections : List (List Call)) (answers : List (List (Result Reply Fault))) (last : List (ℕ × Call))
-        → IsFront last history → OneByOne object seat first sections answers last → InTurn (StepsAlone object) seat first sections answers last
+        → IsBeginning last history → OneByOne object seat first sections answers last → InTurn (StepsAlone object) seat first sections answers last
     steps_in_turn seat first [] [] last within o = o
     steps_in_turn seat first [] (a ∷ answers) last within o = o
     steps_in_turn seat first (c ∷ sections) [] last within o = o
     steps_in_turn seat first (c ∷ sections) (a ∷ answers) last within o =
-        let next = front_front (in_turn_grows (seat + 1) o.0 sections answers last o.2) within in (
+        let next = begins_through (in_turn_grows (seat + 1) o.0 sections answers last o.2) within in (
           o.0,
           section_within (SaysAlone object seat) (alone_grows object seat) (StepsAlone object seat) history (steps_alone seat) first c a o.0 next o.1,
           steps_in_turn (seat + 1) o.0 sections answers last within o.2,
         )
 
   pub done_was_accepted : DoneWasAccepted object
-  done_was_accepted sections answers history legal o = steps_in_turn history legal 0 [] sections answers history (front_self history) o
+  done_was_accepted sections answers history legal o = steps_in_turn history legal 0 [] sections answers history (begins_self history) o

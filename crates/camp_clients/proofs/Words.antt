@@ -15,13 +15,13 @@ pub use Rattle.camp_clients.specs.Comparing.{Differs, IsFound, Matches, left_fro
 pub use Rattle.camp_clients.specs.Gathering.{Gathers}
 pub use Rattle.camp_clients.specs.Meeting.{AreNew, HasMet, IsMet, IsSeen, Ran, Sight, caller_of}
 pub use Rattle.camp_clients.specs.Positions.{done_at, own_at, where_done}
-pub use Rattle.camp_clients.specs.Runs.{HasFronts, HasOpening, InTurn, IsExactly, IsShared, OneByOne, OwnDone, SaysSomewhere, lists_of, section_of}
+pub use Rattle.camp_clients.specs.Runs.{HasBeginnings, HasOpening, InTurn, IsExactly, IsShared, OneByOne, OwnDone, SaysSomewhere, lists_of, section_of}
 pub use Rattle.camp_clients.specs.Sections.{Section}
 pub use Rattle.camp_history.specs.Seats.{HeadId, IsSeatOf, Seated, history_of}
-pub use Rattle.camp_object.proofs.Fronts.{front_front, front_longer, front_self, front_whole, length-front}
+pub use Rattle.camp_object.proofs.Beginnings.{begins_through, begins_longer, begins_self, begins_whole, length-beginning}
 pub use Rattle.camp_object.proofs.Replays.{legal_front, length-own-all, length-own-within, own-append, own_mine, run-append}
 pub use Rattle.camp_object.specs.Asking.{Accepts, AddsNothing, Ask, Caller, IsBusy, Loses, alone_at}
-pub use Rattle.camp_object.specs.Histories.{IsAccepted, IsAnswered, IsFront, IsLegal, own, replay}
+pub use Rattle.camp_object.specs.Histories.{IsAccepted, IsAnswered, IsBeginning, IsLegal, own, replay}
 pub use Rattle.camp_object.specs.Objects.{IsLawfulObject, Sequential}
 pub use Rattle.camp_object.specs.declared.faults.Fault.{Fault}
 pub use Rattle.camp_object.specs.declared.faults.Fault.TheVariants.{Busy, Full, Memory}

@@ -1,7 +1,7 @@
--- What an answer says of the history, between the front before it and the front at which it was given.
+-- What an answer says of the history, between the beginning before it and the beginning at which it was given.
 use Rattle.std.specs.Prelude.{◌≡◌, ℕ, ◌≤◌, List, [], ◌∷◌, ◌++◌, length, Option, None, Some, Result, Ok, Err, MatchOption}
 use Rattle.camp_object.specs.Asking.{Ask, Caller}
-use Rattle.camp_object.specs.Histories.{IsAccepted, IsAnswered, IsFront, own}
+use Rattle.camp_object.specs.Histories.{IsAccepted, IsAnswered, IsBeginning, own}
 use Rattle.camp_object.specs.Objects.{Sequential}
 use Rattle.camp_object.specs.declared.faults.Fault.{Fault}
 use Rattle.camp_object.specs.declared.faults.Fault.TheVariants.{Memory, Busy, Full}
@@ -31,44 +31,45 @@ pub record Asks {State Call Reply : Type 0} (object : Sequential State Call Repl
   pub asks : Ask object caller seen call answer now
   pub goes_on : GoesOn answer
 
--- done: the front ends with the call, which was accepted after all that stood before it; the answer tells its length
+-- done: the beginning ends with the call, which was accepted after all that stood before it; the answer tells its
+-- length
 pub record IsDone {Call : Type 0} (seat : ℕ) (before : List (ℕ × Call)) (call : Call) (at : ℕ)
-    (front : List (ℕ × Call)) : Type 0 where
+    (beginning : List (ℕ × Call)) : Type 0 where
   pub stood : List (ℕ × Call)
-  pub since : IsFront before stood
-  pub ends : stood ++ (seat, call) ∷ [] ≡ front
-  pub position : at ≡ length front
+  pub since : IsBeginning before stood
+  pub ends : stood ++ (seat, call) ∷ [] ≡ beginning
+  pub position : at ≡ length beginning
 
--- busy: since the front before, at least as many calls as the seat tries went ahead, and all were others' calls
+-- busy: since the beginning before, at least as many calls as the seat tries went ahead, and all were others' calls
 pub record IsOvertaken {Call : Type 0} (seat tries : ℕ) (before : List (ℕ × Call)) (lost : ℕ)
-    (front : List (ℕ × Call)) : Type 0 where
+    (beginning : List (ℕ × Call)) : Type 0 where
   pub others : List (ℕ × Call)
-  pub makes : before ++ others ≡ front
+  pub makes : before ++ others ≡ beginning
   pub none_own : own seat others ≡ []
   pub enough : tries ≤ length others
   pub all_lost : lost ≡ tries
 
--- what an answer says among threads; any reply but done is the object's at the front
+-- what an answer says among threads; any reply but done is the object's at that beginning
 abbrev pub SaysAmongThreads : {State Call Reply : Type 0} → Sequential State Call Reply → (seat tries : ℕ)
     → List (ℕ × Call) → Call → Result Reply Fault → List (ℕ × Call) → Type 0
-SaysAmongThreads object seat tries before call (Ok reply) front =
-    MatchOption (object.done_at reply) (IsFront before front × IsAnswered object front call reply)
-    (λ at. IsDone seat before call at front)
-SaysAmongThreads object seat tries before call (Err Memory) front = ⊥
-SaysAmongThreads object seat tries before call (Err (Busy lost)) front = IsOvertaken seat tries before lost front
-SaysAmongThreads object seat tries before call (Err Full) front = ⊥
+SaysAmongThreads object seat tries before call (Ok reply) beginning =
+    MatchOption (object.done_at reply) (IsBeginning before beginning × IsAnswered object beginning call reply)
+    (λ at. IsDone seat before call at beginning)
+SaysAmongThreads object seat tries before call (Err Memory) beginning = ⊥
+SaysAmongThreads object seat tries before call (Err (Busy lost)) beginning = IsOvertaken seat tries before lost beginning
+SaysAmongThreads object seat tries before call (Err Full) beginning = ⊥
 
 -- what an answer says where nobody else asks: it is the object's at the history as it stood, and only a call that is
 -- done lengthens the history, by itself
 abbrev pub SaysAlone : {State Call Reply : Type 0} → Sequential State Call Reply → (seat : ℕ)
     → List (ℕ × Call) → Call → Result Reply Fault → List (ℕ × Call) → Type 0
-SaysAlone object seat before call (Ok reply) front =
-    MatchOption (object.done_at reply) ((front ≡ before) × IsAnswered object before call reply)
-    (λ at. (front ≡ before ++ (seat, call) ∷ []) × (at ≡ length front))
-SaysAlone object seat before call (Err fault) front = ⊥
+SaysAlone object seat before call (Ok reply) beginning =
+    MatchOption (object.done_at reply) ((beginning ≡ before) × IsAnswered object before call reply)
+    (λ at. (beginning ≡ before ++ (seat, call) ∷ []) × (at ≡ length beginning))
+SaysAlone object seat before call (Err fault) beginning = ⊥
 
 -- and where the call is done, it was accepted at the replay of the history as it stood
 pub record StepsAlone {State Call Reply : Type 0} (object : Sequential State Call Reply) (seat : ℕ)
-    (before : List (ℕ × Call)) (call : Call) (answer : Result Reply Fault) (front : List (ℕ × Call)) : Type 0 where
-  pub says : SaysAlone object seat before call answer front
+    (before : List (ℕ × Call)) (call : Call) (answer : Result Reply Fault) (beginning : List (ℕ × Call)) : Type 0 where
+  pub says : SaysAlone object seat before call answer beginning
   pub accepted : (at : ℕ) → told object answer ≡ Some at → IsAccepted object before call

@@ -10,12 +10,12 @@ abbrev pub left_from : {Call Answer : Type 0} → (Answer → Option ℕ) → Li
 left_from told sections answers seat from =
     done_at told (drop from (section_of sections seat)) (drop from (section_of answers seat))
 
--- what is done of each section is what a front of the history has of it, and then what is left
+-- what is done of each section is what a beginning of the history has of it, and then what is left
 abbrev pub IsFound : {Call Answer : Type 0} → (Answer → Option ℕ) → List (List Call) → List (List Answer)
     → List (ℕ × Call) → List ℕ → Type 0
-IsFound told sections answers front places = (seat : ℕ) → seat < length sections →
+IsFound told sections answers beginning places = (seat : ℕ) → seat < length sections →
     done_at told (section_of sections seat) (section_of answers seat)
-    ≡ own_at seat 0 front ++ left_from told sections answers seat (slice_index_or places seat 0)
+    ≡ own_at seat 0 beginning ++ left_from told sections answers seat (slice_index_or places seat 0)
 
 -- the entry at a position is the next that its section has left; the section goes on behind it
 pub record Matches {Call Answer : Type 0} (told : Answer → Option ℕ) (sections : List (List Call))

@@ -1,7 +1,7 @@
 -- Words for clients that meet the opening's seat, before and after their threads.
 use Rattle.std.specs.Prelude.{◌≡◌, ℕ, ◌+◌, ◌<◌, false, List, [], length, slice_index_or, Result}
 use Rattle.camp_object.specs.Asking.{Caller}
-use Rattle.camp_object.specs.Histories.{IsFront, own}
+use Rattle.camp_object.specs.Histories.{IsBeginning, own}
 use Rattle.camp_object.specs.Objects.{Sequential}
 use Rattle.camp_object.specs.declared.faults.Fault.{Fault}
 use Rattle.camp_clients.specs.Answers.{Asks}
@@ -29,7 +29,7 @@ module _ {Client Call Answer : Type 0} (sight : Sight Client Call Answer) where
     pub number : sight.number after ≡ sight.number before
     pub answers : sight.answers after ≡ sight.answers before
     pub own_stays : own (sight.number before) (sight.seen after) ≡ own (sight.number before) (sight.seen before)
-    pub knows : IsFront known (sight.seen after)
+    pub knows : IsBeginning known (sight.seen after)
 
   -- a client was met, and stays as it was: the history begins with what it has seen
   pub record IsSeen (history : List (ℕ × Call)) (before after : Client) : Type 0 where
@@ -37,14 +37,14 @@ module _ {Client Call Answer : Type 0} (sight : Sight Client Call Answer) where
     pub number : sight.number after ≡ sight.number before
     pub answers : sight.answers after ≡ sight.answers before
     pub seen : sight.seen after ≡ sight.seen before
-    pub known : IsFront (sight.seen before) history
+    pub known : IsBeginning (sight.seen before) history
 
   -- all of a client is known: the history begins with what it had seen, and has no further call of it
   pub record IsMet (history : List (ℕ × Call)) (before after : Client) : Type 0 where
     pub is_seat : sight.is_seat after
     pub number : sight.number after ≡ sight.number before
     pub answers : sight.answers after ≡ sight.answers before
-    pub known : IsFront (sight.seen before) history
+    pub known : IsBeginning (sight.seen before) history
     pub own_known : own (sight.number before) history ≡ own (sight.number before) (sight.seen before)
 
 -- who asks at a seat among threads

@@ -2,7 +2,7 @@
 use Rattle.std.specs.Prelude.{◌≡◌, ℕ, ◌+◌, ◌<◌, List, [], ◌∷◌, length, map, slice_index_or, Option}
 use Rattle.std.specs.Prelude.{Result, Ok, Err, MatchOption, Vec, vec_items}
 use Rattle.std.specs.List.{All, AllZip}
-use Rattle.camp_object.specs.Histories.{IsFront, IsAnswered, IsLegal}
+use Rattle.camp_object.specs.Histories.{IsBeginning, IsAnswered, IsLegal}
 use Rattle.camp_object.specs.Objects.{Sequential}
 use Rattle.camp_object.specs.declared.faults.Fault.{Fault}
 use Rattle.camp_clients.specs.Answers.{SaysAmongThreads, SaysAlone, told}
@@ -30,13 +30,13 @@ pub record IsExactly {Call Answer : Type 0} (told : Answer → Option ℕ) (sect
   pub no_other : All (λ entry. entry.0 < length sections) history
 
 -- sections one after the other, from the section of a seat on: what each answer says, by its seat
-abbrev pub InTurn : {Front Call Answer : Type 0} → (ℕ → Front → Call → Answer → Front → Type 0) → (seat : ℕ) → Front
-    → List (List Call) → List (List Answer) → Front → Type 0
+abbrev pub InTurn : {Beginning Call Answer : Type 0} → (ℕ → Beginning → Call → Answer → Beginning → Type 0) → (seat : ℕ) → Beginning
+    → List (List Call) → List (List Answer) → Beginning → Type 0
 InTurn SaysAmongThreads seat first [] [] last = first ≡ last
 InTurn SaysAmongThreads seat first [] (answers ∷ others) last = ⊥
 InTurn SaysAmongThreads seat first (calls ∷ sections) [] last = ⊥
-InTurn {Front} SaysAmongThreads seat first (calls ∷ sections) (answers ∷ others) last =
-    (next : Front) × Section (SaysAmongThreads seat) first calls answers next × InTurn SaysAmongThreads (seat + 1) next sections others last
+InTurn {Beginning} SaysAmongThreads seat first (calls ∷ sections) (answers ∷ others) last =
+    (next : Beginning) × Section (SaysAmongThreads seat) first calls answers next × InTurn SaysAmongThreads (seat + 1) next sections others last
 
 -- sections one after the other, where nobody else asks
 abbrev pub OneByOne : {State Call Reply : Type 0} → Sequential State Call Reply → (seat : ℕ) → List (ℕ × Call)
@@ -47,7 +47,7 @@ OneByOne object = InTurn (SaysAlone object)
 abbrev pub SaysSomewhere : {State Call Reply : Type 0} → Sequential State Call Reply → Call → Result Reply Fault
     → Type 0
 SaysSomewhere {State} {Call} object call (Ok reply) =
-    MatchOption (object.done_at reply) ((front : List (ℕ × Call)) × IsAnswered object front call reply) (λ at. Unit {0})
+    MatchOption (object.done_at reply) ((beginning : List (ℕ × Call)) × IsAnswered object beginning call reply) (λ at. Unit {0})
 SaysSomewhere object call (Err fault) = ⊥
 
 -- the opening's answers, asked at seat 0 where nobody else asks; the history begins with what they leave
@@ -55,7 +55,7 @@ pub record HasOpening {State Call Reply : Type 0} (object : Sequential State Cal
     (answers : List (Result Reply Fault)) (history : List (ℕ × Call)) : Type 0 where
   pub last : List (ℕ × Call)
   pub alone : Section (SaysAlone object 0) [] calls answers last
-  pub within : IsFront last history
+  pub within : IsBeginning last history
 
 -- a run over a lock: one legal history of exactly the calls that are done, whose beginning the opening was asked alone
 pub record IsLocked {State Call Reply : Type 0} (object : Sequential State Call Reply) (sections : List (List Call))
@@ -67,25 +67,25 @@ pub record IsLocked {State Call Reply : Type 0} (object : Sequential State Call 
   pub clients : (seat : ℕ) → 0 < seat → seat < length sections →
       AllZip (SaysSomewhere object) (section_of sections seat) (section_of answers seat)
 
--- a section's answers have fronts of the history, which begin where they are to and follow one another
-pub record HasFronts {State Call Reply : Type 0} (object : Sequential State Call Reply) (seat tries : ℕ)
+-- a section's answers have beginnings of the history, which begin where they are to and follow one another
+pub record HasBeginnings {State Call Reply : Type 0} (object : Sequential State Call Reply) (seat tries : ℕ)
     (first : List (ℕ × Call)) (calls : List Call) (answers : List (Result Reply Fault)) (history : List (ℕ × Call))
     : Type 0 where
   pub last : List (ℕ × Call)
-  pub fronts : Section (SaysAmongThreads object seat tries) first calls answers last
-  pub within : IsFront last history
+  pub beginnings : Section (SaysAmongThreads object seat tries) first calls answers last
+  pub within : IsBeginning last history
 
--- a run over a head: one legal history of exactly the calls that are done, whose fronts the answers tell. The opening's
--- begin with the empty one, and each client's with the opening's last
+-- a run over a head: one legal history of exactly the calls that are done, whose beginnings the answers tell. The
+-- opening's begin with the empty one, and each client's with the opening's last
 pub record IsShared {State Call Reply : Type 0} (object : Sequential State Call Reply) (tries : ℕ)
     (sections : List (List Call)) (answers : List (List (Result Reply Fault))) (history : List (ℕ × Call))
     : Type 0 where
   pub legal : IsLegal object history
   pub as_many : length answers ≡ length sections
   pub exactly : IsExactly (told object) sections answers history
-  pub opening : HasFronts object 0 tries [] (section_of sections 0) (section_of answers 0) history
+  pub opening : HasBeginnings object 0 tries [] (section_of sections 0) (section_of answers 0) history
   pub clients : (seat : ℕ) → 0 < seat → seat < length sections →
-      HasFronts object seat tries opening.last (section_of sections seat) (section_of answers seat) history
+      HasBeginnings object seat tries opening.last (section_of sections seat) (section_of answers seat) history
 
 -- the answers of a run over a head, whose history is not told
 pub record HasShared {State Call Reply : Type 0} (object : Sequential State Call Reply) (tries : ℕ)

@@ -1,4 +1,4 @@
--- Sections of calls: how the fronts of their answers follow one another.
+-- Sections of calls: how the beginnings of their answers follow one another.
 use Rattle.std.specs.Prelude.{◌≡◌, ℕ, List, [], ◌∷◌}
 use Rattle.camp_history.specs.Opening as opening
 
@@ -10,11 +10,12 @@ most_sections = 64
 abbrev pub most_tries : ℕ
 most_tries = opening.most_tries
 
--- from front to front: each answer has a front of the history, which is what it says after the front before it
-abbrev pub Section : {Front Call Answer : Type 0} → (Front → Call → Answer → Front → Type 0)
-    → Front → List Call → List Answer → Front → Type 0
+-- from beginning to beginning: each answer has a beginning of the history, which is what it says after the beginning
+-- before it
+abbrev pub Section : {Beginning Call Answer : Type 0} → (Beginning → Call → Answer → Beginning → Type 0)
+    → Beginning → List Call → List Answer → Beginning → Type 0
 Section Says first [] [] last = first ≡ last
 Section Says first [] (answer ∷ answers) last = ⊥
 Section Says first (call ∷ calls) [] last = ⊥
-Section {Front} Says first (call ∷ calls) (answer ∷ answers) last =
-    (next : Front) × Says first call answer next × Section Says next calls answers last
+Section {Beginning} Says first (call ∷ calls) (answer ∷ answers) last =
+    (next : Beginning) × Says first call answer next × Section Says next calls answers last

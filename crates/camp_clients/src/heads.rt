@@ -1,7 +1,7 @@
 ghost use Rattle.std.specs.Prelude.{◌≡◌, ◌⊎◌, ℕ, true, [], ◌∷◌, ◌+◌, ◌<◌, ◌≤◌, Ok, length, count_by, map, vec_items, IfOk, IsTrue, slice_index_or};
 ghost use Rattle.std.specs.List.{All, AllZip};
 ghost use Rattle.std.specs.Thread.{IsSync};
-ghost use Rattle.camp_object.specs.Histories.{IsFront, IsLegal, own};
+ghost use Rattle.camp_object.specs.Histories.{IsBeginning, IsLegal, own};
 ghost use Rattle.camp_history.specs.Opening.{farthest_version, most_calls, IsInRange, IsOpened};
 ghost use Rattle.camp_history.specs.Seats.{IsSeatOf, calls_per_seat, history_of, caller_at, number_of, seats_of};
 ghost use Rattle.camp_clients.specs.Answers.{Asks};
@@ -89,7 +89,7 @@ fn meets_client<State: Object>(
     requires { IsSeatOf head.now known × IsSeatOf head.now client.seat }
     ensures seat { IfOk result (λ made. IsSeatOf head.now made.0) }
     ensures number { IfOk result (λ made. number_of made.0 ≡ number_of known) }
-    ensures grows { IfOk result (λ made. IsFront (history_of known) (history_of made.0)) }
+    ensures grows { IfOk result (λ made. IsBeginning (history_of known) (history_of made.0)) }
     ensures own { IfOk result (λ made. own (number_of known) (history_of made.0) ≡ own (number_of known) (history_of known)) }
     ensures stays { IfOk result (λ made. IsTrue made.2 → (met ≡ 0) ⊎ (length (history_of known) ≡ length (history_of made.0))) }
     ensures client { IfOk result (λ made. IsSeen (sight_of head.now) (history_of made.0) client made.1) }
@@ -117,7 +117,7 @@ fn meets_each<State: Object>(
     requires clients { All (λ client. IsSeatOf head.now client.seat) clients.items }
     ensures seat { IfOk result (λ met. IsSeatOf head.now met.0) }
     ensures number { IfOk result (λ met. number_of met.0 ≡ number_of opener) }
-    ensures grows { IfOk result (λ met. IsFront (history_of opener) (history_of met.0)) }
+    ensures grows { IfOk result (λ met. IsBeginning (history_of opener) (history_of met.0)) }
     ensures own { IfOk result (λ met. own (number_of opener) (history_of met.0) ≡ own (number_of opener) (history_of opener)) }
     ensures clients { IfOk result (λ met. AllZip
         (IsSeen (sight_of head.now) (history_of met.0)) clients.items met.1.items) }
@@ -148,7 +148,7 @@ fn meet_all<State: Object>(
     requires clients { All (λ client. IsSeatOf head.now client.seat) clients.items }
     ensures seat { IfOk result (λ met. IsSeatOf head.now met.0) }
     ensures number { IfOk result (λ met. number_of met.0 ≡ number_of opener) }
-    ensures grows { IfOk result (λ met. IsFront (history_of opener) (history_of met.0)) }
+    ensures grows { IfOk result (λ met. IsBeginning (history_of opener) (history_of met.0)) }
     ensures own { IfOk result (λ met. own (number_of opener) (history_of met.0) ≡ own (number_of opener) (history_of opener)) }
     ensures clients { IfOk result (λ met. AllZip
         (IsMet (sight_of head.now) (history_of met.0)) clients.items met.1.items) }

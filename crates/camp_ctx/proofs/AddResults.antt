@@ -1,5 +1,5 @@
 -- Adding and passing by have at most one result, and adding always has one.
-use Rattle.camp_ctx.proofs.Words.{◌≡◌, List, [], ◌∷◌, refl, sym, ap, ◌∙◌, subst, inl, inr, inverse_of, label_of, key_of, Swap, Named, swap_unique, Norm, Passes, Fronts, one_pass, one_front, one_order, passes_or_not, Decided, decided_by, swap_or_not, Cancels, PassesBy, Keeps, Adds, cancel, commute, keep, FromLast, AddsAll, PassesByAll, ContextedPatch, patch_key, context_key, GivesOne, AlwaysGives}
+use Rattle.camp_ctx.proofs.Words.{◌≡◌, List, [], ◌∷◌, refl, sym, ap, ◌∙◌, subst, inl, inr, inverse_of, label_of, key_of, Commute, Named, swap_unique, Norm, Passes, Fronts, one_pass, one_front, one_order, passes_or_not, Decided, decided_by, swap_or_not, Cancels, PassesBy, Keeps, Adds, cancel, commute, keep, FromLast, AddsAll, PassesByAll, ContextedPatch, patch_key, context_key, GivesOne, AlwaysGives}
 use Rattle.camp_seq.proofs.NormalOrders.{front_or_not, has_normal_order}
 use Rattle.camp_ctx.proofs.NamedDecided.{named_or_not}
 
@@ -16,7 +16,7 @@ one_cancel a x y z v w = same_in_context y z (same_order _ _ _ _ (one_front _ x.
 pub one_passing_by : (a : Named) → GivesOne (PassesBy a)
 one_passing_by a x y z v w =
     let pass = one_pass a x.context v.passed w.passed v.a' w.a' v.past_context w.past_context in
-    let pair = swap_unique w.a' x.patch y.patch v.a'' z.patch w.a'' (subst (λ b. Swap b x.patch y.patch v.a'') pass.1 v.past_patch) w.past_patch in
+    let pair = swap_unique w.a' x.patch y.patch v.a'' z.patch w.a'' (subst (λ b. Commute b x.patch y.patch v.a'') pass.1 v.past_patch) w.past_patch in
     same_in_context y z (same_order _ _ _ _ pass.0 v.context w.context) pair.0
 
 one_keep : (a : Named) → GivesOne (Keeps a)
@@ -65,7 +65,7 @@ pass_patch_or_not a x w =
     let order = has_normal_order w.0 in
     (record { context = order.0; patch = v.0 }, record { a' = w.1; a'' = v.1; passed = w.0; past_context = w.2; past_patch = v.2; context = order.1 })) (λ c.
     let pass = one_pass a x.context c.1.passed w.0 c.1.a' w.1 c.1.past_context w.2 in
-    (c.0.patch, c.1.a'', subst (λ b. Swap b x.patch c.0.patch c.1.a'') pass.1 c.1.past_patch)) (swap_or_not w.1 x.patch)
+    (c.0.patch, c.1.a'', subst (λ b. Commute b x.patch c.0.patch c.1.a'') pass.1 c.1.past_patch)) (swap_or_not w.1 x.patch)
 
 pub passing_by_or_not : (a : Named) (x : ContextedPatch) → Decided ((y : ContextedPatch) × PassesBy a x y)
 passing_by_or_not a x = elim (passes_or_not a x.context) [

@@ -1,5 +1,5 @@
 -- What a body of adding and passing by knows at its answers.
-use Rattle.camp_ctx.proofs.Words.{◌≡◌, ℕ, ◌+◌, ◌<◌, List, [], ◌∷◌, ◌++◌, length, take, drop, get_or, sym, ap, ◌∙◌, subst, drop_more, inverse_of, label_of, Swap, Label, Named, Norm, Passes, Fronts, one_front, one_pass, inverse_of-inverse_of, Cancels, PassesBy, GivesNone, FromLast, ContextedPatch, GivesOne}
+use Rattle.camp_ctx.proofs.Words.{◌≡◌, ℕ, ◌+◌, ◌<◌, List, [], ◌∷◌, ◌++◌, length, take, drop, get_or, sym, ap, ◌∙◌, subst, drop_more, inverse_of, label_of, Commute, Label, Named, Norm, Passes, Fronts, one_front, one_pass, inverse_of-inverse_of, Cancels, PassesBy, GivesNone, FromLast, ContextedPatch, GivesOne}
 use Rattle.camp_seq.proofs.ListSteps.{whole}
 use Rattle.camp_ctx.proofs.AddResults.{one_from_last}
 
@@ -32,18 +32,18 @@ not_past_context a x s is never y w = never (w.passed, w.a') (subst (λ t. Passe
 
 -- what passed a context
 module _ (a : Named) (x : ContextedPatch) (s passed : List Named) (a' : Named) (is : s ≡ x.context) (past : Passes a s passed a') where
-  pub not_past_patch : (p : Named) → p ≡ x.patch → ((before : Named) → ¬ ((a'' : Named) × Swap a' p before a'')) → GivesNone (PassesBy a) x
+  pub not_past_patch : (p : Named) → p ≡ x.patch → ((before : Named) → ¬ ((a'' : Named) × Commute a' p before a'')) → GivesNone (PassesBy a) x
   not_past_patch p patch never y w =
       let pass = one_pass a s passed w.passed a' w.a' past (subst (λ t. Passes a t w.passed w.a') (sym is) w.past_context) in
-      never y.patch (w.a'', subst (λ q. Swap a' q y.patch w.a'') (sym patch) (subst (λ b. Swap b x.patch y.patch w.a'') (sym pass.1) w.past_patch))
+      never y.patch (w.a'', subst (λ q. Commute a' q y.patch w.a'') (sym patch) (subst (λ b. Commute b x.patch y.patch w.a'') (sym pass.1) w.past_patch))
 
-  pub passes_by_from : (y : ContextedPatch) (p patch a'' : Named) → p ≡ x.patch → Swap a' p patch a'' → Norm passed y.context → y.patch ≡ patch → PassesBy a x y
+  pub passes_by_from : (y : ContextedPatch) (p patch a'' : Named) → p ≡ x.patch → Commute a' p patch a'' → Norm passed y.context → y.patch ≡ patch → PassesBy a x y
   passes_by_from y p patch a'' here swap order same = record {
     a' = a';
     a'' = a'';
     passed = passed;
     past_context = subst (λ t. Passes a t passed a') is past;
-    past_patch = subst (λ q. Swap a' x.patch q a'') (sym same) (subst (λ q. Swap a' q patch a'') here swap);
+    past_patch = subst (λ q. Commute a' x.patch q a'') (sym same) (subst (λ q. Commute a' q patch a'') here swap);
     context = order;
   }
 

@@ -1,4 +1,4 @@
--- What the body of a merge behind a common front knows at its answers.
+-- What the body of a merge behind a common part knows at its answers.
 use Rattle.camp_ctx.proofs.Words.{◌≡◌, List, Option, None, Some, sym, ◌∙◌, subst, Label, Named, CleanMerge, Splits, one_split, common_labels, MergesBehindCommon, Conflict, ContextedPatch, whole}
 use Rattle.camp_base.specs.Answers.{FindsPair}
 

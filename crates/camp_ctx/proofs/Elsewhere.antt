@@ -1,17 +1,17 @@
 -- Contexted patches that change other files do not conflict.
-use Rattle.camp_ctx.proofs.Words.{◌≡◌, ◌∙◌, Bool, true, false, cond, List, [], ◌∷◌, map, refl, sym, ap, subst, inl, inr, label_of, key_of, Label, Named, inverse_of, Swap, Norm, Fronts, Splits, CleanMerge, common_labels, has_label, Conflict, ContextedPatch, whole}
+use Rattle.camp_ctx.proofs.Words.{◌≡◌, ◌∙◌, Bool, true, false, cond, List, [], ◌∷◌, map, refl, sym, ap, subst, inl, inr, label_of, key_of, Label, Named, inverse_of, Commute, Norm, Fronts, Splits, CleanMerge, common_labels, has_label, Conflict, ContextedPatch, whole}
 use Rattle.camp_prim.specs.Effect.{InRange}
-use Rattle.camp_prim.specs.Swaps.{ChangePlaces, path_of}
+use Rattle.camp_prim.specs.Commuting.{PrimitivesCommute, path_of}
 use Rattle.camp_prim.specs.declared.primitives.Primitive.{Primitive}
-use Rattle.camp_prim.proofs.SwapLaws.{square}
+use Rattle.camp_prim.proofs.CommuteLaws.{square}
 use Rattle.camp_seq.specs.Merging.{MergesOne}
 use Rattle.camp_seq.proofs.NormalOrders.{has_normal_order}
 use Rattle.camp_ctx.specs.Inside.Apart.{Elsewhere, IsElsewhere, AreElsewhere}
 use Rattle.camp_ctx.proofs.CommonLabels.{IsIn, in_from_has}
 use Rattle.camp_ctx.proofs.Standing.{no_parts}
 
--- the paths stay where two primitives change places
-paths_stay : (p q q' p' : Primitive) → ChangePlaces p q q' p' → (path_of q' ≡ path_of q) × (path_of p' ≡ path_of p)
+-- the paths stay where two primitives commute
+paths_stay : (p q q' p' : Primitive) → PrimitivesCommute p q q' p' → (path_of q' ≡ path_of q) × (path_of p' ≡ path_of p)
 paths_stay p q q' p' (inl s) = (ap path_of s.second, ap path_of s.first)
 paths_stay p q q' p' (inr (inl s)) = (ap path_of s.second ∙ ap path_of (sym s.is_q), ap path_of s.first)
 paths_stay p q q' p' (inr (inr s)) = (ap path_of s.second, ap path_of s.first ∙ ap path_of (sym s.is_p))
@@ -66,7 +66,7 @@ module _ (t : List Named) where
       (front.0, norm_elsewhere n.0 u n.3 front.1)
 
 -- they merge as they are
-merges_elsewhere : (p q : Named) → Elsewhere p q → Swap (inverse_of p) q q (inverse_of p)
+merges_elsewhere : (p q : Named) → Elsewhere p q → Commute (inverse_of p) q q (inverse_of p)
 merges_elsewhere p q w =
     square p q q p (record {
       anywhere = record { apart = w.keys; change = inl (record { paths = w.paths; second = refl; first = refl }); second = refl; first = refl };

@@ -1,5 +1,5 @@
--- What neither swaps nor cancels with its neighbour is kept before the context.
-use Rattle.camp_ctx.proofs.Words.{◌≡◌, ◌<◌, ◌∙◌, ap, ℕ, length, List, [], ◌∷◌, ◌++◌, refl, subst, inverse_of, label_of, Swap, Named, chain_is_ordered, front_of_chain, Adds, AddsAll, Cancels, GivesNone, PassesBy, keep, ContextedPatch, Links}
+-- What neither commutes nor cancels with its neighbour is kept before the context.
+use Rattle.camp_ctx.proofs.Words.{◌≡◌, ◌<◌, ◌∙◌, ap, ℕ, length, List, [], ◌∷◌, ◌++◌, refl, subst, inverse_of, label_of, Commute, Named, chain_is_ordered, front_of_chain, Adds, AddsAll, Cancels, GivesNone, PassesBy, keep, ContextedPatch, Links}
 use Rattle.std.proofs.Common.{append-nil}
 use Rattle.camp_ctx.specs.Inside.Links.{LinksFrom}
 use Rattle.camp_seq.specs.Chains.{Chain}
@@ -13,7 +13,7 @@ no_cancel a (q ∷ s) patch c l y w = l.1 (front_of_chain (label_of (inverse_of 
 
 no_passing : (a : Named) (s : List Named) (patch : Named) → Links a s patch → GivesNone (PassesBy a) (at s patch)
 no_passing a [] patch l y w =
-    l (y.patch, (w.a'', subst (λ b. Swap b patch y.patch w.a'') w.past_context.1 w.past_patch))
+    l (y.patch, (w.a'', subst (λ b. Commute b patch y.patch w.a'') w.past_context.1 w.past_patch))
 no_passing a (q ∷ s) patch l y w = l.0 (w.past_context.0, (w.past_context.1, w.past_context.3))
 
 chain_more : (a : Named) (s : List Named) (patch : Named) → Chain s → Links a s patch → Chain (a ∷ s)

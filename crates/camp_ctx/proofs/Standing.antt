@@ -1,5 +1,5 @@
 -- What stays as it is where a primitive passes it as it is.
-use Rattle.camp_ctx.proofs.Words.{◌≡◌, ◌∙◌, ℕ, suc, get_or, ◌<◌, ◌≤◌, length, Some, None, Bool, true, false, cond, List, [], ◌∷◌, ◌++◌, map, refl, sym, ap, subst, inl, inr, arith, slice_get, none-some, same_Some, entries, get-entries, len, len-entries, find, eq_by_cmp, inverse_of, label_of, key_of, key_cmp, Swap, Key, Label, Named, inverse_of-inverse_of, Norm, Splits, Parts, Passes, passes_row, chain_is_ordered, Adds, PassesBy}
+use Rattle.camp_ctx.proofs.Words.{◌≡◌, ◌∙◌, ℕ, suc, get_or, ◌<◌, ◌≤◌, length, Some, None, Bool, true, false, cond, List, [], ◌∷◌, ◌++◌, map, refl, sym, ap, subst, inl, inr, arith, slice_get, none-some, same_Some, entries, get-entries, len, len-entries, find, eq_by_cmp, inverse_of, label_of, key_of, key_cmp, Commute, Key, Label, Named, inverse_of-inverse_of, Norm, Splits, Parts, Passes, passes_row, chain_is_ordered, Adds, PassesBy}
 use Rattle.std.proofs.lemmas.List.Folds.{list_any-append}
 use Rattle.std.proofs.Common.{◌||◌}
 use Rattle.camp_prim.specs.Labels.{label_cmp}
@@ -19,7 +19,7 @@ has_other_labels a (q ∷ s) s' a' w l same (inr among) =
     has_other_labels w.1 s _ a' w.4 l (same ∙ ap key_of (sym w.3.anywhere.first)) among
 
 -- a primitive passes by a contexted patch in normal order, where all stay as they are
-pub passes_as_it_is : (a : Named) (x : ContextedPatch) → Passes a x.context x.context a → Norm x.context x.context → Swap a x.patch x.patch a → PassesBy a x x
+pub passes_as_it_is : (a : Named) (x : ContextedPatch) → Passes a x.context x.context a → Norm x.context x.context → Commute a x.patch x.patch a → PassesBy a x x
 passes_as_it_is a x passes own swap =
     record { a' = a; a'' = a; passed = x.context; past_context = passes; past_patch = swap; context = own }
 

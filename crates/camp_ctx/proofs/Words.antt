@@ -9,11 +9,11 @@ pub use Rattle.std.specs.Ordering.{eq_by_cmp}
 pub use Rattle.camp_base.specs.Trees.{Files, Lines}
 pub use Rattle.camp_prim.proofs.Inverses.{inverse_of-inverse_of, leads_back}
 pub use Rattle.camp_prim.proofs.LabelOrder.{key_ties, key_total, label_ties, label_total}
-pub use Rattle.camp_prim.proofs.SwapDecided.{Decided, decided_by, same_or_not, swap_or_not}
-pub use Rattle.camp_prim.proofs.SwapUnique.{same_hunk, same_named, swap_unique}
+pub use Rattle.camp_prim.proofs.CommuteDecided.{Decided, decided_by, same_or_not, swap_or_not}
+pub use Rattle.camp_prim.proofs.CommuteUnique.{same_hunk, same_named, swap_unique}
 pub use Rattle.camp_prim.specs.Effect.{Applies, inverse_of}
 pub use Rattle.camp_prim.specs.Labels.{key_cmp, key_of, label_cmp, label_of, opposite}
-pub use Rattle.camp_prim.specs.Swaps.{Swap}
+pub use Rattle.camp_prim.specs.Commuting.{Commute}
 pub use Rattle.camp_prim.specs.declared.labels.Key.{Key}
 pub use Rattle.camp_prim.specs.declared.labels.Label.{Label}
 pub use Rattle.camp_prim.specs.declared.named.Named.{Named}

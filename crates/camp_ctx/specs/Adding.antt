@@ -2,7 +2,7 @@
 use Rattle.std.specs.Prelude.{◌≡◌, List, [], ◌∷◌}
 use Rattle.camp_prim.specs.Effect.{inverse_of}
 use Rattle.camp_prim.specs.Labels.{label_of}
-use Rattle.camp_prim.specs.Swaps.{Swap}
+use Rattle.camp_prim.specs.Commuting.{Commute}
 use Rattle.camp_prim.specs.declared.named.Named.{Named}
 use Rattle.camp_seq.specs.NormalOrder.{Norm}
 use Rattle.camp_seq.specs.Passing.{Passes, Fronts}
@@ -21,7 +21,7 @@ pub record PassesBy (a : Named) (x y : ContextedPatch) : Type 0 where
   pub a'' : Named
   pub passed : List Named
   pub past_context : Passes a x.context passed a'
-  pub past_patch : Swap a' x.patch y.patch a''
+  pub past_patch : Commute a' x.patch y.patch a''
   pub context : Norm passed y.context
 
 -- keep: a and c:p give a c:p

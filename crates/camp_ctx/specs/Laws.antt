@@ -58,7 +58,7 @@ pub record EmptyChangesNothing : Type 0 where
   pub adds : (x y : ContextedPatch) → AddsAll [] x y → y ≡ x
   pub adds_to_members : (xs ys : ContextedPatches) → EachMember (AddsAll []) xs ys → ys ≡ xs
 
--- what merges cleanly behind a common front, and what conflicts, does so in either order
+-- what merges cleanly behind a common part, and what conflicts, does so in either order
 pub record AreSymmetric : Type 0 where
   pub merges : (s t t' s' : List Named) → MergesBehindCommon s t t' s' → MergesBehindCommon t s s' t'
   pub conflicts : (x y : ContextedPatch) → Conflict x y → Conflict y x

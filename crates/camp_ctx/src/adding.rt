@@ -1,7 +1,7 @@
 ghost use Rattle.std.specs.Prelude.{◌≡◌, ◌↔◌, IfOk, IsTrue};
 ghost use Rattle.camp_base.specs.Answers.{Finds};
 ghost use Rattle.camp_prim.specs.Effect.{inverse_of};
-ghost use Rattle.camp_prim.specs.Swaps.{Swap};
+ghost use Rattle.camp_prim.specs.Commuting.{Commute};
 ghost use Rattle.camp_prim.specs.declared.named.Named.{Named};
 ghost use Rattle.camp_seq.specs.NormalOrder.{Norm};
 ghost use Rattle.camp_ctx.specs.Adding.{Adds, AddsAll, Cancels, Keeps, PassesBy, PassesByAll};
@@ -91,9 +91,9 @@ impl Contexted {
     }
 }
 
-/// What a primitive that stands behind `a` becomes before it. None where they can't change places.
+/// What a primitive that stands behind `a` becomes before it. None where they don't commute.
 fn patch_before(a: &Named, patch: &Named) -> Result<Option<Named>, AllocError>
-    ensures { IfOk result (Finds (λ before. (a'' : Named) × Swap a.now patch.now before a'')) }
+    ensures { IfOk result (Finds (λ before. (a'' : Named) × Commute a.now patch.now before a'')) }
 {
     match commute(a, patch)? {
         Some((before, _)) => Ok(Some(before)),

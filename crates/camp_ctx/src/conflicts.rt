@@ -31,7 +31,7 @@ pub fn conflict(x: &Contexted, y: &Contexted) -> Result<bool, AllocError>
     }
 }
 
-/// `Some((t', s'))` where two lists that begin in one state have a common front, and merge cleanly
+/// `Some((t', s'))` where two lists that begin in one state have a common part, and merge cleanly
 /// behind it: `t'` stands behind `s`, and `s'` behind `t`.
 pub fn merge_behind_common(
     alloc: Global,

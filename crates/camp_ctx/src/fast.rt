@@ -1,7 +1,7 @@
 //! Faster ways to the results of the rules. Each says when it may be taken; there its result is that
 //! of the rule.
 //!
-//! - A chain is added in one pass. Where the elements of a list, from some place on, neither swap nor
+//! - A chain is added in one pass. Where the elements of a list, from some place on, neither commute nor
 //!   cancel with what stands behind them, adding them one by one puts each in front and orders nothing.
 //!   So they are joined to the context at once, and the rest is added one by one.
 //! - A chain that is given away, and is all put before an empty context, becomes the context. No element of it is
@@ -20,7 +20,7 @@
 //! - Contexted patches that change other files, under other absolute labels, do not conflict: their normal
 //!   orders change other files too, and merge as they are. No list is made of them.
 //! - Two contexted patches without a label in common, each of which is its own normal order, conflict where
-//!   the inverse of the first primitive of the one does not swap with the first of the other. No list is made
+//!   the inverse of the first primitive of the one does not commute with the first of the other. No list is made
 //!   of them.
 //! - Two lists with no label in common merge as they stand where each is its own normal order: a split
 //!   takes nothing off. Where their first primitives do not merge, the lists do not, and neither is copied.

@@ -1,6 +1,6 @@
 ghost use Rattle.camp_ctx.specs.Laws.{AddingGives, AreDetermined, AreSymmetric, EmptyChangesNothing, KeepValid};
 
-/// Adding, passing by, and merging behind a common front have at most one result.
+/// Adding, passing by, and merging behind a common part have at most one result.
 pub fn results_in_context_are_determined()
     ensures law { AreDetermined }
 {}

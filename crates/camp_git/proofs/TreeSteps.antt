@@ -3,7 +3,7 @@ use Rattle.camp_git.proofs.Words.{◌≡◌, ◌∙◌, ◌∷◌, [], ◌||◌,
 use Rattle.std.specs.FinMap.{FinMap, contains_key-keys, get-insert, get-remove, insert}
 use Rattle.std.proofs.lemmas.Map.Text.{is_eq-slice_cmp}
 use Rattle.camp_prim.specs.Effect.{Applies}
-use Rattle.camp_prim.specs.Swaps.{path_of}
+use Rattle.camp_prim.specs.Commuting.{path_of}
 use Rattle.camp_prim.specs.declared.primitives.Primitive.{Primitive}
 use Rattle.camp_prim.specs.declared.primitives.Primitive.TheVariants.{Add, Remove, Hunk}
 use Rattle.camp_branch.proofs.BranchFields.{contains_more}

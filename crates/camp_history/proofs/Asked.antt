@@ -1,5 +1,5 @@
 -- Lemmas on the answers to a call at a seat.
-use Rattle.camp_history.proofs.Words.{length-append, length-map, append-nil, append_assoc, All-same, Where, Shows, Sequential, IsLawfulObject, Next, Fault, Memory, front_self, HeadId, Seated, asked, history_of, IsSeatOf, IsBaseAt, caller_at, ◌≡◌, ℕ, suc, ◌+◌, ◌<◌, false, List, [], ◌∷◌, ◌++◌, length, map, All, Option, Some, Result, Ok, Err, IsErrAnd, refl, sym, ◌∙◌, ap, subst, arith, add-one, IsFront, replay, IsLegal, IsAccepted, own, Caller, Ask, AddsNothing, Loses, IsNotBusy, replay_accepted, accepted_at, ask_done, ask_memory, ask_since, loses_more, never_busy_among_own, entry_of, entries_of, DecidesAt, SeesMore, FindsMore, Publishes, LosesOne, Attempts}
+use Rattle.camp_history.proofs.Words.{length-append, length-map, append-nil, append_assoc, All-same, Where, Shows, Sequential, IsLawfulObject, Next, Fault, Memory, begins_self, HeadId, Seated, asked, history_of, IsSeatOf, IsBaseAt, caller_at, ◌≡◌, ℕ, suc, ◌+◌, ◌<◌, false, List, [], ◌∷◌, ◌++◌, length, map, All, Option, Some, Result, Ok, Err, IsErrAnd, refl, sym, ◌∙◌, ap, subst, arith, add-one, IsBeginning, replay, IsLegal, IsAccepted, own, Caller, Ask, AddsNothing, Loses, IsNotBusy, replay_accepted, accepted_at, ask_done, ask_memory, ask_since, loses_more, never_busy_among_own, entry_of, entries_of, DecidesAt, SeesMore, FindsMore, Publishes, LosesOne, Attempts}
 pub use Rattle.camp_history.proofs.Seeing.{all_more, history_more, sees_more_more, sees_more_self}
 
 -- a seat that sees more adds nothing of its own
@@ -24,7 +24,7 @@ module _ {State Call Reply : Type 0} (object : Sequential State Call Reply) wher
       → at ≡ length (history_of new) → reply ≡ object.done at → Ask object (caller_at head old) (history_of old) call.value (Ok reply) (history_of new)
   ask_published lawful head old new call at reply accepted room publishes position is =
       ask_done object lawful (caller_at head old) (history_of old) (history_of old) (history_of new) call.value at reply
-      (front_self (history_of old)) refl accepted (λ _. room) (λ _. refl) (history_more old.marks new.marks (record { seat = old.known.number; call = call }) publishes.marks) position is
+      (begins_self (history_of old)) refl accepted (λ _. room) (λ _. refl) (history_more old.marks new.marks (record { seat = old.known.number; call = call }) publishes.marks) position is
 
 -- an attempt that fails for want of memory
 pub attempts_nothing : {State Call Reply : Type 0} (object : Sequential State Call Reply) (head : HeadId) (old new : Seated Call) (call : Call) (answer : Result (Option Reply) Fault)
@@ -34,7 +34,7 @@ attempts_nothing {Call = Call} object head old new call (Err fault) memory legal
     let Asks : Fault → Type 0 = λ fault. Ask object (caller_at head old) (history_of old) call (Err fault) (history_of new) in
     let Stays : Seated Call → Type 0 = λ seat. Ask object (caller_at head old) (history_of old) call (Err Memory) (history_of seat) in
     subst Asks (sym memory) (
-    subst Stays (sym same) (ask_memory object (caller_at head old) (history_of old) (history_of old) call (front_self (history_of old)) (adds_nothing head (sees_more_self old)) legal)
+    subst Stays (sym same) (ask_memory object (caller_at head old) (history_of old) (history_of old) call (begins_self (history_of old)) (adds_nothing head (sees_more_self old)) legal)
     )
 
 -- a seat that published is one of its head
@@ -56,10 +56,10 @@ finds_sees {old = old} {new = new} finds = record {
 
 -- after a lost exchange the seat sees another call, which went ahead
 pub sees_ahead : {Call : Type 0} {old lost new : Seated Call} → FindsMore old lost → SeesMore lost new → entries_of new ≡ lost.known.ahead
-    → (ahead : ℕ × Call) × IsFront (history_of old ++ ahead ∷ []) (history_of new)
+    → (ahead : ℕ × Call) × IsBeginning (history_of old ++ ahead ∷ []) (history_of new)
 sees_ahead {Call = Call} {old = old} {lost = lost} {new = new} finds more whole = at more.more.rest more.more.makes
   where
-    at : (rest : List (ℕ × Call)) → history_of lost ++ rest ≡ history_of new → (ahead : ℕ × Call) × IsFront (history_of old ++ ahead ∷ []) (history_of new)
+    at : (rest : List (ℕ × Call)) → history_of lost ++ rest ≡ history_of new → (ahead : ℕ × Call) × IsBeginning (history_of old ++ ahead ∷ []) (history_of new)
     at [] makes =
         let same : length (history_of lost ++ []) ≡ length (history_of new) = ap length makes in
         let longer : length (entries_of lost ++ finds.longer.next ∷ finds.longer.rest) ≡ length (entries_of new) = ap length (finds.longer.is ∙ sym whole) in

@@ -1,5 +1,5 @@
 -- Lemmas on two seats that have seen parts of one chain.
-use Rattle.camp_history.proofs.Words.{IsFront, IsSound, Entry, Seated, asked, Mark, entry_of, entries_of, ◌≡◌, ℕ, zero, suc, ◌<◌, ◌≤◌, List, [], ◌∷◌, ◌++◌, length, map, All, Some, option_map, slice_get, refl, sym, ◌∙◌, ap, subst, arith, slice_get-map, slice_get_within, get_or_from_slice_get, same_Some}
+use Rattle.camp_history.proofs.Words.{IsBeginning, IsSound, Entry, Seated, asked, Mark, entry_of, entries_of, ◌≡◌, ℕ, zero, suc, ◌<◌, ◌≤◌, List, [], ◌∷◌, ◌++◌, length, map, All, Some, option_map, slice_get, refl, sym, ◌∙◌, ap, subst, arith, slice_get-map, slice_get_within, get_or_from_slice_get, same_Some}
 use Rattle.camp_row.specs.Chains as chain
 
 pub all_at : {X : Type 0} (P : X → Type 0) (list : List X) (i : ℕ) (x : X) → slice_get list i ≡ Some x → All P list → P x
@@ -11,7 +11,7 @@ get_append (y ∷ list) rest zero x at = at
 get_append (y ∷ list) rest (suc i) x at = get_append list rest i x at
 
 -- a list that agrees with a longer one at each of its places begins it
-pub front_by_places : {X : Type 0} (list whole : List X) → ((k : ℕ) → k < length list → slice_get list k ≡ slice_get whole k) → length list ≤ length whole → IsFront list whole
+pub front_by_places : {X : Type 0} (list whole : List X) → ((k : ℕ) → k < length list → slice_get list k ≡ slice_get whole k) → length list ≤ length whole → IsBeginning list whole
 front_by_places [] whole agrees short = record { rest = whole; makes = refl }
 front_by_places (x ∷ list) [] agrees short = absurd (omega arith)
 front_by_places (x ∷ list) (y ∷ whole) agrees short =
@@ -21,7 +21,7 @@ front_by_places (x ∷ list) (y ∷ whole) agrees short =
 
 -- the marks at one place of two parts of one chain are of one entry
 pub same_entry : {Call : Type 0} (a b : List (Mark Call)) (whole : List Entry) (i : ℕ) (m n : Mark Call)
-    → chain.IsFront (map entry_of a) whole → chain.IsFront (map entry_of b) whole → slice_get a i ≡ Some m → slice_get b i ≡ Some n → entry_of m ≡ entry_of n
+    → chain.IsBeginning (map entry_of a) whole → chain.IsBeginning (map entry_of b) whole → slice_get a i ≡ Some m → slice_get b i ≡ Some n → entry_of m ≡ entry_of n
 same_entry {Call} a b whole i m n a_begins b_begins a_at b_at =
     let a_here : slice_get (map entry_of a) i ≡ Some (entry_of m) = slice_get-map entry_of a i ∙ ap (option_map entry_of) a_at in
     let b_here : slice_get (map entry_of b) i ≡ Some (entry_of n) = slice_get-map entry_of b i ∙ ap (option_map entry_of) b_at in
@@ -41,8 +41,8 @@ same_asked a b i m n a_at b_at entry value =
 pub seen_entry : {Call : Type 0} (a b : Seated Call) (i : ℕ) (m n : Mark Call) → entries_of a ≡ a.known.seen → entries_of b ≡ b.known.seen
     → IsSound a.known → IsSound b.known → a.known.ahead ≡ b.known.ahead → slice_get a.marks i ≡ Some m → slice_get b.marks i ≡ Some n → entry_of m ≡ entry_of n
 seen_entry a b i m n a_places b_places a_sound b_sound one a_at b_at =
-    let a_begins : chain.IsFront (entries_of a) a.known.ahead = record { rest = a_sound.front.rest; is = ap (λ list. list ++ a_sound.front.rest) a_places ∙ a_sound.front.is } in
-    let b_begins : chain.IsFront (entries_of b) a.known.ahead =
+    let a_begins : chain.IsBeginning (entries_of a) a.known.ahead = record { rest = a_sound.front.rest; is = ap (λ list. list ++ a_sound.front.rest) a_places ∙ a_sound.front.is } in
+    let b_begins : chain.IsBeginning (entries_of b) a.known.ahead =
     record { rest = b_sound.front.rest; is = ap (λ list. list ++ b_sound.front.rest) b_places ∙ b_sound.front.is ∙ sym one }
     in
     same_entry a.marks b.marks a.known.ahead i m n a_begins b_begins a_at b_at

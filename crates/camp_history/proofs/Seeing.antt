@@ -1,5 +1,5 @@
 -- Lemmas on what a seat sees.
-use Rattle.camp_history.proofs.Words.{◌≡◌, ◌≢◌, ℕ, ◌<◌, ◌≤◌, List, [], ◌∷◌, ◌++◌, length, map, All, Some, refl, sym, ◌∙◌, ap, subst, arith, length-append, All-push, All-same, append_assoc, length-map, Sequential, IsLawfulObject, IsFront, replay, own, Decides, Entry, Seated, asked, told, Begins, most_listed, history_of, Mark, entry_of, DecidesAt, SeesNext, SeesMore, own_other, count-replay, front_self, front_front, Based, All-weaker, Known, Leads, ComesNext}
+use Rattle.camp_history.proofs.Words.{◌≡◌, ◌≢◌, ℕ, ◌<◌, ◌≤◌, List, [], ◌∷◌, ◌++◌, length, map, All, Some, refl, sym, ◌∙◌, ap, subst, arith, length-append, All-push, All-same, append_assoc, length-map, Sequential, IsLawfulObject, IsBeginning, replay, own, Decides, Entry, Seated, asked, told, Begins, most_listed, history_of, Mark, entry_of, DecidesAt, SeesNext, SeesMore, own_other, count-replay, begins_self, begins_through, Based, All-weaker, Known, Leads, ComesNext}
 use Rattle.camp_object.specs.declared.objects.Decided.{Decided}
 use Rattle.camp_row.specs.declared.trails.Next.{Next}
 pub use Rattle.camp_history.proofs.Marked.{length-own, map_more}
@@ -20,14 +20,14 @@ module _ {Call : Type 0} (marks now : List (Mark Call)) (mark : Mark Call) (grow
   all_more P all here = All-same P now (marks ++ mark ∷ []) grows (All-push P marks mark all here)
 
 pub sees_more_self : {Call : Type 0} (seat : Seated Call) → SeesMore seat seat
-sees_more_self seat = record { number = refl; row = refl; more = front_self (history_of seat); own_stays = refl }
+sees_more_self seat = record { number = refl; row = refl; more = begins_self (history_of seat); own_stays = refl }
 
 pub sees_more_more : {Call : Type 0} {one two three : Seated Call} → SeesMore one two → SeesMore two three → SeesMore one three
 sees_more_more {one = one} {two = two} {three = three} first second =
     record {
       number = second.number ∙ first.number;
       row = second.row ∙ first.row;
-      more = front_front first.more second.more;
+      more = begins_through first.more second.more;
       own_stays = ap (λ number. own number (history_of three)) (sym first.number) ∙ second.own_stays ∙ ap (λ number. own number (history_of two)) first.number ∙ first.own_stays;
     }
 
@@ -36,7 +36,7 @@ pub sees_same : {Call : Type 0} (old new now : Seated Call) → SeesMore old new
 sees_same old new now more known marks = record {
   number = ap (λ known. known.number) known ∙ more.number;
   row = ap (λ known. known.row) known ∙ more.row;
-  more = subst (λ marks. IsFront (history_of old) (map asked marks)) (sym marks) more.more;
+  more = subst (λ marks. IsBeginning (history_of old) (map asked marks)) (sym marks) more.more;
   own_stays = ap (λ marks. own old.known.number (map asked marks)) marks ∙ more.own_stays;
 }
 
@@ -69,7 +69,7 @@ few_marks object lawful front tail state len cap few ok small replays =
 -- versions that begin what was seen begin what is seen later
 pub bases_begin : {Call : Type 0} (marks version : List (Mark Call)) (bases : List (Based Call)) → Begins marks version → All (λ base. Begins base.marks marks) bases → All (λ base. Begins base.marks version) bases
 bases_begin {Call} marks version bases begins all =
-    All-weaker (λ (base : Based Call). Begins base.marks marks) (λ (base : Based Call). Begins base.marks version) (λ base front. front_front front begins) bases all
+    All-weaker (λ (base : Based Call). Begins base.marks marks) (λ (base : Based Call). Begins base.marks version) (λ base front. begins_through front begins) bases all
 
 -- one mark more behind the last
 pub one_more : {Call : Type 0} (front tail now : List (Mark Call)) (mark : Mark Call) → now ≡ tail ++ mark ∷ [] → front ++ now ≡ (front ++ tail) ++ mark ∷ []

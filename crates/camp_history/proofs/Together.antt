@@ -1,5 +1,5 @@
 -- Lemmas on seats that meet.
-use Rattle.camp_history.proofs.Words.{IsFront, own, Fault, Memory, Seated, asked, history_of, entry_of, entries_of, SeesMore, ◌≡◌, ℕ, zero, suc, ◌≤◌, ◌⊎◌, inl, inr, List, [], ◌++◌, length, map, Result, OnOk, IfErr, sym, ◌∙◌, ap, subst, arith, length-map, length-append, append-nil, nil_from_length, own-append, front_front, front_shorter, FindsChain}
+use Rattle.camp_history.proofs.Words.{IsBeginning, own, Fault, Memory, Seated, asked, history_of, entry_of, entries_of, SeesMore, ◌≡◌, ℕ, zero, suc, ◌≤◌, ◌⊎◌, inl, inr, List, [], ◌++◌, length, map, Result, OnOk, IfErr, sym, ◌∙◌, ap, subst, arith, length-map, length-append, append-nil, nil_from_length, own-append, begins_through, begins_shorter, FindsChain}
 use Rattle.camp_row.specs.Chains as chain
 use Rattle.camp_history.specs.Meeting.{Meets}
 use Rattle.camp_history.proofs.Seeing.{length-own}
@@ -14,7 +14,7 @@ shorter (suc m) (suc n) = elim (shorter m n) [
 ]
 
 -- a history that has as many calls of a seat as its front has no others
-pub own_front : {Call : Type 0} (seat : ℕ) (front whole : List (ℕ × Call)) → IsFront front whole → length (own seat whole) ≡ length (own seat front) → own seat whole ≡ own seat front
+pub own_front : {Call : Type 0} (seat : ℕ) (front whole : List (ℕ × Call)) → IsBeginning front whole → length (own seat whole) ≡ length (own seat front) → own seat whole ≡ own seat front
 own_front seat front whole begins same =
     let parts : own seat whole ≡ own seat front ++ own seat begins.rest = ap (own seat) (sym begins.makes) ∙ own-append seat front begins.rest in
     let lengths : length (own seat whole) ≡ length (own seat front ++ own seat begins.rest) = ap length parts in
@@ -22,42 +22,42 @@ own_front seat front whole begins same =
     parts ∙ ap (λ rest. own seat front ++ rest) none ∙ append-nil (own seat front)
 
 module _ {Call : Type 0} (a b met a' b' : Seated Call) (a_finds : FindsChain a.known met.known) (a_marks : met.marks ≡ a.marks) (b_finds : FindsChain b.known b'.known) (b_marks : b'.marks ≡ b.marks)
-    (more : SeesMore met a') (a_shorter : length a'.marks ≤ length b'.marks → IsFront (history_of a') (history_of b'))
-    (b_shorter : length b'.marks ≤ length a'.marks → IsFront (history_of b') (history_of a')) where
+    (more : SeesMore met a') (a_shorter : length a'.marks ≤ length b'.marks → IsBeginning (history_of a') (history_of b'))
+    (b_shorter : length b'.marks ≤ length a'.marks → IsBeginning (history_of b') (history_of a')) where
   b_stays : history_of b' ≡ history_of b
   b_stays = ap (map asked) b_marks
 
   a_number : met.known.number ≡ a.known.number
   a_number = ap (λ known. known.number) a_finds.is
 
-  grows : IsFront (history_of a) (history_of a')
-  grows = let Begins : List (ℕ × Call) → Type 0 = λ list. IsFront list (history_of a') in subst Begins (ap (map asked) a_marks) more.more
+  grows : IsBeginning (history_of a) (history_of a')
+  grows = let Begins : List (ℕ × Call) → Type 0 = λ list. IsBeginning list (history_of a') in subst Begins (ap (map asked) a_marks) more.more
 
-  one_begins : (IsFront (history_of a) (history_of b)) ⊎ (IsFront (history_of b) (history_of a))
+  one_begins : (IsBeginning (history_of a) (history_of b)) ⊎ (IsBeginning (history_of b) (history_of a))
   one_begins =
-      let Begins : List (ℕ × Call) → Type 0 = λ list. IsFront (history_of a) list in
-      let Ends : List (ℕ × Call) → Type 0 = λ list. IsFront list (history_of a') in
+      let Begins : List (ℕ × Call) → Type 0 = λ list. IsBeginning (history_of a) list in
+      let Ends : List (ℕ × Call) → Type 0 = λ list. IsBeginning list (history_of a') in
       elim (shorter (length a'.marks) (length b'.marks)) [
-        | inl short ↦ inl (subst Begins b_stays (front_front grows (a_shorter short)))
+        | inl short ↦ inl (subst Begins b_stays (begins_through grows (a_shorter short)))
         | inr short ↦
-            let b_begins : IsFront (history_of b) (history_of a') = subst Ends b_stays (b_shorter short) in
+            let b_begins : IsBeginning (history_of b) (history_of a') = subst Ends b_stays (b_shorter short) in
             elim (shorter (length (history_of a)) (length (history_of b))) [
-              | inl less ↦ inl (front_shorter (history_of a) (history_of b) (history_of a') grows b_begins less)
-              | inr less ↦ inr (front_shorter (history_of b) (history_of a) (history_of a') b_begins grows less)
+              | inl less ↦ inl (begins_shorter (history_of a) (history_of b) (history_of a') grows b_begins less)
+              | inr less ↦ inr (begins_shorter (history_of b) (history_of a) (history_of a') b_begins grows less)
             ]
       ]
 
   -- what holds on either answer
-  pub met_seats : (answer : Result (Unit {0}) Fault) → OnOk answer (IsFront (history_of b) (history_of a')) → OnOk answer (own b.known.number (history_of a') ≡ own b.known.number (history_of b))
+  pub met_seats : (answer : Result (Unit {0}) Fault) → OnOk answer (IsBeginning (history_of b) (history_of a')) → OnOk answer (own b.known.number (history_of a') ≡ own b.known.number (history_of b))
       → IfErr answer (λ fault. fault ≡ Memory) → Meets a b a' b' answer
-  met_seats answer b_front b_own only_memory = record {
+  met_seats answer b_beginning b_own only_memory = record {
     a_number = more.number ∙ a_number;
     a_grows = grows;
     a_own = ap (λ number. own number (history_of a')) (sym a_number) ∙ more.own_stays ∙ ap (λ number. own number (history_of met)) a_number ∙ ap (λ marks. own a.known.number (map asked marks)) a_marks;
     b_number = ap (λ known. known.number) b_finds.is;
     b_seen = b_stays;
     one = one_begins;
-    b_front = b_front;
+    b_beginning = b_beginning;
     b_own = b_own;
     only_memory = only_memory;
   }
@@ -70,7 +70,7 @@ module _ {Call : Type 0} (a b met a' b' : Seated Call) (a_finds : FindsChain a.k
     seen_b : entries_of b ≡ b'.known.seen
     seen_b = places ∙ sym (ap (λ known. known.seen) b_finds.is)
 
-    pub all_of_b : IsFront (history_of b) (history_of a')
+    pub all_of_b : IsBeginning (history_of b) (history_of a')
     all_of_b =
         let parts : length (b'.known.seen ++ b_finds.sound.front.rest) ≡ length b'.known.ahead = ap length b_finds.sound.front.is in
         let b_length : length (map entry_of b.marks) ≡ length b'.known.seen = ap length seen_b in
@@ -79,7 +79,7 @@ module _ {Call : Type 0} (a b met a' b' : Seated Call) (a_finds : FindsChain a.k
         let short : length b'.marks ≤ length a'.marks =
         omega (arith, length-append b'.known.seen b_finds.sound.front.rest, length-map b.marks entry_of, length-map a'.marks entry_of)
         in
-        let Ends : List (ℕ × Call) → Type 0 = λ list. IsFront list (history_of a') in
+        let Ends : List (ℕ × Call) → Type 0 = λ list. IsBeginning list (history_of a') in
         subst Ends b_stays (b_shorter short)
 
     pub just_those_of_b : own b.known.number (history_of a') ≡ own b.known.number (history_of b)

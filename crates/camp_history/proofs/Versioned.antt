@@ -1,5 +1,5 @@
 -- Lemmas on versions: how they are tied to a store, and how one goes on from what a seat has seen.
-use Rattle.camp_history.proofs.Words.{Entry, HeadId, IsFront, IsIn, IsSeatOf, IsSound, Known, Leads, Seated, asked, entry_of, entries_of, front_shorter, history_of, ids, ids_of, length-front, own, told, news, based, bases_in, Begins, Based, IsBaseAt, Share, GoesOn, Adopts, made_of, Mark, SeesMore, ◌≡◌, ℕ, zero, suc, ◌+◌, ◌-◌, ◌<◌, ◌≤◌, List, [], ◌∷◌, ◌++◌, length, map, take, drop, splice, slice_get, slice_index_or, All, Result, Ok, Err, OnOk, OnErr, Option, None, Some, IfSome, MatchOption, refl, sym, ◌∙◌, ap, subst, arith, append-nil, append_assoc, length-append, length-map, map-append, take-append-drop, take_at, take_rest, drop_at, drop-drop, drop-map, same_Some, take_all, drop_all, front_self, Bool, true, false, if◌then◌else◌, All-append, All-drop, All-map, All-push, All-same, All-weaker, Shelves, Shows, Where, turns}
+use Rattle.camp_history.proofs.Words.{Entry, HeadId, IsBeginning, IsIn, IsSeatOf, IsSound, Known, Leads, Seated, asked, entry_of, entries_of, begins_shorter, history_of, ids, ids_of, length-beginning, own, told, news, based, bases_in, Begins, Based, IsBaseAt, Share, GoesOn, Adopts, made_of, Mark, SeesMore, ◌≡◌, ℕ, zero, suc, ◌+◌, ◌-◌, ◌<◌, ◌≤◌, List, [], ◌∷◌, ◌++◌, length, map, take, drop, splice, slice_get, slice_index_or, All, Result, Ok, Err, OnOk, OnErr, Option, None, Some, IfSome, MatchOption, refl, sym, ◌∙◌, ap, subst, arith, append-nil, append_assoc, length-append, length-map, map-append, take-append-drop, take_at, take_rest, drop_at, drop-drop, drop-map, same_Some, take_all, drop_all, begins_self, Bool, true, false, if◌then◌else◌, All-append, All-drop, All-map, All-push, All-same, All-weaker, Shelves, Shows, Where, turns}
 use Rattle.std.proofs.lemmas.List.{get_or-map}
 use Rattle.std.proofs.Math.Seq.{drop-append-add}
 use Rattle.std.proofs.lemmas.Simd.{map-map}
@@ -57,8 +57,8 @@ length_before (y ∷ list) rest (suc i) x left = ap (λ n. suc n) (length_before
 pub all_taken : {X : Type 0} (list : List X) (i : ℕ) → drop i list ≡ [] → take i list ≡ list
 all_taken list i none = sym (append-nil (take i list)) ∙ ap (λ rest. take i list ++ rest) (sym none) ∙ take-append-drop i list
 
--- a front of a chain, with the entry that stands behind it
-front_step : {X : Type 0} (front whole : List X) (x : X) → chain.IsFront front whole → slice_get whole (length front) ≡ Some x → chain.IsFront (front ++ x ∷ []) whole
+-- a beginning of a chain, with the entry that stands behind it
+front_step : {X : Type 0} (front whole : List X) (x : X) → chain.IsBeginning front whole → slice_get whole (length front) ≡ Some x → chain.IsBeginning (front ++ x ∷ []) whole
 front_step [] [] x begins at = cc
 front_step [] (y ∷ whole) x begins at = record { rest = whole; is = ap (λ z. z ∷ whole) (sym (same_Some y x at)) }
 front_step (y ∷ front) [] x begins at = absurd (let e = begins.is in cc)
@@ -70,8 +70,8 @@ front_step (y ∷ front) (z ∷ whole) x begins at =
 
 -- one more mark of a version is what comes next in the chain
 pub one_more_comes : {Call : Type 0} (seen ahead : List Entry) (list rest : List (Mark Call)) (i : ℕ) (mark : Mark Call) (entry : Entry)
-    → drop i list ≡ mark ∷ rest → chain.IsFront (seen ++ map entry_of (take i list)) ahead → slice_get ahead (length seen + i) ≡ Some entry → entry ≡ entry_of mark
-    → chain.IsFront (seen ++ map entry_of (take (i + 1) list)) ahead
+    → drop i list ≡ mark ∷ rest → chain.IsBeginning (seen ++ map entry_of (take i list)) ahead → slice_get ahead (length seen + i) ≡ Some entry → entry ≡ entry_of mark
+    → chain.IsBeginning (seen ++ map entry_of (take (i + 1) list)) ahead
 one_more_comes seen ahead list rest i mark entry left begins at is =
     let before = take i list in
     let len : length (seen ++ map entry_of before) ≡ length seen + i =
@@ -80,39 +80,39 @@ one_more_comes seen ahead list rest i mark entry left begins at is =
     let Stands : ℕ → Type 0 = λ n. slice_get ahead n ≡ Some (entry_of mark) in
     let here : slice_get ahead (length (seen ++ map entry_of before)) ≡ Some (entry_of mark) = subst Stands (sym len) (at ∙ ap Some is) in
     let on = front_step (seen ++ map entry_of before) ahead (entry_of mark) begins here in
-    let Begins : List Entry → Type 0 = λ list. chain.IsFront list ahead in
+    let Begins : List Entry → Type 0 = λ list. chain.IsBeginning list ahead in
     subst Begins (append_assoc seen (map entry_of before) (entry_of mark ∷ []) ∙ ap (λ l. seen ++ l) (sym (map_more entry_of before mark) ∙ ap (map entry_of) (sym (take_step list rest i mark left)))) on
 
 -- what holds of what is made of each holds of each, as it is made
 pub all_unmap : {A B : Type 0} (P : B → Type 0) (f : A → B) (list : List A) → All P (map f list) → All (λ x. P (f x)) list
 all_unmap P f list all k d below = subst P (get_or-map f list k d (f d) below) (all k (f d) (omega (arith, length-map list f)))
 
-front_map : {A B : Type 0} (f : A → B) {front whole : List A} → IsFront front whole → IsFront (map f front) (map f whole)
+front_map : {A B : Type 0} (f : A → B) {front whole : List A} → IsBeginning front whole → IsBeginning (map f front) (map f whole)
 front_map f {front = front} begins = record { rest = map f begins.rest; makes = sym (map-append f front begins.rest) ∙ ap (map f) begins.makes }
 
 -- what stands behind a front
-front_rest : {A : Type 0} (front whole : List A) → IsFront front whole → whole ≡ front ++ drop (length front) whole
+front_rest : {A : Type 0} (front whole : List A) → IsBeginning front whole → whole ≡ front ++ drop (length front) whole
 front_rest front whole begins =
     sym begins.makes ∙ ap (λ rest. front ++ rest) (sym (drop_at front begins.rest (length front) refl) ∙ ap (drop (length front)) begins.makes)
 
 -- marks that begin others
 module _ {Call : Type 0} (front whole : List (Mark Call)) (begins : Begins front whole) where
-  pub begins_asked : IsFront (map asked front) (map asked whole)
+  pub begins_asked : IsBeginning (map asked front) (map asked whole)
   begins_asked =
       let f : Entry × Call → ℕ × Call = λ t. (t.0.seat, t.1) in
-      let made : IsFront (map f (map told front)) (map f (map told whole)) = front_map f begins in
-      let left : IsFront (map asked front) (map f (map told whole)) = subst (λ list. IsFront list (map f (map told whole))) (map-map f told front) made in
-      subst (λ list. IsFront (map asked front) list) (map-map f told whole) left
+      let made : IsBeginning (map f (map told front)) (map f (map told whole)) = front_map f begins in
+      let left : IsBeginning (map asked front) (map f (map told whole)) = subst (λ list. IsBeginning list (map f (map told whole))) (map-map f told front) made in
+      subst (λ list. IsBeginning (map asked front) list) (map-map f told whole) left
 
-  pub begins_entries : IsFront (map entry_of front) (map entry_of whole)
+  pub begins_entries : IsBeginning (map entry_of front) (map entry_of whole)
   begins_entries =
       let f : Entry × Call → Entry = λ t. t.0 in
-      let made : IsFront (map f (map told front)) (map f (map told whole)) = front_map f begins in
-      let left : IsFront (map entry_of front) (map f (map told whole)) = subst (λ list. IsFront list (map f (map told whole))) (map-map f told front) made in
-      subst (λ list. IsFront (map entry_of front) list) (map-map f told whole) left
+      let made : IsBeginning (map f (map told front)) (map f (map told whole)) = front_map f begins in
+      let left : IsBeginning (map entry_of front) (map f (map told whole)) = subst (λ list. IsBeginning list (map f (map told whole))) (map-map f told front) made in
+      subst (λ list. IsBeginning (map entry_of front) list) (map-map f told whole) left
 
   pub begins_within : length front ≤ length whole
-  begins_within = omega (arith, length-front begins, length-map front told, length-map whole told)
+  begins_within = omega (arith, length-beginning begins, length-map front told, length-map whole told)
 
 -- a version with which two lists begin is what they have in common
 pub share_of : {Call : Type 0} (base one other : List (Mark Call)) (count : ℕ) → count ≡ length base → Begins base one → Begins base other → Share one other count
@@ -157,20 +157,20 @@ module _ {Call : Type 0} (one other : List (Mark Call)) where
   compared_other_end left past = record { rest = map told left; makes = ap (λ l. l ++ map told left) (past.other_is ∙ append-nil past.front) ∙ sym past.one_is }
 
 -- as many entries lie ahead as a trail has cells
-pub news_within : (known : Known) (trail : List ℕ) (more : List Entry) → Leads known known.seen trail → chain.IsFront (known.seen ++ more) known.ahead → length more ≤ length trail
+pub news_within : (known : Known) (trail : List ℕ) (more : List Entry) → Leads known known.seen trail → chain.IsBeginning (known.seen ++ more) known.ahead → length more ≤ length trail
 news_within known trail more leads ahead =
     let cells : length trail ≡ length leads.left = ap length leads.cells ∙ length-cells_back known.row.seats known.seen leads.left in
     let one : length (known.seen ++ leads.left) ≡ length known.ahead = ap length leads.is in
     let other : length ((known.seen ++ more) ++ ahead.rest) ≡ length known.ahead = ap length ahead.is in
     omega (arith, length-append known.seen leads.left, length-append (known.seen ++ more) ahead.rest, length-append known.seen more)
 
--- so many entries of the chain are those of a front of it
-pub taken_front : (known : Known) (more : List Entry) (count : ℕ) → count ≡ length more → chain.IsFront (known.seen ++ more) known.ahead → take (length known.seen + count) known.ahead ≡ known.seen ++ more
+-- so many entries of the chain are those of a beginning of it
+pub taken_front : (known : Known) (more : List Entry) (count : ℕ) → count ≡ length more → chain.IsBeginning (known.seen ++ more) known.ahead → take (length known.seen + count) known.ahead ≡ known.seen ++ more
 taken_front known more count is ahead =
     ap (take (length known.seen + count)) (sym ahead.is)
     ∙ take_at (known.seen ++ more) ahead.rest (length known.seen + count) (length-append known.seen more ∙ ap (λ n. length known.seen + n) (sym is))
 
--- what a seat that takes a version over has in its fields
+-- what a seat that adopts a version has in its fields
 module _ {Call : Type 0} (seat : Seated Call) (version : List (Mark Call)) (goes : GoesOn seat version) where
   pub version_entries : map entry_of version ≡ map entry_of seat.marks ++ map entry_of (news seat version)
   version_entries =
@@ -202,14 +202,14 @@ module _ {Call : Type 0} (seat : Seated Call) (version : List (Mark Call)) (goes
         let Below : ℕ → Type 0 = λ seats. All (λ (mark : Mark Call). mark.seat < seats) version in
         subst Below (sym (ap (λ known. known.row.seats) adopted_known)) (all_unmap Is entry_of version entries)
 
--- a seat that takes a version over sees more
+-- a seat that adopts a version sees more
 pub adopts_more : {Call : Type 0} (old new : Seated Call) (version : List (Mark Call)) → entries_of old ≡ old.known.seen → IsSound old.known → GoesOn old version → Adopts old version new → SeesMore old new
 adopts_more old new version places sound goes adopts =
     let list = news old version in
     let number = old.known.number in
     let seen' : entries_of new ≡ old.known.seen ++ map entry_of list = ap (map entry_of) adopts.marks ∙ version_entries old version goes ∙ ap (λ l. l ++ map entry_of list) places in
-    let grows : IsFront (history_of old) (history_of new) =
-    subst (λ marks. IsFront (history_of old) (map asked marks)) (sym adopts.marks) (begins_asked old.marks version goes.begins)
+    let grows : IsBeginning (history_of old) (history_of new) =
+    subst (λ marks. IsBeginning (history_of old) (map asked marks)) (sym adopts.marks) (begins_asked old.marks version goes.begins)
     in
     let least = turns_front number old.known.seen (old.known.seen ++ map entry_of list) (record { rest = map entry_of list; is = refl }) in
     let most = turns_front number (old.known.seen ++ map entry_of list) old.known.ahead goes.ahead in
@@ -265,7 +265,7 @@ at_length [] rest x = refl
 at_length (y ∷ front) rest x = at_length front rest x
 
 -- the entry of the first mark that is left is the next one of the chain
-stands : {Call : Type 0} (whole : List Entry) (list left : List (Mark Call)) (front : List (Entry × Call)) (mark : Mark Call) → chain.IsFront (map entry_of list) whole → map told list ≡ front ++ map told (mark ∷ left)
+stands : {Call : Type 0} (whole : List Entry) (list left : List (Mark Call)) (front : List (Entry × Call)) (mark : Mark Call) → chain.IsBeginning (map entry_of list) whole → map told list ≡ front ++ map told (mark ∷ left)
     → slice_get whole (length front) ≡ Some (entry_of mark)
 stands {Call} whole list left front mark begins is =
     let f : Entry × Call → Entry = λ t. t.0 in
@@ -278,19 +278,19 @@ stands {Call} whole list left front mark begins is =
     subst (λ l. slice_get l (length front) ≡ Some (entry_of mark)) begins.is (get_append (map entry_of list) begins.rest (length front) (entry_of mark) here)
 
 -- the marks that are left first of two parts of one chain are of one entry
-pub same_next : {Call : Type 0} (whole : List Entry) (one other left others : List (Mark Call)) (mark mark' : Mark Call) → chain.IsFront (map entry_of one) whole → chain.IsFront (map entry_of other) whole
+pub same_next : {Call : Type 0} (whole : List Entry) (one other left others : List (Mark Call)) (mark mark' : Mark Call) → chain.IsBeginning (map entry_of one) whole → chain.IsBeginning (map entry_of other) whole
     → Compared one other (mark ∷ left) (mark' ∷ others) → entry_of mark ≡ entry_of mark'
 same_next whole one other left others mark mark' begins begins' past =
     same_Some (entry_of mark) (entry_of mark') (sym (stands whole one left past.front mark begins past.one_is) ∙ stands whole other others past.front mark' begins' past.other_is)
 
 -- what a seat has seen begins the chain that it found
-pub seat_begins : {Call : Type 0} (seat : Seated Call) → entries_of seat ≡ seat.known.seen → IsSound seat.known → chain.IsFront (entries_of seat) seat.known.ahead
+pub seat_begins : {Call : Type 0} (seat : Seated Call) → entries_of seat ≡ seat.known.seen → IsSound seat.known → chain.IsBeginning (entries_of seat) seat.known.ahead
 seat_begins seat places sound = record { rest = sound.front.rest; is = ap (λ list. list ++ sound.front.rest) places ∙ sound.front.is }
 
 -- of two lists that begin one another the shorter one begins the other
-pub begins_either : {Call : Type 0} (one other : List (Mark Call)) → Begins one other → length other ≤ length one → IsFront (map asked other) (map asked one)
+pub begins_either : {Call : Type 0} (one other : List (Mark Call)) → Begins one other → length other ≤ length one → IsBeginning (map asked other) (map asked one)
 begins_either one other begins short =
-    front_shorter (map asked other) (map asked one) (map asked other) (front_self (map asked other)) (begins_asked one other begins) (omega (arith, short, length-map one asked, length-map other asked))
+    begins_shorter (map asked other) (map asked one) (map asked other) (begins_self (map asked other)) (begins_asked one other begins) (omega (arith, short, length-map one asked, length-map other asked))
 
 -- what was noted holds as it was seen, and as it lies in its slots
 pub all_based : {State Call Reply : Type 0} (P : Based Call → Type 0) (bases : List (Base State Call Reply)) → All P (bases_in bases) → All (λ base. P (based base)) bases

@@ -12,10 +12,10 @@ pub use Rattle.camp_history.specs.Inside.Steps.{Attempts, DecidesAt, Decision, F
 pub use Rattle.camp_history.specs.Seats.{Based, HeadId, IsBaseAt, IsSeatOf, Seated, asked, caller_at, entry_of, history_of, most_listed, told, unseen}
 pub use Rattle.camp_history.specs.Versions.{Adopts, Begins, GoesOn, IsFound, IsIn, IsMadeFrom, Share, based, bases_in, ids, ids_of, made_of, news}
 pub use Rattle.camp_history.specs.declared.marks.Mark.{Mark}
-pub use Rattle.camp_object.proofs.Fronts.{front_append, front_front, front_self, front_shorter, length-front}
+pub use Rattle.camp_object.proofs.Beginnings.{begins_append, begins_through, begins_self, begins_shorter, length-beginning}
 pub use Rattle.camp_object.specs.Asking.{AddsNothing, Ask, Caller, IsNotBusy, Loses}
 pub use Rattle.camp_object.specs.Deciding.{Decides}
-pub use Rattle.camp_object.specs.Histories.{IsAccepted, IsFront, IsLegal, own, replay}
+pub use Rattle.camp_object.specs.Histories.{IsAccepted, IsBeginning, IsLegal, own, replay}
 pub use Rattle.camp_object.specs.Objects.{IsLawfulObject, Sequential}
 pub use Rattle.camp_object.specs.declared.faults.Fault.{Fault}
 pub use Rattle.camp_object.specs.declared.faults.Fault.TheVariants.{Memory}

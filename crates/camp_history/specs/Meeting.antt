@@ -1,6 +1,6 @@
 -- What two seats know of each other once they have met.
 use Rattle.std.specs.Prelude.{◌≡◌, ◌⊎◌, Result, OnOk, IfErr}
-use Rattle.camp_object.specs.Histories.{IsFront, own}
+use Rattle.camp_object.specs.Histories.{IsBeginning, own}
 use Rattle.camp_object.specs.declared.faults.Fault.{Fault}
 use Rattle.camp_object.specs.declared.faults.Fault.TheVariants.{Memory}
 use Rattle.camp_history.specs.Seats.{Seated, history_of}
@@ -9,11 +9,11 @@ use Rattle.camp_history.specs.Seats.{Seated, history_of}
 -- the answer is Ok, a has seen all that b has seen, and of b's calls exactly those that b has
 pub record Meets {Call : Type 0} (a b a' b' : Seated Call) (answer : Result (Unit {0}) Fault) : Type 0 where
   pub a_number : a'.known.number ≡ a.known.number
-  pub a_grows : IsFront (history_of a) (history_of a')
+  pub a_grows : IsBeginning (history_of a) (history_of a')
   pub a_own : own a.known.number (history_of a') ≡ own a.known.number (history_of a)
   pub b_number : b'.known.number ≡ b.known.number
   pub b_seen : history_of b' ≡ history_of b
-  pub one : (IsFront (history_of a) (history_of b)) ⊎ (IsFront (history_of b) (history_of a))
-  pub b_front : OnOk answer (IsFront (history_of b) (history_of a'))
+  pub one : (IsBeginning (history_of a) (history_of b)) ⊎ (IsBeginning (history_of b) (history_of a))
+  pub b_beginning : OnOk answer (IsBeginning (history_of b) (history_of a'))
   pub b_own : OnOk answer (own b.known.number (history_of a') ≡ own b.known.number (history_of b))
   pub only_memory : IfErr answer (λ fault. fault ≡ Memory)

@@ -2,7 +2,7 @@
 use Rattle.std.specs.Prelude.{◌≡◌, ℕ, ◌<◌, ◌≤◌, List, ◌∷◌, [], ◌++◌, map, length, drop, take, slice_index_or, All, IfSome}
 use Rattle.boxcar.specs.Slot.{Named}
 use Rattle.boxcar.specs.Table.{Shelves, Where}
-use Rattle.camp_object.specs.Histories.{IsFront}
+use Rattle.camp_object.specs.Histories.{IsBeginning}
 use Rattle.camp_row.specs.Chains as chain
 use Rattle.camp_history.specs.Seats.{Seated, Based, IsBaseAt, entry_of, told}
 use Rattle.camp_history.specs.declared.marks.Mark.{Mark}
@@ -31,7 +31,7 @@ bases_in bases = map based bases
 
 -- one list of marks is of the entries and calls with which another begins
 abbrev pub Begins : {Call : Type 0} → List (Mark Call) → List (Mark Call) → Type 0
-Begins front whole = IsFront (map told front) (map told whole)
+Begins beginning whole = IsBeginning (map told beginning) (map told whole)
 
 -- a version begins with the calls of the one that it was made from, and both lie in slots with these numbers
 pub record IsMadeFrom {State Call Reply : Type 0} (ids : List ℕ) (origin : Origin State Call Reply) : Type 0 where
@@ -61,10 +61,10 @@ news seat version = drop (length seat.marks) version
 -- in the chain that was found, each of a seat of the row
 pub record GoesOn {Call : Type 0} (seat : Seated Call) (version : List (Mark Call)) : Type 0 where
   pub begins : Begins seat.marks version
-  pub ahead : chain.IsFront (seat.known.seen ++ map entry_of (news seat version)) seat.known.ahead
+  pub ahead : chain.IsBeginning (seat.known.seen ++ map entry_of (news seat version)) seat.known.ahead
   pub below : All (λ mark. mark.seat < seat.known.row.seats) (news seat version)
 
--- a seat takes a version over
+-- a seat adopts a version
 pub record Adopts {Call : Type 0} (old : Seated Call) (version : List (Mark Call)) (new : Seated Call) : Type 0 where
   pub marks : new.marks ≡ version
   pub bases : new.bases ≡ old.bases

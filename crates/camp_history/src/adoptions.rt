@@ -1,10 +1,10 @@
-//! How a seat that is behind takes a version over.
+//! How a seat that is behind adopts a version.
 ghost use Rattle.std.specs.Prelude.{◌≡◌, ℕ, ◌<◌, ◌≤◌, ◌+◌, length, map, drop, slice_get, slice_index_or, All, Some, IfOk, IfSome, OnOk, OnErr, IsTrue};
 ghost use Rattle.boxcar.specs.Table.{Shows};
 ghost use Rattle.camp_history.specs.Versions.{ids, Adopts, Begins, GoesOn, Share};
 
 use crate::heads::Head;
-use crate::lists::{MarksLeft, copies};
+use crate::lists::{MarksLeft, share_all};
 use crate::marks::Mark;
 use crate::origins::OriginSlot;
 use crate::seats::Seat;
@@ -31,7 +31,7 @@ impl<State: Object> Version<State> {
         ensures { result ≡ length self.now }
     {
         let _ = &self.state;
-        self.front.len() + self.tail.len()
+        self.earlier.len() + self.tail.len()
     }
 
     /// Its marks from a place on.
@@ -39,7 +39,7 @@ impl<State: Object> Version<State> {
         requires { from ≤ length self.now }
         ensures { result ≡ drop from self.now }
     {
-        MarksLeft::new(&self.front, &self.tail, from)
+        MarksLeft::new(&self.earlier, &self.tail, from)
     }
 }
 
@@ -51,7 +51,7 @@ impl<State: Object> Seat<State> {
         requires { from ≤ length self.now.marks }
         ensures { result ≡ drop from self.now.marks }
     {
-        MarksLeft::new(&self.front, &self.tail, from)
+        MarksLeft::new(&self.earlier, &self.tail, from)
     }
 
     fn entry_at(&mut self, row: &Row, trail: &Trail, index: usize) -> Entry
@@ -65,7 +65,7 @@ impl<State: Object> Seat<State> {
         row.entry_at(&mut self.pass, trail, index)
     }
 
-    /// Takes a version over.
+    /// Adopts a version.
     fn adopt(
         &mut self,
         row: &Row,
@@ -79,10 +79,14 @@ impl<State: Object> Seat<State> {
         ensures err { OnErr result (self.new ≡ self.old) }
         ensures leads { Leads self.new.known self.new.known.seen trail.new }
     {
-        let count = version.len() - (self.front.len() + self.tail.len());
-        let Version { front, tail, state } = version.share()?;
+        let count = version.len() - (self.earlier.len() + self.tail.len());
+        let Version {
+            earlier,
+            tail,
+            state,
+        } = version.share()?;
         row.advance_by(&mut self.pass, trail, count);
-        self.front = front;
+        self.earlier = earlier;
         self.tail = tail;
         self.state = state;
         Ok(())
@@ -93,10 +97,14 @@ impl<State: Object> camp_share::Share for Version<State> {
     /// The version once more: its list and its state have one more owner each, and the last few marks
     /// are copied.
     fn share(&self) -> Result<Version<State>, AllocError> {
-        let front = self.front.share()?;
-        let tail = copies(*self.tail.allocator(), &self.tail)?;
+        let earlier = self.earlier.share()?;
+        let tail = share_all(*self.tail.allocator(), &self.tail)?;
         let state = self.state.share()?;
-        Ok(Version { front, tail, state })
+        Ok(Version {
+            earlier,
+            tail,
+            state,
+        })
     }
 }
 
@@ -351,8 +359,8 @@ impl<State: Object> Head<State> {
         self.longest_handed_on(kept.1, reach).or(Some(kept))
     }
 
-    /// A seat takes over a version that goes on from what it has seen, and notes it.
-    fn take(
+    /// A seat adopts a version that goes on from what it has seen, and notes it.
+    fn adopt_and_note(
         &self,
         seat: &mut Seat<State>,
         trail: &mut Trail,
@@ -377,7 +385,7 @@ impl<State: Object> Head<State> {
         Ok(())
     }
 
-    /// A seat takes over a version of a slot, if it goes on from what the seat has seen. Tells whether it did.
+    /// A seat adopts a version of a slot, if it goes on from what the seat has seen. Tells whether it did.
     fn adopt_at(
         &self,
         seat: &mut Seat<State>,
@@ -399,11 +407,11 @@ impl<State: Object> Head<State> {
         if !self.goes_on(seat, trail, version, from) {
             return Ok(false);
         }
-        self.take(seat, trail, &origin.version, version)?;
+        self.adopt_and_note(seat, trail, &origin.version, version)?;
         Ok(true)
     }
 
-    /// A seat that is behind tries the versions that it finds, the longest first, until it has taken one over.
+    /// A seat that is behind tries the versions that it finds, the longest first, until it has adopted one.
     fn adopt_longest(&self, seat: &mut Seat<State>, trail: &mut Trail) -> Result<(), AllocError>
         requires of { IsSeatOf self.now seat.old }
         requires leads { Leads seat.old.known seat.old.known.seen trail.old }
@@ -423,7 +431,7 @@ impl<State: Object> Head<State> {
         Ok(())
     }
 
-    /// A seat that is behind takes over the longest version that it can.
+    /// A seat that is behind adopts the longest version that it can.
     pub(crate) fn adopt(&self, seat: &mut Seat<State>, trail: &mut Trail) -> Result<(), AllocError>
         requires of { IsSeatOf self.now seat.old }
         requires leads { Leads seat.old.known seat.old.known.seen trail.old }
@@ -439,8 +447,8 @@ impl<State: Object> Head<State> {
         answer
     }
 
-    /// A seat that is behind another takes over all that this one has seen and decided.
-    pub(crate) fn take_over(
+    /// A seat that is behind another adopts all that this one has seen and decided.
+    pub(crate) fn adopt_from(
         &self,
         seat: &mut Seat<State>,
         other: &Seat<State>,

@@ -87,7 +87,7 @@ fn seat_of<State: Object>(alloc: Global, pass: Pass) -> Result<Seat<State>, Allo
 {
     Ok(Seat {
         pass,
-        front: Shared::new(alloc, SharedList::new(alloc))?,
+        earlier: Shared::new(alloc, SharedList::new(alloc))?,
         tail: Vec::new(alloc),
         state: Shared::new(alloc, State::initial(alloc)?)?,
         bases: Vec::new(alloc),

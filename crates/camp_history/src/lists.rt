@@ -9,7 +9,7 @@ use std::marker::Model;
 /// The marks that are still to come. Contracts see them as a list.
 #[derive(Drop)]
 pub(crate) struct MarksLeft<'a, Call> {
-    front: Iter<'a, Mark<Call>>,
+    earlier: Iter<'a, Mark<Call>>,
     tail: &'a [Mark<Call>],
 }
 
@@ -19,28 +19,28 @@ impl<'a, Call> Model for MarksLeft<'a, Call> {
 
     ghost Value = { List (Mark Call) };
 
-    ghost view = { λ left. left.front ++ left.tail.now };
+    ghost view = { λ left. left.earlier ++ left.tail.now };
 }
 
 impl<'a, Call> MarksLeft<'a, Call> {
     /// Those of a list and of the marks behind it, from a place on.
     pub(crate) fn new(
-        front: &'a SharedList<Mark<Call>>,
+        earlier: &'a SharedList<Mark<Call>>,
         tail: &'a [Mark<Call>],
         from: usize,
     ) -> MarksLeft<'a, Call>
-        requires { from ≤ length front.now + length tail.now }
-        ensures { result ≡ drop from (front.now ++ tail.now) }
+        requires { from ≤ length earlier.now + length tail.now }
+        ensures { result ≡ drop from (earlier.now ++ tail.now) }
     {
-        let len = front.len();
+        let len = earlier.len();
         if from <= len {
             return MarksLeft {
-                front: front.iter_from(from),
+                earlier: earlier.iter_from(from),
                 tail,
             };
         }
         MarksLeft {
-            front: front.iter_from(len),
+            earlier: earlier.iter_from(len),
             tail: &tail[from - len..],
         }
     }
@@ -48,7 +48,7 @@ impl<'a, Call> MarksLeft<'a, Call> {
     pub(crate) fn next(&mut self) -> Option<&'a Mark<Call>>
         ensures { MatchOption result (self.old ≡ []) (λ mark. self.old ≡ mark.now ∷ self.new) }
     {
-        if let Some(mark) = self.front.next() {
+        if let Some(mark) = self.earlier.next() {
             return Some(mark);
         }
         let tail = self.tail;
@@ -61,7 +61,7 @@ impl<'a, Call> MarksLeft<'a, Call> {
 }
 
 /// A copy of marks, with room for one more.
-pub(crate) fn copies<Call>(
+pub(crate) fn share_all<Call>(
     alloc: std::alloc::Global,
     marks: &[Mark<Call>],
 ) -> Result<Vec<Mark<Call>>, AllocError>

@@ -5,7 +5,7 @@ ghost use Rattle.camp_history.specs.Inside.HeadFields.{IsSlotFor};
 ghost use Rattle.camp_history.specs.Versions.{made_of, Begins};
 
 use crate::heads::{Head, slot_count};
-use crate::lists::copies;
+use crate::lists::share_all;
 use crate::marks::Mark;
 use crate::seats::Seat;
 use crate::versions::{Base, Origin, Version};
@@ -22,10 +22,14 @@ impl<State: Object> Seat<State> {
     pub(crate) fn version(&self) -> Result<Version<State>, AllocError>
         ensures { IfOk result (λ version. version ≡ self.now.marks) }
     {
-        let front = self.front.share()?;
-        let tail = copies(*self.tail.allocator(), &self.tail)?;
+        let earlier = self.earlier.share()?;
+        let tail = share_all(*self.tail.allocator(), &self.tail)?;
         let state = self.state.share()?;
-        Ok(Version { front, tail, state })
+        Ok(Version {
+            earlier,
+            tail,
+            state,
+        })
     }
 
     /// The version at the position of a call, as long as it is accepted there.
@@ -37,14 +41,18 @@ impl<State: Object> Seat<State> {
         requires { replay State.object (history_of self.now ++ (self.now.known.number, call.now.value) ∷ []) ≡ Some next.now }
         ensures { IfOk result (λ version. version ≡ made_of self.now call.now) }
     {
-        let front = self.front.share()?;
-        let mut tail = copies(*self.tail.allocator(), &self.tail)?;
+        let earlier = self.earlier.share()?;
+        let mut tail = share_all(*self.tail.allocator(), &self.tail)?;
         tail.push(Mark {
             seat: self.pass.number(),
             call: call.again(),
         })?;
         let state = next.share()?;
-        Ok(Version { front, tail, state })
+        Ok(Version {
+            earlier,
+            tail,
+            state,
+        })
     }
 }
 

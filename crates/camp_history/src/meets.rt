@@ -1,6 +1,6 @@
 //! How two seats meet.
 ghost use Rattle.std.specs.Prelude.{◌≡◌, ◌≤◌, length, OnOk};
-ghost use Rattle.camp_object.specs.Histories.{IsFront};
+ghost use Rattle.camp_object.specs.Histories.{IsBeginning};
 
 use crate::heads::Head;
 use crate::seats::Seat;
@@ -35,7 +35,7 @@ impl<State: Object> Head<State> {
         }
     }
 
-    /// A seat sees all of the chain that was found. What the other one has decided is taken over
+    /// A seat sees all of the chain that was found. What the other one has decided is adopted
     /// from it.
     fn follow_other(&self, seat: &mut Seat<State>, other: &Seat<State>) -> Result<(), AllocError>
         requires of { IsSeatOf self.now seat.old }
@@ -45,7 +45,7 @@ impl<State: Object> Head<State> {
         ensures ahead { seat.new.known.ahead ≡ seat.old.known.ahead }
         ensures whole { OnOk result (entries_of seat.new ≡ seat.new.known.ahead) }
     {
-        self.take_over(seat, other)?;
+        self.adopt_from(seat, other)?;
         self.follow(seat)
     }
 
@@ -67,8 +67,8 @@ impl<State: Object> Head<State> {
     fn compare(&self, a: &Seat<State>, b: &Seat<State>)
         requires seats { IsSeatOf self.now a.now × IsSeatOf self.now b.now }
         requires chain { a.now.known.ahead ≡ b.now.known.ahead }
-        ensures a_shorter { length a.now.marks ≤ length b.now.marks → IsFront (history_of a.now) (history_of b.now) }
-        ensures b_shorter { length b.now.marks ≤ length a.now.marks → IsFront (history_of b.now) (history_of a.now) }
+        ensures a_shorter { length a.now.marks ≤ length b.now.marks → IsBeginning (history_of a.now) (history_of b.now) }
+        ensures b_shorter { length b.now.marks ≤ length a.now.marks → IsBeginning (history_of b.now) (history_of a.now) }
     {
         a.is_whole();
         b.is_whole();

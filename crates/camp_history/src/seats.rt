@@ -12,10 +12,10 @@ use std::marker::Model;
 pub struct Seat<State: Object> {
     pub(crate) pass: Pass,
     /// All that it has seen but the last few calls.
-    pub(crate) front: Shared<SharedList<Mark<State::Call>>>,
+    pub(crate) earlier: Shared<SharedList<Mark<State::Call>>>,
     pub(crate) tail: Vec<Mark<State::Call>>,
     pub(crate) state: Shared<State>,
-    /// The last few versions that it made or took over.
+    /// The last few versions that it made or adopted.
     pub(crate) bases: Vec<Base<State>>,
     pub(crate) adopted: u32,
 }
@@ -50,7 +50,7 @@ impl<State: Object> Seat<State> {
     pub fn position(&self) -> u64
         ensures exact { result ≡ length (history_of self.now) }
     {
-        (self.front.len() + self.tail.len()) as u64
+        (self.earlier.len() + self.tail.len()) as u64
     }
 
     /// How many calls of its own were accepted.
@@ -61,7 +61,7 @@ impl<State: Object> Seat<State> {
         self.pass.turns()
     }
 
-    /// How many versions it took over; that is only tested. It stays at 4,294,967,295.
+    /// How many versions it adopted; that is only tested. It stays at 4,294,967,295.
     pub fn adopted(&self) -> u32 {
         self.adopted
     }

@@ -1,4 +1,4 @@
-//! What a seat that is behind takes over.
+//! What a seat that is behind adopts.
 ghost use Rattle.std.specs.Prelude.{◌≡◌, length, All, IfOk};
 ghost use Rattle.camp_history.specs.Versions.{ids};
 
@@ -15,7 +15,7 @@ use std::marker::Model;
 #[derive(Drop)]
 pub struct Version<State: Object> {
     /// All but the last few.
-    pub(crate) front: Shared<SharedList<Mark<State::Call>>>,
+    pub(crate) earlier: Shared<SharedList<Mark<State::Call>>>,
     pub(crate) tail: Vec<Mark<State::Call>>,
     pub(crate) state: Shared<State>,
 }
@@ -28,9 +28,9 @@ impl<State: Object> Model for Version<State> {
 
     ghost Value = { List (Mark State.Call) };
 
-    ghost view = { λ version. version.front ++ version.tail.items };
+    ghost view = { λ version. version.earlier ++ version.tail.items };
 
-    ghost invariant = { λ version. (length version.front ≤ most_listed) × (replay State.object (map asked (version.front ++ version.tail.items)) ≡ Some version.state) };
+    ghost invariant = { λ version. (length version.earlier ≤ most_listed) × (replay State.object (map asked (version.earlier ++ version.tail.items)) ≡ Some version.state) };
 }
 
 /// A version that lies in a slot: the slot's number, and what shows the version there.
@@ -51,7 +51,7 @@ impl<State: Object> Base<State> {
     }
 }
 
-/// A version that lies in a slot, and the one that its maker had taken over last.
+/// A version that lies in a slot, and the one that its maker had adopted last.
 #[derive(Drop)]
 pub struct Origin<State: Object> {
     pub(crate) version: Base<State>,

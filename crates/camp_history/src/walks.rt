@@ -16,7 +16,7 @@ use camp_share::Shared;
 use std::alloc::AllocError;
 
 /// A seat keeps the marks of this many calls for itself before it moves them into the list that copies share. Most
-/// versions, one for each 64 calls, have fewer, so that a seat that takes one over need not move them.
+/// versions, one for each 64 calls, have fewer, so that a seat that adopts one need not move them.
 const FEW: usize = 40;
 /// No head has more calls.
 const MOST_LISTED: usize = 4_194_304;
@@ -71,7 +71,7 @@ impl<State: Object> Seat<State> {
     {
         let Seat {
             pass,
-            front,
+            earlier,
             tail,
             state,
             bases,
@@ -80,7 +80,7 @@ impl<State: Object> Seat<State> {
         let pass = row.meet(&mut self.pass, pass);
         Seat {
             pass,
-            front,
+            earlier,
             tail,
             state,
             bases,
@@ -92,12 +92,12 @@ impl<State: Object> Seat<State> {
     fn settle(&mut self) -> Result<(), AllocError>
         ensures { self.new ≡ self.old }
     {
-        let len = self.front.len();
+        let len = self.earlier.len();
         if self.tail.len() < FEW || self.tail.len() + len > MOST_LISTED {
             return Ok(());
         }
-        let longer = self.front.spliced(len, len, &self.tail)?;
-        self.front = Shared::new(*self.tail.allocator(), longer)?;
+        let longer = self.earlier.spliced(len, len, &self.tail)?;
+        self.earlier = Shared::new(*self.tail.allocator(), longer)?;
         self.tail.clear();
         Ok(())
     }

@@ -5,7 +5,7 @@ use Rattle.camp_call.specs.declared.calls.Call.{Call}
 use Rattle.camp_kept.specs.Accepting.{AreAccepted}
 use Rattle.camp_kept.specs.Keeping.{Holds, IsStoreOf, Tells, call_texts, disk_in, store_texts, title}
 use Rattle.camp_kept.specs.declared.kept.Kept.{Kept}
-use Rattle.camp_object.specs.Histories.{IsFront}
+use Rattle.camp_object.specs.Histories.{IsBeginning}
 use Rattle.camp_script.specs.Canonical.{call_text}
 use Rattle.camp_script.specs.Keeping.{calls_of}
 use Rattle.camp_store.specs.Blocks.{Stands}
@@ -13,10 +13,10 @@ use Rattle.camp_store.specs.Logs.{IsBeforeOrAfter}
 use Rattle.camp_store.proofs.BlockLemmas.{kept_stands}
 
 -- the calls behind the first
-pub rest_is : (calls all : List Call) (front : IsFront calls all) → drop (length calls) all ≡ front.rest
+pub rest_is : (calls all : List Call) (front : IsBeginning calls all) → drop (length calls) all ≡ front.rest
 rest_is calls all front = ap (λ (l : List Call). drop (length calls) l) (sym front.makes) ∙ drop_at calls front.rest (length calls) refl
 
-pub texts_grow : (calls all : List Call) (front : IsFront calls all) → store_texts calls ++ call_texts front.rest ≡ store_texts all
+pub texts_grow : (calls all : List Call) (front : IsBeginning calls all) → store_texts calls ++ call_texts front.rest ≡ store_texts all
 texts_grow calls all front =
     ap (λ (l : List (List ℕ)). title ∷ l) (sym (map-append call_text calls front.rest)) ∙ ap (λ (l : List Call). store_texts l) front.makes
 
@@ -40,7 +40,7 @@ call_texts-push [] entry = refl
 call_texts-push (first ∷ history) entry = ap (λ (l : List (List ℕ)). call_text first.1 ∷ l) (call_texts-push history entry)
 
 -- the calls that are to be kept, as a slice of a history has them
-pub slice_is : (history : List (ℕ × Call)) (calls : List Call) (front : IsFront calls (calls_of history)) (k : ℕ) → k ≡ length calls
+pub slice_is : (history : List (ℕ × Call)) (calls : List Call) (front : IsBeginning calls (calls_of history)) (k : ℕ) → k ≡ length calls
     → calls_of (take (length history - k) (drop k history)) ≡ front.rest
 slice_is history calls front k is =
     ap (λ (l : List (ℕ × Call)). calls_of l) (take_all (length history - k) (drop k history) (omega (arith, length-drop k history)))

@@ -8,7 +8,7 @@ use Rattle.camp_call.specs.declared.replies.Refusal.{Refusal}
 use Rattle.camp_call.specs.declared.replies.Refusal.TheVariants.{NoBranch, SameBranch}
 use Rattle.camp_catch.specs.declared.catches.Catch.{Catch}
 use Rattle.camp_kept.specs.Accepting.{AreAccepted, alone}
-use Rattle.camp_object.specs.Histories.{IsFront, IsLegal, run}
+use Rattle.camp_object.specs.Histories.{IsBeginning, IsLegal, run}
 use Rattle.camp_object.proofs.Replays.{run-none}
 use Rattle.camp_repo.specs.Objects.{next_of, repository}
 use Rattle.camp_repo.specs.States.{Contents, catches_of}
@@ -68,7 +68,7 @@ pub legal_alone : (history : List (ℕ × Call)) → IsLegal repository history 
 legal_alone history legal = subst (λ (o : Option Contents). IsSome o) (run_alone (Some repository.initial) history) legal
 
 -- accepted calls that stand in scripts, and more
-pub accepted_more : (calls all : List Call) (front : IsFront calls all) → AllByRecursion IsScriptCall calls → AllByRecursion CanStand front.rest → IsLegal repository (alone all) → AreAccepted all
+pub accepted_more : (calls all : List Call) (front : IsBeginning calls all) → AllByRecursion IsScriptCall calls → AllByRecursion CanStand front.rest → IsLegal repository (alone all) → AreAccepted all
 accepted_more calls all front can stand legal = record {
   can = subst (λ (l : List Call). AllByRecursion IsScriptCall l) front.makes (both calls front.rest can stand (subst (λ (l : List Call). AllByRecursion ListsNames l) (sym front.makes) (all_list (Some repository.initial) all legal)));
   legal = legal;

@@ -6,7 +6,7 @@ use Rattle.camp_call.specs.declared.calls.Call.{Call}
 use Rattle.camp_kept.specs.Accepting.{AreAccepted, alone}
 use Rattle.camp_kept.specs.Keeping.{AreTexts, Tells, call_texts, title}
 use Rattle.camp_kept.specs.Replaying.{AreAsked, AreRecalled, AsksAgain, AsksCall, IsOnly}
-use Rattle.camp_object.specs.Histories.{IsAccepted, IsFront, IsLegal}
+use Rattle.camp_object.specs.Histories.{IsAccepted, IsBeginning, IsLegal}
 use Rattle.camp_object.proofs.Replays.{legal_front, replay_more}
 use Rattle.camp_repo.specs.Objects.{repository}
 use Rattle.camp_repo.specs.States.{Contents}
@@ -75,7 +75,7 @@ accepted_behind done calls text rest can accepted e =
     append_assoc (alone done) ((0, c) ∷ []) (alone behind.more)
     ∙ sym (map-append (λ (call : Call). (0, call)) done (c ∷ behind.more))
     ∙ ap alone (sym behind.is) in
-    let front : IsFront (alone done ++ (0, c) ∷ []) (alone calls) = record { rest = alone behind.more; makes = makes } in
+    let front : IsBeginning (alone done ++ (0, c) ∷ []) (alone calls) = record { rest = alone behind.more; makes = makes } in
     let legal : IsLegal repository (alone done ++ (0, c) ∷ []) = legal_front repository front accepted.legal in
     (c, behind.can, behind.text_is, subst (λ (o : Option Contents). IsSome o) (replay_more repository (alone done) (0, c)) legal)
 

@@ -3,7 +3,7 @@ use Rattle.std.specs.Prelude.{◌≡◌, ◌⊎◌, ◌≤◌, ℕ, List, [], �
 use Rattle.camp_call.specs.declared.calls.Call.{Call}
 use Rattle.camp_kept.specs.Accepting.{AreAccepted}
 use Rattle.camp_kept.specs.declared.kept.Kept.{Kept}
-use Rattle.camp_object.specs.Histories.{IsFront}
+use Rattle.camp_object.specs.Histories.{IsBeginning}
 use Rattle.camp_script.specs.Canonical.{call_text}
 use Rattle.camp_script.specs.Keeping.{calls_of}
 use Rattle.camp_store.specs.Blocks.{Stands}
@@ -67,4 +67,4 @@ left_out_in kept = kept.left_out
 
 -- the first calls of what is kept
 abbrev pub AreFirst : {D : Type 0} → List Call → Kept D → Type 0
-AreFirst calls kept = IsFront calls (calls_in kept)
+AreFirst calls kept = IsBeginning calls (calls_in kept)

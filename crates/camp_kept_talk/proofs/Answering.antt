@@ -6,7 +6,7 @@ use Rattle.std.proofs.lemmas.List.{map-append}
 use Rattle.std.specs.Io.KnownBytes.{Appends, Consumes, IsAtEnd, Keeps, append_known}
 use Rattle.camp_call.specs.declared.calls.Call.{Call}
 use Rattle.camp_kept_talk.specs.Promises.{AnswersLast, Told}
-use Rattle.camp_object.specs.Histories.{IsFront}
+use Rattle.camp_object.specs.Histories.{IsBeginning}
 use Rattle.camp_script.specs.Keeping.{calls_of}
 use Rattle.camp_talk.specs.Answers.{Answers, Standing}
 use Rattle.camp_talk.specs.Entries.{Entries}
@@ -14,7 +14,7 @@ use Rattle.camp_talk.specs.Cutting.{IsCommand, IsLeft}
 use Rattle.camp_talk.specs.Talks.{AppendsSome, Exchange, Follow, ReadsCommand}
 use Rattle.camp_talk.specs.Talks.{Holds as HoldsSo}
 
-pub calls_front : (before after : Entries) → IsFront before after → IsFront (calls_of before) (calls_of after)
+pub calls_front : (before after : Entries) → IsBeginning before after → IsBeginning (calls_of before) (calls_of after)
 calls_front before after front = record {
   rest = calls_of front.rest;
   makes = sym (map-append (λ (e : ℕ × Call). e.1) before front.rest) ∙ ap (λ (l : Entries). calls_of l) front.makes;

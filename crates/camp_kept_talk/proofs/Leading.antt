@@ -11,8 +11,8 @@ use Rattle.camp_kept_talk.specs.Promises.{Promises}
 use Rattle.camp_kept_talk.specs.declared.faults.StoredFault.{StoredFault}
 use Rattle.camp_kept_talk.specs.declared.faults.StoredFault.TheVariants as fault
 use Rattle.camp_kept_talk.proofs.Answering.{IsLast, appends_behind, appends_known, appends_some, calls_front, holds_kept, holds_trans, keeps_behind, last_read, told_more, told_of, told_trans, told_unseen}
-use Rattle.camp_object.specs.Histories.{IsFront}
-use Rattle.camp_object.proofs.Fronts.{front_front, front_self}
+use Rattle.camp_object.specs.Histories.{IsBeginning}
+use Rattle.camp_object.proofs.Beginnings.{begins_through, begins_self}
 use Rattle.camp_script.specs.Keeping.{calls_of}
 use Rattle.camp_store.specs.Logs.{KeepsTexts}
 use Rattle.camp_talk.specs.Accounts.{Account}
@@ -47,8 +47,8 @@ module _ {D : Type 0} (seen : D → List ℕ) (may_leave : D → List ℕ → Ty
     behind = begins_so a (Some []) (at kept.book lines cause);
     calls = calls_in kept;
     holds = holds;
-    since = front_self (calls_in kept);
-    within = front_self (calls_in kept);
+    since = begins_self (calls_in kept);
+    within = begins_self (calls_in kept);
   }
 
   module _ (b : Option (List ℕ)) (held : List ℕ) (lines : ℕ) (cause : Account) (goes : Goes seen may_leave a b old now held first (at kept.book lines cause) kept) where
@@ -79,8 +79,8 @@ module _ {D : Type 0} (seen : D → List ℕ) (may_leave : D → List ℕ → Ty
       behind = subst (λ (l : List ℕ). HoldsSo b b (Some []) (Some l) (at new.book lines cause) (at new.book lines cause)) (sym none) (begins_so b (Some []) (at new.book lines cause));
       calls = calls_in kept;
       holds = keeps goes.calls goes.within goes.holds;
-      since = subst (λ (h : Entries). IsFront (calls_of h) (calls_in kept)) (sym same) (front_self (calls_in kept));
-      within = subst (λ (h : Entries). IsFront (calls_in kept) (calls_of h)) (sym same) (front_self (calls_in kept));
+      since = subst (λ (h : Entries). IsBeginning (calls_of h) (calls_in kept)) (sym same) (begins_self (calls_in kept));
+      within = subst (λ (h : Entries). IsBeginning (calls_in kept) (calls_of h)) (sym same) (begins_self (calls_in kept));
     }
 
     module _ (c : Option (List ℕ)) (more : List ℕ) (new : Kept D) (same_log : new.log ≡ kept.log) (same_count : new.count ≡ kept.count) where
@@ -102,7 +102,7 @@ module _ {D : Type 0} (seen : D → List ℕ) (may_leave : D → List ℕ → Ty
         calls = goes.calls;
         holds = holds_still;
         since = goes.since;
-        within = front_front goes.within (calls_front kept.book new.book (answers_grow (at kept.book lines cause) _ _ (at new.book after learnt) turns.answers));
+        within = begins_through goes.within (calls_front kept.book new.book (answers_grow (at kept.book lines cause) _ _ (at new.book after learnt) turns.answers));
       }
 
       -- one was answered, perhaps in part
@@ -119,7 +119,7 @@ module _ {D : Type 0} (seen : D → List ℕ) (may_leave : D → List ℕ → Ty
         calls = goes.calls;
         holds = holds_still;
         since = goes.since;
-        within = front_front goes.within (calls_front kept.book next.history (answers_grow (at kept.book lines cause) said.command said.answer next answers));
+        within = begins_through goes.within (calls_front kept.book next.history (answers_grow (at kept.book lines cause) said.command said.answer next answers));
         is = is;
       }
 
@@ -192,8 +192,8 @@ module _ {D : Type 0} (seen : D → List ℕ) (may_leave : D → List ℕ → Ty
       })
 
   module _ (come : Option (List ℕ)) (held : List ℕ) (stays : Stays seen may_leave a come old now held first kept) where
-    within_book : IsFront stays.calls (calls_in kept)
-    within_book = subst (λ (h : Entries). IsFront stays.calls (calls_of h)) stays.is stays.within
+    within_book : IsBeginning stays.calls (calls_in kept)
+    within_book = subst (λ (h : Entries). IsBeginning stays.calls (calls_of h)) stays.is stays.within
 
     -- all accepted calls are on the disk
     pub holds_all : (new : Kept D) → new.book ≡ kept.book → AllAreKept seen may_leave kept new → Holds seen may_leave (calls_in new) new
@@ -212,8 +212,8 @@ module _ {D : Type 0} (seen : D → List ℕ) (may_leave : D → List ℕ → Ty
             crash = λ c left. (
               calls_in kept,
               holds_leave seen may_leave (calls_in kept) new all c left,
-              subst (λ (h : Entries). IsFront (calls_of h) (calls_in kept)) (sym stays.is) (front_self (calls_in kept)),
-              subst (λ (h : Entries). IsFront (calls_in kept) (calls_of h)) (sym same) (front_self (calls_in kept)),
+              subst (λ (h : Entries). IsBeginning (calls_of h) (calls_in kept)) (sym stays.is) (begins_self (calls_in kept)),
+              subst (λ (h : Entries). IsBeginning (calls_in kept) (calls_of h)) (sym same) (begins_self (calls_in kept)),
             );
           }
 
@@ -227,18 +227,18 @@ module _ {D : Type 0} (seen : D → List ℕ) (may_leave : D → List ℕ → Ty
       }
         where
           which : (c : List ℕ) → IsStoreOf stays.calls c ⊎ IsStoreOf (calls_in kept) c
-              → (calls : List Call) × IsStoreOf calls c × IsFront (calls_of stays.middle.history) calls × IsFront calls (calls_in new)
+              → (calls : List Call) × IsStoreOf calls c × IsBeginning (calls_of stays.middle.history) calls × IsBeginning calls (calls_in new)
           which c (inl some) = (
             stays.calls,
             some,
             stays.since,
-            subst (λ (h : Entries). IsFront stays.calls (calls_of h)) (sym same) within_book,
+            subst (λ (h : Entries). IsBeginning stays.calls (calls_of h)) (sym same) within_book,
           )
           which c (inr all) = (
             calls_in kept,
             all,
-            front_front stays.since within_book,
-            subst (λ (h : Entries). IsFront (calls_in kept) (calls_of h)) (sym same) (front_self (calls_in kept)),
+            begins_through stays.since within_book,
+            subst (λ (h : Entries). IsBeginning (calls_in kept) (calls_of h)) (sym same) (begins_self (calls_in kept)),
           )
 
       last_is : stays.last.history ≡ new.book
@@ -268,7 +268,7 @@ module _ {D : Type 0} (seen : D → List ℕ) (may_leave : D → List ℕ → Ty
         is = last_is;
         calls = stays.calls;
         since = stays.since;
-        within = subst (λ (h : Entries). IsFront stays.calls (calls_of h)) (sym same) within_book;
+        within = subst (λ (h : Entries). IsBeginning stays.calls (calls_of h)) (sym same) within_book;
         crash = λ c left. subst (λ (h : Entries). IsStoreOf stays.calls c ⊎ IsStoreOf (calls_of h) c) (sym same) (may stays.calls within_book stays.holds c left);
       }
 

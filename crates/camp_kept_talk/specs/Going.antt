@@ -7,7 +7,7 @@ use Rattle.camp_kept.specs.declared.kept.Kept.{Kept}
 use Rattle.camp_kept_talk.specs.Promises.{Promises, Told}
 use Rattle.camp_kept_talk.specs.declared.faults.StoredFault.{StoredFault}
 use Rattle.camp_kept_talk.specs.declared.faults.StoredFault.TheVariants as fault
-use Rattle.camp_object.specs.Histories.{IsFront}
+use Rattle.camp_object.specs.Histories.{IsBeginning}
 use Rattle.camp_script.specs.Keeping.{calls_of}
 use Rattle.camp_talk.specs.Answers.{Standing}
 use Rattle.camp_talk.specs.Entries.{Entries}
@@ -79,8 +79,8 @@ module _ {D : Type 0} (seen : D → List ℕ) (may_leave : D → List ℕ → Ty
       pub behind : HoldsSo left rest (Some []) (Some held) middle last
       pub calls : List Call
       pub holds : Holds seen may_leave calls kept
-      pub since : IsFront (calls_of middle.history) calls
-      pub within : IsFront calls (calls_of last.history)
+      pub since : IsBeginning (calls_of middle.history) calls
+      pub within : IsBeginning calls (calls_of last.history)
 
   -- a turn has led no further: what answers the commands behind the place is held back, perhaps in part; and no more was
   -- read behind them than a command has
@@ -94,8 +94,8 @@ module _ {D : Type 0} (seen : D → List ℕ) (may_leave : D → List ℕ → Ty
     pub reads : ReadsWithin right rest
     pub calls : List Call
     pub holds : Holds seen may_leave calls kept
-    pub since : IsFront (calls_of middle.history) calls
-    pub within : IsFront calls (calls_of last.history)
+    pub since : IsBeginning (calls_of middle.history) calls
+    pub within : IsBeginning calls (calls_of last.history)
     pub is : last.history ≡ kept.book
 
   -- the calls could not be kept: commands were answered up to a place, and all of their answers were written; those
@@ -112,8 +112,8 @@ module _ {D : Type 0} (seen : D → List ℕ) (may_leave : D → List ℕ → Ty
     pub reads : ReadsWithin right rest
     pub is : last.history ≡ kept.book
     pub calls : List Call
-    pub since : IsFront (calls_of middle.history) calls
-    pub within : IsFront calls (calls_in kept)
+    pub since : IsBeginning (calls_of middle.history) calls
+    pub within : IsBeginning calls (calls_in kept)
     pub crash : (c : List ℕ) → may_leave (disk_in kept) c → IsStoreOf calls c ⊎ IsStoreOf (calls_in kept) c
 
   -- the writer failed: commands were answered, and a front of their answers was written; no more was read than a further

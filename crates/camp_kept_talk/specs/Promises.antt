@@ -5,7 +5,7 @@ use Rattle.std.specs.Io.KnownBytes.{Consumes, IsAtEnd}
 use Rattle.camp_call.specs.declared.calls.Call.{Call}
 use Rattle.camp_kept.specs.Keeping.{IsStoreOf, calls_in, disk_in}
 use Rattle.camp_kept.specs.declared.kept.Kept.{Kept}
-use Rattle.camp_object.specs.Histories.{IsFront}
+use Rattle.camp_object.specs.Histories.{IsBeginning}
 use Rattle.camp_script.specs.Keeping.{calls_of}
 use Rattle.camp_talk.specs.Answers.{Answers, Standing}
 use Rattle.camp_talk.specs.Cutting.{IsCommand, IsLeft}
@@ -38,4 +38,4 @@ module _ {D : Type 0} (seen : D → List ℕ) (may_leave : D → List ℕ → Ty
     pub last : Standing
     pub told : Told remaining left old new first last
     pub crash : (c : List ℕ) → may_leave (disk_in kept) c
-        → (calls : List Call) × IsStoreOf calls c × IsFront (calls_of last.history) calls × IsFront calls (calls_in kept)
+        → (calls : List Call) × IsStoreOf calls c × IsBeginning (calls_of last.history) calls × IsBeginning calls (calls_in kept)

@@ -3,22 +3,22 @@ use Rattle.std.proofs.Common.{◌≡◌, ℕ, zero, suc, ◌+◌, ◌<◌, ◌�
 use Rattle.std.specs.Option.{option_and_then}
 use Rattle.std.proofs.lemmas.Option.{option_and_then_some}
 use Rattle.camp_object.specs.Objects.{Sequential, IsLawfulObject}
-use Rattle.camp_object.specs.Histories.{IsFront, replay, IsLegal, IsAccepted, IsAnswered, own}
+use Rattle.camp_object.specs.Histories.{IsBeginning, replay, IsLegal, IsAccepted, IsAnswered, own}
 use Rattle.camp_object.specs.Asking.{Caller, alone_at, Accepts, AddsNothing, Loses, Says, Ask, IsNotBusy}
 use Rattle.camp_object.specs.declared.faults.Fault.TheVariants.{Memory, Busy, Full}
 use Rattle.camp_object.specs.declared.faults.Fault.{Fault}
 use Rattle.std.proofs.lemmas.List.{length_push}
-use Rattle.camp_object.proofs.Fronts.{front_longer, front_front, length-front}
+use Rattle.camp_object.proofs.Beginnings.{begins_longer, begins_through, length-beginning}
 use Rattle.camp_object.proofs.Replays.{own_mine, length-own-within, length-own-all, replay_more, some_is_some, state_of_legal}
 
 -- a call that was accepted after what stands before it
 pub ask_done : {State Call Reply : Type 0} (object : Sequential State Call Reply) → IsLawfulObject object → (caller : Caller) (seen before now : List (ℕ × Call)) (call : Call) (at : ℕ) (reply : Reply)
-    → IsFront seen before → own caller.seat before ≡ own caller.seat seen → IsAccepted object before call
+    → IsBeginning seen before → own caller.seat before ≡ own caller.seat seen → IsAccepted object before call
     → (caller.alone ≡ false → length (own caller.seat seen) < caller.per_seat) → (caller.alone ≡ true → before ≡ seen)
     → now ≡ before ++ (caller.seat, call) ∷ [] → at ≡ length now → reply ≡ object.done at
     → Ask object caller seen call (Ok reply) now
 ask_done {Call = Call} {Reply = Reply} object lawful caller seen before now call at reply since stays accepted has_room exact ends position is =
-    let begins : IsFront seen (before ++ (caller.seat, call) ∷ []) = front_longer ((caller.seat, call) ∷ []) since in
+    let begins : IsBeginning seen (before ++ (caller.seat, call) ∷ []) = begins_longer ((caller.seat, call) ∷ []) since in
     let legal : IsLegal object (before ++ (caller.seat, call) ∷ []) = ap {B = Bool} is_some (replay_more object before (caller.seat, call)) ∙ accepted in
     let grown : own caller.seat now ≡ own caller.seat seen ++ call ∷ [] =
     ap (own caller.seat) ends ∙ own_mine caller.seat before call ∙ ap (λ calls. calls ++ call ∷ []) stays
@@ -28,14 +28,14 @@ ask_done {Call = Call} {Reply = Reply} object lawful caller seen before now call
     in
     let P : Option ℕ → Type 0 = λ told. MatchOption told (AddsNothing caller seen now × IsAnswered object now call reply) (λ at. Accepts caller seen call at now) in
     record {
-      grows = let Begins : List (ℕ × Call) → Type 0 = λ list. IsFront seen list in subst Begins (sym ends) begins;
+      grows = let Begins : List (ℕ × Call) → Type 0 = λ list. IsBeginning seen list in subst Begins (sym ends) begins;
       legal = let Legal : List (ℕ × Call) → Type 0 = λ list. IsLegal object list in subst Legal (sym ends) legal;
       says = subst P (sym (ap object.done_at is ∙ lawful.tells at)) accepts;
     }
 
 -- a call that was not accepted
 pub ask_answered : {State Call Reply : Type 0} (object : Sequential State Call Reply) → IsLawfulObject object → (caller : Caller) (seen now : List (ℕ × Call)) (call : Call) (reply : Reply) (state : State)
-    → IsFront seen now → AddsNothing caller seen now → replay object now ≡ Some state → object.after state call ≡ None → object.answers state call reply
+    → IsBeginning seen now → AddsNothing caller seen now → replay object now ≡ Some state → object.after state call ≡ None → object.answers state call reply
     → Ask object caller seen call (Ok reply) now
 ask_answered object lawful caller seen now call reply state grows adds_nothing replays stays gives =
     let P : Option ℕ → Type 0 = λ told. MatchOption told (AddsNothing caller seen now × IsAnswered object now call reply) (λ at. Accepts caller seen call at now) in
@@ -47,7 +47,7 @@ ask_answered object lawful caller seen now call reply state grows adds_nothing r
 
 -- a call for which memory was wanting
 pub ask_memory : {State Call Reply : Type 0} (object : Sequential State Call Reply) (caller : Caller) (seen now : List (ℕ × Call)) (call : Call)
-    → IsFront seen now → AddsNothing caller seen now → IsLegal object now → Ask object caller seen call (Err Memory) now
+    → IsBeginning seen now → AddsNothing caller seen now → IsLegal object now → Ask object caller seen call (Err Memory) now
 ask_memory object caller seen now call grows adds_nothing legal = record { grows = grows; legal = legal; says = adds_nothing }
 
 -- a caller that is alone, and to whose history nothing was added
@@ -55,24 +55,24 @@ pub adds_nothing_alone : {Call : Type 0} (seat : ℕ) (seen : List (ℕ × Call)
 adds_nothing_alone seat seen = record { own_stays = refl; exact = λ _. refl }
 
 -- one more loss at the end
-pub loses_more : {State Call Reply : Type 0} (object : Sequential State Call Reply) (call : Call) (times : ℕ) (seen front now : List (ℕ × Call)) (ahead : ℕ × Call)
-    → Loses object call times seen front → IsAccepted object front call → IsFront (front ++ ahead ∷ []) now → Loses object call (suc times) seen now
-loses_more object call zero seen front now ahead begins accepted further = (front, ahead, begins, accepted, further)
-loses_more object call (suc times) seen front now ahead loses accepted further =
-    (loses.0, loses.1, loses.2, loses.3, loses_more object call times (loses.0 ++ loses.1 ∷ []) front now ahead loses.4 accepted further)
+pub loses_more : {State Call Reply : Type 0} (object : Sequential State Call Reply) (call : Call) (times : ℕ) (seen beginning now : List (ℕ × Call)) (ahead : ℕ × Call)
+    → Loses object call times seen beginning → IsAccepted object beginning call → IsBeginning (beginning ++ ahead ∷ []) now → Loses object call (suc times) seen now
+loses_more object call zero seen beginning now ahead begins accepted further = (beginning, ahead, begins, accepted, further)
+loses_more object call (suc times) seen beginning now ahead loses accepted further =
+    (loses.0, loses.1, loses.2, loses.3, loses_more object call times (loses.0 ++ loses.1 ∷ []) beginning now ahead loses.4 accepted further)
 
 -- the losses are losses since an earlier moment
 pub loses_since : {State Call Reply : Type 0} (object : Sequential State Call Reply) (call : Call) (times : ℕ) (seen now earlier : List (ℕ × Call))
-    → IsFront earlier seen → Loses object call times seen now → Loses object call times earlier now
-loses_since object call zero seen now earlier since begins = front_front since begins
-loses_since object call (suc times) seen now earlier since loses = (loses.0, loses.1, front_front since loses.2, loses.3, loses.4)
+    → IsBeginning earlier seen → Loses object call times seen now → Loses object call times earlier now
+loses_since object call zero seen now earlier since begins = begins_through since begins
+loses_since object call (suc times) seen now earlier since loses = (loses.0, loses.1, begins_through since loses.2, loses.3, loses.4)
 
 -- the losses stay when more is seen
-pub loses_longer : {State Call Reply : Type 0} (object : Sequential State Call Reply) (call : Call) (times : ℕ) (seen front now : List (ℕ × Call))
-    → Loses object call times seen front → IsFront front now → Loses object call times seen now
-loses_longer object call zero seen front now begins further = front_front begins further
-loses_longer object call (suc times) seen front now loses further =
-    (loses.0, loses.1, loses.2, loses.3, loses_longer object call times (loses.0 ++ loses.1 ∷ []) front now loses.4 further)
+pub loses_longer : {State Call Reply : Type 0} (object : Sequential State Call Reply) (call : Call) (times : ℕ) (seen beginning now : List (ℕ × Call))
+    → Loses object call times seen beginning → IsBeginning beginning now → Loses object call times seen now
+loses_longer object call zero seen beginning now begins further = begins_through begins further
+loses_longer object call (suc times) seen beginning now loses further =
+    (loses.0, loses.1, loses.2, loses.3, loses_longer object call times (loses.0 ++ loses.1 ∷ []) beginning now loses.4 further)
 
 -- the call of a done was accepted at what stood before it
 pub accepted_before : {State Call Reply : Type 0} (object : Sequential State Call Reply) (caller : Caller) (seen : List (ℕ × Call)) (call : Call) (at : ℕ) (now : List (ℕ × Call))
@@ -89,14 +89,14 @@ accepted_writes object lawful history call accepted =
 
 -- what an answer says of a history that was seen, it says of each beginning of it that has the same calls of the caller
 module _ {State Call Reply : Type 0} (object : Sequential State Call Reply) (caller : Caller) (call : Call) (now seen mid : List (ℕ × Call))
-    (not_alone : caller.alone ≡ false) (since : IsFront seen mid) (stays : own caller.seat mid ≡ own caller.seat seen) where
+    (not_alone : caller.alone ≡ false) (since : IsBeginning seen mid) (stays : own caller.seat mid ≡ own caller.seat seen) where
   adds_nothing_since : AddsNothing caller mid now → AddsNothing caller seen now
   adds_nothing_since adds = record { own_stays = adds.own_stays ∙ stays; exact = λ alone. cc }
 
   accepts_since : (at : ℕ) → Accepts caller mid call at now → Accepts caller seen call at now
   accepts_since at accepts = record {
     before = accepts.before;
-    since = front_front since accepts.since;
+    since = begins_through since accepts.since;
     ends = accepts.ends;
     own_grows = accepts.own_grows ∙ ap (λ calls. calls ++ call ∷ []) stays;
     position = accepts.position;
@@ -127,13 +127,13 @@ module _ {State Call Reply : Type 0} (object : Sequential State Call Reply) (cal
   }
 
   pub ask_since : (answer : Result Reply Fault) → Ask object caller mid call answer now → Ask object caller seen call answer now
-  ask_since answer ask = record { grows = front_front since ask.grows; legal = ask.legal; says = says_since answer ask.says }
+  ask_since answer ask = record { grows = begins_through since ask.grows; legal = ask.legal; says = says_since answer ask.says }
 
 -- each lost exchange lengthened the history
 pub loses_length : {State Call Reply : Type 0} (object : Sequential State Call Reply) (call : Call) (times : ℕ) (seen now : List (ℕ × Call))
     → Loses object call times seen now → length seen + times ≤ length now
-loses_length object call zero seen now begins = let within = length-front begins in omega arith
-loses_length object call (suc times) seen now loses = omega (arith, length-front loses.2, length_push loses.0 loses.1, loses_length object call times (loses.0 ++ loses.1 ∷ []) now loses.4)
+loses_length object call zero seen now begins = let within = length-beginning begins in omega arith
+loses_length object call (suc times) seen now loses = omega (arith, length-beginning loses.2, length_push loses.0 loses.1, loses_length object call times (loses.0 ++ loses.1 ∷ []) now loses.4)
 
 -- where every call is the caller's own, no exchange is lost
 pub never_busy_among_own : {State Call Reply : Type 0} (object : Sequential State Call Reply) (caller : Caller) (seen : List (ℕ × Call)) (call : Call) (answer : Result Reply Fault) (now : List (ℕ × Call))

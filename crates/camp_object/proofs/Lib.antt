@@ -1,3 +1,3 @@
 pub mod Asks
-pub mod Fronts
+pub mod Beginnings
 pub mod Replays

@@ -6,7 +6,7 @@ use Rattle.std.proofs.lemmas.Option.{option_and_then_some, same_Some}
 use Rattle.std.proofs.lemmas.List.{append-nil}
 use Rattle.std.proofs.lemmas.List.Elements.{All-tail}
 use Rattle.camp_object.specs.Objects.{Sequential, IsLawfulObject}
-use Rattle.camp_object.specs.Histories.{IsFront, run, replay, IsLegal, IsAccepted, own}
+use Rattle.camp_object.specs.Histories.{IsBeginning, run, replay, IsLegal, IsAccepted, own}
 
 pub run-none : {State Call Reply : Type 0} (object : Sequential State Call Reply) (history : List (ℕ × Call)) → run object None history ≡ None
 run-none object [] = refl
@@ -36,15 +36,15 @@ pub state_of_legal : {A : Type 0} (option : Option A) → IsSome option → (val
 state_of_legal None is = cc
 state_of_legal (Some value) is = (value, refl)
 
--- a front of a legal history is legal
+-- a beginning of a legal history is legal
 run_from_some : {State Call Reply : Type 0} (object : Sequential State Call Reply) (state : Option State) (rest : List (ℕ × Call)) → IsSome (run object state rest) → IsSome state
 run_from_some object None rest legal = sym (ap is_some (run-none object rest)) ∙ legal
 run_from_some object (Some state) rest legal = refl
 
-pub legal_front : {State Call Reply : Type 0} (object : Sequential State Call Reply) {front whole : List (ℕ × Call)} → IsFront front whole → IsLegal object whole → IsLegal object front
-legal_front object {front = front} {whole = whole} begins legal =
-    run_from_some object (replay object front) begins.rest (
-    ap is_some (sym (run-append object (Some object.initial) front begins.rest) ∙ ap (replay object) begins.makes) ∙ legal
+pub legal_front : {State Call Reply : Type 0} (object : Sequential State Call Reply) {beginning whole : List (ℕ × Call)} → IsBeginning beginning whole → IsLegal object whole → IsLegal object beginning
+legal_front object {beginning = beginning} {whole = whole} begins legal =
+    run_from_some object (replay object beginning) begins.rest (
+    ap is_some (sym (run-append object (Some object.initial) beginning begins.rest) ∙ ap (replay object) begins.makes) ∙ legal
     )
 
 -- a state counts the calls that led to it

@@ -2,7 +2,7 @@
 use Rattle.std.specs.Prelude.{◌≡◌, ℕ, zero, suc, ◌<◌, Bool, true, false, List, [], ◌∷◌, ◌++◌, length}
 use Rattle.std.specs.Prelude.{Result, Ok, Err, MatchOption}
 use Rattle.camp_object.specs.Objects.{Sequential}
-use Rattle.camp_object.specs.Histories.{IsFront, IsLegal, IsAccepted, IsAnswered, own}
+use Rattle.camp_object.specs.Histories.{IsBeginning, IsLegal, IsAccepted, IsAnswered, own}
 use Rattle.camp_object.specs.declared.faults.Fault.{Fault}
 use Rattle.camp_object.specs.declared.faults.Fault.TheVariants.{Memory, Busy, Full}
 
@@ -26,7 +26,7 @@ module _ {Call : Type 0} (caller : Caller) (seen : List (ℕ × Call)) where
   -- new call of its caller
   pub record Accepts (call : Call) (at : ℕ) (now : List (ℕ × Call)) : Type 0 where
     pub before : List (ℕ × Call)
-    pub since : IsFront seen before
+    pub since : IsBeginning seen before
     pub ends : now ≡ before ++ (caller.seat, call) ∷ []
     pub own_grows : own caller.seat now ≡ own caller.seat seen ++ call ∷ []
     pub position : at ≡ length now
@@ -38,13 +38,13 @@ module _ {Call : Type 0} (caller : Caller) (seen : List (ℕ × Call)) where
     pub own_stays : own caller.seat now ≡ own caller.seat seen
     pub exact : caller.alone ≡ true → now ≡ seen
 
--- the call lost so many times: at a front it was accepted but another call went ahead, and so on from there
+-- the call lost so many times: at a beginning it was accepted but another call went ahead, and so on from there
 abbrev pub Loses : {State Call Reply : Type 0} → Sequential State Call Reply → Call → ℕ
     → List (ℕ × Call) → List (ℕ × Call) → Type 0
-Loses object call zero seen now = IsFront seen now
+Loses object call zero seen now = IsBeginning seen now
 Loses {Call = Call} object call (suc times) seen now =
-    (front : List (ℕ × Call)) × (ahead : ℕ × Call) × IsFront seen front × IsAccepted object front call
-    × Loses object call times (front ++ ahead ∷ []) now
+    (beginning : List (ℕ × Call)) × (ahead : ℕ × Call) × IsBeginning seen beginning × IsAccepted object beginning call
+    × Loses object call times (beginning ++ ahead ∷ []) now
 
 module _ {State Call Reply : Type 0} (object : Sequential State Call Reply)
     (caller : Caller) (seen : List (ℕ × Call)) (call : Call) where
@@ -75,7 +75,7 @@ module _ {State Call Reply : Type 0} (object : Sequential State Call Reply)
 
   -- the answer to a call: what its caller has seen now is a legal history that begins with all it had seen
   pub record Ask (answer : Result Reply Fault) (now : List (ℕ × Call)) : Type 0 where
-    pub grows : IsFront seen now
+    pub grows : IsBeginning seen now
     pub legal : IsLegal object now
     pub says : Says answer now
 

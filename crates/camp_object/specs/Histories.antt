@@ -4,9 +4,9 @@ use Rattle.std.specs.Option.{option_and_then}
 use Rattle.camp_object.specs.Objects.{Sequential}
 
 -- one list begins another
-pub record IsFront {Entry : Type 0} (front whole : List Entry) : Type 0 where
+pub record IsBeginning {Entry : Type 0} (beginning whole : List Entry) : Type 0 where
   pub rest : List Entry
-  pub makes : front ++ rest ≡ whole
+  pub makes : beginning ++ rest ≡ whole
 
 -- the calls of a seat, in order
 abbrev pub own : {Call : Type 0} → ℕ → List (ℕ × Call) → List Call

@@ -1,6 +1,7 @@
--- The end of the file of a path, before and behind primitives: two that change places move it from where they did to where they did.
-use Rattle.camp_prim.proofs.Words.{◌≡◌, ◌≢◌, ℕ, ◌+◌, ◌-◌, ◌≤◌, ◌⊎◌, List, length, refl, sym, ap, ◌∙◌, subst, inl, inr, arith, slice_cmp-IsAntisymmetric, nat_cmp-IsAntisymmetric, nat_list_cmp_total, Edit, path_of, at_line, ChangePlaces, Primitive, Add, Remove, Hunk}
-use Rattle.camp_prim.proofs.SwapDecided.{Decided, same_or_not}
+-- The end of the file of a path, before and behind primitives: two that commute move it from where they did to where
+-- they did.
+use Rattle.camp_prim.proofs.Words.{◌≡◌, ◌≢◌, ℕ, ◌+◌, ◌-◌, ◌≤◌, ◌⊎◌, List, length, refl, sym, ap, ◌∙◌, subst, inl, inr, arith, slice_cmp-IsAntisymmetric, nat_cmp-IsAntisymmetric, nat_list_cmp_total, Edit, path_of, at_line, PrimitivesCommute, Primitive, Add, Remove, Hunk}
+use Rattle.camp_prim.proofs.CommuteDecided.{Decided, same_or_not}
 
 -- a hunk of so many old and new lines stands at a line of a file that ends here, and moves the end there
 abbrev pub Ends : ℕ → ℕ → ℕ → ℕ → ℕ → Type 0
@@ -74,7 +75,7 @@ steps_along : (path : List ℕ) (before behind : ℕ) (p q r s : Primitive) → 
 steps_along path before behind p q r s e f both =
     subst (λ x. StepBoth path before r x behind) f (subst (λ x. StepBoth path before x q behind) e both)
 
-pub both_turned : (path : List ℕ) (before behind : ℕ) (p q q' p' : Primitive) → ChangePlaces p q q' p' → StepBoth path before p q behind → StepBoth path before q' p' behind
+pub both_turned : (path : List ℕ) (before behind : ℕ) (p q q' p' : Primitive) → PrimitivesCommute p q q' p' → StepBoth path before p q behind → StepBoth path before q' p' behind
 both_turned path before behind p q q' p' (inl w) s =
     steps_along path before behind q p q' p' (sym w.second) (sym w.first) (on_two_paths path before behind p q w.paths s)
 both_turned path before behind p q q' p' (inr (inl w)) s =
@@ -93,7 +94,7 @@ news_of (Add path) = 0
 news_of (Remove path) = 0
 news_of (Hunk hunk) = length hunk.new
 
-pub news_kept : (p q q' p' : Primitive) → ChangePlaces p q q' p' → (news_of q' ≡ news_of q) × (news_of p' ≡ news_of p)
+pub news_kept : (p q q' p' : Primitive) → PrimitivesCommute p q q' p' → (news_of q' ≡ news_of q) × (news_of p' ≡ news_of p)
 news_kept p q q' p' (inl w) = (ap news_of w.second, ap news_of w.first)
 news_kept p q q' p' (inr (inl w)) = (ap news_of w.second ∙ sym (ap news_of w.is_q), ap news_of w.first)
 news_kept p q q' p' (inr (inr w)) = (ap news_of w.second, ap news_of w.first ∙ sym (ap news_of w.is_p))

@@ -8,11 +8,11 @@ pub mod Maps
 pub mod Moving
 pub mod Splices
 pub mod Staying
-pub mod SwapDecided
-pub mod SwapEffect
-pub mod SwapLaws
-pub mod SwapUnique
+pub mod CommuteDecided
+pub mod CommuteEffect
+pub mod CommuteLaws
+pub mod CommuteUnique
 pub mod ThreeAnywhere
 pub mod ThreeHunks
-pub mod ThreeSwaps
+pub mod ThreeCommute
 pub mod Words

@@ -1,6 +1,6 @@
--- Where hunks that change places come to stand.
-use Rattle.camp_prim.proofs.Words.{◌≡◌, ℕ, ◌+◌, ◌<◌, ◌⊎◌, ◌↔◌, Bool, true, false, IsTrue, Option, option_map, Result, Ok, Err, IfErr, length, refl, sym, ap, subst, inl, inr, Lines, InRange, Edit, IsInRange, SameKey, FindsPair, moved, turned, ComesTo, ChangeInRange, at_line, MayPass, Swap, Primitive, Hunk, Named, Targets}
-use Rattle.camp_prim.proofs.SwapUnique.{same_hunk, hunk_below, hunk_above}
+-- Where hunks that commute come to stand.
+use Rattle.camp_prim.proofs.Words.{◌≡◌, ℕ, ◌+◌, ◌<◌, ◌⊎◌, ◌↔◌, Bool, true, false, IsTrue, Option, option_map, Result, Ok, Err, IfErr, length, refl, sym, ap, subst, inl, inr, Lines, InRange, Edit, IsInRange, SameKey, FindsPair, moved, turned, ComesTo, ChangeInRange, at_line, MayPass, Commute, Primitive, Hunk, Named, Targets}
+use Rattle.camp_prim.proofs.CommuteUnique.{same_hunk, hunk_below, hunk_above}
 
 -- the sides of the upper hunk as other names for them have it
 pub comes_along : (upper upper' : ℕ) (takes takes' leaves leaves' : Lines) (lower : Edit) (line : ℕ) → upper ≡ upper' → takes ≡ takes' → leaves ≡ leaves' → ComesTo upper (length takes) (length leaves) lower line → ComesTo upper' (length takes') (length leaves') lower line
@@ -53,24 +53,24 @@ pub finds_along : (p q : Primitive) (h k : Edit) (found : Option Targets) → p 
 finds_along p q h k found e f finds =
     subst (λ x. FindsPair (ChangeInRange p x) (option_map (turned p x) found)) (sym f) (subst (λ x. FindsPair (ChangeInRange x (Hunk k)) (option_map (turned x (Hunk k)) found)) (sym e) finds)
 
-pub swap_from : (p q q' p' : Named) (targets : Targets) → ¬ (SameKey p q) → ChangeInRange p.prim q.prim (moved targets.second q.prim) (moved targets.first p.prim) → q' ≡ record q { prim = moved targets.second q.prim } → p' ≡ record p { prim = moved targets.first p.prim } → Swap p q q' p'
+pub swap_from : (p q q' p' : Named) (targets : Targets) → ¬ (SameKey p q) → ChangeInRange p.prim q.prim (moved targets.second q.prim) (moved targets.first p.prim) → q' ≡ record q { prim = moved targets.second q.prim } → p' ≡ record p { prim = moved targets.first p.prim } → Commute p q q' p'
 swap_from p q q' p' targets apart c e f =
-    subst (λ x. Swap p q q' x) (sym f) (subst (λ x. Swap p q x (record p { prim = moved targets.first p.prim })) (sym e) (record {
+    subst (λ x. Commute p q q' x) (sym f) (subst (λ x. Commute p q x (record p { prim = moved targets.first p.prim })) (sym e) (record {
       anywhere = record { apart = apart; change = c.change; second = refl; first = refl };
       ranges = c.ranges;
     }))
 
--- where primitives change places, there is a swap
-pub swap_made : (p q : Named) (targets : Targets) → ¬ (SameKey p q) → ChangeInRange p.prim q.prim (moved targets.second q.prim) (moved targets.first p.prim) → (q' : Named) × ((p' : Named) × Swap p q q' p')
+-- where primitives commute, there is a commute
+pub swap_made : (p q : Named) (targets : Targets) → ¬ (SameKey p q) → ChangeInRange p.prim q.prim (moved targets.second q.prim) (moved targets.first p.prim) → (q' : Named) × ((p' : Named) × Commute p q q' p')
 swap_made p q targets apart c =
     (record q { prim = moved targets.second q.prim }, (record p { prim = moved targets.first p.prim }, swap_from p q _ _ targets apart c refl refl))
 
-pub swap_wanted : {T E : Type 0} (result : Result T E) (p q : Named) (targets : Targets) → ¬ (SameKey p q) → ChangeInRange p.prim q.prim (moved targets.second q.prim) (moved targets.first p.prim) → IfErr result (λ error. (q' : Named) × ((p' : Named) × Swap p q q' p'))
+pub swap_wanted : {T E : Type 0} (result : Result T E) (p q : Named) (targets : Targets) → ¬ (SameKey p q) → ChangeInRange p.prim q.prim (moved targets.second q.prim) (moved targets.first p.prim) → IfErr result (λ error. (q' : Named) × ((p' : Named) × Commute p q q' p'))
 swap_wanted (Ok done) p q targets apart c = tt
 swap_wanted (Err error) p q targets apart c = swap_made p q targets apart c
 
--- where primitives do not change places, there is no swap
-pub no_swap : (p q : Named) → ((any : Primitive × Primitive) → ¬ (ChangeInRange p.prim q.prim any.0 any.1)) → (any : Named × Named) → ¬ (Swap p q any.0 any.1)
+-- where primitives do not commute, there is no commute
+pub no_swap : (p q : Named) → ((any : Primitive × Primitive) → ¬ (ChangeInRange p.prim q.prim any.0 any.1)) → (any : Named × Named) → ¬ (Commute p q any.0 any.1)
 no_swap p q never any s = never (any.0.prim, any.1.prim) (record { change = s.anywhere.change; ranges = s.ranges })
 
 -- what a test that says no tells

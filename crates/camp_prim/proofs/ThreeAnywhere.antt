@@ -1,8 +1,8 @@
 -- The six orders of three labelled primitives, in range or not.
-use Rattle.camp_prim.proofs.Words.{refl, sym, ◌∙◌, subst, inverse_of, SixOrders, SwapAnywhere, Named}
+use Rattle.camp_prim.proofs.Words.{refl, sym, ◌∙◌, subst, inverse_of, SixOrders, CommuteAnywhere, Named}
 use Rattle.camp_prim.proofs.Inverses.{inverse_of-inverse_of}
-use Rattle.camp_prim.proofs.SwapLaws.{same_key, own_inverse_anywhere, square_anywhere}
-use Rattle.camp_prim.proofs.ThreeSwaps.{three_swap}
+use Rattle.camp_prim.proofs.CommuteLaws.{same_key, own_inverse_anywhere, square_anywhere}
+use Rattle.camp_prim.proofs.ThreeCommute.{three_swap}
 
 -- what the third becomes where it passes the two in their other order, and what they become then
 pub record LastOfThree (Turns : Named → Named → Named → Named → Type 0) (q' p' r p1 q1 y : Named) : Type 0 where
@@ -14,7 +14,7 @@ pub record LastOfThree (Turns : Named → Named → Named → Named → Type 0) 
   pub behind : Turns p1 q1 q2 p2
 
 -- r passes q and then p
-pub last_passes_both : (p q r q' p' r1 q1 y p1 : Named) → SwapAnywhere p q q' p' → SwapAnywhere q r r1 q1 → SwapAnywhere p r1 y p1 → LastOfThree SwapAnywhere q' p' r p1 q1 y
+pub last_passes_both : (p q r q' p' r1 q1 y p1 : Named) → CommuteAnywhere p q q' p' → CommuteAnywhere q r r1 q1 → CommuteAnywhere p r1 y p1 → LastOfThree CommuteAnywhere q' p' r p1 q1 y
 last_passes_both p q r q' p' r1 q1 y p1 u v w =
     let n = three_swap p.prim q.prim q'.prim p'.prim r.prim r1.prim q1.prim y.prim p1.prim u.change v.change w.change in
     record {
@@ -42,17 +42,17 @@ last_passes_both p q r q' p' r1 q1 y p1 u v w =
     }
 
 -- p^ q <-> q' p' gives p q' <-> q p'^
-turned : (p q q' p' : Named) → SwapAnywhere (inverse_of p) q q' p' → SwapAnywhere p q' q (inverse_of p')
+turned : (p q q' p' : Named) → CommuteAnywhere (inverse_of p) q q' p' → CommuteAnywhere p q' q (inverse_of p')
 turned p q q' p' s =
-    subst (λ x. SwapAnywhere x q' q (inverse_of p')) (inverse_of-inverse_of p) (square_anywhere (inverse_of p) q q' p' s)
+    subst (λ x. CommuteAnywhere x q' q (inverse_of p')) (inverse_of-inverse_of p) (square_anywhere (inverse_of p) q q' p' s)
 
-pub six_from_behind : (p q r q' p' r1 q1 y p1 : Named) → SwapAnywhere p q q' p' → SwapAnywhere q r r1 q1 → SwapAnywhere p r1 y p1 → (r2 : Named) × (p2 : Named) × (q2 : Named) × SixOrders SwapAnywhere p q r q' p' r1 q1 r2 p2 y p1 q2
+pub six_from_behind : (p q r q' p' r1 q1 y p1 : Named) → CommuteAnywhere p q q' p' → CommuteAnywhere q r r1 q1 → CommuteAnywhere p r1 y p1 → (r2 : Named) × (p2 : Named) × (q2 : Named) × SixOrders CommuteAnywhere p q r q' p' r1 q1 r2 p2 y p1 q2
 six_from_behind p q r q' p' r1 q1 y p1 u v w =
     let n = last_passes_both p q r q' p' r1 q1 y p1 u v w in
     (n.r2, n.p2, n.q2, record { pq = u; qr = v; pr = n.past_p; pr1 = w; qr2 = n.past_q; p1q1 = n.behind })
 
 -- p passes q and then r: the inverse of p is what q, and then r, passes
-pub six_from_before : (p q r q' p' r2 p2 r1 q1 : Named) → SwapAnywhere p q q' p' → SwapAnywhere p' r r2 p2 → SwapAnywhere q r r1 q1 → (y : Named) × (p1 : Named) × (q2 : Named) × SixOrders SwapAnywhere p q r q' p' r1 q1 r2 p2 y p1 q2
+pub six_from_before : (p q r q' p' r2 p2 r1 q1 : Named) → CommuteAnywhere p q q' p' → CommuteAnywhere p' r r2 p2 → CommuteAnywhere q r r1 q1 → (y : Named) × (p1 : Named) × (q2 : Named) × SixOrders CommuteAnywhere p q r q' p' r1 q1 r2 p2 y p1 q2
 six_from_before p q r q' p' r2 p2 r1 q1 u v w =
     let back = own_inverse_anywhere (inverse_of p) q' q (inverse_of p') (square_anywhere p q q' p' u) in
     let n = last_passes_both q (inverse_of p') r2 (inverse_of p) q' r (inverse_of p2) r1 q1 back (square_anywhere p' r r2 p2 v) w in
@@ -66,6 +66,6 @@ six_from_before p q r q' p' r2 p2 r1 q1 u v w =
         pr = v;
         pr1 = turned p n.r2 r1 n.q2 n.past_q;
         qr2 = n.past_p;
-        p1q1 = subst (λ x. SwapAnywhere (inverse_of n.q2) q1 n.p2 x) (inverse_of-inverse_of p2) behind;
+        p1q1 = subst (λ x. CommuteAnywhere (inverse_of n.q2) q1 n.p2 x) (inverse_of-inverse_of p2) behind;
       },
     )

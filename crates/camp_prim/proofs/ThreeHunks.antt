@@ -21,11 +21,11 @@ pub record MovesAbove (a b c d p q q' p' : ℕ) : Type 0 where
   pub second : q' ≡ q
   pub first : p' ≡ q + d + gap
 
--- hunks at p and q, of the sides a, b and c, d, move to q' and p' as they change places
+-- hunks at p and q, of the sides a, b and c, d, move to q' and p' as they commute
 abbrev pub Moves : ℕ → ℕ → ℕ → ℕ → ℕ → ℕ → ℕ → ℕ → Type 0
 Moves a b c d p q q' p' = MovesBelow a b c d p q q' p' ⊎ MovesAbove a b c d p q q' p'
 
--- the third passes the two in their other order, and they change places behind it
+-- the third passes the two in their other order, and they commute behind it
 pub record MovesInOrder (a b c d e f p' q' r p1 q1 y : ℕ) : Type 0 where
   pub r2 : ℕ
   pub p2 : ℕ
@@ -108,7 +108,8 @@ module _ (a b c d e f p q q' p' r r1 q1 y p1 : ℕ) where
         others = inr (record { gap = u.gap; stands = omega arith; passes = u.passes; second = refl; first = omega arith });
       }
 
-  -- the other two can't be: the first stands above the second, the second above the third, and the third above the first
+  -- the other two can't be: the first stands above the second, the second above the third, and the third above the
+  -- first
   never_round : MovesBelow a b c d p q q' p' → MovesBelow c d e f q r r1 q1 → MovesAbove a b e f p r1 y p1 → ⊥
   never_round u v w =
       elim w.passes [ inl some ↦ omega arith | inr full ↦ let side : 0 < b = full.1 in omega arith ]
@@ -118,7 +119,8 @@ module _ (a b c d e f p q q' p' r r1 q1 y p1 : ℕ) where
   never_round_back u v w =
       elim w.passes [ inl some ↦ omega arith | inr full ↦ let side : 0 < b = full.1 in omega arith ]
 
-  -- where two hunks can change places and a third passes the second and then the first, it passes them in their other order too, and comes to the same line
+  -- where two hunks can commute and a third passes the second and then the first, it passes them in their other order
+  -- too, and comes to the same line
   pub three_move : Moves a b c d p q q' p' → Moves c d e f q r r1 q1 → Moves a b e f p r1 y p1 → MovesInOrder a b c d e f p' q' r p1 q1 y
   three_move (inl u) (inl v) (inl w) = first_second_third u v w
   three_move (inl u) (inl v) (inr w) = absurd (never_round u v w)

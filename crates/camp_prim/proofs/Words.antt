@@ -14,11 +14,11 @@ pub use Rattle.std.specs.Ordering.{bool_cmp, eq_by_cmp, is_eq, is_lt, nat_cmp, o
 pub use Rattle.std.specs.declared.cmp.Ordering.TheVariants.{Equal, Greater, Less}
 pub use Rattle.camp_prim.specs.Hunks.{Edit, IsInRange}
 pub use Rattle.camp_prim.specs.Labels.{SameKey, key_cmp, key_of, label_cmp, label_of, opposite}
-pub use Rattle.camp_prim.specs.Laws.{CommuteIsExchange, Inverse, OwnInverse, SameEffect, SixOrders, Square, SwapIsUnique, SwapLaws}
-pub use Rattle.camp_prim.specs.Swaps.{ChangePlaces, MayPass, Swap, SwapAnywhere, SwapsAbove, SwapsBelow, SwapsOnTwoPaths, at_line, path_of}
+pub use Rattle.camp_prim.specs.Laws.{BothCommuteAlike, Inverse, OwnInverse, SameEffect, SixOrders, Square, CommuteIsUnique, CommuteLaws}
+pub use Rattle.camp_prim.specs.Commuting.{PrimitivesCommute, MayPass, Commute, CommuteAnywhere, CommutesAbove, CommutesBelow, CommutesOnTwoPaths, at_line, path_of}
 pub use Rattle.camp_prim.specs.declared.named.Named.{Named}
 pub use Rattle.camp_prim.specs.declared.primitives.Primitive.{Primitive}
 pub use Rattle.camp_prim.specs.declared.primitives.Primitive.TheVariants.{Add, Hunk, Remove}
 pub use Rattle.camp_base.specs.Answers.{Answers, FindsPair}
 pub use Rattle.camp_prim.specs.Inside.Targets.{ChangeInRange, ComesTo, moved, turned}
-pub use Rattle.camp_prim.specs.declared.swaps.Targets.{Targets}
+pub use Rattle.camp_prim.specs.declared.commuting.Targets.{Targets}

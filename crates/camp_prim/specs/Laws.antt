@@ -1,43 +1,43 @@
--- The laws of swapping two primitives.
+-- The laws of commuting two primitives.
 use Rattle.std.specs.Prelude.{◌≡◌, ◌↔◌, Bool, Option, None, Some, if◌then◌else◌}
 use Rattle.camp_base.specs.Answers.{Changes, FindsPair}
 use Rattle.camp_base.specs.Trees.{Files}
 use Rattle.camp_prim.specs.Effect.{inverse_of, Leads}
-use Rattle.camp_prim.specs.Swaps.{Swap, Swapped}
+use Rattle.camp_prim.specs.Commuting.{Commute, CommutedNeighbours}
 use Rattle.camp_prim.specs.declared.named.Named.{Named}
 
--- what two primitives become when they change places is determined
-abbrev pub SwapIsUnique : Type 0
-SwapIsUnique = (p q q' p' r' o' : Named) → Swap p q q' p' → Swap p q r' o' → (q' ≡ r') × (p' ≡ o')
+-- what two primitives become when they commute is determined
+abbrev pub CommuteIsUnique : Type 0
+CommuteIsUnique = (p q q' p' r' o' : Named) → Commute p q q' p' → Commute p q r' o' → (q' ≡ r') × (p' ≡ o')
 
 -- own inverse: p q <-> q' p' gives q' p' <-> p q
 abbrev pub OwnInverse : Named → Named → Named → Named → Type 0
-OwnInverse p q q' p' = Swap q' p' p q
+OwnInverse p q q' p' = Commute q' p' p q
 
 -- inverse: it gives q^ p^ <-> p'^ q'^
 abbrev pub Inverse : Named → Named → Named → Named → Type 0
-Inverse p q q' p' = Swap (inverse_of q) (inverse_of p) (inverse_of p') (inverse_of q')
+Inverse p q q' p' = Commute (inverse_of q) (inverse_of p) (inverse_of p') (inverse_of q')
 
 -- square: it gives p^ q' <-> q p'^
 abbrev pub Square : Named → Named → Named → Named → Type 0
-Square p q q' p' = Swap (inverse_of p) q' q (inverse_of p')
+Square p q q' p' = Commute (inverse_of p) q' q (inverse_of p')
 
 -- effect: p then q, and q' then p', lead from the same trees to the same trees
 abbrev pub SameEffect : Named → Named → Named → Named → Type 0
 SameEffect p q q' p' = (old new : Files) → Leads p.prim q.prim old new ↔ Leads q'.prim p'.prim old new
 
 -- the four laws
-pub record SwapLaws (p q q' p' : Named) : Type 0 where
+pub record CommuteLaws (p q q' p' : Named) : Type 0 where
   pub own_inverse : OwnInverse p q q' p'
   pub inverse : Inverse p q q' p'
   pub square : Square p q q' p'
   pub effect : SameEffect p q q' p'
 
--- commuting and exchanging agree: None is answered exactly where false is, and else both give the same two
-abbrev pub CommuteIsExchange : Type 0
-CommuteIsExchange =
+-- `commute` and `commute_neighbours` agree: None is answered exactly where false is, and else both give the same two
+abbrev pub BothCommuteAlike : Type 0
+BothCommuteAlike =
     (p q first second : Named) (found : Option (Named × Named)) (done : Bool)
-    → FindsPair (Swap p q) found → Changes Swapped (p, q) done (first, second)
+    → FindsPair (Commute p q) found → Changes CommutedNeighbours (p, q) done (first, second)
     → found ≡ (if done then Some (first, second) else None)
 
 -- the six orders of p q r, each one turn of neighbours from the next, round about:

@@ -4,4 +4,4 @@ pub mod Hunks
 pub mod Inside
 pub mod Labels
 pub mod Laws
-pub mod Swaps
+pub mod Commuting

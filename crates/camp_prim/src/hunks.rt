@@ -2,7 +2,7 @@ ghost use Rattle.std.specs.Prelude.{◌≡◌, ◌+◌, ◌≤◌, ◌↔◌, If
 ghost use Rattle.camp_base.specs.Limits.{greatest_reach};
 ghost use Rattle.camp_prim.specs.Effect.{flipped};
 ghost use Rattle.camp_prim.specs.Hunks.{Edit, IsInRange};
-ghost use Rattle.camp_prim.specs.Swaps.{at_line};
+ghost use Rattle.camp_prim.specs.Commuting.{at_line};
 
 use crate::Lines;
 use camp_base::{Line, Path};

@@ -1,7 +1,7 @@
 ghost use Rattle.std.specs.Prelude.{◌≡◌, ◌↔◌, IfOk, IsTrue, MatchOption};
 ghost use Rattle.camp_base.specs.Answers.{Answers};
 ghost use Rattle.camp_prim.specs.Effect.{Applies, InRange, inverted};
-ghost use Rattle.camp_prim.specs.Swaps.{path_of};
+ghost use Rattle.camp_prim.specs.Commuting.{path_of};
 ghost use Rattle.camp_prim.specs.Hunks.{Edit, IsInRange};
 
 use crate::{Hunk, Lines};

@@ -1,15 +1,15 @@
 ghost use Rattle.std.specs.Prelude.{◌≡◌, ◌↔◌, IsTrue};
 ghost use Rattle.camp_prim.specs.Inside.Targets.{moved};
-ghost use Rattle.camp_prim.specs.Swaps.{Swap};
+ghost use Rattle.camp_prim.specs.Commuting.{Commute};
 ghost use Rattle.camp_prim.specs.declared.named.Named.{Named as AnyNamed};
 
+use crate::commuting::targets_of;
 use crate::labels::have_same_key;
-use crate::swaps::targets_of;
 use crate::{Named, Primitive};
 
-/// Whether `p` and then `q` change places as they are: `p q <-> q p`. It takes no memory.
+/// Whether `p` and then `q` commute as they are: `p q <-> q p`. It takes no memory.
 pub fn stay(p: &Named, q: &Named) -> bool
-    ensures exact { IsTrue result ↔ Swap p.now q.now q.now p.now }
+    ensures exact { IsTrue result ↔ Commute p.now q.now q.now p.now }
 {
     if have_same_key(p, q) {
         return false;
@@ -25,10 +25,10 @@ pub fn stay(p: &Named, q: &Named) -> bool
     }
 }
 
-/// Whether `p` and then `q` change places, as they are or moved: whether `commute` has an answer. It
+/// Whether `p` and then `q` commute, as they are or moved: whether `commute` has an answer. It
 /// takes no memory.
 pub fn commutes(p: &Named, q: &Named) -> bool
-    ensures exact { IsTrue result ↔ ((q' : AnyNamed) × ((p' : AnyNamed) × Swap p.now q.now q' p')) }
+    ensures exact { IsTrue result ↔ ((q' : AnyNamed) × ((p' : AnyNamed) × Commute p.now q.now q' p')) }
 {
     if have_same_key(p, q) {
         return false;

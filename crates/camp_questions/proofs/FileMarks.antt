@@ -5,7 +5,7 @@ use Rattle.std.proofs.lemmas.List.Elements.{All-head, All-tail}
 use Rattle.std.proofs.lemmas.Nat.{mod_below}
 use Rattle.std.specs.Prelude.{◌*◌, ◌%◌, IfOk, OnOk}
 use Rattle.camp_prim.specs.Effect.{InRange}
-use Rattle.camp_prim.specs.Swaps.{ChangePlaces, Swap, path_of}
+use Rattle.camp_prim.specs.Commuting.{PrimitivesCommute, Commute, path_of}
 use Rattle.camp_seq.specs.Room.{here}
 use Rattle.camp_seq.specs.Running.{inverse_all}
 use Rattle.camp_catch.specs.Commuting.{CommuteCatch}
@@ -32,7 +32,7 @@ numbers_within (Plain p ∷ list) = (number_within 0 (path_of p.prim) (omega ari
 numbers_within (Catch.Conflictor k ∷ list) = ((omega arith), numbers_within list)
 
 -- a plain catch passes one of another patch and another file, and both stay as they are
-passes_one : (marks : List Bool) (name : List ℕ) (a b : Named) → InRange a.prim → InRange b.prim → is_marked marks (file_number (path_of a.prim)) ≡ true → is_marked marks (file_number (path_of b.prim)) ≡ false → bytes_eq a.name name ≡ false → b.name ≡ name → Swap a b b a
+passes_one : (marks : List Bool) (name : List ℕ) (a b : Named) → InRange a.prim → InRange b.prim → is_marked marks (file_number (path_of a.prim)) ≡ true → is_marked marks (file_number (path_of b.prim)) ≡ false → bytes_eq a.name name ≡ false → b.name ≡ name → Commute a b b a
 passes_one marks name a b within inside marked free apart own = record {
   anywhere = record {
     apart = λ same. true≢false (sym (ap (λ n. bytes_eq n name) (ap (λ (key : Key). key.name) same ∙ own) ∙ name_itself name) ∙ apart);
@@ -62,7 +62,7 @@ all_pass marks name going (Plain b ∷ list) marked apart inside own free =
 all_pass marks name going (Catch.Conflictor k ∷ list) marked apart inside own free = absurd inside.0
 
 -- primitives that change places stay in their files
-same_file : (p q q' p' : Primitive) → ChangePlaces p q q' p' → path_of p' ≡ path_of p
+same_file : (p q q' p' : Primitive) → PrimitivesCommute p q q' p' → path_of p' ≡ path_of p
 same_file p q q' p' (inl w) = ap path_of w.first
 same_file p q q' p' (inr (inl w)) = ap path_of w.first
 same_file p q q' p' (inr (inr w)) = ap path_of w.first ∙ sym (ap path_of w.is_p)

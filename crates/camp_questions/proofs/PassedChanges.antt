@@ -7,7 +7,7 @@ use Rattle.camp_ctx.specs.Contexts.{ContextedPatch, bare}
 use Rattle.camp_prim.specs.Effect.{InRange}
 use Rattle.camp_prim.specs.Hunks.{IsInRange}
 use Rattle.camp_prim.specs.Labels.{SameKey}
-use Rattle.camp_prim.specs.Swaps.{ChangePlaces, Swap, at_line, path_of}
+use Rattle.camp_prim.specs.Commuting.{PrimitivesCommute, Commute, at_line, path_of}
 use Rattle.camp_questions.specs.Inside.Moving.{ComesBefore, Passes, hunk_at}
 
 -- what is added behind, and then what stands before that
@@ -44,7 +44,7 @@ one_more_added changes i at a x y z follows within is added adds =
     subst (λ l. AddsAll l x z) (sym here) (y, added, adds)
 
 -- a patch without a context that swaps with a change passes by it
-pub swaps_by : (a p p' behind : Named) → Swap a p p' behind → Adds a (bare p) (bare p')
+pub swaps_by : (a p p' behind : Named) → Commute a p p' behind → Adds a (bare p) (bare p')
 swaps_by a p p' behind swap =
     commute (λ y w. w.front) (record { a' = a; a'' = behind; passed = []; past_context = (refl, refl); past_patch = swap; context = refl })
 
@@ -71,7 +71,7 @@ passes_hunk change patch other hunk line next apart is own range passes =
       record {
         anywhere = record {
           apart = apart;
-          change = subst (λ p. ChangePlaces p (Hunk (at_line line hunk)) (Hunk (at_line next hunk)) (Hunk passes.behind)) (sym is) passes.change;
+          change = subst (λ p. PrimitivesCommute p (Hunk (at_line line hunk)) (Hunk (at_line next hunk)) (Hunk passes.behind)) (sym is) passes.change;
           second = refl;
           first = refl;
         };

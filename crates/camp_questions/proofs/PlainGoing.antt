@@ -1,5 +1,5 @@
 -- Plain catches that go take along what can not come before them; and what goes comes to the front of the list taken back.
-use Rattle.camp_prim.proofs.SwapLaws.{inverse}
+use Rattle.camp_prim.proofs.CommuteLaws.{inverse}
 use Rattle.camp_seq.proofs.ListRuns.{inverse_all-append, inverse_all-cons}
 use Rattle.camp_catch.proofs.Words.{Contains, List, [], ap, append-nil, inl, inr, map, refl, subst, sym, ℕ, ◌++◌, ◌∙◌, ◌∷◌, ◌≡◌, append_assoc, Key, Named, inverse_of, passes_push, room_before, Passes, Precedes, HasRoom, inverse_all, Arrange, ArrangesBehind, SticksBehind}
 use Rattle.camp_catch.specs.declared.catches.Catch.{Catch}

@@ -6,7 +6,7 @@ use Rattle.camp_call.specs.declared.calls.Call.TheVariants as call
 use Rattle.camp_call.specs.declared.replies.Refusal.{Refusal}
 use Rattle.camp_call.specs.declared.replies.Refusal.TheVariants.{DoesNotApply, NoBranch, PatchExists, TooLarge}
 use Rattle.camp_prim.proofs.Applied.{applied-from_Applies}
-use Rattle.camp_prim.specs.Swaps.{path_of}
+use Rattle.camp_prim.specs.Commuting.{path_of}
 use Rattle.camp_repo.proofs.TreeSteps.{tree_found}
 use Rattle.camp_repo.proofs.StepsLawful.{trees_answered}
 use Rattle.camp_repo.specs.States.{tree_of}

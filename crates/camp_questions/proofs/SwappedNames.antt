@@ -9,11 +9,11 @@ use Rattle.camp_catch.specs.Commuting.{BothPlain, CommuteCatch}
 use Rattle.camp_catch.specs.declared.catches.Catch.TheVariants.{Plain}
 use Rattle.camp_prim.proofs.HunksOfOneFile.{SplicesTwice, lower_first, upper_first}
 use Rattle.camp_prim.specs.Effect.{Leads}
-use Rattle.camp_prim.specs.Swaps.{ChangePlaces, Swap, at_line, path_of}
+use Rattle.camp_prim.specs.Commuting.{PrimitivesCommute, Commute, at_line, path_of}
 use Rattle.camp_seq.proofs.ExchangeSteps.{shared}
 use Rattle.camp_seq.proofs.ListRuns.{cut_run, equivalent_run}
 use Rattle.camp_seq.proofs.ListEquivalence.{after_one, swapped}
-use Rattle.camp_seq.specs.Equivalence.{Exchanges, backwards, exchanged, same, through, ◌~◌}
+use Rattle.camp_seq.specs.Equivalence.{CommutesOnce, backwards, exchanged, same, through, ◌~◌}
 use Rattle.camp_seq.specs.Running.{AppliesAll}
 use Rattle.camp_questions.proofs.LineNames.{change_counts, coming_count, gone_count, hunk_counts, none_known, stands_within}
 use Rattle.camp_questions.proofs.PlainLabels.{plain_effects}
@@ -172,7 +172,7 @@ module _ (n m : List ℕ) (a b : Key) (apart : a ≢ b) where
         subst (λ x. Leads r x old new) f (subst (λ x. Leads x q old new) e leads)
 
     -- two changes that change places
-    either_order : (p q q' p' : Primitive) (old new : Files) (known : Known) → ChangePlaces p q q' p' → Leads p q old new → AreKnownIn path old known → behind_change path m b q (behind_change path n a p known) ≡ behind_change path n a p' (behind_change path m b q' known)
+    either_order : (p q q' p' : Primitive) (old new : Files) (known : Known) → PrimitivesCommute p q q' p' → Leads p q old new → AreKnownIn path old known → behind_change path m b q (behind_change path n a p known) ≡ behind_change path n a p' (behind_change path m b q' known)
     either_order p q q' p' old new known (inl s) leads are =
         two_files_at p q known (bytes_eq (path_of p) path) refl s.paths ∙ (λ i. behind_change path n a (sym s.first i) (behind_change path m b (sym s.second i) known))
     either_order p q q' p' old new known (inr (inl s)) leads are =
@@ -196,7 +196,7 @@ module _ (path : List ℕ) where
       behind_both before s (behind_change path p.name (key_of (label_of p)) p.prim known)
 
   -- two patches that change places
-  two_swapped : (p q q' p' : Named) (old new : Files) (known : Known) → Swap p q q' p' → Leads p.prim q.prim old new → AreKnownIn path old known
+  two_swapped : (p q q' p' : Named) (old new : Files) (known : Known) → Commute p q q' p' → Leads p.prim q.prim old new → AreKnownIn path old known
       → behind_change path q.name (key_of (label_of q)) q.prim (behind_change path p.name (key_of (label_of p)) p.prim known) ≡ behind_change path p'.name (key_of (label_of p')) p'.prim (behind_change path q'.name (key_of (label_of q')) q'.prim known)
   two_swapped p q q' p' old new known s leads are =
       either_order p.name q.name (key_of (label_of p)) (key_of (label_of q)) s.anywhere.apart path p.prim q.prim q'.prim p'.prim old new known s.anywhere.change leads are
@@ -207,7 +207,7 @@ module _ (path : List ℕ) where
   LeadsToKnown tree known s = AppliesAll s empty tree × (behind_catches path (map Plain s) nothing_known ≡ known)
 
   -- one exchange of neighbours keeps it
-  exchange_keeps : (tree : Files) (known : Known) (s t : List Named) → Exchanges Swap s t → LeadsToKnown tree known s → LeadsToKnown tree known t
+  exchange_keeps : (tree : Files) (known : Known) (s t : List Named) → CommutesOnce Commute s t → LeadsToKnown tree known s → LeadsToKnown tree known t
   exchange_keeps tree known s t e (runs, is) =
       let cut = cut_run e.before (e.p ∷ e.q ∷ e.after) empty tree (subst (λ l. AppliesAll l empty tree) e.was runs) in
       let at : Known = behind_catches path (map Plain e.before) nothing_known in

@@ -7,7 +7,7 @@ use Rattle.camp_base.specs.Trees.{Files, Lines}
 use Rattle.camp_prim.specs.Effect.{Applies, flipped}
 use Rattle.camp_prim.specs.Hunks.{Edit}
 use Rattle.camp_prim.specs.Labels.{SameKey}
-use Rattle.camp_prim.specs.Swaps.{path_of}
+use Rattle.camp_prim.specs.Commuting.{path_of}
 use Rattle.camp_prim.specs.declared.labels.Key.{Key}
 use Rattle.camp_prim.specs.declared.named.Named.{Named}
 use Rattle.camp_prim.specs.declared.primitives.Primitive.{Primitive}
@@ -120,7 +120,8 @@ NeedsAndHeldAreOne =
     has_patch branch name ≡ true → has_patch branch other ≡ true → Needs branch (other ∷ []) needed →
     HeldBy branch (name ∷ []) held → (is_among needed name ≡ true) ↔ (is_among held other ≡ true)
 
--- an obliteration of what is held by patches of a branch is accepted, and it has grown from them by what depends on them
+-- an obliteration of what is held by patches of a branch is accepted, and it has grown from them by what depends on
+-- them
 abbrev pub HeldCanGo : Type 0
 HeldCanGo =
     (state : Contents) (name : List ℕ) (branch : List Catch) (names held : List (List ℕ)) → Has state name branch →
@@ -183,7 +184,7 @@ abbrev pub AnnotateAlike : List Catch → List Catch → Type 0
 AnnotateAlike branch other =
     (path : List ℕ) (told : Annotated) → Annotates branch path told ↔ Annotates other path told
 
--- plain patches tell the same in whatever order they come: where they become others by swaps of neighbours, and where
+-- plain patches tell the same in whatever order they come: where they become others by commuting neighbours, and where
 -- they are brought into the order of some labels, as a pull does with those that two branches have
 pub record OrderKeepsNames : Type 0 where
   pub swapped :
@@ -239,7 +240,8 @@ pub data IsReached : Drawn → List ℕ → List ℕ → Type 0 where
   itself : {graph : Drawn} {name : List ℕ} → IsReached graph name name
   along : {graph : Drawn} {name between other : List ℕ} → Arrow graph name between → IsReached graph between other → IsReached graph name other
 
--- in the graph of a lawful branch with plain catches alone that have room, what a patch needs is what is reached from it
+-- in the graph of a lawful branch with plain catches alone that have room, what a patch needs is what is reached from
+-- it
 abbrev pub NeedsAreReached : Type 0
 NeedsAreReached =
     (branch : List Catch) (graph : Drawn) (name : List ℕ) (needed : List (List ℕ)) → IsLawfulBranch branch →
@@ -269,8 +271,8 @@ KeepFilesShort [] tree = Unit {0}
 KeepFilesShort (change ∷ changes) tree =
     (next : Files) → Applies change tree next → (has_long_file (path_of change) next ≡ false) × KeepFilesShort changes next
 
--- the changes of a side are accepted under a name that no branch has, where they are not too many for a patch or for the
--- branch, and no side of a hunk and no file gets too long; and where they are refused, they are too large
+-- the changes of a side are accepted under a name that no branch has, where they are not too many for a patch or for
+-- the branch, and no side of a hunk and no file gets too long; and where they are refused, they are too large
 pub record SidesAreAccepted : Type 0 where
   pub within :
       (state : Contents) (branch name new_name : List ℕ) (catches : List Catch) (tree : Files) (side : List Named) →
@@ -291,8 +293,8 @@ AlongIsEnough =
     ((name : List ℕ) → ¬ (step state (call.Pull from to (Some told)) ≡ refused (NoPatch name)))
     × ((patch on : List ℕ) → ¬ (step state (call.Pull from to (Some told)) ≡ refused (Depends patch on)))
 
--- what is foreseen of a call is what comes of it: it gets this reply; where no branch is told, nothing changes; and where
--- one is told, the questions for its tree and its conflicts, asked right behind the call, are answered with these
+-- what is foreseen of a call is what comes of it: it gets this reply; where no branch is told, nothing changes; and
+-- where one is told, the questions for its tree and its conflicts, asked right behind the call, are answered with these
 pub record ComesAsForeseen (state : Contents) (asked : Call) (seen : Foreseen) : Type 0 where
   pub replied : reply_of (step state asked) ≡ seen.reply
   pub stays : seen.changed ≡ None → state_behind state (step state asked) ≡ state

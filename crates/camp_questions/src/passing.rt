@@ -7,7 +7,7 @@ ghost use Rattle.camp_ctx.specs.Contexts.{bare};
 ghost use Rattle.camp_prim.specs.Effect.{InRange};
 ghost use Rattle.camp_prim.specs.Hunks.{IsInRange};
 ghost use Rattle.camp_prim.specs.Labels.{SameKey};
-ghost use Rattle.camp_prim.specs.Swaps.{at_line, path_of};
+ghost use Rattle.camp_prim.specs.Commuting.{at_line, path_of};
 ghost use Rattle.camp_prim.specs.declared.primitives.Primitive.TheVariants as primitive;
 ghost use Rattle.camp_questions.specs.Inside.Moving.{ComesBefore, Passes, hunk_at};
 

@@ -5,7 +5,7 @@ pub mod ByMembers
 pub mod ChangedSteps
 pub mod DecideSteps
 pub mod Effects
-pub mod FrontSteps
+pub mod BeginningSteps
 pub mod HistoriesLawful
 pub mod LawfulBranches
 pub mod NameSteps

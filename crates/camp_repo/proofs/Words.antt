@@ -27,9 +27,9 @@ pub use Rattle.camp_catch.proofs.MoveSteps.{stands_at}
 pub use Rattle.camp_catch.specs.declared.catches.Catch.{Catch}
 pub use Rattle.camp_object.specs.declared.objects.Decided.TheVariants.{Answer, Next}
 pub use Rattle.camp_prim.specs.Applied.{applied}
-pub use Rattle.camp_prim.specs.Swaps.{path_of}
+pub use Rattle.camp_prim.specs.Commuting.{path_of}
 pub use Rattle.camp_prim.specs.declared.primitives.Primitive.{Primitive}
-pub use Rattle.camp_repo.specs.Fronts.{AgreesIn, AllHold, catches_in}
+pub use Rattle.camp_repo.specs.Beginnings.{AgreesIn, AllHold, catches_in}
 pub use Rattle.camp_repo.specs.Lawful.{IsLawfulBy, IsLawfulState, names_of_branches}
 pub use Rattle.camp_repo.specs.Laws.{Has}
 pub use Rattle.camp_repo.specs.ObjectLaws.{repository_is_lawful}

@@ -1,6 +1,6 @@
 -- How a state lies in its fields.
 use Rattle.std.specs.Prelude.{◌≡◌, length, zip}
-use Rattle.camp_repo.specs.Fronts.{AllHold}
+use Rattle.camp_repo.specs.Beginnings.{AllHold}
 use Rattle.camp_repo.specs.Lawful.{IsLawfulState}
 use Rattle.camp_repo.specs.States.{Contents}
 use Rattle.camp_repo.specs.declared.states.State.TheInside.{Inside}

@@ -1,5 +1,5 @@
 pub mod Fields
-pub mod Fronts
+pub mod Beginnings
 pub mod Lawful
 pub mod Laws
 pub mod ObjectLaws

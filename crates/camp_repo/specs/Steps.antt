@@ -7,7 +7,7 @@ use Rattle.std.specs.FinMap.{get}
 use Rattle.camp_base.specs.Limits.{most_changes}
 use Rattle.camp_base.specs.Trees.{Files}
 use Rattle.camp_prim.specs.Applied.{applied}
-use Rattle.camp_prim.specs.Swaps.{path_of}
+use Rattle.camp_prim.specs.Commuting.{path_of}
 use Rattle.camp_prim.specs.declared.primitives.Primitive.{Primitive}
 use Rattle.camp_prim.specs.declared.primitives.Primitive.TheVariants.{Add, Remove, Hunk}
 use Rattle.camp_catch.specs.declared.catches.Catch.{Catch}

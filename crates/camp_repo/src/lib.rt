@@ -1,7 +1,7 @@
 //! The repository that one thread owns: what a call does to its branches, and its book.
 #![tactic(auto)]
 
-mod fronts;
+mod beginnings;
 mod laws;
 mod name_lists;
 mod objects;

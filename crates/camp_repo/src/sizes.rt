@@ -3,7 +3,7 @@ ghost use Rattle.std.specs.List.{list_any};
 ghost use Rattle.camp_call.specs.Patches.{IsPatchSized};
 ghost use Rattle.camp_base.specs.Trees.{Files};
 ghost use Rattle.camp_prim.specs.Effect.{Applies};
-ghost use Rattle.camp_prim.specs.Swaps.{path_of};
+ghost use Rattle.camp_prim.specs.Commuting.{path_of};
 ghost use Rattle.camp_catch.specs.Making.{ComesTo};
 ghost use Rattle.camp_repo.specs.Steps.{changed, has_long_file, has_long_side, is_too_large};
 

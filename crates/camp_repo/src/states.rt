@@ -3,13 +3,13 @@ ghost use Rattle.std.specs.List.{list_any};
 ghost use Rattle.camp_branch.specs.Agreeing.{Agree};
 ghost use Rattle.camp_branch.specs.Branches.{has_patch};
 ghost use Rattle.camp_catch.specs.declared.catches.Catch.{Catch};
-ghost use Rattle.camp_repo.specs.Fronts.{AllHold, catches_in};
+ghost use Rattle.camp_repo.specs.Beginnings.{AllHold, catches_in};
 ghost use Rattle.camp_repo.specs.Lawful.{IsLawfulState};
 ghost use Rattle.camp_repo.specs.Placing.{placed};
 ghost use Rattle.camp_repo.specs.States.{after, catches_of, initial, stands, with_catches};
 
 use crate::Branch;
-use crate::fronts::KnownFronts;
+use crate::beginnings::KnownBeginnings;
 use camp_base::Name;
 use camp_share::{Share, Shared, SharedList};
 use indexmap::IndexSet;
@@ -22,7 +22,7 @@ use std::marker::Model;
 pub struct State {
     names: Shared<IndexSet<Name>>,
     branches: SharedList<Shared<Branch>>,
-    known: KnownFronts,
+    known: KnownBeginnings,
     count: u64,
 }
 
@@ -55,7 +55,7 @@ impl State {
         Ok(State {
             names,
             branches,
-            known: KnownFronts::none(alloc),
+            known: KnownBeginnings::none(alloc),
             count: 0,
         })
     }
@@ -194,7 +194,7 @@ impl State {
         requires lawful { IsLawfulState (after self.now (placed self.now.branches place branch)) }
         ensures { IfOk result (λ next. next ≡ after self.now (placed self.now.branches place branch)) }
     {
-        let known = KnownFronts::none(self.allocator());
+        let known = KnownBeginnings::none(self.allocator());
         self.with_branch_at(place, branch, known)
     }
 
@@ -202,7 +202,7 @@ impl State {
         &self,
         place: usize,
         branch: Branch,
-        known: KnownFronts,
+        known: KnownBeginnings,
     ) -> Result<State, AllocError>
         requires counts { self.now.count < 2 ^ 64 - 1 }
         requires within { place < length self.now.branches }

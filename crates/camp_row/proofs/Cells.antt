@@ -1,6 +1,6 @@
--- The cells of a chain: no two entries have one, and the word that names the last tells the chain among its fronts.
-use Rattle.camp_row.proofs.Words.{◌≡◌, ◌≢◌, ℕ, suc, ◌+◌, ◌<◌, ◌≤◌, ◌⊎◌, inl, inr, List, [], ◌∷◌, ◌++◌, length, ◌==◌, sym, refl, ap, ◌∙◌, subst, arith, length-append, append-nil, append_assoc, append_cancel_left, filter-append, eq-eqb, ne_eqb, cond-true, cond-false, same_from_place, Entry, IsFront, IsShorter, own, turns, cell_of, head_after, head_word, Fits}
-use Rattle.camp_row.proofs.Fronts.{front_cases, cut_longer, cut_push, fronts_meet, next_is}
+-- The cells of a chain: no two entries have one, and the word that names the last tells the chain among its beginnings.
+use Rattle.camp_row.proofs.Words.{◌≡◌, ◌≢◌, ℕ, suc, ◌+◌, ◌<◌, ◌≤◌, ◌⊎◌, inl, inr, List, [], ◌∷◌, ◌++◌, length, ◌==◌, sym, refl, ap, ◌∙◌, subst, arith, length-append, append-nil, append_assoc, append_cancel_left, filter-append, eq-eqb, ne_eqb, cond-true, cond-false, same_from_place, Entry, IsBeginning, IsShorter, own, turns, cell_of, head_after, head_word, Fits}
+use Rattle.camp_row.proofs.Beginnings.{begins_cases, cut_longer, cut_push, beginnings_meet, next_is}
 
 pub own-append : (seat : ℕ) (xs ys : List Entry) → own seat (xs ++ ys) ≡ own seat xs ++ own seat ys
 own-append seat xs ys = filter-append (λ (e : Entry). e.seat == seat) xs ys
@@ -25,7 +25,7 @@ turns_cut before e after chain cut =
     let one = turns-self e after in
     omega arith
 
-pub turns_front : (seat : ℕ) (xs ys : List Entry) → IsFront xs ys → turns seat xs ≤ turns seat ys
+pub turns_front : (seat : ℕ) (xs ys : List Entry) → IsBeginning xs ys → turns seat xs ≤ turns seat ys
 turns_front seat xs ys f =
     let at : turns seat (xs ++ f.rest) ≡ turns seat ys = ap (turns seat) f.is in
     let sum = turns-append seat xs f.rest in
@@ -79,16 +79,16 @@ module _ (seats per_seat : ℕ) (chain : List Entry) (fits : Fits seats per_seat
   one_place b e a c f d at_e at_f same =
       let apart = same_from_place (turns e.seat b) e.seat (turns f.seat c) f.seat seats (fits b e a at_e).0 (fits c f d at_f).0 same in
       let seat_is : e.seat ≡ f.seat = apart.1 in
-      elim (fronts_meet b c chain (record { rest = e ∷ a; is = at_e }) (record { rest = f ∷ d; is = at_f })) [
-        | inl b_first ↦ elim (front_cases b c b_first) [
+      elim (beginnings_meet b c chain (record { rest = e ∷ a; is = at_e }) (record { rest = f ∷ d; is = at_f })) [
+        | inl b_first ↦ elim (begins_cases b c b_first) [
           | inl is ↦ is
           | inr shorter ↦ absurd (none_between b e a c f d at_e at_f (apart.0 ∙ ap (λ s. turns s c) (sym seat_is)) shorter)
         ]
         | inr shorter ↦ absurd (none_between c f d b e a at_f at_e (sym apart.0 ∙ ap (λ s. turns s b) seat_is) shorter)
       ]
 
-  -- two fronts of the chain whose last cell has one name are one
-  pub same_front : (xs ys : List Entry) → IsFront xs chain → IsFront ys chain → head_word seats xs ≡ head_word seats ys → xs ≡ ys
+  -- two beginnings of the chain whose last cell has one name are one
+  pub same_front : (xs ys : List Entry) → IsBeginning xs chain → IsBeginning ys chain → head_word seats xs ≡ head_word seats ys → xs ≡ ys
   same_front xs ys f g same = at (last_cases xs) (last_cases ys) where
     named : (zs : List Entry) (l : HasLast zs) → head_word seats zs ≡ cell_of seats l.before l.last + 1
     named zs l = ap (head_word seats) (sym l.is) ∙ head_word-push seats l.before l.last
@@ -108,7 +108,7 @@ module _ (seats per_seat : ℕ) (chain : List Entry) (fits : Fits seats per_seat
         let last : l.last ≡ m.last = next_is l.before l.last m.last f.rest g.rest chain cut_x cut_y' in
         sym l.is ∙ ((λ k. before k ++ last k ∷ []) ∙ m.is)
 
-pub fits_front : (seats per_seat : ℕ) (xs ys : List Entry) → IsFront xs ys → Fits seats per_seat ys → Fits seats per_seat xs
+pub fits_front : (seats per_seat : ℕ) (xs ys : List Entry) → IsBeginning xs ys → Fits seats per_seat ys → Fits seats per_seat xs
 fits_front seats per_seat xs ys f fits before e after cut = fits before e (after ++ f.rest) (cut_longer before e after xs f.rest ys cut f.is)
 
 pub fits_push : (seats per_seat : ℕ) (chain : List Entry) (e : Entry) → Fits seats per_seat chain → e.seat < seats → turns e.seat chain < per_seat → Fits seats per_seat (chain ++ e ∷ [])

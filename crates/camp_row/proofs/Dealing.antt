@@ -1,6 +1,6 @@
 -- The rule at the opening, after a split and after a join; the parts that are dealt out.
 use Rattle.camp_row.proofs.Words.{◌≡◌, ℕ, zero, suc, ◌+◌, ◌-◌, ◌*◌, ◌<◌, ◌≤◌, inl, inr, List, [], ◌∷◌, ◌++◌, replicate, cond, ◌==◌, sym, refl, ap, ◌∙◌, subst, arith, set, slice_index, sum_by, All, map, take, drop, length-replicate, sum_by-cons, sum_by_push, sum_by-append, All-cons, All-nil, All-map, All-take, All-drop, All-append, All-weaker, cases_eq, range_with_len, some, some-injective, some-ne-none, get_elem?, Splits, Joins, at_set, at_snoc, set_else, Knowledge, Part, parts_of, fresh, all_fresh, parent_word, place_word, Holds, Knows, IsRuled, first_apart, without_first, joined, spent}
-use Rattle.camp_row.proofs.Fronts.{front_nil, no_cut}
+use Rattle.camp_row.proofs.Beginnings.{begins_nil, no_cut}
 use Rattle.camp_row.proofs.Ruling.{Ruled, with_views, sum_set, parts_of-cons, parts_of-self, parts_of-other}
 
 parts_of-cut : (number : ℕ) (ps : List Part) → parts_of number (drop 1 ps) + parts_of number (take 1 ps) ≡ parts_of number ps
@@ -96,8 +96,8 @@ module _ (seats per_seat : ℕ) where
       let empty : (cell : ℕ) → Holds words cell 0 0 = λ cell. record { names = zero_at (1 + 2 * (per_seat * seats)) (parent_word cell); places = zero_at (1 + 2 * (per_seat * seats)) (place_word cell) } in
       let fresh_knows : (n : ℕ) → n < seats → K (fresh seats per_seat n) = λ n below. record {
         sizes = (refl, refl, below);
-        seen = front_nil [];
-        ahead = front_nil [];
+        seen = begins_nil [];
+        ahead = begins_nil [];
         own_seen = refl;
         draft = λ room. empty (0 * seats + n);
         empty = λ turn later room. empty (turn * seats + n);

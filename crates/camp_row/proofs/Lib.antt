@@ -1,7 +1,7 @@
 pub mod Cells
 pub mod Dealing
 pub mod Drafting
-pub mod Fronts
+pub mod Beginnings
 pub mod Loading
 pub mod Meeting
 pub mod PassOfRow

@@ -1,6 +1,6 @@
 -- Two passes that find one chain.
-use Rattle.camp_row.proofs.Words.{subst, ◌≡◌, ◌≢◌, inl, inr, ℕ, ◌+◌, ◌≤◌, List, [], ◌∷◌, All, map, sym, ap, ◌∙◌, arith, All-head, All-tail, All-same, Seat, Entry, Knowledge, PassInside, IsFront, Known, FindsChain, OneBegins, Part, part_of, known_of, parts_of, finds, part, known, IsPass, Sees, Looked, ◌++◌}
-use Rattle.camp_row.proofs.PassOfRow.{known_at, fronts_meet, shorter_front}
+use Rattle.camp_row.proofs.Words.{subst, ◌≡◌, ◌≢◌, inl, inr, ℕ, ◌+◌, ◌≤◌, List, [], ◌∷◌, All, map, sym, ap, ◌∙◌, arith, All-head, All-tail, All-same, Seat, Entry, Knowledge, PassInside, IsBeginning, Known, FindsChain, OneBegins, Part, part_of, known_of, parts_of, finds, part, known, IsPass, Sees, Looked, ◌++◌}
+use Rattle.camp_row.proofs.PassOfRow.{known_at, beginnings_meet, shorter_begins}
 use Rattle.camp_row.proofs.Ruling.{parts_of-self}
 
 -- both parts, after a load of the head by the seat that has both
@@ -40,8 +40,8 @@ finds_known pass seat found chain table alone sees =
       sound = record { front = sees.sound.front; own_seen = sees.sound.own_seen };
     })
 
-pub one_begins : (a b : Known) (chain : List Entry) → IsFront a.seen chain → IsFront b.seen chain → OneBegins a b
-one_begins a b chain f g = elim (fronts_meet a.seen b.seen chain f g) [
+pub one_begins : (a b : Known) (chain : List Entry) → IsBeginning a.seen chain → IsBeginning b.seen chain → OneBegins a b
+one_begins a b chain f g = elim (beginnings_meet a.seen b.seen chain f g) [
   | inl begins ↦ inl begins
-  | inr shorter ↦ inr (shorter_front b.seen a.seen shorter)
+  | inr shorter ↦ inr (shorter_begins b.seen a.seen shorter)
 ]

@@ -3,7 +3,7 @@ use Rattle.camp_row.proofs.Words.{◌≡◌, ℕ, ◌+◌, ◌*◌, ◌<◌, ◌
 use Rattle.std.proofs.Math.Nat.{mul-le-mul_left}
 use Rattle.camp_row.proofs.Drafting.{next_cell, HasRoom}
 use Rattle.camp_row.proofs.Dealing.{splits}
-pub use Rattle.camp_row.proofs.Fronts.{cut_longer, cut_pushed, front_nil, front_refl, fronts_meet, next_is, no_cut, shorter_front}
+pub use Rattle.camp_row.proofs.Beginnings.{cut_longer, cut_pushed, begins_nil, begins_refl, beginnings_meet, next_is, no_cut, shorter_begins}
 use Rattle.camp_row.proofs.Loading.{looks, walks}
 use Rattle.camp_row.proofs.Ruling.{Owes, Ruled, allows, only, allows_one}
 
@@ -70,7 +70,7 @@ found_pass pass seat found chain alone slots sees is = at_part (record pass { se
 
 -- the chain that was found before
 pub sees_still : (part : Part) {found : ℕ} → found ≡ head_word part.seats part.ahead → IsSoundPart part → Sees found part.ahead part
-sees_still part named sound = record { named = named; grows = front_refl part.ahead; sound = sound }
+sees_still part named sound = record { named = named; grows = begins_refl part.ahead; sound = sound }
 
 -- a cell that has an entry of the chain is in the row
 pub record Held (pass : PassInside) (row : RowInside) (before : List Entry) (entry : Entry) (cell : ℕ) : Type 0 where

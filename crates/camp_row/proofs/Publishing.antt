@@ -1,12 +1,12 @@
 -- A compare_exchange of the head keeps the rule: it lengthens the chain by the drafted cell where the chain is just what was seen, and else finds a longer one.
-use Rattle.camp_row.proofs.Words.{◌≡◌, ◌≢◌, ℕ, ◌+◌, ◌*◌, ◌<◌, inl, inr, List, [], ◌∷◌, ◌++◌, Bool, true, false, ◌==◌, sym, refl, ap, ◌∙◌, subst, arith, set, slice_index, MatchBool, get_or-set_same, length-set, eq-eqb, ne_eqb, cases_eq, some, either, get_elem?, Entry, Knowledge, IsFront, turns, cell_of, head_word, Fits, Part, finds, Holds, Knows, IsRuled, drafted_part, won_part, WonPart, LostPart}
-use Rattle.camp_row.proofs.Fronts.{front_refl, front_both, front_push, front_cases, cut_push}
+use Rattle.camp_row.proofs.Words.{◌≡◌, ◌≢◌, ℕ, ◌+◌, ◌*◌, ◌<◌, inl, inr, List, [], ◌∷◌, ◌++◌, Bool, true, false, ◌==◌, sym, refl, ap, ◌∙◌, subst, arith, set, slice_index, MatchBool, get_or-set_same, length-set, eq-eqb, ne_eqb, cases_eq, some, either, get_elem?, Entry, Knowledge, IsBeginning, turns, cell_of, head_word, Fits, Part, finds, Holds, Knows, IsRuled, drafted_part, won_part, WonPart, LostPart}
+use Rattle.camp_row.proofs.Beginnings.{begins_refl, begins_both, begins_push, begins_cases, cut_push}
 use Rattle.camp_row.proofs.Cells.{turns_cut, own_push_other, head_word-push, same_front, fits_push}
 use Rattle.camp_row.proofs.Ruling.{only, knows, keep_one, keep_words, holds_other}
 use Rattle.camp_row.proofs.Loading.{finds_knows, sees}
 use Rattle.camp_row.proofs.Drafting.{next_cell, HasRoom, in_row, held_now}
 
-module _ (seats per_seat id : ℕ) (p : Part) (room : HasRoom p) (front : IsFront p.seen p.ahead) (drafted : p.parent ≡ head_word p.seats p.seen) (expected new : ℕ) (expected_is : expected ≡ head_word p.seats p.seen) (new_is : new ≡ next_cell p + 1)
+module _ (seats per_seat id : ℕ) (p : Part) (room : HasRoom p) (front : IsBeginning p.seen p.ahead) (drafted : p.parent ≡ head_word p.seats p.seen) (expected new : ℕ) (expected_is : expected ≡ head_word p.seats p.seen) (new_is : new ≡ next_cell p + 1)
     (words : List ℕ) (views : List Knowledge) (ruled : IsRuled seats per_seat words views) (at : get_elem? views id ≡ some (only p)) where
   abbrev Goes : Bool → Type 0
   Goes b = (w : Knowledge) × IsRuled seats per_seat (set words 0 (either b new (slice_index words 0))) (set views id w) × MatchBool b (WonPart p w.parts) (LostPart (slice_index words 0) p w.parts)
@@ -19,7 +19,7 @@ module _ (seats per_seat id : ℕ) (p : Part) (room : HasRoom p) (front : IsFron
         keep_words seats per_seat words views ruled id p at 0 (finds ruled.chain p) refl (finds_knows seats per_seat words ruled.chain ruled.fits p k),
         record {
           chain = ruled.chain;
-          longer = elim (front_cases p.seen ruled.chain k.seen) [
+          longer = elim (begins_cases p.seen ruled.chain k.seen) [
             | inl is ↦ absurd (differs (ruled.head ∙ (ap (head_word seats) (sym is) ∙ (ap (λ s. head_word s p.seen) (sym k.sizes.0) ∙ sym expected_is))))
             | inr more ↦ more
           ];
@@ -33,7 +33,7 @@ module _ (seats per_seat id : ℕ) (p : Part) (room : HasRoom p) (front : IsFron
     chain_is : ruled.chain ≡ p.seen
     chain_is =
         let k = knows seats per_seat words views ruled id p at in
-        sym (same_front seats per_seat ruled.chain ruled.fits p.seen ruled.chain k.seen (front_refl ruled.chain) (ap (λ s. head_word s p.seen) (sym k.sizes.0) ∙ (sym expected_is ∙ (sym same ∙ ruled.head))))
+        sym (same_front seats per_seat ruled.chain ruled.fits p.seen ruled.chain k.seen (begins_refl ruled.chain) (ap (λ s. head_word s p.seen) (sym k.sizes.0) ∙ (sym expected_is ∙ (sym same ∙ ruled.head))))
 
     still : (cell parent place : ℕ) → Holds words cell parent place → Holds (set words 0 new) cell parent place
     still cell parent place = holds_other words 0 new cell parent place (λ e. absurd (omega arith)) (λ e. absurd (omega arith))
@@ -44,8 +44,8 @@ module _ (seats per_seat id : ℕ) (p : Part) (room : HasRoom p) (front : IsFron
         let chain' : List Entry = p.seen ++ drafted_part p ∷ [] in
         let more : turns p.number p.seen < turns p.number chain' = turns_cut p.seen (drafted_part p) [] chain' refl in record {
           sizes = k.sizes;
-          seen = front_refl chain';
-          ahead = front_refl chain';
+          seen = begins_refl chain';
+          ahead = begins_refl chain';
           own_seen = refl;
           draft = λ r. still (turns p.number chain' * seats + p.number) 0 0 (k.empty (turns p.number chain') more r);
           empty = λ turn later r. still (turn * seats + p.number) 0 0 (k.empty turn (omega arith) r);
@@ -55,8 +55,8 @@ module _ (seats per_seat id : ℕ) (p : Part) (room : HasRoom p) (front : IsFron
     knows_others o differs known =
         let k : Knows seats per_seat words p.seen o = subst (λ c. Knows seats per_seat words c o) chain_is known in record {
           sizes = k.sizes;
-          seen = front_push o.seen p.seen (drafted_part p) k.seen;
-          ahead = front_push o.ahead p.seen (drafted_part p) k.ahead;
+          seen = begins_push o.seen p.seen (drafted_part p) k.seen;
+          ahead = begins_push o.ahead p.seen (drafted_part p) k.ahead;
           own_seen = own_push_other o.number p.seen (drafted_part p) (λ e. differs (sym e)) ∙ k.own_seen;
           draft = λ r. still (turns o.number o.seen * seats + o.number) o.parent o.place (k.draft r);
           empty = λ turn later r. still (turn * seats + o.number) 0 0 (k.empty turn later r);
@@ -85,7 +85,7 @@ module _ (seats per_seat id : ℕ) (p : Part) (room : HasRoom p) (front : IsFron
               ])
               (fits_push seats per_seat p.seen e (subst (Fits seats per_seat) chain_is ruled.fits) k.sizes.2 (subst (λ n. turns p.number p.seen < n) k.sizes.1 room))
               refl knows_won knows_others,
-          record { whole = front_both p.ahead p.seen (subst (IsFront p.ahead) chain_is k.ahead) front; is = refl },
+          record { whole = begins_both p.ahead p.seen (subst (IsBeginning p.ahead) chain_is k.ahead) front; is = refl },
         )
 
   pub publishes : Goes (slice_index words 0 == expected)

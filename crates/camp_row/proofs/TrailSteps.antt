@@ -1,5 +1,5 @@
 -- A trail, popped and pushed.
-use Rattle.camp_row.proofs.Words.{◌≡◌, ◌≢◌, ℕ, ◌+◌, ◌-◌, ◌%◌, ◌<◌, List, [], ◌∷◌, ◌++◌, length, sym, refl, ap, ◌∙◌, subst, inl, inr, arith, length-append, same_from_push, append-nil, append_assoc, length_push, TableId, Entry, PassInside, RowInside, IsFront, cell_of, head_word, Known, ComesNext, Leads, Reads, cells_back, Part, known_of, IsSoundPart, part, known, IsPass, place_word}
+use Rattle.camp_row.proofs.Words.{◌≡◌, ◌≢◌, ℕ, ◌+◌, ◌-◌, ◌%◌, ◌<◌, List, [], ◌∷◌, ◌++◌, length, sym, refl, ap, ◌∙◌, subst, inl, inr, arith, length-append, same_from_push, append-nil, append_assoc, length_push, TableId, Entry, PassInside, RowInside, IsBeginning, cell_of, head_word, Known, ComesNext, Leads, Reads, cells_back, Part, known_of, IsSoundPart, part, known, IsPass, place_word}
 use Rattle.camp_row.proofs.Cells.{next_is_others, head_word-push, same_front, last_cases}
 pub use Rattle.camp_row.proofs.PassOfRow.{Held, IsOf, cut_longer, cut_pushed, found_pass, held, is_of, no_cut, sees_still, walks_in}
 
@@ -59,7 +59,7 @@ module _ {pass : PassInside} {row : RowInside} {k : Known} {rest : List ℕ} {ce
         record { left = top.later; is = cut_pushed p.seen top.later top.entry ∙ top.cut; cells = top.rest_is },
       ))
 
--- a walk that has come to a front of the chain, with the cells behind it on the stack
+-- a walk that has come to a beginning of the chain, with the cells behind it on the stack
 pub record Climbs (part : Part) (word : ℕ) (stack : List ℕ) : Type 0 where
   pub mid : List Entry
   pub rest : List Entry
@@ -67,7 +67,7 @@ pub record Climbs (part : Part) (word : ℕ) (stack : List ℕ) : Type 0 where
   pub named : word ≡ head_word part.seats (part.seen ++ mid)
   pub cells : stack ≡ cells_back part.seats (part.seen ++ mid) rest
 
-pub climbs_first : (p : Part) (word : ℕ) (stack : List ℕ) → word ≡ head_word p.seats p.ahead → stack ≡ [] → IsFront p.seen p.ahead → Climbs p word stack
+pub climbs_first : (p : Part) (word : ℕ) (stack : List ℕ) → word ≡ head_word p.seats p.ahead → stack ≡ [] → IsBeginning p.seen p.ahead → Climbs p word stack
 climbs_first p word stack word_is none front = record {
   mid = front.rest;
   rest = [];
@@ -115,7 +115,7 @@ climbs_on a found_is = record { mid = a.mid; rest = a.entry ∷ a.rest; split = 
 module _ (p : Part) (word : ℕ) (stack : List ℕ) (sound : IsSoundPart p) (climbs : Climbs p word stack) where
   pub climbs_last : word ≡ head_word p.seats p.seen → (table : TableId) → Leads (known_of table p) p.seen stack
   climbs_last word_is table =
-      let front : IsFront (p.seen ++ climbs.mid) p.ahead = record { rest = climbs.rest; is = climbs.split } in
+      let front : IsBeginning (p.seen ++ climbs.mid) p.ahead = record { rest = climbs.rest; is = climbs.split } in
       let same : p.seen ++ climbs.mid ≡ p.seen = same_front p.seats p.per_seat p.ahead sound.fits (p.seen ++ climbs.mid) p.seen front sound.front (sym climbs.named ∙ word_is) in record {
         left = climbs.rest;
         is = ap (λ s. s ++ climbs.rest) (sym same) ∙ climbs.split;

@@ -3,15 +3,15 @@ use Rattle.std.specs.Prelude.{◌≡◌, ℕ, ◌+◌, ◌*◌, ◌<◌, ◌==�
 use Rattle.camp_row.specs.declared.entries.Entry.{Entry}
 
 -- one list begins another
-pub record IsFront {A : Type 0} (front whole : List A) : Type 0 where
+pub record IsBeginning {A : Type 0} (beginning whole : List A) : Type 0 where
   pub rest : List A
-  pub is : front ++ rest ≡ whole
+  pub is : beginning ++ rest ≡ whole
 
 -- one list begins another, which goes on
-pub record IsShorter {A : Type 0} (front whole : List A) : Type 0 where
+pub record IsShorter {A : Type 0} (beginning whole : List A) : Type 0 where
   pub next : A
   pub rest : List A
-  pub is : front ++ next ∷ rest ≡ whole
+  pub is : beginning ++ next ∷ rest ≡ whole
 
 -- the entries that a seat has in a chain
 abbrev pub own : ℕ → List Entry → List Entry

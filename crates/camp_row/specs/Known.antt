@@ -3,7 +3,7 @@ use Rattle.std.specs.Prelude.{◌≡◌, ◌≢◌, ◌⊎◌, ℕ, ◌<◌, Lis
 use Rattle.atomic_table.specs.Seated.{TableId}
 use Rattle.camp_row.specs.declared.entries.Entry.{Entry}
 use Rattle.camp_row.specs.declared.trails.Next.{Next}
-use Rattle.camp_row.specs.Chains.{IsFront, IsShorter, own, cell_of, head_word}
+use Rattle.camp_row.specs.Chains.{IsBeginning, IsShorter, own, cell_of, head_word}
 
 -- seats of a row
 abbrev pub most_seats : ℕ
@@ -35,13 +35,13 @@ newcomer row number = record { row = row; number = number; seen = []; ahead = []
 
 -- what was seen begins the chain that was found, in which the seat has no entry that its pass has not seen
 pub record IsSound (known : Known) : Type 0 where
-  pub front : IsFront known.seen known.ahead
+  pub front : IsBeginning known.seen known.ahead
   pub own_seen : own known.number known.ahead ≡ own known.number known.seen
 
 -- the chain was found: it has only grown, it begins with what was seen, and the seat has no new entry in it
 pub record FindsChain (old new : Known) : Type 0 where
   pub is : new ≡ record old { ahead = new.ahead }
-  pub grows : IsFront old.ahead new.ahead
+  pub grows : IsBeginning old.ahead new.ahead
   pub sound : IsSound new
 
 -- the cells from `before` on, newest first
@@ -91,10 +91,10 @@ pub record Won (old new : Known) : Type 0 where
 -- the chain was longer than what was seen, and was found
 pub record Lost (old new : Known) : Type 0 where
   pub is : new ≡ record old { ahead = new.ahead }
-  pub grows : IsFront old.ahead new.ahead
+  pub grows : IsBeginning old.ahead new.ahead
   pub sound : IsSound new
   pub longer : IsShorter old.seen new.ahead
 
 -- of two passes, what one has seen begins what the other has seen
 abbrev pub OneBegins : Known → Known → Type 0
-OneBegins a b = (IsFront a.seen b.seen) ⊎ (IsFront b.seen a.seen)
+OneBegins a b = (IsBeginning a.seen b.seen) ⊎ (IsBeginning b.seen a.seen)

@@ -2,8 +2,8 @@
 use Rattle.camp_run.proofs.Words.{◌≡◌, ℕ, ◌+◌, List, [], ◌∷◌, ◌++◌, length, map, Option, None, Some, Result, Ok, Err, option_and_then, append-nil, Fault, Next, Answer, SaysAlone, OneByOne, Section, Call, Reply, repository_is_lawful, Contents, initial, Decision, step}
 use Rattle.std.proofs.Common.{MatchOption, refl, sym, ◌∙◌, ap, subst, append_assoc}
 use Rattle.std.proofs.lemmas.Option.{same_Some}
-use Rattle.camp_object.specs.Histories.{IsFront, IsAnswered, IsLegal, replay}
-use Rattle.camp_object.proofs.Fronts.{front_front, front_self}
+use Rattle.camp_object.specs.Histories.{IsBeginning, IsAnswered, IsLegal, replay}
+use Rattle.camp_object.proofs.Beginnings.{begins_through, begins_self}
 use Rattle.camp_object.proofs.Replays.{count-replay, legal_front, replay_more}
 use Rattle.camp_clients.proofs.Single.{locked_is_serial, shared_is_serial}
 use Rattle.camp_call.specs.declared.replies.Reply.TheVariants as reply
@@ -70,30 +70,30 @@ module _ (seat : ℕ) (before : Entries) (state : Contents) (call : Call) (front
 module _ (seat : ℕ) where
   front_grows : (told : Option ℕ) (before : Entries) (call : Call) (front : Entries) (P : Type 0)
       → MatchOption told ((front ≡ before) × P) (λ at. (front ≡ before ++ (seat, call) ∷ []) × (at ≡ length front))
-      → IsFront before front
-  front_grows None before call front P says = subst (IsFront before) (sym says.0) (front_self before)
+      → IsBeginning before front
+  front_grows None before call front P says = subst (IsBeginning before) (sym says.0) (begins_self before)
   front_grows (Some at) before call front P says = record { rest = (seat, call) ∷ []; makes = sym says.0 }
 
   says_grows : (before : Entries) (call : Call) (answer : Result Reply Fault) (front : Entries)
-      → SaysAlone repository seat before call answer front → IsFront before front
+      → SaysAlone repository seat before call answer front → IsBeginning before front
   says_grows before call (Ok answer) front says = front_grows (number_told answer) before call front _ says
   says_grows before call (Err fault) front says = absurd says
 
   section_grows : (first : Entries) (calls : List Call) (answers : List (Result Reply Fault)) (last : Entries)
-      → Section (SaysAlone repository seat) first calls answers last → IsFront first last
-  section_grows first [] [] last s = subst (IsFront first) s (front_self first)
+      → Section (SaysAlone repository seat) first calls answers last → IsBeginning first last
+  section_grows first [] [] last s = subst (IsBeginning first) s (begins_self first)
   section_grows first [] (a ∷ answers) last s = absurd s
   section_grows first (c ∷ calls) [] last s = absurd s
   section_grows first (c ∷ calls) (a ∷ answers) last s =
-      front_front (says_grows first c a s.0 s.1) (section_grows s.0 calls answers last s.2)
+      begins_through (says_grows first c a s.0 s.1) (section_grows s.0 calls answers last s.2)
 
 sections_grow : (seat : ℕ) (first : Entries) (sections : List (List Call)) (answers : List (List (Result Reply Fault)))
-    (last : Entries) → OneByOne repository seat first sections answers last → IsFront first last
-sections_grow seat first [] [] last s = subst (IsFront first) s (front_self first)
+    (last : Entries) → OneByOne repository seat first sections answers last → IsBeginning first last
+sections_grow seat first [] [] last s = subst (IsBeginning first) s (begins_self first)
 sections_grow seat first [] (a ∷ answers) last s = absurd s
 sections_grow seat first (c ∷ sections) [] last s = absurd s
 sections_grow seat first (c ∷ sections) (a ∷ answers) last s =
-    front_front (section_grows seat first c a s.0 s.1) (sections_grow (seat + 1) s.0 sections answers last s.2)
+    begins_through (section_grows seat first c a s.0 s.1) (sections_grow (seat + 1) s.0 sections answers last s.2)
 
 booked_before : (decision : Decision) (entry : ℕ × Call) (rest : Entries)
     → booked decision entry [] ++ rest ≡ booked decision entry rest

@@ -82,11 +82,11 @@ module _ (sections : List (List Call)) (answers : List (List (Result Reply Fault
       → (seat : ℕ) → seat < length answers → All HasText (get_or answers seat [])
   shared_section tries is zero within =
       section_has (SaysAmongThreads repository 0 tries) (shared_has 0 tries) [] (get_or sections 0 []) (get_or answers 0 [])
-      is.opening.last is.opening.fronts
+      is.opening.last is.opening.beginnings
   shared_section tries is (suc k) within =
       let client = is.clients (suc k) (omega arith) (omega (arith, within, is.as_many)) in
       section_has (SaysAmongThreads repository (suc k) tries) (shared_has (suc k) tries) is.opening.last
-      (get_or sections (suc k) []) (get_or answers (suc k) []) client.last client.fronts
+      (get_or sections (suc k) []) (get_or answers (suc k) []) client.last client.beginnings
 
   pub shared_texts : (tries : ℕ) → IsShared repository tries sections answers history → HaveTexts answers
   shared_texts tries is = by_seat answers (shared_section tries is)

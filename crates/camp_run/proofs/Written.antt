@@ -3,7 +3,7 @@ use Rattle.std.proofs.Common.{◌≡◌, ℕ, ◌≤◌, Bool, List, [], ◌∷�
 use Rattle.camp_run.proofs.Words.{ap, count_by, subst, sym, ◌∙◌, All, AllByRecursion, All-cons, All-nil, Fault, is_writing, Call, Reply, lists_of}
 use Rattle.std.specs.Io.KnownBytes.{Appends}
 use Rattle.camp_script.specs.Outputs.{output_text}
-use Rattle.camp_script.specs.Writing.{AppendsFront}
+use Rattle.camp_script.specs.Writing.{AppendsBeginning}
 use Rattle.camp_run.specs.Inputs.{ReadsAs}
 use Rattle.camp_run.specs.Outputs.{Outcome, if_wanted}
 use Rattle.camp_run.specs.Runs.{HasOutput, Runs}
@@ -12,7 +12,7 @@ use Rattle.camp_run.specs.declared.faults.RunFault.TheVariants.{Write}
 
 module _ (Comes : Outcome) (wants_history : Bool) (remaining rest old new : Option (List ℕ)) (text : List ℕ) where
   pub written : (result : Result (Unit {0}) RunFault) → HasOutput Comes wants_history remaining rest text
-      → MatchResult result (λ _. Appends old new text) (λ why. (why ≡ Write) × AppendsFront old new text)
+      → MatchResult result (λ _. Appends old new text) (λ why. (why ≡ Write) × AppendsBeginning old new text)
       → Runs Comes wants_history remaining rest old result new
   written (Ok done) prepared says = (text, prepared, says)
   written (Err why) prepared says =

@@ -2,7 +2,7 @@
 use Rattle.std.specs.Prelude.{ℕ, Bool, List, Option, Result, Ok, Err}
 use Rattle.std.specs.Io.KnownBytes.{Appends, Keeps}
 use Rattle.camp_call.specs.declared.calls.Call.{Call}
-use Rattle.camp_script.specs.Writing.{AppendsFront}
+use Rattle.camp_script.specs.Writing.{AppendsBeginning}
 use Rattle.camp_run.specs.Inputs.{ReadsAs}
 use Rattle.camp_run.specs.Outputs.{Outcome, IsOutput}
 use Rattle.camp_run.specs.declared.faults.RunFault.{RunFault}
@@ -29,7 +29,7 @@ Runs Comes wants_history remaining rest old (Err Foreign) new = Keeps old new
 Runs Comes wants_history remaining rest old (Err Memory) new = Keeps old new
 Runs Comes wants_history remaining rest old (Err Read) new = Keeps old new
 Runs Comes wants_history remaining rest old (Err Write) new =
-    (text : List ℕ) × HasOutput Comes wants_history remaining rest text × AppendsFront old new text
+    (text : List ℕ) × HasOutput Comes wants_history remaining rest text × AppendsBeginning old new text
 
 -- why there is no text to be written: a fault of the script is its first one; writing comes later
 abbrev pub HasNoOutput : Option (List ℕ) → Option (List ℕ) → RunFault → Type 0

@@ -1,32 +1,32 @@
--- Exchanges of neighbours, inside longer lists and back.
-use Rattle.camp_seq.proofs.Words.{List, [], ◌∷◌, ◌++◌, refl, sym, ap, ◌∙◌, append_assoc, Swap, SwapAnywhere, Named, own_inverse, Exchanges, ◌~◌, same, exchanged, backwards, through, ◌↔◌, ◌≡◌}
+-- CommutesOnce of neighbours, inside longer lists and back.
+use Rattle.camp_seq.proofs.Words.{List, [], ◌∷◌, ◌++◌, refl, sym, ap, ◌∙◌, append_assoc, Commute, CommuteAnywhere, Named, own_inverse, CommutesOnce, ◌~◌, same, exchanged, backwards, through, ◌↔◌, ◌≡◌}
 
 -- of two elements between others
-exchanged_at : {Turns : Named → Named → Named → Named → Type 0} (before : List Named) (p q q' p' : Named) (after s t : List Named) → s ≡ before ++ p ∷ q ∷ after → Turns p q q' p' → t ≡ before ++ q' ∷ p' ∷ after → Exchanges Turns s t
+exchanged_at : {Turns : Named → Named → Named → Named → Type 0} (before : List Named) (p q q' p' : Named) (after s t : List Named) → s ≡ before ++ p ∷ q ∷ after → Turns p q q' p' → t ≡ before ++ q' ∷ p' ∷ after → CommutesOnce Turns s t
 exchanged_at before p q q' p' after s t was w becomes =
     record { before = before; p = p; q = q; q' = q'; p' = p'; after = after; was = was; turns = w; becomes = becomes }
 
 -- of the first two
-pub at_front : {Turns : Named → Named → Named → Named → Type 0} (p q q' p' : Named) (s : List Named) → Turns p q q' p' → Exchanges Turns (p ∷ q ∷ s) (q' ∷ p' ∷ s)
+pub at_front : {Turns : Named → Named → Named → Named → Type 0} (p q q' p' : Named) (s : List Named) → Turns p q q' p' → CommutesOnce Turns (p ∷ q ∷ s) (q' ∷ p' ∷ s)
 at_front p q q' p' s w = exchanged_at [] p q q' p' s (p ∷ q ∷ s) (q' ∷ p' ∷ s) refl w refl
 
-pub exchanges_behind : {Turns : Named → Named → Named → Named → Type 0} (u s t : List Named) → Exchanges Turns s t → Exchanges Turns (u ++ s) (u ++ t)
+pub exchanges_behind : {Turns : Named → Named → Named → Named → Type 0} (u s t : List Named) → CommutesOnce Turns s t → CommutesOnce Turns (u ++ s) (u ++ t)
 exchanges_behind u s t e =
     exchanged_at (u ++ e.before) e.p e.q e.q' e.p' e.after (u ++ s) (u ++ t) (ap (λ x. u ++ x) e.was ∙ sym (append_assoc u e.before (e.p ∷ e.q ∷ e.after))) e.turns (ap (λ x. u ++ x) e.becomes ∙ sym (append_assoc u e.before (e.q' ∷ e.p' ∷ e.after)))
 
-pub exchanges_before : {Turns : Named → Named → Named → Named → Type 0} (s t u : List Named) → Exchanges Turns s t → Exchanges Turns (s ++ u) (t ++ u)
+pub exchanges_before : {Turns : Named → Named → Named → Named → Type 0} (s t u : List Named) → CommutesOnce Turns s t → CommutesOnce Turns (s ++ u) (t ++ u)
 exchanges_before s t u e =
     exchanged_at e.before e.p e.q e.q' e.p' (e.after ++ u) (s ++ u) (t ++ u) (ap (λ x. x ++ u) e.was ∙ append_assoc e.before (e.p ∷ e.q ∷ e.after) u) e.turns (ap (λ x. x ++ u) e.becomes ∙ append_assoc e.before (e.q' ∷ e.p' ∷ e.after) u)
 
-pub exchanges_back : (s t : List Named) → Exchanges Swap s t → Exchanges Swap t s
+pub exchanges_back : (s t : List Named) → CommutesOnce Commute s t → CommutesOnce Commute t s
 exchanges_back s t e =
     exchanged_at e.before e.q' e.p' e.p e.q e.after t s e.becomes (own_inverse e.p e.q e.q' e.p' e.turns) e.was
 
-pub exchanged_anywhere : (s t : List Named) → Exchanges Swap s t → Exchanges SwapAnywhere s t
+pub exchanged_anywhere : (s t : List Named) → CommutesOnce Commute s t → CommutesOnce CommuteAnywhere s t
 exchanged_anywhere s t e = exchanged_at e.before e.p e.q e.q' e.p' e.after s t e.was e.turns.anywhere e.becomes
 
 -- what one exchange keeps, equivalent lists share
-pub shared : (Fact : List Named → Type 0) → ((s t : List Named) → Exchanges Swap s t → Fact s → Fact t) → (s t : List Named) → s ~ t → Fact s ↔ Fact t
+pub shared : (Fact : List Named → Type 0) → ((s t : List Named) → CommutesOnce Commute s t → Fact s → Fact t) → (s t : List Named) → s ~ t → Fact s ↔ Fact t
 shared Fact kept s t same = (λ f. f, λ f. f)
 shared Fact kept s t (exchanged e) = (kept s t e, kept t s (exchanges_back s t e))
 shared Fact kept s t (backwards e) = let both = shared Fact kept t s e in (both.1, both.0)

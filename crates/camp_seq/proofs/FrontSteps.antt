@@ -13,13 +13,13 @@ first_contained label s at w =
     let labels : map label_of s ≡ map label_of w.before ++ label_of w.first ∷ map label_of w.after = ap (map label_of) w.is ∙ map-append label_of w.before (w.first ∷ w.after) in
     rw (labels, sym w.labelled) (Contains-append_right (map label_of w.before) (label_of w.first ∷ map label_of w.after) (label_of w.first) (Contains-get_or (label_of w.first ∷ map label_of w.after) 0 (label_of w.first) (omega arith)))
 
--- the first element with a label, swapped to before those before it
+-- the first element with a label, commuted to before those before it
 pub fronts_from : (label : Label) (before : List Named) (first : Named) (after : List Named) (y : Named) (moved : List Named) → Lacks label before → label_of first ≡ label → Precedes before first y moved → Fronts label (before ++ first ∷ after) y (moved ++ after)
 fronts_from label [] first after y moved lacks is m = inl (is, m.0, ap (λ x. x ++ after) m.1)
 fronts_from label (p ∷ before) first after y moved lacks is m =
     inr (All-head (λ x. label_of x ≢ label) p before lacks, (m.0, m.1, m.2 ++ after, fronts_from label before first after m.0 m.2 (All-tail (λ x. label_of x ≢ label) p before lacks) is m.3, m.4, ap (λ x. x ++ after) m.5))
 
--- and back: what is at the front was swapped there
+-- and back: what is at the front was commuted there
 pub precedes_from : (label : Label) (before : List Named) (first : Named) (after : List Named) (y : Named) (t : List Named) → Lacks label before → label_of first ≡ label → Fronts label (before ++ first ∷ after) y t → (moved : List Named) × Precedes before first y moved
 precedes_from label [] first after y t lacks is (inl w) = ([], (w.1, refl))
 precedes_from label [] first after y t lacks is (inr w) = absurd (w.0 is)

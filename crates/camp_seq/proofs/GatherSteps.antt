@@ -29,7 +29,7 @@ window labels s0 s i count k d within v k_is w =
     let long : length (p ∷ w.named) ≡ k = omega arith in
     (ap (take k) from ∙ take_at (p ∷ w.named) w.others k long, ap (drop k) from ∙ drop_at (p ∷ w.named) w.others k long)
 
--- another element is swapped past them
+-- another element is commuted past them
 pub parts_other : (labels : List Label) (s0 s part new : List Named) (i count k : ℕ) (d : Named) → i < length s → length s ≡ length s0 → k ≡ count + 1 → PartsFrom labels s0 (i + 1) count s → ¬ (Contains labels (label_of (get_or s i d))) → part ≡ take k (drop i s) → FirstPasses part new → PartsFrom labels s0 i count (put_mid i k s new)
 parts_other labels s0 s part new i count k d within same k_is w other part_is (p, rest, rest', p', is, passes, new_is) =
     let q : Named = get_or s i d in

@@ -1,5 +1,5 @@
 -- The law of three: with room, the six orders of three primitives are in range.
-use Rattle.camp_seq.proofs.Words.{List, [], ◌∷◌, All, All-head, All-tail, InRange, Swap, SwapAnywhere, Named, Reaches, here, further, HasRoom, LawOfThree, ◌++◌, length, drop_at, refl, subst, All-drop}
+use Rattle.camp_seq.proofs.Words.{List, [], ◌∷◌, All, All-head, All-tail, InRange, Commute, CommuteAnywhere, Named, Reaches, here, further, HasRoom, LawOfThree, ◌++◌, length, drop_at, refl, subst, All-drop}
 use Rattle.camp_prim.specs.Laws.{SixOrders}
 use Rattle.camp_prim.proofs.ThreeAnywhere.{six_from_behind, six_from_before}
 use Rattle.camp_seq.proofs.RoomSteps.{reaches_through, at_front, exchanges_behind}
@@ -12,7 +12,7 @@ two_in_range s before p q after room reaches =
     (All-head P p (q ∷ after) all, All-head P q after (All-tail P p (q ∷ after) all))
 
 -- they turn in range
-turned : (s before : List Named) (p q q' p' : Named) (after : List Named) → HasRoom s → SwapAnywhere p q q' p' → Reaches s (before ++ p ∷ q ∷ after) → Swap p q q' p' × Reaches s (before ++ q' ∷ p' ∷ after)
+turned : (s before : List Named) (p q q' p' : Named) (after : List Named) → HasRoom s → CommuteAnywhere p q q' p' → Reaches s (before ++ p ∷ q ∷ after) → Commute p q q' p' × Reaches s (before ++ q' ∷ p' ∷ after)
 turned s before p q q' p' after room w reaches =
     let turn = exchanges_behind before (p ∷ q ∷ after) (q' ∷ p' ∷ after) (at_front p q q' p' after w) in
     let next = reaches_through s _ (before ++ q' ∷ p' ∷ after) reaches (further turn here) in
@@ -20,7 +20,7 @@ turned s before p q q' p' after room w reaches =
     let then = two_in_range s before q' p' after room next in
     (record { anywhere = w; ranges = (first.0, first.1, then.0, then.1) }, next)
 
-six_in_range : (p q r q' p' r1 q1 r2 p2 y p1 q2 : Named) → HasRoom (p ∷ q ∷ r ∷ []) → SixOrders SwapAnywhere p q r q' p' r1 q1 r2 p2 y p1 q2 → SixOrders Swap p q r q' p' r1 q1 r2 p2 y p1 q2
+six_in_range : (p q r q' p' r1 q1 r2 p2 y p1 q2 : Named) → HasRoom (p ∷ q ∷ r ∷ []) → SixOrders CommuteAnywhere p q r q' p' r1 q1 r2 p2 y p1 q2 → SixOrders Commute p q r q' p' r1 q1 r2 p2 y p1 q2
 six_in_range p q r q' p' r1 q1 r2 p2 y p1 q2 room n =
     let s : List Named = p ∷ q ∷ r ∷ [] in
     let pq = turned s [] p q q' p' (r ∷ []) room n.pq here in

@@ -1,5 +1,5 @@
 -- What passes, comes to the front or is split is equivalent to what it came from.
-use Rattle.camp_seq.proofs.Words.{◌≡◌, inl, inr, List, [], ◌∷◌, ◌++◌, sym, ap, ◌∙◌, subst, append_assoc, append-nil, label_of, Label, Swap, Named, ◌~◌, same, exchanged, backwards, through, AreEquivalent, Norm, Splits, Passes, PassesAll, Fronts, Parts}
+use Rattle.camp_seq.proofs.Words.{◌≡◌, inl, inr, List, [], ◌∷◌, ◌++◌, sym, ap, ◌∙◌, subst, append_assoc, append-nil, label_of, Label, Commute, Named, ◌~◌, same, exchanged, backwards, through, AreEquivalent, Norm, Splits, Passes, PassesAll, Fronts, Parts}
 use Rattle.camp_seq.proofs.ExchangeSteps.{at_front, exchanges_behind, exchanges_before}
 
 -- equal lists are equivalent
@@ -27,7 +27,7 @@ joined s t u v e f = through (before s t u e) (behind t u v f)
 pub after_one : (p : Named) (s t : List Named) → s ~ t → (p ∷ s) ~ (p ∷ t)
 after_one p s t e = behind (p ∷ []) s t e
 
-pub swapped : (p q q' p' : Named) (s : List Named) → Swap p q q' p' → (p ∷ q ∷ s) ~ (q' ∷ p' ∷ s)
+pub swapped : (p q q' p' : Named) (s : List Named) → Commute p q q' p' → (p ∷ q ∷ s) ~ (q' ∷ p' ∷ s)
 swapped p q q' p' s w =
     exchanged (at_front p q q' p' s w)
 

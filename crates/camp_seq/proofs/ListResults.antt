@@ -1,5 +1,5 @@
 -- Each relation of lists has at most one result.
-use Rattle.camp_seq.proofs.Words.{◌≡◌, inl, inr, List, [], ◌∷◌, refl, sym, ap, ◌∙◌, subst, label_of, Label, Swap, Named, same_label, swap_unique, inverse_all, AreDetermined, CleanMerge, Norm, Splits, Passes, PassesAll, Fronts, Parts}
+use Rattle.camp_seq.proofs.Words.{◌≡◌, inl, inr, List, [], ◌∷◌, refl, sym, ap, ◌∙◌, subst, label_of, Label, Commute, Named, same_label, swap_unique, inverse_all, AreDetermined, CleanMerge, Norm, Splits, Passes, PassesAll, Fronts, Parts}
 use Rattle.camp_seq.proofs.ListRuns.{inverse_all-inverse_all}
 use Rattle.camp_seq.proofs.MergeGrid.{merge_passes}
 
@@ -24,7 +24,7 @@ one_front label (p ∷ s) t u y z (inl v) (inr w) = absurd (w.0 v.0)
 one_front label (p ∷ s) t u y z (inr v) (inl w) = absurd (v.0 w.0)
 one_front label (p ∷ s) t u y z (inr v) (inr w) =
     let rest = one_front label s v.1.2 w.1.2 v.1.0 w.1.0 v.1.3 w.1.3 in
-    let pair = swap_unique p w.1.0 y v.1.1 z w.1.1 (subst (λ x. Swap p x y v.1.1) rest.0 v.1.4) w.1.4 in
+    let pair = swap_unique p w.1.0 y v.1.1 z w.1.1 (subst (λ x. Commute p x y v.1.1) rest.0 v.1.4) w.1.4 in
     (pair.0, v.1.5 ∙ ap (λ x. x ∷ v.1.2) pair.1 ∙ ap (λ x. w.1.1 ∷ x) rest.1 ∙ sym w.1.5)
 
 pub one_parting : (labels : List Label) (s f t g u : List Named) → Parts labels s f t → Parts labels s g u → (f ≡ g) × (t ≡ u)

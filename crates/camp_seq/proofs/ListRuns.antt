@@ -1,5 +1,5 @@
--- What lists of primitives do to trees: joined lists, lists after a swap, inverses.
-use Rattle.camp_seq.proofs.Words.{◌≡◌, List, [], ◌∷◌, ◌++◌, map, reverse, refl, sym, ap, ◌∙◌, subst, reverse-append, map-append, Files, inverse_of, Swap, Named, leads_back, inverse_of-inverse_of, effect, Exchanges, EquivalentRun, InverseOfListLeadsBack, AppliesAll, inverse_all, ℕ, ◌+◌, ◌<◌, Err, length, take, drop, get_or, drop_more, take_more, Answers, AnswersByTrial, Applies}
+-- What lists of primitives do to trees: joined lists, lists after a commute, inverses.
+use Rattle.camp_seq.proofs.Words.{◌≡◌, List, [], ◌∷◌, ◌++◌, map, reverse, refl, sym, ap, ◌∙◌, subst, reverse-append, map-append, Files, inverse_of, Commute, Named, leads_back, inverse_of-inverse_of, effect, CommutesOnce, EquivalentRun, InverseOfListLeadsBack, AppliesAll, inverse_all, ℕ, ◌+◌, ◌<◌, Err, length, take, drop, get_or, drop_more, take_more, Answers, AnswersByTrial, Applies}
 use Rattle.camp_seq.proofs.ExchangeSteps.{shared}
 use Rattle.camp_base.specs.declared.faults.Apply.{Apply}
 use Rattle.camp_base.specs.declared.faults.Apply.TheVariants.{DoesNotApply, Memory}
@@ -17,12 +17,12 @@ cut_run (p ∷ s) t old new r =
     let cut = cut_run s t r.0 new r.2 in
     (cut.0, (r.0, r.1, cut.1), cut.2)
 
-swapped_runs : (p q q' p' : Named) (after : List Named) (old new : Files) → Swap p q q' p' → AppliesAll (p ∷ q ∷ after) old new → AppliesAll (q' ∷ p' ∷ after) old new
+swapped_runs : (p q q' p' : Named) (after : List Named) (old new : Files) → Commute p q q' p' → AppliesAll (p ∷ q ∷ after) old new → AppliesAll (q' ∷ p' ∷ after) old new
 swapped_runs p q q' p' after old new s r =
     let leads = (effect p q q' p' s old r.2.0).0 (record { between = r.0; first = r.1; second = r.2.1 }) in
     (leads.between, leads.first, (r.2.0, leads.second, r.2.2))
 
-exchanged_runs : (s t : List Named) (old new : Files) → Exchanges Swap s t → AppliesAll s old new → AppliesAll t old new
+exchanged_runs : (s t : List Named) (old new : Files) → CommutesOnce Commute s t → AppliesAll s old new → AppliesAll t old new
 exchanged_runs s t old new e r =
     let cut = cut_run e.before (e.p ∷ e.q ∷ e.after) old new (subst (λ x. AppliesAll x old new) e.was r) in
     subst (λ x. AppliesAll x old new) (sym e.becomes) (joined_runs e.before (e.q' ∷ e.p' ∷ e.after) old cut.0 new cut.1 (swapped_runs e.p e.q e.q' e.p' e.after cut.0 new e.turns cut.2))

@@ -1,12 +1,12 @@
 -- The grid of a clean merge: it closes a square of trees, is symmetric, and is passing the inverse.
-use Rattle.camp_seq.proofs.Words.{◌≡◌, List, [], ◌∷◌, ◌++◌, refl, sym, ap, ◌∙◌, subst, inverse_of, Swap, Named, inverse_of-inverse_of, own_inverse, square, MergeCloses, MergeIsEquivalent, MergeIsSymmetric, MergeIsPassing, Merges, MergesOne, CleanMerge, Passes, PassesAll, inverse_all}
+use Rattle.camp_seq.proofs.Words.{◌≡◌, List, [], ◌∷◌, ◌++◌, refl, sym, ap, ◌∙◌, subst, inverse_of, Commute, Named, inverse_of-inverse_of, own_inverse, square, MergeCloses, MergeIsEquivalent, MergeIsSymmetric, MergeIsPassing, Merges, MergesOne, CleanMerge, Passes, PassesAll, inverse_all}
 use Rattle.camp_seq.proofs.ListEquivalence.{all_passed}
 use Rattle.camp_seq.proofs.ListRuns.{joined_runs, cut_run, equivalent_run, inverse_all-cons, inverse_all-append, inverse_all-inverse_all, inverse_all_leads_back}
 
 -- a cell, seen from its other side: [a] [b'] <-> [b] [a']
-cell_passes : (a b b' a' : Named) → Merges a b b' a' → Swap a b' b a'
+cell_passes : (a b b' a' : Named) → Merges a b b' a' → Commute a b' b a'
 cell_passes a b b' a' m =
-    subst (λ (x : Named × Named). Swap x.0 b' b x.1) (λ i. (inverse_of-inverse_of a i, inverse_of-inverse_of a' i)) (square (inverse_of a) b b' (inverse_of a') m)
+    subst (λ (x : Named × Named). Commute x.0 b' b x.1) (λ i. (inverse_of-inverse_of a i, inverse_of-inverse_of a' i)) (square (inverse_of a) b b' (inverse_of a') m)
 
 column_passes : (a : Named) (bs b' : List Named) (a' : Named) → MergesOne a bs b' a' → Passes a b' bs a'
 column_passes a [] b' a' m = subst (λ x. Passes a x [] a') (sym m.0) (refl, m.1)
@@ -54,7 +54,7 @@ row_passes a (b ∷ bs) b' a' m = (m.0, inverse_of m.1, m.2, m.3, row_passes m.1
 pub passes_row : (x : Named) (bs b' : List Named) (x' : Named) → Passes x bs b' x' → MergesOne (inverse_of x) bs b' (inverse_of x')
 passes_row x [] b' x' m = (m.0, ap inverse_of m.1)
 passes_row x (b ∷ bs) b' x' m =
-    let cell = subst (λ (y : Named × Named). Swap y.0 b m.0 y.1) (λ i. (sym (inverse_of-inverse_of x) i, sym (inverse_of-inverse_of m.1) i)) m.3 in
+    let cell = subst (λ (y : Named × Named). Commute y.0 b m.0 y.1) (λ i. (sym (inverse_of-inverse_of x) i, sym (inverse_of-inverse_of m.1) i)) m.3 in
     (m.0, inverse_of m.1, m.2, cell, passes_row m.1 bs m.2 x' m.4, m.5)
 
 -- a last element that passes first

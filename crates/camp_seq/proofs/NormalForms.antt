@@ -1,11 +1,11 @@
 -- What comes to the front of a list with room comes to the front of each list that is one exchange from it.
-use Rattle.camp_seq.proofs.Words.{◌≡◌, ◌≢◌, ◌⊎◌, List, [], ◌∷◌, ◌++◌, refl, sym, ap, ◌∙◌, subst, inl, inr, label_of, key_of, Label, Swap, Named, own_inverse, swap_unique, Exchanges, Fronts, Reaches, HasRoom, IsLeast, Norm, NormalForm, length, length-append, arith}
+use Rattle.camp_seq.proofs.Words.{◌≡◌, ◌≢◌, ◌⊎◌, List, [], ◌∷◌, ◌++◌, refl, sym, ap, ◌∙◌, subst, inl, inr, label_of, key_of, Label, Commute, Named, own_inverse, swap_unique, CommutesOnce, Fronts, Reaches, HasRoom, IsLeast, Norm, NormalForm, length, length-append, arith}
 use Rattle.camp_seq.proofs.LawOfThree.{law_of_three}
 use Rattle.camp_seq.proofs.RoomSteps.{reaches_behind, front_reached, room_after, room_before, room_behind, room_exchanged, kept_by_swaps, at_front, exchanges_behind, exchanges_back}
 
 -- equal, or one exchange apart
 abbrev pub Near : List Named → List Named → Type 0
-Near s t = (s ≡ t) ⊎ Exchanges Swap s t
+Near s t = (s ≡ t) ⊎ CommutesOnce Commute s t
 
 -- this comes to the front of the list too, with a rest that is near
 abbrev pub FrontsNear : Label → List Named → Named → List Named → Type 0
@@ -14,23 +14,23 @@ FrontsNear label t y u = (v : List Named) × Fronts label t y v × Near u v
 near_behind : (x : Named) (s u v : List Named) → s ≡ x ∷ u → Near u v → Near s (x ∷ v)
 near_behind x s u v e (inl same) = inl (e ∙ ap (λ y. x ∷ y) same)
 near_behind x s u v e (inr w) =
-    inr (subst (λ y. Exchanges Swap y (x ∷ v)) (sym e) (exchanges_behind (x ∷ []) u v w))
+    inr (subst (λ y. CommutesOnce Commute y (x ∷ v)) (sym e) (exchanges_behind (x ∷ []) u v w))
 
 -- the first of the two comes to the front
-first_comes : (label : Label) (p q q' p' : Named) (s : List Named) (y : Named) (u : List Named) → Swap p q q' p' → label_of p ≡ label → y ≡ p → u ≡ q ∷ s → FrontsNear label (q' ∷ p' ∷ s) y u
+first_comes : (label : Label) (p q q' p' : Named) (s : List Named) (y : Named) (u : List Named) → Commute p q q' p' → label_of p ≡ label → y ≡ p → u ≡ q ∷ s → FrontsNear label (q' ∷ p' ∷ s) y u
 first_comes label p q q' p' s y u w named is rest =
     let other : label_of q' ≢ label = λ e. w.anywhere.apart (ap key_of (named ∙ sym e ∙ w.anywhere.second)) in
-    let back : Swap q' p' y q = subst (λ x. Swap q' p' x q) (sym is) (own_inverse p q q' p' w) in
+    let back : Commute q' p' y q = subst (λ x. Commute q' p' x q) (sym is) (own_inverse p q q' p' w) in
     (q ∷ s, inr (other, (p', q, s, inl (w.anywhere.first ∙ named, refl, refl), back, refl)), inl rest)
 
 -- the second of the two comes to the front
-second_comes : (label : Label) (p q q' p' : Named) (s : List Named) (y p1 : Named) (u : List Named) → Swap p q q' p' → label_of q ≡ label → Swap p q y p1 → u ≡ p1 ∷ s → FrontsNear label (q' ∷ p' ∷ s) y u
+second_comes : (label : Label) (p q q' p' : Named) (s : List Named) (y p1 : Named) (u : List Named) → Commute p q q' p' → label_of q ≡ label → Commute p q y p1 → u ≡ p1 ∷ s → FrontsNear label (q' ∷ p' ∷ s) y u
 second_comes label p q q' p' s y p1 u w named v rest =
     let pair = swap_unique p q q' p' y p1 w v in
     (p' ∷ s, inl (w.anywhere.second ∙ named, sym pair.0, refl), inl (rest ∙ ap (λ x. x ∷ s) (sym pair.1)))
 
 -- a third behind the two comes to the front
-third_comes : (label : Label) (p q q' p' : Named) (s : List Named) (y : Named) (u : List Named) (r q1 r1 p1 : Named) (v : List Named) → HasRoom (p ∷ q ∷ s) → Swap p q q' p' → label_of p ≢ label → label_of q ≢ label → Fronts label s r v → Swap q r r1 q1 → Swap p r1 y p1 → u ≡ p1 ∷ q1 ∷ v → FrontsNear label (q' ∷ p' ∷ s) y u
+third_comes : (label : Label) (p q q' p' : Named) (s : List Named) (y : Named) (u : List Named) (r q1 r1 p1 : Named) (v : List Named) → HasRoom (p ∷ q ∷ s) → Commute p q q' p' → label_of p ≢ label → label_of q ≢ label → Fronts label s r v → Commute q r r1 q1 → Commute p r1 y p1 → u ≡ p1 ∷ q1 ∷ v → FrontsNear label (q' ∷ p' ∷ s) y u
 third_comes label p q q' p' s y u r q1 r1 p1 v room w not_p not_q front b c rest =
     let came : Reaches (p ∷ q ∷ s) (p ∷ q ∷ r ∷ v) =
     reaches_behind p (q ∷ s) (q ∷ r ∷ v) (reaches_behind q s (r ∷ v) (front_reached label s r v front)) in
@@ -41,29 +41,29 @@ third_comes label p q q' p' s y u r q1 r1 p1 v room w not_p not_q front b c rest
     inr ((λ e. not_p (sym w.anywhere.first ∙ e)), (r, n.1, v, front, n.3.pr, refl)) in (
       n.2 ∷ n.1 ∷ v,
       inr ((λ e. not_q (sym w.anywhere.second ∙ e)), (n.0, n.2, n.1 ∷ v, passes_p, n.3.qr2, refl)),
-      inr (subst (λ x. Exchanges Swap x (n.2 ∷ n.1 ∷ v)) (sym rest) (at_front p1 q1 n.2 n.1 v n.3.p1q1)),
+      inr (subst (λ x. CommutesOnce Commute x (n.2 ∷ n.1 ∷ v)) (sym rest) (at_front p1 q1 n.2 n.1 v n.3.p1q1)),
     )
 
 -- exchange at the front of the list
-front_swapped : (label : Label) (p q q' p' : Named) (s : List Named) (y : Named) (u : List Named) → HasRoom (p ∷ q ∷ s) → Swap p q q' p' → Fronts label (p ∷ q ∷ s) y u → FrontsNear label (q' ∷ p' ∷ s) y u
+front_swapped : (label : Label) (p q q' p' : Named) (s : List Named) (y : Named) (u : List Named) → HasRoom (p ∷ q ∷ s) → Commute p q q' p' → Fronts label (p ∷ q ∷ s) y u → FrontsNear label (q' ∷ p' ∷ s) y u
 front_swapped label p q q' p' s y u room w (inl f) = first_comes label p q q' p' s y u w f.0 f.1 f.2
 front_swapped label p q q' p' s y u room w (inr f) =
     let a = f.1 in
     elim a.3 [
       | inl g ↦
-          second_comes label p q q' p' s y a.1 u w g.0 (subst (λ x. Swap p x y a.1) g.1 a.4) (a.5 ∙ ap (λ x. a.1 ∷ x) g.2)
+          second_comes label p q q' p' s y a.1 u w g.0 (subst (λ x. Commute p x y a.1) g.1 a.4) (a.5 ∙ ap (λ x. a.1 ∷ x) g.2)
       | inr g ↦
           let b = g.1 in
           third_comes label p q q' p' s y u b.0 b.1 a.0 a.1 b.2 room w f.0 g.0 b.3 b.4 a.4 (a.5 ∙ ap (λ x. a.1 ∷ x) b.5)
     ]
 
 -- exchange behind some elements
-front_swapped_behind : (label : Label) (before : List Named) (p q q' p' : Named) (s : List Named) (y : Named) (u : List Named) → HasRoom (before ++ p ∷ q ∷ s) → Swap p q q' p' → Fronts label (before ++ p ∷ q ∷ s) y u → FrontsNear label (before ++ q' ∷ p' ∷ s) y u
+front_swapped_behind : (label : Label) (before : List Named) (p q q' p' : Named) (s : List Named) (y : Named) (u : List Named) → HasRoom (before ++ p ∷ q ∷ s) → Commute p q q' p' → Fronts label (before ++ p ∷ q ∷ s) y u → FrontsNear label (before ++ q' ∷ p' ∷ s) y u
 front_swapped_behind label [] p q q' p' s y u room w f = front_swapped label p q q' p' s y u room w f
 front_swapped_behind label (x ∷ before) p q q' p' s y u room w (inl f) = (
   before ++ q' ∷ p' ∷ s,
   inl (f.0, f.1, refl),
-  inr (subst (λ x. Exchanges Swap x (before ++ q' ∷ p' ∷ s)) (sym f.2) (exchanges_behind before (p ∷ q ∷ s) (q' ∷ p' ∷ s) (at_front p q q' p' s w))),
+  inr (subst (λ x. CommutesOnce Commute x (before ++ q' ∷ p' ∷ s)) (sym f.2) (exchanges_behind before (p ∷ q ∷ s) (q' ∷ p' ∷ s) (at_front p q q' p' s w))),
 )
 front_swapped_behind label (x ∷ before) p q q' p' s y u room w (inr f) =
     let a = f.1 in
@@ -71,17 +71,17 @@ front_swapped_behind label (x ∷ before) p q q' p' s y u room w (inr f) =
     (a.1 ∷ rest.0, inr (f.0, (a.0, a.1, rest.0, rest.1, a.4, refl)), near_behind a.1 u a.2 rest.0 a.5 rest.2)
 
 -- what comes to the front of a list with room comes to the front of a list one exchange from it, with rests that are near
-pub exchanged_front : (label : Label) (s t : List Named) (y : Named) (u : List Named) → HasRoom s → Exchanges Swap s t → Fronts label s y u → FrontsNear label t y u
+pub exchanged_front : (label : Label) (s t : List Named) (y : Named) (u : List Named) → HasRoom s → CommutesOnce Commute s t → Fronts label s y u → FrontsNear label t y u
 exchanged_front label s t y u room e f =
     subst (λ x. FrontsNear label x y u) (sym e.becomes) (front_swapped_behind label e.before e.p e.q e.q' e.p' e.after y u (subst HasRoom e.was room) e.turns (subst (λ x. Fronts label x y u) e.was f))
 
-least_exchanged : (s t : List Named) (y : Named) → HasRoom s → Exchanges Swap s t → IsLeast (label_of y) s → IsLeast (label_of y) t
+least_exchanged : (s t : List Named) (y : Named) → HasRoom s → CommutesOnce Commute s t → IsLeast (label_of y) s → IsLeast (label_of y) t
 least_exchanged s t y room e least other z u f =
     let back = exchanged_front other t s z u (room_exchanged s t e room) (exchanges_back s t e) f in
     least other z back.0 back.1
 
 -- one exchange keeps the normal order of a list with room
-norm_exchanged : (s t u : List Named) → HasRoom s → Exchanges Swap s t → Norm s u → Norm t u
+norm_exchanged : (s t u : List Named) → HasRoom s → CommutesOnce Commute s t → Norm s u → Norm t u
 norm_exchanged s t [] room e n =
     absurd (omega (arith, ap length (sym n ∙ e.was), length-append e.before (e.p ∷ e.q ∷ e.after)))
 norm_exchanged s t (y ∷ u) room e n =

@@ -1,5 +1,5 @@
 -- Every list has a normal order.
-use Rattle.camp_seq.proofs.Words.{◌≡◌, ◌≢◌, ℕ, zero, suc, ◌+◌, ◌≤◌, List, [], ◌∷◌, length, refl, sym, ap, subst, inl, inr, arith, Less, label_of, label_cmp, Label, Swap, Named, All-nil, All-cons, All-head, All-weaker, ◌⊎◌, label_total, label_ties, less_or_not, not_below, Decided, same_or_not, swap_or_not, HasNormalOrder, IsLeast, Norm, Fronts, decided_by}
+use Rattle.camp_seq.proofs.Words.{◌≡◌, ◌≢◌, ℕ, zero, suc, ◌+◌, ◌≤◌, List, [], ◌∷◌, length, refl, sym, ap, subst, inl, inr, arith, Less, label_of, label_cmp, Label, Commute, Named, All-nil, All-cons, All-head, All-weaker, ◌⊎◌, label_total, label_ties, less_or_not, not_below, Decided, same_or_not, swap_or_not, HasNormalOrder, IsLeast, Norm, Fronts, decided_by}
 use Rattle.camp_seq.proofs.LabelsKept.{Each, each_at_front}
 use Rattle.camp_seq.proofs.ListResults.{one_front, label-front}
 
@@ -16,7 +16,7 @@ front_or_not label (p ∷ s) = elim (same_or_not _ label_total label_ties (label
       | inr w ↦
           let a = w.1 in
           let rest = one_front label s a.2 f.1 a.0 f.0 a.3 f.2 in
-          (g.0, a.1, subst (λ x. Swap p x g.0 a.1) rest.0 a.4)
+          (g.0, a.1, subst (λ x. Commute p x g.0 a.1) rest.0 a.4)
     ]) (swap_or_not p f.0)
     | inr never ↦ inr (λ g. elim g.2 [ inl w ↦ other w.0 | inr w ↦ let a = w.1 in never (a.0, a.2, a.3) ])
   ]

@@ -1,20 +1,21 @@
--- Lists that are their own normal order: those in which no two neighbours swap, and those in which each element stays behind the others.
-use Rattle.camp_seq.proofs.Words.{◌≡◌, ◌≢◌, Bool, true, ℕ, zero, suc, ◌+◌, ◌-◌, ◌<◌, ◌≤◌, List, [], ◌∷◌, ◌++◌, length, take, drop, get_or, take_all, take_more, arith, ap, ◌∙◌, refl, sym, subst, inl, inr, ◌⊎◌, Less, label_of, label_cmp, Swap, Label, Named, not_below, not_below_both, Chain, StaysBefore, IsLeast, Norm, Fronts}
+-- Lists that are their own normal order: those in which no two neighbours commute, and those in which each element
+-- stays behind the others.
+use Rattle.camp_seq.proofs.Words.{◌≡◌, ◌≢◌, Bool, true, ℕ, zero, suc, ◌+◌, ◌-◌, ◌<◌, ◌≤◌, List, [], ◌∷◌, ◌++◌, length, take, drop, get_or, take_all, take_more, arith, ap, ◌∙◌, refl, sym, subst, inl, inr, ◌⊎◌, Less, label_of, label_cmp, Commute, Label, Named, not_below, not_below_both, Chain, StaysBefore, IsLeast, Norm, Fronts}
 use Rattle.std.proofs.Common.{◌==◌, eqb-true, false, IsTrue, Option, None, Some}
 use Rattle.std.specs.List.{AllByRecursion}
 use Rattle.std.specs.Prelude.{IfSome, is_some}
 use Rattle.camp_prim.proofs.LabelOrder.{not_above}
-use Rattle.camp_seq.specs.Chains.{CanSwap}
+use Rattle.camp_seq.specs.Chains.{CanCommute}
 use Rattle.camp_seq.specs.Inside.NextInOrder.{IsInOrder, NoneAbove, StaysLast}
 
--- what comes to the front where no two neighbours swap stands there
+-- what comes to the front where no two neighbours commute stands there
 pub front_of_chain : (label : Label) (p : Named) (s : List Named) (y : Named) (t : List Named) → Chain (p ∷ s) → Fronts label (p ∷ s) y t → (label_of p ≡ label) × (y ≡ p) × (t ≡ s)
 front_of_chain label p s y t c (inl w) = w
 front_of_chain label p [] y t c (inr w) = absurd w.1.3
 front_of_chain label p (q ∷ s) y t c (inr w) =
     let a = w.1 in
     let rest = front_of_chain label q s a.0 a.2 c.1 a.3 in
-    absurd (c.0 (y, (a.1, subst (λ z. Swap p z y a.1) rest.1 a.4)))
+    absurd (c.0 (y, (a.1, subst (λ z. Commute p z y a.1) rest.1 a.4)))
 
 -- what stands behind an element of a chain is a chain
 pub chain_behind : (s : List Named) (n : ℕ) → Chain s → Chain (drop n s)
@@ -23,7 +24,7 @@ chain_behind [] (suc n) c = tt
 chain_behind (p ∷ s) zero c = c
 chain_behind (p ∷ s) (suc n) c = chain_behind s n c.1
 
--- an element that swaps with the one behind it
+-- an element that commutes with the one behind it
 pub no_chain : (s : List Named) (i : ℕ) (p : Named) (t : List Named) → drop i s ≡ p ∷ t → ¬ (StaysBefore p t) → ¬ (Chain s)
 no_chain s i p t is moves c =
     let rest : Chain (p ∷ t) = subst Chain is (chain_behind s i c) in
@@ -35,13 +36,13 @@ chain_is_ordered (p ∷ s) c =
     let least : IsLeast (label_of p) (p ∷ s) = λ other y t w. not_below other (label_of p) (sym (front_of_chain other p s y t c w).0) in
     (s, inl (refl, refl, refl), least, chain_is_ordered s c.1)
 
--- x does not swap with the last of the list
+-- x does not commute with the last of the list
 abbrev StuckBehind : List Named → Named → Type 0
 StuckBehind [] x = ⊥
-StuckBehind (p ∷ []) x = ¬ (CanSwap p x)
+StuckBehind (p ∷ []) x = ¬ (CanCommute p x)
 StuckBehind (p ∷ q ∷ s) x = StuckBehind (q ∷ s) x
 
-stuck_behind : (s : List Named) (last x : Named) → ¬ (CanSwap last x) → StuckBehind (s ++ last ∷ []) x
+stuck_behind : (s : List Named) (last x : Named) → ¬ (CanCommute last x) → StuckBehind (s ++ last ∷ []) x
 stuck_behind [] last x stuck = stuck
 stuck_behind (p ∷ []) last x stuck = stuck
 stuck_behind (p ∷ q ∷ s) last x stuck = stuck_behind (q ∷ s) last x stuck
@@ -52,7 +53,7 @@ came_from other [] x y t (inl w) = inr (w.0, λ stuck. stuck)
 came_from other [] x y t (inr w) = absurd w.1.3
 came_from other (p ∷ s) x y t (inl w) = inl (s, inl (w.0, w.1, refl))
 came_from other (p ∷ []) x y t (inr (apart, (found, p', u, inl w, swap, is))) =
-    inr (w.0, λ stuck. stuck (y, (p', subst (λ z. Swap p z y p') w.1 swap)))
+    inr (w.0, λ stuck. stuck (y, (p', subst (λ z. Commute p z y p') w.1 swap)))
 came_from other (p ∷ []) x y t (inr (apart, (found, p', u, inr w, swap, is))) = absurd w.1.3
 came_from other (p ∷ q ∷ s) x y t (inr (apart, (found, p', u, front, swap, is))) =
     elim (came_from other (q ∷ s) x found u front) [
@@ -65,7 +66,7 @@ rest_ordered : (p : Named) (s : List Named) → Norm (p ∷ s) (p ∷ s) → IsL
 rest_ordered p s (rest, inl w, least, n) = (least, subst (λ r. Norm r s) w.2 n)
 rest_ordered p s (rest, inr w, least, n) = absurd (w.0 refl)
 
--- x has no lesser label than any of the list, or does not swap with its last
+-- x has no lesser label than any of the list, or does not commute with its last
 abbrev Behind : List Named → Named → Type 0
 Behind s x = NoneAbove (label_of x) s ⊎ StuckBehind s x
 
@@ -141,8 +142,8 @@ with_one_more s last x greatest more long is in_order stays =
     let front : s ≡ take i s ++ last ∷ [] = sym (take_all (i + 1) s (omega arith)) ∙ take_more s i last (omega arith) ∙ ap (λ y. take i s ++ y ∷ []) (sym is) in
     subst (λ l. Norm (l ++ x ∷ []) (l ++ x ∷ [])) (sym front) (more_in_order (take i s) last x greatest more (subst (λ l. IsInOrder l greatest) front in_order) stays).ordered
 
--- a chain, and an element that does not swap with its last
-pub chain_with_last : (s : List Named) (last x : Named) → 0 < length s → last ≡ get_or s (length s - 1) last → Chain s → ¬ (CanSwap last x) → Norm (s ++ x ∷ []) (s ++ x ∷ [])
+-- a chain, and an element that does not commute with its last
+pub chain_with_last : (s : List Named) (last x : Named) → 0 < length s → last ≡ get_or s (length s - 1) last → Chain s → ¬ (CanCommute last x) → Norm (s ++ x ∷ []) (s ++ x ∷ [])
 chain_with_last s last x long is c stuck =
     let i = length s - 1 in
     let e : i + 1 ≡ length s = omega arith in

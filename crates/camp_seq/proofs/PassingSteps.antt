@@ -1,16 +1,16 @@
 -- Steps of passing, from one neighbour to the next, and passing that stops.
-use Rattle.camp_seq.proofs.Words.{◌≡◌, ℕ, zero, suc, ◌+◌, ◌<◌, ◌≤◌, Bool, true, false, List, [], ◌∷◌, ◌++◌, length, take, drop, get_or, refl, sym, ap, ◌∙◌, subst, arith, append_assoc, take_more, take-append-drop, then_some, FindsPair, Swap, Named, swap_unique, own_inverse, Precedes, IsHeld, ComesUpTo, Passes, PassesAll}
+use Rattle.camp_seq.proofs.Words.{◌≡◌, ℕ, zero, suc, ◌+◌, ◌<◌, ◌≤◌, Bool, true, false, List, [], ◌∷◌, ◌++◌, length, take, drop, get_or, refl, sym, ap, ◌∙◌, subst, arith, append_assoc, take_more, take-append-drop, then_some, FindsPair, Commute, Named, swap_unique, own_inverse, Precedes, IsHeld, ComesUpTo, Passes, PassesAll}
 use Rattle.camp_seq.proofs.ListResults.{one_pass, one_pass_of_all}
 pub use Rattle.camp_seq.proofs.ListSteps.{DoneFrom, all_done, at_last, at_next, drop_next, one_more_done, take_next, turned, whole}
 
-pub passes_push : (p : Named) (s s' : List Named) (r q q' r' : Named) → Passes p s s' r → Swap r q q' r' → Passes p (s ++ q ∷ []) (s' ++ q' ∷ []) r'
+pub passes_push : (p : Named) (s s' : List Named) (r q q' r' : Named) → Passes p s s' r → Commute r q q' r' → Passes p (s ++ q ∷ []) (s' ++ q' ∷ []) r'
 passes_push p [] s' r q q' r' m w =
-    (q', r', [], subst (λ x. Swap x q q' r') m.1 w, (refl, refl), ap (λ x. x ++ q' ∷ []) m.0)
+    (q', r', [], subst (λ x. Commute x q q' r') m.1 w, (refl, refl), ap (λ x. x ++ q' ∷ []) m.0)
 passes_push p (x ∷ s) s' r q q' r' m w =
     (m.0, m.1, m.2 ++ q' ∷ [], m.3, passes_push m.1 s m.2 r q q' r' m.4 w, ap (λ y. y ++ q' ∷ []) m.5)
 
-pub passes_stop : (p : Named) (s s' rest t : List Named) (r q z : Named) → Passes p s s' r → ((x y : Named) → ¬ (Swap r q x y)) → ¬ (Passes p (s ++ q ∷ rest) t z)
-passes_stop p [] s' rest t r q z m never v = never v.0 v.1 (subst (λ x. Swap x q v.0 v.1) (sym m.1) v.3)
+pub passes_stop : (p : Named) (s s' rest t : List Named) (r q z : Named) → Passes p s s' r → ((x y : Named) → ¬ (Commute r q x y)) → ¬ (Passes p (s ++ q ∷ rest) t z)
+passes_stop p [] s' rest t r q z m never v = never v.0 v.1 (subst (λ x. Commute x q v.0 v.1) (sym m.1) v.3)
 passes_stop p (x ∷ s) s' rest t r q z m never v =
     let pair = swap_unique p x m.0 m.1 v.0 v.1 m.3 v.3 in
     passes_stop v.1 s m.2 rest v.2 r q z (subst (λ y. Passes y s m.2 r) pair.1 m.4) never v.4
@@ -32,13 +32,13 @@ pub one_precedes : (s : List Named) (p a b : Named) (t u : List Named) → Prece
 one_precedes [] p a b t u v w = (v.0 ∙ sym w.0, v.1 ∙ sym w.1)
 one_precedes (q ∷ s) p a b t u v w =
     let rest = one_precedes s p v.0 w.0 v.2 w.2 v.3 w.3 in
-    let pair = swap_unique q w.0 a v.1 b w.1 (subst (λ x. Swap q x a v.1) rest.0 v.4) w.4 in
+    let pair = swap_unique q w.0 a v.1 b w.1 (subst (λ x. Commute q x a v.1) rest.0 v.4) w.4 in
     (pair.0, v.5 ∙ ap (λ x. x ∷ v.2) pair.1 ∙ ap (λ x. w.1 ∷ x) rest.1 ∙ sym w.5)
 
-pub precedes_stop : (before : List Named) (q : Named) (s : List Named) (p r z : Named) (t u : List Named) → Precedes s p r t → ((x y : Named) → ¬ (Swap q r x y)) → ¬ (Precedes (before ++ q ∷ s) p z u)
+pub precedes_stop : (before : List Named) (q : Named) (s : List Named) (p r z : Named) (t u : List Named) → Precedes s p r t → ((x y : Named) → ¬ (Commute q r x y)) → ¬ (Precedes (before ++ q ∷ s) p z u)
 precedes_stop [] q s p r z t u m never v =
     let rest = one_precedes s p r v.0 t v.2 m v.3 in
-    never z v.1 (subst (λ x. Swap q x z v.1) (sym rest.0) v.4)
+    never z v.1 (subst (λ x. Commute q x z v.1) (sym rest.0) v.4)
 precedes_stop (x ∷ before) q s p r z t u m never v = precedes_stop before q s p r v.0 t v.2 m never v.3
 
 -- what came before a list passes it back
@@ -52,12 +52,12 @@ passed_back s p p' s' true t r m w = one_pass p' s' t s r p w (precedes_back s p
 passed_back s p p' s' false t r m w = absurd (w (s, p) (precedes_back s p p' s' m))
 
 -- the neighbour that it can't pass holds it, and those before that one do
-all_hold : (a : List Named) (q : Named) (s : List Named) (x r : Named) (t : List Named) → Precedes s x r t → ((b c : Named) → ¬ (Swap q r b c)) → IsHeld (a ++ q ∷ []) s x
+all_hold : (a : List Named) (q : Named) (s : List Named) (x r : Named) (t : List Named) → Precedes s x r t → ((b c : Named) → ¬ (Commute q r b c)) → IsHeld (a ++ q ∷ []) s x
 all_hold [] q s x r t m never = ((λ p u. precedes_stop [] q s x r p t u m never), tt)
 all_hold (y ∷ a) q s x r t m never =
     ((λ p u. subst (λ z. ¬ (Precedes (y ∷ z) x p u)) (sym (append_assoc a (q ∷ []) s)) (precedes_stop (y ∷ a) q s x r p t u m never)), all_hold a q s x r t m never)
 
-pub comes_up_to : (s0 s : List Named) (x0 x : Named) (at i : ℕ) (d : Named) → at ≡ i + 1 → i < length s → length s ≡ length s0 → DoneFrom (λ t u. Precedes t x0 x u) s0 s at → ((a b : Named) → ¬ (Swap (get_or s i d) x a b)) → ComesUpTo s0 x0 (i + 1) s x
+pub comes_up_to : (s0 s : List Named) (x0 x : Named) (at i : ℕ) (d : Named) → at ≡ i + 1 → i < length s → length s ≡ length s0 → DoneFrom (λ t u. Precedes t x0 x u) s0 s at → ((a b : Named) → ¬ (Commute (get_or s i d) x a b)) → ComesUpTo s0 x0 (i + 1) s x
 comes_up_to s0 s x0 x at i d e within long w never =
     let v = subst (DoneFrom (λ t u. Precedes t x0 x u) s0 s) e w in
     record {

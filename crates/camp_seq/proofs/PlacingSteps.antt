@@ -1,5 +1,5 @@
--- An element that is swapped to its place, from one neighbour to the next.
-use Rattle.camp_seq.proofs.Words.{◌≡◌, ◌≢◌, ℕ, ◌+◌, ◌-◌, ◌<◌, List, [], ◌∷◌, ◌++◌, length, take, drop, get_or, set, refl, sym, ap, ◌∙◌, subst, inl, inr, arith, append_assoc, length_push, length-set, length-take-le, take_at, drop_at, drop_all, drop_more, take_more, take_more_set, drop-set-lt, take-append-drop, take-take, Less, label_of, label_cmp, Swap, Named, own_inverse, swap_unique, ◌~◌, backwards, through, Precedes, IsHeld, ComesUpTo, InOrder, Follows, StartsAfter, StandsAt, StaysAt, Placed, HasRoom, ◌⊎◌, Label, not_below, not_above, not_below_both, IsLeast, Norm, Passes, Fronts, Reaches, further, here}
+-- An element that is commuted to its place, from one neighbour to the next.
+use Rattle.camp_seq.proofs.Words.{◌≡◌, ◌≢◌, ℕ, ◌+◌, ◌-◌, ◌<◌, List, [], ◌∷◌, ◌++◌, length, take, drop, get_or, set, refl, sym, ap, ◌∙◌, subst, inl, inr, arith, append_assoc, length_push, length-set, length-take-le, take_at, drop_at, drop_all, drop_more, take_more, take_more_set, drop-set-lt, take-append-drop, take-take, Less, label_of, label_cmp, Commute, Named, own_inverse, swap_unique, ◌~◌, backwards, through, Precedes, IsHeld, ComesUpTo, InOrder, Follows, StartsAfter, StandsAt, StaysAt, Placed, HasRoom, ◌⊎◌, Label, not_below, not_above, not_below_both, IsLeast, Norm, Passes, Fronts, Reaches, further, here}
 use Rattle.camp_seq.proofs.ListEquivalence.{before, behind, passed}
 use Rattle.camp_seq.proofs.RoomSteps.{room_before, room_of_equivalent, kept_by_swaps, reaches_behind, front_reached, room_after, room_behind, at_front}
 use Rattle.camp_seq.proofs.NormalForms.{exchanged_front, normal_form}
@@ -13,13 +13,13 @@ front_of_equivalent s t e room label y u f =
 
 -- what comes to the front of a list, from behind what passed it
 abbrev FrontsPast : Label → Named → List Named → Named → Type 0
-FrontsPast label x s z = (z' : Named) × (x' : Named) × (u : List Named) × Swap x z z' x' × Fronts label s z' u
+FrontsPast label x s z = (z' : Named) × (x' : Named) × (u : List Named) × Commute x z z' x' × Fronts label s z' u
 
 -- what comes to the front of a list comes to the front of what the list is behind an element that passes it, too
 front_past : (label : Label) (x : Named) (s s' : List Named) (x' z : Named) (w : List Named) → HasRoom (x ∷ s) → Passes x s s' x' → Fronts label s z w → FrontsPast label x s' z
 front_past label x [] s' x' z w room m f = absurd f
 front_past label x (q ∷ s) s' x' z w room m (inl f) =
-    (m.0, m.1, m.2, subst (λ y. Swap x y m.0 m.1) (sym f.1) m.3, subst (λ y. Fronts label y m.0 m.2) (sym m.5) (inl (m.3.anywhere.second ∙ f.0, refl, refl)))
+    (m.0, m.1, m.2, subst (λ y. Commute x y m.0 m.1) (sym f.1) m.3, subst (λ y. Fronts label y m.0 m.2) (sym m.5) (inl (m.3.anywhere.second ∙ f.0, refl, refl)))
 front_past label x (q ∷ s) s' x' z w room m (inr f) =
     let a = f.1 in
     let room_one : HasRoom (m.0 ∷ m.1 ∷ s) = room_after (x ∷ q ∷ s) (m.0 ∷ m.1 ∷ s) room (further (at_front x q m.0 m.1 s m.3.anywhere) here) in
@@ -138,7 +138,7 @@ record Behind (s0 : List Named) (x0 : Named) (i : ℕ) (s : List Named) (x : Nam
   coming : Named
   is : drop i s0 ≡ get_or s0 i d ∷ drop (i + 1) s0
   came : Precedes (drop (i + 1) s0) x0 coming (drop (i + 1) s)
-  back : Swap x (get_or s i d) (get_or s0 i d) coming
+  back : Commute x (get_or s i d) (get_or s0 i d) coming
   labels : label_cmp (label_of (get_or s0 i d)) (label_of x0) ≡ label_cmp (label_of (get_or s i d)) (label_of x)
 
 behind_it : (s0 s : List Named) (x0 x : Named) (i : ℕ) (d : Named) → i < length s → StandsAt s0 x0 i s x → Behind s0 x0 i s x d
@@ -149,7 +149,7 @@ behind_it s0 s x0 x i d within w =
     let both : m.1 ∷ m.2 ≡ get_or s i d ∷ drop (i + 1) s = sym m.5 ∙ drop_more s i d within in
     let this : m.1 ≡ get_or s i d = cc in
     let rest : m.2 ≡ drop (i + 1) s = cc in
-    let back = subst (λ q. Swap x q first m.0) this (own_inverse first m.0 x m.1 m.4) in
+    let back = subst (λ q. Commute x q first m.0) this (own_inverse first m.0 x m.1 m.4) in
     record {
       coming = m.0;
       is = next;
@@ -159,7 +159,7 @@ behind_it s0 s x0 x i d within w =
     }
 
 -- one place further to the right
-pub goes_on : (s0 s : List Named) (x0 x : Named) (i : ℕ) (d q' x' : Named) → i < length s → label_cmp (label_of (get_or s i d)) (label_of x) ≡ Less → Swap x (get_or s i d) q' x' → StandsAt s0 x0 i s x → StandsAt s0 x0 (i + 1) (set s i q') x'
+pub goes_on : (s0 s : List Named) (x0 x : Named) (i : ℕ) (d q' x' : Named) → i < length s → label_cmp (label_of (get_or s i d)) (label_of x) ≡ Less → Commute x (get_or s i d) q' x' → StandsAt s0 x0 i s x → StandsAt s0 x0 (i + 1) (set s i q') x'
 goes_on s0 s x0 x i d q' x' within less swap w =
     let b = behind_it s0 s x0 x i d within w in
     let pair = swap_unique x (get_or s i d) q' x' (get_or s0 i d) b.coming swap b.back in
@@ -179,7 +179,7 @@ stays_before s0 s x0 x i d within not w =
     record { stands = w; starts = subst (StartsAfter (label_of x0)) (sym b.is) (λ less. not (sym b.labels ∙ less)) }
 
 -- it passes each element back
-pub never_stuck : (s0 s : List Named) (x0 x : Named) (i : ℕ) (d : Named) → i < length s → StandsAt s0 x0 i s x → ¬ ((a b : Named) → ¬ (Swap x (get_or s i d) a b))
+pub never_stuck : (s0 s : List Named) (x0 x : Named) (i : ℕ) (d : Named) → i < length s → StandsAt s0 x0 i s x → ¬ ((a b : Named) → ¬ (Commute x (get_or s i d) a b))
 never_stuck s0 s x0 x i d within w never =
     let b = behind_it s0 s x0 x i d within w in
     never (get_or s0 i d) b.coming b.back

@@ -1,5 +1,5 @@
 -- A list whose reach is in range has room: in every order its hunks stand in their files, whose ends are known.
-use Rattle.camp_seq.proofs.Words.{◌≡◌, ℕ, ◌+◌, ◌-◌, ◌≤◌, ◌^◌, max, List, [], ◌∷◌, ◌++◌, length, drop, get_or, refl, sym, ap, ◌∙◌, subst, inl, inr, arith, All, at_drop_all, All-nil, All-cons, All-head, All-tail, InRange, path_of, ChangePlaces, Primitive, Named, Reaches, here, further, HasRoom, line_of, sides_of, greatest_line, all_sides, reach_of}
+use Rattle.camp_seq.proofs.Words.{◌≡◌, ℕ, ◌+◌, ◌-◌, ◌≤◌, ◌^◌, max, List, [], ◌∷◌, ◌++◌, length, drop, get_or, refl, sym, ap, ◌∙◌, subst, inl, inr, arith, All, at_drop_all, All-nil, All-cons, All-head, All-tail, InRange, path_of, PrimitivesCommute, Primitive, Named, Reaches, here, further, HasRoom, line_of, sides_of, greatest_line, all_sides, reach_of}
 use Rattle.camp_prim.specs.declared.primitives.Primitive.TheVariants.{Add, Remove, Hunk}
 use Rattle.camp_prim.proofs.FileEnds.{Steps, same_path_or_not, both_turned, olds_of, news_of, news_kept}
 
@@ -7,7 +7,7 @@ abbrev Fits : List ℕ → ℕ → List Named → Type 0
 Fits path before [] = Unit {0}
 Fits path before (p ∷ s) = (behind : ℕ) × Steps path before p.prim behind × Fits path behind s
 
-fits_turned : (path : List ℕ) (before : ℕ) (s : List Named) (p q q' p' : Named) (t : List Named) → ChangePlaces p.prim q.prim q'.prim p'.prim → Fits path before (s ++ p ∷ q ∷ t) → Fits path before (s ++ q' ∷ p' ∷ t)
+fits_turned : (path : List ℕ) (before : ℕ) (s : List Named) (p q q' p' : Named) (t : List Named) → PrimitivesCommute p.prim q.prim q'.prim p'.prim → Fits path before (s ++ p ∷ q ∷ t) → Fits path before (s ++ q' ∷ p' ∷ t)
 fits_turned path before [] p q q' p' t w f =
     let b = both_turned path before f.2.0 p.prim q.prim q'.prim p'.prim w (f.0, f.1, f.2.1) in
     (b.0, b.1, (f.2.0, b.2, f.2.2))
@@ -31,7 +31,7 @@ all_sides_are : (s : List Named) → all_sides s ≡ all_olds s + all_news s
 all_sides_are [] = refl
 all_sides_are (p ∷ s) = omega (arith, sides_are p.prim, all_sides_are s)
 
-news_turned : (s : List Named) (p q q' p' : Named) (t : List Named) → ChangePlaces p.prim q.prim q'.prim p'.prim → all_news (s ++ q' ∷ p' ∷ t) ≡ all_news (s ++ p ∷ q ∷ t)
+news_turned : (s : List Named) (p q q' p' : Named) (t : List Named) → PrimitivesCommute p.prim q.prim q'.prim p'.prim → all_news (s ++ q' ∷ p' ∷ t) ≡ all_news (s ++ p ∷ q ∷ t)
 news_turned [] p q q' p' t w =
     let kept = news_kept p.prim q.prim q'.prim p'.prim w in
     let e : news_of q'.prim ≡ news_of q.prim = kept.0 in

@@ -1,5 +1,5 @@
 -- What a list with room reaches has room.
-use Rattle.camp_seq.proofs.Words.{◌≡◌, List, [], ◌∷◌, ◌++◌, sym, ap, ◌∙◌, subst, inl, inr, All, All-tail, All-take, length, refl, take_at, InRange, Label, Swap, Named, Exchanges, ◌~◌, Fronts, Reaches, here, further, HasRoom}
+use Rattle.camp_seq.proofs.Words.{◌≡◌, List, [], ◌∷◌, ◌++◌, sym, ap, ◌∙◌, subst, inl, inr, All, All-tail, All-take, length, refl, take_at, InRange, Label, Commute, Named, CommutesOnce, ◌~◌, Fronts, Reaches, here, further, HasRoom}
 pub use Rattle.camp_seq.proofs.ExchangeSteps.{at_front, exchanged_anywhere, exchanges_back, exchanges_before, exchanges_behind, shared}
 
 pub reaches_through : (s t u : List Named) → Reaches s t → Reaches t u → Reaches s u
@@ -28,10 +28,10 @@ pub room_before : (s u : List Named) → HasRoom (s ++ u) → HasRoom s
 room_before s u room t r =
     subst (All (λ p. InRange p.prim)) (take_at t u (length t) refl) (All-take (λ p. InRange p.prim) (length t) (t ++ u) (room (t ++ u) (reaches_before s t u r)))
 
-pub room_exchanged : (s t : List Named) → Exchanges Swap s t → HasRoom s → HasRoom t
+pub room_exchanged : (s t : List Named) → CommutesOnce Commute s t → HasRoom s → HasRoom t
 room_exchanged s t e room = room_after s t room (further (exchanged_anywhere s t e) here)
 
--- a list reaches itself with an element swapped to its front
+-- a list reaches itself with an element commuted to its front
 pub front_reached : (label : Label) (s : List Named) (y : Named) (t : List Named) → Fronts label s y t → Reaches s (y ∷ t)
 front_reached label [] y t w = absurd w
 front_reached label (p ∷ s) y t (inl w) =
@@ -45,6 +45,6 @@ pub room_of_equivalent : (s t : List Named) → s ~ t → HasRoom s → HasRoom 
 room_of_equivalent s t e = (shared HasRoom room_exchanged s t e).0
 
 -- a fact that one exchange keeps in lists with room, equivalent lists share
-pub kept_by_swaps : (Fact : List Named → Type 0) → ((s t : List Named) → HasRoom s → Exchanges Swap s t → Fact s → Fact t) → (s t : List Named) → s ~ t → HasRoom s → Fact s → Fact t
+pub kept_by_swaps : (Fact : List Named → Type 0) → ((s t : List Named) → HasRoom s → CommutesOnce Commute s t → Fact s → Fact t) → (s t : List Named) → s ~ t → HasRoom s → Fact s → Fact t
 kept_by_swaps Fact kept s t e room fact =
     ((shared (λ x. HasRoom x × Fact x) (λ x y w both. (room_exchanged x y w both.0, kept x y both.0 w both.1)) s t e).0 (room, fact)).1

@@ -1,18 +1,18 @@
--- Lists in which no two neighbours swap.
+-- Lists in which no two neighbours commute.
 use Rattle.std.specs.Prelude.{List, [], ◌∷◌}
-use Rattle.camp_prim.specs.Swaps.{Swap}
+use Rattle.camp_prim.specs.Commuting.{Commute}
 use Rattle.camp_prim.specs.declared.named.Named.{Named}
 
--- p and q change places
-abbrev pub CanSwap : Named → Named → Type 0
-CanSwap p q = (q' : Named) × ((p' : Named) × Swap p q q' p')
+-- p and q commute
+abbrev pub CanCommute : Named → Named → Type 0
+CanCommute p q = (q' : Named) × ((p' : Named) × Commute p q q' p')
 
--- p does not swap with the element behind it
+-- p does not commute with the element behind it
 abbrev pub StaysBefore : Named → List Named → Type 0
 StaysBefore p [] = Unit {0}
-StaysBefore p (q ∷ s) = ¬ (CanSwap p q)
+StaysBefore p (q ∷ s) = ¬ (CanCommute p q)
 
--- no element swaps with the one behind it
+-- no element commutes with the one behind it
 abbrev pub Chain : List Named → Type 0
 Chain [] = Unit {0}
 Chain (p ∷ s) = StaysBefore p s × Chain s

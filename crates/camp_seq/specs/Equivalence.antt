@@ -1,10 +1,10 @@
--- When two lists of primitives are the same but for swaps of neighbours.
+-- When two lists of primitives are the same but for the order of neighbours that commute.
 use Rattle.std.specs.Prelude.{◌≡◌, List, ◌∷◌, ◌++◌}
-use Rattle.camp_prim.specs.Swaps.{Swap}
+use Rattle.camp_prim.specs.Commuting.{Commute}
 use Rattle.camp_prim.specs.declared.named.Named.{Named}
 
 -- .. [p] [q] .. becomes .. [q'] [p'] .., where the relation leads from p and q to q' and p'
-pub record Exchanges (Turns : Named → Named → Named → Named → Type 0) (s t : List Named) : Type 0 where
+pub record CommutesOnce (Turns : Named → Named → Named → Named → Type 0) (s t : List Named) : Type 0 where
   pub before : List Named
   pub p : Named
   pub q : Named
@@ -15,10 +15,10 @@ pub record Exchanges (Turns : Named → Named → Named → Named → Type 0) (s
   pub turns : Turns p q q' p'
   pub becomes : t ≡ before ++ q' ∷ p' ∷ after
 
--- the least equivalence under one swap of neighbours
+-- the least equivalence under commuting two neighbours
 infix 4 ◌~◌
 pub data ◌~◌ : List Named → List Named → Type 0 where
   same : {s : List Named} → s ~ s
-  exchanged : {s t : List Named} → Exchanges Swap s t → s ~ t
+  exchanged : {s t : List Named} → CommutesOnce Commute s t → s ~ t
   backwards : {s t : List Named} → s ~ t → t ~ s
   through : {s t u : List Named} → s ~ t → t ~ u → s ~ u

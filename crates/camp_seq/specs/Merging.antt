@@ -1,12 +1,12 @@
 -- The clean merge of two lists that begin in one state.
 use Rattle.std.specs.Prelude.{◌≡◌, List, [], ◌∷◌}
-use Rattle.camp_prim.specs.Swaps.{Swap}
+use Rattle.camp_prim.specs.Commuting.{Commute}
 use Rattle.camp_prim.specs.Effect.{inverse_of}
 use Rattle.camp_prim.specs.declared.named.Named.{Named}
 
 -- two primitives of one state: b' after a, and a' after b; [a^] [b] <-> [b'] [a'^]
 abbrev pub Merges : Named → Named → Named → Named → Type 0
-Merges a b b' a' = Swap (inverse_of a) b b' (inverse_of a')
+Merges a b b' a' = Commute (inverse_of a) b b' (inverse_of a')
 
 -- one primitive against a list: each pair as its neighbours left it
 abbrev pub MergesOne : Named → List Named → List Named → Named → Type 0

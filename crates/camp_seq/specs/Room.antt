@@ -1,33 +1,33 @@
--- When every list that swaps of neighbours make of a list is in range.
+-- When every list that commuting neighbours makes of a list is in range.
 use Rattle.std.specs.Prelude.{◌≤◌, List, [], ◌∷◌}
 use Rattle.std.specs.List.{All}
 use Rattle.camp_base.specs.Limits.{greatest_reach}
 use Rattle.camp_prim.specs.Effect.{InRange}
 use Rattle.camp_prim.specs.Laws.{SixOrders}
-use Rattle.camp_prim.specs.Swaps.{SwapAnywhere, Swap}
+use Rattle.camp_prim.specs.Commuting.{CommuteAnywhere, Commute}
 use Rattle.camp_prim.specs.declared.named.Named.{Named}
-use Rattle.camp_seq.specs.Equivalence.{Exchanges, ◌~◌}
+use Rattle.camp_seq.specs.Equivalence.{CommutesOnce, ◌~◌}
 use Rattle.camp_seq.specs.NormalOrder.{Norm}
 use Rattle.camp_seq.specs.Shapes.{reach_of}
 
--- a list leads to another by any number of exchanges of neighbours, in range or not, one after the other
+-- a list leads to another by commuting neighbours any number of times, in range or not, one after the other
 pub data Reaches : List Named → List Named → Type 0 where
   here : {s : List Named} → Reaches s s
-  further : {s t u : List Named} → Exchanges SwapAnywhere s t → Reaches t u → Reaches s u
+  further : {s t u : List Named} → CommutesOnce CommuteAnywhere s t → Reaches t u → Reaches s u
 
 -- a list has room: each element of every list that it reaches is in range
 abbrev pub HasRoom : List Named → Type 0
 HasRoom s = (t : List Named) → Reaches s t → All (λ p. InRange p.prim) t
 
--- the law of three: with room, where p and q swap, there are all six orders of p q r in each of two cases:
--- r swaps past q and then past p; p swaps past q and then past r, and q and r swap
+-- the law of three: with room, where p and q commute, there are all six orders of p q r in each of two cases:
+-- r commutes past q and then past p; p commutes past q and then past r, and q and r commute
 pub record LawOfThree : Type 0 where
   pub from_behind : (p q r q' p' r1 q1 y p1 : Named) → HasRoom (p ∷ q ∷ r ∷ [])
-      → Swap p q q' p' → Swap q r r1 q1 → Swap p r1 y p1
-      → (r2 : Named) × (p2 : Named) × (q2 : Named) × SixOrders Swap p q r q' p' r1 q1 r2 p2 y p1 q2
+      → Commute p q q' p' → Commute q r r1 q1 → Commute p r1 y p1
+      → (r2 : Named) × (p2 : Named) × (q2 : Named) × SixOrders Commute p q r q' p' r1 q1 r2 p2 y p1 q2
   pub from_before : (p q r q' p' r2 p2 r1 q1 : Named) → HasRoom (p ∷ q ∷ r ∷ [])
-      → Swap p q q' p' → Swap p' r r2 p2 → Swap q r r1 q1
-      → (y : Named) × (p1 : Named) × (q2 : Named) × SixOrders Swap p q r q' p' r1 q1 r2 p2 y p1 q2
+      → Commute p q q' p' → Commute p' r r2 p2 → Commute q r r1 q1
+      → (y : Named) × (p1 : Named) × (q2 : Named) × SixOrders Commute p q r q' p' r1 q1 r2 p2 y p1 q2
 
 -- the normal order is a normal form: a list with room and every list equivalent to it have one normal order
 abbrev pub NormalForm : Type 0

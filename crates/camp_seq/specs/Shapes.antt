@@ -26,7 +26,7 @@ abbrev pub all_sides : List Named → ℕ
 all_sides [] = 0
 all_sides (p ∷ s) = sides_of p.prim + all_sides s
 
--- how far hunks of the list reach at most in any order that swaps give it: the greatest line of one, and the old and
--- new lines of all
+-- how far hunks of the list reach at most in any order that commuting gives it: the greatest line of one, and the old
+-- and new lines of all
 abbrev pub reach_of : List Named → ℕ
 reach_of s = greatest_line s + all_sides s

@@ -2,10 +2,10 @@
 //! of the rule.
 //!
 //! - A list is its own normal order where the label of each element is not less than any before it, or the
-//!   element does not swap with the one before it. Then no element can come before one with a greater label.
+//!   element does not commute with the one before it. Then no element can come before one with a greater label.
 //! - A list has room for sure where its greatest line and all its old and new lines add up to 2^30 at
 //!   most. It is put in order by insertion.
-//! - Where a primitive keeps its line at each swap, it passes a list, and all stay as they are. Where the
+//! - Where a primitive keeps its line at each step, it passes a list, and all stay as they are. Where the
 //!   first element of the list stops it, it does not pass.
 mod insertions;
 mod looks;

@@ -10,7 +10,7 @@ use camp_prim::{Label, Named};
 use std::alloc::AllocError;
 
 /// `Some((y, t))` where `s` is the same as `y` and then `t`: the first primitive of `s` with this
-/// label is swapped to the front, where it is `y`. None where it can't come there, or there is none.
+/// label is commuted to the front, where it is `y`. None where it can't come there, or there is none.
 /// That there is none is answered whatever memory does.
 #[tactic(auto, using(crate::proofs::FrontSteps::first_contained, crate::proofs::FrontSteps::none_fronts))]
 pub fn front(s: &Seq, label: &Label) -> Result<Option<(Named, Seq)>, AllocError>
@@ -28,7 +28,7 @@ pub fn front(s: &Seq, label: &Label) -> Result<Option<(Named, Seq)>, AllocError>
     Ok(Some((first, rest)))
 }
 
-/// Swaps the first element with a label to the front. Where it can't come there, or there is none,
+/// Commutes the first element with a label to the front. Where it can't come there, or there is none,
 /// the elements are as they were.
 #[tactic(auto, using(crate::proofs::FrontSteps::none_fronts))]
 pub(crate) fn bring(items: &mut [Named], label: &Label) -> bool

@@ -1,4 +1,4 @@
-//! Lists of labelled primitives, up to swaps of neighbours.
+//! Lists of labelled primitives, up to commuting neighbours.
 #![tactic(auto)]
 
 mod chains;
@@ -14,7 +14,7 @@ mod runs;
 mod seqs;
 mod splits;
 
-pub use chains::{can_swap, is_chain};
+pub use chains::{can_commute, is_chain};
 pub use fast::{are_own_orders, are_own_orders_of_chain, is_own_order, stays_past};
 pub use fronts::front;
 pub use laws::{

@@ -1,6 +1,6 @@
 ghost use Rattle.camp_seq.specs.Room.{LawOfThree, NormalForm};
 
-/// Where the first two of three primitives swap, and the third swaps past both, the six orders of
+/// Where the first two of three primitives commute, and the third commutes past both, the six orders of
 /// the three exist and agree, given room.
 #[tactic(auto, using(crate::proofs::LawOfThree::law_of_three))]
 pub fn six_orders_of_three_agree()

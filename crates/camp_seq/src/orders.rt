@@ -62,7 +62,7 @@ fn ordered_copy(s: &Seq) -> Result<Seq, AllocError>
 /// Puts a list in normal order. It takes no memory.
 ///
 /// A list that is its own normal order stays as it is. One whose hunks stay in range in any order is
-/// ordered by insertion: n elements take at most n * (n - 1) exchanges. Another, with hunks near the
+/// ordered by insertion: n elements take at most n * (n - 1) commuting steps. Another, with hunks near the
 /// limit of 2^30, is ordered by selection, as the rule has it.
 pub(crate) fn order(items: &mut [Named])
     ensures { Norm items.old items.new }
@@ -84,8 +84,8 @@ fn order_anew(items: &mut [Named])
 }
 
 /// For each place the labels are tried in ascending order until one comes to the front. Where the
-/// first one does each time, n elements take at most n * (n - 1) / 2 exchanges. Each label that is
-/// tried and stops takes no more than twice the exchanges up to where it stops. At worst nearly all
+/// first one does each time, n elements take at most n * (n - 1) / 2 commuting steps. Each label that is
+/// tried and stops takes no more than twice the steps up to where it stops. At worst nearly all
 /// stop, late, at each place, and that adds up to n^3 / 3: whether a label can come to the front of
 /// the rest has to be asked anew for each place, since near the limit of a hunk's line what stopped
 /// before may pass later, and the other way round.
@@ -97,7 +97,7 @@ fn order_by_selection(items: &mut [Named])
     }
 }
 
-/// Swaps the element with the least label that can come to the front of the list to its front.
+/// Commutes the element with the least label that can come to the front of the list to its front.
 #[tactic(auto, using(crate::proofs::LabelSteps::starts_above))]
 fn settle(items: &mut [Named])
     requires { 0 < length items.old }

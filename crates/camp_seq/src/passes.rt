@@ -1,16 +1,16 @@
 ghost use Rattle.std.specs.Prelude.{IfOk};
 ghost use Rattle.std.specs.Bool.{then_some};
 ghost use Rattle.camp_base.specs.Answers.{Changes, FindsPair};
-ghost use Rattle.camp_seq.specs.Inside.InPlace.{ComesUpTo, PrecedesInPlace, SwapsInPlace};
+ghost use Rattle.camp_seq.specs.Inside.InPlace.{ComesUpTo, PrecedesInPlace, CommutesInPlace};
 ghost use Rattle.camp_seq.specs.Passing.{Passes, PassesAll};
 
 use crate::Seq;
 use crate::fast::is_stopped;
-use camp_prim::{Named, exchange};
+use camp_prim::{Named, commute_neighbours};
 use std::alloc::AllocError;
 use std::mem;
 
-/// `Some((s', p'))` where `p` and then `s` are the same as `s'` and then `p'`: `p` is swapped past
+/// `Some((s', p'))` where `p` and then `s` are the same as `s'` and then `p'`: `p` is commuted past
 /// every primitive of `s`. None where it can't pass.
 pub fn past(p: &Named, s: &Seq) -> Result<Option<(Seq, Named)>, AllocError>
     ensures exact { IfOk result (FindsPair (Passes p.now s.now)) }
@@ -27,7 +27,7 @@ pub fn past(p: &Named, s: &Seq) -> Result<Option<(Seq, Named)>, AllocError>
 }
 
 /// `Some((s', r'))` where `r` and then `s` are the same as `s'` and then `r'`: each primitive of
-/// `r`, from its last to its first, is swapped past all of `s`. None where one can't pass.
+/// `r`, from its last to its first, is commuted past all of `s`. None where one can't pass.
 pub fn past_all(r: &Seq, s: &Seq) -> Result<Option<(Seq, Seq)>, AllocError>
     ensures exact { IfOk result (FindsPair (PassesAll r.now s.now)) }
 {
@@ -39,7 +39,7 @@ pub fn past_all(r: &Seq, s: &Seq) -> Result<Option<(Seq, Seq)>, AllocError>
     Ok(Some((before, behind)))
 }
 
-/// Swaps all of `r` past `s`, each list in its place in memory. Where one can't pass, both are left
+/// Commutes all of `r` past `s`, each list in its place in memory. Where one can't pass, both are left
 /// as they are then.
 pub(crate) fn change_places(r: &mut Seq, s: &mut Seq) -> bool
     ensures exact { FindsPair (PassesAll r.old s.old) (then_some result (s.new, r.new)) }
@@ -59,20 +59,20 @@ fn pass_all(r: &mut [Named], s: &mut [Named]) -> bool
     true
 }
 
-/// Swaps `p` past all of `s`, which stands behind it. Where it can't pass, both are left as they
+/// Commutes `p` past all of `s`, which stands behind it. Where it can't pass, both are left as they
 /// are then.
 pub(crate) fn pass(p: &mut Named, s: &mut [Named]) -> bool
     ensures exact { FindsPair (Passes p.old s.old) (then_some result (s.new, p.new)) }
 {
     for q in s.iter_mut() {
-        if !pass_one(p, q) {
+        if !commute_in_place(p, q) {
             return false;
         }
     }
     true
 }
 
-/// Swaps `p` to before all of `s`, which stands before it. Where it can't come there, both are as
+/// Commutes `p` to before all of `s`, which stands before it. Where it can't come there, both are as
 /// they were.
 pub(crate) fn precede(s: &mut [Named], p: &mut Named) -> bool
     ensures exact { Changes PrecedesInPlace (s.old, p.old) result (s.new, p.new) }
@@ -85,25 +85,25 @@ pub(crate) fn precede(s: &mut [Named], p: &mut Named) -> bool
     true
 }
 
-/// Swaps `p`, which stands behind `s`, to the left as far as it can come, and answers with the
+/// Commutes `p`, which stands behind `s`, to the left as far as it can come, and answers with the
 /// number of elements of `s` that are still before it.
 #[tactic(auto, using(crate::proofs::ListSteps::none_done))]
 pub(crate) fn come_forward(s: &mut [Named], p: &mut Named) -> usize
     ensures { ComesUpTo s.old p.old result s.new p.new }
 {
     for at in (0..s.len()).rev() {
-        if !pass_one(&mut s[at], p) {
+        if !commute_in_place(&mut s[at], p) {
             return at + 1;
         }
     }
     0
 }
 
-/// Swaps `p` and the `q` behind it, where each stays in its place in memory.
-pub(crate) fn pass_one(p: &mut Named, q: &mut Named) -> bool
-    ensures exact { Changes SwapsInPlace (p.old, q.old) result (p.new, q.new) }
+/// Commutes `p` and the `q` behind it, where each stays in its place in memory.
+pub(crate) fn commute_in_place(p: &mut Named, q: &mut Named) -> bool
+    ensures exact { Changes CommutesInPlace (p.old, q.old) result (p.new, q.new) }
 {
-    if !exchange(p, q) {
+    if !commute_neighbours(p, q) {
         return false;
     }
     mem::swap(p, q);

@@ -26,7 +26,7 @@ pub fn has_room(s: &Seq) -> bool
 }
 
 /// Whether the greatest line of a list's hunks and the numbers of all their lines together are in
-/// the range of one hunk. Where they are, no swaps of neighbours bring a hunk out of range; where
+/// the range of one hunk. Where they are, commuting neighbours brings no hunk out of range; where
 /// they are not, that may still be so. It takes one look at each element.
 pub(crate) fn surely_has_room(items: &[Named]) -> bool
     ensures exact { IsTrue result ↔ (reach_of items.now ≤ greatest_reach) }

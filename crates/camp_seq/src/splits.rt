@@ -13,7 +13,7 @@ use camp_prim::{Label, Named};
 use std::alloc::AllocError;
 
 /// `Some((f, t))` where `s` is the same as `f` and then `t`: `f` has the primitives with these
-/// labels, swapped to before the others, and `t` the others, both in normal order. None where one
+/// labels, commuted to before the others, and `t` the others, both in normal order. None where one
 /// can't come there.
 pub fn split(s: &Seq, labels: &[Label]) -> Result<Option<(Seq, Seq)>, AllocError>
     ensures exact { IfOk result (FindsPair (Splits labels.now s.now)) }
@@ -30,7 +30,7 @@ pub fn split(s: &Seq, labels: &[Label]) -> Result<Option<(Seq, Seq)>, AllocError
     Ok(Some((named, others)))
 }
 
-/// Swaps the elements with these labels to the front, in their order, and answers how many they
+/// Commutes the elements with these labels to the front, in their order, and answers how many they
 /// are. None where an element before one of them stops it; the list is then left as it is.
 fn gather(items: &mut [Named], labels: &[Label]) -> Option<usize>
     ensures exact { FindsPair (PartsInPlace labels.now items.old)
@@ -47,7 +47,7 @@ fn gather(items: &mut [Named], labels: &[Label]) -> Option<usize>
     Some(count)
 }
 
-/// Swaps the first element past the others. Where it can't pass, they are left as they are then.
+/// Commutes the first element past the others. Where it can't pass, they are left as they are then.
 fn pass_first(items: &mut [Named]) -> bool
     requires { 0 < length items.old }
     ensures exact { Finds (FirstPasses items.old) (then_some result items.new) }

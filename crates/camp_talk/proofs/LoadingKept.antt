@@ -8,7 +8,7 @@ use Rattle.std.specs.Option.{option_and_then}
 use Rattle.camp_call.specs.declared.replies.Reply.{Reply}
 use Rattle.camp_call.specs.declared.replies.Reply.TheVariants as reply
 use Rattle.camp_object.specs.Asking.{Ask, alone_at}
-use Rattle.camp_object.specs.Histories.{IsAccepted, IsAnswered, IsFront, IsLegal, replay, run}
+use Rattle.camp_object.specs.Histories.{IsAccepted, IsAnswered, IsBeginning, IsLegal, replay, run}
 use Rattle.camp_object.proofs.Replays.{legal_front, replay_more, some_is_some}
 use Rattle.camp_repo.specs.Objects.{repository}
 use Rattle.camp_repo.specs.States.{Contents, initial}
@@ -165,7 +165,7 @@ left_next (c ∷ others) command can short is same =
     record { is = inr (c, ap (λ (cs : List Call). c ∷ cs) last, sym same ∙ cons ∙ ap (λ bytes. call_text c ++ bytes) none ∙ append-nil (call_text c)) }
 
 module _ (calls : List Call) (middle : Standing) (left : List ℕ) (walked : Walked calls [] middle.history left) where
-  first_done : IsFront middle.history (alone calls)
+  first_done : IsBeginning middle.history (alone calls)
   first_done = record {
     rest = alone walked.more;
     makes = ap (λ (h : Entries). h ++ alone walked.more) walked.history ∙ sym (map-append (λ (c : Call). (0, c)) walked.done walked.more) ∙ ap alone (sym walked.parts);
@@ -254,9 +254,9 @@ module _ (history : Entries) (state : Contents) (replays : replay repository his
   ended (Some left) rest middle (Err (Answer line text)) now done ends =
       fails_never calls middle left (walked left middle done) rest line text.items now ends
   ended (Some left) rest middle (Err (Memory line)) now done ends =
-      subst (λ (h : Entries). IsFront h (at_seat_0 history)) (sym ends.same) (first_done calls middle left (walked left middle done))
+      subst (λ (h : Entries). IsBeginning h (at_seat_0 history)) (sym ends.same) (first_done calls middle left (walked left middle done))
   ended (Some left) rest middle (Err (Talk why)) now done ends =
-      subst (λ (h : Entries). IsFront h (at_seat_0 history)) (sym ends.1) (first_done calls middle left (walked left middle done))
+      subst (λ (h : Entries). IsBeginning h (at_seat_0 history)) (sym ends.1) (first_done calls middle left (walked left middle done))
 
 pub kept_is_loaded : KeptIsLoaded
 kept_is_loaded history state replays can short rest result now loads =

@@ -8,7 +8,7 @@ use Rattle.camp_call.specs.declared.calls.Call.{Call}
 use Rattle.camp_call.specs.declared.replies.Refusal.{Refusal}
 use Rattle.camp_call.specs.declared.replies.Refusal.TheVariants as refusal
 use Rattle.camp_call.specs.declared.replies.Reply.TheVariants.{Refused}
-use Rattle.camp_object.specs.Histories.{IsFront, replay}
+use Rattle.camp_object.specs.Histories.{IsBeginning, replay}
 use Rattle.camp_repo.specs.Lawful.{IsLawfulState}
 use Rattle.camp_repo.specs.Objects.{repository}
 use Rattle.camp_repo.specs.States.{Contents}
@@ -80,8 +80,8 @@ at_seat_0 history = map (λ call. (0, call)) (calls_of history)
 abbrev pub ComesBack : Entries → Contents → Result (Unit {0}) LoadFault → Entries → Type 0
 ComesBack history state (Ok done) now = (now ≡ at_seat_0 history) × (replay repository now ≡ Some state)
 ComesBack history state (Err (Answer line text)) now = ⊥
-ComesBack history state (Err (Memory line)) now = IsFront now (at_seat_0 history)
-ComesBack history state (Err (Talk why)) now = IsFront now (at_seat_0 history)
+ComesBack history state (Err (Memory line)) now = IsBeginning now (at_seat_0 history)
+ComesBack history state (Err (Talk why)) now = IsBeginning now (at_seat_0 history)
 
 -- so it is for each history that leads to a state, however many its calls are, where a script can ask each of them
 abbrev pub KeptIsLoaded : Type 0

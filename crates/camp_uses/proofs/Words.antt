@@ -16,7 +16,7 @@ pub use Rattle.camp_catch.specs.MergingLists.{MergeLists}
 pub use Rattle.camp_catch.specs.declared.catches.Catch.{Catch}
 pub use Rattle.camp_clients.specs.Runs.{OneByOne, lists_of}
 pub use Rattle.camp_object.specs.Asking.{Caller, Says, alone_at}
-pub use Rattle.camp_object.specs.Histories.{IsAnswered, IsFront, IsLegal, own, replay}
+pub use Rattle.camp_object.specs.Histories.{IsAnswered, IsBeginning, IsLegal, own, replay}
 pub use Rattle.camp_object.specs.declared.faults.Fault.{Fault}
 pub use Rattle.camp_object.specs.declared.faults.Fault.TheVariants.{Busy, Full, Memory}
 pub use Rattle.camp_object.specs.declared.objects.Decided.TheVariants.{Answer, Next}

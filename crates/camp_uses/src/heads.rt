@@ -1,6 +1,6 @@
 //! Callers of `camp_head`: one repository, at several seats.
 ghost use Rattle.std.specs.Prelude.{◌≡◌, IfOk, MatchOption, OnOk};
-ghost use Rattle.camp_object.specs.Histories.{IsFront, own};
+ghost use Rattle.camp_object.specs.Histories.{IsBeginning, own};
 ghost use Rattle.camp_history.specs.Kept.{IsKeptBy};
 ghost use Rattle.camp_history.specs.Seats.{IsSeatOf, history_of, number_of};
 ghost use Rattle.camp_uses.specs.Shared.{Grows, HoldsTree, LacksBranch, tree_in};
@@ -31,7 +31,7 @@ pub fn tree_at(
 ) -> Result<Option<Tree>, Fault>
     requires { IsSeatOf head.now seat.old }
     ensures seat { IsSeatOf head.now seat.new }
-    ensures grows { IsFront (history_of seat.old) (history_of seat.new) }
+    ensures grows { IsBeginning (history_of seat.old) (history_of seat.new) }
     ensures own { own (number_of seat.old) (history_of seat.new) ≡ own (number_of seat.old) (history_of seat.old) }
     ensures tree { IfOk result (λ found. MatchOption found
         (LacksBranch (history_of seat.new) branch.now)
@@ -60,7 +60,7 @@ pub fn ask_and_meet(head: &Head, first: Seat, second: Seat, one: Kept, two: Kept
     requires kept { IsKeptBy head.now one × IsKeptBy head.now two }
     ensures first { Grows (own (number_of first) (history_of first)) one.call result.first_answer (own (number_of first) (history_of result.first)) }
     ensures second { Grows (own (number_of second) (history_of second)) two.call result.second_answer (own (number_of second) (history_of result.second)) }
-    ensures one_history { OnOk result.met (IsFront (history_of result.second) (history_of result.first)) }
+    ensures one_history { OnOk result.met (IsBeginning (history_of result.second) (history_of result.first)) }
 {
     let mut first = first;
     let mut second = second;

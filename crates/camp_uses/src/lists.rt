@@ -24,7 +24,7 @@ pub fn do_and_undo(list: &Seq, tree: &mut Tree) -> Result<(), Apply>
     apply_all(&inverse, tree)
 }
 
-/// The normal orders of two lists that are the same but for swaps of neighbours: with room they are
+/// The normal orders of two lists that are the same but for the order of neighbours that commute: with room they are
 /// one list, whichever way led from the one to the other.
 pub fn in_order_either_way(s: &Seq, t: &Seq) -> Result<(Seq, Seq), AllocError>
     requires room { HasRoom s.now }

@@ -12,7 +12,7 @@ pub use Rattle.camp_prim.proofs.Applied.{Applies-from_applied, applied-from_Appl
 pub use Rattle.camp_prim.specs.Applied.{applied}
 pub use Rattle.camp_prim.specs.Effect.{Applies, InRange}
 pub use Rattle.camp_prim.specs.Hunks.{Edit}
-pub use Rattle.camp_prim.specs.Swaps.{path_of}
+pub use Rattle.camp_prim.specs.Commuting.{path_of}
 pub use Rattle.camp_prim.specs.declared.primitives.Primitive.{Primitive}
 pub use Rattle.camp_prim.specs.declared.primitives.Primitive.TheVariants.{Add, Hunk, Remove}
 pub use Rattle.camp_why.specs.Misfits.{IsMisfit, MeetsOther, lines_misfit, why_not, other_line}

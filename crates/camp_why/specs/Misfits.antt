@@ -3,7 +3,7 @@ use Rattle.std.specs.Prelude.{◌≡◌, ◌≢◌, ◌<◌, ◌+◌, ◌-◌, �
 use Rattle.std.specs.FinMap.{get}
 use Rattle.camp_base.specs.Trees.{Files, Lines}
 use Rattle.camp_prim.specs.Hunks.{Edit}
-use Rattle.camp_prim.specs.Swaps.{path_of}
+use Rattle.camp_prim.specs.Commuting.{path_of}
 use Rattle.camp_prim.specs.declared.primitives.Primitive.{Primitive}
 use Rattle.camp_prim.specs.declared.primitives.Primitive.TheVariants.{Add, Hunk, Remove}
 use Rattle.camp_why.specs.declared.misfits.Misfit.{Misfit}

@@ -4,7 +4,7 @@ use Rattle.std.specs.FinMap.{get}
 use Rattle.camp_base.specs.Trees.{Files, Lines}
 use Rattle.camp_prim.specs.Applied.{applied}
 use Rattle.camp_prim.specs.Effect.{Applies}
-use Rattle.camp_prim.specs.Swaps.{path_of}
+use Rattle.camp_prim.specs.Commuting.{path_of}
 use Rattle.camp_prim.specs.declared.primitives.Primitive.{Primitive}
 use Rattle.camp_branch.specs.Laws.{AppliesEach}
 use Rattle.camp_call.specs.declared.replies.Refusal.{Refusal}

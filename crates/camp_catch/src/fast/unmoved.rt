@@ -1,4 +1,4 @@
-//! Catches that change places, or merge, as they are.
+//! Catches that commute, or merge, as they are.
 ghost use Rattle.std.specs.Prelude.{◌≡◌, ◌↔◌, [], IfOk, IsTrue};
 ghost use Rattle.camp_ctx.specs.Adding.{Adds, PassesBy};
 ghost use Rattle.camp_seq.specs.NormalOrder.{Norm};
@@ -17,7 +17,7 @@ use camp_prim::{Named, stay};
 use camp_seq::{is_own_order, stays_past};
 use std::alloc::{AllocError, Global};
 
-/// Whether two catches, one after the other, change places as they are. Where it says no, they may
+/// Whether two catches, one after the other, commute as they are. Where it says no, they may
 /// still do.
 pub(crate) fn commute_as_they_are(j: &Catch, k: &Catch) -> Result<bool, AllocError>
     ensures { IfOk result (λ yes. IsTrue yes → CommuteCatch j.now k.now k.now j.now) }

@@ -3,7 +3,7 @@ use Rattle.std.specs.Prelude.{◌≡◌, ◌≢◌, List, false}
 use Rattle.std.specs.List.{AllByRecursion}
 use Rattle.camp_prim.specs.Effect.{InRange}
 use Rattle.camp_prim.specs.Labels.{label_of, SameKey}
-use Rattle.camp_prim.specs.Swaps.{path_of}
+use Rattle.camp_prim.specs.Commuting.{path_of}
 use Rattle.camp_prim.specs.declared.named.Named.{Named}
 use Rattle.camp_seq.specs.Merging.{CleanMerge}
 use Rattle.camp_ctx.specs.Conflicts.{has_label}

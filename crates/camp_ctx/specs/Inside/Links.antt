@@ -3,15 +3,16 @@ use Rattle.std.specs.Prelude.{◌≢◌, ℕ, ◌<◌, ◌≤◌, List, [], ◌�
 use Rattle.camp_prim.specs.Effect.{inverse_of}
 use Rattle.camp_prim.specs.Labels.{label_of}
 use Rattle.camp_prim.specs.declared.named.Named.{Named}
-use Rattle.camp_seq.specs.Chains.{CanSwap, Chain}
+use Rattle.camp_seq.specs.Chains.{CanCommute, Chain}
 use Rattle.camp_ctx.specs.Adding.{AddsAll}
 
--- a neither swaps with what stands behind it nor is taken away with it
+-- a neither commutes with what stands behind it nor is taken away with it
 abbrev pub Links : Named → List Named → Named → Type 0
-Links a [] patch = ¬ (CanSwap a patch)
-Links a (q ∷ s) patch = ¬ (CanSwap a q) × (label_of q ≢ label_of (inverse_of a))
+Links a [] patch = ¬ (CanCommute a patch)
+Links a (q ∷ s) patch = ¬ (CanCommute a q) × (label_of q ≢ label_of (inverse_of a))
 
--- from a place on the elements are put before the context as they stand, and where there are any, no two neighbours swap then
+-- from a place on the elements are put before the context as they stand, and where there are any, no two neighbours
+-- commute then
 abbrev pub LinksFrom : List Named → List Named → Named → ℕ → Type 0
 LinksFrom r s patch at =
     (at ≤ length r)

@@ -12,7 +12,7 @@ ghost use Rattle.camp_ctx.specs.Inside.Apart.{LacksLabels, NoCleanMerge};
 use crate::Contexted;
 use crate::conflicts::has_label;
 use camp_prim::{Label, Named};
-use camp_seq::{Seq, can_swap, clean_merge, is_own_order, stays_past};
+use camp_seq::{Seq, can_commute, clean_merge, is_own_order, stays_past};
 use std::alloc::AllocError;
 use std::slice;
 
@@ -126,7 +126,7 @@ pub(crate) fn stop_each_other(s: &[Named], t: &[Named]) -> Result<bool, AllocErr
     match (s.first(), t.first()) {
         (Some(p), Some(q)) => {
             let p = p.try_clone()?;
-            Ok(!can_swap(&p.invert(), q))
+            Ok(!can_commute(&p.invert(), q))
         }
         _ => Ok(false),
     }

@@ -2,13 +2,13 @@
 ghost use Rattle.std.specs.Prelude.{◌≡◌, ◌≢◌, ◌<◌, ◌≤◌, ◌++◌, ◌↔◌, length, drop, IfOk, IsTrue};
 ghost use Rattle.camp_prim.specs.Effect.{inverse_of};
 ghost use Rattle.camp_prim.specs.Labels.{label_of};
-ghost use Rattle.camp_seq.specs.Chains.{CanSwap, Chain};
+ghost use Rattle.camp_seq.specs.Chains.{CanCommute, Chain};
 ghost use Rattle.camp_ctx.specs.Adding.{AddsAll};
 ghost use Rattle.camp_ctx.specs.Inside.Links.{Links, LinksFrom};
 
 use crate::{Contexted, join};
 use camp_prim::Named;
-use camp_seq::{Seq, are_own_orders_of_chain, can_swap, is_chain};
+use camp_seq::{Seq, are_own_orders_of_chain, can_commute, is_chain};
 use std::alloc::AllocError;
 
 /// The part of a list that is put before a context as it stands, from a place on, and the sum with
@@ -50,7 +50,7 @@ pub(crate) fn becomes_context(r: &Seq, x: &Contexted) -> bool
 }
 
 /// From which place on the elements of a list are put before a context as they stand: no two
-/// neighbours swap or cancel.
+/// neighbours commute or cancel.
 fn links_from(r: &[Named], s: &[Named], patch: &Named) -> usize
     ensures { LinksFrom r.now s.now patch.now result }
 {
@@ -77,7 +77,7 @@ fn may_link(r: &[Named], s: &[Named], patch: &Named) -> bool {
     }
 }
 
-/// Whether a primitive neither swaps with what stands behind it nor is taken away with it. Behind it
+/// Whether a primitive neither commutes with what stands behind it nor is taken away with it. Behind it
 /// stand two lists and the patch.
 fn links(a: &Named, r: &[Named], s: &[Named], patch: &Named) -> bool
     ensures { IsTrue result ↔ Links a.now (r.now ++ s.now) patch.now }
@@ -86,17 +86,17 @@ fn links(a: &Named, r: &[Named], s: &[Named], patch: &Named) -> bool
         Some(q) => holds(a, q),
         None => match s.first() {
             Some(q) => holds(a, q),
-            None => !can_swap(a, patch),
+            None => !can_commute(a, patch),
         },
     }
 }
 
-/// Whether two neighbours neither swap nor are inverse by their labels.
+/// Whether two neighbours neither commute nor are inverse by their labels.
 fn holds(a: &Named, q: &Named) -> bool
-    ensures { IsTrue result ↔ (¬ (CanSwap a.now q.now) × (label_of q.now ≢ label_of (inverse_of a.now))) }
+    ensures { IsTrue result ↔ (¬ (CanCommute a.now q.now) × (label_of q.now ≢ label_of (inverse_of a.now))) }
 {
     if q.label() == a.label().opposite() {
         return false;
     }
-    !can_swap(a, q)
+    !can_commute(a, q)
 }

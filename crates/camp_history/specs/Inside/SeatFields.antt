@@ -9,7 +9,7 @@ use Rattle.camp_history.specs.declared.seats.Seat.TheInside.{Inside}
 
 -- the marks of all that it has seen
 abbrev pub marks_in : {State Call Reply : Type 0} → Inside State Call Reply → List (Mark Call)
-marks_in seat = seat.front ++ seat.tail.items
+marks_in seat = seat.earlier ++ seat.tail.items
 
 abbrev pub seated : {State Call Reply : Type 0} → Inside State Call Reply → Seated Call
 seated seat = record { known = seat.pass; marks = marks_in seat; bases = bases_in seat.bases.items }
@@ -22,4 +22,4 @@ pub record IsSeat {State Call Reply : Type 0} (object : Sequential State Call Re
   pub below : All (λ mark. mark.seat < seat.pass.row.seats) (marks_in seat)
   pub replays : replay object (map asked (marks_in seat)) ≡ Some seat.state
   pub begins : All (λ base. Begins base.marks (marks_in seat)) (bases_in seat.bases.items)
-  pub few : length seat.front ≤ most_listed
+  pub few : length seat.earlier ≤ most_listed

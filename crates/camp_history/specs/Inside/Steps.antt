@@ -1,7 +1,7 @@
 -- What the steps of a seat do, on the way to an answer.
 use Rattle.std.specs.Prelude.{◌≡◌, ℕ, ◌<◌, List, [], ◌∷◌, ◌++◌, map, length, Option, None, Some, Result, Ok, Err}
 use Rattle.camp_object.specs.Objects.{Sequential}
-use Rattle.camp_object.specs.Histories.{IsFront, replay, IsAccepted, own}
+use Rattle.camp_object.specs.Histories.{IsBeginning, replay, IsAccepted, own}
 use Rattle.camp_object.specs.Deciding.{Decides}
 use Rattle.camp_object.specs.Asking.{Ask}
 use Rattle.camp_object.specs.declared.faults.Fault.{Fault}
@@ -48,7 +48,7 @@ pub record SeesNext {Call : Type 0} (old : Seated Call) (entry : Entry) (new : S
 pub record SeesMore {Call : Type 0} (old new : Seated Call) : Type 0 where
   pub number : new.known.number ≡ old.known.number
   pub row : new.known.row ≡ old.known.row
-  pub more : IsFront (history_of old) (history_of new)
+  pub more : IsBeginning (history_of old) (history_of new)
   pub own_stays : own old.known.number (history_of new) ≡ own old.known.number (history_of old)
 
 -- the seat published its call, which is the last that it has seen now

@@ -1,8 +1,8 @@
--- The lines to which hunks move as they change places.
+-- The lines to which hunks move as they commute.
 use Rattle.std.specs.Prelude.{◌≡◌, ℕ, ◌+◌, ◌<◌, ◌⊎◌, Option, None, Some, length}
 use Rattle.camp_prim.specs.Hunks.{Edit, IsInRange}
-use Rattle.camp_prim.specs.Swaps.{at_line, AreInRange, ChangePlaces}
-use Rattle.camp_prim.specs.declared.swaps.Targets.{Targets}
+use Rattle.camp_prim.specs.Commuting.{at_line, AreInRange, PrimitivesCommute}
+use Rattle.camp_prim.specs.declared.commuting.Targets.{Targets}
 use Rattle.camp_prim.specs.declared.primitives.Primitive.{Primitive}
 use Rattle.camp_prim.specs.declared.primitives.Primitive.TheVariants.{Add, Remove, Hunk}
 
@@ -26,7 +26,7 @@ pub record ComesTo (upper takes leaves : ℕ) (lower : Edit) (line : ℕ) : Type
   pub comes : line ≡ upper + takes + gap
   pub fits : IsInRange (at_line line lower)
 
--- p and then q change places and become q' and then p', whatever their labels are, and all four are in range
+-- p and then q commute and become q' and then p', whatever their labels are, and all four are in range
 pub record ChangeInRange (p q q' p' : Primitive) : Type 0 where
-  pub change : ChangePlaces p q q' p'
+  pub change : PrimitivesCommute p q q' p'
   pub ranges : AreInRange p q q' p'

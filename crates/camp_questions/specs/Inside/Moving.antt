@@ -1,7 +1,7 @@
 -- A hunk without a context that moves from line to line.
 use Rattle.std.specs.Prelude.{◌≡◌, ℕ, List}
 use Rattle.camp_prim.specs.Hunks.{Edit, IsInRange}
-use Rattle.camp_prim.specs.Swaps.{ChangePlaces, Swap, at_line}
+use Rattle.camp_prim.specs.Commuting.{PrimitivesCommute, Commute, at_line}
 use Rattle.camp_prim.specs.declared.named.Named.{Named}
 use Rattle.camp_prim.specs.declared.primitives.Primitive.TheVariants.{Hunk}
 use Rattle.camp_ctx.specs.Contexts.{ContextedPatch}
@@ -11,13 +11,13 @@ abbrev pub hunk_at : Named → Edit → ℕ → Named
 hunk_at patch hunk line =
     record { name = patch.name; place = patch.place; inverse = patch.inverse; prim = Hunk (at_line line hunk) }
 
--- a change and then a patch with a hunk at one line change places, and the patch comes to the other line
+-- a change and then a patch with a hunk at one line commute, and the patch comes to the other line
 abbrev pub ComesBefore : Named → Named → Edit → ℕ → ℕ → Type 0
-ComesBefore change patch hunk line next = (behind : Named) × Swap change (hunk_at patch hunk line) (hunk_at patch hunk next) behind
+ComesBefore change patch hunk line next = (behind : Named) × Commute change (hunk_at patch hunk line) (hunk_at patch hunk next) behind
 
--- a hunk and then another one of the same path at one line change places in range, and that one comes to the other line
+-- a hunk and then another one of the same path at one line commute in range, and that one comes to the other line
 pub record Passes (other hunk : Edit) (line next : ℕ) : Type 0 where
   pub behind : Edit
-  pub change : ChangePlaces (Hunk other) (Hunk (at_line line hunk)) (Hunk (at_line next hunk)) (Hunk behind)
+  pub change : PrimitivesCommute (Hunk other) (Hunk (at_line line hunk)) (Hunk (at_line next hunk)) (Hunk behind)
   pub second : IsInRange (at_line next hunk)
   pub first : IsInRange behind

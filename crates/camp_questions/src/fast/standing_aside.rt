@@ -114,7 +114,7 @@ fn never_commute(first: &Catch, second: &Catch) -> bool
     }
 }
 
-/// Whether two plain catches change places as they are.
+/// Whether two plain catches commute as they are.
 fn both_stay(first: &Catch, second: &Catch) -> bool
     ensures { IsTrue result → CommuteCatch first.now second.now second.now first.now }
 {

@@ -3,7 +3,7 @@ use Rattle.std.specs.Prelude.{◌≡◌, ℕ, List, [], slice_index_or, map, cou
 use Rattle.std.specs.List.{range_with_len}
 use Rattle.atomic_table.specs.Seated.{TableId}
 use Rattle.camp_row.specs.declared.entries.Entry.{Entry}
-use Rattle.camp_row.specs.Chains.{IsFront, own, Fits}
+use Rattle.camp_row.specs.Chains.{IsBeginning, own, Fits}
 use Rattle.camp_row.specs.Known.{Known}
 
 -- the sizes of the row, the seat's number, what it has seen, the chain that it last found, and the two words of its
@@ -51,6 +51,6 @@ finds chain part = record part { ahead = chain }
 
 -- what was seen begins the chain that was found, which has no other entry of this seat and fits the row
 pub record IsSoundPart (part : Part) : Type 0 where
-  pub front : IsFront part.seen part.ahead
+  pub front : IsBeginning part.seen part.ahead
   pub own_seen : own part.number part.ahead ≡ own part.number part.seen
   pub fits : Fits part.seats part.per_seat part.ahead

@@ -4,7 +4,7 @@ use mathlib.Core.Option.{some}
 use lib.ListN.{get_elem?}
 use Rattle.camp_row.specs.declared.entries.Entry.{Entry}
 use Rattle.camp_row.specs.declared.knowledge.Knowledge.{Knowledge}
-use Rattle.camp_row.specs.Chains.{IsFront, own, turns, cell_of, head_word, Fits}
+use Rattle.camp_row.specs.Chains.{IsBeginning, own, turns, cell_of, head_word, Fits}
 use Rattle.camp_row.specs.Inside.Parts.{Part, parts_of}
 
 -- word 0 is the head; of a cell the first word names the cell before, and the second is the place
@@ -29,8 +29,8 @@ IsLinked seats words chain =
 -- empty
 pub record Knows (seats per_seat : ℕ) (words : List ℕ) (chain : List Entry) (part : Part) : Type 0 where
   pub sizes : (part.seats ≡ seats) × (part.per_seat ≡ per_seat) × (part.number < seats)
-  pub seen : IsFront part.seen chain
-  pub ahead : IsFront part.ahead chain
+  pub seen : IsBeginning part.seen chain
+  pub ahead : IsBeginning part.ahead chain
   pub own_seen : own part.number chain ≡ own part.number part.seen
   pub draft :
       turns part.number part.seen < per_seat

@@ -2,14 +2,14 @@
 use Rattle.std.specs.Prelude.{◌≡◌, ℕ, ◌==◌, List, [], ◌∷◌, ◌++◌, map, take, drop, All, MatchBool, ◌≤◌}
 use Rattle.camp_row.specs.declared.entries.Entry.{Entry}
 use Rattle.camp_row.specs.declared.knowledge.Knowledge.{Knowledge}
-use Rattle.camp_row.specs.Chains.{IsFront, IsShorter, cell_of, head_word}
+use Rattle.camp_row.specs.Chains.{IsBeginning, IsShorter, cell_of, head_word}
 use Rattle.camp_row.specs.Inside.Parts.{Part, part_of, parts_of, finds, IsSoundPart}
 use Rattle.camp_row.specs.Inside.Rule.{parent_word, place_word}
 
 -- the chain was found: its last cell is the one that the head names, it has only grown, and a part stays sound
 pub record Sees (found : ℕ) (chain : List Entry) (part : Part) : Type 0 where
   pub named : found ≡ head_word part.seats chain
-  pub grows : IsFront part.ahead chain
+  pub grows : IsBeginning part.ahead chain
   pub sound : IsSoundPart (finds chain part)
 
 -- a load of the head: what is ahead of each part becomes the chain. No two parts are of one seat

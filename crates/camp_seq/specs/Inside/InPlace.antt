@@ -1,20 +1,20 @@
 -- What moving elements inside a list answers and leaves.
 use Rattle.std.specs.Prelude.{◌≡◌, ◌≢◌, ℕ, ◌≤◌, List, [], ◌∷◌, ◌++◌, length, take, drop, All}
-use Rattle.camp_prim.specs.Swaps.{Swap}
+use Rattle.camp_prim.specs.Commuting.{Commute}
 use Rattle.camp_prim.specs.Labels.{label_of}
 use Rattle.camp_prim.specs.declared.labels.Label.{Label}
 use Rattle.camp_prim.specs.declared.named.Named.{Named}
 use Rattle.camp_seq.specs.Passing.{Passes, Fronts, Parts}
 
 -- p and the q behind it, each in its own place: p becomes p', and q becomes q'
-abbrev pub SwapsInPlace : Named × Named → Named × Named → Type 0
-SwapsInPlace old new = Swap old.0 old.1 new.1 new.0
+abbrev pub CommutesInPlace : Named × Named → Named × Named → Type 0
+CommutesInPlace old new = Commute old.0 old.1 new.1 new.0
 
--- s p ~ p' s': p is swapped to before every element of s
+-- s p ~ p' s': p is commuted to before every element of s
 abbrev pub Precedes : List Named → Named → Named → List Named → Type 0
 Precedes [] p p' s' = (p' ≡ p) × (s' ≡ [])
 Precedes (q ∷ s) p p' s' =
-    (coming : Named) × (q' : Named) × (t : List Named) × Precedes s p coming t × Swap q coming p' q' × (s' ≡ q' ∷ t)
+    (coming : Named) × (q' : Named) × (t : List Named) × Precedes s p coming t × Commute q coming p' q' × (s' ≡ q' ∷ t)
 
 -- the list and the p behind it, each in its own place
 abbrev pub PrecedesInPlace : List Named × Named → List Named × Named → Type 0
@@ -47,11 +47,11 @@ pub record FirstWith (label : Label) (s : List Named) (at : ℕ) : Type 0 where
   pub labelled : label_of first ≡ label
   pub lacks : Lacks label before
 
--- the first element with this label is swapped to the front
+-- the first element with this label is commuted to the front
 abbrev pub FrontsInPlace : Label → List Named → List Named → Type 0
 FrontsInPlace label s t = (y : Named) × (rest : List Named) × Fronts label s y rest × (t ≡ y ∷ rest)
 
--- the first element is swapped past the others
+-- the first element is commuted past the others
 abbrev pub FirstPasses : List Named → List Named → Type 0
 FirstPasses s t =
     (p : Named) × (rest : List Named) × (rest' : List Named) × (p' : Named)
@@ -66,7 +66,7 @@ pub record PartsFrom (labels : List Label) (s : List Named) (at count : ℕ) (no
   pub counted : length named ≡ count
   pub waiting : take at now ≡ take at s
 
--- so many elements have these labels, and are swapped to the front
+-- so many elements have these labels, and are commuted to the front
 abbrev pub PartsInPlace : List Label → List Named → ℕ → List Named → Type 0
 PartsInPlace labels s count t =
     (named : List Named) × (others : List Named) × Parts labels s named others

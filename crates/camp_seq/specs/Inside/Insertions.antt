@@ -42,7 +42,7 @@ pub record StaysAt (s0 : List Named) (x0 : Named) (at : ℕ) (s : List Named) (x
 abbrev pub GoesBack : List Named → Named → ℕ → ℕ → List Named → Named → Type 0
 GoesBack s x from at s' x' = (s0 : List Named) (x0 : Named) → StandsAt s0 x0 from s x → StaysAt s0 x0 at s' x'
 
--- the last element of a list is swapped to where it stays among the others
+-- the last element of a list is commuted to where it stays among the others
 pub record Placed (s t : List Named) : Type 0 where
   pub others : List Named
   pub last : Named

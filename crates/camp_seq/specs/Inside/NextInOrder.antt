@@ -5,15 +5,15 @@ use Rattle.std.specs.declared.cmp.Ordering.TheVariants.{Less}
 use Rattle.camp_prim.specs.Labels.{label_of, label_cmp}
 use Rattle.camp_prim.specs.declared.labels.Label.{Label}
 use Rattle.camp_prim.specs.declared.named.Named.{Named}
-use Rattle.camp_seq.specs.Chains.{CanSwap}
+use Rattle.camp_seq.specs.Chains.{CanCommute}
 use Rattle.camp_seq.specs.NormalOrder.{Norm}
 
--- x behind others, of which `last` is the last, and `greatest` the greatest label: its own label is not less, and is the
--- greatest now, or it is less, and x does not swap with the last
+-- x behind others, of which `last` is the last, and `greatest` the greatest label: its own label is not less, and is
+-- the greatest now, or it is less, and x does not commute with the last
 abbrev pub StaysLast : Label → Named → Named → Label → Type 0
 StaysLast greatest last x more =
     ((label_cmp (label_of x) greatest ≢ Less) × (more ≡ label_of x))
-    ⊎ ((label_cmp (label_of x) greatest ≡ Less) × ¬ (CanSwap last x) × (more ≡ greatest))
+    ⊎ ((label_cmp (label_of x) greatest ≡ Less) × ¬ (CanCommute last x) × (more ≡ greatest))
 
 -- no label of the list is greater
 abbrev pub NoneAbove : Label → List Named → Type 0

@@ -4,11 +4,11 @@ ghost use Rattle.camp_seq.specs.Inside.Insertions.{GoesBack, Placed, StandsAt, S
 ghost use Rattle.camp_seq.specs.NormalOrder.{Norm};
 ghost use Rattle.camp_seq.specs.Room.{HasRoom};
 
-use crate::passes::{come_forward, pass_one};
+use crate::passes::{come_forward, commute_in_place};
 use camp_prim::{Named, has_less_label};
 
 /// Puts a list with room in normal order: one element after the other is put in its place among
-/// those before it. n elements take at most n * (n - 1) exchanges.
+/// those before it. n elements take at most n * (n - 1) commuting steps.
 pub(crate) fn order_by_insertion(items: &mut [Named])
     requires { HasRoom items.old }
     ensures { Norm items.old items.new }
@@ -18,7 +18,7 @@ pub(crate) fn order_by_insertion(items: &mut [Named])
     }
 }
 
-/// Swaps the last element to its place among the others, which are in normal order: behind those
+/// Commutes the last element to its place among the others, which are in normal order: behind those
 /// that it can't pass, and there behind those whose labels are less than its own.
 fn place_last(items: &mut [Named])
     requires { 0 < length items.old }
@@ -30,7 +30,7 @@ fn place_last(items: &mut [Named])
     items[at..].rotate_right(1);
 }
 
-/// Swaps `x`, which stands behind `s`, to its place among the elements of `s`. Each stays in its
+/// Commutes `x`, which stands behind `s`, to its place among the elements of `s`. Each stays in its
 /// place in memory, and the answer is the number of elements of `s` before it.
 #[tactic(auto, using(crate::proofs::PlacingSteps::stands))]
 fn find_place(s: &mut [Named], x: &mut Named) -> usize
@@ -40,7 +40,7 @@ fn find_place(s: &mut [Named], x: &mut Named) -> usize
     go_back(s, x, at)
 }
 
-/// Swaps `x`, which has come to a place, to the right, past elements with lesser labels.
+/// Commutes `x`, which has come to a place, to the right, past elements with lesser labels.
 fn go_back(s: &mut [Named], x: &mut Named, from: usize) -> usize
     requires { from ≤ length s.old }
     ensures { GoesBack s.old x.old from result s.new x.new }
@@ -49,7 +49,7 @@ fn go_back(s: &mut [Named], x: &mut Named, from: usize) -> usize
         if !has_less_label(&s[at], x) {
             return at;
         }
-        if !pass_one(x, &mut s[at]) {
+        if !commute_in_place(x, &mut s[at]) {
             return at;
         }
     }

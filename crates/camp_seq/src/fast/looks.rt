@@ -7,10 +7,10 @@ ghost use Rattle.camp_seq.specs.Inside.NextInOrder.{IsInOrder, StaysLast};
 ghost use Rattle.camp_seq.specs.NormalOrder.{Norm};
 ghost use Rattle.camp_seq.specs.Passing.{Passes};
 
-use crate::chains::can_swap;
+use crate::chains::can_commute;
 use camp_prim::{Named, has_less_label, stay};
 
-/// A quick test by one look at each element: its label is not less than any before it, or it does not swap
+/// A quick test by one look at each element: its label is not less than any before it, or it does not commute
 /// with the one before it. True: the list is in normal order. False: it may or may not be. It takes no
 /// memory.
 pub fn is_own_order(items: &[Named]) -> bool
@@ -39,7 +39,7 @@ pub fn are_own_orders(items: &[Named], last: &Named) -> (bool, bool)
     }
 }
 
-/// The same of a list in which no two neighbours swap. Where one more element does not swap with the last of
+/// The same of a list in which no two neighbours commute. Where one more element does not commute with the last of
 /// them, the others are not looked at.
 pub fn are_own_orders_of_chain(items: &[Named], last: &Named) -> (bool, bool)
     requires { Chain items.now }
@@ -50,7 +50,7 @@ pub fn are_own_orders_of_chain(items: &[Named], last: &Named) -> (bool, bool)
     if count < 2 {
         return are_own_orders(items, last);
     }
-    if can_swap(&items[count - 1], last) {
+    if can_commute(&items[count - 1], last) {
         return are_own_orders(items, last);
     }
     (true, true)
@@ -78,7 +78,7 @@ fn greatest_with<'a>(greatest: &'a Named, last: &Named, x: &'a Named) -> Option<
     if !has_less_label(x, greatest) {
         return Some(x);
     }
-    if can_swap(last, x) {
+    if can_commute(last, x) {
         return None;
     }
     Some(greatest)
@@ -103,6 +103,6 @@ pub(crate) fn is_stopped(p: &Named, s: &[Named]) -> bool
 {
     match s.first() {
         None => false,
-        Some(q) => !can_swap(p, q),
+        Some(q) => !can_commute(p, q),
     }
 }

@@ -1,9 +1,9 @@
-use Rattle.camp_catch.proofs.Words.{ap, refl, subst, sym, ◌∙◌, inverse_of-inverse_of, inverse_of, Swap}
+use Rattle.camp_catch.proofs.Words.{ap, refl, subst, sym, ◌∙◌, inverse_of-inverse_of, inverse_of, Commute}
 use Rattle.camp_catch.proofs.merging.clean.Goals as goal
 
 pub returns-in-Some : goal.returns-in-Some
 returns-in-Some c =
-    record { exact = record { b' = c.in-Some.b; a' = c.invert.result; merge = subst (Swap (inverse_of c.args.a.now) c.args.b.now c.in-Some.b) (sym (ap inverse_of c.invert.ensures.exact ∙ inverse_of-inverse_of c.in-Some.back)) (rw c.in-Some.is at c.in_ok-b.ensures.exact); after = refl; beside = refl } }
+    record { exact = record { b' = c.in-Some.b; a' = c.invert.result; merge = subst (Commute (inverse_of c.args.a.now) c.args.b.now c.in-Some.b) (sym (ap inverse_of c.invert.ensures.exact ∙ inverse_of-inverse_of c.in-Some.back)) (rw c.in-Some.is at c.in_ok-b.ensures.exact); after = refl; beside = refl } }
 
 pub returns-in-None : goal.returns-in-None
 returns-in-None c =

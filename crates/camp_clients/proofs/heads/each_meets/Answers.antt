@@ -1,4 +1,4 @@
-use Rattle.camp_clients.proofs.Words.{sym, ◌∙◌, subst, refl, IsFront, IsSeatOf, history_of, sight_of, HasMet}
+use Rattle.camp_clients.proofs.Words.{sym, ◌∙◌, subst, refl, IsBeginning, IsSeatOf, history_of, sight_of, HasMet}
 use Rattle.camp_clients.proofs.Gathering.{zip_push, all_first, all_rest, ok_holds}
 use Rattle.camp_clients.proofs.heads.each_meets.Goals as goal
 
@@ -7,7 +7,7 @@ loop-client-preserved g c =
     let inv = c.loop-client.invariant in
     let m = c.meet-seat.ensures in
     let has = IsSeatOf c.args.head.now in
-    let knows = ok_holds (IsFront (history_of c.loop-client.known) (history_of c.meet-seat.result.0)) c.meet-seat.result.2 m.meets.b_front
+    let knows = ok_holds (IsBeginning (history_of c.loop-client.known) (history_of c.meet-seat.result.0)) c.meet-seat.result.2 m.meets.b_beginning
     (sym c.is_err.ensures.value ∙ c.if-is_err.false) in
     record {
       seat = m.seats.1;
@@ -21,7 +21,7 @@ loop-client-preserved g c =
             number = m.meets.a_number;
             answers = refl;
             own_stays = m.meets.a_own;
-            knows = subst (λ h. IsFront h (history_of c.meet-seat.result.0)) inv.seen knows;
+            knows = subst (λ h. IsBeginning h (history_of c.meet-seat.result.0)) inv.seen knows;
           }));
     }
 

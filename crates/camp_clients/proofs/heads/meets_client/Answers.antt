@@ -1,4 +1,4 @@
-use Rattle.camp_clients.proofs.Words.{◌≡◌, sym, ◌∙◌, refl, IsFront, own, history_of}
+use Rattle.camp_clients.proofs.Words.{◌≡◌, sym, ◌∙◌, refl, IsBeginning, own, history_of}
 use Rattle.camp_clients.proofs.Meeting.{ok_holds}
 use Rattle.camp_clients.proofs.heads.meets_client.Goals as goal
 
@@ -11,7 +11,7 @@ returns-clause-client g c =
       number = m.meets.b_number;
       answers = refl;
       seen = m.meets.b_seen;
-      known = ok_holds (IsFront (history_of c.args.client.seat) (history_of c.meet-known.result.0)) c.meet-known.result.2 m.meets.b_front is_ok;
+      known = ok_holds (IsBeginning (history_of c.args.client.seat) (history_of c.meet-known.result.0)) c.meet-known.result.2 m.meets.b_beginning is_ok;
     }
 
 pub returns-clause-met : goal.returns-clause-met
@@ -24,6 +24,6 @@ returns-clause-met g c =
       is_seat = m.seats.1;
       number = m.meets.b_number;
       answers = refl;
-      known = ok_holds (IsFront (history_of seat) history) c.meet-known.result.2 m.meets.b_front is_ok;
+      known = ok_holds (IsBeginning (history_of seat) history) c.meet-known.result.2 m.meets.b_beginning is_ok;
       own_known = ok_holds (own seat.known.number history ≡ own seat.known.number (history_of seat)) c.meet-known.result.2 m.meets.b_own is_ok;
     }

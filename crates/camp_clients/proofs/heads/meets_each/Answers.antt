@@ -1,4 +1,4 @@
-use Rattle.camp_clients.proofs.Words.{◌≡◌, sym, ap, ◌∙◌, subst, refl, IsFront, own, IsSeatOf, history_of, sight_of, IsMet, IsSeen, front_front, front_self}
+use Rattle.camp_clients.proofs.Words.{◌≡◌, sym, ap, ◌∙◌, subst, refl, IsBeginning, own, IsSeatOf, history_of, sight_of, IsMet, IsSeen, begins_through, begins_self}
 use Rattle.camp_clients.proofs.Meeting.{met_still, seen_still, zip_push, all_first, all_rest}
 use Rattle.std.specs.Bool.{IsTrue}
 use Rattle.camp_clients.proofs.heads.meets_each.Goals.{else-stays, then-stays}
@@ -12,7 +12,7 @@ loop-client-preserved g c =
     record {
       seat = m.seat;
       number = m.number ∙ inv.number;
-      grows = front_front inv.grows m.grows;
+      grows = begins_through inv.grows m.grows;
       own_stays = subst (λ n. own n now ≡ own n (history_of c.loop-client.known)) inv.number m.own ∙ inv.own_stays;
       left = all_rest (λ client. IsSeatOf c.args.head.now client.seat) c.loop-client.client-iterator.rest.items c.in-Some.client _ c.in-Some.ensures.steps.0 inv.left;
       clients = rw c.in_ok-push.ensures.items
@@ -44,7 +44,7 @@ loop-client-init g c =
     record {
       seat = subst (IsSeatOf c.args.head.now) (sym opener) c.requires.opener;
       number = ap (λ seat. seat.known.number) opener;
-      grows = subst (λ seat. IsFront (history_of first) (history_of seat)) (sym opener) (front_self (history_of first));
+      grows = subst (λ seat. IsBeginning (history_of first) (history_of seat)) (sym opener) (begins_self (history_of first));
       own_stays = ap (λ seat. own first.known.number (history_of seat)) opener;
       left = rw c.into_iter-client-iterator.ensures.into_iter_gives.0 c.requires.clients;
       clients = rw c.in_ok-all.ensures.items tt;

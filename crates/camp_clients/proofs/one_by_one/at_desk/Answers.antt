@@ -1,5 +1,5 @@
 use Rattle.std.proofs.Common.{rules}
-use Rattle.camp_clients.proofs.Fronts.{section_alone}
+use Rattle.camp_clients.proofs.SectionSteps.{section_alone}
 use Rattle.camp_clients.proofs.one_by_one.at_desk.Goals as goal
 
 pub returns-clause-section : goal.returns-clause-section

@@ -1,5 +1,5 @@
 use Rattle.camp_clients.proofs.Words.{[], take, zero-add, arith, length-take-le, lists_of, common_steps}
-use Rattle.camp_clients.proofs.Fronts.{one_by_one_push}
+use Rattle.camp_clients.proofs.SectionSteps.{one_by_one_push}
 use Rattle.camp_clients.proofs.Vectors.{lists_more, lists_push, length-lists_of}
 use Rattle.camp_clients.proofs.one_by_one.serial.Goals as goal
 

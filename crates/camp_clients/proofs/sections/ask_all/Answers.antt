@@ -1,14 +1,14 @@
-use Rattle.camp_clients.proofs.Words.{◌∙◌, front_front, arith, common_steps}
-use Rattle.camp_clients.proofs.Fronts.{section_grows, section_more, room_more}
+use Rattle.camp_clients.proofs.Words.{◌∙◌, begins_through, arith, common_steps}
+use Rattle.camp_clients.proofs.SectionSteps.{section_grows, section_more, room_more}
 use Rattle.camp_clients.proofs.sections.ask_all.Goals as goal
 
 pub returns-in_err-unless_memory-clause-grows : goal.returns-in_err-unless_memory-clause-grows
 returns-in_err-unless_memory-clause-grows g c =
-    front_front (section_grows g.State.Object.object _ _ _ _ _ c.loop-call.invariant.section) c.ask.ensures.asks.grows
+    begins_through (section_grows g.State.Object.object _ _ _ _ _ c.loop-call.invariant.section) c.ask.ensures.asks.grows
 
 pub returns-in_err-push-clause-grows : goal.returns-in_err-push-clause-grows
 returns-in_err-push-clause-grows g c =
-    front_front (section_grows g.State.Object.object _ _ _ _ _ c.loop-call.invariant.section) c.ask.ensures.asks.grows
+    begins_through (section_grows g.State.Object.object _ _ _ _ _ c.loop-call.invariant.section) c.ask.ensures.asks.grows
 
 pub loop-call-preserved : goal.loop-call-preserved
 loop-call-preserved g c =

@@ -14,5 +14,5 @@ returns-then-saturating_add-le-MAX_CATCHES c =
 pub returns : goal.returns
 returns c =
     let more : c.count_behind-more.result ≡ length (catches_named (names_in c.args.names.now) c.args.theirs.now)
-          = c.count_behind-more.ensures ∙ ap length (sym (named_behind c.args.theirs.now c.args.ours.now c.args.long (names_in c.args.names.now) c.requires.agree c.requires.lacked)) in
+    = c.count_behind-more.ensures ∙ ap length (sym (named_behind c.args.theirs.now c.args.ours.now c.args.long (names_in c.args.names.now) c.requires.agree c.requires.lacked)) in
     search (rules, more)

@@ -2,21 +2,21 @@ use Rattle.camp_seq.proofs.Words.{◌≡◌, ◌+◌, ◌-◌, List, drop, set, 
 use Rattle.camp_seq.proofs.PassingSteps.{comes_up_to, all_done, one_more_done}
 use Rattle.camp_seq.proofs.passes.come_forward.Goals as goal
 
-pub returns-then-not-pass_one : goal.returns-then-not-pass_one
-returns-then-not-pass_one c =
+pub returns-then-not-commute_in_place : goal.returns-then-not-commute_in_place
+returns-then-not-commute_in_place c =
     let s0 : List Named = c.args.s.now in
     let s : List Named = c.loop-at.s in
     let i = c.loop-at.at - 1 in
-    let stopped = c.if-not-pass_one.ensures.exact in
-    let kept : set s i c.pass_one.new.p ≡ s = ap (λ y. set s i y.0) stopped.1 ∙ set-get_or s i c.index-s-at.result in
+    let stopped = c.if-not-commute_in_place.ensures.exact in
+    let kept : set s i c.commute_in_place.new.p ≡ s = ap (λ y. set s i y.0) stopped.1 ∙ set-get_or s i c.index-s-at.result in
     let stands = comes_up_to s0 s c.args.p.now c.loop-at.p c.loop-at.at i c.index-s-at.result (omega arith) (omega arith) (omega arith) c.loop-at.invariant (λ a b. stopped.0 (b, a)) in
-    subst (λ t. ComesUpTo s0 c.args.p.now (i + 1) t c.pass_one.new.q) (sym kept) (subst (λ y. ComesUpTo s0 c.args.p.now (i + 1) s y) (sym (ap (λ y. y.1) stopped.1)) stands)
+    subst (λ t. ComesUpTo s0 c.args.p.now (i + 1) t c.commute_in_place.new.q) (sym kept) (subst (λ y. ComesUpTo s0 c.args.p.now (i + 1) s y) (sym (ap (λ y. y.1) stopped.1)) stands)
 
 pub loop-at-preserved : goal.loop-at-preserved
 loop-at-preserved c =
     let s : List Named = c.loop-at.s in
     let i = c.loop-at.at - 1 in
-    one_more_done (λ t u. Precedes t c.args.p.now c.loop-at.p u) (λ t u. Precedes t c.args.p.now c.pass_one.new.q u) c.args.s.now s c.loop-at.at i c.index-s-at.result c.pass_one.new.p (omega arith) (omega arith) (omega arith) c.loop-at.invariant (λ passed. (c.loop-at.p, c.pass_one.new.p, drop (i + 1) s, passed, c.if-not-pass_one.ensures.exact, refl))
+    one_more_done (λ t u. Precedes t c.args.p.now c.loop-at.p u) (λ t u. Precedes t c.args.p.now c.commute_in_place.new.q u) c.args.s.now s c.loop-at.at i c.index-s-at.result c.commute_in_place.new.p (omega arith) (omega arith) (omega arith) c.loop-at.invariant (λ passed. (c.loop-at.p, c.commute_in_place.new.p, drop (i + 1) s, passed, c.if-not-commute_in_place.ensures.exact, refl))
 
 pub returns : goal.returns
 returns c =

@@ -1,4 +1,4 @@
-use Rattle.camp_clients.proofs.Words.{◌≡◌, ℕ, ◌<◌, [], length, refl, sym, ◌∙◌, ap, subst, arith, IfOk-weaker, IsFront, own, Asks, IsSeatOf, history_of, sight_of, lists_of, section_of, Section, Ran, IsMet, HasMet, caller_of}
+use Rattle.camp_clients.proofs.Words.{◌≡◌, ℕ, ◌<◌, [], length, refl, sym, ◌∙◌, ap, subst, arith, IfOk-weaker, IsBeginning, own, Asks, IsSeatOf, history_of, sight_of, lists_of, section_of, Section, Ran, IsMet, HasMet, caller_of}
 use Rattle.camp_clients.proofs.Meeting.{can_begin, clients_hold, none_other, shared_run, zip_all, zip_length}
 use Rattle.camp_clients.proofs.Vectors.{lists_map, section_at, length-lists_of}
 use Rattle.camp_clients.proofs.heads.Run.all.Goals as goal
@@ -46,7 +46,7 @@ returns-clause-shared g c =
     let from_start = subst (λ first. Section (Asks object (caller_of tries per_seat (opener.known.number))) first (section_of sections opener.known.number) opening.items opened)
     c.requires.opener.2 c.in_ok-opening.ensures.section in
     let ran = subst (λ n. Section (Asks object (caller_of tries per_seat n)) [] (section_of sections n) opening.items opened) c.requires.opener.1 from_start in
-    let front = subst (λ h. IsFront h history) c.in_ok-clients.ensures.seen c.in_ok-opener.ensures.grows in
+    let beginning = subst (λ h. IsBeginning h history) c.in_ok-clients.ensures.seen c.in_ok-opener.ensures.grows in
     let number = c.in_ok-clients.ensures.number ∙ c.in_ok-opening.ensures.number ∙ c.requires.opener.1 in
     let same = subst (λ n. own n history ≡ own n (history_of c.in_ok-clients.opener)) number c.in_ok-opener.ensures.own
     ∙ ap (own 0) c.in_ok-clients.ensures.seen in
@@ -54,5 +54,5 @@ returns-clause-shared g c =
     let seats = ap (λ row. row.seats) c.in_ok-opener.ensures.seat.row ∙ c.args.self.now.seats ∙ sym (length-lists_of c.args.self.now.sections.now) in
     let no_other = none_other _ _ _ _ seats refl c.number-number.ensures.seats_below in
     let run = shared_run object sight tries per_seat sections opened history opening.items l3 (record { seat = opener; answers = opening })
-    (omega (arith, long, c.requires.as_many, length-lists_of c.args.self.now.sections.now)) holds ran front same legal no_other in
+    (omega (arith, long, c.requires.as_many, length-lists_of c.args.self.now.sections.now)) holds ran beginning same legal no_other in
     rw (c.in_ok-answers.ensures, lists_map) run

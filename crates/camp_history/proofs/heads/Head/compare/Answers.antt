@@ -32,7 +32,7 @@ agrees-requires g c =
     let second : c.loop-mark.others ≡ other ∷ others = c.in-Some-next.ensures in
     let here : Compared a.marks b.marks (mark ∷ left) (other ∷ others) = rw (← first, ← second) past.compared in
     let entry = same_next a.known.ahead a.marks b.marks left others mark other (seat_begins a c.is_whole.ensures.places c.is_whole.ensures.sound)
-    (subst (λ ahead. chain.IsFront (entries_of b) ahead) (sym c.requires.chain) (seat_begins b c.is_whole-2.ensures.places c.is_whole-2.ensures.sound)) here in
+    (subst (λ ahead. chain.IsBeginning (entries_of b) ahead) (sym c.requires.chain) (seat_begins b c.is_whole-2.ensures.places c.is_whole-2.ensures.sound)) here in
     let store : c.self.inside.calls ≡ c.args.self.now.store = ap (λ head. head.store) c.self.view_is in
     let one : Shows c.args.self.now.store mark.call = All-same Stored (mark ∷ left) c.loop-mark.marks (sym first) past.stored 0 mark (omega arith) in
     let two : Shows c.args.self.now.store other.call = All-same Stored (other ∷ others) c.loop-mark.others (sym second) past.others_stored 0 other (omega arith) in
@@ -52,7 +52,7 @@ loop-mark-preserved g c =
     let second : c.loop-mark.others ≡ other ∷ others = c.in-Some-next.ensures in
     let here : Compared a.marks b.marks (mark ∷ left) (other ∷ others) = rw (← first, ← second) past.compared in
     let entry = same_next a.known.ahead a.marks b.marks left others mark other (seat_begins a c.is_whole.ensures.places c.is_whole.ensures.sound)
-    (subst (λ ahead. chain.IsFront (entries_of b) ahead) (sym c.requires.chain) (seat_begins b c.is_whole-2.ensures.places c.is_whole-2.ensures.sound)) here in
+    (subst (λ ahead. chain.IsBeginning (entries_of b) ahead) (sym c.requires.chain) (seat_begins b c.is_whole-2.ensures.places c.is_whole-2.ensures.sound)) here in
     record {
       compared = compared_step a.marks b.marks left others mark other (λ k. (entry k, c.agrees.ensures k)) here;
       stored = All-rest Stored mark left c.loop-mark.marks first past.stored;

@@ -36,6 +36,6 @@ returns-clause-goes_on g c = λ yes.
     let list = news seat c.args.version.now in
     let i = c.loop-mark.index in
     let all : take i list ≡ list = all_taken list i (sym past.rest ∙ c.in_default.ensures) in
-    let Comes : List (Mark g.row.State-Call.Denot) → Type 0 = λ list. chain.IsFront (seat.known.seen ++ map entry_of list) seat.known.ahead in
+    let Comes : List (Mark g.row.State-Call.Denot) → Type 0 = λ list. chain.IsBeginning (seat.known.seen ++ map entry_of list) seat.known.ahead in
     let Below : List (Mark g.row.State-Call.Denot) → Type 0 = λ list. All (λ mark. mark.seat < seat.known.row.seats) list in
     record { begins = c.requires.begins; ahead = subst Comes all past.ahead; below = subst Below all past.below }

@@ -7,7 +7,7 @@ invariant-loop-mark g l = record {
   same : l.seat ≡ l.fn.seat;
   rest : l.news ≡ drop l.index (news l.fn.seat l.version);
   within : l.index ≤ length l.trail;
-  ahead : chain.IsFront (l.fn.seat.known.seen ++ map entry_of (take l.index (news l.fn.seat l.version))) l.fn.seat.known.ahead;
+  ahead : chain.IsBeginning (l.fn.seat.known.seen ++ map entry_of (take l.index (news l.fn.seat l.version))) l.fn.seat.known.ahead;
   below : All (λ mark. mark.seat < l.fn.seat.known.row.seats) (take l.index (news l.fn.seat l.version));
 }
 

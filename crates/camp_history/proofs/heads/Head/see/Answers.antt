@@ -7,7 +7,7 @@ pub decide-requires : goal.decide-requires
 decide-requires g c =
     let tail = c.seat.inside.tail in
     let Few : g.row.State.Denot → Type 0 = λ state. g.State.Object.object.count state < 18446744073709551615 in
-    subst Few (sym c.deref.ensures) (few_marks g.State.Object.object g.met.State.Object.lawful c.seat.inside.front tail.items c.seat.inside.state tail.len tail.cap c.seat.invariant.few tail.ok tail.small c.seat.invariant.replays)
+    subst Few (sym c.deref.ensures) (few_marks g.State.Object.object g.met.State.Object.lawful c.seat.inside.earlier tail.items c.seat.inside.state tail.len tail.cap c.seat.invariant.few tail.ok tail.small c.seat.invariant.replays)
 
 -- the mark that is pushed
 pushed : (g : Over) (c : goal.After-drop-seat-inside g) → Mark g.row.State-Call.Denot
@@ -15,14 +15,14 @@ pushed g c = record { seat = c.args.next.entry.seat; call = c.in-Some.call }
 
 -- all marks of the seat then
 now : (g : Over) (c : goal.After-drop-seat-inside g) → List (Mark g.row.State-Call.Denot)
-now g c = c.seat.inside.front ++ c.push_reserved.new.self.items
+now g c = c.seat.inside.earlier ++ c.push_reserved.new.self.items
 
 stands : (g : Over) (c : goal.After-drop-seat-inside g) → now g c ≡ marks_in c.seat.inside ++ pushed g c ∷ []
 unfolding pushed now
 stands g c =
     let items : c.push_reserved.new.self.items ≡ c.reserve.new.self.items ++ pushed g c ∷ [] = c.push_reserved.ensures.items in
     let kept : c.reserve.new.self.items ≡ c.seat.inside.tail.items = c.in_ok-reserve.ensures.items in
-    one_more c.seat.inside.front c.seat.inside.tail.items c.push_reserved.new.self.items (pushed g c) (items ∙ ap (λ list. list ++ pushed g c ∷ []) kept)
+    one_more c.seat.inside.earlier c.seat.inside.tail.items c.push_reserved.new.self.items (pushed g c) (items ∙ ap (λ list. list ++ pushed g c ∷ []) kept)
 
 is_next : (g : Over) (c : goal.After-drop-seat-inside g) → entry_of (pushed g c) ≡ c.args.next.entry
 unfolding pushed

@@ -11,9 +11,9 @@ goes g c = subst (λ seat. GoesOn seat c.args.version.now) (sym c.self.view_is) 
 -- how many calls the seat has seen
 seen : (g : Over) (c : After-len-3 g) → c.len-2.result + c.len-3.result ≡ length (marks_in c.self.inside)
 seen g c =
-    let front : c.len-2.result ≡ length c.self.inside.front = c.len-2.ensures.exact ∙ ap length c.deref.ensures in
+    let earlier : c.len-2.result ≡ length c.self.inside.earlier = c.len-2.ensures.exact ∙ ap length c.deref.ensures in
     let tail : c.len-3.result ≡ length c.self.inside.tail.items = c.len-3.ensures ∙ c.self.inside.tail.ok.0 in
-    omega (arith, front, tail, length-append c.self.inside.front c.self.inside.tail.items)
+    omega (arith, earlier, tail, length-append c.self.inside.earlier c.self.inside.tail.items)
 
 count : (g : Over) (c : After-len-3 g) → c.len.result - (c.len-2.result + c.len-3.result) ≡ length (news (seated c.self.inside) c.args.version.now)
 count g c =
@@ -39,15 +39,15 @@ invariant_of-self g c =
     let here = (goal.at.invariant_of-self g c).After-len-3 in
     let seat = seated c.self.inside in
     let version = c.args.version.now in
-    let is : version ≡ c.front.inside.front ++ c.front.inside.tail.items = sym (c.front.view_is ∙ c.in_ok-front.ensures) in
+    let is : version ≡ c.earlier.inside.earlier ++ c.earlier.inside.tail.items = sym (c.earlier.view_is ∙ c.in_ok-earlier.ensures) in
     let known = c.advance_by.new.pass in
     let number = c.len.result - (c.len-2.result + c.len-3.result) in
     record {
       places = subst (λ marks. map entry_of marks ≡ known.seen) is (adopted_places seat version (goes g here) known number (count g here) c.advance_by.ensures.seen c.self.invariant.places);
       below = subst (λ marks. All (λ mark. mark.seat < known.row.seats) marks) is (adopted_below seat version (goes g here) known number (count g here) c.advance_by.ensures.seen c.self.invariant.below);
-      replays = c.front.invariant.1;
+      replays = c.earlier.invariant.1;
       begins = subst (λ marks. All (λ base. Begins base.marks marks) (bases_in c.self.inside.bases.items)) is (bases_begin seat.marks version (bases_in c.self.inside.bases.items) (goes g here).begins c.self.invariant.begins);
-      few = c.front.invariant.0;
+      few = c.earlier.invariant.0;
     }
 
 pub returns-clause-ok : goal.returns-clause-ok
@@ -56,8 +56,8 @@ returns-clause-ok g c =
     let seat = seated c.self.inside in
     let version = c.args.version.now in
     let now : Seated g.row.State-Call.Denot =
-    record { known = c.advance_by.new.pass; marks = c.front.inside.front ++ c.front.inside.tail.items; bases = bases_in c.self.inside.bases.items } in
+    record { known = c.advance_by.new.pass; marks = c.earlier.inside.earlier ++ c.earlier.inside.tail.items; bases = bases_in c.self.inside.bases.items } in
     let number = c.len.result - (c.len-2.result + c.len-3.result) in
     let adopts : Adopts seat version now =
-    record { marks = c.front.view_is ∙ c.in_ok-front.ensures; bases = refl; known = adopted_known seat version (goes g here) c.advance_by.new.pass number (count g here) c.advance_by.ensures.seen } in
+    record { marks = c.earlier.view_is ∙ c.in_ok-earlier.ensures; bases = refl; known = adopted_known seat version (goes g here) c.advance_by.new.pass number (count g here) c.advance_by.ensures.seen } in
     subst (λ seat. Adopts seat version now) c.self.view_is adopts

@@ -6,4 +6,4 @@ pub decide-requires : goal.decide-requires
 decide-requires g c =
     let tail = c.self.inside.tail in
     let Few : g.row.State.Denot → Type 0 = λ state. g.State.Object.object.count state < 18446744073709551615 in
-    subst Few (sym c.deref.ensures) (few_marks g.State.Object.object g.met.State.Object.lawful c.self.inside.front tail.items c.self.inside.state tail.len tail.cap c.self.invariant.few tail.ok tail.small c.self.invariant.replays)
+    subst Few (sym c.deref.ensures) (few_marks g.State.Object.object g.met.State.Object.lawful c.self.inside.earlier tail.items c.self.inside.state tail.len tail.cap c.self.invariant.few tail.ok tail.small c.self.invariant.replays)

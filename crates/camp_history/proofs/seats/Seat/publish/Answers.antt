@@ -16,14 +16,14 @@ exchange_cell-requires-clause-room g c =
 pushed : (g : Over) (c : goal.After-drop-self-inside g) → Mark g.row.State-Call.Denot
 pushed g c = record { seat = c.self.inside.pass.number; call = c.args.call.now }
 
-stands : (g : Over) (c : goal.After-drop-self-inside g) → c.self.inside.front ++ c.push_reserved.new.self.items ≡ marks_in c.self.inside ++ pushed g c ∷ []
+stands : (g : Over) (c : goal.After-drop-self-inside g) → c.self.inside.earlier ++ c.push_reserved.new.self.items ≡ marks_in c.self.inside ++ pushed g c ∷ []
 unfolding pushed
 stands g c =
     let items : c.push_reserved.new.self.items ≡ c.reserve.new.self.items ++ record { seat = c.number-number.result; call = c.again.result } ∷ [] = c.push_reserved.ensures.items in
     let kept : c.reserve.new.self.items ≡ c.self.inside.tail.items = c.in_ok-reserve.ensures.items in
     let number : c.number-number.result ≡ c.self.inside.pass.number = c.number-number.ensures.number in
     let call : c.again.result ≡ c.args.call.now = c.again.ensures in
-    one_more c.self.inside.front c.self.inside.tail.items c.push_reserved.new.self.items (pushed g c) (
+    one_more c.self.inside.earlier c.self.inside.tail.items c.push_reserved.new.self.items (pushed g c) (
     items
     ∙ ap (λ list. list ++ record { seat = c.number-number.result; call = c.again.result } ∷ []) kept
     ∙ ap (λ number. c.self.inside.tail.items ++ record { seat = number; call = c.again.result } ∷ []) number
@@ -45,7 +45,7 @@ pub invariant_of-self-2 : goal.invariant_of-self-2
 unfolding pushed
 invariant_of-self-2 g c =
     let marks = marks_in c.self.inside in
-    let now = c.self.inside.front ++ c.push_reserved.new.self.items in
+    let now = c.self.inside.earlier ++ c.push_reserved.new.self.items in
     rw (passed g c) (
     record {
       places = entries_more marks now (pushed g c) (stands g c) c.self.inside.pass.seen (c.self.inside.pass.seen ++ entry_of (pushed g c) ∷ []) c.self.invariant.places refl;

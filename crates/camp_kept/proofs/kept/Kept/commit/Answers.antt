@@ -4,7 +4,7 @@ use Rattle.camp_kept.specs.Accepting.{AreAccepted}
 use Rattle.camp_kept.specs.Keeping.{call_texts, store_texts}
 use Rattle.camp_kept.proofs.Committing.{counted, holds_leave, is_either, slice_is, texts_grow}
 use Rattle.camp_kept.proofs.Listing.{accepted_more, legal_alone}
-use Rattle.camp_object.specs.Histories.{IsFront, IsLegal}
+use Rattle.camp_object.specs.Histories.{IsBeginning, IsLegal}
 use Rattle.camp_repo.specs.Objects.{repository}
 use Rattle.camp_script.specs.Keeping.{CanStand, calls_of}
 use Rattle.camp_store.specs.Logs.{KeepsTexts, texts_of}
@@ -14,7 +14,7 @@ pub returns-in-Ok-clause-acknowledged : goal.returns-in-Ok-clause-acknowledged
 returns-in-Ok-clause-acknowledged g c calls front holds =
     let old = c.args.self.now in
     let value : c.history-history.result.now ≡ old.book = c.history-history.ensures.value in
-    let here : IsFront calls (calls_of c.history-history.result.now) = subst (λ h. IsFront calls (calls_of h)) (sym value) front in
+    let here : IsBeginning calls (calls_of c.history-history.result.now) = subst (λ h. IsBeginning calls (calls_of h)) (sym value) front in
     let slice = slice_is c.history-history.result.now calls here old.count holds.count_is in
     let new : texts_of c.in_ok-texts.texts.items ≡ call_texts here.rest = c.in_ok-texts.ensures.texts ∙ ap call_texts slice in
     let stand : AllByRecursion CanStand here.rest = subst (AllByRecursion CanStand) slice c.in_ok-texts.ensures.stand in
@@ -36,7 +36,7 @@ pub returns-in-Ok-clause-crash : goal.returns-in-Ok-clause-crash
 returns-in-Ok-clause-crash g c calls front holds f now =
     let old = c.args.self.now in
     let value : c.history-history.result.now ≡ old.book = c.history-history.ensures.value in
-    let here : IsFront calls (calls_of c.history-history.result.now) = subst (λ h. IsFront calls (calls_of h)) (sym value) front in
+    let here : IsBeginning calls (calls_of c.history-history.result.now) = subst (λ h. IsBeginning calls (calls_of h)) (sym value) front in
     let slice = slice_is c.history-history.result.now calls here old.count holds.count_is in
     let new : texts_of c.in_ok-texts.texts.items ≡ call_texts here.rest = c.in_ok-texts.ensures.texts ∙ ap call_texts slice in
     let stand : AllByRecursion CanStand here.rest = subst (AllByRecursion CanStand) slice c.in_ok-texts.ensures.stand in
@@ -54,7 +54,7 @@ pub returns-clause-crash : goal.returns-clause-crash
 returns-clause-crash g c calls front holds f now =
     let old = c.args.self.now in
     let value : c.history-history.result.now ≡ old.book = c.history-history.ensures.value in
-    let here : IsFront calls (calls_of c.history-history.result.now) = subst (λ h. IsFront calls (calls_of h)) (sym value) front in
+    let here : IsBeginning calls (calls_of c.history-history.result.now) = subst (λ h. IsBeginning calls (calls_of h)) (sym value) front in
     let slice = slice_is c.history-history.result.now calls here old.count holds.count_is in
     let new : texts_of c.in_ok-texts.texts.items ≡ call_texts here.rest = c.in_ok-texts.ensures.texts ∙ ap call_texts slice in
     let stand : AllByRecursion CanStand here.rest = subst (AllByRecursion CanStand) slice c.in_ok-texts.ensures.stand in

@@ -2,7 +2,7 @@ use Rattle.std.proofs.Common.{◌≡◌, [], Some, ◌∷◌, ◌++◌, refl, �
 use Rattle.camp_object.specs.Histories.{replay, IsAccepted}
 use Rattle.camp_object.specs.Asking.{alone_at}
 use Rattle.camp_object.proofs.Replays.{count-replay, replay_accepted, accepted_at}
-use Rattle.camp_object.proofs.Fronts.{front_self}
+use Rattle.camp_object.proofs.Beginnings.{begins_self}
 use Rattle.camp_object.proofs.Asks.{ask_done}
 use Rattle.camp_object.proofs.books.Book.ask.Given.{Over}
 use Rattle.camp_object.proofs.books.Book.ask.Goals as goal
@@ -33,6 +33,6 @@ returns-in_ok-copy-in-Next g c = record {
       in
       rw (← c.self.view_is) (
       ask_done g.State.Object.object g.met.State.Object.lawful (alone_at c.args.seat) c.self.inside.history.items c.self.inside.history.items c.push_reserved.new.self.items c.args.call.now c.len.result c.done.result
-      (front_self c.self.inside.history.items) refl accepted (λ not_alone. cc) (λ _. refl) (stands g c) (c.len.ensures ∙ c.push_reserved.new.self.ok.0) c.done.ensures
+      (begins_self c.self.inside.history.items) refl accepted (λ not_alone. cc) (λ _. refl) (stands g c) (c.len.ensures ∙ c.push_reserved.new.self.ok.0) c.done.ensures
       );
 }

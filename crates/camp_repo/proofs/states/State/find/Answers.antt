@@ -1,6 +1,6 @@
 use Rattle.std.proofs.Common.{◌≡◌, ◌<◌, None, Some, option_copied, position, slice_get, bytes_eq, ap, ◌∙◌, sym, subst}
 use Rattle.camp_repo.proofs.Words.{catches_in, placed, catches_of, with_catches}
-use Rattle.camp_repo.proofs.FrontSteps.{zip_catches}
+use Rattle.camp_repo.proofs.BeginningSteps.{zip_catches}
 use Rattle.camp_repo.proofs.PlaceSteps.{found, missing}
 use Rattle.camp_repo.proofs.StateSteps.{within_fields}
 use Rattle.camp_repo.proofs.states.State.find.Goals as goal

@@ -1,5 +1,5 @@
 use Rattle.camp_repo.proofs.Words.{ap, ◌∙◌, sym, subst, IsLawfulState}
-use Rattle.camp_repo.proofs.FrontSteps.{none_hold}
+use Rattle.camp_repo.proofs.BeginningSteps.{none_hold}
 use Rattle.camp_repo.proofs.StateSteps.{first_state}
 use Rattle.camp_repo.proofs.StepsLawful.{initial_lawful}
 use Rattle.camp_repo.proofs.states.State.new.Goals as goal

@@ -1,5 +1,5 @@
 use Rattle.camp_repo.proofs.Words.{◌≡◌, ap, ◌∙◌, ◌++◌, [], ◌∷◌, length, sym, subst, AllZip, AllHold, IsLawfulState}
-use Rattle.camp_repo.proofs.FrontSteps.{all_copied}
+use Rattle.camp_repo.proofs.BeginningSteps.{all_copied}
 use Rattle.camp_repo.proofs.StateSteps.{grown_as_long, grown_state}
 use Rattle.camp_repo.proofs.states.State.with_copy.Goals as goal
 

@@ -1,5 +1,5 @@
 use Rattle.camp_repo.proofs.Words.{sym, subst, AgreesIn, AllHold, catches_in, placed}
-use Rattle.camp_repo.proofs.FrontSteps.{all_grown}
+use Rattle.camp_repo.proofs.BeginningSteps.{all_grown}
 use Rattle.camp_repo.proofs.states.State.with_pulled.Goals as goal
 
 pub with_branch_at-requires-clause-known : goal.with_branch_at-requires-clause-known

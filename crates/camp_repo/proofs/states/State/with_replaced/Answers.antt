@@ -1,4 +1,4 @@
-use Rattle.camp_repo.proofs.FrontSteps.{none_hold}
+use Rattle.camp_repo.proofs.BeginningSteps.{none_hold}
 use Rattle.camp_repo.proofs.states.State.with_replaced.Goals as goal
 
 pub with_branch_at-requires-clause-known : goal.with_branch_at-requires-clause-known

@@ -1,7 +1,7 @@
 use Rattle.camp_row.proofs.Words.{arith, ◌≡◌, ◌<◌, ◌∷◌, [], ◌++◌, refl, sym, ap, subst, ◌∙◌, zero-add, RowId, newcomer, part_of, known_of, fresh}
 use Rattle.std.proofs.lemmas.List.FromFn.{map-range_with_len_more}
 use Rattle.camp_row.proofs.Dealing.{first_left}
-use Rattle.camp_row.proofs.PassOfRow.{at_part, splits_in, front_nil, no_cut}
+use Rattle.camp_row.proofs.PassOfRow.{at_part, splits_in, begins_nil, no_cut}
 use Rattle.camp_row.proofs.rows.Row.deal.Goals as goal
 
 pub split_seat-seat-requires : goal.split_seat-seat-requires
@@ -25,7 +25,7 @@ invariant_of-push c =
       head = refl;
       number_below = below;
       turn_within = omega arith;
-      sound = record { front = front_nil []; own_seen = refl; fits = λ before e after cut. absurd (no_cut before e after cut) };
+      sound = record { front = begins_nil []; own_seen = refl; fits = λ before e after cut. absurd (no_cut before e after cut) };
     })
 
 pub loop-number-preserved : goal.loop-number-preserved

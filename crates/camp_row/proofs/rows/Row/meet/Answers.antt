@@ -1,4 +1,4 @@
-use Rattle.camp_row.proofs.Words.{subst, arith, ◌≡◌, sym, ap, ◌∙◌, take, drop, IsFront, Known, FindsChain, part_of, known_of}
+use Rattle.camp_row.proofs.Words.{subst, arith, ◌≡◌, sym, ap, ◌∙◌, take, drop, IsBeginning, Known, FindsChain, part_of, known_of}
 use Rattle.camp_row.proofs.Dealing.{joins}
 use Rattle.camp_row.proofs.Meeting.{met, finds_known, one_begins}
 use Rattle.camp_row.proofs.PassOfRow.{is_of, found_pass, splits_in, looks_in}
@@ -50,8 +50,8 @@ pub returns-clause-one_begins : goal.returns-clause-one_begins
 returns-clause-one_begins c =
     let m = met (ap (λ m. m.0.parts) c.join_seat.ensures.2) c.b.invariant c.a.invariant c.load-head.ensures.2.1 in
     one_begins c.args.a.now c.args.b m.chain
-    (subst (λ (k : Known). IsFront k.seen m.chain) c.a.view_is m.a_sees.sound.front)
-    (subst (λ (k : Known). IsFront k.seen m.chain) c.b.view_is m.b_sees.sound.front)
+    (subst (λ (k : Known). IsBeginning k.seen m.chain) c.a.view_is m.a_sees.sound.front)
+    (subst (λ (k : Known). IsBeginning k.seen m.chain) c.b.view_is m.b_sees.sound.front)
 
 pub returns-clause-apart : goal.returns-clause-apart
 returns-clause-apart c =

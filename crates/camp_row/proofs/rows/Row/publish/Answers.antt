@@ -1,7 +1,7 @@
 use Rattle.camp_row.proofs.Words.{arith, ◌≡◌, ◌==◌, ◌+◌, ◌++◌, ◌∷◌, [], subst, refl, sym, ap, ◌∙◌, eq-eqb, MatchBool-at_true, either, Entry, head_word, IsDrafted, Part, part, drafted_part, won_part, WonPart, LostPart, Tried}
 use Rattle.camp_row.proofs.Cells.{head_word-push, turns_push, fits_push, fits_front}
 use Rattle.camp_row.proofs.Publishing.{publishes}
-use Rattle.camp_row.proofs.PassOfRow.{at_part, at_own, steps_in, front_refl}
+use Rattle.camp_row.proofs.PassOfRow.{at_part, at_own, steps_in, begins_refl}
 use Rattle.camp_row.proofs.rows.Row.publish.Goals as goal
 
 pub compare_exchange-found-requires : goal.compare_exchange-found-requires
@@ -34,7 +34,7 @@ invariant_of-pass-2 c =
       number_below = was.number_below;
       turn_within = omega arith;
       sound = record {
-        front = front_refl (p.seen ++ e ∷ []);
+        front = begins_refl (p.seen ++ e ∷ []);
         own_seen = refl;
         fits = fits_push p.seats p.per_seat p.seen e (fits_front p.seats p.per_seat p.seen p.ahead was.sound.front was.sound.fits) was.number_below at.room;
       };

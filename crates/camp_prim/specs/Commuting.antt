@@ -1,0 +1,80 @@
+-- When two primitives, one after the other, may commute, and what they become.
+use Rattle.std.specs.Prelude.{◌≡◌, ◌≢◌, ℕ, ◌+◌, ◌<◌, ◌⊎◌, List, length}
+use Rattle.camp_prim.specs.Hunks.{Edit}
+use Rattle.camp_prim.specs.Effect.{InRange}
+use Rattle.camp_prim.specs.Labels.{label_of, SameKey}
+use Rattle.camp_prim.specs.declared.primitives.Primitive.{Primitive}
+use Rattle.camp_prim.specs.declared.primitives.Primitive.TheVariants.{Add, Remove, Hunk}
+use Rattle.camp_prim.specs.declared.named.Named.{Named}
+
+-- the path that a primitive changes
+abbrev pub path_of : Primitive → List ℕ
+path_of (Add path) = path
+path_of (Remove path) = path
+path_of (Hunk hunk) = hunk.path
+
+-- a hunk at another line
+abbrev pub at_line : ℕ → Edit → Edit
+at_line line hunk = record { path = hunk.path; line = line; old = hunk.old; new = hunk.new }
+
+-- two hunks may pass each other with this many lines between them: with none only where no side is empty
+abbrev pub MayPass : ℕ → Edit → Edit → Type 0
+MayPass gap h k = (0 < gap) ⊎ ((0 < length h.old) × (0 < length h.new) × (0 < length k.old) × (0 < length k.new))
+
+-- p q <-> q p, on two paths
+pub record CommutesOnTwoPaths (p q q' p' : Primitive) : Type 0 where
+  pub paths : path_of p ≢ path_of q
+  pub second : q' ≡ q
+  pub first : p' ≡ p
+
+-- h k <-> k' h, where k is the lower hunk: it stands a gap below the lines that h leaves, and k' as far below those
+-- that h takes away
+pub record CommutesBelow (p q q' p' : Primitive) : Type 0 where
+  pub h : Edit
+  pub k : Edit
+  pub gap : ℕ
+  pub is_p : p ≡ Hunk h
+  pub is_q : q ≡ Hunk k
+  pub path : h.path ≡ k.path
+  pub stands : k.line ≡ h.line + length h.new + gap
+  pub passes : MayPass gap h k
+  pub second : q' ≡ Hunk (at_line (h.line + length h.old + gap) k)
+  pub first : p' ≡ p
+
+-- h k <-> k h', where h is the lower hunk: it stands a gap below the lines that k takes away, and h' as far below
+-- those that k leaves
+pub record CommutesAbove (p q q' p' : Primitive) : Type 0 where
+  pub h : Edit
+  pub k : Edit
+  pub gap : ℕ
+  pub is_p : p ≡ Hunk h
+  pub is_q : q ≡ Hunk k
+  pub path : h.path ≡ k.path
+  pub stands : h.line ≡ k.line + length k.old + gap
+  pub passes : MayPass gap h k
+  pub second : q' ≡ q
+  pub first : p' ≡ Hunk (at_line (k.line + length k.new + gap) h)
+
+-- p and then q commute and become q' and then p', whatever their labels are: one of the three cases
+abbrev pub PrimitivesCommute : Primitive → Primitive → Primitive → Primitive → Type 0
+PrimitivesCommute p q q' p' = CommutesOnTwoPaths p q q' p' ⊎ (CommutesBelow p q q' p' ⊎ CommutesAbove p q q' p')
+
+-- each of four primitives is in range
+abbrev pub AreInRange : Primitive → Primitive → Primitive → Primitive → Type 0
+AreInRange p q q' p' = InRange p × InRange q × InRange q' × InRange p'
+
+-- p q <-> q' p', in range or not: the absolute labels differ, the primitives commute, and labels are kept
+pub record CommuteAnywhere (p q q' p' : Named) : Type 0 where
+  pub apart : ¬ (SameKey p q)
+  pub change : PrimitivesCommute p.prim q.prim q'.prim p'.prim
+  pub second : label_of q' ≡ label_of q
+  pub first : label_of p' ≡ label_of p
+
+-- p q <-> q' p': the same, and all four are in range
+pub record Commute (p q q' p' : Named) : Type 0 where
+  pub anywhere : CommuteAnywhere p q q' p'
+  pub ranges : AreInRange p.prim q.prim q'.prim p'.prim
+
+-- the same of pairs: the second pair is what the first one becomes by commuting
+abbrev pub CommutedNeighbours : Named × Named → Named × Named → Type 0
+CommutedNeighbours old new = Commute old.0 old.1 new.0 new.1

@@ -1,0 +1,138 @@
+ghost use Rattle.std.specs.Prelude.{◌≡◌, ◌+◌, ◌≤◌, ◌<◌, ◌↔◌, IfOk, IfErr, IfSome, IsTrue, MatchOption, length, option_map};
+ghost use Rattle.camp_base.specs.Answers.{Finds, FindsPair};
+ghost use Rattle.camp_base.specs.Limits.{greatest_reach};
+ghost use Rattle.camp_prim.specs.Effect.{InRange};
+ghost use Rattle.camp_prim.specs.Hunks.{IsInRange};
+ghost use Rattle.camp_prim.specs.Laws.{BothCommuteAlike, CommuteIsUnique, CommuteLaws};
+ghost use Rattle.camp_prim.specs.Inside.Targets.{moved, turned, ChangeInRange, ComesTo};
+ghost use Rattle.camp_prim.specs.Commuting.{Commute};
+
+use crate::labels::have_same_key;
+use crate::neighbours::move_to;
+use crate::{Hunk, Named, Primitive};
+use std::alloc::AllocError;
+
+/// What `p` and then `q` become in the other order: `Some((q', p'))`, where `q'` and then `p'` do
+/// what `p` and then `q` do, and None where they don't commute. None is answered even where there
+/// is no memory.
+pub fn commute(p: &Named, q: &Named) -> Result<Option<(Named, Named)>, AllocError>
+    ensures exact { IfOk result (FindsPair (Commute p.now q.now)) }
+    ensures laws { IfOk result (λ found. IfSome found (λ pair. CommuteLaws p.now q.now pair.0 pair.1)) }
+    ensures memory { IfErr result (λ error. (q' : Named) × ((p' : Named) × Commute p.now q.now q' p')) }
+{
+    if have_same_key(p, q) {
+        return Ok(None);
+    }
+    match targets_of(&p.prim, &q.prim) {
+        None => Ok(None),
+        Some(targets) => {
+            let second = moved_copy(q, targets.second)?;
+            let first = moved_copy(p, targets.first)?;
+            Ok(Some((second, first)))
+        }
+    }
+}
+
+/// Two primitives commute to one pair at most.
+pub fn commute_is_unique()
+    ensures law { CommuteIsUnique }
+{}
+
+/// The laws of commuting two primitives: own inverse, inverse, square and effect.
+pub fn commute_has_laws()
+    ensures law { (p q q' p' : Named) → Commute p q q' p' → CommuteLaws p q q' p' }
+{}
+
+/// `commute` answers None exactly where `commute_neighbours` answers false, and else both give the same two.
+pub fn both_commute_alike()
+    ensures law { BothCommuteAlike }
+{}
+
+/// The lines to which two primitives move as they commute, where they move.
+#[derive(Drop)]
+pub(crate) struct Targets {
+    pub(crate) second: Option<u32>,
+    pub(crate) first: Option<u32>,
+}
+
+pub(crate) fn targets_of(p: &Primitive, q: &Primitive) -> Option<Targets>
+    ensures { FindsPair (ChangeInRange p.now q.now) (option_map (turned p.now q.now) result) }
+{
+    if p.path() != q.path() {
+        return Some(Targets {
+            second: None,
+            first: None,
+        });
+    }
+    let Primitive::Hunk(h) = p else {
+        return None;
+    };
+    let Primitive::Hunk(k) = q else {
+        return None;
+    };
+    hunk_targets(h, k)
+}
+
+fn hunk_targets(h: &Hunk, k: &Hunk) -> Option<Targets>
+    requires path { h.now.path ≡ k.now.path }
+    requires first { IsInRange h.now }
+    requires second { IsInRange k.now }
+    ensures { FindsPair (ChangeInRange (Primitive.Hunk h.now) (Primitive.Hunk k.now))
+        (option_map (turned (Primitive.Hunk h.now) (Primitive.Hunk k.now)) result) }
+{
+    if let Some(line) = line_below(h.line(), h.old().len(), h.new().len(), k) {
+        return Some(Targets {
+            second: Some(line),
+            first: None,
+        });
+    }
+    if let Some(line) = line_below(k.line(), k.new().len(), k.old().len(), h) {
+        return Some(Targets {
+            second: None,
+            first: Some(line),
+        });
+    }
+    None
+}
+
+/// The line to which the lower hunk moves. It stands some lines below what the hunk at line `upper`
+/// leaves, and is to stand as many lines below what that one takes away. None where it can't pass,
+/// or would leave its range.
+fn line_below(upper: u32, takes: usize, leaves: usize, lower: &Hunk) -> Option<u32>
+    requires { upper + takes + leaves ≤ greatest_reach }
+    ensures { Finds (ComesTo upper takes leaves lower.now) result }
+{
+    let gap = gap_between(upper as usize + leaves, lower.line() as usize)?;
+    if gap == 0 && !are_full(takes, leaves, lower) {
+        return None;
+    }
+    let line = upper + (takes + gap) as u32;
+    lower.can_stand_at(line).then_some(line)
+}
+
+/// The number of lines from where the upper lines end to a line. None where it stands among them.
+fn gap_between(end: usize, line: usize) -> Option<usize>
+    ensures { MatchOption result (line < end) (λ gap. line ≡ end + gap) }
+{
+    line.checked_sub(end)
+}
+
+/// Whether no side of two hunks is empty.
+fn are_full(takes: usize, leaves: usize, lower: &Hunk) -> bool
+    ensures { IsTrue result
+        ↔ ((0 < takes) × (0 < leaves) × (0 < length lower.now.old) × (0 < length lower.now.new)) }
+{
+    if takes == 0 || leaves == 0 {
+        return false;
+    }
+    !lower.old().is_empty() && !lower.new().is_empty()
+}
+
+fn moved_copy(p: &Named, line: Option<u32>) -> Result<Named, AllocError>
+    requires { InRange (moved line p.now.prim) }
+    ensures { IfOk result (λ copy. copy ≡ record p.now { prim = moved line p.now.prim }) }
+{
+    let mut copy = p.try_clone()?;
+    move_to(&mut copy.prim, line);
+    Ok(copy)
+}

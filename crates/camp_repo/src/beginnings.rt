@@ -1,0 +1,199 @@
+ghost use Rattle.std.specs.Prelude.{◌≡◌, ◌<◌, ◌↔◌, List, [], Some, length, slice_get, IfOk, IfSome, IsTrue};
+ghost use Rattle.std.specs.List.{AllByRecursion};
+ghost use Rattle.camp_branch.specs.Agreeing.{Agree};
+ghost use Rattle.camp_catch.specs.declared.catches.Catch.{Catch};
+ghost use Rattle.camp_repo.specs.Beginnings.{AgreesIn};
+
+use camp_share::{Share, SharedList};
+use std::alloc::{AllocError, Global};
+use std::marker::Model;
+
+/// The most pairs of branches of which a state keeps how long their beginnings agree.
+const MAX_PAIRS: usize = 64;
+
+/// Two branches, by their places in the order of creation, and how long their beginnings are known
+/// to agree.
+#[derive(Clone, Copy, Debug, PartialEq, Eq)]
+pub(crate) struct KnownBeginning {
+    pub(crate) from: usize,
+    pub(crate) to: usize,
+    pub(crate) long: usize,
+}
+
+impl Share for KnownBeginning {
+    fn share(&self) -> Result<KnownBeginning, AllocError> {
+        Ok(*self)
+    }
+}
+
+/// Pairs of branches, and how long the beginnings of each are known to agree. Where there are too many
+/// pairs, the oldest is dropped. A pair of which more is learned keeps its place.
+#[derive(Drop)]
+pub(crate) struct KnownBeginnings {
+    beginnings: SharedList<KnownBeginning>,
+}
+
+impl Model for KnownBeginnings {
+    ghost use Rattle.std.specs.Prelude.{List};
+    ghost use Rattle.camp_repo.specs.declared.beginnings.KnownBeginning.{KnownBeginning};
+
+    ghost Value = { List KnownBeginning };
+
+    ghost view = { λ known. known.beginnings };
+}
+
+impl KnownBeginnings {
+    /// Nothing is known.
+    pub(crate) fn none(alloc: Global) -> KnownBeginnings
+        ensures { result ≡ [] }
+    {
+        KnownBeginnings {
+            beginnings: SharedList::new(alloc),
+        }
+    }
+
+    /// How long the beginnings of two branches are known to agree: 0 where nothing is known of
+    /// them.
+    pub(crate) fn between(&self, from: usize, to: usize) -> usize
+        ensures { (branches : List (List Catch)) → AllByRecursion (AgreesIn branches) self.now
+            → (theirs ours : List Catch) → slice_get branches from ≡ Some theirs → slice_get branches to ≡ Some ours
+            → Agree theirs ours result }
+    {
+        for beginning in self.beginnings.iter() {
+            if is_of(beginning, from, to) {
+                return beginning.long;
+            }
+        }
+        0
+    }
+
+    /// All pairs, with how long the beginnings of two branches agree.
+    pub(crate) fn learned(
+        &self,
+        from: usize,
+        to: usize,
+        long: usize,
+    ) -> Result<KnownBeginnings, AllocError>
+        ensures { IfOk result (λ all. (branches : List (List Catch)) → AllByRecursion (AgreesIn branches) self.now
+            → AgreesIn branches (record { from = from; to = to; long = long }) → AllByRecursion (AgreesIn branches) all) }
+    {
+        let beginnings = with_beginning(&self.beginnings, from, to, long)?;
+        Ok(KnownBeginnings { beginnings })
+    }
+
+    /// All pairs, and those of a new branch that is a copy of another, as long as there is room: the
+    /// copy agrees with that one for this length, and with others as far as that one does.
+    pub(crate) fn copied(
+        &self,
+        of: usize,
+        copy: usize,
+        long: usize,
+    ) -> Result<KnownBeginnings, AllocError>
+        ensures { IfOk result (λ all. (branches : List (List Catch)) → AllByRecursion (AgreesIn branches) self.now
+            → slice_get branches copy ≡ slice_get branches of
+            → AgreesIn branches (record { from = of; to = copy; long = long })
+            → AgreesIn branches (record { from = copy; to = of; long = long }) → AllByRecursion (AgreesIn branches) all) }
+    {
+        let all = with_pairs_of_copy(&self.beginnings, of, copy)?;
+        let forth = with_beginning(&all, of, copy, long)?;
+        let beginnings = with_beginning(&forth, copy, of, long)?;
+        Ok(KnownBeginnings { beginnings })
+    }
+
+    /// An equal value. It shares everything with this one.
+    pub(crate) fn try_clone(&self) -> Result<KnownBeginnings, AllocError>
+        ensures { IfOk result (λ copy. copy ≡ self.now) }
+    {
+        let beginnings = self.beginnings.share()?;
+        Ok(KnownBeginnings { beginnings })
+    }
+}
+
+fn is_of(beginning: &KnownBeginning, from: usize, to: usize) -> bool
+    ensures { IsTrue result ↔ ((beginning.now.from ≡ from) × (beginning.now.to ≡ to)) }
+{
+    if beginning.from != from {
+        return false;
+    }
+    beginning.to == to
+}
+
+/// All pairs, with how long the beginnings of two branches agree: at the place of their pair, if
+/// there is one. Where there are too many pairs, the oldest is dropped.
+fn with_beginning(
+    known: &SharedList<KnownBeginning>,
+    from: usize,
+    to: usize,
+    long: usize,
+) -> Result<SharedList<KnownBeginning>, AllocError>
+    ensures { IfOk result (λ all. (branches : List (List Catch)) → AllByRecursion (AgreesIn branches) known.now
+        → AgreesIn branches (record { from = from; to = to; long = long }) → AllByRecursion (AgreesIn branches) all) }
+{
+    let beginning = KnownBeginning { from, to, long };
+    if let Some(at) = place_of(known, from, to) {
+        return known.replaced(at, beginning);
+    }
+    if known.len() < MAX_PAIRS {
+        return known.pushed(beginning);
+    }
+    let others = known.without(0)?;
+    others.pushed(beginning)
+}
+
+/// All pairs, and behind them those that hold of a copy of a branch too, as long as there is room.
+fn with_pairs_of_copy(
+    known: &SharedList<KnownBeginning>,
+    of: usize,
+    copy: usize,
+) -> Result<SharedList<KnownBeginning>, AllocError>
+    ensures { IfOk result (λ all. (branches : List (List Catch)) → AllByRecursion (AgreesIn branches) known.now
+        → slice_get branches copy ≡ slice_get branches of → AllByRecursion (AgreesIn branches) all) }
+{
+    let mut all = known.share()?;
+    for beginning in known.iter() {
+        if all.len() >= MAX_PAIRS - 2 {
+            return Ok(all);
+        }
+        if let Some(of_copy) = of_copy(beginning, of, copy) {
+            all = all.pushed(of_copy)?;
+        }
+    }
+    Ok(all)
+}
+
+/// A pair with a branch in it, as it holds of the branch's copy.
+fn of_copy(beginning: &KnownBeginning, of: usize, copy: usize) -> Option<KnownBeginning>
+    ensures { IfSome result (λ other. (branches : List (List Catch)) → AgreesIn branches beginning.now
+        → slice_get branches copy ≡ slice_get branches of → AgreesIn branches other) }
+{
+    let KnownBeginning { from, to, long } = *beginning;
+    if from == of {
+        return Some(KnownBeginning {
+            from: copy,
+            to,
+            long,
+        });
+    }
+    if to == of {
+        return Some(KnownBeginning {
+            from,
+            to: copy,
+            long,
+        });
+    }
+    None
+}
+
+/// The place of the pair of two branches, if there is one.
+fn place_of(known: &SharedList<KnownBeginning>, from: usize, to: usize) -> Option<usize>
+    ensures { IfSome result (λ at. at < length known.now) }
+{
+    for at in 0..known.len() {
+        if let Some(beginning) = known.get(at) {
+            if is_of(beginning, from, to) {
+                return Some(at);
+            }
+        }
+    }
+    None
+}
