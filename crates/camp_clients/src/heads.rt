@@ -161,7 +161,8 @@ fn meet_all<State: Object>(
     Ok((opener, clients))
 }
 
-/// Asks a section of calls at the desk of a head.
+/// Asks a section of calls at the desk of a head. It stands apart for the proof alone: here the clauses of any desk are
+/// said of this one.
 fn at_desk<'r, 'h, 's, 'g, R: Wait, State: Object, G: Gate>(
     alloc: Global,
     desk: &mut HeadDesk<'r, 'h, 's, 'g, R, State, G>,

@@ -45,7 +45,8 @@ pub(crate) fn at_seat<State: Object>(
     at_desk(alloc, &mut desk, calls)
 }
 
-/// Asks a section of calls at the desk of a book.
+/// Asks a section of calls at the desk of a book. It stands apart for the proof alone: here the clauses of any desk are
+/// said of this one.
 fn at_desk<'a, State: Object>(
     alloc: Global,
     desk: &mut BookDesk<'a, State>,

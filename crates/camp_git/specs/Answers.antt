@@ -14,7 +14,7 @@ ExportOf state name text =
     (branch : List Catch) × (catches_of state.branches name ≡ Some branch) × IsExport name branch text
 
 -- Ok: an export of the branch was appended. Where there is no branch of the name, where git can't hold a tree of it, or
--- where memory ran out, nothing was written; where the writer failed, a front of an export was.
+-- where memory ran out, nothing was written; where the writer failed, a beginning of an export was.
 abbrev pub Exports : Contents → List ℕ → Option (List ℕ) → Result (Unit {0}) Unexported → Option (List ℕ) → Type 0
 Exports state name old (Ok done) new = (text : List ℕ) × ExportOf state name text × Appends old new text
 Exports state name old (Err (NoBranch missing)) new =

@@ -61,7 +61,7 @@ module _ {D : Type 0} (seen : D → List ℕ) (may_leave : D → List ℕ → Ty
       (calls : List Call) → AreFirst calls old → Holds seen may_leave calls old → (c : List ℕ) → may_leave (disk_in new) c → IsStoreOf calls c ⊎ IsStoreOf (calls_in old) c
 
   -- answers that were held back go to a writer. Ok: all calls are kept, and then the answers were written, no more and no
-  -- less. Kept: nothing was written. Write: all calls are kept, and a front of the answers was written.
+  -- less. Kept: nothing was written. Write: all calls are kept, and a beginning of the answers was written.
   abbrev pub Settles : Kept D → List ℕ → Option (List ℕ) → Result (Unit {0}) StoredFault → Kept D → List ℕ → Option (List ℕ) → Type 0
   Settles old held before (Ok done) new now after = AllAreKept old new × (now ≡ []) × Appends before after held
   Settles old held before (Err (fault.Kept why)) new now after = MayBeKept old new × Keeps before after
@@ -116,7 +116,7 @@ module _ {D : Type 0} (seen : D → List ℕ) (may_leave : D → List ℕ → Ty
     pub within : IsBeginning calls (calls_in kept)
     pub crash : (c : List ℕ) → may_leave (disk_in kept) c → IsStoreOf calls c ⊎ IsStoreOf (calls_in kept) c
 
-  -- the writer failed: commands were answered, and a front of their answers was written; no more was read than a further
+  -- the writer failed: commands were answered, and a beginning of their answers was written; no more was read than a further
   -- one has. The accepted calls are those of all these commands, and they are on the disk.
   pub record StopsUnwritten (remaining rest old now : Option (List ℕ)) (first : Standing) (kept : Kept D) : Type 0 where
     pub last : Standing

@@ -19,7 +19,7 @@ AnswersLast Ended middle (said ∷ []) last =
 AnswersLast Ended middle (said ∷ other ∷ others) last = ⊥
 
 -- commands were read and answered one after the other, and maybe a last one, no more and no less; and of their answers
--- these bytes were written: all, or a front
+-- these bytes were written: all, or a beginning
 pub record Told (remaining left old new : Option (List ℕ)) (first last : Standing) : Type 0 where
   pub said : List Exchange
   pub middle : Standing

@@ -43,7 +43,7 @@ module _ {D : Type 0} (seen : D → List ℕ) (may_leave : D → List ℕ → Ty
   -- one request is served over what is kept. Ok: it is served as over a book, and all accepted calls are on the disk.
   -- Kept: it was served, or came to a fault, and nothing was written; the calls that it asked are on the disk all or not
   -- at all. Frame: it came to this fault, and nothing was written; all accepted calls are on the disk. Write: it was
-  -- answered, and all accepted calls are on the disk; a front of its answer was written.
+  -- answered, and all accepted calls are on the disk; a beginning of its answer was written.
   abbrev pub ServesKept : (remaining rest before after : Option (List ℕ)) → Kept D → Result Bool StoredFault → Kept D → Type 0
   ServesKept remaining rest before after old (Ok more) new =
       Serves remaining rest before after old.book (Ok more) new.book × Holds seen may_leave (calls_in new) new

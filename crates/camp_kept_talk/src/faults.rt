@@ -14,7 +14,7 @@ pub enum StoredFault {
     Talk(TalkFault),
     /// A request could not be read, or not be answered whole. All accepted calls are kept.
     Frame(FrameFault),
-    /// The writer failed, with this error. All accepted calls are kept, and a front of the answers was written.
+    /// The writer failed, with this error. All accepted calls are kept, and a beginning of the answers was written.
     Write(io::Error),
 }
 

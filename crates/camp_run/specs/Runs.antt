@@ -18,7 +18,7 @@ pub record HasOutput (Comes : Outcome) (wants_history : Bool) (remaining rest : 
 -- Ok: a script was read, and its output was written, no more and no less.
 -- A fault of the script: it is the first one, and nothing was written.
 -- A foreign call, out of memory, or the reader failed: nothing was written.
--- The writer failed: a script was read, and a front of its output was written, and not all of it.
+-- The writer failed: a script was read, and a beginning of its output was written, and not all of it.
 abbrev pub Runs : Outcome → Bool
     → Option (List ℕ) → Option (List ℕ) → Option (List ℕ) → Result (Unit {0}) RunFault → Option (List ℕ) → Type 0
 Runs Comes wants_history remaining rest old (Ok done) new =

@@ -18,7 +18,7 @@ pub enum RunFault {
     Memory,
     /// The reader failed. Nothing was run.
     Read,
-    /// The writer failed. A front of the output was written, and not all of it.
+    /// The writer failed. A beginning of the output was written, and not all of it.
     Write,
 }
 

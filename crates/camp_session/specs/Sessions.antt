@@ -19,7 +19,7 @@ pub record Snapshot : Type 0 where
   pub answer : List ℕ
 
 -- a repository is asked a text: Ok, and what answers it is that to a request of these bytes; or else commands at its
--- front were answered, and maybe one more was asked
+-- beginning were answered, and maybe one more was asked
 abbrev pub Asks : Repository → List ℕ → Result (Unit {0}) TalkFault → Repository → Type 0
 Asks before text (Ok done) after = AnswersRequest before.history text after.answer after.history
 Asks before text (Err why) after = AnswersSome before.history text after.answer after.history

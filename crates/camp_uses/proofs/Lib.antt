@@ -1,4 +1,5 @@
 pub mod Booked
+pub mod Emptied
 pub mod Kept
 pub mod Once
 pub mod Output

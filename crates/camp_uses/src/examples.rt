@@ -1,5 +1,5 @@
 //! The callers that stand in the READMEs of the crates, in their words.
-ghost use Rattle.std.specs.Prelude.{IfOk, IfSome};
+ghost use Rattle.std.specs.Prelude.{◌≡◌, IfOk, IfSome};
 ghost use Rattle.camp_base.specs.Trees.{Files};
 ghost use Rattle.camp_prim.specs.Effect.{Applies, Leads};
 
@@ -11,12 +11,14 @@ use camp_seq::{Seq, apply_all, clean_merge, norm};
 use camp_share::{Share, Shared, SharedList, SharedMap};
 use std::alloc::{AllocError, Global};
 
-/// Puts a path into a map that is shared, and takes it out again; `camp_share`.
+/// Puts a path into a map that is shared, and takes it out again: nothing is left; `camp_share`.
 pub fn put_and_remove(
     alloc: Global,
     path: &Path,
     lines: SharedList<Line>,
-) -> Result<usize, AllocError> {
+) -> Result<usize, AllocError>
+    ensures empty { IfOk result (λ count. count ≡ 0) }
+{
     let empty: SharedMap<Path, Shared<SharedList<Line>>> = SharedMap::new(alloc);
     let one = empty.inserted(path.share()?, Shared::new(alloc, lines)?)?;
     let none = one.without(path)?;
