@@ -1,8 +1,5 @@
 -- What a call passes on its way to a next state.
-use Rattle.camp_repo.proofs.Words.{◌≡◌, ℕ, Bool, true, false, List, Option, None, Some, Result, Ok, Err, refl, option_map_or, Files, Catch, Outcome, Refusal, Next, Has, Branches, Contents, after, catches_of, with_catches}
-use Rattle.camp_call.specs.declared.replies.Refusal.TheVariants.{NoBranch, NoPatch}
-use Rattle.camp_branch.specs.Branches.{first_lacked}
-use Rattle.camp_repo.specs.Steps.{Decision, accepted, becomes, record_leads, refused, refused_if, with_branch, with_patches}
+use Rattle.camp_repo.proofs.Words.{◌≡◌, ℕ, Bool, true, false, List, Option, None, Some, Result, Ok, Err, refl, option_map_or, Files, Catch, Outcome, Refusal, Next, Has, Branches, Contents, after, catches_of, with_catches, NoBranch, NoPatch, first_lacked, Decision, accepted, becomes, record_leads, refused, refused_if, with_branch, with_patches}
 
 module _ (state next : Contents) where
   has_at : (name : List ℕ) (goes_on : List Catch → Decision) (o : Option (List Catch)) → catches_of state.branches name ≡ o → option_map_or goes_on o (refused (NoBranch name)) ≡ Next next → (catches : List Catch) × Has state name catches × (goes_on catches ≡ Next next)
@@ -31,13 +28,10 @@ module _ (state next : Contents) where
   becomes_other branch (Ok catches) e = (catches, refl, e)
   becomes_other branch (Err why) e = cc
 
-  tree_at : (o : Option Files) (goes_on : Files → Decision) (refusal : Refusal) → option_map_or goes_on o (refused refusal) ≡ Next next → (tree : Files) × (o ≡ Some tree) × (goes_on tree ≡ Next next)
-  tree_at None goes_on refusal e = cc
-  tree_at (Some tree) goes_on refusal e = (tree, refl, e)
-
   -- there is a tree
   pub has_tree : (o : Option Files) (goes_on : Files → Decision) (refusal : Refusal) → option_map_or goes_on o (refused refusal) ≡ Next next → (tree : Files) × (o ≡ Some tree) × (goes_on tree ≡ Next next)
-  has_tree o goes_on refusal e = tree_at o goes_on refusal e
+  has_tree None goes_on refusal e = cc
+  has_tree (Some tree) goes_on refusal e = (tree, refl, e)
 
   -- the changes lead to a tree
   pub leads_on : (branch : List ℕ) (catches : List Catch) (led : Result Files Refusal) → record_leads state branch catches led ≡ Next next → (tree : Files) × (led ≡ Ok tree) × (accepted state (with_catches state.branches branch catches) ≡ Next next)

@@ -1,13 +1,6 @@
 -- What is known of beginnings stays so while branches grow.
-use Rattle.std.proofs.Common.{◌≡◌, ℕ, zero, suc, pred, List, [], ◌∷◌, ◌++◌, length, zip, slice_get, slice_set, Some, Result, Ok, Err, IfOk, refl, sym, ap, ◌∙◌, subst, append-nil}
-use Rattle.camp_repo.proofs.Words.{none-some, same_Some, Catch, Agree, AgreesIn, AllHold, catches_in, placed, Branches}
-use Rattle.std.specs.List.{AllByRecursion, remove}
-use Rattle.camp_branch.proofs.AgreedFronts.{agree_grown, agree_itself, agree_none}
+use Rattle.camp_repo.proofs.Words.{◌≡◌, ℕ, zero, suc, List, [], ◌∷◌, ◌++◌, length, slice_get, slice_set, Some, Result, Ok, Err, IfOk, refl, sym, ap, ◌∙◌, subst, append-nil, all_append, none-some, same_Some, Catch, Agree, AgreesIn, AllHold, catches_in, placed, Branches, AllByRecursion, remove, agree_grown, agree_itself, agree_none}
 use Rattle.camp_repo.specs.declared.beginnings.KnownBeginning.{KnownBeginning}
-
-pub all_with : {X : Type 0} (P : X → Type 0) (xs : List X) (x : X) → AllByRecursion P xs → P x → AllByRecursion P (xs ++ x ∷ [])
-all_with P [] x all is = (is, tt)
-all_with P (y ∷ xs) x all is = (all.0, all_with P xs x all.1 is)
 
 all_but : {X : Type 0} (P : X → Type 0) (xs : List X) (i : ℕ) → AllByRecursion P xs → AllByRecursion P (remove xs i)
 all_but P [] zero all = tt
@@ -23,7 +16,7 @@ all_set P [] i x all is = tt
 all_set P (y ∷ xs) zero x all is = (is, all.1)
 all_set P (y ∷ xs) (suc i) x all is = (all.0, all_set P xs i x all.1 is)
 
-pub all_same : {X : Type 0} (P : X → Type 0) (xs ys : List X) → ys ≡ xs → AllByRecursion P xs → AllByRecursion P ys
+all_same : {X : Type 0} (P : X → Type 0) (xs ys : List X) → ys ≡ xs → AllByRecursion P xs → AllByRecursion P ys
 all_same P xs ys is all = subst (AllByRecursion P) (sym is) all
 
 -- all still to come hold where all do
@@ -105,15 +98,6 @@ to_copy branches known of copy is w same =
 abbrev pub CopyHolds : List KnownBeginning → ℕ → ℕ → List KnownBeginning → Type 0
 CopyHolds known of copy rest = (branches : List (List Catch)) → AllByRecursion (AgreesIn branches) known → slice_get branches copy ≡ slice_get branches of → AllByRecursion (AgreesIn branches) rest
 
--- with what is known of a branch and its copy, both ways, behind what holds of the copy
-pub then_hold : {E : Type 0} (known : List KnownBeginning) (of copy long : ℕ) (held : List KnownBeginning) → CopyHolds known of copy held
-    → (forth : List KnownBeginning) → ((branches : List (List Catch)) → AllByRecursion (AgreesIn branches) held → AgreesIn branches (record { from = of; to = copy; long = long }) → AllByRecursion (AgreesIn branches) forth)
-    → (result : Result (List KnownBeginning) E) → IfOk result (λ all. (branches : List (List Catch)) → AllByRecursion (AgreesIn branches) forth → AgreesIn branches (record { from = copy; to = of; long = long }) → AllByRecursion (AgreesIn branches) all)
-    → IfOk result (λ all. (branches : List (List Catch)) → AllByRecursion (AgreesIn branches) known → slice_get branches copy ≡ slice_get branches of → AgreesIn branches (record { from = of; to = copy; long = long }) → AgreesIn branches (record { from = copy; to = of; long = long }) → AllByRecursion (AgreesIn branches) all)
-then_hold known of copy long held are forth and_forth (Ok all) and_back = λ branches w same one other.
-    and_back branches (and_forth branches (are branches w same) one) other
-then_hold known of copy long held are forth and_forth (Err error) and_back = tt
-
 last_at : (branches : Branches) (name : List ℕ) (catches : List Catch) → slice_get (catches_in (branches ++ (name, catches) ∷ [])) (length branches) ≡ Some catches
 last_at [] name catches = refl
 last_at (branch ∷ branches) name catches = last_at branches name catches
@@ -131,13 +115,6 @@ all_copied branches name of copy long catches at behind whole known w all then_a
     (record { theirs = catches; ours = catches; from_is = old; to_is = new; agree = same })
     (record { theirs = catches; ours = catches; from_is = new; to_is = old; agree = same })
 
--- the branches of a state in its fields
-pub zip_catches : (names : List (List ℕ)) (branches : List (List Catch)) → length names ≡ length branches → catches_in (zip names branches) ≡ branches
-zip_catches [] [] e = refl
-zip_catches [] (b ∷ bs) e = cc
-zip_catches (n ∷ ns) [] e = cc
-zip_catches (n ∷ ns) (b ∷ bs) e = ap (λ t. b ∷ t) (zip_catches ns bs (ap pred e))
-
 -- what holds where all of a list does, and one more
 abbrev pub HoldWithOne : {E : Type 0} → List KnownBeginning → KnownBeginning → Result (List KnownBeginning) E → Type 0
 HoldWithOne {E} known beginning result =
@@ -153,7 +130,7 @@ removed_hold known others i is branches w = all_without (AgreesIn branches) know
 
 pub pushed_hold : {E : Type 0} (known others : List KnownBeginning) (beginning : KnownBeginning) → RestHold known others → (result : Result (List KnownBeginning) E) → IfOk result (λ list. list ≡ others ++ beginning ∷ []) → HoldWithOne known beginning result
 pushed_hold known others beginning hold (Ok all) is = λ branches w new.
-    all_same (AgreesIn branches) (others ++ beginning ∷ []) all is (all_with (AgreesIn branches) others beginning (hold branches w) new)
+    all_same (AgreesIn branches) (others ++ beginning ∷ []) all is (all_append (AgreesIn branches) others (beginning ∷ []) (hold branches w) (new, tt))
 pushed_hold known others beginning hold (Err error) is = tt
 
 -- nothing is known at first

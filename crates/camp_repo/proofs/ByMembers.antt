@@ -1,20 +1,14 @@
 -- Pulls and obliterations go by which names are there, and not by their order or number.
-use Rattle.std.proofs.Common.{◌≡◌, ◌==◌, ℕ, suc, Bool, not, cond, nat_lt, ◌+◌, ◌||◌, List, [], ◌∷◌, filter, length, map, Ok, refl, sym, ap, ◌∙◌, subst, inl, inr, true≢false}
-use Rattle.std.specs.Prelude.{◌↔◌, Contains}
+use Rattle.camp_repo.proofs.Words.{◌≡◌, ◌==◌, ℕ, Bool, not, nat_lt, ◌+◌, ◌||◌, List, [], ◌∷◌, filter, length, Ok, refl, sym, ap, ◌∙◌, subst, inl, inr, true≢false, length-map, ◌↔◌, Contains, entries, keys, len, len-entries, Catch, is_among, name_of, names_of, ObliterateGives, Names, is_empty, is_full_with, MergesBehind, Outcome, PullGives, WantedNext, common_names, is_among_is, name_itself}
 use Rattle.std.proofs.Math.Dec.{eqb-suc-zero}
-use Rattle.std.specs.FinMap.{entries, keys, len, len-entries}
-use Rattle.camp_repo.proofs.Words.{Catch, is_among, name_of, names_of, ObliterateGives, Names, is_empty, is_full_with}
 use Rattle.camp_catch.proofs.ListResults.{arrange_by_members}
-use Rattle.camp_branch.specs.Pulling.{MergesBehind, Outcome, PullGives, WantedNext, common_names}
-use Rattle.camp_branch.proofs.Names.{is_among_is, name_itself}
 
 -- two lists of names have the same members
 abbrev pub AreAlike : List (List ℕ) → List (List ℕ) → Type 0
 AreAlike names others = (name : List ℕ) → is_among names name ≡ is_among others name
 
 filter_alike : {X : Type 0} (p q : X → Bool) → ((x : X) → p x ≡ q x) → (xs : List X) → filter p xs ≡ filter q xs
-filter_alike p q same [] = refl
-filter_alike p q same (x ∷ xs) = λ i. cond (same x i) (x ∷ filter_alike p q same xs i) (filter_alike p q same xs i)
+filter_alike p q same xs = λ i. filter (λ x. same x i) xs
 
 module _ (names others : List (List ℕ)) (alike : AreAlike names others) where
   contains_alike : (n : List ℕ) → Contains names n ↔ Contains others n
@@ -61,10 +55,6 @@ pub none_among : (names : List (List ℕ)) → is_empty names ≡ (length names 
 none_among [] = refl
 none_among (n ∷ names) = sym (eqb-suc-zero (length names))
 
-keys_long : {X : Type 0} (es : List (List ℕ × X)) → length (map (λ e. e.0) es) ≡ length es
-keys_long [] = refl
-keys_long (e ∷ es) = ap suc (keys_long es)
-
 -- a set has no name where it has no entry
 pub none_there : (set : Names) → is_empty (keys set) ≡ (len set == 0)
-none_there set = none_among (keys set) ∙ ap (λ n. n == 0) (keys_long (entries set) ∙ sym (len-entries set))
+none_there set = none_among (keys set) ∙ ap (λ n. n == 0) (length-map (entries set) (λ e. e.0) ∙ sym (len-entries set))

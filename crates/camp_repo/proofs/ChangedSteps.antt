@@ -1,8 +1,5 @@
 -- What changes lead to, one at a time.
-use Rattle.camp_repo.proofs.Words.{◌≡◌, ◌<◌, ◌+◌, ℕ, Bool, true, false, cond, List, drop, length, get_or, Option, None, Some, Result, Ok, Err, sym, ap, ◌∙◌, Files, applied, path_of, Primitive, stands_at, Refusal, changed, has_long_file, led_to, then_from}
-use Rattle.camp_prim.specs.Effect.{Applies}
-use Rattle.camp_prim.proofs.Applied.{applied-from_Applies, applied-none}
-use Rattle.camp_call.specs.declared.replies.Refusal.TheVariants.{DoesNotApply, TooLarge}
+use Rattle.camp_repo.proofs.Words.{◌≡◌, ◌<◌, ◌+◌, ℕ, Bool, true, false, cond, List, drop, length, get_or, Option, None, Some, Result, Ok, Err, sym, ap, ◌∙◌, Files, applied, path_of, Primitive, stands_at, Refusal, changed, has_long_file, led_to, then_from, Applies, applied-from_Applies, applied-none, DoesNotApply, TooLarge}
 
 module _ (changes : List Primitive) (i : ℕ) (change d : Primitive) (tree : Files) (aim : Result Files Refusal) (inv : changed (drop i changes) tree ≡ aim) (within : i < length changes) (is : change ≡ get_or changes i d) where
   here : (o : Option Files) → applied change tree ≡ o → aim ≡ then_from (led_to change o) (changed (drop (i + 1) changes))

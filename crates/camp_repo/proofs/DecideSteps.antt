@@ -1,20 +1,12 @@
 -- What the functions that decide have found, and what the step is then.
-use Rattle.std.proofs.Common.{◌≡◌, ℕ, true, false, List, ◌++◌, Option, None, Some, MatchOption, IfOk, IfErr, Result, Ok, Err, is_some, bytes_eq, refl, sym, ap, ◌∙◌}
-use Rattle.camp_repo.proofs.Words.{Files, Primitive, Catch, LeadsTo, recorded, ObliterateGives, Outcome, PullGives, conflicts_are_determined, outcomes_are_determined, Call, Refusal, Next, Answer, Has, IsLawfulState, obliterated, pulled, placed, settled, Contents, after, stands, with_catches}
+use Rattle.camp_repo.proofs.Words.{◌≡◌, ℕ, true, false, List, ◌++◌, Option, None, Some, MatchOption, Ok, Err, is_some, bytes_eq, refl, sym, ap, ◌∙◌, Files, Primitive, Catch, LeadsTo, recorded, ObliterateGives, Outcome, PullGives, conflicts_are_determined, outcomes_are_determined, Call, Refusal, Next, Answer, Has, IsLawfulState, obliterated, pulled, placed, settled, Contents, after, stands, with_catches, first_lacked, becomes, changed, is_empty, is_full_with, is_too_large, listed, record_leads, refused, step, step_obliterate, step_pull, step_record, wanted}
 use Rattle.camp_branch.specs.Conflicting.{AreConflicts}
 use Rattle.camp_call.specs.declared.calls.Call.TheVariants as call
 use Rattle.camp_call.specs.declared.replies.Reply.TheVariants as reply
-use Rattle.camp_branch.specs.Branches.{first_lacked}
-use Rattle.camp_repo.specs.Steps.{Decision, becomes, changed, is_empty, is_full_with, is_too_large, listed, record_leads, refused, step, step_obliterate, step_pull, step_record, wanted}
 use Rattle.camp_repo.proofs.ByMembers.{AreAlike, obliterate_alike, pull_alike}
 use Rattle.camp_repo.proofs.StateSteps.{settled_by_name}
 use Rattle.camp_repo.proofs.StepsLawful.{steps_lawful}
 use Rattle.camp_repo.proofs.TreeSteps.{tree_found}
-
--- where a call may want memory, it may want it whatever it comes to
-pub may_want : {A E : Type 0} {W : Type 0} (result : Result A E) → W → IfErr result (λ error. W)
-may_want (Ok done) w = tt
-may_want (Err error) w = w
 
 -- what no match finds
 pub none_found : {X : Type 0} (P : Type 0) (Q : X → Type 0) (o : Option X) → MatchOption o P Q → is_some o ≡ false → P
@@ -75,10 +67,6 @@ module _ (state : Contents) (from to : List ℕ) (names : Option (List (List ℕ
         pub pull_settles : settled state place outcome ≡ step_pull state from to names
         pull_settles = settled_by_name state to place outcome there ∙ pull_comes
 
-        pub pull_keeps : IsLawfulState state → (catches : List Catch) → outcome ≡ Ok catches → IsLawfulState (after state (placed state.branches place catches))
-        pull_keeps lawful catches is =
-            next_lawful state (call.Pull from to names) _ lawful (ap (settled state place) (sym is) ∙ pull_settles)
-
 module _ (state : Contents) (branch : List ℕ) (names : List (List ℕ)) (catches : List Catch) (has : Has state branch catches) (all : first_lacked catches names ≡ None) (some : is_empty names ≡ false) (set : List (List ℕ)) (alike : AreAlike set names) (outcome : Outcome) (gives : ObliterateGives catches set outcome) where
   is_obliterated : outcome ≡ obliterated catches names
   is_obliterated =
@@ -91,7 +79,3 @@ module _ (state : Contents) (branch : List ℕ) (names : List (List ℕ)) (catch
   module _ (place : ℕ) (there : (other : List Catch) → placed state.branches place other ≡ with_catches state.branches branch other) where
     pub obliterate_settles : settled state place outcome ≡ step_obliterate state branch names
     obliterate_settles = settled_by_name state branch place outcome there ∙ obliterate_comes
-
-    pub obliterate_keeps : IsLawfulState state → (left : List Catch) → outcome ≡ Ok left → IsLawfulState (after state (placed state.branches place left))
-    obliterate_keeps lawful left is =
-        next_lawful state (call.Obliterate branch names) _ lawful (ap (settled state place) (sym is) ∙ obliterate_settles)

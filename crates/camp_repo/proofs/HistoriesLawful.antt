@@ -1,8 +1,7 @@
 -- The state behind a legal history of calls.
-use Rattle.camp_repo.proofs.Words.{◌≡◌, ℕ, List, [], ◌∷◌, Option, None, Some, subst, refl, same_Some, option_and_then, Call, Next, Answer, IsLawfulState, repository_is_lawful, Contents, initial, Decision, step}
+use Rattle.camp_repo.proofs.Words.{◌≡◌, ℕ, List, [], ◌∷◌, Option, None, Some, subst, refl, same_Some, option_and_then, Call, Next, Answer, IsLawfulState, repository_is_lawful, Contents, initial, Decision, step, HistoriesAreCounted, HistoriesAreLawful, HistoriesTellTrees}
 use Rattle.camp_object.specs.Histories.{run}
 use Rattle.camp_object.proofs.Replays.{count-replay}
-use Rattle.camp_repo.specs.Laws.{HistoriesAreCounted, HistoriesAreLawful, HistoriesTellTrees}
 use Rattle.camp_repo.specs.Objects.{next_of, repository}
 use Rattle.camp_repo.proofs.StepsLawful.{initial_lawful, steps_lawful, trees_answered}
 

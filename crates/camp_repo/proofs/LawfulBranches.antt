@@ -1,11 +1,7 @@
 -- Branches in which each name goes with its number of changes.
-use Rattle.std.proofs.Common.{◌≡◌, ◌≤◌, ℕ, false, not, if◌then◌else◌, cond, List, [], ◌∷◌, ◌++◌, Ok, length, bytes_eq, refl, sym, ap, ◌∙◌}
-use Rattle.camp_repo.proofs.Words.{empty, AllByRecursion, Files, Primitive, Catch, ObliterateGives, PullGives, IsLawfulBy}
+use Rattle.camp_repo.proofs.Words.{◌≡◌, ◌≤◌, ℕ, false, not, if◌then◌else◌, cond, List, [], ◌∷◌, ◌++◌, Ok, length, bytes_eq, refl, sym, ap, ◌∙◌, empty, AllByRecursion, Files, Primitive, Catch, ObliterateGives, PullGives, IsLawfulBy, AppliesEach, AreLacked, others_of, those_of, left_tree, pulled_tree, recorded_tree, all_append, all_filter, name_itself, or_parts}
 use Rattle.camp_branch.specs.Branches.{IsLawfulBranch as IsLawfulBranch, LeadsTo, Patch, has_patch, is_among, patch_names, recorded}
-use Rattle.camp_branch.specs.Laws.{AppliesEach, AreLacked, others_of, those_of}
 use Rattle.camp_branch.proofs.BranchLabels.{left_patches, not_a_patch, pulled_patches, recorded_patches}
-use Rattle.camp_branch.proofs.BranchTrees.{left_tree, pulled_tree, recorded_tree}
-use Rattle.camp_branch.proofs.Names.{all_append, all_filter, name_itself, or_parts}
 
 -- a branch that is lawful by some numbers is lawful
 pub lawful_alone : (changes_of : List ℕ → ℕ) (catches : List Catch) → IsLawfulBy changes_of catches → IsLawfulBranch catches

@@ -1,59 +1,33 @@
 -- Sets of names, filled one name at a time, and names that a branch lacks.
-use Rattle.std.proofs.Common.{◌≡◌, ◌<◌, ◌≤◌, ◌+◌, ℕ, arith, suc, Bool, true, false, not, cond, ◌||◌, ◌&&◌, true≢false, None, Some, List, [], ◌∷◌, ◌++◌, take, drop, length, map, is_some, get_or, bytes_eq, refl, sym, ap, ◌∙◌}
-use Rattle.std.proofs.lemmas.List.{length-append, take-append-drop}
+use Rattle.camp_repo.proofs.Words.{◌≡◌, ◌<◌, ◌≤◌, ◌+◌, ℕ, arith, suc, Bool, true, false, not, cond, ◌||◌, ◌&&◌, true≢false, None, Some, List, [], ◌∷◌, ◌++◌, take, drop, length, map, get_or, bytes_eq, refl, sym, ap, ◌∙◌, cond_both, length-append, take-append-drop, contains_key, Catch, stands_at, has_patch, is_among, name_of, names_of, Agree, AreLacked, catches_named, first_lacked, wanted, agreed_has, split_has, Names, and_false, one_added, with_name, name_itself, or_true, among_kept, among_once}
 use Rattle.std.proofs.lemmas.List.Elements.{filter-append}
-use Rattle.std.specs.FinMap.{contains_key, empty, get-empty, keys}
-use Rattle.camp_repo.proofs.Words.{nat_cmp, slice_cmp, Catch, stands_at, has_patch, is_among, name_of, names_of, Agree, AreLacked, catches_named, first_lacked, wanted}
-use Rattle.camp_branch.proofs.AgreedFronts.{agreed_has, split_has}
-use Rattle.camp_branch.proofs.BranchFields.{Names}
-use Rattle.camp_branch.proofs.NameSets.{and_false, has_listed, one_added, or_none, with_name}
-pub use Rattle.camp_branch.proofs.NameSets.{IsFilled, all_filled, first_from, none_filled, one_listed}
-use Rattle.camp_branch.proofs.Names.{name_itself, or_true}
-use Rattle.camp_branch.proofs.NamesKept.{among_kept, among_once}
+pub use Rattle.camp_branch.proofs.NameSets.{IsFilled, all_filled, none_filled, one_listed}
 
--- what is wanted from a place on
-pub wanted_from : (ours : List Catch) (names : List (List ℕ)) (i : ℕ) (n d : List ℕ) (b : Bool) → i < length names → n ≡ get_or names i d → has_patch ours n ≡ b → wanted ours (drop i names) ≡ cond b (wanted ours (drop (i + 1) names)) (n ∷ wanted ours (drop (i + 1) names))
-wanted_from ours names i n d b within is has =
-    ap (wanted ours) (stands_at names i d n within is) ∙ ap (λ c. cond (not c) (n ∷ wanted ours (drop (i + 1) names)) (wanted ours (drop (i + 1) names))) has ∙ turned b
-  where
-    turned : (b : Bool) → cond (not b) (n ∷ wanted ours (drop (i + 1) names)) (wanted ours (drop (i + 1) names)) ≡ cond b (wanted ours (drop (i + 1) names)) (n ∷ wanted ours (drop (i + 1) names))
-    turned true = refl
-    turned false = refl
+-- what is wanted of a name and others
+wanted_next : (ours : List Catch) (n : List ℕ) (names : List (List ℕ)) (b : Bool) → has_patch ours n ≡ b → wanted ours (n ∷ names) ≡ cond b (wanted ours names) (n ∷ wanted ours names)
+wanted_next ours n names true has = ap (λ c. cond (not c) (n ∷ wanted ours names) (wanted ours names)) has
+wanted_next ours n names false has = ap (λ c. cond (not c) (n ∷ wanted ours names) (wanted ours names)) has
 
 -- the name at a place is lacked, and comes into the set
 pub one_wanted : (ours : List Catch) (set next : Names) (names : List (List ℕ)) (i : ℕ) (n d : List ℕ) (aim : List ℕ → Bool) → IsFilled set (wanted ours (drop i names)) aim → i < length names → n ≡ get_or names i d → has_patch ours n ≡ false → next ≡ with_name set n → IsFilled next (wanted ours (drop (i + 1) names)) aim
 one_wanted ours set next names i n d aim inv within is has becomes =
     one_added set next n (wanted ours (drop (i + 1) names)) aim
-    (λ name. ap (λ r. contains_key set name || is_among r name) (sym (wanted_from ours names i n d false within is has)) ∙ inv name) becomes
-
--- the name at a place is not lacked
-pub one_passed : (ours : List Catch) (set : Names) (names : List (List ℕ)) (i : ℕ) (n d : List ℕ) (aim : List ℕ → Bool) → IsFilled set (wanted ours (drop i names)) aim → i < length names → n ≡ get_or names i d → has_patch ours n ≡ true → IsFilled set (wanted ours (drop (i + 1) names)) aim
-one_passed ours set names i n d aim inv within is has name =
-    ap (λ r. contains_key set name || is_among r name) (sym (wanted_from ours names i n d true within is has)) ∙ inv name
+    (λ name. ap (λ r. contains_key set name || is_among r name) (sym (ap (wanted ours) (stands_at names i d n within is) ∙ wanted_next ours n (drop (i + 1) names) false has)) ∙ inv name) becomes
 
 -- a branch has the patches of all its names
 all_there : (catches : List Catch) (names : List (List ℕ)) → ((name : List ℕ) → is_among names name ≡ true → has_patch catches name ≡ true) → first_lacked catches names ≡ None
 all_there catches [] has = refl
 all_there catches (n ∷ names) has =
-    ap (λ b. cond b (first_lacked catches names) (Some n)) (has n (here n names)) ∙ all_there catches names (λ name among. has name (ap (λ b. bytes_eq name n || b) among ∙ or_true (bytes_eq name n)))
-  where
-    or_true : (b : Bool) → (b || true) ≡ true
-    or_true true = refl
-    or_true false = refl
-
-    here : (n : List ℕ) (names : List (List ℕ)) → is_among (n ∷ names) n ≡ true
-    here n names = ap (λ b. b || is_among names n) (name_itself n)
+    ap (λ b. cond b (first_lacked catches names) (Some n)) (has n (ap (λ b. b || is_among names n) (name_itself n))) ∙ all_there catches names (λ name among. has name (or_true (bytes_eq name n) (is_among names name) among))
 
 pub none_lacked : (catches : List Catch) → first_lacked catches (names_of catches) ≡ None
 none_lacked catches = all_there catches (names_of catches) (λ name among. sym (among_once (map name_of catches) name) ∙ among)
 
 named_few : (names : List (List ℕ)) (catches : List Catch) → length (catches_named names catches) ≤ length catches
 named_few names [] = omega arith
-named_few names (k ∷ catches) = few_at (is_among names (name_of k)) (named_few names catches)
-  where
-    few_at : (b : Bool) → length (catches_named names catches) ≤ length catches → length (cond b (k ∷ catches_named names catches) (catches_named names catches)) ≤ suc (length catches)
-    few_at true few = omega arith
-    few_at false few = omega arith
+named_few names (k ∷ catches) =
+    let few = named_few names catches in
+    cond_both (is_among names (name_of k)) (k ∷ catches_named names catches) (catches_named names catches) (λ l. length l ≤ suc (length catches)) (λ e. omega arith) (λ e. omega arith)
 
 module _ (names : List (List ℕ)) (all rest more : List Catch) (k : Catch) (count : ℕ) (inv : count + length (catches_named names rest) ≡ length (catches_named names all)) (steps : rest ≡ k ∷ more) where
   counted_at : (b : Bool) → is_among names (name_of k) ≡ b → length (catches_named names rest) ≡ length (cond b (k ∷ catches_named names more) (catches_named names more))
@@ -87,11 +61,7 @@ wanted_behind_fronts theirs ours m agree name =
 
 wanted_step : (ours : List Catch) (rest more : List Catch) (k : Catch) (b : Bool) → rest ≡ k ∷ more → has_patch ours (name_of k) ≡ b → wanted ours (map name_of rest) ≡ cond b (wanted ours (map name_of more)) (name_of k ∷ wanted ours (map name_of more))
 wanted_step ours rest more k b steps has =
-    ap (λ l. wanted ours (map name_of l)) steps ∙ ap (λ c. cond (not c) (name_of k ∷ wanted ours (map name_of more)) (wanted ours (map name_of more))) has ∙ turned b
-  where
-    turned : (b : Bool) → cond (not b) (name_of k ∷ wanted ours (map name_of more)) (wanted ours (map name_of more)) ≡ cond b (wanted ours (map name_of more)) (name_of k ∷ wanted ours (map name_of more))
-    turned true = refl
-    turned false = refl
+    ap (λ l. wanted ours (map name_of l)) steps ∙ wanted_next ours (name_of k) (map name_of more) b has
 
 -- the patch of the next catch is lacked, and its name comes into the set
 pub catch_wanted : (ours : List Catch) (set next : Names) (rest more : List Catch) (k : Catch) (n : List ℕ) (aim : List ℕ → Bool) → IsFilled set (wanted ours (map name_of rest)) aim → rest ≡ k ∷ more → n ≡ name_of k → has_patch ours n ≡ false → next ≡ with_name set n → IsFilled next (wanted ours (map name_of more)) aim

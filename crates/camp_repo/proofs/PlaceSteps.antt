@@ -1,13 +1,9 @@
 -- Names and branches side by side.
-use Rattle.camp_repo.proofs.Words.{◌≡◌, ◌<◌, ◌+◌, ℕ, zero, suc, pred, Bool, true, false, cond, List, [], ◌∷◌, ◌++◌, length, zip, position, slice_get, slice_set, None, Some, bytes_eq, arith, refl, sym, ap, ◌∙◌, ◌||◌, subst, none-some, same_Some, Catch, has_patch, placed, catches_of, stands, with_catches}
+use Rattle.camp_repo.proofs.Words.{◌≡◌, ◌<◌, ◌+◌, ℕ, zero, suc, pred, true, false, cond, List, [], ◌∷◌, ◌++◌, length, zip, position, slice_get, slice_set, None, Some, bytes_eq, arith, refl, sym, ap, ◌∙◌, ◌||◌, subst, none-some, same_Some, Catch, has_patch, placed, catches_of, stands, with_catches, cond_both, length-map, seconds-zip, list_any, position_from}
 use Rattle.std.proofs.lemmas.Iterator.Adapters.{position_from-zero}
-use Rattle.std.specs.List.{list_any, position_from}
 
 pub as_long : (names : List (List ℕ)) (branches : List (List Catch)) → length names ≡ length branches → length (zip names branches) ≡ length branches
-as_long [] [] e = refl
-as_long [] (b ∷ bs) e = cc
-as_long (n ∷ ns) [] e = cc
-as_long (n ∷ ns) (b ∷ bs) e = ap suc (as_long ns bs (ap pred e))
+as_long names branches e = sym (length-map (zip names branches) (λ (b : List ℕ × List Catch). b.1)) ∙ ap length (seconds-zip names branches (sym e))
 
 -- the branches with one more
 pub zip_grown : (names : List (List ℕ)) (branches : List (List Catch)) (n : List ℕ) (b : List Catch) → length names ≡ length branches → zip (names ++ n ∷ []) (branches ++ b ∷ []) ≡ zip names branches ++ (n, b) ∷ []
@@ -53,20 +49,13 @@ stands_later n names b branches name place there later =
       becomes = λ catches. ap (λ t. (n, b) ∷ t) (later.becomes catches) ∙ sym (ap (λ t. cond t ((n, catches) ∷ zip names branches) ((n, b) ∷ with_catches (zip names branches) name catches)) there);
     }
 
-found_at : (n : List ℕ) (names : List (List ℕ)) (b : List Catch) (branches : List (List Catch)) (name : List ℕ) (i j : ℕ) (t : Bool) → bytes_eq name n ≡ t → cond t (Some i) (position_from (bytes_eq name) (i + 1) names) ≡ Some j → (position_from (bytes_eq name) (i + 1) names ≡ Some j → (place : ℕ) × (j ≡ i + 1 + place) × StandsAt names branches name place) → (place : ℕ) × (j ≡ i + place) × StandsAt (n ∷ names) (b ∷ branches) name place
-found_at n names b branches name i j true here e more =
-    let same = same_Some _ _ e in
-    (0, (omega arith), stands_first n names b branches name here)
-found_at n names b branches name i j false there e more =
-    let w = more e in
-    let sum = w.1 in
-    (suc w.0, (omega arith), stands_later n names b branches name w.0 there w.2)
-
 found_from : (names : List (List ℕ)) (branches : List (List Catch)) (name : List ℕ) (i j : ℕ) → length names ≡ length branches → position_from (bytes_eq name) i names ≡ Some j → (place : ℕ) × (j ≡ i + place) × StandsAt names branches name place
 found_from [] branches name i j long e = absurd (none-some j e)
 found_from (n ∷ names) [] name i j long e = cc
 found_from (n ∷ names) (b ∷ branches) name i j long e =
-    found_at n names b branches name i j (bytes_eq name n) refl e (found_from names branches name (i + 1) j (ap pred long))
+    cond_both (bytes_eq name n) (Some i) (position_from (bytes_eq name) (i + 1) names) (λ o. o ≡ Some j → (place : ℕ) × (j ≡ i + place) × StandsAt (n ∷ names) (b ∷ branches) name place)
+    (λ here at. let same = same_Some _ _ at in (0, (omega arith), stands_first n names b branches name here))
+    (λ there at. let w = found_from names branches name (i + 1) j (ap pred long) at in let sum = w.1 in (suc w.0, (omega arith), stands_later n names b branches name w.0 there w.2)) e
 
 missing_from : (names : List (List ℕ)) (branches : List (List Catch)) (name : List ℕ) (i : ℕ) → position_from (bytes_eq name) i names ≡ None → catches_of (zip names branches) name ≡ None
 missing_from [] branches name i e = none_zipped branches
@@ -76,11 +65,9 @@ missing_from [] branches name i e = none_zipped branches
     none_zipped (c ∷ bs) = refl
 missing_from (n ∷ names) [] name i e = refl
 missing_from (n ∷ names) (b ∷ branches) name i e =
-    missing_at (bytes_eq name n) refl e (missing_from names branches name (i + 1))
-  where
-    missing_at : (t : Bool) → bytes_eq name n ≡ t → cond t (Some i) (position_from (bytes_eq name) (i + 1) names) ≡ None → (position_from (bytes_eq name) (i + 1) names ≡ None → catches_of (zip names branches) name ≡ None) → cond t (Some b) (catches_of (zip names branches) name) ≡ None
-    missing_at true here e more = absurd (none-some i (sym e))
-    missing_at false there e more = more e
+    cond_both (bytes_eq name n) (Some i) (position_from (bytes_eq name) (i + 1) names) (λ o. o ≡ None → cond (bytes_eq name n) (Some b) (catches_of (zip names branches) name) ≡ None)
+    (λ here at. absurd (none-some i (sym at)))
+    (λ there at. ap (λ t. cond t (Some b) (catches_of (zip names branches) name)) there ∙ missing_from names branches name (i + 1) at) e
 
 -- the place that a search finds
 pub found : (names : List (List ℕ)) (branches : List (List Catch)) (name : List ℕ) (place : ℕ) → length names ≡ length branches → position (bytes_eq name) names ≡ Some place → StandsAt names branches name place

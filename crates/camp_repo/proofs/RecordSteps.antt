@@ -1,6 +1,5 @@
 -- The state after an accepted record.
-use Rattle.camp_repo.proofs.Words.{◌≡◌, ℕ, false, List, ◌++◌, Ok, sym, subst, Files, Primitive, Catch, LeadsTo, has_patch, recorded, AppliesEach, Has, IsLawfulState, placed, Contents, after, stands, with_catches, changed, is_too_large}
-use Rattle.camp_branch.proofs.KeepLawful.{trees_are_determined}
+use Rattle.camp_repo.proofs.Words.{◌≡◌, ℕ, false, List, ◌++◌, Ok, sym, subst, Files, Primitive, Catch, LeadsTo, has_patch, recorded, AppliesEach, Has, IsLawfulState, placed, Contents, after, stands, with_catches, changed, is_too_large, trees_are_determined}
 use Rattle.camp_call.specs.declared.calls.Call.TheVariants as call
 use Rattle.camp_repo.proofs.BranchSteps.{free_of_each, of_one}
 use Rattle.camp_repo.proofs.DecideSteps.{next_lawful, record_accepted}

@@ -1,18 +1,12 @@
 -- The size of a patch, as a test and as a fact.
-use Rattle.camp_repo.proofs.Words.{◌≡◌, ℕ, ◌≤◌, ◌+◌, ◌∙◌, true, false, Bool, not, ◌&&◌, ◌||◌, List, [], length, drop, Option, nat_le, nat_lt, refl, sym, ap, subst, arith, list_any, option_map_or, Files, Primitive, Catch, Agree, AreLacked, is_among, name_of, path_of, has_long_file, is_full_with}
-use Rattle.std.specs.Prelude.{◌-◌}
-use Rattle.std.proofs.lemmas.Bool.{leb-true}
+use Rattle.camp_repo.proofs.Words.{◌≡◌, ℕ, ◌≤◌, ◌+◌, ◌∙◌, true, false, Bool, not, ◌&&◌, ◌||◌, List, [], length, drop, Option, nat_le, nat_lt, refl, sym, ap, subst, arith, list_any, option_map_or, Files, Primitive, Catch, Agree, AreLacked, is_among, name_of, path_of, has_long_file, is_full_with, ◌-◌, leb-true, length-drop, Lines, Applies, has_long_side, is_patch_sized, is_too_large, longest_file, most_catches}
 use Rattle.std.proofs.lemmas.Bool.Decides.{nat_tests}
-use Rattle.std.proofs.lemmas.List.{length-drop}
 use Rattle.std.proofs.lemmas.List.Sums.{count_by-le-length, length-filter}
-use Rattle.camp_base.specs.Trees.{Lines}
 use Rattle.camp_prim.proofs.Maps.{get_inserted, get_removed}
-use Rattle.camp_prim.specs.Effect.{Applies}
 use Rattle.camp_prim.specs.Hunks.{Edit}
 use Rattle.camp_prim.specs.declared.primitives.Primitive.TheVariants.{Add, Hunk, Remove}
 use Rattle.camp_repo.proofs.NameSteps.{named_behind}
 use Rattle.camp_call.specs.Patches.{IsPatchSized}
-use Rattle.camp_repo.specs.Steps.{has_long_side, is_patch_sized, is_too_large, longest_file, most_catches}
 
 -- what passes both tests
 both : (a b : Bool) → a && b ≡ true → (a ≡ true) × (b ≡ true)

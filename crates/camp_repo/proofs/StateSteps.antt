@@ -1,6 +1,5 @@
 -- How the fields of a state become those of the next.
-use Rattle.std.proofs.Common.{◌≡◌, ◌+◌, ℕ, zero, suc, pred, false, cond, List, [], ◌∷◌, ◌++◌, length, zip, slice_set, None, Ok, Err, bytes_eq, codes, refl, sym, ap, ◌∙◌}
-use Rattle.camp_repo.proofs.Words.{AllZip, list_any, Catch, Outcome, names_of_branches, placed, settled, Contents, after, catches_of, initial, with_catches, accepted, becomes}
+use Rattle.camp_repo.proofs.Words.{◌≡◌, ◌+◌, ℕ, zero, suc, false, cond, List, [], ◌∷◌, ◌++◌, length, zip, slice_set, None, Ok, Err, bytes_eq, codes, refl, sym, ap, ◌∙◌, AllZip, list_any, Catch, Outcome, placed, settled, Contents, after, catches_of, initial, with_catches, accepted, becomes, length_push, firsts-zip}
 use Rattle.camp_repo.proofs.BranchSteps.{absent}
 use Rattle.camp_repo.proofs.PlaceSteps.{as_long, zip_grown, zip_placed}
 
@@ -8,16 +7,6 @@ pub set_long : (branches : List (List Catch)) (i : ℕ) (b : List Catch) → len
 set_long [] i b = refl
 set_long (c ∷ bs) zero b = refl
 set_long (c ∷ bs) (suc i) b = ap suc (set_long bs i b)
-
-pub grown_long : {X : Type 0} (xs : List X) (x : X) → length (xs ++ x ∷ []) ≡ suc (length xs)
-grown_long [] x = refl
-grown_long (y ∷ xs) x = ap suc (grown_long xs x)
-
-zip_names : (names : List (List ℕ)) (branches : List (List Catch)) → length names ≡ length branches → names_of_branches (zip names branches) ≡ names
-zip_names [] [] e = refl
-zip_names [] (b ∷ bs) e = cc
-zip_names (n ∷ ns) [] e = cc
-zip_names (n ∷ ns) (b ∷ bs) e = ap (λ t. n ∷ t) (zip_names ns bs (ap pred e))
 
 -- a clone of names is the same names
 pub same_clones : (names clones : List (List ℕ)) → AllZip (λ name clone. clone ≡ name) names clones → clones ≡ names
@@ -46,7 +35,7 @@ module _ (names : List (List ℕ)) (branches : List (List Catch)) (count : ℕ) 
   module _ (name : List ℕ) (branch : List Catch) (cloned next_names : List (List ℕ)) (next_branches : List (List Catch)) (fresh : catches_of now.branches name ≡ None) (clone : AllZip (λ one other. other ≡ one) names cloned) (inserted : next_names ≡ cond (list_any (bytes_eq name) cloned) cloned (cloned ++ name ∷ [])) (pushed : next_branches ≡ branches ++ branch ∷ []) where
     not_there : list_any (bytes_eq name) names ≡ false
     not_there =
-        ap (list_any (bytes_eq name)) (sym (zip_names names branches long)) ∙ absent (zip names branches) name (ap (λ bs. catches_of bs name) same_branches ∙ fresh)
+        ap (list_any (bytes_eq name)) (sym (firsts-zip names branches (sym long))) ∙ absent (zip names branches) name (ap (λ bs. catches_of bs name) same_branches ∙ fresh)
 
     next_keys : next_names ≡ names ++ name ∷ []
     next_keys =
@@ -54,7 +43,7 @@ module _ (names : List (List ℕ)) (branches : List (List Catch)) (count : ℕ) 
 
     pub grown_as_long : length next_names ≡ length next_branches
     grown_as_long =
-        ap length next_keys ∙ grown_long names name ∙ ap suc long ∙ sym (grown_long branches branch) ∙ ap length (sym pushed)
+        ap length next_keys ∙ length_push names name ∙ ap (λ n. n + 1) long ∙ sym (length_push branches branch) ∙ ap length (sym pushed)
 
     pub grown_state : record { branches = zip next_names next_branches; count = count + 1 } ≡ after now (now.branches ++ (name, branch) ∷ [])
     grown_state =

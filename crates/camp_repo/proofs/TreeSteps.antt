@@ -1,10 +1,7 @@
 -- The tree of a branch as a function, and what changes lead to.
-use Rattle.camp_repo.proofs.Words.{◌≡◌, Bool, true, false, cond, List, [], ◌∷◌, Option, None, Some, Result, Ok, Err, refl, sym, ap, ◌∙◌, empty, option_and_then, Files, applied, path_of, Primitive, Catch, LeadsTo, AppliesEach, Refusal, changed, has_long_file, led_to, then_from}
+use Rattle.camp_repo.proofs.Words.{◌≡◌, Bool, true, false, cond, List, [], ◌∷◌, Option, None, Some, Result, Ok, Err, refl, sym, ap, ◌∙◌, empty, option_and_then, Files, applied, path_of, Primitive, Catch, LeadsTo, AppliesEach, Refusal, changed, has_long_file, led_to, then_from, Applies-from_applied, applied-from_Applies, tree_of_effects, tree_after, tree_of}
 use Rattle.camp_prim.specs.declared.named.Named.{Named}
-use Rattle.camp_prim.proofs.Applied.{Applies-from_applied, applied-from_Applies}
 use Rattle.camp_seq.specs.Running.{AppliesAll}
-use Rattle.camp_branch.proofs.BranchTrees.{tree_of_effects}
-use Rattle.camp_repo.specs.States.{tree_after, tree_of}
 
 -- what primitives lead to is what the function gives
 pub leads_after : (ps : List Named) (old new : Files) → AppliesAll ps old new → tree_after old ps ≡ Some new

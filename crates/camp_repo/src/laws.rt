@@ -2,6 +2,7 @@ ghost use Rattle.camp_repo.specs.Laws.{AcceptedCallsHaveEffect, HistoriesAreCoun
 ghost use Rattle.camp_repo.specs.Laws.{InitialIsLawful, OutcomesAreDefined, RepositoryIsLawful, StepsKeepLawful, TreesAreAnswered};
 
 /// A new repository is lawful.
+#[tactic(auto, using(crate::proofs::StepsLawful::initial_lawful))]
 pub fn initial_is_lawful()
     ensures law { InitialIsLawful }
 {}
@@ -31,6 +32,7 @@ pub fn histories_tell_trees()
 
 /// A state counts the calls of the history that leads to it: the number that an accepted call is told
 /// is its place in the history, from 1.
+#[tactic(auto, using(crate::proofs::HistoriesLawful::histories_counted))]
 pub fn histories_are_counted()
     ensures law { HistoriesAreCounted }
 {}
@@ -42,12 +44,14 @@ pub fn trees_are_answered()
 
 /// What a pull, an obliteration and the question for conflicts come to is what the definitions of
 /// branches say.
+#[tactic(auto, using(crate::proofs::Effects::outcomes_defined))]
 pub fn outcomes_are_defined()
     ensures law { OutcomesAreDefined }
 {}
 
 /// The repository is an object: it counts its accepted calls, and only calls that write are
 /// accepted.
+#[tactic(auto, using(crate::specs::ObjectLaws::repository_is_lawful))]
 pub fn repository_is_lawful()
     ensures law { RepositoryIsLawful }
 {}

@@ -2,26 +2,14 @@
 use Rattle.camp_row.proofs.Words.{arith, length, length-append, ◌≡◌, ◌⊎◌, inl, inr, List, [], ◌∷◌, ◌++◌, sym, refl, ap, ◌∙◌, append-nil, append_assoc, append_cancel_left, IsBeginning, IsShorter}
 
 module _ {A : Type 0} where
-  pub cons_head : (x y : A) (xs ys : List A) → x ∷ xs ≡ y ∷ ys → x ≡ y
-  cons_head x y xs ys e = cc
-
-  pub cons_tail : (x y : A) (xs ys : List A) → x ∷ xs ≡ y ∷ ys → xs ≡ ys
-  cons_tail x y xs ys e = cc
-
   pub begins_refl : (xs : List A) → IsBeginning xs xs
   begins_refl xs = record { rest = []; is = append-nil xs }
 
   pub begins_nil : (xs : List A) → IsBeginning [] xs
   begins_nil xs = record { rest = xs; is = refl }
 
-  pub begins_append : (xs ys : List A) → IsBeginning xs (xs ++ ys)
-  begins_append xs ys = record { rest = ys; is = refl }
-
-  pub begins_trans : (xs ys zs : List A) → IsBeginning xs ys → IsBeginning ys zs → IsBeginning xs zs
-  begins_trans xs ys zs f g = record { rest = f.rest ++ g.rest; is = sym (append_assoc xs f.rest g.rest) ∙ (ap (λ l. l ++ g.rest) f.is ∙ g.is) }
-
   pub begins_push : (xs ys : List A) (y : A) → IsBeginning xs ys → IsBeginning xs (ys ++ y ∷ [])
-  begins_push xs ys y f = begins_trans xs ys (ys ++ y ∷ []) f (begins_append ys (y ∷ []))
+  begins_push xs ys y f = record { rest = f.rest ++ y ∷ []; is = sym (append_assoc xs f.rest (y ∷ [])) ∙ ap (λ l. l ++ y ∷ []) f.is }
 
   pub shorter_begins : (xs ys : List A) → IsShorter xs ys → IsBeginning xs ys
   shorter_begins xs ys s = record { rest = s.next ∷ s.rest; is = s.is }
@@ -59,12 +47,12 @@ module _ {A : Type 0} where
   -- a list with one element more, cut at an element: at the last one, or before
   pub cut_push : (before : List A) (x : A) (after xs : List A) (y : A) → before ++ x ∷ after ≡ xs ++ y ∷ []
       → ((before ≡ xs) × (x ≡ y)) ⊎ ((shorter : List A) × (before ++ x ∷ shorter ≡ xs))
-  cut_push [] x after [] y e = inl (refl, cons_head x y after [] e)
-  cut_push [] x after (z ∷ xs) y e = inr (xs, (λ k. cons_head x z after (xs ++ y ∷ []) e k ∷ xs))
-  cut_push (b ∷ before) x after [] y e = absurd (no_cut before x after (cons_tail b y (before ++ x ∷ after) [] e))
+  cut_push [] x after [] y e = inl (refl, (cc))
+  cut_push [] x after (z ∷ xs) y e = inr (xs, (cc))
+  cut_push (b ∷ before) x after [] y e = absurd (no_cut before x after (cc))
   cut_push (b ∷ before) x after (z ∷ xs) y e =
-      let first : b ≡ z = cons_head b z (before ++ x ∷ after) (xs ++ y ∷ []) e in
-      elim (cut_push before x after xs y (cons_tail b z (before ++ x ∷ after) (xs ++ y ∷ []) e)) [
+      let first : b ≡ z = cc in
+      elim (cut_push before x after xs y (cc)) [
         | inl same ↦ inl ((λ k. first k ∷ same.0 k), same.1)
         | inr more ↦ inr (more.0, λ k. first k ∷ more.1 k)
       ]
@@ -73,15 +61,14 @@ module _ {A : Type 0} where
   pub beginnings_meet : (xs ys whole : List A) → IsBeginning xs whole → IsBeginning ys whole → (IsBeginning xs ys) ⊎ (IsShorter ys xs)
   beginnings_meet [] ys whole f g = inl (begins_nil ys)
   beginnings_meet (x ∷ xs) [] whole f g = inr (record { next = x; rest = xs; is = refl })
-  beginnings_meet (x ∷ xs) (y ∷ ys) [] f g = absurd (let e : x ∷ (xs ++ f.rest) ≡ [] = f.is in cc)
-  beginnings_meet (x ∷ xs) (y ∷ ys) (z ∷ whole) f g =
-      let a : x ≡ z = cons_head x z (xs ++ f.rest) whole f.is in
-      let b : y ≡ z = cons_head y z (ys ++ g.rest) whole g.is in
-      elim (beginnings_meet xs ys whole (record { rest = f.rest; is = cons_tail x z (xs ++ f.rest) whole f.is }) (record { rest = g.rest; is = cons_tail y z (ys ++ g.rest) whole g.is })) [
-        | inl h ↦ inl (record { rest = h.rest; is = λ k. (a ∙ sym b) k ∷ h.is k })
-        | inr h ↦ inr (record { next = h.next; rest = h.rest; is = λ k. (b ∙ sym a) k ∷ h.is k })
+  beginnings_meet (x ∷ xs) (y ∷ ys) whole f g =
+      let e : x ∷ (xs ++ f.rest) ≡ y ∷ (ys ++ g.rest) = f.is ∙ sym g.is in
+      let same : x ≡ y = cc in
+      elim (beginnings_meet xs ys (xs ++ f.rest) (record { rest = f.rest; is = refl }) (record { rest = g.rest; is = cc })) [
+        | inl h ↦ inl (record { rest = h.rest; is = λ k. same k ∷ h.is k })
+        | inr h ↦ inr (record { next = h.next; rest = h.rest; is = λ k. sym same k ∷ h.is k })
       ]
 
   -- what follows a beginning of a list is one list
   pub next_is : (xs : List A) (x y : A) (later rest whole : List A) → xs ++ x ∷ later ≡ whole → xs ++ y ∷ rest ≡ whole → x ≡ y
-  next_is xs x y later rest whole e f = cons_head x y later rest (append_cancel_left xs (x ∷ later) (y ∷ rest) (e ∙ sym f))
+  next_is xs x y later rest whole e f = let same = append_cancel_left xs (x ∷ later) (y ∷ rest) (e ∙ sym f) in cc

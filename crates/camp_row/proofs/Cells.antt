@@ -31,6 +31,9 @@ turns_front seat xs ys f =
     let sum = turns-append seat xs f.rest in
     omega arith
 
+pub own_push_other : (seat : ℕ) (chain : List Entry) (e : Entry) → e.seat ≢ seat → own seat (chain ++ e ∷ []) ≡ own seat chain
+own_push_other seat chain e ne = own-append seat chain (e ∷ []) ∙ (ap (λ l. own seat chain ++ l) (own-other seat e [] ne) ∙ append-nil (own seat chain))
+
 -- where a seat has no entry that was not seen, what comes next is another seat's
 module _ (seat : ℕ) (seen : List Entry) (e : Entry) (later ahead : List Entry) (cut : seen ++ e ∷ later ≡ ahead) (same : own seat ahead ≡ own seat seen) where
   rest_is_nil : own seat (e ∷ later) ≡ []
@@ -40,10 +43,7 @@ module _ (seat : ℕ) (seen : List Entry) (e : Entry) (later ahead : List Entry)
   next_is_others is = let h : own e.seat (e ∷ later) ≡ [] = subst (λ s. own s (e ∷ later) ≡ []) (sym is) rest_is_nil in let k : e ∷ own e.seat later ≡ [] = sym (own-self e later) ∙ h in absurd cc
 
   pub own_of_next : own seat (seen ++ e ∷ []) ≡ own seat seen
-  own_of_next = own-append seat seen (e ∷ []) ∙ (ap (λ l. own seat seen ++ l) (own-other seat e [] next_is_others) ∙ append-nil (own seat seen))
-
-pub own_push_other : (seat : ℕ) (chain : List Entry) (e : Entry) → e.seat ≢ seat → own seat (chain ++ e ∷ []) ≡ own seat chain
-own_push_other seat chain e ne = own-append seat chain (e ∷ []) ∙ (ap (λ l. own seat chain ++ l) (own-other seat e [] ne) ∙ append-nil (own seat chain))
+  own_of_next = own_push_other seat seen e next_is_others
 
 head_after-push : (seats : ℕ) (before : List Entry) (word : ℕ) (chain : List Entry) (e : Entry) → head_after seats before word (chain ++ e ∷ []) ≡ cell_of seats (before ++ chain) e + 1
 head_after-push seats before word [] e = ap (λ l. cell_of seats l e + 1) (sym (append-nil before))

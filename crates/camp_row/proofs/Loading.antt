@@ -1,5 +1,5 @@
 -- Loads keep the rule, and tell what `specs/Inside/Steps` says.
-use Rattle.camp_row.proofs.Words.{◌≡◌, ℕ, ◌+◌, ◌*◌, ◌<◌, List, [], ◌∷◌, ◌++◌, length, cond, ◌==◌, sym, refl, ap, ◌∙◌, subst, arith, set, slice_index, All, map, All-weaker, All-map, Entry, Knowledge, IsShorter, own, turns, cell_of, head_word, Fits, Part, parts_of, finds, IsSoundPart, place_word, Holds, Knows, IsRuled, Sees, Looked, Walked, Advanced}
+use Rattle.camp_row.proofs.Words.{◌≡◌, ℕ, ◌+◌, ◌*◌, ◌<◌, List, [], ◌∷◌, ◌++◌, length, cond, ◌==◌, sym, refl, ap, ◌∙◌, subst, arith, set, slice_index, All, map, All-weaker, All-map, Entry, Knowledge, IsShorter, own, turns, cell_of, head_word, Fits, Part, parts_of, finds, place_word, Holds, Knows, IsRuled, Sees, Looked, Walked, Advanced}
 use Rattle.camp_row.proofs.Beginnings.{begins_refl, cut_longer, cut_pushed}
 use Rattle.camp_row.proofs.Cells.{own_of_next}
 use Rattle.camp_row.proofs.Ruling.{Owes, only, one_at, parts_of-cons, keep, word_same, knows, keep_words}
@@ -10,18 +10,15 @@ parts_of-finds chain number (p ∷ ps) =
     parts_of-cons number (finds chain p) (map (finds chain) ps) ∙ (ap (λ n. cond (p.number == number) 1 0 + n) (parts_of-finds chain number ps) ∙ sym (parts_of-cons number p ps))
 
 module _ (seats per_seat : ℕ) (words : List ℕ) (chain : List Entry) (fits : Fits seats per_seat chain) where
-  sound_of : (p : Part) → Knows seats per_seat words chain p → IsSoundPart (finds chain p)
-  sound_of p k = record {
-    front = k.seen;
-    own_seen = k.own_seen;
-    fits = subst (λ s. Fits s p.per_seat chain) (sym k.sizes.0) (subst (λ t. Fits seats t chain) (sym k.sizes.1) fits);
-  }
-
   pub finds_knows : (p : Part) → Knows seats per_seat words chain p → Knows seats per_seat words chain (finds chain p)
   finds_knows p k = record { sizes = k.sizes; seen = k.seen; ahead = begins_refl chain; own_seen = k.own_seen; draft = k.draft; empty = k.empty }
 
   pub sees : (found : ℕ) → found ≡ head_word seats chain → (p : Part) → Knows seats per_seat words chain p → Sees found chain p
-  sees found named p k = record { named = named ∙ ap (λ s. head_word s chain) (sym k.sizes.0); grows = k.ahead; sound = sound_of p k }
+  sees found named p k = record {
+    named = named ∙ ap (λ s. head_word s chain) (sym k.sizes.0);
+    grows = k.ahead;
+    sound = record { front = k.seen; own_seen = k.own_seen; fits = subst (λ s. Fits s p.per_seat chain) (sym k.sizes.0) (subst (λ t. Fits seats t chain) (sym k.sizes.1) fits) };
+  }
 
 -- a load of the head
 pub looks : (seats per_seat id : ℕ) (v : Knowledge) → Owes seats per_seat id v 0 (λ n. n) (λ found w. Looked found v.parts w.parts)

@@ -44,11 +44,8 @@ module _ (pass : PassInside) (row : RowInside) {k : Known} {r : RowId} (is : IsR
   }
 
 -- the part is the pass's own
-pub part_is : (pass : PassInside) (q : Part) → pass.seat.me.0.parts ≡ q ∷ [] → part pass ≡ q
-part_is pass q alone = ap part_of alone
-
 pub at_part : (pass : PassInside) (q : Part) → IsPass pass q → IsPass pass (part pass)
-at_part pass q is = subst (IsPass pass) (sym (part_is pass q is.alone)) is
+at_part pass q is = subst (IsPass pass) (sym (ap part_of is.alone)) is
 
 pub known_at : (table : TableId) (parts : List Part) (q : Part) → parts ≡ q ∷ [] → known_of table (part_of parts) ≡ known_of table q
 known_at table parts q alone = ap (λ ps. known_of table (part_of ps)) alone

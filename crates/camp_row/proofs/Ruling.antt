@@ -1,5 +1,5 @@
 -- The rule of the row, when a step changes one view and perhaps one word.
-use Rattle.camp_row.proofs.Words.{◌≡◌, ◌≢◌, ℕ, zero, suc, ◌+◌, ◌≤◌, inl, inr, List, [], ◌∷◌, length, cond, ◌==◌, sym, refl, ap, ◌∙◌, subst, arith, zero-add, set, get_or, slice_index, sum_by, All, get_or-set_other, set-get_or, sum_by-cons, All-head, All-cons, All-nil, eq-eqb, ne_eqb, cond-true, cond-false, some, some-injective, some-ne-none, get_elem?, State, Me, keeps, Allows, at_set, Entry, Knowledge, head_word, Fits, Part, parts_of, parent_word, place_word, Holds, IsLinked, Knows, IsRuled}
+use Rattle.camp_row.proofs.Words.{◌≡◌, ◌≢◌, ℕ, zero, suc, ◌+◌, ◌≤◌, inl, inr, List, [], ◌∷◌, length, cond, ◌==◌, sym, refl, ap, ◌∙◌, subst, arith, zero-add, set, get_or, slice_index, sum_by, All, get_or-set_other, set-get_or, sum_by-cons, All-head, All-cons, All-nil, eq-eqb, ne_eqb, cond-true, cond-false, some, some-injective, some-ne-none, get_elem?, State, Me, keeps, Allows, at_set, set_else, spent, Entry, Knowledge, head_word, Fits, Part, parts_of, parent_word, place_word, Holds, IsLinked, Knows, IsRuled}
 
 -- what a step owes that takes no slot: whatever the words and the views are, there is a view that keeps the rule
 abbrev pub Owes : ℕ → ℕ → ℕ → Knowledge → ℕ → (ℕ → ℕ) → (ℕ → Knowledge → Type 0) → Type 0
@@ -36,13 +36,6 @@ module _ (f : Knowledge → ℕ) where
   one_at (x ∷ xs) zero v at = let e : f x ≡ f v = ap f (some-injective x v at) in omega (arith, sum_by-cons f x xs)
   one_at (x ∷ xs) (suc id) v at = let h = one_at xs id v at in omega (arith, sum_by-cons f x xs)
 
-  pub two_at : (views : List Knowledge) (id j : ℕ) (v u : Knowledge) → j ≢ id → get_elem? views id ≡ some v → get_elem? views j ≡ some u → f v + f u ≤ sum_by f views
-  two_at [] id j v u ne at other = absurd (some-ne-none v (sym at))
-  two_at (x ∷ xs) zero zero v u ne at other = absurd (ne refl)
-  two_at (x ∷ xs) zero (suc j) v u ne at other = let e : f x ≡ f v = ap f (some-injective x v at) in let h = one_at xs j u other in omega (arith, sum_by-cons f x xs)
-  two_at (x ∷ xs) (suc id) zero v u ne at other = let e : f x ≡ f u = ap f (some-injective x u other) in let h = one_at xs id v at in omega (arith, sum_by-cons f x xs)
-  two_at (x ∷ xs) (suc id) (suc j) v u ne at other = let h = two_at xs id j v u (λ e. ne (ap suc e)) at other in omega (arith, sum_by-cons f x xs)
-
 pub parts_of-cons : (number : ℕ) (p : Part) (ps : List Part) → parts_of number (p ∷ ps) ≡ cond (p.number == number) 1 0 + parts_of number ps
 parts_of-cons number p ps = sum_by-cons (λ (part : Part). cond (part.number == number) 1 0) p ps
 
@@ -64,7 +57,12 @@ all_both P Q R both qs p q = λ k d h. both (get_or qs k d) (p k d h) (q k d h)
 
 module _ (seats per_seat : ℕ) (words : List ℕ) (views : List Knowledge) (ruled : IsRuled seats per_seat words views) (id : ℕ) (v : Knowledge) (at : get_elem? views id ≡ some v) where
   pub others_apart : (j : ℕ) (u : Knowledge) → j ≢ id → get_elem? views j ≡ some u → All (λ (q : Part). parts_of q.number v.parts ≡ 0) u.parts
-  others_apart j u ne other = all_apart u.parts v.parts (λ n. let two = two_at (λ (u : Knowledge). parts_of n u.parts) views id j v u ne at other in let one = ruled.one_each n in omega arith)
+  others_apart j u ne other = all_apart u.parts v.parts (λ n.
+      let f : Knowledge → ℕ = λ u. parts_of n u.parts in
+      let without : sum_by f (set views id spent) + f v ≡ sum_by f views + 0 = sum_set f views id v spent at in
+      let two = one_at f (set views id spent) j u (set_else views id j spent ne ∙ other) in
+      let one = ruled.one_each n in
+      omega arith)
 
   -- the rule after a step
   pub keep : (words' : List ℕ) (chain' : List Entry) (w : Knowledge)

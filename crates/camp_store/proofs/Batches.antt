@@ -1,11 +1,5 @@
 -- What a crash leaves while a batch is put behind the texts of a file.
-use Rattle.std.proofs.Common.{◌≡◌, inl, inr, ℕ, ◌<◌, ◌+◌, ◌-◌, List, [], ◌∷◌, ◌++◌, length, take, drop, refl, sym, ◌∙◌, ap, subst, arith, append_assoc, length-append, length-drop}
-use Rattle.std.proofs.lemmas.List.{take_all}
-use Rattle.std.proofs.lemmas.Bool.{cases_eq}
-use Rattle.sqlite_disk.specs.Disk.{Torn}
-use Rattle.camp_store.specs.Blocks.{AllFit, AreBlocks, Stands, blocks, chain, closed_gate, first_digest, open_gate}
-use Rattle.camp_store.specs.Logs.{IsBatch, IsBeforeOrAfter, Keeps}
-use Rattle.camp_store.specs.Moments.{BatchesAreKept, Begun, Settled}
+use Rattle.camp_store.proofs.Words.{◌≡◌, inl, inr, ℕ, ◌<◌, ◌+◌, ◌-◌, List, [], ◌∷◌, ◌++◌, length, take, drop, refl, sym, ◌∙◌, ap, subst, arith, append_assoc, length-append, length-drop, take_all, cases_eq, Torn, AllFit, AreBlocks, Stands, blocks, chain, closed_gate, first_digest, open_gate, IsBatch, IsBeforeOrAfter, Keeps, BatchesAreKept, Begun, Settled}
 use Rattle.camp_store.proofs.BlockLemmas.{are-append, chain-append, gate_any, stands_closed}
 use Rattle.camp_store.proofs.Overwriting.{front_stays, rest_stays, written_behind}
 
@@ -13,9 +7,9 @@ use Rattle.camp_store.proofs.Overwriting.{front_stays, rest_stays, written_behin
 abbrev pub tail : List ℕ → List (List ℕ) → List ℕ
 tail before new = drop 1 (blocks before new) ++ closed_gate ∷ []
 
-pub tail_is : (before : List ℕ) (new : List (List ℕ)) (bytes : List ℕ) → 0 < length new → bytes ≡ blocks before new ++ closed_gate ∷ [] → take (length bytes - 1) (drop 1 bytes) ≡ tail before new
-tail_is before [] bytes some is = absurd (omega (arith, some))
-tail_is before (t ∷ ts) bytes some is = take_all _ _ (omega (arith, length-drop 1 bytes)) ∙ ap (λ (l : List ℕ). drop 1 l) is
+pub behind_gate_is : (new : List (List ℕ)) (digest bytes : List ℕ) → IsBatch digest new bytes → drop 1 bytes ≡ tail digest new
+behind_gate_is [] digest bytes batch = absurd (omega (arith, batch.some))
+behind_gate_is (t ∷ ts) digest bytes batch = ap (λ (l : List ℕ). drop 1 l) batch.are
 
 pub some_bytes : (before : List ℕ) (new : List (List ℕ)) → 0 < length new → 0 < length (blocks before new)
 some_bytes before [] some = absurd (omega (arith, some))
@@ -25,11 +19,7 @@ some_bytes before (t ∷ ts) some = omega arith
 pub staged_is : {D : Type 0} (seen : D → List ℕ) (may_leave : D → List ℕ → Type 0) (new : List (List ℕ)) (digest bytes : List ℕ) → IsBatch digest new bytes
     → (at : ℕ) (d0 d1 : D) → Settled seen may_leave at (take (length bytes - 1) (drop 1 bytes)) d0 d1 → Settled seen may_leave at (tail digest new) d0 d1
 staged_is seen may_leave new digest bytes batch at d0 d1 settled =
-    subst (λ (l : List ℕ). Settled seen may_leave at l d0 d1) (tail_is digest new bytes batch.some batch.are) settled
-
-pub behind_gate_is : (new : List (List ℕ)) (digest bytes : List ℕ) → IsBatch digest new bytes → drop 1 bytes ≡ tail digest new
-behind_gate_is new digest bytes batch =
-    sym (take_all (length bytes - 1) (drop 1 bytes) (omega (arith, length-drop 1 bytes))) ∙ tail_is digest new bytes batch.some batch.are
+    subst (λ (l : List ℕ). Settled seen may_leave at l d0 d1) (take_all _ _ (omega (arith, length-drop 1 bytes)) ∙ behind_gate_is new digest bytes batch) settled
 
 -- how long the blocks of a batch are
 pub grown_by : (new : List (List ℕ)) (digest bytes : List ℕ) → IsBatch digest new bytes → (k : ℕ) → k + length bytes - 1 ≡ k + length (blocks digest new)
@@ -45,9 +35,6 @@ module _ {D : Type 0} (seen : D → List ℕ) (may_leave : D → List ℕ → Ty
 
   file_is : seen d0 ≡ held ++ keeps.behind
   file_is = keeps.file ∙ sym (append_assoc keeps.front (closed_gate ∷ []) keeps.behind)
-
-  pub still : (c : List ℕ) → may_leave d0 c → Stands old c
-  still c now = subst (Stands old) (sym (keeps.durable c now ∙ keeps.file)) (stands_closed old keeps.front keeps.behind keeps.are)
 
   -- the closed gate stands in each outcome of the first write
   pub staging : (m : ℕ) (d1 : D) → Begun seen may_leave (k + 1) m d0 d1 → (c : List ℕ) → may_leave d1 c → Stands old c

@@ -1,11 +1,6 @@
 -- What files of blocks stand for.
-use Rattle.std.proofs.Common.{◌≡◌, ◌≢◌, ◌⊎◌, inl, inr, ℕ, ◌<◌, ◌-◌, ◌+◌, List, [], ◌∷◌, ◌++◌, length, take, drop, Vec, refl, sym, ◌∙◌, ap, subst, arith, append_assoc, length-append}
-use Rattle.std.proofs.lemmas.List.{append-nil, length-map, map-append, take-append-drop}
+use Rattle.camp_store.proofs.Words.{◌≡◌, ◌≢◌, ◌⊎◌, inl, inr, ℕ, ◌<◌, ◌-◌, ◌+◌, List, [], ◌∷◌, ◌++◌, length, take, drop, Vec, refl, sym, ◌∙◌, ap, subst, arith, append_assoc, length-append, append-nil, length-map, map-append, take-append-drop, AllFit, AreBlocks, Fits, IsBlock, IsEnd, Stands, blocks, body, chain, closed_gate, digest_behind, first_digest, head, open_gate, Keeps, texts_of, DamageIsNoStore, IsDamaged, IsReading, Reading}
 use Rattle.std.specs.declared.alloc.Global.{Global}
-use Rattle.camp_store.specs.Blocks.{AllFit, AreBlocks, Fits, IsBlock, IsEnd, Stands, blocks, body, chain, closed_gate, digest_behind, first_digest, head, open_gate}
-use Rattle.camp_store.specs.Logs.{Keeps, texts_of}
-use Rattle.camp_store.specs.Readings.{DamageIsNoStore, IsDamaged, IsReading}
-use Rattle.camp_store.specs.declared.readings.Reading.{Reading}
 use Rattle.camp_store.proofs.HeadLemmas.{body_once, length-head}
 
 abbrev Texts : Type 0
@@ -96,9 +91,6 @@ pub record ReadSoFar (bytes : List ℕ) (texts : List (Vec ℕ Global)) (digest 
   pub are : AreBlocks first_digest (texts_of texts) front
   pub digest_is : digest ≡ chain first_digest (texts_of texts)
 
-pub read_nothing : (bytes : List ℕ) → ReadSoFar bytes [] first_digest bytes
-read_nothing bytes = record { front = []; split = refl; are = refl; digest_is = refl }
-
 -- one block more, as it is read
 pub read_on : (bytes : List ℕ) (vs : List (Vec ℕ Global)) (digest rest : List ℕ) → ReadSoFar bytes vs digest rest → (v : Vec ℕ Global) (behind : List ℕ)
     → IsBlock digest v.items behind rest → ReadSoFar bytes (vs ++ v ∷ []) (digest_behind digest v.items) behind
@@ -110,9 +102,6 @@ read_on bytes vs digest rest so_far v behind block =
       are = subst (λ (ts : Texts). AreBlocks first_digest ts (so_far.front ++ one.0)) (sym (texts_of-push vs v)) (are-append first_digest (texts_of vs) (v.items ∷ []) so_far.front one.0 so_far.are one.2);
       digest_is = ap (λ (d : List ℕ). digest_behind d v.items) so_far.digest_is ∙ sym (chain-append first_digest (texts_of vs) (v.items ∷ [])) ∙ ap (λ (ts : Texts). chain first_digest ts) (sym (texts_of-push vs v));
     }
-
-pub shorter : (before text behind rest : List ℕ) → IsBlock before text behind rest → length behind < length rest
-shorter before text behind rest block = omega (arith, ap length block.split, length-append (body before text) behind)
 
 pub stands_closed : (texts : Texts) (front behind : List ℕ) → AreBlocks first_digest texts front → Stands texts (front ++ closed_gate ∷ behind)
 stands_closed texts front behind are = record { front = front; end = closed_gate ∷ behind; split = refl; are = are; ends = inl refl }
@@ -144,42 +133,31 @@ block_more before t r more bytes block = record {
   split = ap (λ (l : List ℕ). l ++ more) block.split ∙ ap (λ (l : List ℕ). block.gate ∷ l) (append_assoc (body before t) r more);
 }
 
--- behind blocks of a file that stands for texts there is an end, or a block
-pub goes_on : (before : List ℕ) (ts all : Texts) (front rest whole end : List ℕ) → AreBlocks before ts front → AreBlocks before all whole → IsEnd end
-    → front ++ rest ≡ whole ++ end → IsEnd rest ⊎ ((text behind : List ℕ) × IsBlock (chain before ts) text behind rest)
+-- behind blocks of a file that stands for texts there is an end, and they are its blocks, or there is a block
+goes_on : (before : List ℕ) (ts all : Texts) (front rest whole end : List ℕ) → AreBlocks before ts front → AreBlocks before all whole → IsEnd end
+    → front ++ rest ≡ whole ++ end → (IsEnd rest × (ts ≡ all)) ⊎ ((text behind : List ℕ) × IsBlock (chain before ts) text behind rest)
 goes_on before [] [] front rest whole end none none' ends is =
-    inl (subst IsEnd (sym (ap (λ (l : List ℕ). l ++ rest) (sym none) ∙ is ∙ ap (λ (l : List ℕ). l ++ end) none')) ends)
+    inl (subst IsEnd (sym (ap (λ (l : List ℕ). l ++ rest) (sym none) ∙ is ∙ ap (λ (l : List ℕ). l ++ end) none')) ends, refl)
 goes_on before [] (u ∷ us) front rest whole end none these ends is =
     inr (u, these.0 ++ end, subst (λ (l : List ℕ). IsBlock before u (these.0 ++ end) l) (sym (ap (λ (l : List ℕ). l ++ rest) (sym none) ∙ is)) (block_more before u these.0 end whole these.1))
 goes_on before (t ∷ ts) [] front rest whole end these none ends is =
     let block : IsBlock before t (these.0 ++ rest) (front ++ rest) = block_more before t these.0 rest front these.1 in
     absurd (block_is_no_end before t (these.0 ++ rest) (front ++ rest) block (subst IsEnd (sym (is ∙ ap (λ (l : List ℕ). l ++ end) none)) ends))
 goes_on before (t ∷ ts) (u ∷ us) front rest whole end these those ends is =
-    let block : IsBlock before t (these.0 ++ rest) (front ++ rest) = block_more before t these.0 rest front these.1 in
     let other : IsBlock before u (those.0 ++ end) (front ++ rest) = subst (λ (l : List ℕ). IsBlock before u (those.0 ++ end) l) (sym is) (block_more before u those.0 end whole those.1) in
-    let same = block_once before t u (these.0 ++ rest) (those.0 ++ end) (front ++ rest) block other in
-    goes_on (digest_behind before t) ts us these.0 rest those.0 end these.2 (subst (λ (v : List ℕ). AreBlocks (digest_behind before v) us those.0) (sym same.0) those.2) ends same.1
-
-split_once : (before : List ℕ) (ts us : Texts) (front whole end end' : List ℕ) → AreBlocks before ts front → AreBlocks before us whole → IsEnd end → IsEnd end'
-    → front ++ end ≡ whole ++ end' → ts ≡ us
-split_once before [] [] front whole end end' a b e e' is = refl
-split_once before [] (u ∷ us) front whole end end' a b e e' is =
-    let block : IsBlock before u (b.0 ++ end') (whole ++ end') = block_more before u b.0 end' whole b.1 in
-    absurd (block_is_no_end before u (b.0 ++ end') (whole ++ end') block (subst IsEnd (sym (ap (λ (l : List ℕ). l ++ end) a) ∙ is) e))
-split_once before (t ∷ ts) [] front whole end end' a b e e' is =
-    let block : IsBlock before t (a.0 ++ end) (front ++ end) = block_more before t a.0 end front a.1 in
-    absurd (block_is_no_end before t (a.0 ++ end) (front ++ end) block (subst IsEnd (sym (is ∙ ap (λ (l : List ℕ). l ++ end') b)) e'))
-split_once before (t ∷ ts) (u ∷ us) front whole end end' a b e e' is =
-    let block : IsBlock before t (a.0 ++ end) (front ++ end) = block_more before t a.0 end front a.1 in
-    let other : IsBlock before u (b.0 ++ end') (front ++ end) = subst (λ (l : List ℕ). IsBlock before u (b.0 ++ end') l) (sym is) (block_more before u b.0 end' whole b.1) in
-    let same = block_once before t u (a.0 ++ end) (b.0 ++ end') (front ++ end) block other in
-    let others : ts ≡ us = split_once (digest_behind before t) ts us a.0 b.0 end end' a.2 (subst (λ (v : List ℕ). AreBlocks (digest_behind before v) us b.0) (sym same.0) b.2) e e' same.1 in
-    (λ i. same.0 i ∷ others i)
+    let same = block_once before t u (these.0 ++ rest) (those.0 ++ end) (front ++ rest) (block_more before t these.0 rest front these.1) other in
+    elim (goes_on (digest_behind before t) ts us these.0 rest those.0 end these.2 (subst (λ (v : List ℕ). AreBlocks (digest_behind before v) us those.0) (sym same.0) those.2) ends same.1) [
+      | inl ended ↦ inl (ended.0, λ i. same.0 i ∷ ended.1 i)
+      | inr block ↦ inr block
+    ]
 
 -- a file stands for one list of texts at most
 pub stands_once : (ts us : Texts) (file : List ℕ) → Stands ts file → Stands us file → ts ≡ us
 stands_once ts us file one other =
-    split_once first_digest ts us one.front other.front one.end other.end one.are other.are one.ends other.ends (sym one.split ∙ other.split)
+    elim (goes_on first_digest ts us one.front one.end other.front other.end one.are other.are other.ends (sym one.split ∙ other.split)) [
+      | inl ended ↦ ended.1
+      | inr block ↦ absurd (block_is_no_end (chain first_digest ts) block.0 block.1 one.end block.2 one.ends)
+    ]
 
 -- where neither an end nor a block stands, the file is damaged
 pub is_damaged : (bytes : List ℕ) (vs : List (Vec ℕ Global)) (digest rest : List ℕ) → ReadSoFar bytes vs digest rest → (IsEnd rest → ⊥)
@@ -199,12 +177,9 @@ is_damaged bytes vs digest rest so_far no_end no_block count is = record {
 pub damage_is_no_store : DamageIsNoStore
 damage_is_no_store count at file damaged texts stands =
     elim (goes_on first_digest damaged.texts texts damaged.front damaged.rest stands.front stands.end damaged.are stands.are stands.ends (sym damaged.split ∙ stands.split)) [
-      | inl ends ↦ damaged.no_end ends
+      | inl ended ↦ damaged.no_end ended.0
       | inr block ↦ damaged.no_block block.0 block.1 block.2
     ]
-
-pub length-texts_of : (vs : List (Vec ℕ Global)) → length (texts_of vs) ≡ length vs
-length-texts_of vs = length-map vs (λ text. text.items)
 
 -- whatever a crash leaves of a log stands for its texts
 pub kept_stands : {D : Type 0} (seen : D → List ℕ) (may_leave : D → List ℕ → Type 0) (texts : Texts) (disk : D) (k : ℕ) (digest : List ℕ)

@@ -1,12 +1,6 @@
 -- What a crash leaves while a gate is closed behind the texts of a file.
-use Rattle.std.proofs.Common.{◌≡◌, inl, inr, ℕ, ◌<◌, true, false, List, [], ◌∷◌, ◌++◌, length, drop, refl, sym, ◌∙◌, ap, subst, arith, length-drop}
+use Rattle.camp_store.proofs.Words.{◌≡◌, inl, inr, ℕ, ◌<◌, false, List, [], ◌∷◌, ◌++◌, length, drop, refl, sym, ◌∙◌, ap, subst, arith, length-drop, Only, Torn, IsEnd, Stands, closed_gate, is_closed, Keeps, texts_of, Begun, Settled, IsReading, Reading}
 use Rattle.std.proofs.lemmas.Bool.Decides.{nat_tests}
-use Rattle.sqlite_disk.specs.Disk.{Only, Torn}
-use Rattle.camp_store.specs.Blocks.{IsEnd, Stands, closed_gate, is_closed}
-use Rattle.camp_store.specs.Logs.{Keeps, texts_of}
-use Rattle.camp_store.specs.Moments.{Begun, Settled}
-use Rattle.camp_store.specs.Readings.{IsReading}
-use Rattle.camp_store.specs.declared.readings.Reading.{Reading}
 use Rattle.camp_store.proofs.BlockLemmas.{stands_short}
 use Rattle.camp_store.proofs.Overwriting.{front_stays, rest_stays, written_behind}
 
@@ -16,30 +10,9 @@ is_short [] ends ajar = omega arith
 is_short (gate ∷ rest) (inl closed) ajar = absurd (grind (arith, nat_tests, closed, ajar))
 is_short (gate ∷ rest) (inr none) ajar = omega (arith, ap length none)
 
-pub is_gate : (end : List ℕ) → is_closed end ≡ true → (rest : List ℕ) × (end ≡ closed_gate ∷ rest)
-is_gate [] closed = absurd (grind (arith, closed))
-is_gate (gate ∷ rest) closed = (rest, grind (arith, nat_tests, closed))
-
 module _ {D : Type 0} (seen : D → List ℕ) (may_leave : D → List ℕ → Type 0) (d0 : D) (reading : Reading) (is : IsReading (seen d0) reading) (durable : Only (seen d0) (may_leave d0)) where
   abbrev texts : List (List ℕ)
   texts = texts_of reading.texts.items
-
-  pub still : (c : List ℕ) → may_leave d0 c → Stands texts c
-  still c now = record { front = is.front; end = is.end; split = durable c now ∙ is.split; are = is.are; ends = is.ends }
-
-  -- a closed gate stands there already
-  pub closed_before : reading.is_closed ≡ true → Keeps seen may_leave texts d0 reading.length reading.digest
-  closed_before closed =
-      let gate = is_gate is.end (sym is.closed_is ∙ closed) in
-      record {
-        front = is.front;
-        behind = gate.0;
-        file = is.split ∙ ap (λ (l : List ℕ). is.front ++ l) gate.1;
-        are = is.are;
-        length_is = is.length_is;
-        digest_is = is.digest_is;
-        durable = durable;
-      }
 
   module _ (ajar : reading.is_closed ≡ false) (d1 : D) where
     short : length is.end < 2

@@ -1,14 +1,11 @@
 -- What the head of a text tells.
-use Rattle.std.proofs.Common.{◌≡◌, ◌+◌, ◌*◌, ℕ, Bool, true, false, not, None, Option, Some, zero, suc, List, [], ◌∷◌, ◌++◌, Result, Ok, Err, is_ok, length, take, drop, refl, sym, ◌∙◌, ap, arith, append_assoc, length-append}
-use Rattle.std.proofs.lemmas.List.{take_at, drop_at, length-take-le}
+use Rattle.camp_store.proofs.Words.{◌≡◌, ◌+◌, ◌*◌, ℕ, Bool, true, false, not, Option, Some, zero, suc, List, [], ◌∷◌, ◌++◌, Result, Ok, Err, length, take, drop, refl, sym, ◌∙◌, ap, arith, append_assoc, length-append, take_at, drop_at, length-take-le, false≢true, Fits, body, digest_behind, head}
 use Rattle.std.proofs.lemmas.Nat.{from_be_bytes-to_be_bytes_4}
-use Rattle.std.proofs.lemmas.Bool.{false≢true}
 use Rattle.hex.specs.declared.error.FromHexError.{FromHexError}
 use Rattle.std.specs.Int.{to_be_bytes, from_be_bytes, w32}
 use Rattle.hex.specs.Hex.{IsBytes, decode_sized, decode_of, encode_lower, lower_digits}
 use Rattle.hex.proofs.HexLemmas.{decode_of-encode_lower, decode_of-same, decode_sized-encode_lower, length-encode_with}
 use Rattle.sha2.proofs.Facts256.{length-sha256}
-use Rattle.camp_store.specs.Blocks.{Fits, body, digest_behind, head}
 
 are_bytes : (n : ℕ) → IsBytes (to_be_bytes w32 n)
 are_bytes n zero = omega arith
@@ -97,32 +94,22 @@ module _ (before text rest bytes : List ℕ) (is : bytes ≡ body before text ++
       ap (λ (l : List ℕ). drop 26 l) (is ∙ append_assoc (head before text) text rest)
       ∙ drop_at (head before text) (text ++ rest) 26 (length-head before text)
 
--- what was decoded
-abbrev bytes_in : Result (List ℕ) FromHexError → List ℕ
-bytes_in (Ok bytes) = bytes
-bytes_in (Err e) = []
-
 -- the digits of a head are read as the length of its text
 pub size_read : (before text line : List ℕ) (read : Result (List ℕ) FromHexError) (bytes : List ℕ) → Fits text → line ≡ head before text
     → read ≡ decode_sized (take 8 line) 4 → read ≡ Ok bytes → from_be_bytes w32 bytes ≡ length text
 size_read before text line read bytes fits is decoded ok =
-    let same : Ok bytes ≡ Ok (to_be_bytes w32 (length text)) =
-    sym ok ∙ decoded ∙ ap (λ (l : List ℕ). decode_sized (take 8 l) 4) is ∙ digits_decode before text in
-    ap (λ (r : Result (List ℕ) FromHexError). from_be_bytes w32 (bytes_in r)) same ∙ digits_tell text fits
+    let tells : decode_sized (take 8 line) 4 ≡ Ok (to_be_bytes w32 (length text)) = ap (λ (l : List ℕ). decode_sized (take 8 l) 4) is ∙ digits_decode before text in
+    let same : bytes ≡ to_be_bytes w32 (length text) = cc in
+    ap (λ (l : List ℕ). from_be_bytes w32 l) same ∙ digits_tell text fits
 
 pub size_not_read : (before text line : List ℕ) (read : Result (List ℕ) FromHexError) (e : FromHexError) → line ≡ head before text
     → read ≡ decode_sized (take 8 line) 4 → read ≡ Err e → ⊥
 size_not_read before text line read e is decoded err =
-    let same : Err e ≡ Ok (to_be_bytes w32 (length text)) =
-    sym err ∙ decoded ∙ ap (λ (l : List ℕ). decode_sized (take 8 l) 4) is ∙ digits_decode before text in
-    false≢true (ap (λ (r : Result (List ℕ) FromHexError). is_ok r) same)
-
-abbrev number_in : Option ℕ → ℕ
-number_in (Some n) = n
-number_in None = 0
+    let tells : decode_sized (take 8 line) 4 ≡ Ok (to_be_bytes w32 (length text)) = ap (λ (l : List ℕ). decode_sized (take 8 l) 4) is ∙ digits_decode before text in
+    cc
 
 pub same_number : (o : Option ℕ) (n m : ℕ) → o ≡ Some n → o ≡ Some m → n ≡ m
-same_number o n m one other = ap number_in (sym one ∙ other)
+same_number o n m one other = cc
 
 pub from_not : (b : Bool) → false ≡ not b → b ≡ true
 from_not true e = refl

@@ -3,3 +3,4 @@ pub mod BlockLemmas
 mod Endings
 pub mod HeadLemmas
 mod Overwriting
+pub mod Words

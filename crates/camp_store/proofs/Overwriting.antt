@@ -1,7 +1,5 @@
 -- What a write does to a list of bytes.
-use Rattle.std.proofs.Common.{◌≡◌, ℕ, ◌+◌, ◌<◌, ◌≤◌, List, ◌++◌, length, take, drop, sym, ◌∙◌, ap, arith, length-append, length-drop, take-append-drop}
-use Rattle.std.proofs.lemmas.List.{ext_get_or, get_or-take, get_or-drop, length-take-le, drop-drop, take_at, drop_at}
-use Rattle.sqlite_disk.specs.Disk.{Holds, Torn}
+use Rattle.camp_store.proofs.Words.{◌≡◌, ℕ, ◌+◌, ◌<◌, ◌≤◌, List, ◌++◌, length, take, drop, sym, ◌∙◌, ap, arith, length-append, length-drop, take-append-drop, ext_get_or, get_or-take, get_or-drop, length-take-le, drop-drop, take_at, drop_at, Holds, Torn}
 
 module _ (at n : ℕ) (old new : List ℕ) (torn : Torn at n old new) (within : at ≤ length old) where
   pub before : take at new ≡ take at old

@@ -17,6 +17,7 @@ pub fn damaged_files_stand_for_nothing()
 
 /// At each moment of the two writes and the two syncs by which [`Log::put`](crate::Log::put) keeps a batch, a crash
 /// leaves the texts from before, with all of the batch or none; and behind the second sync all of them.
+#[tactic(auto, using(crate::proofs::Batches::each_moment))]
 pub fn batches_are_kept_at_each_moment<D: Disk>()
     ensures law { BatchesAreKept D.Disk.seen D.Disk.may_leave }
 {}

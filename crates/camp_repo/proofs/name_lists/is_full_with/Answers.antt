@@ -1,8 +1,6 @@
-use Rattle.std.proofs.Common.{rules}
-use Rattle.camp_repo.proofs.Words.{◌≡◌, ◌∙◌, ap, arith, length, names_in, sym}
+use Rattle.camp_repo.proofs.Words.{rules, ◌≡◌, ◌∙◌, ap, arith, length, names_in, sym, catches_named}
 use Rattle.camp_repo.proofs.NameSteps.{named_behind}
 use Rattle.camp_repo.proofs.SizeSteps.{has_room}
-use Rattle.camp_repo.specs.Steps.{catches_named}
 use Rattle.camp_repo.proofs.name_lists.is_full_with.Goals as goal
 
 pub returns-then-saturating_add-le-MAX_CATCHES : goal.returns-then-saturating_add-le-MAX_CATCHES

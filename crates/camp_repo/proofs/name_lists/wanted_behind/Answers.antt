@@ -1,5 +1,4 @@
-use Rattle.std.specs.FinMap.{keys}
-use Rattle.camp_repo.proofs.Words.{ap, ◌∙◌, drop, map, sym, subst, slice_cmp, nat_cmp, map_of, is_among, name_of, wanted}
+use Rattle.camp_repo.proofs.Words.{keys, ap, ◌∙◌, drop, map, sym, subst, slice_cmp, nat_cmp, map_of, is_among, name_of, wanted}
 use Rattle.camp_repo.proofs.NameSteps.{IsFilled, all_filled, catch_passed, catch_wanted, none_filled, wanted_behind_fronts}
 use Rattle.camp_repo.proofs.name_lists.wanted_behind.Goals as goal
 

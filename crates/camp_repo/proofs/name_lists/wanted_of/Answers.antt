@@ -1,5 +1,4 @@
-use Rattle.std.specs.FinMap.{keys}
-use Rattle.camp_repo.proofs.Words.{arith, ap, ◌∙◌, drop, length, ◌≤◌, sym, drop_of_length-le, slice_cmp, nat_cmp, map_of, is_among, wanted}
+use Rattle.camp_repo.proofs.Words.{keys, arith, ap, ◌∙◌, drop, length, ◌≤◌, sym, drop_of_length-le, slice_cmp, nat_cmp, map_of, is_among, wanted}
 use Rattle.camp_repo.proofs.NameSteps.{all_filled, none_filled, one_wanted}
 use Rattle.camp_repo.proofs.name_lists.wanted_of.Goals as goal
 

@@ -1,7 +1,4 @@
-use Rattle.std.proofs.Common.{rules, ◌≡◌, ◌+◌, [], ◌∷◌, ◌++◌, length, take, drop, sym, subst, ap, ◌∙◌}
-use Rattle.std.proofs.lemmas.List.{take_more}
-use Rattle.camp_store.specs.Blocks.{AllFit, Fits, blocks, chain, digest_behind, head, open_gate}
-use Rattle.camp_store.specs.Logs.{texts_of}
+use Rattle.camp_store.proofs.Words.{rules, ◌≡◌, ◌+◌, [], ◌∷◌, ◌++◌, length, take, drop, sym, subst, ap, ◌∙◌, take_more, AllFit, Fits, blocks, chain, digest_behind, head, open_gate, texts_of}
 use Rattle.camp_store.proofs.BlockLemmas.{around, block_pushed, chain-append, fit-append, fits_between, texts_of-push}
 use Rattle.camp_store.proofs.blocks.encode.Goals as goal
 

@@ -1,6 +1,4 @@
-use Rattle.std.proofs.Common.{◌≡◌, take}
-use Rattle.camp_store.specs.Blocks.{AllFit, blocks, chain}
-use Rattle.camp_store.specs.Logs.{texts_of}
+use Rattle.camp_store.proofs.Words.{◌≡◌, take, AllFit, blocks, chain, texts_of}
 use Rattle.camp_store.proofs.blocks.encode.Given as goal
 
 abbrev pub invariant-loop-text : goal.invariant-loop-text

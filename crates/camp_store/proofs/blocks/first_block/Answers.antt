@@ -1,5 +1,4 @@
-use Rattle.std.proofs.Common.{List, ℕ, ap, drop, ◌∙◌, arith, length-drop}
-use Rattle.std.proofs.lemmas.List.{take_all}
+use Rattle.camp_store.proofs.Words.{List, ℕ, ap, drop, ◌∙◌, arith, length-drop, take_all}
 use Rattle.camp_store.proofs.blocks.first_block.Goals as goal
 
 pub returns-in-None : goal.returns-in-None

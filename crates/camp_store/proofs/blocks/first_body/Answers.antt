@@ -1,10 +1,7 @@
-use Rattle.std.proofs.Common.{rules, ◌≡◌, ◌++◌, ℕ, List, not, true, length, take, refl, sym, ap, ◌∙◌, arith, length-append, append_assoc}
-use Rattle.std.proofs.lemmas.Bool.{true≢false}
+use Rattle.camp_store.proofs.Words.{rules, ◌≡◌, ◌++◌, ℕ, List, not, true, length, take, refl, sym, ap, ◌∙◌, arith, length-append, append_assoc, true≢false, take_at, body, digest_behind, head}
 use Rattle.std.proofs.lemmas.Option.{none-some}
-use Rattle.std.proofs.lemmas.List.{take_at}
 use Rattle.std.proofs.lemmas.Slice.Eq.{bytes_eq-Decides}
 use Rattle.std.specs.Str.{bytes_eq}
-use Rattle.camp_store.specs.Blocks.{body, digest_behind, head}
 use Rattle.camp_store.proofs.HeadLemmas.{behind_at, from_not, head_at, long_body, same_number}
 use Rattle.camp_store.proofs.blocks.first_body.Goals as goal
 

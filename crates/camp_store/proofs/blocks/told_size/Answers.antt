@@ -1,4 +1,4 @@
-use Rattle.std.proofs.Common.{Some, ap, ◌∙◌}
+use Rattle.camp_store.proofs.Words.{Some, ap, ◌∙◌}
 use Rattle.camp_store.proofs.HeadLemmas.{size_not_read, size_read}
 use Rattle.camp_store.proofs.blocks.told_size.Goals as goal
 

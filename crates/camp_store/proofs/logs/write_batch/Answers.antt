@@ -1,4 +1,4 @@
-use Rattle.std.proofs.Common.{inl}
+use Rattle.camp_store.proofs.Words.{inl}
 use Rattle.camp_store.proofs.Batches.{acknowledged, grown_by, opening, staged_is, staging}
 use Rattle.camp_store.proofs.logs.write_batch.Goals as goal
 

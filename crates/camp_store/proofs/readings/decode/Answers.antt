@@ -1,5 +1,4 @@
-use Rattle.std.proofs.Common.{rules, ◌≡◌, [], ◌∷◌, ◌++◌, sym, ap, ◌∙◌, subst}
-use Rattle.camp_store.specs.Blocks.{IsBlock, digest_behind}
+use Rattle.camp_store.proofs.Words.{rules, ◌≡◌, [], ◌∷◌, ◌++◌, sym, ap, ◌∙◌, subst, IsBlock, digest_behind}
 use Rattle.camp_store.proofs.BlockLemmas.{ReadSoFar, read_on, is_damaged}
 use Rattle.camp_store.proofs.readings.decode.Goals as goal
 

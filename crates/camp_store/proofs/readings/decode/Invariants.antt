@@ -1,4 +1,4 @@
-use Rattle.std.proofs.Common.{length}
+use Rattle.camp_store.proofs.Words.{length}
 use Rattle.camp_store.proofs.BlockLemmas.{ReadSoFar}
 use Rattle.camp_store.proofs.readings.decode.Given as goal
 

@@ -1,5 +1,4 @@
-use Rattle.std.proofs.Common.{IfErr, ◌∙◌, subst}
-use Rattle.camp_store.specs.Readings.{IsDamage}
+use Rattle.camp_store.proofs.Words.{IfErr, ◌∙◌, subst, IsDamage}
 use Rattle.camp_store.proofs.readings.read.Goals as goal
 
 pub returns-clause-damaged : goal.returns-clause-damaged

@@ -1,5 +1,4 @@
-use Rattle.camp_repo.proofs.Words.{sym, subst, AgreesIn}
-use Rattle.std.specs.List.{AllByRecursion}
+use Rattle.camp_repo.proofs.Words.{sym, subst, AgreesIn, AllByRecursion}
 use Rattle.camp_repo.proofs.beginnings.KnownBeginnings.copied.Goals as goal
 
 pub returns : goal.returns

@@ -1,6 +1,6 @@
 use Rattle.camp_repo.proofs.Words.{◌∙◌, sym}
 use Rattle.camp_repo.proofs.DecideSteps.{none_found}
-use Rattle.camp_repo.proofs.StepsLawful.{copy_lawful}
+use Rattle.camp_repo.proofs.Effects.{copy_lawful}
 use Rattle.camp_repo.proofs.states.State.copy_branch.Goals as goal
 
 pub with_copy-requires-clause-lawful : goal.with_copy-requires-clause-lawful

@@ -1,6 +1,4 @@
-use Rattle.std.proofs.Common.{◌≡◌, ◌<◌, None, Some, option_copied, position, slice_get, bytes_eq, ap, ◌∙◌, sym, subst}
-use Rattle.camp_repo.proofs.Words.{catches_in, placed, catches_of, with_catches}
-use Rattle.camp_repo.proofs.BeginningSteps.{zip_catches}
+use Rattle.camp_repo.proofs.Words.{◌≡◌, ◌<◌, None, Some, option_copied, position, slice_get, bytes_eq, ap, ◌∙◌, sym, subst, catches_in, placed, catches_of, with_catches, seconds-zip}
 use Rattle.camp_repo.proofs.PlaceSteps.{found, missing}
 use Rattle.camp_repo.proofs.StateSteps.{within_fields}
 use Rattle.camp_repo.proofs.states.State.find.Goals as goal
@@ -36,4 +34,4 @@ returns-clause-placed c catches =
 
 pub returns-clause-at : goal.returns-clause-at
 returns-clause-at c =
-    subst (λ s. slice_get (catches_in s.branches) c.in-Some.place ≡ Some c.deref-2.result.now) c.self.view_is (ap (λ bs. slice_get bs c.in-Some.place) (zip_catches c.self.inside.names.keys c.self.inside.branches c.self.invariant.as_many) ∙ sym c.get.ensures.exact ∙ ap option_copied c.in-Some-get.is ∙ ap Some (sym c.deref-2.ensures))
+    subst (λ s. slice_get (catches_in s.branches) c.in-Some.place ≡ Some c.deref-2.result.now) c.self.view_is (ap (λ bs. slice_get bs c.in-Some.place) (seconds-zip c.self.inside.names.keys c.self.inside.branches (sym c.self.invariant.as_many)) ∙ sym c.get.ensures.exact ∙ ap option_copied c.in-Some-get.is ∙ ap Some (sym c.deref-2.ensures))

@@ -1,5 +1,4 @@
-use Rattle.std.proofs.Common.{◌≡◌, map, ap, ◌∙◌, sym, subst}
-use Rattle.std.proofs.lemmas.Slice.Zip.{firsts-zip}
+use Rattle.camp_repo.proofs.Words.{◌≡◌, map, ap, ◌∙◌, sym, subst, firsts-zip}
 use Rattle.camp_repo.proofs.states.State.names.Goals as goal
 
 pub returns : goal.returns

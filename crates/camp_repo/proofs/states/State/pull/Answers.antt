@@ -1,10 +1,10 @@
-use Rattle.camp_repo.proofs.Words.{◌∙◌, Err, Next, Ok, ap, refl, sym, slice_cmp, nat_cmp, map_of, names_in, listed, wanted}
-use Rattle.camp_branch.proofs.Steps.{pulls_begin_with_own}
-use Rattle.camp_repo.specs.Steps.{refused}
+use Rattle.camp_repo.proofs.Words.{◌≡◌, Outcome, PullGives, settled, ◌∙◌, Err, Next, Ok, ap, sym, slice_cmp, nat_cmp, map_of, names_in, listed, wanted, pulls_begin_with_own, refused, step_pull}
+use Rattle.camp_call.specs.declared.calls.Call.TheVariants as call
 use Rattle.camp_repo.proofs.ByMembers.{full_alike, none_alike, none_there}
-use Rattle.camp_repo.proofs.DecideSteps.{pull_keeps, pull_nothing, pull_settles, pull_too_large}
+use Rattle.camp_repo.proofs.DecideSteps.{next_lawful, pull_nothing, pull_settles, pull_too_large}
 use Rattle.camp_repo.proofs.Effects.{wanted_is_lacked}
 use Rattle.camp_repo.proofs.states.State.pull.Goals as goal
+use Rattle.camp_repo.proofs.states.State.pull.Goals.{After-pulled_behind}
 
 pub returns-then-is_empty-clause-exact : goal.returns-then-is_empty-clause-exact
 returns-then-is_empty-clause-exact c =
@@ -47,27 +47,23 @@ with_pulled-requires-clause-grown c =
     let own = pulls_begin_with_own theirs ours c.in-Ok.pulled (names_in c.in_ok-wanted.wanted) c.in-Ok.ensures.exact in
     (theirs, ours, own.0, c.in-Some.ensures.at, c.in-Some-find.ensures.at, c.in_ok-agreed.ensures.agree, own.1)
 
+-- what the pull comes to, it settles
+settles : (c : After-pulled_behind) (outcome : Outcome) → PullGives c.in-Some.theirs.now c.in-Some-find.ours.now (names_in c.in_ok-wanted.wanted) outcome → settled c.args.self.now c.in-Some-find.place outcome ≡ step_pull c.args.self.now c.args.from.now c.args.to.now c.args.names.now
+settles c =
+    let two = sym c.eq.ensures ∙ c.if-eq.false in
+    let all = sym c.first_lacked.ensures ∙ c.in_default-first_lacked.is in
+    let some = sym (none_alike (names_in c.in_ok-wanted.wanted) (wanted c.in-Some-find.ours.now (listed c.in-Some.theirs.now c.args.names.now)) c.in_ok-wanted.ensures) ∙ none_there (map_of (slice_cmp nat_cmp) c.in_ok-wanted.wanted) ∙ sym c.is_empty.ensures.exact ∙ c.if-is_empty.false in
+    let few = sym (full_alike (names_in c.in_ok-wanted.wanted) (wanted c.in-Some-find.ours.now (listed c.in-Some.theirs.now c.args.names.now)) c.in_ok-wanted.ensures c.in-Some-find.ours.now c.in-Some.theirs.now) ∙ sym c.is_full_with.ensures ∙ c.if-is_full_with.false in
+    λ outcome gives. pull_settles c.args.self.now c.args.from.now c.args.to.now c.args.names.now c.in-Some.theirs.now c.in-Some-find.ours.now c.in-Some.ensures.value c.in-Some-find.ensures.value two all some few (names_in c.in_ok-wanted.wanted) c.in_ok-wanted.ensures outcome gives c.in-Some-find.place c.in-Some-find.ensures.placed
+
 pub with_pulled-requires-clause-lawful : goal.with_pulled-requires-clause-lawful
 with_pulled-requires-clause-lawful c =
-    let two = sym c.eq.ensures ∙ c.if-eq.false in
-    let all = sym c.first_lacked.ensures ∙ c.in_default-first_lacked.is in
-    let some = sym (none_alike (names_in c.in_ok-wanted.wanted) (wanted c.in-Some-find.ours.now (listed c.in-Some.theirs.now c.args.names.now)) c.in_ok-wanted.ensures) ∙ none_there (map_of (slice_cmp nat_cmp) c.in_ok-wanted.wanted) ∙ sym c.is_empty.ensures.exact ∙ c.if-is_empty.false in
-    let few = sym (full_alike (names_in c.in_ok-wanted.wanted) (wanted c.in-Some-find.ours.now (listed c.in-Some.theirs.now c.args.names.now)) c.in_ok-wanted.ensures c.in-Some-find.ours.now c.in-Some.theirs.now) ∙ sym c.is_full_with.ensures ∙ c.if-is_full_with.false in
-    pull_keeps c.args.self.now c.args.from.now c.args.to.now c.args.names.now c.in-Some.theirs.now c.in-Some-find.ours.now c.in-Some.ensures.value c.in-Some-find.ensures.value two all some few (names_in c.in_ok-wanted.wanted) c.in_ok-wanted.ensures (Ok c.in-Ok.pulled) c.in-Ok.ensures.exact c.in-Some-find.place c.in-Some-find.ensures.placed c.in-Some-find.ensures.lawful c.in-Ok.pulled refl
+    next_lawful c.args.self.now (call.Pull c.args.from.now c.args.to.now c.args.names.now) _ c.in-Some-find.ensures.lawful (settles (goal.at.with_pulled-requires-clause-lawful c).After-pulled_behind (Ok c.in-Ok.pulled) c.in-Ok.ensures.exact)
 
 pub returns-in-Ok-clause-exact : goal.returns-in-Ok-clause-exact
-returns-in-Ok-clause-exact c =
-    let two = sym c.eq.ensures ∙ c.if-eq.false in
-    let all = sym c.first_lacked.ensures ∙ c.in_default-first_lacked.is in
-    let some = sym (none_alike (names_in c.in_ok-wanted.wanted) (wanted c.in-Some-find.ours.now (listed c.in-Some.theirs.now c.args.names.now)) c.in_ok-wanted.ensures) ∙ none_there (map_of (slice_cmp nat_cmp) c.in_ok-wanted.wanted) ∙ sym c.is_empty.ensures.exact ∙ c.if-is_empty.false in
-    let few = sym (full_alike (names_in c.in_ok-wanted.wanted) (wanted c.in-Some-find.ours.now (listed c.in-Some.theirs.now c.args.names.now)) c.in_ok-wanted.ensures c.in-Some-find.ours.now c.in-Some.theirs.now) ∙ sym c.is_full_with.ensures ∙ c.if-is_full_with.false in
-    ap Next c.in_ok-next-in-Ok.ensures ∙ pull_settles c.args.self.now c.args.from.now c.args.to.now c.args.names.now c.in-Some.theirs.now c.in-Some-find.ours.now c.in-Some.ensures.value c.in-Some-find.ensures.value two all some few (names_in c.in_ok-wanted.wanted) c.in_ok-wanted.ensures (Ok c.in-Ok.pulled) c.in-Ok.ensures.exact c.in-Some-find.place c.in-Some-find.ensures.placed
+returns-in-Ok-clause-exact c = ap Next c.in_ok-next-in-Ok.ensures ∙ settles (goal.at.returns-in-Ok-clause-exact c).After-pulled_behind (Ok c.in-Ok.pulled) c.in-Ok.ensures.exact
 
 pub returns-in-Err-Blocked-clause-exact : goal.returns-in-Err-Blocked-clause-exact
 returns-in-Err-Blocked-clause-exact c =
-    let two = sym c.eq.ensures ∙ c.if-eq.false in
-    let all = sym c.first_lacked.ensures ∙ c.in_default-first_lacked.is in
-    let some = sym (none_alike (names_in c.in_ok-wanted.wanted) (wanted c.in-Some-find.ours.now (listed c.in-Some.theirs.now c.args.names.now)) c.in_ok-wanted.ensures) ∙ none_there (map_of (slice_cmp nat_cmp) c.in_ok-wanted.wanted) ∙ sym c.is_empty.ensures.exact ∙ c.if-is_empty.false in
-    let few = sym (full_alike (names_in c.in_ok-wanted.wanted) (wanted c.in-Some-find.ours.now (listed c.in-Some.theirs.now c.args.names.now)) c.in_ok-wanted.ensures c.in-Some-find.ours.now c.in-Some.theirs.now) ∙ sym c.is_full_with.ensures ∙ c.if-is_full_with.false in
     let gives = rw c.in-Err-Blocked.field-0-is at c.in-Err-Blocked.ensures.exact in
-    c.refused-in-Err-Blocked.ensures ∙ ap refused c.refusal_of.ensures ∙ pull_settles c.args.self.now c.args.from.now c.args.to.now c.args.names.now c.in-Some.theirs.now c.in-Some-find.ours.now c.in-Some.ensures.value c.in-Some-find.ensures.value two all some few (names_in c.in_ok-wanted.wanted) c.in_ok-wanted.ensures (Err c.in-Err-Blocked.blocked) gives c.in-Some-find.place c.in-Some-find.ensures.placed
+    c.refused-in-Err-Blocked.ensures ∙ ap refused c.refusal_of.ensures ∙ settles (goal.at.returns-in-Err-Blocked-clause-exact c).After-pulled_behind (Err c.in-Err-Blocked.blocked) gives
