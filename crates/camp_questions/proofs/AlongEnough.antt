@@ -1,23 +1,16 @@
 -- A pull of what comes along is not refused for want of a patch.
-use Rattle.camp_questions.proofs.Words.{and_from, and_parts, ◌≡◌, ℕ, Bool, true, false, not, ◌&&◌, List, [], ◌∷◌, ◌++◌, map, filter, Option, None, Some, Ok, Err, refl, sym, ap, ◌∙◌, inl, inr, subst, Key, Catch, has_patch, is_among, name_of, names_of, among_kept, among_once, Arrange, AreAlike, Contents, catches_of, first_lacked, is_empty, step, AreAmong, ComeToFront, StickOn}
-use Rattle.std.specs.Prelude.{MatchOption}
-use Rattle.camp_branch.proofs.Names.{filter_image, is_among_is, not_among}
+use Rattle.camp_questions.proofs.Words.{and_from, and_parts, ◌≡◌, ℕ, Bool, true, false, not, ◌&&◌, List, [], ◌∷◌, ◌++◌, map, filter, Option, None, Some, Ok, Err, refl, sym, ap, ◌∙◌, inl, inr, subst, Key, Catch, has_patch, is_among, name_of, names_of, among_kept, among_once, Arrange, AreAlike, Contents, catches_of, first_lacked, is_empty, step, AreAmong, ComeToFront, StickOn, MatchOption, filter_image, is_among_is, not_among, MergesBehind, Outcome, PullGives, WantedNext, common_names, NoBranch, NoPatch, NothingToDo, TooLarge, keep_labels, lists_are_unique, lists_succeed_or_stick, KeysPart, keys_of, Decision, becomes, is_full_with, refused, refused_if, wanted, AnswerOf, OfBranch, OfPatches, AlongIsEnough, map-map, catch_key, ◌≢◌, ArrangeSticks, arrange_by_members, in_order, GrowsToFront}
 use Rattle.camp_branch.proofs.Words.{cond-false, cond-true}
 use Rattle.camp_branch.proofs.OutcomesDetermined.{outcomes_are_determined}
-use Rattle.camp_branch.specs.Pulling.{MergesBehind, Outcome, PullGives, WantedNext, common_names}
 use Rattle.camp_branch.specs.declared.faults.Blocked.TheVariants as blocked
 use Rattle.camp_call.specs.declared.calls.Call.TheVariants as call
-use Rattle.camp_call.specs.declared.replies.Refusal.TheVariants.{Depends, NoBranch, NoPatch, NothingToDo, TooLarge}
-use Rattle.camp_catch.proofs.KeptLabels.{keep_labels}
-use Rattle.camp_catch.proofs.ListResults.{lists_are_unique, lists_succeed_or_stick}
-use Rattle.camp_catch.specs.Laws.{KeysPart, keys_of}
+use Rattle.camp_call.specs.declared.replies.Refusal.TheVariants.{Depends}
 use Rattle.camp_repo.specs.Outcomes.{pulled}
-use Rattle.camp_repo.specs.Steps.{Decision, becomes, is_full_with, refused, refused_if, wanted}
-use Rattle.camp_questions.proofs.BranchGrowths.{none_lacked, none_lacked_among, to_front}
+use Rattle.camp_questions.proofs.BranchGrowths.{none_lacked, none_lacked_among, to_front, contains_alike}
 use Rattle.camp_questions.proofs.Growths.{all_done, all_own, in_order_there, names_differ, same_in_order}
-use Rattle.camp_questions.specs.Along.{AlongOr, ComesAlong, OfTwo}
-use Rattle.camp_questions.specs.Answers.{AnswerOf, OfBranch, OfPatches}
-use Rattle.camp_questions.specs.Laws.{AlongIsEnough}
+use Rattle.camp_questions.specs.Along.{AlongOr, ComesAlong, OfTwo, AreAlong, HaveDiverged}
+use Rattle.camp_questions.proofs.Growing.{grown_in_order}
+use Rattle.camp_questions.specs.Inside.Alongside.{StandBehind}
 
 diverged_not : {A : Type 0} (name patch on : List ℕ) (outcome : Outcome) → outcome ≡ Err (blocked.Diverged name) → outcome ≡ Err (blocked.Depends patch on) → A
 diverged_not name patch on outcome e f = cc
@@ -49,27 +42,16 @@ not_depends from to names common behind patch on outcome arranged front (inl (fi
     wanted_not_depend names (common_names from to) first list to patch on outcome (subst (λ l. ComeToFront l names) same.1 front) next is
 not_depends from to names common behind patch on outcome arranged front (inr (stuck, other, sticks, e)) is = diverged_not stuck.name patch on outcome e is
 
--- what is arranged by names is what passes their test, and the rest
-abbrev Chosen : List (List ℕ) → List Key → List Key → List Key → Type 0
-Chosen names keys first rest =
-    (first ≡ filter (λ k. is_among names k.name) keys) × (rest ≡ filter (λ k. not (is_among names k.name)) keys)
-
-chosen_by : (names : List (List ℕ)) (keys first rest : List Key) → KeysPart names keys first rest → Chosen names keys first rest
-chosen_by names [] first rest w = w
-chosen_by names (key ∷ keys) first rest (inl w) =
-    let v = w.1 in
-    let e = (is_among_is names key.name).0 w.0 in
-    let more = chosen_by names keys v.0 rest v.1 in
-    (v.2 ∙ ap (λ t. key ∷ t) more.0 ∙ sym (cond-true (is_among names key.name) _ _ e), more.1 ∙ sym (cond-false (not (is_among names key.name)) _ _ (ap not e)))
-chosen_by names (key ∷ keys) first rest (inr w) =
-    let v = w.1 in
-    let e = not_among names key.name w.0 in
-    let more = chosen_by names keys first v.0 v.1 in
-    (more.0 ∙ sym (cond-false (is_among names key.name) _ _ e), v.2 ∙ ap (λ t. key ∷ t) more.1 ∙ sym (cond-true (not (is_among names key.name)) _ _ (ap not e)))
+-- what is left behind those that are arranged by names fails their test
+left_by : (names : List (List ℕ)) (keys first rest : List Key) → KeysPart names keys first rest → rest ≡ filter (λ k. not (is_among names k.name)) keys
+left_by names [] first rest w = w.1
+left_by names (key ∷ keys) first rest (inl w) =
+    left_by names keys w.1.0 rest w.1.1 ∙ sym (cond-false (not (is_among names key.name)) _ _ (ap not ((is_among_is names key.name).0 w.0)))
+left_by names (key ∷ keys) first rest (inr w) =
+    w.1.2 ∙ ap (λ t. key ∷ t) (left_by names keys first w.1.0 w.1.1) ∙ sym (cond-true (not (is_among names key.name)) _ _ (ap not (not_among names key.name w.0)))
 
 names_at : (list : List Catch) → map name_of list ≡ map (λ (key : Key). key.name) (keys_of list)
-names_at [] = refl
-names_at (k ∷ list) = ap (λ t. name_of k ∷ t) (names_at list)
+names_at list = sym (map-map (λ (key : Key). key.name) catch_key list)
 
 and_not : (a b : Bool) → (a && not (a && b)) ≡ (a && not b)
 and_not true b = refl
@@ -79,7 +61,7 @@ and_not false b = refl
 lacked_behind : (from to common behind : List Catch) → Arrange (common_names from to) from common behind → (n : List ℕ) → is_among (map name_of behind) n ≡ (has_patch from n && not (has_patch to n))
 lacked_behind from to common behind arranged n =
     let names = common_names from to in
-    let keys = (chosen_by names (keys_of from) (keys_of common) (keys_of behind) (keep_labels.arranged names from common behind arranged)).1 in
+    let keys = left_by names (keys_of from) (keys_of common) (keys_of behind) (keep_labels.arranged names from common behind arranged) in
     let are : map name_of behind ≡ filter (λ m. not (is_among names m)) (map name_of from) =
     names_at behind ∙ ap (map (λ (key : Key). key.name)) keys ∙ sym (filter_image (λ (key : Key). key.name) (λ m. not (is_among names m)) (keys_of from)) ∙ ap (filter (λ m. not (is_among names m))) (sym (names_at from)) in
     let both : is_among names n ≡ (has_patch from n && has_patch to n) = among_kept (has_patch to) (names_of from) n ∙ ap (λ b. b && has_patch to n) (among_once (map name_of from) n) in
@@ -174,3 +156,23 @@ along_is_enough state from to names told w =
     let b = goes_on (catches_of state.branches to) to (λ ours. OfTwo from to (OfPatches a.0 names (AlongOr a.0 ours names))) told a.2 in
     let done = goes state from to names told a.0 b.0 a.1 b.1 b.2 in
     (done.there, done.free)
+
+-- ---- what comes along with patches, and why it may not
+
+-- by the names of a set that are those in common
+pub stands_behind : (from to : List Catch) (names : List (List ℕ)) (first rest : List Catch) → AreAlike names (common_names from to) → Arrange names from first rest → StandBehind from to rest
+stands_behind from to names first rest alike w =
+    (first, arrange_by_members.arranged names (common_names from to) (contains_alike names (common_names from to) alike) from first rest w)
+
+pub have_diverged : (from to : List Catch) (names : List (List ℕ)) (patch on : Key) → AreAlike names (common_names from to) → ArrangeSticks names from patch on → HaveDiverged from to patch.name
+have_diverged from to names patch on alike w =
+    (patch, on, arrange_by_members.sticks names (common_names from to) (contains_alike names (common_names from to) alike) from patch on w, refl)
+
+-- the names that have grown behind the common patches come along
+pub comes_along : (from to behind : List Catch) (names set grown told : List (List ℕ)) → StandBehind from to behind → AreAlike set (wanted to names) → GrowsToFront behind set grown → told ≡ in_order from grown → ComesAlong from to names told
+comes_along from to behind names set grown told stand alike grows is =
+    (stand.0, behind, stand.1, grown_in_order (map name_of behind) (ComeToFront behind) (StickOn behind) (to_front behind) from (wanted to names) set grown told alike grows is)
+
+module _ (state : Contents) (from to : List ℕ) (names : List (List ℕ)) (theirs ours : List Catch) (is_from : catches_of state.branches from ≡ Some theirs) (is_to : catches_of state.branches to ≡ Some ours) where
+  pub are_along : (told : List (List ℕ)) → from ≢ to → first_lacked theirs names ≡ None → ComesAlong theirs ours names told → AreAlong state from to names (Ok told)
+  are_along told two none w = rw is_from (rw is_to (inr (two, rw none (inl (told, refl, w)))))

@@ -1,12 +1,7 @@
 -- The laws of annotations.
-use Rattle.camp_questions.proofs.Words.{◌≡◌, ◌≤◌, ℕ, ◌+◌, ◌-◌, ◌==◌, Bool, true, false, ◌||◌, cond, List, [], ◌∷◌, ◌++◌, map, bytes_eq, subst, Option, None, Some, length, take, drop, replicate, refl, sym, ap, ◌∙◌, arith, empty, get, get-empty, get-insert, insert, Edit, key_cmp, key_of, label_of, Key, Named, Primitive, Add, Remove, Hunk, key_total, effect_of, Catch, has_patch, is_among, name_of, name_itself, or_true, Known, behind_all, behind_catches, behind_change, behind_hunk, names_coming, nothing_known, lines_or_none, LinesHaveNames, append_assoc, drop_at, drop-drop, length-append, length-take-le, take-append-drop, take_at, All, slice_range, splice, eq_by_cmp, is_eq, eq-eqb, All-append, All-drop, All-nil, All-replicate, All-take, none-some, same_Some, flipped}
+use Rattle.camp_questions.proofs.Words.{◌≡◌, ◌≤◌, ℕ, ◌+◌, ◌-◌, ◌==◌, Bool, true, false, ◌||◌, cond, List, [], ◌∷◌, ◌++◌, map, bytes_eq, subst, Option, None, Some, length, take, drop, replicate, refl, sym, ap, ◌∙◌, arith, empty, get, get-empty, get-insert, insert, Edit, key_cmp, key_of, label_of, Key, Named, Primitive, Add, Remove, Hunk, key_total, effect_of, Catch, has_patch, is_among, name_of, name_itself, or_true, Known, behind_all, behind_catches, behind_change, behind_hunk, names_coming, nothing_known, lines_or_none, LinesHaveNames, append_assoc, drop_at, drop-drop, length-append, length-take-le, take-append-drop, take_at, All, slice_range, splice, eq_by_cmp, is_eq, eq-eqb, All-append, All-drop, All-nil, All-replicate, All-take, none-some, same_Some, flipped, own_names, common_end, common_front, cond_both}
 use Rattle.std.proofs.lemmas.Cmp.{tied_itself}
 use Rattle.camp_questions.proofs.LineNames.{catches_count, coming_count, gone_count, none_known}
-use Rattle.camp_questions.specs.Annotations.{own_names}
-use Rattle.camp_questions.specs.CommonLines.{common_end, common_front}
-
-kept_at : (taken own : List (List ℕ)) (count : ℕ) → length taken ≡ count → names_coming (Some taken) own count ≡ taken
-kept_at taken own count same = ap (λ b. cond b taken own) (eq-eqb (length taken) count same)
 
 -- what was taken away is found under its absolute label
 found : (known : Known) (key : Key) (taken : List (List ℕ)) → get (insert known.taken key taken) key ≡ Some taken
@@ -32,7 +27,7 @@ given_back name other key hunk known within =
     let coming = names_coming (get known.taken key) (own_names gone name hunk) (length hunk.new) in
     let many : length gone ≡ length hunk.old = gone_count hunk known within in
     let own = own_names (slice_range (splice known.names from to coming) from (from + length hunk.new)) other (flipped hunk) in
-    let there : names_coming (get (insert known.taken key gone) key) own (length hunk.old) ≡ gone = ap (λ o. names_coming o own (length hunk.old)) (found known key gone) ∙ kept_at gone own (length hunk.old) many in
+    let there : names_coming (get (insert known.taken key gone) key) own (length hunk.old) ≡ gone = ap (λ o. names_coming o own (length hunk.old)) (found known key gone) ∙ ap (λ b. cond b gone own) (eq-eqb (length gone) (length hunk.old) many) in
     ap (splice (splice known.names from to coming) from (from + length hunk.new)) there ∙ back known.names coming from to (from + length hunk.new) (omega arith) within (ap (λ n. from + n) (sym (coming_count name key hunk known within)))
 
 -- all that is known are names of which something holds
@@ -50,13 +45,9 @@ module _ (P : List ℕ → Type 0) where
       (All-append P (take front gone) (replicate between name) (All-take P front gone all) (All-replicate P between name one))
       (All-drop P (length gone - end) gone all)
 
-  coming_hold_at : (taken own : List (List ℕ)) (b : Bool) → All P own → All P taken → All P (cond b taken own)
-  coming_hold_at taken own true one all = all
-  coming_hold_at taken own false one all = one
-
   coming_hold : (taken : Option (List (List ℕ))) (own : List (List ℕ)) (count : ℕ) → All P own → ((l : List (List ℕ)) → taken ≡ Some l → All P l) → All P (names_coming taken own count)
   coming_hold None own count one all = one
-  coming_hold (Some taken) own count one all = coming_hold_at taken own (length taken == count) one (all taken refl)
+  coming_hold (Some taken) own count one all = cond_both (length taken == count) taken own (All P) (λ e. all taken refl) (λ e. one)
 
   taken_hold : (b : Bool) (gone taken : List (List ℕ)) (o : Option (List (List ℕ))) → All P gone → ((l : List (List ℕ)) → o ≡ Some l → All P l) → cond b (Some gone) o ≡ Some taken → All P taken
   taken_hold true gone taken o one all e = subst (All P) (same_Some gone taken e) one
@@ -75,15 +66,11 @@ module _ (P : List ℕ → Type 0) where
         taken = λ q taken e. taken_hold (eq_by_cmp key_cmp q key) gone taken (get known.taken q) all_gone (all.taken q) (sym (get-insert key_total known.taken key gone q) ∙ e);
       }
 
-  hunk_holds_at : (name : List ℕ) (key : Key) (hunk : Edit) (known : Known) (b : Bool) → P name → Holds P known → Holds P (cond b (behind_hunk name key hunk known) known)
-  hunk_holds_at name key hunk known true one all = hunk_holds name key hunk known one all
-  hunk_holds_at name key hunk known false one all = all
-
   change_holds : (path name : List ℕ) (key : Key) (p : Primitive) (known : Known) → P name → Holds P known → Holds P (behind_change path name key p known)
   change_holds path name key (Add q) known one all = all
   change_holds path name key (Remove q) known one all = all
   change_holds path name key (Hunk hunk) known one all =
-      hunk_holds_at name key hunk known (bytes_eq hunk.path path) one all
+      cond_both (bytes_eq hunk.path path) (behind_hunk name key hunk known) known (Holds P) (λ e. hunk_holds name key hunk known one all) (λ e. all)
 
   effect_holds : (path name : List ℕ) (s : List Named) (known : Known) → P name → Holds P known → Holds P (behind_all path name s known)
   effect_holds path name [] known one all = all

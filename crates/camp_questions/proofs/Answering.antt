@@ -1,16 +1,7 @@
 -- Questions that have an answer.
-use Rattle.camp_questions.proofs.Words.{ExactlyOne, get, Files, Catch, LeadsTo, Contents, catches_of, first_lacked, AreAnnotated, annotated, names_of_lines, ◌≡◌, ℕ, List, [], ◌∷◌, Result, Ok, Err, Some, IsErrAnd, refl, sym, ap, ◌∙◌, subst, OfNames, Named, None, Primitive, Annotated, AnswerOf, Tells, IsFound, Unanswered, Refused, Memory}
-use Rattle.std.proofs.Common.{Option}
-use Rattle.std.specs.Prelude.{MatchOption}
-use Rattle.camp_base.specs.Trees.{Lines}
-use Rattle.camp_call.specs.declared.replies.Refusal.{Refusal}
-use Rattle.camp_call.specs.declared.replies.Refusal.TheVariants.{NoBranch, NoPatch}
-use Rattle.camp_questions.specs.Answers.{OfBranch, OfPatches, TellsOrWants}
+use Rattle.camp_questions.proofs.Words.{ExactlyOne, get, Files, Catch, LeadsTo, Contents, catches_of, first_lacked, AreAnnotated, annotated, names_of_lines, ◌≡◌, ℕ, List, [], ◌∷◌, Result, Ok, Err, Some, IsErrAnd, refl, sym, ap, ◌∙◌, subst, OfNames, Named, None, Primitive, Annotated, AnswerOf, Tells, IsFound, Unanswered, Refused, Memory, Option, MatchOption, Lines, Refusal, NoBranch, NoPatch, OfBranch, OfPatches, TellsOrWants, AreMarked, MarksAt, AreOpen, AreOpenIn, IsShown, changes_in, patch_in, IsSide, IsSideIn}
 use Rattle.camp_questions.specs.Files.{IsFile}
-use Rattle.camp_questions.specs.Marks.{AreMarked, MarksAt}
-use Rattle.camp_questions.specs.OpenConflicts.{AreOpen, AreOpenIn}
-use Rattle.camp_questions.specs.Showing.{IsShown, Patch, changes_in, patch_in}
-use Rattle.camp_questions.specs.Sides.{IsSide, IsSideIn}
+use Rattle.camp_questions.specs.Showing.{Patch}
 use Rattle.camp_questions.specs.declared.marking.Marked.{Marked}
 
 -- there is the branch, and it has the patches

@@ -1,7 +1,8 @@
 -- The arrows of a graph are the direct needs.
-use Rattle.camp_questions.proofs.Words.{◌≡◌, ◌≢◌, ℕ, Bool, true, false, true≢false, not, ◌||◌, List, [], ◌∷◌, ◌++◌, map, bytes_eq, refl, sym, ap, ◌∙◌, subst, ◌↔◌, AllByRecursion, list_any, Catch, and_from, and_parts, not-true, is_among, name_of, names_of, name_itself, or_true, same_name, among_kept, among_once, Needs, Node, ArrowsAreDirectNeeds, NeedsDirectly, NeedsPatch, Needing, NeedsThese, goes_between, needs_directly, needs_other, node_of}
+use Rattle.camp_questions.proofs.Words.{◌≡◌, ◌≢◌, ℕ, Bool, true, false, true≢false, not, ◌||◌, List, [], ◌∷◌, ◌++◌, map, bytes_eq, refl, sym, ap, ◌∙◌, subst, ◌↔◌, AllByRecursion, list_any, Catch, and_from, and_parts, not-true, is_among, name_of, names_of, name_itself, or_true, among_kept, among_once, Needs, Node, ArrowsAreDirectNeeds, NeedsDirectly, NeedsPatch, Needing, NeedsThese, goes_between, needs_directly, needs_other, node_of, inl, inr}
 use Rattle.camp_questions.proofs.BranchGrowths.{needs_are_determined}
-use Rattle.camp_questions.proofs.Growths.{in_order_there, names_differ}
+use Rattle.camp_questions.proofs.Growths.{among_cases, in_order_there, names_differ}
+use Rattle.camp_questions.proofs.PatchFronts.{all_are, all_images, one_passing}
 
 module _ (branch : List Catch) where
   pub one_needed : (names needed other : List (List ℕ)) → Needs branch names needed → Needs branch names other → needed ≡ other
@@ -22,25 +23,13 @@ module _ (branch : List Catch) where
         (these.0, these.1, sym (these.2 other) ∙ parts.1),
       )
 
-  there_at : (test : Needing → Bool) (patch : Needing) (all : List Needing) (name : List ℕ) (b : Bool) → bytes_eq name patch.name ≡ b → (b || is_among (map (λ (p : Needing). p.name) all) name) ≡ true → (patch.name ≡ name → test patch ≡ true) → (is_among (map (λ (p : Needing). p.name) all) name ≡ true → list_any test all ≡ true) → (test patch || list_any test all) ≡ true
-  there_at test patch all name true e among here later =
-      ap (λ b. b || list_any test all) (here (sym (same_name name patch.name e)))
-  there_at test patch all name false e among here later = or_true (test patch) (list_any test all) (later among)
-
   -- one of the patches has the name
   passes_there : (test : Needing → Bool) (all : List Needing) (name : List ℕ) → AllByRecursion (NeedsThese branch) all → ((patch : Needing) → NeedsThese branch patch → patch.name ≡ name → test patch ≡ true) → is_among (map (λ (p : Needing). p.name) all) name ≡ true → list_any test all ≡ true
   passes_there test [] name each passes among = absurd (true≢false (sym among))
-  passes_there test (patch ∷ all) name each passes among =
-      there_at test patch all name (bytes_eq name patch.name) refl among (passes patch each.0) (passes_there test all name each.1 passes)
-
-  found_at : (test : Needing → Bool) (patch : Needing) (all : List Needing) (b : Bool) → test patch ≡ b → NeedsThese branch patch → (b || list_any test all) ≡ true → (list_any test all ≡ true → (p : Needing) × NeedsThese branch p × (test p ≡ true)) → (p : Needing) × NeedsThese branch p × (test p ≡ true)
-  found_at test patch all true e these any later = (patch, these, e)
-  found_at test patch all false e these any later = later any
-
-  pub one_passes : (test : Needing → Bool) (all : List Needing) → AllByRecursion (NeedsThese branch) all → list_any test all ≡ true → (p : Needing) × NeedsThese branch p × (test p ≡ true)
-  one_passes test [] each any = absurd (true≢false (sym any))
-  one_passes test (patch ∷ all) each any =
-      found_at test patch all (test patch) refl each.0 any (one_passes test all each.1)
+  passes_there test (patch ∷ all) name each passes among = elim (among_cases patch.name (map (λ (p : Needing). p.name) all) name among) [
+    | inl e ↦ ap (λ b. b || list_any test all) (passes patch each.0 (sym e))
+    | inr e ↦ or_true (test patch) (list_any test all) (passes_there test all name each.1 passes e)
+  ]
 
   -- what is needed is a patch of the branch
   pub is_there : (name other : List ℕ) → NeedsPatch branch name other → is_among (names_of branch) other ≡ true
@@ -63,7 +52,7 @@ module _ (branch : List Catch) where
     none_goes_between : (b : Bool) → list_any (goes_between patch other) all ≡ b → NeedsDirectly branch patch.name other → not b ≡ true
     none_goes_between false e direct = refl
     none_goes_between true e direct =
-        let one = one_passes (goes_between patch other) all each e in
+        let one = one_passing (NeedsThese branch) (goes_between patch other) all each e in
         let parts = and_parts (needs_other patch one.0.name) (needs_other one.0 other) one.2 in
         absurd (direct.none_between one.0.name (known_needs patch these one.0.name parts.0) (known_needs one.0 one.1 other parts.1))
 
@@ -78,11 +67,7 @@ module _ (branch : List Catch) where
           λ direct. kept ∙ and_from (is_among (names_of branch) other) (needs_directly all patch other) (is_there patch.name other direct.needs) (need_is_arrow direct),
         )
 
-  arrows_of : (all list : List Needing) → map (λ (p : Needing). p.name) all ≡ names_of branch → AllByRecursion (NeedsThese branch) all → AllByRecursion (NeedsThese branch) list → AllByRecursion (λ (node : Node). (other : List ℕ) → (is_among node.needs other ≡ true) ↔ NeedsDirectly branch node.name other) (map (node_of branch all) list)
-  arrows_of all [] names each here = tt
-  arrows_of all (patch ∷ list) names each here =
-      (λ other. arrows_at all names each patch here.0 other, arrows_of all list names each here.1)
-
 pub arrows_are_direct_needs : ArrowsAreDirectNeeds
 arrows_are_direct_needs branch graph is =
-    subst (AllByRecursion (λ (node : Node). (other : List ℕ) → (is_among node.needs other ≡ true) ↔ NeedsDirectly branch node.name other)) (sym is.patches) (arrows_of branch is.all is.all is.names is.needs is.needs)
+    let Are : Node → Type 0 = λ node. (other : List ℕ) → (is_among node.needs other ≡ true) ↔ NeedsDirectly branch node.name other in
+    subst (AllByRecursion Are) (sym is.patches) (all_images (node_of branch is.all) Are is.all (all_are (λ patch these. arrows_at branch is.all is.names is.needs patch these) is.all is.needs))

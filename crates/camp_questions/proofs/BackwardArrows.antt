@@ -1,14 +1,10 @@
 -- The arrows of a graph lead backwards.
-use Rattle.camp_questions.proofs.Words.{◌⊎◌, ◌≡◌, ◌≢◌, ℕ, Bool, true, false, true≢false, ◌||◌, cond, List, [], ◌∷◌, ◌++◌, map, bytes_eq, refl, sym, ap, ◌∙◌, subst, inl, inr, Key, Catch, SticksBehind, is_among, is_among_is, name_of, names_of, same_name, ComeToFront, StickOn, AreAmong, NeedsDirectly, NeedsPatch, Node, ◌↔◌, HasPatches, Patch, IsLawfulBranch, has_patch, among_once}
-use Rattle.camp_branch.proofs.BranchLabels.{names_of_patches}
-use Rattle.camp_questions.specs.Laws.{ArrowsLeadBackwards, StandsBefore}
-use Rattle.std.proofs.lemmas.Bool.{false_from_ne_true}
-use Rattle.camp_branch.proofs.Names.{has_image}
+use Rattle.camp_questions.proofs.Words.{◌⊎◌, ◌≡◌, ◌≢◌, ℕ, Bool, true, false, true≢false, ◌||◌, cond, List, [], ◌∷◌, ◌++◌, map, bytes_eq, refl, sym, ap, ◌∙◌, subst, inl, inr, Key, Catch, SticksBehind, is_among, is_among_is, name_of, names_of, same_name, ComeToFront, StickOn, AreAmong, NeedsDirectly, NeedsPatch, Node, ◌↔◌, HasPatches, Patch, IsLawfulBranch, has_patch, among_once, names_of_patches, ArrowsLeadBackwards, StandsBefore, false_from_ne_true, has_image, map-map, node_of}
 use Rattle.camp_questions.proofs.Arrows.{arrows_are_direct_needs}
 use Rattle.camp_questions.proofs.Growths.{all_within, among_cases}
-use Rattle.camp_questions.proofs.LeastNeeds.{in_order_among}
+use Rattle.camp_questions.proofs.BranchGrowths.{in_order_among}
 use Rattle.camp_questions.proofs.PatchFronts.{AreNotOf, AreOf, StandFirst, ends, stand_first, up_to}
-use Rattle.camp_questions.proofs.ReachedNeeds.{alone_among, fact_of, names_of_nodes}
+use Rattle.camp_questions.proofs.ReachedNeeds.{alone_among, fact_of}
 use Rattle.camp_questions.proofs.Stuck.{sticks_between}
 
 module _ (names : List (List ℕ)) where
@@ -94,7 +90,7 @@ needs_stand_before branch name other lawful has needs =
 pub arrows_lead_backwards : ArrowsLeadBackwards
 arrows_lead_backwards branch graph lawful is name other arrow =
     let called : List Node → List (List ℕ) = map (λ (n : Node). n.name) in
-    let own : called graph.patches ≡ names_of branch = ap called is.patches ∙ names_of_nodes branch is.all is.all ∙ is.names in
+    let own : called graph.patches ≡ names_of branch = ap called is.patches ∙ map-map (λ (n : Node). n.name) (node_of branch is.all) is.all ∙ is.names in
     let fact = fact_of (λ (node : Node). (n : List ℕ) → (is_among node.needs n ≡ true) ↔ NeedsDirectly branch node.name n) graph.patches arrow.0 (arrows_are_direct_needs branch graph is) arrow.1 in
     let direct = subst (λ n. NeedsDirectly branch n other) arrow.2 ((fact other).0 arrow.3) in
     let there = (is_among_is (called graph.patches) arrow.0.name).0 (has_image (λ (n : Node). n.name) graph.patches arrow.0 arrow.1) in

@@ -1,11 +1,9 @@
 -- Names that grow until they come to the front of a branch, or until they can be taken out of it.
-use Rattle.camp_questions.proofs.Words.{and_parts, not-true, ◌≡◌, ◌≢◌, ℕ, Bool, true, false, true≢false, not, cond, ◌||◌, List, [], ◌∷◌, ◌++◌, map, None, Some, Ok, Err, bytes_eq, refl, sym, ap, ◌∙◌, inl, inr, ◌↔◌, Contains, Key, Catch, has_patch, is_among, name_of, is_among_is, name_itself, or_true, Next, Has, first_lacked, is_empty, step, AreHeldIn, CanGo, ComeToFront, StickOn, other_names, among_others, Contents, after, with_catches, AreAlike, obliterate_alike, AreAmong, HeldCanGo, HeldIsDetermined, NeedsAreDetermined, NeedsComeFirst}
-use Rattle.camp_catch.proofs.ListResults.{arrange_by_members, lists_are_unique, lists_succeed_or_stick}
-use Rattle.camp_branch.specs.Pulling.{Outcome}
+use Rattle.camp_questions.proofs.Words.{and_parts, not-true, ◌≡◌, ◌≢◌, ℕ, Bool, true, false, true≢false, not, cond, ◌||◌, List, [], ◌∷◌, ◌++◌, map, None, Some, Ok, Err, bytes_eq, refl, sym, ap, ◌∙◌, inl, inr, ◌↔◌, Contains, Key, Catch, has_patch, is_among, name_of, is_among_is, name_itself, or_true, Next, Has, first_lacked, is_empty, step, AreHeldIn, CanGo, ComeToFront, StickOn, other_names, among_others, Contents, after, with_catches, AreAlike, obliterate_alike, AreAmong, HeldCanGo, HeldIsDetermined, NeedsAreDetermined, NeedsComeFirst, arrange_by_members, lists_are_unique, lists_succeed_or_stick, Outcome, subst, ArrangeSticks, names_of, among_kept, in_order, IsPlain, NeedsAreLeast, what_stops_comes_along}
 use Rattle.camp_branch.specs.declared.faults.Blocked.TheVariants.{Depends}
 use Rattle.camp_branch.proofs.OutcomesDetermined.{outcomes_are_determined}
 use Rattle.camp_call.specs.declared.calls.Call.TheVariants as call
-use Rattle.camp_questions.proofs.Growths.{Grow, among_cases, grew, grows_to_one, in_order_there}
+use Rattle.camp_questions.proofs.Growths.{Grow, among_cases, grew, grows_to_one, in_order_there, all_within}
 use Rattle.camp_questions.proofs.Stuck.{sticks_between}
 
 pub contains_alike : (names others : List (List ℕ)) → AreAlike names others → (n : List ℕ) → Contains names n ↔ Contains others n
@@ -114,3 +112,21 @@ held_can_go state name branch names held has all some grows =
     let grown = grew branch (CanGo branch) (AreHeldIn branch) (to_go branch) names held (none_lacked_among branch names all) grows in
     let there : first_lacked branch held ≡ None = none_lacked branch held (λ n among. in_order_there branch (names ++ grows.0) n (ap (λ l. is_among l n) (sym grows.2) ∙ among)) in
     (accepted_if state name branch held has there (not_empty names held some grown.1.has) grown.0, grown.1)
+
+-- ---- what names need is the least that comes to the front, where all catches are plain and have room
+
+-- what stops some names comes along with all that come to the front and have them
+pub stops_within : (branch : List Catch) (others : List (List ℕ)) → IsPlain branch → ComeToFront branch others → (names : List (List ℕ)) (name : List ℕ) → AreAmong names others → StickOn branch names name → is_among others name ≡ true
+stops_within branch others plain come names name among stop =
+    let sticks = subst (λ list. ArrangeSticks names list stop.0 stop.1) plain.are stop.2 in
+    let along = what_stops_comes_along plain.patches names others plain.room (λ n c. (is_among_is others n).1 (among n ((is_among_is names n).0 c))) stop.0 stop.1 sticks (subst (λ list. ComeToFront list others) plain.are come) in
+    (is_among_is others name).0 (subst (λ n. Contains others n) (sym stop.3) along)
+
+-- what stands in the order of a branch is among the names that stand so
+pub in_order_among : (branch : List Catch) (names : List (List ℕ)) → AreAmong (in_order branch names) names
+in_order_among branch names n there =
+    (and_parts (is_among (names_of branch) n) (is_among names n) (sym (among_kept (is_among names) (names_of branch) n) ∙ there)).1
+
+pub needs_are_least : NeedsAreLeast
+needs_are_least branch names needed others plain needs among come name there =
+    all_within (ComeToFront branch) (StickOn branch) others (stops_within branch others plain come) names needs.0 among needs.1 name (in_order_among branch (names ++ needs.0) name (ap (λ l. is_among l name) (sym needs.2) ∙ there))

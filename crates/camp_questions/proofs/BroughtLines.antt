@@ -1,21 +1,10 @@
 -- Each line of a file was brought by a hunk of the patch whose name it has.
-use Rattle.camp_questions.proofs.Words.{◌≡◌, ℕ, ◌+◌, ◌-◌, ◌==◌, ◌||◌, Bool, true, false, cond, List, [], ◌∷◌, ◌++◌, map, Option, None, Some, length, take, drop, bytes_eq, refl, sym, ap, ◌∙◌, subst, arith, empty, get, get-empty, get-insert, slice_range, splice, nat_cmp, eq_by_cmp, slice_cmp, bytes_eq-Decides, Edit, key_cmp, key_of, key_total, label_of, Key, Named, Primitive, Add, Remove, Hunk, Catch, name_of, name_itself, is_among, Known, behind_all, behind_catches, behind_change, behind_hunk, names_coming, names_of_lines, nothing_known, lines_or_none, annotated, append_assoc, drop_at, length-append, none-some, same_Some, take_at, AllByRecursion, flat_map, Applies, Files, Lines, Splices, FitsAll, effect_of, Contains, catches_named, patch_in}
-use Rattle.std.proofs.lemmas.List.Elements.{All-contains_itself, All-weaker, recursion_from_All}
-use Rattle.std.specs.List.{AllZip}
-use Rattle.camp_branch.proofs.Names.{has_image}
-use Rattle.camp_catch.specs.declared.catches.Catch.TheVariants.{Plain}
+use Rattle.camp_questions.proofs.Words.{◌≡◌, ℕ, ◌+◌, ◌-◌, ◌==◌, ◌||◌, Bool, true, false, cond, List, [], ◌∷◌, ◌++◌, map, Option, None, Some, length, take, drop, bytes_eq, refl, sym, ap, ◌∙◌, subst, arith, empty, get, get-empty, get-insert, slice_range, splice, nat_cmp, eq_by_cmp, slice_cmp, bytes_eq-Decides, Edit, key_cmp, key_of, key_total, label_of, Key, Named, Primitive, Add, Remove, Hunk, Catch, name_of, name_itself, is_among, Known, behind_all, behind_catches, behind_change, behind_hunk, names_coming, names_of_lines, nothing_known, lines_or_none, annotated, append_assoc, drop_at, length-append, none-some, same_Some, take_at, AllByRecursion, flat_map, Applies, Files, Lines, Splices, FitsAll, effect_of, Contains, catches_named, patch_in, All-contains_itself, All-weaker, recursion_from_All, AllZip, has_image, Plain, SameKey, AppliesAll, own_names, brought_by, ComeAgainAsInverses, EachIsBrought, IsBrought, LinesAreBrought, PutsBack, changes_in, cond_both}
 use Rattle.camp_prim.proofs.FilesAtPaths.{get-with_file_other, get-with_file_same}
-use Rattle.camp_prim.specs.Labels.{SameKey}
-use Rattle.camp_seq.specs.Running.{AppliesAll}
-use Rattle.camp_questions.proofs.LineNames.{alike, other_path}
+use Rattle.camp_questions.proofs.LineNames.{alike, other_path, same_key}
 use Rattle.camp_questions.proofs.PairSteps.{has_of_each, kept_has}
 use Rattle.camp_questions.proofs.PlainLabels.{inverses_alone, plain_effects}
-use Rattle.camp_questions.proofs.TakenNames.{same_key}
 use Rattle.camp_questions.proofs.ZippedLines.{own_zipped, zipped_append, zipped_drop, zipped_take}
-use Rattle.camp_questions.specs.Annotations.{own_names}
-use Rattle.camp_questions.specs.CommonLines.{brought_by}
-use Rattle.camp_questions.specs.Laws.{ComeAgainAsInverses, EachIsBrought, IsBrought, LinesAreBrought, PutsBack}
-use Rattle.camp_questions.specs.Showing.{changes_in}
 use Rattle.camp_questions.specs.declared.annotations.Annotated.TheVariants.{File}
 
 module _ (R : List ℕ → List ℕ → Type 0) (path : List ℕ) where
@@ -47,10 +36,6 @@ module _ (R : List ℕ → List ℕ → Type 0) (path : List ℕ) where
       let t = all key gone e in
       record { hunk = t.hunk; file = t.file; names = t.names; back = t.back.1 }
 
-  come_at : (taken own : List (List ℕ)) (new : Lines) (b : Bool) → AllZip R own new → AllZip R taken new → AllZip R (cond b taken own) new
-  come_at taken own new true v w = w
-  come_at taken own new false v w = v
-
   -- the names that come with a hunk fit its new lines
   come : (p : Named) (s : List Named) (known : Known) (hunk : Edit) (own : List (List ℕ)) (o : Option (List (List ℕ))) → p.prim ≡ Hunk hunk → hunk.path ≡ path → AllTaken (p ∷ s) known → AllZip R own hunk.new → get known.taken (key_of (label_of p)) ≡ o → AllZip R (names_coming o own (length hunk.new)) hunk.new
   come p s known hunk own None is same all fit e = fit
@@ -58,7 +43,7 @@ module _ (R : List ℕ → List ℕ → Type 0) (path : List ℕ) where
       let t = all (key_of (label_of p)) taken e in
       let puts : PutsBack t.hunk (Hunk hunk) = subst (PutsBack t.hunk) is (t.back.0 refl) in
       let lines : hunk.new ≡ t.hunk.old = puts (same ∙ sym t.file) in
-      come_at taken own hunk.new (length taken == length hunk.new) fit (subst (AllZip R taken) (sym lines) t.names)
+      cond_both (length taken == length hunk.new) taken own (λ l. AllZip R l hunk.new) (λ e. subst (AllZip R taken) (sym lines) t.names) (λ e. fit)
 
   -- what is known under absolute labels behind a hunk
   taken_at : (p : Named) (s : List Named) (known : Known) (hunk : Edit) (gone : List (List ℕ)) → hunk.path ≡ path → AllZip R gone hunk.old → AllByRecursion (λ q. SameKey p q → PutsBack hunk q.prim) s → AllTaken (p ∷ s) known
@@ -107,15 +92,6 @@ module _ (R : List ℕ → List ℕ → Type 0) (path : List ℕ) where
         taken = λ q taken e. taken_at p s known hunk gone same cut.gone back fit.taken q taken _ refl (sym (get-insert key_total known.taken key gone q) ∙ e);
       }
 
-  hunk_fits_at : (name : List ℕ) (p : Named) (s : List Named) (hunk : Edit) (old new : Files) (known : Known) (b : Bool) → bytes_eq hunk.path path ≡ b → p.prim ≡ Hunk hunk → FitsNew name (Hunk hunk) → AllByRecursion (λ q. SameKey p q → PutsBack hunk q.prim) s → Splices hunk.path hunk.line hunk.old hunk.new old new → Fit old (p ∷ s) known → Fit new s (cond b (behind_hunk name (key_of (label_of p)) hunk known) known)
-  hunk_fits_at name p s hunk old new known true e is own back w fit =
-      let same : hunk.path ≡ path = (bytes_eq-Decides hunk.path path).0 e in
-      hunk_fits name p s hunk old new known is same (own hunk refl same) back w fit
-  hunk_fits_at name p s hunk old new known false e is own back w fit = record {
-    names = subst (AllZip R known.names) (ap lines_or_none (sym (ap (λ t. get t path) w.becomes ∙ get-with_file_other old hunk.path path (Some w.changed) (other_path hunk.path path e)))) fit.names;
-    taken = one_less p s known fit.taken;
-  }
-
   change_fits : (name : List ℕ) (p : Named) (s : List Named) (prim : Primitive) (old new : Files) (known : Known) → p.prim ≡ prim → FitsNew name prim → ((hunk : Edit) → prim ≡ Hunk hunk → AllByRecursion (λ q. SameKey p q → PutsBack hunk q.prim) s) → Applies prim old new → Fit old (p ∷ s) known → Fit new s (behind_change path name (key_of (label_of p)) prim known)
   change_fits name p s (Add q) old new known is own back w fit = record {
     names = subst (AllZip R known.names) (sym (ap (λ t. lines_or_none (get t path)) w.becomes ∙ alike old q path (Some []) (ap lines_or_none (sym w.absent)))) fit.names;
@@ -126,7 +102,12 @@ module _ (R : List ℕ → List ℕ → Type 0) (path : List ℕ) where
     taken = one_less p s known fit.taken;
   }
   change_fits name p s (Hunk hunk) old new known is own back w fit =
-      hunk_fits_at name p s hunk old new known _ refl is own (back hunk refl) w fit
+      cond_both (bytes_eq hunk.path path) (behind_hunk name (key_of (label_of p)) hunk known) known (Fit new s)
+      (λ e. let same : hunk.path ≡ path = (bytes_eq-Decides hunk.path path).0 e in hunk_fits name p s hunk old new known is same (own hunk refl same) (back hunk refl) w fit)
+      (λ e. record {
+        names = subst (AllZip R known.names) (ap lines_or_none (sym (ap (λ t. get t path) w.becomes ∙ get-with_file_other old hunk.path path (Some w.changed) (other_path hunk.path path e)))) fit.names;
+        taken = one_less p s known fit.taken;
+      })
 
   effect_fits : (name : List ℕ) (s more : List Named) (old new : Files) (known : Known) → FitEach name s → ComeAgainAsInverses (s ++ more) → AppliesAll s old new → Fit old (s ++ more) known → Fit new more (behind_all path name s known)
   effect_fits name [] more old new known own back w fit = subst (λ t. Fit t more known) (sym w) fit

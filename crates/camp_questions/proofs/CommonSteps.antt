@@ -1,13 +1,6 @@
 -- What two lists of lines have in common at their ends, line by line.
-use Rattle.camp_questions.proofs.Words.{◌≡◌, ◌≤◌, ◌<◌, ℕ, zero, suc, ◌+◌, ◌-◌, Bool, true, false, cond, List, [], ◌∷◌, ◌++◌, bytes_eq, drop, length, take, replicate, get_or, refl, sym, ap, ◌∙◌, arith, drop_more, length-append, length-drop, length-replicate, length-take-le, Lines, Edit}
+use Rattle.camp_questions.proofs.Words.{◌≡◌, ◌≤◌, ◌<◌, ℕ, zero, suc, ◌+◌, ◌-◌, Bool, true, false, cond, List, [], ◌∷◌, ◌++◌, bytes_eq, drop, length, take, replicate, get_or, refl, sym, ap, ◌∙◌, arith, drop_more, length-append, length-drop, length-replicate, length-take-le, Lines, Edit, get_or-reverse, length-reverse, reverse, own_names, common_end, common_front, cond_both}
 use Rattle.std.proofs.Math.ListN.{drop_of_length-le}
-use Rattle.std.proofs.lemmas.List.{get_or-reverse, length-reverse}
-use Rattle.std.specs.Prelude.{reverse}
-use Rattle.camp_questions.specs.Annotations.{own_names}
-use Rattle.camp_questions.specs.CommonLines.{common_end, common_front}
-
-front_at : (x y : List ℕ) (lines others : Lines) (b : Bool) → bytes_eq x y ≡ b → common_front (x ∷ lines) (y ∷ others) ≡ cond b (suc (common_front lines others)) zero
-front_at x y lines others b is = ap (λ c. cond c (suc (common_front lines others)) zero) is
 
 module _ (lines others : Lines) (at : ℕ) (so_far : common_front lines others ≡ at + common_front (drop at lines) (drop at others)) where
   module _ (x y : List ℕ) (within : at < length lines) (within_too : at < length others) (is : x ≡ get_or lines at x) (is_too : y ≡ get_or others at y) where
@@ -15,7 +8,7 @@ module _ (lines others : Lines) (at : ℕ) (so_far : common_front lines others �
     next_of_both b same =
         let first : drop at lines ≡ x ∷ drop (at + 1) lines = drop_more lines at x within ∙ ap (λ l. l ∷ drop (at + 1) lines) (sym is) in
         let second : drop at others ≡ y ∷ drop (at + 1) others = drop_more others at y within_too ∙ ap (λ l. l ∷ drop (at + 1) others) (sym is_too) in
-        (λ i. common_front (first i) (second i)) ∙ front_at x y (drop (at + 1) lines) (drop (at + 1) others) b same
+        (λ i. common_front (first i) (second i)) ∙ ap (λ c. cond c (suc (common_front (drop (at + 1) lines) (drop (at + 1) others))) zero) same
 
     -- one more line is the same
     pub one_more_common : bytes_eq x y ≡ true → common_front lines others ≡ (at + 1) + common_front (drop (at + 1) lines) (drop (at + 1) others)
@@ -48,39 +41,25 @@ module _ (lines others : Lines) (at : ℕ) (so_far : common_front lines others �
 -- the same of the lines from the end
 module _ (lines others : Lines) (at : ℕ) (so_far : common_front (reverse lines) (reverse others) ≡ at + common_front (drop at (reverse lines)) (drop at (reverse others))) where
   module _ (x y : List ℕ) (within : at < length lines) (within_too : at < length others) (is : x ≡ get_or lines (length lines - 1 - at) x) (is_too : y ≡ get_or others (length others - 1 - at) y) where
-    first_within : at < length (reverse lines)
-    first_within = omega (arith, length-reverse lines)
-
-    second_within : at < length (reverse others)
-    second_within = omega (arith, length-reverse others)
-
     pub one_more_at_end : bytes_eq x y ≡ true → common_front (reverse lines) (reverse others) ≡ (at + 1) + common_front (drop (at + 1) (reverse lines)) (drop (at + 1) (reverse others))
     one_more_at_end =
-        one_more_common (reverse lines) (reverse others) at so_far x y first_within second_within (is ∙ sym (get_or-reverse lines at x within)) (is_too ∙ sym (get_or-reverse others at y within_too))
+        one_more_common (reverse lines) (reverse others) at so_far x y (omega (arith, length-reverse lines)) (omega (arith, length-reverse others)) (is ∙ sym (get_or-reverse lines at x within)) (is_too ∙ sym (get_or-reverse others at y within_too))
 
     pub no_more_at_end : bytes_eq x y ≡ false → at ≡ common_end lines others
     no_more_at_end =
-        no_more_common (reverse lines) (reverse others) at so_far x y first_within second_within (is ∙ sym (get_or-reverse lines at x within)) (is_too ∙ sym (get_or-reverse others at y within_too))
-
-front_within_at : (lines others : Lines) (b : Bool) → common_front lines others ≤ length lines → cond b (suc (common_front lines others)) zero ≤ suc (length lines)
-front_within_at lines others true le = omega (arith, le)
-front_within_at lines others false le = omega arith
+        no_more_common (reverse lines) (reverse others) at so_far x y (omega (arith, length-reverse lines)) (omega (arith, length-reverse others)) (is ∙ sym (get_or-reverse lines at x within)) (is_too ∙ sym (get_or-reverse others at y within_too))
 
 -- no more are common than there are
 pub front_within : (lines others : Lines) → common_front lines others ≤ length lines
 front_within [] others = omega arith
 front_within (x ∷ lines) [] = omega arith
-front_within (x ∷ lines) (y ∷ others) = front_within_at lines others (bytes_eq x y) (front_within lines others)
-
-front_within_too_at : (lines others : Lines) (b : Bool) → common_front lines others ≤ length others → cond b (suc (common_front lines others)) zero ≤ suc (length others)
-front_within_too_at lines others true le = omega (arith, le)
-front_within_too_at lines others false le = omega arith
+front_within (x ∷ lines) (y ∷ others) = cond_both (bytes_eq x y) (suc (common_front lines others)) zero (λ n. n ≤ suc (length lines)) (λ e. omega (arith, front_within lines others)) (λ e. omega arith)
 
 pub front_within_too : (lines others : Lines) → common_front lines others ≤ length others
 front_within_too [] others = omega arith
 front_within_too (x ∷ lines) [] = omega arith
 front_within_too (x ∷ lines) (y ∷ others) =
-    front_within_too_at lines others (bytes_eq x y) (front_within_too lines others)
+    cond_both (bytes_eq x y) (suc (common_front lines others)) zero (λ n. n ≤ suc (length others)) (λ e. omega (arith, front_within_too lines others)) (λ e. omega arith)
 
 -- the same of what is common at the end
 pub end_within : (lines others : Lines) → common_end lines others ≤ length lines

@@ -1,22 +1,9 @@
 -- Patches that change other files than those of what goes come before it as they are.
-use Rattle.camp_questions.proofs.Words.{not-true, or_parts, or_true, Err, Ok, Result, ◌≡◌, ◌<◌, ◌==◌, ℕ, ◌+◌, Bool, true, false, true≢false, not, ◌||◌, List, [], ◌∷◌, ◌++◌, map, length, get_or, bytes_eq, refl, sym, ap, ◌∙◌, subst, inl, inr, arith, AllByRecursion, list_any, All, all_append, eq-eqb, name_itself, Key, Catch, Named, Primitive, ArrangesBehind, ComesBefore}
-use Rattle.std.proofs.lemmas.List.{get_or-map, length-map}
-use Rattle.std.proofs.lemmas.List.Elements.{All-head, All-tail}
+use Rattle.camp_questions.proofs.Words.{not-true, or_parts, or_true, Err, Ok, Result, ◌≡◌, ◌<◌, ◌==◌, ℕ, ◌+◌, Bool, true, false, true≢false, not, ◌||◌, List, [], ◌∷◌, ◌++◌, map, length, get_or, bytes_eq, refl, sym, ap, ◌∙◌, subst, inl, inr, arith, AllByRecursion, list_any, All, all_append, eq-eqb, name_itself, Key, Catch, Named, Primitive, ArrangesBehind, ComesBefore, get_or-map, length-map, All-head, All-tail, ◌*◌, ◌%◌, IfOk, OnOk, InRange, PrimitivesCommute, Commute, path_of, inverse_all, Plain, Going, PatchCatches, AreApart, AreOfPatch, AreFilesOf, AreMarkedToo, GoMarked, IsMarkedPlain, IsPlainInRange, file_number, how_many, is_marked, number_behind, number_of, IsInverted, AllStay, StandsAside}
 use Rattle.std.proofs.lemmas.Nat.{mod_below}
-use Rattle.std.specs.Prelude.{◌*◌, ◌%◌, IfOk, OnOk}
-use Rattle.camp_prim.specs.Effect.{InRange}
-use Rattle.camp_prim.specs.Commuting.{PrimitivesCommute, Commute, path_of}
 use Rattle.camp_seq.specs.Room.{here}
-use Rattle.camp_seq.specs.Running.{inverse_all}
 use Rattle.camp_catch.specs.Commuting.{CommuteCatch}
-use Rattle.camp_catch.specs.declared.catches.Catch.TheVariants.{Plain}
 use Rattle.camp_questions.specs.declared.fast.changed_files.PatchFiles.{PatchFiles}
-use Rattle.camp_questions.specs.declared.fast.going.Going.{Going}
-use Rattle.camp_questions.specs.declared.fast.patch_catches.PatchCatches.{PatchCatches}
-use Rattle.camp_questions.specs.Inside.ByPatch.{AreApart, AreOfPatch}
-use Rattle.camp_questions.specs.Inside.ChangedFiles.{AreFilesOf, AreMarkedToo, GoMarked, IsMarkedPlain, IsPlainInRange, file_number, how_many, is_marked, number_behind, number_of}
-use Rattle.camp_questions.specs.Inside.Graphing.{IsInverted}
-use Rattle.camp_questions.specs.Inside.StandingAside.{AllStay, StandsAside}
 use Rattle.camp_questions.proofs.PartsArranged.{of_its_name}
 use Rattle.camp_questions.proofs.ReachedPatches.{catches_at}
 

@@ -1,25 +1,23 @@
 -- The branch that an accepted call writes to.
-use Rattle.camp_questions.proofs.Words.{◌≡◌, ℕ, Bool, true, false, cond, List, [], ◌∷◌, ◌++◌, Option, None, Some, bytes_eq, refl, sym, ap, ◌∙◌, subst, same_Some, Files, Catch, LeadsTo, AreConflicts, name_itself, step, accepted_calls, Branches, Contents, catches_of, conflicts_shown, tree_shown, Next, Answer, Effect, Has}
+use Rattle.camp_questions.proofs.Words.{◌≡◌, ℕ, cond, List, [], ◌∷◌, ◌++◌, Option, None, Some, bytes_eq, refl, sym, ap, ◌∙◌, subst, same_Some, Files, Catch, LeadsTo, AreConflicts, name_itself, step, accepted_calls, Branches, Contents, catches_of, conflicts_shown, tree_shown, Next, Answer, Effect, Has, cond_both, none-some, Decision, ForeseenComes}
 use Rattle.camp_call.specs.declared.calls.Call.{Call}
 use Rattle.camp_call.specs.declared.calls.Call.TheVariants as call
 use Rattle.camp_call.specs.declared.replies.Reply.TheVariants as reply
 use Rattle.camp_questions.specs.Foresight.{Foresees, ForeseesOf, StandsIn, branch_written}
 use Rattle.camp_questions.specs.declared.foresight.Standing.{Standing}
 use Rattle.camp_questions.specs.Inside.Foresight.{LedTo}
+use Rattle.camp_repo.specs.Objects.{replies_to, reply_of, state_behind}
+use Rattle.camp_questions.specs.declared.foresight.Foreseen.{Foreseen}
 
 -- there are some catches
 abbrev AreThere : Option (List Catch) → Type 0
 AreThere o = (catches : List Catch) × (o ≡ Some catches)
 
-either_there : (b : Bool) (first : List Catch) (rest : Option (List Catch)) → AreThere rest → AreThere (cond b (Some first) rest)
-either_there true first rest w = (first, refl)
-either_there false first rest w = w
-
 -- the branch that comes last is there
 last_there : (branches : Branches) (name : List ℕ) (catches : List Catch) → AreThere (catches_of (branches ++ (name, catches) ∷ []) name)
 last_there [] name catches = (catches, ap (λ b. cond b (Some catches) None) (name_itself name))
 last_there (branch ∷ branches) name catches =
-    either_there (bytes_eq name branch.0) branch.1 (catches_of (branches ++ (name, catches) ∷ []) name) (last_there branches name catches)
+    cond_both (bytes_eq name branch.0) (Some branch.1) (catches_of (branches ++ (name, catches) ∷ []) name) AreThere (λ e. (branch.1, refl)) (λ e. last_there branches name catches)
 
 -- the branch of this name is written to, and is there
 abbrev Writes : Call → Contents → Type 0
@@ -62,3 +60,36 @@ stands_so next name catches tree copy pairs told has leads same are is = record 
 pub accepted_so : (state : Contents) (call : Call) (next : Contents) (standing : Standing) (count : ℕ) → Next next ≡ step state call → count ≡ next.count → branch_written call ≡ Some standing.branch → StandsIn next standing → Foresees state call (record { reply = reply.Done count; changed = Some standing })
 accepted_so state call next standing count leads counted written stands =
     subst (λ decision. ForeseesOf call decision (record { reply = reply.Done count; changed = Some standing })) leads (record { told = ap reply.Done counted; standing = standing; changed = refl; written = written; stands = stands })
+
+-- ---- what is foreseen of a call is what comes of it
+
+-- the two questions for a branch, one behind the other
+then_told : (next : Contents) (standing : Standing) → StandsIn next standing → replies_to next (call.Tree standing.branch ∷ call.Conflicts standing.branch ∷ []) ≡ reply.Tree standing.tree ∷ reply.Conflicts standing.conflicts ∷ []
+then_told next standing stands =
+    let second = ap (λ d. step (state_behind next d) (call.Conflicts standing.branch)) stands.tree ∙ stands.conflicts in
+    λ i. reply_of (stands.tree i) ∷ reply_of (second i) ∷ []
+
+-- so of a decision
+record ComesSo (state : Contents) (decision : Decision) (seen : Foreseen) : Type 0 where
+  replied : reply_of decision ≡ seen.reply
+  stays : seen.changed ≡ None → state_behind state decision ≡ state
+  changed : (standing : Standing) → seen.changed ≡ Some standing → reply_of decision ∷ replies_to (state_behind state decision) (call.Tree standing.branch ∷ call.Conflicts standing.branch ∷ []) ≡ seen.reply ∷ reply.Tree standing.tree ∷ reply.Conflicts standing.conflicts ∷ []
+
+comes_so : (state : Contents) (asked : Call) (decision : Decision) (seen : Foreseen) → ForeseesOf asked decision seen → ComesSo state decision seen
+comes_so state asked (Next next) seen w = record {
+  replied = sym w.told;
+  stays = λ none. absurd (none-some w.standing (sym none ∙ w.changed));
+  changed = λ standing is.
+      let told = then_told next standing (subst (StandsIn next) (same_Some _ _ (sym w.changed ∙ is)) w.stands) in
+      λ i. sym w.told i ∷ told i;
+}
+comes_so state asked (Answer answer) seen w = record {
+  replied = sym w.0;
+  stays = λ none. refl;
+  changed = λ standing is. absurd (none-some standing (sym w.1 ∙ is));
+}
+
+pub foreseen_comes : ForeseenComes
+foreseen_comes state asked seen w =
+    let so = comes_so state asked (step state asked) seen w in
+    record { replied = so.replied; stays = so.stays; changed = so.changed }

@@ -1,13 +1,8 @@
 -- The graph of a branch, patch by patch.
-use Rattle.camp_questions.proofs.Words.{◌≡◌, ◌<◌, ℕ, ◌+◌, Bool, cond, List, [], ◌∷◌, ◌++◌, map, filter, length, take, get_or, Ok, Some, refl, sym, ap, ◌∙◌, subst, AllByRecursion, Catch, is_among, name_of, names_of, AreConflicts, all_append, Contents, catches_of, ComeToFront, Drawn, IsGraph, IsGraphOf, Needing, NeedsThese, StickOn, node_of, Node, in_order, map-append, take_more}
-use Rattle.camp_branch.proofs.ConflictsDetermined.{conflicts_are_determined}
-use Rattle.camp_questions.specs.declared.needed.Needed.{Needed}
-use Rattle.camp_questions.specs.Inside.Graphing.{NeedEach, marked, needing}
-use Rattle.camp_questions.specs.Inside.Growing.{GrowsToFront}
-use Rattle.camp_questions.specs.Inside.ByPlace.{node_in}
+use Rattle.camp_questions.proofs.Words.{◌≡◌, ◌<◌, ℕ, ◌+◌, Bool, cond, List, [], ◌∷◌, ◌++◌, map, filter, length, take, get_or, Ok, Some, refl, sym, ap, ◌∙◌, subst, AllByRecursion, Catch, is_among, name_of, names_of, AreConflicts, all_append, Contents, catches_of, ComeToFront, Drawn, IsGraph, IsGraphOf, Needing, NeedsThese, StickOn, node_of, Node, in_order, map-append, take_more, conflicts_are_determined, Needed, NeedEach, marked, needing, GrowsToFront, node_in, AreAlike, map-map, map-id}
 use Rattle.camp_questions.proofs.BranchGrowths.{needs_are_determined, to_front}
 use Rattle.camp_questions.proofs.Growing.{grown_in_order}
-use Rattle.camp_repo.proofs.ByMembers.{AreAlike}
+use Rattle.camp_questions.proofs.PatchFronts.{all_images}
 
 -- so many patches, with what they need in a branch whose patches have these names
 pub record AreNeeded (branch : List Catch) (names done : List (List ℕ)) (all : List Needed) : Type 0 where
@@ -43,10 +38,6 @@ grown_needs branch names name set grown one own alike grows called marks =
 abbrev needing_in : List Catch → List ℕ → Needing
 needing_in branch name = record { name = name; needs = (needs_are_determined branch (name ∷ [])).0 }
 
-names_stay : (branch : List Catch) (names : List (List ℕ)) → map (λ (patch : Needing). patch.name) (map (needing_in branch) names) ≡ names
-names_stay branch [] = refl
-names_stay branch (n ∷ names) = ap (λ l. n ∷ l) (names_stay branch names)
-
 each_needs : (branch : List Catch) (names : List (List ℕ)) → AllByRecursion (NeedsThese branch) (map (needing_in branch) names)
 each_needs branch [] = tt
 each_needs branch (n ∷ names) =
@@ -61,7 +52,7 @@ drawn_in branch =
 pub is_drawn : (branch : List Catch) → IsGraph branch (drawn_in branch)
 is_drawn branch = record {
   all = map (needing_in branch) (names_of branch);
-  names = names_stay branch (names_of branch);
+  names = map-map (λ (patch : Needing). patch.name) (needing_in branch) (names_of branch) ∙ map-id (names_of branch);
   needs = each_needs branch (names_of branch);
   patches = refl;
   conflicts = (conflicts_are_determined branch).1;
@@ -71,19 +62,11 @@ is_drawn branch = record {
 pub is_graph_of : (state : Contents) (branch : List ℕ) (catches : List Catch) (graph : Drawn) → catches_of state.branches branch ≡ Some catches → IsGraph catches graph → IsGraphOf state branch (Ok graph)
 is_graph_of state branch catches graph is w = rw is (graph, refl, w)
 
-called_so : (names : List (List ℕ)) (all : List Needed) → map (λ (patch : Needing). patch.name) (map (needing names) all) ≡ map (λ (patch : Needed). patch.name) all
-called_so names [] = refl
-called_so names (p ∷ all) = ap (λ l. p.name ∷ l) (called_so names all)
-
-needs_so : (branch : List Catch) (names : List (List ℕ)) (all : List Needed) → AllByRecursion (λ patch. NeedsThese branch (needing names patch)) all → AllByRecursion (NeedsThese branch) (map (needing names) all)
-needs_so branch names [] w = tt
-needs_so branch names (p ∷ all) w = (w.0, needs_so branch names all w.1)
-
 pub graph_of_nodes : (branch : List Catch) (names : List (List ℕ)) (all : List Needed) (nodes : List Node) (pairs told : List (List ℕ × List ℕ)) → names ≡ names_of branch → NeedEach branch names all → nodes ≡ map (node_in names (map (needing names) all)) (map (needing names) all) → AreConflicts branch pairs → told ≡ pairs → IsGraph branch (record { patches = nodes; conflicts = told })
 graph_of_nodes branch names all nodes pairs told own each drawn are same = record {
   all = map (needing names) all;
-  names = called_so names all ∙ each.names_are ∙ own;
-  needs = needs_so branch names all each.needs;
+  names = map-map (λ (patch : Needing). patch.name) (needing names) all ∙ each.names_are ∙ own;
+  needs = all_images (needing names) (NeedsThese branch) all each.needs;
   patches = drawn ∙ ap (λ n. map (node_in n (map (needing names) all)) (map (needing names) all)) own;
   conflicts = subst (AreConflicts branch) (sym same) are;
 }

@@ -1,7 +1,5 @@
 -- Names that grow in a set, one at a time.
-use Rattle.camp_questions.proofs.Words.{or_none, ◌≡◌, ◌<◌, ℕ, ◌||◌, List, [], ◌∷◌, ◌++◌, filter, length, bytes_eq, append-nil, sym, ap, ◌∙◌, subst, append_assoc, contains_key, insert, keys, Catch, is_among, names_of, has_listed, AreAlike, AreAdded, AreGrown, in_order}
-use Rattle.camp_branch.proofs.BranchFields.{Names, contains_more}
-use Rattle.camp_questions.specs.Inside.Growing.{Grows}
+use Rattle.camp_questions.proofs.Words.{or_none, ◌≡◌, ◌<◌, ℕ, ◌||◌, List, [], ◌∷◌, ◌++◌, filter, length, bytes_eq, append-nil, sym, ap, ◌∙◌, subst, append_assoc, contains_key, insert, keys, Catch, is_among, names_of, has_listed, AreAlike, AreAdded, AreGrown, in_order, Names, contains_more, Grows}
 use Rattle.camp_questions.proofs.Growths.{Grow, among_both, fewer_left, left_of}
 
 -- a set has one name more

@@ -1,8 +1,6 @@
 -- Names to which others are added, one by one, until they do what they are to do.
-use Rattle.camp_questions.proofs.Words.{◌≢◌, and_from, and_parts, not-true, or_cases, or_none, or_parts, or_true, passes_is_kept, ExactlyOne, append_assoc, list_any-append, Catch, has_patch, is_among, name_of, names_of, name_itself, same_name, among_kept, among_once, AreAlike, AreAdded, AreGrown, in_order, AreAmong, GrewFrom, WasMet, ◌≡◌, ◌⊎◌, ◌<◌, ◌≤◌, ℕ, zero, suc, Bool, true, false, true≢false, not, ◌||◌, ◌&&◌, List, [], ◌∷◌, ◌++◌, filter, length, map, bytes_eq, append-nil, refl, sym, ap, ◌∙◌, subst, inl, inr, arith}
-use Rattle.std.proofs.lemmas.Bool.{false_from_ne_true}
+use Rattle.camp_questions.proofs.Words.{◌≢◌, and_from, and_parts, not-true, or_cases, or_none, or_parts, or_true, passes_is_kept, ExactlyOne, append_assoc, list_any-append, Catch, has_patch, is_among, name_of, names_of, name_itself, same_name, among_kept, among_once, AreAlike, AreAdded, AreGrown, in_order, AreAmong, GrewFrom, WasMet, ◌≡◌, ◌⊎◌, ◌<◌, ◌≤◌, ℕ, zero, suc, Bool, true, false, true≢false, not, ◌||◌, ◌&&◌, List, [], ◌∷◌, ◌++◌, filter, length, map, bytes_eq, append-nil, refl, sym, ap, ◌∙◌, subst, inl, inr, arith, false_from_ne_true, filter_within}
 use Rattle.std.proofs.lemmas.List.Filters.{length-filter_both}
-use Rattle.camp_branch.proofs.Names.{filter_within}
 
 -- names are done, or one of their own, which they lack, stops them; both go by which names there are
 pub record Grow (own : List (List ℕ)) (Done : List (List ℕ) → Type 0) (Stops : List (List ℕ) → List ℕ → Type 0) : Type 0 where

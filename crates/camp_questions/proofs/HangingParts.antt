@@ -1,16 +1,9 @@
 -- What hangs on some patches is what arrows lead to from them, and from where arrows lead to them.
-use Rattle.camp_questions.proofs.Words.{or_cases, or_none, ◌≡◌, ℕ, zero, suc, Bool, true, false, true≢false, ◌||◌, inl, inr, List, [], ◌∷◌, ◌++◌, map, map-append, append_assoc, bytes_eq, refl, sym, ap, ◌∙◌, subst, arith, Contains, list_any, or_true, Catch, is_among, is_among_is, names_of, same_name, AreDistinct, IsLawfulBranch, Drawn, IsGraph, Node, IsReached, itself, along}
-use Rattle.std.specs.Prelude.{if◌then◌else◌}
-use Rattle.camp_branch.proofs.BranchLabels.{names_of_patches}
-use Rattle.camp_branch.proofs.Names.{has_image}
-use Rattle.std.proofs.lemmas.Bool.{false_from_ne_true}
-use Rattle.std.proofs.lemmas.List.Elements.{Contains-append_right}
-use Rattle.camp_questions.specs.Laws.{HangTogether, PartsAreReached}
-use Rattle.camp_questions.specs.Pictures.{with_needing, with_needing_one, with_needs}
+use Rattle.camp_questions.proofs.Words.{or_none, ◌≡◌, ℕ, zero, suc, Bool, true, false, true≢false, ◌||◌, inl, inr, List, [], ◌∷◌, ◌++◌, map, map-append, append_assoc, bytes_eq, refl, sym, ap, ◌∙◌, subst, arith, Contains, list_any, or_true, Catch, is_among, is_among_is, names_of, same_name, AreDistinct, IsLawfulBranch, Drawn, IsGraph, Node, IsReached, itself, along, if◌then◌else◌, names_of_patches, has_image, false_from_ne_true, Contains-append_right, HangTogether, PartsAreReached, with_needing, with_needing_one, with_needs, map-map, node_of, each_among}
 use Rattle.camp_questions.proofs.BackwardArrows.{arrows_lead_backwards}
 use Rattle.camp_questions.proofs.Growths.{among_cases, among_first, among_parts, among_second}
-use Rattle.camp_questions.proofs.PatchFronts.{at_first, same_head}
-use Rattle.camp_questions.proofs.ReachedNeeds.{names_of_nodes, reached_through}
+use Rattle.camp_questions.proofs.PatchFronts.{at_first, one_passing, same_head}
+use Rattle.camp_questions.proofs.ReachedNeeds.{reached_through}
 
 -- ---- names among others
 
@@ -20,13 +13,6 @@ any_of [] names n need there = absurd (true≢false (sym need))
 any_of (m ∷ needs) names n need there = elim (among_cases m needs n need) [
   | inl e ↦ ap (λ b. b || list_any (is_among names) needs) (ap (is_among names) (sym e) ∙ there)
   | inr e ↦ or_true (is_among names m) (list_any (is_among names) needs) (any_of needs names n e there)
-]
-
-one_of_any : (needs names : List (List ℕ)) → list_any (is_among names) needs ≡ true → (n : List ℕ) × (is_among needs n ≡ true) × (is_among names n ≡ true)
-one_of_any [] names any = absurd (true≢false (sym any))
-one_of_any (m ∷ needs) names any = elim (or_cases (is_among names m) (list_any (is_among names) needs) any) [
-  | inl e ↦ (m, at_first m needs m refl, e)
-  | inr e ↦ let one = one_of_any needs names e in (one.0, or_true (bytes_eq one.0 m) (is_among needs one.0) one.1, one.2)
 ]
 
 -- of distinct names, none that stands at a place or behind it stands before it
@@ -58,7 +44,7 @@ next_of p nodes q there = let within = there.1 in (suc there.0, (omega arith), t
 
 module _ (branch : List Catch) (graph : Drawn) (lawful : IsLawfulBranch branch) (is : IsGraph branch graph) where
   own_called : called graph.patches ≡ names_of branch
-  own_called = ap called is.patches ∙ names_of_nodes branch is.all is.all ∙ is.names
+  own_called = ap called is.patches ∙ map-map (λ (n : Node). n.name) (node_of branch is.all) is.all ∙ is.names
 
   needs_none : (front : List Node) (p : Node) (nodes : List Node) → graph.patches ≡ front ++ p ∷ nodes → (q : Node) → Contains (p ∷ nodes) q → is_among p.needs q.name ≡ true → ⊥
   needs_none front p nodes parts q there e =
@@ -171,7 +157,7 @@ module _ (graph : Drawn) where
   one_more_into names p other name true e at reached there = elim (among_parts names (p.name ∷ []) name there) [
     | inl w ↦ (name, w, reached)
     | inr w ↦
-        let one = one_of_any p.needs names e in
+        let one = one_passing (λ n. is_among p.needs n ≡ true) (is_among names) p.needs (each_among (λ n. is_among p.needs n ≡ true) p.needs (λ n among. among)) e in
         let same = same_name name p.name (sym (or_none (bytes_eq name p.name)) ∙ w) in
         (one.0, one.2, reached_through (subst (IsReached graph other) same reached) (along (p, at, refl, one.1) itself))
   ]

@@ -1,6 +1,5 @@
 mod Words
 pub mod AlongEnough
-pub mod AlongSteps
 pub mod AnnotationLaws
 pub mod Answering
 pub mod Arrows
@@ -10,13 +9,11 @@ pub mod BroughtLines
 pub mod CommonSteps
 pub mod FileMarks
 pub mod Foreseeing
-pub mod ForeseenCalls
 pub mod GraphSteps
 pub mod Growing
 pub mod Growths
 pub mod HangingParts
 pub mod LeastHeld
-pub mod LeastNeeds
 pub mod LineNames
 pub mod MarkSteps
 pub mod MarkedNames
@@ -38,12 +35,10 @@ pub mod ReachedNeeds
 pub mod ReachedPatches
 pub mod SeenLabels
 pub mod ShownPatches
-pub mod SideSteps
 pub mod SidesAccepted
 pub mod SidesApply
 pub mod Stuck
 pub mod SwappedNames
 pub mod TakenBack
-pub mod TakenNames
 pub mod WalkedPatches
 pub mod ZippedLines

@@ -1,18 +1,16 @@
 -- As many names are known on the way as the file has lines.
-use Rattle.camp_questions.proofs.Words.{◌≡◌, ◌≢◌, ◌<◌, ◌≤◌, ℕ, ◌+◌, ◌-◌, ◌==◌, Bool, true, false, true≢false, cond, List, [], ◌∷◌, ◌++◌, Option, None, Some, length, take, drop, get_or, bytes_eq, refl, sym, ap, ◌∙◌, subst, arith, empty, get, get-empty, slice_range, splice, nat_cmp, eq_by_cmp, slice_cmp, bytes_eq-Decides, Edit, key_of, label_of, Key, Named, Primitive, Add, Remove, Hunk, Catch, name_of, Known, behind_all, behind_catches, behind_change, behind_hunk, names_coming, names_of_lines, nothing_known, AppliesOn, AreKnownIn, FollowsOn, StandsWithin, lines_or_none, drop_more, length-append, length-drop, length-take-le, eqb-true, Applies, Files, Lines, Splices, FitsAll, effect_of}
+use Rattle.camp_questions.proofs.Words.{◌≡◌, ◌≢◌, ◌<◌, ◌≤◌, ℕ, ◌+◌, ◌-◌, ◌==◌, Bool, true, false, true≢false, List, [], ◌∷◌, ◌++◌, Option, None, Some, length, take, drop, get_or, bytes_eq, refl, sym, ap, ◌∙◌, subst, arith, empty, get, get-empty, slice_range, splice, nat_cmp, eq_by_cmp, slice_cmp, bytes_eq-Decides, Edit, key_of, label_of, Key, Named, Primitive, Add, Remove, Hunk, Catch, name_of, Known, behind_all, behind_catches, behind_change, behind_hunk, names_coming, names_of_lines, nothing_known, AppliesOn, AreKnownIn, FollowsOn, StandsWithin, lines_or_none, drop_more, length-append, length-drop, length-take-le, eqb-true, Applies, Files, Lines, Splices, FitsAll, effect_of, AppliesAll, own_names, cond_both, cond, key_cmp, find, get-from_entries, get-insert, insert, same_map, key_ties, key_total, kept_in}
 use Rattle.camp_prim.proofs.FilesAtPaths.{get-with_file, get-with_file_other, get-with_file_same, same_path, with_file}
-use Rattle.camp_seq.specs.Running.{AppliesAll}
 use Rattle.camp_questions.proofs.CommonSteps.{own_count}
-use Rattle.camp_questions.specs.Annotations.{own_names}
-
-as_many_at : (taken own : List (List ℕ)) (count : ℕ) (b : Bool) → length own ≡ count → (length taken == count) ≡ b → length (cond b taken own) ≡ count
-as_many_at taken own count true long e = eqb-true (length taken) count e
-as_many_at taken own count false long e = long
+use Rattle.std.specs.BTreeMap as tree
+use Rattle.std.specs.BTreeMap.{BTreeMap, is_at}
+use Rattle.std.specs.Cmp.{Equal-is, eq_by_cmp_equiv}
+use Rattle.std.specs.Map.{lookup}
 
 -- as many names come as lines do
 pub as_many : (taken : Option (List (List ℕ))) (own : List (List ℕ)) (count : ℕ) → length own ≡ count → length (names_coming taken own count) ≡ count
 as_many None own count long = long
-as_many (Some taken) own count long = as_many_at taken own count _ long refl
+as_many (Some taken) own count long = cond_both (length taken == count) taken own (λ l. length l ≡ count) (λ e. eqb-true (length taken) count e) (λ e. long)
 
 -- as many lines go as a hunk has old ones
 pub gone_count : (hunk : Edit) (known : Known) → StandsWithin hunk known → length (slice_range known.names (hunk.line - 1) (hunk.line - 1 + length hunk.old)) ≡ length hunk.old
@@ -33,12 +31,8 @@ spliced_count names coming from to within =
     length-append (take from names) (coming ++ drop to names) ∙ (λ i. length-take-le from names within i + (length-append coming (drop to names) ∙ ap (λ n. length coming + n) (length-drop to names)) i)
 
 -- what has no line at a path before and after has as many lines at each
-alike_at : (m : Files) (q path : List ℕ) (x : Option Lines) (b : Bool) → lines_or_none x ≡ lines_or_none (get m q) → eq_by_cmp (slice_cmp nat_cmp) path q ≡ b → lines_or_none (cond b x (get m path)) ≡ lines_or_none (get m path)
-alike_at m q path x true alike e = alike ∙ ap (λ p. lines_or_none (get m p)) (sym (same_path path q e))
-alike_at m q path x false alike e = refl
-
 pub alike : (m : Files) (q path : List ℕ) (x : Option Lines) → lines_or_none x ≡ lines_or_none (get m q) → lines_or_none (get (with_file m q x) path) ≡ lines_or_none (get m path)
-alike m q path x same = ap lines_or_none (get-with_file m q x path) ∙ alike_at m q path x _ same refl
+alike m q path x same = ap lines_or_none (get-with_file m q x path) ∙ cond_both (eq_by_cmp (slice_cmp nat_cmp) path q) x (get m path) (λ o. lines_or_none o ≡ lines_or_none (get m path)) (λ e. same ∙ ap (λ p. lines_or_none (get m p)) (sym (same_path path q e))) (λ e. refl)
 
 pub other_path : (a b : List ℕ) → bytes_eq a b ≡ false → a ≢ b
 other_path a b e same = true≢false (sym ((bytes_eq-Decides a b).1 same) ∙ e)
@@ -68,12 +62,6 @@ hunk_counts path name key hunk old new known same w are =
     let here : length (splice known.names from to coming) ≡ length w.changed = omega (arith, found, parts, becomes, many, counted, s.at) in
     here ∙ ap (λ o. length (lines_or_none o)) (sym now)
 
-hunk_counts_at : (path name : List ℕ) (key : Key) (hunk : Edit) (old new : Files) (known : Known) (b : Bool) → bytes_eq hunk.path path ≡ b → Splices hunk.path hunk.line hunk.old hunk.new old new → AreKnownIn path old known → AreKnownIn path new (cond b (behind_hunk name key hunk known) known)
-hunk_counts_at path name key hunk old new known true e w are =
-    hunk_counts path name key hunk old new known ((bytes_eq-Decides hunk.path path).0 e) w are
-hunk_counts_at path name key hunk old new known false e w are =
-    are ∙ ap (λ o. length (lines_or_none o)) (sym (ap (λ t. get t path) w.becomes ∙ get-with_file_other old hunk.path path (Some w.changed) (other_path hunk.path path e)))
-
 -- behind a change there are as many names as lines
 pub change_counts : (path name : List ℕ) (key : Key) (p : Primitive) (old new : Files) (known : Known) → Applies p old new → AreKnownIn path old known → AreKnownIn path new (behind_change path name key p known)
 change_counts path name key (Add q) old new known w are =
@@ -81,7 +69,9 @@ change_counts path name key (Add q) old new known w are =
 change_counts path name key (Remove q) old new known w are =
     are ∙ ap length (sym (ap (λ t. lines_or_none (get t path)) w.becomes ∙ alike old q path None (ap lines_or_none (sym w.empty))))
 change_counts path name key (Hunk hunk) old new known w are =
-    hunk_counts_at path name key hunk old new known _ refl w are
+    cond_both (bytes_eq hunk.path path) (behind_hunk name key hunk known) known (AreKnownIn path new)
+    (λ e. hunk_counts path name key hunk old new known ((bytes_eq-Decides hunk.path path).0 e) w are)
+    (λ e. are ∙ ap (λ o. length (lines_or_none o)) (sym (ap (λ t. get t path) w.becomes ∙ get-with_file_other old hunk.path path (Some w.changed) (other_path hunk.path path e))))
 
 -- behind an effect there are
 pub effect_counts : (path name : List ℕ) (s : List Named) (old new : Files) (known : Known) → AppliesAll s old new → AreKnownIn path old known → AreKnownIn path new (behind_all path name s known)
@@ -158,3 +148,24 @@ starts_along path catches rest known tree fits all none =
 pub ends_along : (path : List ℕ) (catches rest : List Catch) (known : Known) → rest ≡ [] → IsAlong path catches rest known → known.names ≡ names_of_lines path catches
 ends_along path catches rest known done along =
     ap (λ (k : Known). k.names) (sym (ap (λ r. behind_catches path r known) done) ∙ along.leads)
+
+-- ---- the names that are kept under the absolute labels of hunks, as a finite map
+
+-- labels that compare as equal are one
+pub same_key : (a b : Key) → eq_by_cmp key_cmp a b ≡ true → a ≡ b
+same_key a b e = key_ties a b ((Equal-is (key_cmp a b)).0 e)
+
+listed_under : (entries : List (Key × List (List ℕ))) (key : Key) → find key_cmp key entries ≡ lookup (is_at (key_cmp key)) entries
+listed_under [] key = refl
+listed_under (e ∷ entries) key =
+    ap (cond (eq_by_cmp key_cmp key e.0) (Some e.1)) (listed_under entries key)
+
+-- what is known to be kept under a label is what is kept there
+pub found_under : (taken : BTreeMap Key (List (List ℕ))) (key : Key) → get (kept_in taken) key ≡ tree.get key_cmp taken key
+found_under taken key = get-from_entries key_total taken.entries key ∙ listed_under taken.entries key
+
+-- names are kept under one label
+pub kept_then : (taken next : BTreeMap Key (List (List ℕ))) (key : Key) (names : List (List ℕ)) → ((q : Key) → tree.get key_cmp next q ≡ cond (is_at (key_cmp key) q) (Some names) (tree.get key_cmp taken q)) → kept_in next ≡ insert (kept_in taken) key names
+kept_then taken next key names updates =
+    same_map key_total key_ties (kept_in next) (insert (kept_in taken) key names)
+    (λ q. found_under next q ∙ updates q ∙ sym (get-insert key_total (kept_in taken) key names q ∙ (λ i. cond ((eq_by_cmp_equiv key_total).symm q key i) (Some names) (found_under taken q i))))

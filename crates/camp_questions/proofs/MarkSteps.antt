@@ -1,22 +1,12 @@
 -- What patches in open conflicts would make of a file, one patch after the other.
-use Rattle.camp_questions.proofs.Words.{or_none, ◌≡◌, ◌<◌, ◌≤◌, ℕ, ◌+◌, Bool, true, false, cond, ◌||◌, List, [], ◌∷◌, ◌++◌, Option, None, Some, append_assoc, bytes_eq, contains_key, empty, get, get-empty, get_or, insert, length, list_any, list_any-append, nat_cmp, refl, slice_cmp, sym, ap, ◌∙◌, subst, take, take_more, Files, Lines, Named}
-use Rattle.std.proofs.lemmas.List.{take_all}
-use Rattle.std.specs.Cmp.Lexicographic.{pointwise}
-use Rattle.std.specs.Prelude.{is_some}
-use Rattle.camp_branch.proofs.BranchFields.{Names, contains_more}
-use Rattle.camp_ctx.specs.Contexts.{ContextedPatches}
-use Rattle.camp_seq.specs.Running.{AppliesAll}
-use Rattle.camp_questions.specs.Marks.{AreVersions, Makes, is_in_pair, with_made}
-use Rattle.camp_questions.specs.Sides.{IsSideAmong}
-use Rattle.camp_questions.specs.declared.marking.Version.{Version}
+use Rattle.camp_questions.proofs.Words.{or_none, ◌≡◌, ◌<◌, ◌≤◌, ℕ, ◌+◌, Bool, true, false, cond, ◌||◌, List, [], ◌∷◌, ◌++◌, Option, None, Some, append_assoc, bytes_eq, contains_key, empty, get, get-empty, get_or, insert, length, list_any, list_any-append, nat_cmp, refl, slice_cmp, sym, ap, ◌∙◌, subst, take, take_more, Files, Lines, Named, take_all, pointwise, is_some, Names, contains_more, ContextedPatches, AppliesAll, AreVersions, Makes, is_in_pair, with_made, IsSideAmong, Version, or_assoc}
 
 with_made_first : (lines : Lines) (name : List ℕ) (made : Option Lines) (versions : List Version) → with_made lines name made versions ≡ with_made lines name made [] ++ versions
 with_made_first lines name None versions = refl
-with_made_first lines name (Some made) versions = at (pointwise bytes_eq lines made)
-  where
-    at : (b : Bool) → cond b versions (record { name = name; lines = made } ∷ versions) ≡ cond b [] (record { name = name; lines = made } ∷ []) ++ versions
-    at true = refl
-    at false = refl
+with_made_first lines name (Some made) versions = elim (pointwise bytes_eq lines made) as (λ b. cond b versions (record { name = name; lines = made } ∷ versions) ≡ cond b [] (record { name = name; lines = made } ∷ []) ++ versions) [
+  | true ↦ refl
+  | false ↦ refl
+]
 
 -- one more patch would make a version, or none
 pub one_more_version : (seen : ContextedPatches) (tree : Files) (path : List ℕ) (lines : Lines) (names : List (List ℕ)) (name : List ℕ) (made : Option Lines) (versions : List Version) → AreVersions seen tree path lines names versions → Makes seen tree path name made
@@ -43,10 +33,6 @@ next_version seen tree path lines names i name d made versions next within is ar
 abbrev pub HasNamesOf : Names → List (List ℕ × List ℕ) → Type 0
 HasNamesOf set pairs = (name : List ℕ) → contains_key set name ≡ is_in_pair pairs name
 
-or_swap : (a b c : Bool) → ((a || b) || c) ≡ (a || (b || c))
-or_swap true b c = refl
-or_swap false b c = refl
-
 pub has_names_of_none : (set : Names) → set ≡ empty → HasNamesOf set []
 has_names_of_none set is name =
     ap (λ m. contains_key m name) is ∙ ap is_some (get-empty (slice_cmp nat_cmp) name)
@@ -59,7 +45,7 @@ has_names_of_one set between next pairs i pair d within is has first second name
     let two : contains_key next name ≡ (contains_key between name || bytes_eq name pair.1) = ap (λ m. contains_key m name) second ∙ contains_more between pair.1 name in
     let listed : is_in_pair (take (i + 1) pairs) name ≡ (is_in_pair (take i pairs) name || (test pair || false)) =
     ap (list_any test) (take_more pairs i d within) ∙ list_any-append test (take i pairs) (get_or pairs i d ∷ []) ∙ ap (λ p. is_in_pair (take i pairs) name || (test p || false)) (sym is) in
-    two ∙ ap (λ b. b || bytes_eq name pair.1) (one ∙ ap (λ b. b || bytes_eq name pair.0) (has name)) ∙ or_swap (is_in_pair (take i pairs) name) (bytes_eq name pair.0) (bytes_eq name pair.1)
+    two ∙ ap (λ b. b || bytes_eq name pair.1) (one ∙ ap (λ b. b || bytes_eq name pair.0) (has name)) ∙ or_assoc (is_in_pair (take i pairs) name) (bytes_eq name pair.0) (bytes_eq name pair.1)
     ∙ ap (λ b. is_in_pair (take i pairs) name || b) (sym (or_none (test pair))) ∙ sym listed
 
 pub has_names_of_all : (set : Names) (pairs : List (List ℕ × List ℕ)) (i : ℕ) → length pairs ≤ i → HasNamesOf set (take i pairs) → HasNamesOf set pairs

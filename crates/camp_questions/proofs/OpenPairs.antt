@@ -1,32 +1,15 @@
 -- The open conflicts of a branch: which they are.
-use Rattle.camp_questions.proofs.Words.{◌≡◌, ◌⊎◌, ◌≤◌, ℕ, suc, ◌+◌, Bool, true, false, cond, List, [], ◌∷◌, ◌++◌, append-nil, map, filter, filter-append, take, Some, refl, sym, ap, ◌∙◌, subst, inl, inr, arith, map-append, Contains, flat_map, get, keys, name_of, Catch, Key, key_cmp, key_total}
-use Rattle.std.proofs.lemmas.List.{take_all}
-use Rattle.std.specs.FinMap.{entries, entries_sorted, get-entries, len}
-use Rattle.std.specs.Prelude.{slice_get}
+use Rattle.camp_questions.proofs.Words.{◌≡◌, ◌⊎◌, ◌≤◌, ℕ, suc, ◌+◌, Bool, true, false, cond, List, [], ◌∷◌, ◌++◌, append-nil, map, filter, filter-append, take, Some, refl, sym, ap, ◌∙◌, subst, inl, inr, arith, map-append, Contains, flat_map, get, keys, name_of, Catch, Key, key_cmp, key_total, take_all, entries, entries_sorted, get-entries, len, slice_get, member_name, has_image, IsInOrder, Pair, by_name, no_member, Plain, found_at, take_push, count_of_members, members_of, AreKeyed, ContextedPatch, ContextedPatches, context_key, AreInOpenConflict, AreOpenAmong, OpensWith, is_open, All-contains, All-filter, All-contains_itself, filter_passes}
 use Rattle.std.specs.declared.cmp.Ordering.TheVariants.{Less}
-use Rattle.camp_branch.proofs.ConflictsDetermined.{member_name}
 use Rattle.camp_questions.proofs.PairSteps.{IsOfNames, first_is_less, has_of_each, is_image, kept_has, key_is_listed, listed_has_member, of_names, one_has, second_is_less}
-use Rattle.camp_branch.proofs.Names.{has_image}
-use Rattle.camp_branch.proofs.SortedPairs.{IsInOrder, Pair, by_name, first_or_later, has_first, has_later, no_member}
 use Rattle.camp_branch.proofs.Words.{flat_map_more}
 use Rattle.camp_branch.specs.Inside.Collecting.{pair_of}
-use Rattle.camp_catch.specs.declared.catches.Catch.TheVariants.{Plain}
-use Rattle.camp_ctx.proofs.EntrySteps.{found_at, take_push}
-use Rattle.camp_ctx.proofs.SetSteps.{count_of_members, members_of}
-use Rattle.camp_ctx.specs.Contexts.{AreKeyed, ContextedPatch, ContextedPatches, context_key}
 use Rattle.camp_questions.specs.Inside.OpenPairs.{open_against, open_at, open_in, open_with, open_within}
-use Rattle.camp_questions.specs.OpenConflicts.{AreInOpenConflict, AreOpenAmong, OpensWith, is_open}
 
 -- what a test keeps of a list is there, and passes it
 is_kept : {X : Type 0} (p : X → Bool) (list : List X) (x : X) → Contains (filter p list) x → Contains list x × (p x ≡ true)
-is_kept p [] x c = no_member x c
-is_kept p (y ∷ list) x c = elim (p y) as (λ b. p y ≡ b → Contains (cond b (y ∷ filter p list) (filter p list)) x → Contains (y ∷ list) x × (p x ≡ true)) [
-  | true ↦ λ e d. elim (first_or_later y x (filter p list) d) [
-    | inl same ↦ (subst (Contains (y ∷ list)) same (has_first y list), ap p (sym same) ∙ e)
-    | inr later ↦ let rest = is_kept p list x later in (has_later y x list rest.0, rest.1)
-  ]
-  | false ↦ λ e d. let rest = is_kept p list x d in (has_later y x list rest.0, rest.1)
-] refl c
+is_kept p list x c =
+    (All-contains (Contains list) (filter p list) x (All-filter p (Contains list) list (All-contains_itself list)) c, All-contains (λ y. p y ≡ true) (filter p list) x (filter_passes p list) c)
 
 module _ (seen : ContextedPatches) where
   -- those that a catch names are in an open conflict with it

@@ -1,8 +1,6 @@
 -- Lists that the elements of a list make, sets of contexted patches, and pairs of names.
-use Rattle.camp_questions.proofs.Words.{Bool, cond, filter}
-use Rattle.std.proofs.lemmas.Bool.{cond_both}
+use Rattle.camp_questions.proofs.Words.{Bool, cond, filter, cond_both, Pair, by_name, first_or_later, has_first, has_later, no_member}
 use Rattle.camp_branch.proofs.Words.{◌≡◌, ◌⊎◌, ℕ, true, Option, None, Some, List, [], ◌∷◌, map, is_some, refl, sym, ap, ◌∙◌, subst, inl, inr, Contains-append_cases, Contains-append_left, Contains-append_right, Contains-from_any, list_any-from_Contains, tells_apart, Contains, flat_map, ordering_reverse, eq_by_cmp_equiv, nat_list_cmp_total, contains_key-keys, get, keys, Ordering, Less, Equal, Greater, Key, key_total, key_ties, ContextedPatches, ContextedPatch, ordered_by, pair_of, ◌<◌, length, get_or, arith, length-map, get_or-map, Contains-get_or}
-use Rattle.camp_branch.proofs.SortedPairs.{Pair, by_name, first_or_later, has_first, has_later, no_member}
 
 -- what one of the lists has that the elements of a list make
 pub has_of_each : {X A : Type 0} (f : X → List A) (list : List X) (x : X) (y : A) → Contains list x → Contains (f x) y → Contains (flat_map f list) y

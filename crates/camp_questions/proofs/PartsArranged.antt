@@ -1,15 +1,7 @@
 -- Lists of catches that are arranged part by part.
-use Rattle.camp_questions.proofs.Words.{◌≡◌, ◌<◌, ℕ, ◌+◌, ◌-◌, true≢false, false, ◌||◌, arith, get_or, length, take, take_more, List, [], ◌∷◌, ◌++◌, bytes_eq, append-nil, append_assoc, refl, sym, ap, ◌∙◌, subst, inl, inr, AllByRecursion, Key, Catch, AreAlike, Arrange, ArrangeSticks, ArrangesBehind, SticksBehind, StopsAt, is_among, is_among_is, name_of}
-use Rattle.std.proofs.lemmas.List.{take_all}
-use Rattle.camp_catch.specs.Arranging.{DoNotCommute, IsOf}
-use Rattle.camp_catch.specs.Catches.{catch_key}
-use Rattle.camp_catch.specs.Laws.{KeysPart, keys_of}
-use Rattle.camp_catch.proofs.KeptLabels.{keep_labels}
-use Rattle.camp_catch.proofs.ListResults.{arrange_by_members}
+use Rattle.camp_questions.proofs.Words.{◌≡◌, ◌<◌, ℕ, ◌+◌, ◌-◌, true≢false, false, ◌||◌, arith, get_or, length, take, take_more, List, [], ◌∷◌, ◌++◌, bytes_eq, append-nil, append_assoc, refl, sym, ap, ◌∙◌, subst, inl, inr, AllByRecursion, Key, Catch, AreAlike, Arrange, ArrangeSticks, ArrangesBehind, SticksBehind, StopsAt, is_among, is_among_is, name_of, take_all, DoNotCommute, IsOf, catch_key, KeysPart, keys_of, keep_labels, arrange_by_members, AreApart, AreOfPatch, AllStay, ComeBeforeAll, StickBehind}
 use Rattle.camp_questions.proofs.BranchGrowths.{contains_alike}
-use Rattle.camp_questions.proofs.PatchFronts.{AreNotOf, all_are, at_first}
-use Rattle.camp_questions.specs.Inside.ByPatch.{AreApart, AreOfPatch}
-use Rattle.camp_questions.specs.Inside.StandingAside.{AllStay, ComeBeforeAll, StickBehind}
+use Rattle.camp_questions.proofs.PatchFronts.{AreNotOf, all_are, all_images, at_first}
 
 module _ (names : List (List ℕ)) where
   -- what is arranged, and then what is behind it, is arranged together
@@ -146,10 +138,6 @@ keys_kept P names (key ∷ keys) first rest (inl w) all = keys_kept P names keys
 keys_kept P names (key ∷ keys) first rest (inr w) all =
     subst (AllByRecursion P) (sym w.1.2) (all.0, keys_kept P names keys first w.1.0 w.1.1 all.1)
 
-all_keys : (P : Key → Type 0) (list : List Catch) → AllByRecursion (λ k. P (catch_key k)) list → AllByRecursion P (keys_of list)
-all_keys P [] all = tt
-all_keys P (k ∷ list) all = (all.0, all_keys P list all.1)
-
 of_all_keys : (P : Key → Type 0) (list : List Catch) → AllByRecursion P (keys_of list) → AllByRecursion (λ k. P (catch_key k)) list
 of_all_keys P [] all = tt
 of_all_keys P (k ∷ list) all = (all.0, of_all_keys P list all.1)
@@ -158,4 +146,4 @@ of_all_keys P (k ∷ list) all = (all.0, of_all_keys P list all.1)
 pub left_apart : (name : List ℕ) (names : List (List ℕ)) (list first left : List Catch) → Arrange names list first left → AreApart name list → AreApart name left
 left_apart name names list first left w apart =
     let other : Key → Type 0 = λ key. bytes_eq key.name name ≡ false in
-    of_all_keys other left (keys_kept other names (keys_of list) (keys_of first) (keys_of left) (keep_labels.arranged names list first left w) (all_keys other list apart))
+    of_all_keys other left (keys_kept other names (keys_of list) (keys_of first) (keys_of left) (keep_labels.arranged names list first left w) (all_images catch_key other list apart))

@@ -1,14 +1,7 @@
 -- Labels that changes pass by, as they are or on their way to another line.
-use Rattle.camp_questions.proofs.Words.{◌≡◌, ◌<◌, ◌≤◌, ◌+◌, ◌-◌, ℕ, List, [], ◌∷◌, ◌++◌, length, take, drop, get_or, refl, sym, ap, ◌∙◌, subst, inl, inr, arith, drop-drop, drop_all, drop_more, length-take-le, take-append-drop, Edit, Named, Hunk}
-use Rattle.std.proofs.lemmas.List.{drop-append-le}
+use Rattle.camp_questions.proofs.Words.{◌≡◌, ◌<◌, ◌≤◌, ◌+◌, ◌-◌, ℕ, List, [], ◌∷◌, ◌++◌, length, take, drop, get_or, refl, sym, ap, ◌∙◌, subst, inl, inr, arith, drop-drop, drop_all, drop_more, length-take-le, take-append-drop, Edit, Named, Hunk, drop-append-le, Adds, AddsAll, commute, ContextedPatch, bare, InRange, IsInRange, SameKey, PrimitivesCommute, Commute, at_line, path_of, Passes, hunk_at}
 use Rattle.camp_base.specs.Limits.{greatest_reach}
-use Rattle.camp_ctx.specs.Adding.{Adds, AddsAll, commute}
-use Rattle.camp_ctx.specs.Contexts.{ContextedPatch, bare}
-use Rattle.camp_prim.specs.Effect.{InRange}
-use Rattle.camp_prim.specs.Hunks.{IsInRange}
-use Rattle.camp_prim.specs.Labels.{SameKey}
-use Rattle.camp_prim.specs.Commuting.{PrimitivesCommute, Commute, at_line, path_of}
-use Rattle.camp_questions.specs.Inside.Moving.{ComesBefore, Passes, hunk_at}
+use Rattle.camp_questions.specs.Inside.Moving.{ComesBefore}
 
 -- what is added behind, and then what stands before that
 pub add_before : (first rest : List Named) (x y z : ContextedPatch) → AddsAll rest x y → AddsAll first y z → AddsAll (first ++ rest) x z

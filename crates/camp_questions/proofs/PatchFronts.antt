@@ -1,8 +1,5 @@
 -- The patches of a lawful branch up to one come to its front, as they stand there.
-use Rattle.std.proofs.lemmas.Bool.{false_from_ne_true}
-use Rattle.camp_questions.proofs.Words.{◌≡◌, ◌≢◌, ◌<◌, ℕ, zero, suc, ◌+◌, Bool, true, false, true≢false, ◌||◌, cond, List, [], ◌∷◌, ◌++◌, bytes_eq, append-nil, refl, sym, ap, ◌∙◌, subst, inl, inr, arith, AllByRecursion, append_assoc, Key, Catch, all_append, is_among_is, name_itself, or_true, same_name, ComeToFront, ArrangesBehind, AreDistinct, HasPatches, Patch, is_among, labels_from, labels_of, name_of, names_of, patch_names}
-use Rattle.camp_catch.specs.Laws.{keys_of}
-use Rattle.camp_branch.proofs.BranchLabels.{names_of_patches}
+use Rattle.camp_questions.proofs.Words.{false_from_ne_true, ◌≡◌, ◌≢◌, ◌<◌, ℕ, zero, suc, ◌+◌, Bool, true, false, true≢false, ◌||◌, cond, List, [], ◌∷◌, ◌++◌, bytes_eq, append-nil, refl, sym, ap, ◌∙◌, subst, inl, inr, arith, AllByRecursion, append_assoc, Key, Catch, all_append, is_among_is, name_itself, or_true, same_name, ComeToFront, ArrangesBehind, AreDistinct, HasPatches, Patch, is_among, labels_from, labels_of, name_of, names_of, patch_names, keys_of, names_of_patches, list_any, or_cases, map}
 
 -- names up to one
 abbrev pub up_to : List (List ℕ) → List ℕ → List (List ℕ)
@@ -51,7 +48,7 @@ module _ (names : List (List ℕ)) where
   others_stay rest (k ∷ list) are =
       inr (λ c. true≢false (sym ((is_among_is names (name_of k)).0 c) ∙ are.0), subst (ArrangesBehind names (rest ++ k ∷ []) list []) (append_assoc rest (k ∷ []) list) (others_stay (rest ++ k ∷ []) list are.1))
 
-  those_come : (front behind : List Catch) → AreOf names front → AreNotOf names behind → ArrangesBehind names [] (front ++ behind) front behind
+  pub those_come : (front behind : List Catch) → AreOf names front → AreNotOf names behind → ArrangesBehind names [] (front ++ behind) front behind
   those_come [] behind are others = others_stay [] behind others
   those_come (k ∷ front) behind are others =
       inl ((is_among_is names (name_of k)).1 are.0, (k, [], front, (refl, refl), those_come front behind are.1 others, refl))
@@ -88,9 +85,21 @@ of_one_patch (k ∷ list) name place (suc changes) e =
     let same = same_head e in
     (ap (λ key. key.name) same.0, of_one_patch list name (place + 1) changes same.1)
 
-pub all_are : {P Q : Catch → Type 0} → ((k : Catch) → P k → Q k) → (list : List Catch) → AllByRecursion P list → AllByRecursion Q list
+pub all_are : {X : Type 0} {P Q : X → Type 0} → ((x : X) → P x → Q x) → (list : List X) → AllByRecursion P list → AllByRecursion Q list
 all_are to [] w = tt
 all_are to (k ∷ list) w = (to k w.0, all_are to list w.1)
+
+pub all_images : {X Y : Type 0} (f : X → Y) (P : Y → Type 0) (list : List X) → AllByRecursion (λ x. P (f x)) list → AllByRecursion P (map f list)
+all_images f P [] w = tt
+all_images f P (x ∷ list) w = (w.0, all_images f P list w.1)
+
+-- one of a list passes a test, and what holds of all holds of it
+pub one_passing : {X : Type 0} (P : X → Type 0) (test : X → Bool) (list : List X) → AllByRecursion P list → list_any test list ≡ true → (x : X) × P x × (test x ≡ true)
+one_passing P test [] all any = absurd (true≢false (sym any))
+one_passing P test (x ∷ list) all any = elim (or_cases (test x) (list_any test list) any) [
+  | inl e ↦ (x, all.0, e)
+  | inr e ↦ one_passing P test list all.1 e
+]
 
 pub both_are : {P Q R : Catch → Type 0} → ((k : Catch) → P k → Q k → R k) → (list : List Catch) → AllByRecursion P list → AllByRecursion Q list → AllByRecursion R list
 both_are to [] v w = tt

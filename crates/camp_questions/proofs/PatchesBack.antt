@@ -1,20 +1,6 @@
 -- Plain patches, taken back one by one.
-use Rattle.camp_questions.proofs.Words.{◌≡◌, ℕ, false, ◌||◌, List, [], ◌∷◌, ◌++◌, map, bytes_eq, append-nil, refl, sym, ap, ◌∙◌, subst, AllByRecursion, append_assoc, map-append, Catch, is_among, name_of, all_append, or_parts, AreDistinct, Named}
-use Rattle.std.proofs.lemmas.List.{reverse-append}
-use Rattle.std.specs.Prelude.{reverse}
-use Rattle.camp_branch.proofs.Names.{distinct_append, other_way}
-use Rattle.camp_prim.specs.Effect.{inverse_of}
-use Rattle.camp_seq.proofs.ListRuns.{inverse_all-append, inverse_all-cons}
-use Rattle.camp_seq.specs.Running.{inverse_all}
-use Rattle.camp_catch.specs.declared.catches.Catch.TheVariants.{Plain}
-use Rattle.camp_questions.specs.Inside.ByPatch.{AreOfPatch, ArePatches, ArePatchesOf, catches_in_order, names_in_order}
-use Rattle.camp_questions.specs.Inside.Growing.{GrowsToFront, GrowsToGo}
-use Rattle.camp_questions.specs.Inside.TakingBack.{AreInverses, AreTakenBack, HaveRoom}
-use Rattle.camp_questions.specs.declared.fast.patch_catches.PatchCatches.{PatchCatches}
+use Rattle.camp_questions.proofs.Words.{◌≡◌, ℕ, false, ◌||◌, List, [], ◌∷◌, ◌++◌, map, bytes_eq, refl, sym, ap, ◌∙◌, subst, AllByRecursion, map-append, Catch, is_among, name_of, all_append, or_parts, AreDistinct, Named, reverse, distinct_append, other_way, inverse_of, inverse_all-append, inverse_all-cons, inverse_all, Plain, AreOfPatch, ArePatches, ArePatchesOf, catches_in_order, names_in_order, GrowsToFront, GrowsToGo, AreInverses, AreTakenBack, HaveRoom, PatchCatches, reverse-cons, flat_map_more, AllZip}
 use Rattle.camp_questions.proofs.TakenBack.{needed_as_held}
-
-reverse-cons : {X : Type 0} (x : X) (xs : List X) → reverse (x ∷ xs) ≡ reverse xs ++ x ∷ []
-reverse-cons x xs = reverse-append (x ∷ []) xs
 
 pub map-reverse : {X Y : Type 0} (f : X → Y) (xs : List X) → map f (reverse xs) ≡ reverse (map f xs)
 map-reverse f [] = refl
@@ -39,25 +25,17 @@ distinct_reversed (n ∷ names) w =
     subst AreDistinct (sym (reverse-cons n names)) (distinct_append (reverse names) (n ∷ []) (distinct_reversed names w.1) (refl, tt) (all_reversed (λ m. is_among (n ∷ []) m ≡ false) names (apart_from n names w.0)))
 
 -- each of some patches is taken back
-abbrev pub AreAllBack : List PatchCatches → List PatchCatches → Type 0
-AreAllBack [] [] = Unit {0}
-AreAllBack [] (b ∷ backs) = ⊥
-AreAllBack (p ∷ patches) [] = ⊥
-AreAllBack (p ∷ patches) (b ∷ backs) =
-    (b.name ≡ p.name) × AreInverses p.catches.items b.catches.items × AreAllBack patches backs
+abbrev pub IsBack : PatchCatches → PatchCatches → Type 0
+IsBack patch back = (back.name ≡ patch.name) × AreInverses patch.catches.items back.catches.items
 
-pub one_back : (patches backs : List PatchCatches) (p b : PatchCatches) → AreAllBack patches backs → b.name ≡ p.name → AreInverses p.catches.items b.catches.items → AreAllBack (patches ++ p ∷ []) (backs ++ b ∷ [])
-one_back [] [] p b w called inverses = (called, inverses, tt)
-one_back [] (c ∷ backs) p b w called inverses = absurd w
-one_back (q ∷ patches) [] p b w called inverses = absurd w
-one_back (q ∷ patches) (c ∷ backs) p b w called inverses =
-    (w.0, w.1, one_back patches backs p b w.2 called inverses)
+abbrev pub AreAllBack : List PatchCatches → List PatchCatches → Type 0
+AreAllBack patches backs = AllZip IsBack patches backs
 
 called_back : (patches backs : List PatchCatches) → AreAllBack patches backs → names_in_order backs ≡ names_in_order patches
 called_back [] [] w = refl
 called_back [] (b ∷ backs) w = absurd w
 called_back (p ∷ patches) [] w = absurd w
-called_back (p ∷ patches) (b ∷ backs) w = λ i. w.0 i ∷ called_back patches backs w.2 i
+called_back (p ∷ patches) (b ∷ backs) w = λ i. w.0.0 i ∷ called_back patches backs w.1 i
 
 same_plain : (xs ys : List Named) → map Plain xs ≡ map Plain ys → xs ≡ ys
 same_plain [] [] e = refl
@@ -69,9 +47,7 @@ same_plain (x ∷ xs) (y ∷ ys) e =
     λ i. head i ∷ same_plain xs ys rest i
 
 pub catches-append : (backs : List PatchCatches) (b : PatchCatches) → catches_in_order (backs ++ b ∷ []) ≡ catches_in_order backs ++ b.catches.items
-catches-append [] b = append-nil b.catches.items
-catches-append (c ∷ backs) b =
-    ap (λ l. c.catches.items ++ l) (catches-append backs b) ∙ sym (append_assoc c.catches.items (catches_in_order backs) b.catches.items)
+catches-append backs b = sym (flat_map_more (λ (patch : PatchCatches). patch.catches.items) [] backs b)
 
 -- together they are the inverses of all, the last first
 all_inverses : (patches backs : List PatchCatches) → AreAllBack patches backs → AreInverses (catches_in_order patches) (catches_in_order (reverse backs))
@@ -79,8 +55,8 @@ all_inverses [] [] w = record { forth = []; plain = refl; inverses = refl }
 all_inverses [] (b ∷ backs) w = absurd w
 all_inverses (p ∷ patches) [] w = absurd w
 all_inverses (p ∷ patches) (b ∷ backs) w =
-    let one = w.1 in
-    let rest = all_inverses patches backs w.2 in
+    let one = w.0.1 in
+    let rest = all_inverses patches backs w.1 in
     record {
       forth = one.forth ++ rest.forth;
       plain = (λ i. one.plain i ++ rest.plain i) ∙ sym (map-append Plain one.forth rest.forth);
@@ -101,9 +77,9 @@ own_all_back [] [] w own = tt
 own_all_back [] (b ∷ backs) w own = absurd w
 own_all_back (p ∷ patches) [] w own = absurd w
 own_all_back (p ∷ patches) (b ∷ backs) w own =
-    let one = w.1 in
+    let one = w.0.1 in
     let here = own_back p.name one.forth (subst (AreOfPatch p.name) one.plain own.0) in
-    (subst (λ n. AreOfPatch n b.catches.items) (sym w.0) (subst (AreOfPatch p.name) (sym one.inverses) here), own_all_back patches backs w.2 own.1)
+    (subst (λ n. AreOfPatch n b.catches.items) (sym w.0.0) (subst (AreOfPatch p.name) (sym one.inverses) here), own_all_back patches backs w.1 own.1)
 
 -- all patches of a list are taken back
 pub all_back : (list : List Catch) (patches backs : List PatchCatches) → ArePatchesOf list patches → HaveRoom list → AreAllBack patches backs → AreTakenBack patches backs

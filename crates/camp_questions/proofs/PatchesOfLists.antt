@@ -1,13 +1,5 @@
 -- The patches that a list of catches is of, found one after the other.
-use Rattle.camp_questions.proofs.Words.{IsLawfulBranch, ◌≡◌, ◌<◌, ◌≤◌, ℕ, zero, suc, ◌+◌, ◌-◌, ◌==◌, cond, List, [], ◌∷◌, ◌++◌, length, take, drop, get_or, append-nil, refl, sym, ap, ◌∙◌, subst, arith, AllByRecursion, append_assoc, drop-drop, drop_all, drop_more, length-append, length-drop, map-append, take_at, drop_at, Key, Catch, all_append, name_of, AreDistinct, HasPatches, Patch, labels_from, labels_of, patch_names}
-use Rattle.std.proofs.lemmas.List.{take_all}
-use Rattle.std.proofs.lemmas.Bool.{ne_eqb}
-use Rattle.camp_branch.proofs.BranchLabels.{names_of_patches}
-use Rattle.camp_branch.specs.Branches.{IsSized, names_of}
-use Rattle.camp_catch.specs.Catches.{catch_key}
-use Rattle.camp_catch.specs.Laws.{keys_of}
-use Rattle.camp_questions.specs.Inside.ByPatch.{AreOfPatch, ArePatchesOf, catches_in_order, names_in_order, until_next}
-use Rattle.camp_questions.specs.declared.fast.patch_catches.PatchCatches.{PatchCatches}
+use Rattle.camp_questions.proofs.Words.{IsLawfulBranch, ◌≡◌, ◌<◌, ◌≤◌, ℕ, zero, suc, ◌+◌, ◌-◌, ◌==◌, cond, List, [], ◌∷◌, ◌++◌, length, take, drop, get_or, append-nil, refl, sym, ap, ◌∙◌, subst, arith, AllByRecursion, append_assoc, drop-drop, drop_all, drop_more, length-append, length-drop, map-append, take_at, drop_at, Key, Catch, all_append, name_of, AreDistinct, HasPatches, Patch, labels_from, labels_of, patch_names, take_all, ne_eqb, names_of_patches, IsSized, names_of, catch_key, keys_of, AreOfPatch, ArePatchesOf, catches_in_order, names_in_order, until_next, PatchCatches, take-add, length-map}
 use Rattle.camp_questions.proofs.PatchFronts.{of_one_patch, parts_by_labels, same_head}
 use Rattle.camp_questions.proofs.PatchesBack.{catches-append}
 
@@ -60,34 +52,9 @@ none_found list patches has = record {
 pub patches_there : (branch list : List Catch) → list ≡ branch → IsLawfulBranch branch → (patches : List Patch) × HasPatches list patches
 patches_there branch list is lawful = (lawful.patches, subst (λ l. HasPatches l lawful.patches) (sym is) lawful.has)
 
-keys_length : (list : List Catch) → length (keys_of list) ≡ length list
-keys_length [] = refl
-keys_length (k ∷ list) = ap suc (keys_length list)
-
 labels_length : (name : List ℕ) (place changes : ℕ) → length (labels_from name place changes) ≡ changes
 labels_length name place zero = refl
 labels_length name place (suc changes) = ap suc (labels_length name (place + 1) changes)
-
-take_more_from : (list first rest : List Catch) (start n : ℕ) → start ≤ length list → drop start list ≡ first ++ rest → length first ≡ n → take (start + n) list ≡ take start list ++ first
-take_more_from list first rest zero n within parts long =
-    let e : 0 + n ≡ n = omega arith in
-    ap (λ m. take m list) e ∙ ap (take n) (sym (drop_none list) ∙ parts) ∙ take_at first rest n long ∙ ap (λ l. l ++ first) (sym (take_none list))
-  where
-    drop_none : (l : List Catch) → drop 0 l ≡ l
-    drop_none [] = refl
-    drop_none (x ∷ l) = refl
-
-    take_none : (l : List Catch) → take 0 l ≡ []
-    take_none [] = refl
-    take_none (x ∷ l) = refl
-take_more_from [] first rest (suc start) n within parts long = absurd (omega (arith, within))
-take_more_from (k ∷ list) first rest (suc start) n within parts long =
-    take_from_next start n ∙ ap (λ l. k ∷ l) (take_more_from list first rest start n (omega (arith, within)) parts long)
-  where
-    take_from_next : (a b : ℕ) → take (suc a + b) (k ∷ list) ≡ k ∷ take (a + b) list
-    take_from_next a b =
-        let e : suc a + b ≡ suc (a + b) = omega arith in
-        ap (λ m. take m (k ∷ list)) e
 
 -- one more patch is found
 pub one_found : (list : List Catch) (start end : ℕ) (found : List PatchCatches) (b : PatchCatches) (k d : Catch) → start < length list → end ≡ start + 1 + until_next (drop (start + 1) list) → k ≡ get_or list start d → b.name ≡ name_of k → b.catches.items ≡ take (end - start) (drop start list) → AreFound list start found → AreFound list end (found ++ b ∷ []) × (start < end)
@@ -111,11 +78,12 @@ one_found list start end found b k d within ends is called catches so_far =
             let count : until_next (drop (start + 1) list) ≡ n = until_next_at (drop (start + 1) list) p.name 2 n patches (omega arith) sized.1 same.1 in
             let whole : end ≡ start + suc n = omega (arith, ends, count) in
             let parts = parts_by_labels (drop start list) (labels_from p.name 1 (suc n)) (labels_of patches) keys in
-            let long : length parts.first ≡ suc n = sym (keys_length parts.first) ∙ ap length parts.first_keys ∙ labels_length p.name 1 (suc n) in
+            let long : length parts.first ≡ suc n = sym (length-map parts.first catch_key) ∙ ap length parts.first_keys ∙ labels_length p.name 1 (suc n) in
             let gone : end - start ≡ suc n = omega (arith, whole) in
-            let group : b.catches.items ≡ parts.first = catches ∙ ap (λ m. take m (drop start list)) gone ∙ ap (take (suc n)) parts.is ∙ take_at parts.first parts.rest (suc n) long in
+            let came : take (suc n) (drop start list) ≡ parts.first = ap (take (suc n)) parts.is ∙ take_at parts.first parts.rest (suc n) long in
+            let group : b.catches.items ≡ parts.first = catches ∙ ap (λ m. take m (drop start list)) gone ∙ came in
             let named : b.name ≡ p.name = called ∙ ap (λ (key : Key). key.name) same.0 in
-            let joined : take end list ≡ take start list ++ parts.first = ap (λ m. take m list) whole ∙ take_more_from list parts.first parts.rest start (suc n) so_far.within parts.is long in
+            let joined : take end list ≡ take start list ++ parts.first = ap (λ m. take m list) whole ∙ take-add start (suc n) list ∙ ap (λ l. take start list ++ l) came in
             let rest : drop end list ≡ parts.rest = ap (λ m. drop m list) whole ∙ sym (drop-drop (suc n) start list) ∙ ap (drop (suc n)) parts.is ∙ drop_at parts.first parts.rest (suc n) long in
             let fits : length (drop start list) ≡ length parts.first + length parts.rest = ap length parts.is ∙ length-append parts.first parts.rest in
             let all_long = length-drop start list in

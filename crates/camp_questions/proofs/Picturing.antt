@@ -1,10 +1,6 @@
 -- How the parts of a picture are gathered.
-use Rattle.camp_questions.proofs.Words.{◌≡◌, ◌<◌, ◌+◌, ◌&&◌, ℕ, Bool, true, false, cond, List, [], ◌∷◌, ◌++◌, map, filter, take, drop, length, get_or, Ok, Err, refl, sym, ap, ◌∙◌, arith, append-nil, drop_more, filter-append, map-append, take_more, Contents, Catch, IsFound, Node, Drawn, IsGraph, IsGraphOf, AnswerOf, ◌==◌, true≢false, eqb-true}
-use Rattle.camp_call.specs.declared.replies.Refusal.{Refusal}
+use Rattle.camp_questions.proofs.Words.{◌≡◌, ◌<◌, ◌+◌, ◌&&◌, ℕ, Bool, true, false, List, [], ◌∷◌, map, filter, drop, length, get_or, Ok, Err, refl, sym, ap, ◌∙◌, arith, drop_more, Contents, Catch, IsFound, Node, Drawn, IsGraph, IsGraphOf, AnswerOf, ◌==◌, true≢false, eqb-true, Refusal, OfPatches, AreOpen, AreOpenIn, IsPictured, Picture, drawn_about, hangs_on, kept_node, part_with, whole_picture, with_needing, with_needing_one, with_needs, with_needs_of}
 use Rattle.camp_questions.proofs.Answering.{goes_on, goes_on_with, no_refusal}
-use Rattle.camp_questions.specs.Answers.{OfPatches}
-use Rattle.camp_questions.specs.OpenConflicts.{AreOpen, AreOpenIn}
-use Rattle.camp_questions.specs.Pictures.{IsPictured, Picture, drawn_about, hangs_on, kept_node, part_with, whole_picture, with_needing, with_needing_one, with_needs, with_needs_of}
 
 -- one more patch, from the last, brings what it needs
 pub one_brought : (nodes : List Node) (i at : ℕ) (node d : Node) (names was next : List (List ℕ)) → i + 1 ≡ at → i < length nodes → node ≡ get_or nodes i d → was ≡ with_needs (drop at nodes) names → next ≡ with_needs_of node was → next ≡ with_needs (drop i nodes) names
@@ -18,24 +14,6 @@ one_joined nodes i node d was next aim within is so_far becomes =
     let here : drop i nodes ≡ node ∷ drop (i + 1) nodes = drop_more nodes i d within ∙ ap (λ n. n ∷ drop (i + 1) nodes) (sym is) in
     ap (with_needing (drop (i + 1) nodes)) becomes ∙ sym (ap (λ l. with_needing l was) here) ∙ so_far
 
-kept_alone : (keeps : List ℕ → Bool) (node : Node) → map (kept_node keeps) (filter (λ (n : Node). keeps n.name) (node ∷ [])) ≡ cond (keeps node.name) (kept_node keeps node ∷ []) []
-kept_alone keeps node = elim (keeps node.name) as (λ b. map (kept_node keeps) (cond b (node ∷ []) []) ≡ cond b (kept_node keeps node ∷ []) []) [
-  | true ↦ refl
-  | false ↦ refl
-]
-
-put_behind : (b : Bool) (left : List Node) (node : Node) → cond b (left ++ node ∷ []) left ≡ left ++ cond b (node ∷ []) []
-put_behind true left node = refl
-put_behind false left node = sym (append-nil left)
-
--- one more is kept, or not
-pub one_kept : (keeps : List ℕ → Bool) (nodes : List Node) (i : ℕ) (node d : Node) (left next : List Node) → i < length nodes → node ≡ get_or nodes i d → left ≡ map (kept_node keeps) (filter (λ (n : Node). keeps n.name) (take i nodes)) → next ≡ cond (keeps node.name) (left ++ kept_node keeps node ∷ []) left → next ≡ map (kept_node keeps) (filter (λ (n : Node). keeps n.name) (take (i + 1) nodes))
-one_kept keeps nodes i node d left next within is so_far becomes =
-    let test : Node → Bool = λ n. keeps n.name in
-    let more : take (i + 1) nodes ≡ take i nodes ++ node ∷ [] = take_more nodes i d within ∙ ap (λ n. take i nodes ++ n ∷ []) (sym is) in
-    becomes ∙ put_behind (keeps node.name) left (kept_node keeps node) ∙ (λ k. so_far k ++ sym (kept_alone keeps node) k)
-    ∙ sym (ap (λ l. map (kept_node keeps) (filter test l)) more ∙ ap (map (kept_node keeps)) (filter-append test (take i nodes) (node ∷ [])) ∙ map-append (kept_node keeps) (filter test (take i nodes)) (filter test (node ∷ [])))
-
 -- the part of a picture that is made of its kept parts
 pub part_made : (keeps others : List ℕ → Bool) (nodes left : List Node) (pairs kept unsettled : List (List ℕ × List ℕ)) → ((name : List ℕ) → others name ≡ keeps name) → left ≡ map (kept_node others) (filter (λ (n : Node). others n.name) nodes) → kept ≡ filter (λ pair. others pair.0 && others pair.1) pairs
     → record { patches = left; conflicts = kept; unsettled = unsettled } ≡ part_with keeps (record { patches = nodes; conflicts = pairs; unsettled = unsettled })
@@ -43,14 +21,8 @@ part_made keeps others nodes left pairs kept unsettled same are pairs_are =
     (λ i. record { patches = are i; conflicts = pairs_are i; unsettled = unsettled })
     ∙ ap (λ f. part_with f (record { patches = nodes; conflicts = pairs; unsettled = unsettled })) (λ i name. same name i)
 
--- what was answered, or else this
-answer_or : {A : Type 0} → A → AnswerOf A → A
-answer_or other (Ok answer) = answer
-answer_or other (Err refusal) = other
-
 one_answer : {A : Type 0} (a b : A) (is : AnswerOf A) → is ≡ Ok a → is ≡ Ok b → a ≡ b
-unfolding answer_or
-one_answer a b is e f = ap (answer_or a) (sym e ∙ f)
+one_answer a b is e f = cc
 
 module _ (state : Contents) (branch : List ℕ) (names : List (List ℕ)) (catches : List Catch) (found : IsFound state branch names catches) where
   abbrev Goes : List Catch → AnswerOf Picture → Type 0

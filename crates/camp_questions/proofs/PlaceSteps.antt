@@ -1,29 +1,24 @@
 -- How a file with its places is made, one place after the other.
-use Rattle.camp_questions.proofs.Words.{append-nil, arith, length-drop, slice_range, ◌≡◌, ◌<◌, ◌≤◌, ℕ, ◌+◌, ◌-◌, Bool, true, false, cond, List, [], ◌∷◌, ◌++◌, drop, filter, get_or, length, map, take, sym, ap, ◌∙◌, append_assoc, drop_more, map-append, Lines}
+use Rattle.camp_questions.proofs.Words.{append-nil, arith, length-drop, slice_range, ◌≡◌, ◌<◌, ◌≤◌, ℕ, ◌+◌, ◌-◌, Bool, true, false, cond, List, [], ◌∷◌, ◌++◌, drop, filter, get_or, length, map, take, sym, ap, ◌∙◌, append_assoc, drop_more, map-append, Lines, get_or-map, take_all, File, Place, at_place, differs_within, file_from, place_from, range_of, with_marks, Version, Range, take_more, filter-append}
 use Rattle.std.proofs.Math.ListN.{drop_of_length-le}
-use Rattle.std.proofs.lemmas.List.{get_or-map, take_all}
-use Rattle.std.proofs.lemmas.List.Elements.{filter_more}
 use Rattle.camp_questions.specs.Inside.Placing.{is_within}
-use Rattle.camp_questions.specs.Places.{File, Place, at_place, differs_within, file_from, place_from, range_of, with_marks}
-use Rattle.camp_questions.specs.declared.marking.Version.{Version}
-use Rattle.camp_questions.specs.declared.places.Range.{Range}
 
 -- a file with places before its own
 abbrev pub behind_places : List Place → File → File
 behind_places places file = record { places = places ++ file.places; rest = file.rest }
 
--- one more version differs within a place, or not
-sides_at : (lines : Lines) (place : Range) (versions : List Version) (version : Version) (sides : List Version) (b : Bool) → sides ≡ map (at_place lines place) versions → cond b (sides ++ at_place lines place version ∷ []) sides ≡ map (at_place lines place) (versions ++ cond b (version ∷ []) [])
-sides_at lines place versions version sides true was =
-    ap (λ s. s ++ at_place lines place version ∷ []) was ∙ sym (map-append (at_place lines place) versions (version ∷ []))
-sides_at lines place versions version sides false was =
-    was ∙ sym (map-append (at_place lines place) versions [] ∙ append-nil (map (at_place lines place) versions))
+-- one more of a list passes a test and has an image, or not
+pub one_more_image : {X Y : Type 0} (f : X → Y) (test : X → Bool) (list : List X) (i : ℕ) (x d : X) (images next : List Y) → i < length list → x ≡ get_or list i d → images ≡ map f (filter test (take i list)) → next ≡ cond (test x) (images ++ f x ∷ []) images → next ≡ map f (filter test (take (i + 1) list))
+one_more_image f test list i x d images next within is so_far becomes =
+    becomes ∙ more (test x) ∙ sym (ap (λ l. map f (filter test l)) (take_more list i d within ∙ ap (λ y. take i list ++ y ∷ []) (sym is)) ∙ ap (map f) (filter-append test (take i list) (x ∷ [])))
+  where
+    more : (b : Bool) → cond b (images ++ f x ∷ []) images ≡ map f (filter test (take i list) ++ cond b (x ∷ []) [])
+    more true = ap (λ l. l ++ f x ∷ []) so_far ∙ sym (map-append f (filter test (take i list)) (x ∷ []))
+    more false = so_far ∙ ap (map f) (sym (append-nil (filter test (take i list))))
 
 pub one_more_side : (lines : Lines) (place : Range) (versions : List Version) (i : ℕ) (version d : Version) (range : Range) (sides next : List Version) → i < length versions → version ≡ get_or versions i d → sides ≡ map (at_place lines place) (filter (differs_within lines place) (take i versions)) → range ≡ range_of lines version.lines → next ≡ cond (is_within range place) (sides ++ at_place lines place version ∷ []) sides → next ≡ map (at_place lines place) (filter (differs_within lines place) (take (i + 1) versions))
 one_more_side lines place versions i version d range sides next within is was of becomes =
-    becomes ∙ ap (λ r. cond (is_within r place) (sides ++ at_place lines place version ∷ []) sides) of ∙ sides_at lines place (filter (differs_within lines place) (take i versions)) version sides (differs_within lines place version) was
-    ∙ (λ t. map (at_place lines place) (filter (differs_within lines place) (take i versions) ++ cond (differs_within lines place (is t)) (is t ∷ []) []))
-    ∙ ap (map (at_place lines place)) (sym (filter_more (differs_within lines place) versions i d within))
+    one_more_image (at_place lines place) (differs_within lines place) versions i version d sides next within is was (becomes ∙ ap (λ r. cond (is_within r place) (sides ++ at_place lines place version ∷ []) sides) of)
 
 -- the range at a place is that of the version there
 pub range_there : (lines : Lines) (versions : List Version) (ranges : List Range) (i : ℕ) (range d : Range) (version : Version) → ranges ≡ map (λ (v : Version). range_of lines v.lines) versions → i < length versions → range ≡ get_or ranges i d → version ≡ get_or versions i version → range ≡ range_of lines version.lines

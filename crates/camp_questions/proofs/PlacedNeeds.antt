@@ -1,15 +1,7 @@
 -- Direct needs, found by places.
-use Rattle.camp_questions.proofs.Words.{◌≡◌, ◌<◌, ◌≤◌, ◌==◌, ℕ, zero, suc, ◌+◌, ◌-◌, Bool, true, false, not, ◌&&◌, ◌||◌, cond, inl, inr, List, [], ◌∷◌, ◌++◌, filter, map, length, take, drop, get_or, bytes_eq, append-nil, refl, sym, ap, ◌∙◌, subst, and_false, and_true, arith, AllByRecursion, list_any, drop_all, drop_more, filter-append, map-append, take_more, name_itself, AreDistinct, goes_between, needs_directly, needs_other, all_append}
-use Rattle.std.proofs.lemmas.Bool.{cases_eq, cases_order, eq-eqb, ne_eqb}
-use Rattle.std.proofs.lemmas.List.Elements.{All-filter, All-from_recursion, recursion_from_All}
-use Rattle.std.proofs.lemmas.List.{get_or-map, get_or_default, get_or_past, length-map, take_all}
-use Rattle.camp_branch.proofs.Names.{filter_image, other_way}
-use Rattle.camp_questions.specs.Graphs.{Needing}
-use Rattle.camp_questions.specs.declared.graphs.Node.{Node}
-use Rattle.camp_questions.specs.declared.needed.Needed.{Needed}
-use Rattle.camp_questions.specs.Inside.Graphing.{needing}
-use Rattle.camp_questions.specs.Inside.ByPlace.{AreSettled, EndInPlace, name_at, needs_place, node_in, up_to}
+use Rattle.camp_questions.proofs.Words.{◌≡◌, ◌<◌, ◌≤◌, ◌==◌, ℕ, zero, suc, ◌+◌, ◌-◌, Bool, true, false, not, ◌&&◌, ◌||◌, cond, inl, inr, List, [], ◌∷◌, ◌++◌, filter, map, length, take, drop, get_or, bytes_eq, append-nil, refl, sym, ap, ◌∙◌, subst, and_false, and_true, arith, AllByRecursion, list_any, drop_all, drop_more, filter-append, map-append, take_more, name_itself, AreDistinct, goes_between, needs_directly, needs_other, all_append, cases_eq, cases_order, eq-eqb, ne_eqb, All-filter, All-from_recursion, recursion_from_All, get_or-map, get_or_default, get_or_past, length-map, take_all, filter_image, other_way, Needing, Node, Needed, needing, AreSettled, EndInPlace, name_at, needs_place, node_in, up_to}
 use Rattle.camp_questions.proofs.MarkedNames.{among_marked, apart_places}
+use Rattle.camp_questions.proofs.PatchFronts.{all_are}
 
 filter_again : (f g : ℕ → Bool) (l : List ℕ) → filter g (filter f l) ≡ filter (λ k. f k && g k) l
 filter_again f g [] = refl
@@ -50,12 +42,9 @@ filter_behind f end (suc left) none =
     ap (λ n. filter f (up_to n)) e ∙ one_more_place f (end + left) ∙ ap (λ b. filter f (up_to (end + left)) ++ cond b ((end + left) ∷ []) []) (none (end + left) (omega arith) (omega arith)) ∙ append-nil (filter f (up_to (end + left))) ∙ filter_behind f end left (λ k past less. none k past (omega (arith, less)))
 
 all_within_up_to : (n : ℕ) → AllByRecursion (λ k. k < n) (up_to n)
-all_within_up_to n = each n (omega arith)
-  where
-    each : (m : ℕ) → m ≤ n → AllByRecursion (λ k. k < n) (up_to m)
-    each zero le = tt
-    each (suc m) le =
-        all_append (λ k. k < n) (up_to m) (m ∷ []) (each m (omega (arith, le))) ((omega (arith, le)), tt)
+all_within_up_to zero = tt
+all_within_up_to (suc n) =
+    all_append (λ k. k < suc n) (up_to n) (n ∷ []) (all_are {P = λ k. k < n} {Q = λ k. k < suc n} (λ k less. omega (arith, less)) (up_to n) (all_within_up_to n)) ((omega arith), tt)
 
 pub places_within : (f : ℕ → Bool) (n : ℕ) → AllByRecursion (λ k. k < n) (filter f (up_to n))
 places_within f n =
@@ -87,23 +76,14 @@ none_left_out marks at [] past = refl
 none_left_out marks at (k ∷ places) past =
     (λ i. cond (not (none_behind marks at k past.0 i)) (k ∷ filter (λ k. not (needs_place marks at k)) places) (filter (λ k. not (needs_place marks at k)) places)) ∙ ap (λ l. k ∷ l) (none_left_out marks at places past.1)
 
--- where the first of the places, which is the least, is behind the marks, all are
-all_behind_marks : (marks : List Bool) (places : List ℕ) (first : ℕ) → length marks ≤ first → AllByRecursion (λ k. first ≤ k) places → AllByRecursion (λ k. length marks ≤ k) places
-all_behind_marks marks [] first past least = tt
-all_behind_marks marks (k ∷ places) first past least =
-    let behind = least.0 in
-    ((omega (arith, past, behind)), all_behind_marks marks places first past least.1)
-
-all_from_less : (least first : ℕ) (places : List ℕ) → least ≤ first → AllByRecursion (λ k. first ≤ k) places → AllByRecursion (λ k. least ≤ k) places
-all_from_less least first [] less all = tt
-all_from_less least first (k ∷ places) less all =
-    let behind = all.0 in
-    ((omega (arith, less, behind)), all_from_less least first places less all.1)
+-- where the first of the places, which is the least, is behind a place, all are
+all_behind : (place : ℕ) (places : List ℕ) (first : ℕ) → place ≤ first → AllByRecursion (λ k. first ≤ k) places → AllByRecursion (λ k. place ≤ k) places
+all_behind place places first past least = all_are {P = λ k. first ≤ k} {Q = λ k. place ≤ k} (λ k behind. omega (arith, past, behind)) places least
 
 pub ends_before : (marks : List Bool) (at : ℕ) (places : List ℕ) (first : ℕ) → first ≡ get_or places 0 first → length marks ≤ first → AllByRecursion (λ k. get_or places 0 0 ≤ k) places → filter (λ k. not (needs_place marks at k)) places ≡ places
 ends_before marks at [] first is past least = refl
 ends_before marks at (k ∷ places) first is past least =
-    none_left_out marks at (k ∷ places) (all_behind_marks marks (k ∷ places) first past (subst (λ f. AllByRecursion (λ j. f ≤ j) (k ∷ places)) (sym is) least))
+    none_left_out marks at (k ∷ places) (all_behind (length marks) (k ∷ places) first past (subst (λ f. AllByRecursion (λ j. f ≤ j) (k ∷ places)) (sym is) least))
 
 -- none from a place on, and none at the one before
 pub none_from : (f : ℕ → Bool) (end count before : ℕ) → end ≡ before + 1 → ((k : ℕ) → end ≤ k → k < count → f k ≡ false) → f before ≡ false → (k : ℕ) → before ≤ k → k < count → f k ≡ false
@@ -128,6 +108,11 @@ one_past true false true = refl
 one_past true false false = refl
 one_past false between more = refl
 
+-- whether a patch needs the one at a place, and none of some others that it needs does
+abbrev pub left_over : List (List ℕ) → Needed → List Needed → ℕ → Bool
+left_over names p others k =
+    needs_directly (map (needing names) others) (needing names p) (name_at names k)
+
 module _ (names : List (List ℕ)) (all : List Needed) (named : map (λ (p : Needed). p.name) all ≡ names) (distinct : AreDistinct names) where
   long : length all ≡ length names
   long = sym (length-map all (λ (p : Needed). p.name)) ∙ ap length named
@@ -151,18 +136,13 @@ module _ (names : List (List ℕ)) (all : List Needed) (named : map (λ (p : Nee
       (λ i. not ((ap (bytes_eq (name_at names k)) (name_of_patch at p d within is) ∙ same_place k at less (omega (arith, within, long))) i) && among_marked names p.needs.items k [] distinct less i)
 
   module _ (at : ℕ) (p d : Needed) (within : at < length all) (is : p ≡ get_or all at d) where
-    -- whether the patch needs another, and none of some others that it needs does
-    abbrev pub past : List Needed → ℕ → Bool
-    past others k =
-        needs_directly (map (needing names) others) (needing names p) (name_at names k)
-
-    pub starts_past : (places : List ℕ) (left : ℕ) → left ≡ length all → places ≡ filter (needs_place p.needs.items at) (up_to (length all)) → places ≡ filter (past (drop left all)) (up_to (length names))
+    pub starts_past : (places : List ℕ) (left : ℕ) → left ≡ length all → places ≡ filter (needs_place p.needs.items at) (up_to (length all)) → places ≡ filter (left_over names p (drop left all)) (up_to (length names))
     starts_past places left whole are =
         are ∙ ap (λ n. filter (needs_place p.needs.items at) (up_to n)) long
-        ∙ filter_up_to (needs_place p.needs.items at) (past []) (length names) (λ k less. sym (needs_by_place at k p d within is less) ∙ sym (and_true (needs_other (needing names p) (name_at names k))))
-        ∙ ap (λ l. filter (past l) (up_to (length names))) (sym (drop_all left all (omega (arith, whole))))
+        ∙ filter_up_to (needs_place p.needs.items at) (left_over names p []) (length names) (λ k less. sym (needs_by_place at k p d within is less) ∙ sym (and_true (needs_other (needing names p) (name_at names k))))
+        ∙ ap (λ l. filter (left_over names p l) (up_to (length names))) (sym (drop_all left all (omega (arith, whole))))
 
-    module _ (places : List ℕ) (left i : ℕ) (q e : Needed) (one : left ≡ i + 1) (inside : i < length all) (there : q ≡ get_or all i e) (so_far : places ≡ filter (past (drop left all)) (up_to (length names))) where
+    module _ (places : List ℕ) (left i : ℕ) (q e : Needed) (one : left ≡ i + 1) (inside : i < length all) (there : q ≡ get_or all i e) (so_far : places ≡ filter (left_over names p (drop left all)) (up_to (length names))) where
       behind : drop i all ≡ q ∷ drop (i + 1) all
       behind = drop_more all i e inside ∙ ap (λ x. x ∷ drop (i + 1) all) (sym there)
 
@@ -171,34 +151,34 @@ module _ (names : List (List ℕ)) (all : List Needed) (named : map (λ (p : Nee
           ap (needs_other (needing names p)) (name_of_patch i q e inside there) ∙ needs_by_place at i p d within is (omega (arith, inside, long))
 
       -- one that it needs leaves out what that needs
-      pub goes_past : (next : List ℕ) → needs_place p.needs.items at i ≡ true → next ≡ filter (λ k. not (needs_place q.needs.items i k)) places → next ≡ filter (past (drop i all)) (up_to (length names))
+      pub goes_past : (next : List ℕ) → needs_place p.needs.items at i ≡ true → next ≡ filter (λ k. not (needs_place q.needs.items i k)) places → next ≡ filter (left_over names p (drop i all)) (up_to (length names))
       goes_past next needed are =
-          are ∙ ap (filter (λ k. not (needs_place q.needs.items i k))) (so_far ∙ ap (λ m. filter (past (drop m all)) (up_to (length names))) one)
-          ∙ filter_again (past (drop (i + 1) all)) (λ k. not (needs_place q.needs.items i k)) (up_to (length names))
-          ∙ filter_up_to (λ k. past (drop (i + 1) all) k && not (needs_place q.needs.items i k)) (past (q ∷ drop (i + 1) all)) (length names) (λ k less.
-          ap (λ b. past (drop (i + 1) all) k && not b) (sym (ap (λ b. b && needs_other (needing names q) (name_at names k)) (needs_it ∙ needed) ∙ needs_by_place i k q e inside there less))
+          are ∙ ap (filter (λ k. not (needs_place q.needs.items i k))) (so_far ∙ ap (λ m. filter (left_over names p (drop m all)) (up_to (length names))) one)
+          ∙ filter_again (left_over names p (drop (i + 1) all)) (λ k. not (needs_place q.needs.items i k)) (up_to (length names))
+          ∙ filter_up_to (λ k. left_over names p (drop (i + 1) all) k && not (needs_place q.needs.items i k)) (left_over names p (q ∷ drop (i + 1) all)) (length names) (λ k less.
+          ap (λ b. left_over names p (drop (i + 1) all) k && not b) (sym (ap (λ b. b && needs_other (needing names q) (name_at names k)) (needs_it ∙ needed) ∙ needs_by_place i k q e inside there less))
           ∙ one_past (needs_other (needing names p) (name_at names k)) (goes_between (needing names p) (name_at names k) (needing names q)) (list_any (goes_between (needing names p) (name_at names k)) (map (needing names) (drop (i + 1) all))))
-          ∙ ap (λ l. filter (past l) (up_to (length names))) (sym behind)
+          ∙ ap (λ l. filter (left_over names p l) (up_to (length names))) (sym behind)
 
       -- one that it does not need leaves out none
-      pub stays_past : needs_place p.needs.items at i ≡ false → places ≡ filter (past (drop i all)) (up_to (length names))
+      pub stays_past : needs_place p.needs.items at i ≡ false → places ≡ filter (left_over names p (drop i all)) (up_to (length names))
       stays_past needless =
-          so_far ∙ ap (λ m. filter (past (drop m all)) (up_to (length names))) one
-          ∙ filter_up_to (past (drop (i + 1) all)) (past (q ∷ drop (i + 1) all)) (length names) (λ k less.
+          so_far ∙ ap (λ m. filter (left_over names p (drop m all)) (up_to (length names))) one
+          ∙ filter_up_to (left_over names p (drop (i + 1) all)) (left_over names p (q ∷ drop (i + 1) all)) (length names) (λ k less.
           ap (λ b. needs_other (needing names p) (name_at names k) && not (b || list_any (goes_between (needing names p) (name_at names k)) (map (needing names) (drop (i + 1) all)))) (sym (ap (λ b. b && needs_other (needing names q) (name_at names k)) (needs_it ∙ needless))))
-          ∙ ap (λ l. filter (past l) (up_to (length names))) (sym behind)
+          ∙ ap (λ l. filter (left_over names p l) (up_to (length names))) (sym behind)
 
-    skipped : (places : List ℕ) (end left : ℕ) → ((k : ℕ) → end ≤ k → k < length all → needs_place p.needs.items at k ≡ false) → end + left ≤ length all → places ≡ filter (past (drop (end + left) all)) (up_to (length names)) → places ≡ filter (past (drop end all)) (up_to (length names))
+    skipped : (places : List ℕ) (end left : ℕ) → ((k : ℕ) → end ≤ k → k < length all → needs_place p.needs.items at k ≡ false) → end + left ≤ length all → places ≡ filter (left_over names p (drop (end + left) all)) (up_to (length names)) → places ≡ filter (left_over names p (drop end all)) (up_to (length names))
     skipped places end zero none inside so_far =
         let e : end + 0 ≡ end = omega arith in
-        so_far ∙ ap (λ m. filter (past (drop m all)) (up_to (length names))) e
+        so_far ∙ ap (λ m. filter (left_over names p (drop m all)) (up_to (length names))) e
     skipped places end (suc left) none inside so_far =
         let i = end + left in
         let here : i < length all = omega (arith, inside) in
         skipped places end left none (omega (arith, inside)) (stays_past places (end + suc left) i (get_or all i p) p (omega arith) here refl so_far (none i (omega arith) here))
 
     -- the patches from the end of what it needs on are not needed, so what they need matters not
-    pub starts_at : (places : List ℕ) (end : ℕ) → end ≤ length all → ((k : ℕ) → end ≤ k → k < length all → needs_place p.needs.items at k ≡ false) → places ≡ filter (needs_place p.needs.items at) (up_to end) → places ≡ filter (past (drop end all)) (up_to (length names))
+    pub starts_at : (places : List ℕ) (end : ℕ) → end ≤ length all → ((k : ℕ) → end ≤ k → k < length all → needs_place p.needs.items at k ≡ false) → places ≡ filter (needs_place p.needs.items at) (up_to end) → places ≡ filter (left_over names p (drop end all)) (up_to (length names))
     starts_at places end inside none are =
         let test = needs_place p.needs.items at in
         let left = length all - end in
@@ -206,40 +186,35 @@ module _ (names : List (List ℕ)) (all : List Needed) (named : map (λ (p : Nee
         let behind : filter test (up_to (end + left)) ≡ filter test (up_to end) = filter_behind test end left (λ k far less. none k far (omega (arith, less, whole))) in
         skipped places end left none (omega (arith, whole)) (starts_past places (end + left) whole (are ∙ sym behind ∙ ap (λ n. filter test (up_to n)) whole))
 
-    settled_past : (places : List ℕ) (left : ℕ) → EndInPlace all → left ≤ length all → AllByRecursion (λ k. left ≤ k) places → places ≡ filter (past (drop left all)) (up_to (length names)) → places ≡ filter (past (drop 0 all)) (up_to (length names))
+    settled_past : (places : List ℕ) (left : ℕ) → EndInPlace all → left ≤ length all → AllByRecursion (λ k. left ≤ k) places → places ≡ filter (left_over names p (drop left all)) (up_to (length names)) → places ≡ filter (left_over names p (drop 0 all)) (up_to (length names))
     settled_past places zero ends inside behind so_far = so_far
     settled_past places (suc i) ends inside behind so_far =
         let q = get_or all i p in
         let here : i < length all = omega (arith, inside) in
         let end = ends i p here in
         let one : suc i ≡ i + 1 = omega arith in
-        let rest = settled_past places i ends (omega (arith, inside)) (all_from_less i (suc i) places (omega arith) behind) in
-        let out = none_left_out q.needs.items i places (all_behind_marks q.needs.items places (suc i) (omega (arith, end)) behind) in
-        elim (needs_place p.needs.items at i) as (λ b. needs_place p.needs.items at i ≡ b → places ≡ filter (past (drop 0 all)) (up_to (length names))) [
+        let rest = settled_past places i ends (omega (arith, inside)) (all_behind i places (suc i) (omega arith) behind) in
+        let out = none_left_out q.needs.items i places (all_behind (length q.needs.items) places (suc i) (omega (arith, end)) behind) in
+        elim (needs_place p.needs.items at i) as (λ b. needs_place p.needs.items at i ≡ b → places ≡ filter (left_over names p (drop 0 all)) (up_to (length names))) [
           | true ↦ λ e. rest (goes_past places (suc i) i q p one here refl so_far places e (sym out))
           | false ↦ λ e. rest (stays_past places (suc i) i q p one here refl so_far e)
         ] refl
 
     -- where no patch before a place leaves out one of the places that are left, they are all
-    pub ends_settled : (in_place : Bool) (places : List ℕ) (left settled : ℕ) → (in_place ≡ true → EndInPlace all) → left ≤ settled → left ≤ length all → AreSettled in_place places settled → places ≡ filter (past (drop left all)) (up_to (length names)) → places ≡ filter (past (drop 0 all)) (up_to (length names))
+    pub ends_settled : (in_place : Bool) (places : List ℕ) (left settled : ℕ) → (in_place ≡ true → EndInPlace all) → left ≤ settled → left ≤ length all → AreSettled in_place places settled → places ≡ filter (left_over names p (drop left all)) (up_to (length names)) → places ≡ filter (left_over names p (drop 0 all)) (up_to (length names))
     ends_settled in_place places left settled ends less inside (inl none) so_far =
         let e : left ≡ 0 = omega (arith, less, none) in
-        so_far ∙ ap (λ m. filter (past (drop m all)) (up_to (length names))) e
+        so_far ∙ ap (λ m. filter (left_over names p (drop m all)) (up_to (length names))) e
     ends_settled in_place places left settled ends less inside (inr are) so_far =
-        settled_past places left (ends are.0) inside (all_from_less left settled places less are.1) so_far
+        settled_past places left (ends are.0) inside (all_behind left places settled less are.1) so_far
 
-    pub all_past : (places : List ℕ) (left : ℕ) → left ≡ 0 → places ≡ filter (past (drop left all)) (up_to (length names)) → map (name_at names) places ≡ (node_in names (map (needing names) all) (needing names p)).needs
+    pub all_past : (places : List ℕ) (left : ℕ) → left ≡ 0 → places ≡ filter (left_over names p (drop left all)) (up_to (length names)) → map (name_at names) places ≡ (node_in names (map (needing names) all) (needing names p)).needs
     all_past places left none so_far =
-        names_that_pass (needs_directly (map (needing names) all) (needing names p)) names places (so_far ∙ ap (λ m. filter (past (drop m all)) (up_to (length names))) none)
+        names_that_pass (needs_directly (map (needing names) all) (needing names p)) names places (so_far ∙ ap (λ m. filter (left_over names p (drop m all)) (up_to (length names))) none)
 
-    pub places_inside : (places : List ℕ) (left : ℕ) → places ≡ filter (past (drop left all)) (up_to (length names)) → AllByRecursion (λ k. k < length names) places
+    pub places_inside : (places : List ℕ) (left : ℕ) → places ≡ filter (left_over names p (drop left all)) (up_to (length names)) → AllByRecursion (λ k. k < length names) places
     places_inside places left so_far =
-        subst (AllByRecursion (λ k. k < length names)) (sym so_far) (places_within (past (drop left all)) (length names))
-
--- whether a patch needs the one at a place, and none of some others that it needs does
-abbrev pub left_over : List (List ℕ) → Needed → List Needed → ℕ → Bool
-left_over names p others k =
-    needs_directly (map (needing names) others) (needing names p) (name_at names k)
+        subst (AllByRecursion (λ k. k < length names)) (sym so_far) (places_within (left_over names p (drop left all)) (length names))
 
 -- one more patch is drawn
 pub one_node : (draw : Needing → Node) (needing_of : Needed → Needing) (all : List Needed) (i : ℕ) (p d : Needed) (nodes next : List Node) (node : Node) → i < length all → p ≡ get_or all i d → nodes ≡ map draw (map needing_of (take i all)) → node ≡ draw (needing_of p) → next ≡ nodes ++ node ∷ [] → next ≡ map draw (map needing_of (take (i + 1) all))

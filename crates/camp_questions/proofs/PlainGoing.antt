@@ -1,11 +1,7 @@
 -- Plain catches that go take along what can not come before them; and what goes comes to the front of the list taken back.
 use Rattle.camp_prim.proofs.CommuteLaws.{inverse}
-use Rattle.camp_seq.proofs.ListRuns.{inverse_all-append, inverse_all-cons}
+use Rattle.camp_questions.proofs.Words.{inverse_all-append, inverse_all-cons, Catch, Plain, lists_are_unique, arranged_of_parts, at_end, came_plainly, comes_plainly, not_both, one_at_end, room_left, AllByRecursion}
 use Rattle.camp_catch.proofs.Words.{Contains, List, [], ap, append-nil, inl, inr, map, refl, subst, sym, ℕ, ◌++◌, ◌∙◌, ◌∷◌, ◌≡◌, append_assoc, Key, Named, inverse_of, passes_push, room_before, Passes, Precedes, HasRoom, inverse_all, Arrange, ArrangesBehind, SticksBehind}
-use Rattle.camp_catch.specs.declared.catches.Catch.{Catch}
-use Rattle.camp_catch.specs.declared.catches.Catch.TheVariants.{Plain}
-use Rattle.camp_catch.proofs.ListResults.{lists_are_unique}
-use Rattle.camp_catch.proofs.PlainArranging.{arranged_of_parts, at_end, came_plainly, comes_plainly, not_both, one_at_end, room_left}
 use Rattle.camp_catch.proofs.PlainFronts.{Parted, comes_past_parts, one_more, one_other}
 
 module _ (names others : List (List ℕ)) (within : (name : List ℕ) → Contains others name → Contains names name) where
@@ -65,8 +61,7 @@ module _ (names others : List (List ℕ)) where
     pub one : ¬ (Contains others p.name) → Contains names p.name
 
   abbrev pub AreEither : List Named → Type 0
-  AreEither [] = Unit {0}
-  AreEither (p ∷ s) = IsEither p × AreEither s
+  AreEither s = AllByRecursion IsEither s
 
   -- so far, the others came before those of the names; taken back, these come before the others
   back : (list t f s : List Named) → AreEither list → Parted names s (inverse_all t) (inverse_all f) → (first left : List Catch) → ArrangesBehind others (map Plain t) (map Plain list) first left → (f' : List Named) × (t' : List Named) × Parted names (inverse_all list ++ s) f' t'

@@ -1,11 +1,5 @@
 -- In a lawful branch with plain catches alone no label comes again.
-use Rattle.camp_questions.proofs.Words.{◌≡◌, ◌≢◌, ◌≤◌, ℕ, zero, suc, ◌+◌, true≢false, List, [], ◌∷◌, ◌++◌, map, refl, sym, ap, ◌∙◌, subst, inl, inr, arith, key_of, label_of, Key, Named, AreDistinct, Contains, IsLawfulBranch, Patch, effect_of, flat_map, is_among_is, labels_from, labels_of, patch_names}
-use Rattle.std.proofs.lemmas.List.Elements.{All-contains_itself, All-weaker, Contains-append_cases, recursion_from_All}
-use Rattle.camp_branch.proofs.Names.{has_image}
-use Rattle.camp_branch.proofs.SortedPairs.{first_or_later, has_first, has_later, no_member}
-use Rattle.camp_catch.specs.Laws.{keys_of}
-use Rattle.camp_catch.specs.declared.catches.Catch.TheVariants.{Plain}
-use Rattle.camp_questions.specs.Laws.{ComeAgainAsInverses, PutsBack}
+use Rattle.camp_questions.proofs.Words.{◌≡◌, ◌≢◌, ◌≤◌, ℕ, zero, suc, ◌+◌, true≢false, List, [], ◌∷◌, ◌++◌, map, refl, sym, ap, ◌∙◌, subst, inl, inr, arith, key_of, label_of, Key, Named, AreDistinct, Contains, IsLawfulBranch, Patch, effect_of, flat_map, is_among_is, labels_from, labels_of, patch_names, All-contains_itself, All-weaker, Contains-append_cases, recursion_from_All, has_image, first_or_later, has_first, has_later, no_member, Plain, ComeAgainAsInverses, PutsBack, map-map, catch_key}
 
 -- none of some labels is there twice
 abbrev AreApart : List Key → Type 0
@@ -54,10 +48,6 @@ labels_apart (p ∷ patches) distinct =
 abbrev own_keys : List Named → List Key
 own_keys s = map (λ p. key_of (label_of p)) s
 
-plain_keys : (s : List Named) → keys_of (map Plain s) ≡ own_keys s
-plain_keys [] = refl
-plain_keys (p ∷ s) = ap (λ l. key_of (label_of p) ∷ l) (plain_keys s)
-
 none_again : (s : List Named) → AreApart (own_keys s) → ComeAgainAsInverses s
 none_again [] apart = tt
 none_again (p ∷ s) apart = (
@@ -74,4 +64,4 @@ plain_effects (p ∷ s) = ap (λ l. p ∷ l) (plain_effects s)
 -- so all that come again are inverses
 pub inverses_alone : (s : List Named) → IsLawfulBranch (map Plain s) → ComeAgainAsInverses s
 inverses_alone s lawful =
-    none_again s (subst AreApart (sym lawful.has.labels ∙ plain_keys s) (labels_apart lawful.patches lawful.has.distinct))
+    none_again s (subst AreApart (sym lawful.has.labels ∙ map-map catch_key Plain s) (labels_apart lawful.patches lawful.has.distinct))

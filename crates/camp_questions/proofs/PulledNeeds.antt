@@ -1,11 +1,6 @@
 -- A pull of what is needed does not fail because a patch of it depends on another one.
-use Rattle.camp_questions.proofs.Words.{◌≡◌, ℕ, Bool, true, false, true≢false, ◌&&◌, List, Ok, Err, refl, sym, ◌∙◌, subst, inl, inr, ◌↔◌, Contains, Arrange, Catch, has_patch, is_among, is_among_is, ComeToFront}
-use Rattle.camp_branch.proofs.NamesKept.{among_common}
-use Rattle.camp_branch.specs.Pulling.{MergesBehind, Outcome, common_names}
-use Rattle.camp_branch.specs.declared.faults.Blocked.TheVariants.{Depends, Diverged, NoMerge}
-use Rattle.camp_catch.proofs.ListResults.{lists_succeed_or_stick}
-use Rattle.camp_catch.proofs.PlainArranging.{fronts_come_behind_fronts}
-use Rattle.camp_questions.specs.Laws.{NeedsCanBePulled}
+use Rattle.camp_questions.proofs.Words.{◌≡◌, ℕ, Bool, true, false, true≢false, ◌&&◌, List, Ok, Err, refl, sym, ◌∙◌, subst, inl, inr, ◌↔◌, Contains, Arrange, Catch, has_patch, is_among, is_among_is, ComeToFront, among_common, MergesBehind, Outcome, common_names, Diverged, NoMerge, lists_succeed_or_stick, fronts_come_behind_fronts, NeedsCanBePulled}
+use Rattle.camp_branch.specs.declared.faults.Blocked.TheVariants.{Depends}
 use Rattle.camp_questions.proofs.BranchGrowths.{needs_come_first}
 
 not_diverged : {A : Type 0} (patch on name : List ℕ) (outcome : Outcome) → outcome ≡ Err (Depends patch on) → outcome ≡ Err (Diverged name) → A

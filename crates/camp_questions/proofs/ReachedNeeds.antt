@@ -1,10 +1,10 @@
 -- What a patch needs is reached from it along the arrows of the graph, where all catches are plain and have room.
-use Rattle.camp_questions.proofs.Words.{inl, inr, and_from, and_parts, ◌≡◌, ◌<◌, ◌≤◌, ℕ, zero, suc, ◌+◌, Bool, true, false, true≢false, not, ◌||◌, cond, List, [], ◌∷◌, map, bytes_eq, None, Some, refl, sym, ap, ◌∙◌, subst, arith, ◌↔◌, Contains, AllByRecursion, list_any, Catch, name_itself, same_name, among_once, first_lacked, Needs, Drawn, IsGraph, Needing, NeedsThese, goes_between, needs_other, node_of, Node, AreAmong, Arrow, IsPlain, IsReached, NeedsAreReached, NeedsDirectly, NeedsPatch, itself, along, IsLawfulBranch, has_patch, is_among, name_of, names_of}
-use Rattle.camp_questions.proofs.Arrows.{arrow_is_need, arrows_are_direct_needs, is_there, known_needs, needs_known, one_needed, one_passes}
-use Rattle.camp_questions.proofs.BranchGrowths.{needs_are_determined, needs_come_first}
+use Rattle.camp_questions.proofs.Words.{inl, inr, and_from, and_parts, ◌≡◌, ◌<◌, ◌≤◌, ℕ, zero, suc, ◌+◌, true, false, true≢false, not, ◌||◌, cond, List, [], ◌∷◌, map, bytes_eq, None, Some, refl, sym, ap, ◌∙◌, subst, arith, ◌↔◌, Contains, AllByRecursion, list_any, Catch, name_itself, same_name, among_once, first_lacked, Needs, Drawn, IsGraph, Needing, NeedsThese, goes_between, needs_other, node_of, Node, AreAmong, Arrow, IsPlain, IsReached, NeedsAreReached, NeedsDirectly, NeedsPatch, itself, along, IsLawfulBranch, has_patch, is_among, name_of, names_of, map-map, All-contains, All-from_recursion, is_among_is, cases_Bool}
+use Rattle.camp_questions.proofs.Arrows.{arrow_is_need, arrows_are_direct_needs, is_there, known_needs, needs_known, one_needed}
+use Rattle.camp_questions.proofs.BranchGrowths.{needs_are_determined, needs_come_first, needs_are_least}
 use Rattle.camp_questions.proofs.Growths.{among_cases}
-use Rattle.camp_questions.proofs.LeastNeeds.{needs_are_least}
-use Rattle.camp_questions.proofs.PatchFronts.{earlier, ends, place_of, up_to, up_to_come}
+use Rattle.camp_questions.proofs.PairSteps.{is_image}
+use Rattle.camp_questions.proofs.PatchFronts.{earlier, ends, one_passing, place_of, up_to, up_to_come}
 
 -- one name alone, among others that have it
 pub alone_among : (name : List ℕ) (others : List (List ℕ)) → is_among others name ≡ true → AreAmong (name ∷ []) others
@@ -19,9 +19,7 @@ reached_through (along arrow rest) w = along arrow (reached_through rest w)
 
 module _ (P : Node → Type 0) where
   pub fact_of : (nodes : List Node) (node : Node) → AllByRecursion P nodes → Contains nodes node → P node
-  fact_of [] node all (k, within, is) = absurd (omega arith)
-  fact_of (n ∷ nodes) node all (zero, within, is) = subst P is all.0
-  fact_of (n ∷ nodes) node all (suc k, within, is) = fact_of nodes node all.1 (k, (omega arith), is)
+  fact_of nodes node all there = All-contains P nodes node (All-from_recursion P nodes all) there
 
   -- a node of a name, of which the fact holds
   abbrev Found : List Node → List ℕ → Type 0
@@ -29,18 +27,9 @@ module _ (P : Node → Type 0) where
 
   -- one of the nodes has the name
   find : (nodes : List Node) (name : List ℕ) → AllByRecursion P nodes → is_among (map (λ (n : Node). n.name) nodes) name ≡ true → Found nodes name
-  find [] name all there = absurd (true≢false (sym there))
-  find (n ∷ nodes) name all there = elim (among_cases n.name (map (λ (n : Node). n.name) nodes) name there) [
-    | inl e ↦ (n, (zero, (omega arith), refl), sym e, all.0)
-    | inr e ↦
-        let rest = find nodes name all.1 e in
-        let within = rest.1.1 in
-        (rest.0, (suc rest.1.0, (omega arith), rest.1.2), rest.2, rest.3)
-  ]
-
-pub names_of_nodes : (branch : List Catch) (all list : List Needing) → map (λ (n : Node). n.name) (map (node_of branch all) list) ≡ map (λ (p : Needing). p.name) list
-names_of_nodes branch all [] = refl
-names_of_nodes branch all (p ∷ list) = ap (λ l. p.name ∷ l) (names_of_nodes branch all list)
+  find nodes name all there =
+      let image = is_image (λ (n : Node). n.name) nodes name ((is_among_is (map (λ (n : Node). n.name) nodes) name).1 there) in
+      (image.0, image.1, image.2, fact_of nodes image.0 all image.1)
 
 module _ (branch : List Catch) (graph : Drawn) (plain : IsPlain branch) (is : IsGraph branch graph) where
   abbrev own : List (List ℕ)
@@ -52,7 +41,7 @@ module _ (branch : List Catch) (graph : Drawn) (plain : IsPlain branch) (is : Is
 
   own_nodes : map (λ (n : Node). n.name) graph.patches ≡ own
   own_nodes =
-      ap (map (λ (n : Node). n.name)) is.patches ∙ names_of_nodes branch is.all is.all ∙ is.names
+      ap (map (λ (n : Node). n.name)) is.patches ∙ map-map (λ (n : Node). n.name) (node_of branch is.all) is.all ∙ is.names
 
   -- direct needs are arrows
   arrow_of : (name other : List ℕ) → is_among own name ≡ true → NeedsDirectly branch name other → Arrow graph name other
@@ -100,7 +89,7 @@ module _ (branch : List Catch) (graph : Drawn) (plain : IsPlain branch) (is : Is
         let these : NeedsThese branch patch = (needs.1.0, needs.1.1, λ m. refl) in
         elim (list_any (goes_between patch other) is.all) as (λ b. list_any (goes_between patch other) is.all ≡ b → IsReached graph name other) [
           | true ↦ λ e.
-              let one = one_passes branch (goes_between patch other) is.all is.needs e in
+              let one = one_passing (NeedsThese branch) (goes_between patch other) is.all is.needs e in
               let parts = and_parts (needs_other patch one.0.name) (needs_other one.0 other) one.2 in
               let first = known_needs branch patch these one.0.name parts.0 in
               let second = known_needs branch one.0 one.1 other parts.1 in
@@ -115,12 +104,10 @@ module _ (branch : List Catch) (graph : Drawn) (plain : IsPlain branch) (is : Is
         ] refl
 
     needed_is_reached : (name other : List ℕ) (needed : List (List ℕ)) → has_patch branch name ≡ true → Needs branch (name ∷ []) needed → is_among needed other ≡ true → IsReached graph name other
-    needed_is_reached name other needed has needs among = at (bytes_eq other name) refl
-      where
-        at : (b : Bool) → bytes_eq other name ≡ b → IsReached graph name other
-        at true e = subst (IsReached graph name) (sym (same_name other name e)) itself
-        at false e =
-            need_is_reached (place_of own name) name other (has_own name ∙ has) ((λ same. true≢false (sym (ap (λ l. bytes_eq l name) same ∙ name_itself name) ∙ e)), (needed, needs, among)) (omega arith)
+    needed_is_reached name other needed has needs among = elim (cases_Bool (bytes_eq other name)) [
+      | inl e ↦ subst (IsReached graph name) (sym (same_name other name e)) itself
+      | inr e ↦ need_is_reached (place_of own name) name other (has_own name ∙ has) ((λ same. true≢false (sym (ap (λ l. bytes_eq l name) same ∙ name_itself name) ∙ e)), (needed, needs, among)) (omega arith)
+    ]
 
 pub needs_are_reached : NeedsAreReached
 needs_are_reached branch graph name needed lawful plain is has needs other =

@@ -1,31 +1,16 @@
 -- What a patch needs, found by a walk back from it over the patches taken back.
-use Rattle.camp_questions.proofs.Words.{◌≡◌, ◌<◌, ◌≤◌, ℕ, zero, suc, ◌+◌, ◌-◌, Bool, true, false, not, ◌&&◌, ◌||◌, cond, List, [], ◌∷◌, ◌++◌, bytes_eq, map, length, take, drop, get_or, replicate, None, Some, refl, sym, ap, ◌∙◌, subst, inl, inr, arith, AllByRecursion, append_assoc, length-replicate, take-append-drop, Catch, ArrangesBehind, has_patch, is_among, is_among_is, name_of, names_of, all_append, name_itself, or_cases, or_none, or_true, among_others, other_names, among_once, AreHeldIn, ComeToFront, CanGo, AreAmong, IsPlain, NeedsThese}
-use Rattle.std.proofs.Common.{set}
-use Rattle.std.proofs.lemmas.Bool.{cases_lt}
-use Rattle.std.proofs.lemmas.List.Elements.{All-from_recursion, All-get_or}
-use Rattle.std.proofs.lemmas.List.{get_or-take, get_or-map, get_or-reverse, get_or-set_same, get_or_append_left, get_or_default, get_or_past, get_or_push, length-map, length-reverse, length-set, length_push, take_all}
-use Rattle.std.specs.Prelude.{reverse}
-use Rattle.camp_seq.specs.Running.{inverse_all}
-use Rattle.camp_questions.specs.declared.fast.patch_catches.PatchCatches.{PatchCatches}
-use Rattle.camp_questions.specs.Inside.ByPatch.{AreApart, ArePatches, catches_in_order, names_in_order}
-use Rattle.camp_questions.specs.declared.needed.Needed.{Needed}
-use Rattle.camp_questions.specs.Inside.ByPatch.{ArePatchesOf}
-use Rattle.camp_questions.specs.Inside.TakingBack.{AreTakenBack}
+use Rattle.camp_questions.proofs.Words.{◌≡◌, ◌<◌, ◌≤◌, ℕ, zero, suc, ◌+◌, ◌-◌, Bool, true, false, not, ◌&&◌, ◌||◌, cond, List, [], ◌∷◌, ◌++◌, bytes_eq, map, length, take, drop, get_or, replicate, None, Some, refl, sym, ap, ◌∙◌, subst, inl, inr, arith, AllByRecursion, length-replicate, take-append-drop, Catch, ArrangesBehind, has_patch, is_among, name_of, names_of, all_append, name_itself, or_cases, or_none, or_true, among_others, other_names, among_once, AreHeldIn, ComeToFront, CanGo, AreAmong, IsPlain, NeedsThese, set, cases_lt, All-from_recursion, All-get_or, get_or-take, get_or-map, get_or-reverse, get_or-set_same, get_or_append_left, get_or_default, get_or_past, get_or_push, length-map, length-reverse, length-set, length_push, take_all, reverse, inverse_all, PatchCatches, AreApart, ArePatches, catches_in_order, names_in_order, Needed, ArePatchesOf, AreTakenBack, AreKnown, AreMarkedBelow, AreReached, IsInverted, NeedEach, marked, marked_in_both, needing, ComeBeforeAll, StickBehind, other_way, flat_map-append, append-nil}
 use Rattle.camp_questions.proofs.GraphSteps.{AreNeeded, all_needed, none_needed, one_needed}
-use Rattle.camp_questions.specs.Inside.Graphing.{AreKnown, AreMarkedBelow, AreReached, IsInverted, NeedEach, marked, marked_in_both, needing}
-use Rattle.camp_questions.specs.Inside.StandingAside.{ComeBeforeAll, StickBehind}
-use Rattle.camp_questions.proofs.BranchGrowths.{needs_are_determined, needs_come_first}
+use Rattle.camp_questions.proofs.BranchGrowths.{needs_are_determined, needs_come_first, needs_are_least}
 use Rattle.camp_questions.proofs.Growths.{both_ways}
 use Rattle.camp_questions.proofs.LeastHeld.{held_within}
-use Rattle.camp_questions.proofs.LeastNeeds.{needs_are_least}
 use Rattle.camp_questions.proofs.MarkedNames.{among_both_marked, among_marked, apart_places, both_long, mark_at, mark_in_both, one_marked, there}
-use Rattle.camp_branch.proofs.Names.{other_way}
 use Rattle.camp_questions.proofs.PartsArranged.{left_apart}
-use Rattle.camp_questions.proofs.PatchFronts.{all_are, all_before, all_behind, both_are}
+use Rattle.camp_questions.proofs.PatchFronts.{all_are, all_before, all_behind, both_are, those_come}
 use Rattle.camp_questions.proofs.PatchesBack.{reversed}
 use Rattle.camp_questions.proofs.ReachedNeeds.{alone_among}
 use Rattle.camp_questions.proofs.TakenBack.{come_back, go_back}
-use Rattle.camp_questions.proofs.WalkedPatches.{HeldAlike, IsWalked, all_there, can_go_then, held_here, one_more_done, own_at, patches_parted, there_of, walked_alike, walked_aside, walked_on}
+use Rattle.camp_questions.proofs.WalkedPatches.{AreThere, HeldAlike, IsWalked, all_there, can_go_then, held_here, one_more_done, own_at, patches_parted, there_of, walked_alike, walked_aside, walked_on}
 
 -- of patches from the last back to a place, those before the place are still to be walked over
 abbrev pub walked_from : List PatchCatches → ℕ → List Catch
@@ -52,11 +37,12 @@ module _ (patches : List PatchCatches) (are : ArePatches patches) where
         let e : length patches - 1 - index ≡ place = omega (arith, within) in
         is ∙ ap (λ k. get_or patches k d) (sym e) ∙ sym turned
 
-    next : length patches - place ≡ index + 1
-    next = omega (arith, within)
+    own_there : AreThere all p.name p.catches.items
+    own_there = there_of (reverse patches) (reversed patches are) index p d stands_within stands
 
     more_done : walked_from patches place ≡ walked_from patches (place + 1) ++ p.catches.items
     more_done =
+        let next : length patches - place ≡ index + 1 = omega (arith, within) in
         ap (λ k. catches_in_order (take k (reverse patches))) next ∙ one_more_done (reverse patches) index p d stands_within stands
 
     -- what holds of all catches holds of those of the patch
@@ -67,20 +53,21 @@ module _ (patches : List PatchCatches) (are : ArePatches patches) where
         let rest = catches_in_order (drop (i + 1) (reverse patches)) in
         all_before P p.catches.items rest (all_behind P done (p.catches.items ++ rest) (subst (AllByRecursion P) (patches_parted (reverse patches) i p d stands_within stands) holds))
 
-  -- the walk goes past a patch that comes before what goes
-  pub back_aside : (held : List (List ℕ)) (place : ℕ) (p d : PatchCatches) (going left : List Catch) → place < length patches → p ≡ get_or patches place d → IsWalked all held (walked_from patches (place + 1)) going → is_among held p.name ≡ false → ComeBeforeAll p.name going p.catches.items left → IsWalked all held (walked_from patches place) left
-  back_aside held place p d going left within is walked free come =
-      subst (λ l. IsWalked all held l left) (sym (more_done place p d within is)) (walked_aside all held (walked_from patches (place + 1)) going walked p.name p.catches.items (there_of (reverse patches) (reversed patches are) (index place p d within is) p d (stands_within place p d within is) (stands place p d within is)) left free come)
+    module _ (held : List (List ℕ)) (going : List Catch) (walked : IsWalked all held (walked_from patches (place + 1)) going) where
+      -- the walk goes past a patch that comes before what goes
+      pub back_aside : (left : List Catch) → is_among held p.name ≡ false → ComeBeforeAll p.name going p.catches.items left → IsWalked all held (walked_from patches place) left
+      back_aside left free come =
+          subst (λ l. IsWalked all held l left) (sym more_done) (walked_aside all held (walked_from patches (place + 1)) going walked p.name p.catches.items own_there left free come)
 
-  -- and past one that goes
-  pub back_on : (held : List (List ℕ)) (place : ℕ) (p d : PatchCatches) (going : List Catch) → place < length patches → p ≡ get_or patches place d → IsWalked all held (walked_from patches (place + 1)) going → is_among held p.name ≡ true → IsWalked all held (walked_from patches place) (going ++ p.catches.items)
-  back_on held place p d going within is walked goes =
-      subst (λ l. IsWalked all held l (going ++ p.catches.items)) (sym (more_done place p d within is)) (walked_on all held (walked_from patches (place + 1)) going walked p.name p.catches.items (there_of (reverse patches) (reversed patches are) (index place p d within is) p d (stands_within place p d within is) (stands place p d within is)) goes)
+      -- and past one that goes
+      pub back_on : is_among held p.name ≡ true → IsWalked all held (walked_from patches place) (going ++ p.catches.items)
+      back_on goes =
+          subst (λ l. IsWalked all held l (going ++ p.catches.items)) (sym more_done) (walked_on all held (walked_from patches (place + 1)) going walked p.name p.catches.items own_there goes)
 
-  -- one that sticks is held
-  pub back_stuck : (held : List (List ℕ)) (place : ℕ) (p d : PatchCatches) (going : List Catch) → place < length patches → p ≡ get_or patches place d → IsWalked all held (walked_from patches (place + 1)) going → is_among held p.name ≡ false → StickBehind p.name going p.catches.items → AreHeldIn all held p.name
-  back_stuck held place p d going within is walked free stuck =
-      held_here all held (walked_from patches (place + 1)) going walked p.name p.catches.items (there_of (reverse patches) (reversed patches are) (index place p d within is) p d (stands_within place p d within is) (stands place p d within is)) (catches_in_order (drop (index place p d within is + 1) (reverse patches))) (patches_parted (reverse patches) (index place p d within is) p d (stands_within place p d within is) (stands place p d within is)) free stuck
+      -- one that sticks is held
+      pub back_stuck : is_among held p.name ≡ false → StickBehind p.name going p.catches.items → AreHeldIn all held p.name
+      back_stuck free stuck =
+          held_here all held (walked_from patches (place + 1)) going walked p.name p.catches.items own_there (catches_in_order (drop (index + 1) (reverse patches))) (patches_parted (reverse patches) index p d stands_within stands) free stuck
 
   -- the rest goes, where all of it is held
   pub walked_down : (held : List (List ℕ)) (place : ℕ) (d : PatchCatches) (going : List Catch) → place ≤ length patches → IsWalked all held (walked_from patches place) going → ((r : ℕ) (n : List ℕ) → r < place → is_among held (get_or own r n) ≡ true) → (left : List Catch) × IsWalked all held (walked_from patches 0) left
@@ -92,7 +79,7 @@ module _ (patches : List PatchCatches) (are : ArePatches patches) where
       let here = subst (λ k. IsWalked all held (walked_from patches k) going) e walked in
       let named = get_or-map (λ (x : PatchCatches). x.name) patches place d d.name inside in
       let held_too = ap (is_among held) (sym named) ∙ goes place d.name (omega arith) in
-      walked_down held place d (going ++ p.catches.items) (omega (arith, within)) (back_on held place p d going inside refl here held_too) (λ r n less. goes r n (omega (arith, less)))
+      walked_down held place d (going ++ p.catches.items) (omega (arith, within)) (back_on place p d inside refl held going here held_too) (λ r n less. goes r n (omega (arith, less)))
 
   from_end : (n : ℕ) → length patches ≡ n → walked_from patches n ≡ []
   from_end n long =
@@ -132,24 +119,14 @@ module _ (patches : List PatchCatches) (are : ArePatches patches) where
   pub walked_there : (place : ℕ) → AllByRecursion (λ k. has_patch all (name_of k) ≡ true) (walked_from patches place)
   walked_there place =
       let i = length patches - place in
-      let parts : all ≡ walked_from patches place ++ catches_in_order (drop i (reverse patches)) = ap catches_in_order (sym (take-append-drop i (reverse patches))) ∙ catches_of_parts (take i (reverse patches)) (drop i (reverse patches)) in
+      let parts : all ≡ walked_from patches place ++ catches_in_order (drop i (reverse patches)) = ap catches_in_order (sym (take-append-drop i (reverse patches))) ∙ flat_map-append (λ (patch : PatchCatches). patch.catches.items) (take i (reverse patches)) (drop i (reverse patches)) in
       all_before (λ k. has_patch all (name_of k) ≡ true) (walked_from patches place) (catches_in_order (drop i (reverse patches))) (subst (AllByRecursion (λ k. has_patch all (name_of k) ≡ true)) parts (all_there all))
-    where
-      catches_of_parts : (xs ys : List PatchCatches) → catches_in_order (xs ++ ys) ≡ catches_in_order xs ++ catches_in_order ys
-      catches_of_parts [] ys = refl
-      catches_of_parts (x ∷ xs) ys =
-          ap (λ l. x.catches.items ++ l) (catches_of_parts xs ys) ∙ sym (append_assoc x.catches.items (catches_in_order xs) (catches_in_order ys))
 
   -- where none of those behind a place are held, all of them stay
-  free_in_front : (names : List (List ℕ)) (list : List Catch) → AllByRecursion (λ k. is_among names (name_of k) ≡ true) list → ArrangesBehind names [] list list []
-  free_in_front names [] are = (refl, refl)
-  free_in_front names (k ∷ list) are =
-      inl ((is_among_is names (name_of k)).1 are.0, (k, [], list, (refl, refl), free_in_front names list are.1, refl))
-
   pub walked_free : (held : List (List ℕ)) (place : ℕ) → AllByRecursion (λ k. is_among held (name_of k) ≡ false) (walked_from patches place) → IsWalked all held (walked_from patches place) []
   walked_free held place free = record {
     first = walked_from patches place;
-    arranged = free_in_front (other_names all held) (walked_from patches place) (both_are (λ k has lacks. among_others all held (name_of k) ∙ (λ i. has i && not (lacks i))) (walked_from patches place) (walked_there place) free);
+    arranged = subst (λ l. ArrangesBehind (other_names all held) [] l (walked_from patches place) []) (append-nil (walked_from patches place)) (those_come (other_names all held) (walked_from patches place) [] (both_are (λ k has lacks. among_others all held (name_of k) ∙ (λ i. has i && not (lacks i))) (walked_from patches place) (walked_there place) free) tt);
   }
 
 -- a walk back from the patch at a place has come to another: what is marked goes, and all who have the patch and come to
@@ -162,97 +139,114 @@ pub record ReachesTo (branch : List Catch) (patches : List PatchCatches) (from :
       ComeToFront branch others → AreAmong (marked (names_in_order patches) marks) others
   pub itself : mark_at marks from ≡ true
 
-module _ (branch : List Catch) (patches : List PatchCatches) (inverted : IsInverted branch patches) (from : ℕ) (inside : from < length patches) where
+-- a walk back from the patch behind those of which is known what they need
+module _ (branch : List Catch) (patches : List PatchCatches) (inverted : IsInverted branch patches) (known : List Needed) (are : AreKnown branch (names_in_order patches) known) (inside : length known < length patches) where
   abbrev names : List (List ℕ)
   names = names_in_order patches
 
   abbrev back : List Catch
   back = catches_in_order (reverse patches)
 
+  abbrev from : ℕ
+  from = length known
+
   plain : IsPlain branch
   plain = record { patches = inverted.forth; are = inverted.plain; room = inverted.room }
-
-  plain_back : IsPlain back
-  plain_back =
-      record { patches = inverse_all inverted.forth; are = inverted.inverses; room = inverted.room_back }
 
   names_long : length names ≡ length patches
   names_long = length-map patches (λ (x : PatchCatches). x.name)
 
-  -- the name of the patch at a place is marked where the place is
-  called : (held : List (List ℕ)) (place : ℕ) (p d : PatchCatches) → place < length patches → p ≡ get_or patches place d → is_among held p.name ≡ is_among held (get_or names place d.name)
-  called held place p d within is =
-      ap (λ (x : PatchCatches). is_among held x.name) is ∙ ap (is_among held) (sym (get_or-map (λ (x : PatchCatches). x.name) patches place d d.name within))
+  -- the patch at a place has the name there, which is marked where the place is
+  called : (place : ℕ) (p d : PatchCatches) → place < length patches → p ≡ get_or patches place d → p.name ≡ get_or names place d.name
+  called place p d within is =
+      ap (λ (x : PatchCatches). x.name) is ∙ sym (get_or-map (λ (x : PatchCatches). x.name) patches place d d.name within)
 
   by_place : (marks : List Bool) (place : ℕ) (p d : PatchCatches) → place < length patches → p ≡ get_or patches place d → is_among (marked names marks) p.name ≡ mark_at marks place
   by_place marks place p d within is =
-      called (marked names marks) place p d within is ∙ among_marked names marks place d.name inverted.are.distinct (omega (arith, within, names_long))
+      ap (is_among (marked names marks)) (called place p d within is) ∙ among_marked names marks place d.name inverted.are.distinct (omega (arith, within, names_long))
 
-  -- a patch that comes before what goes is passed by
-  pub reaches_aside : (marks : List Bool) (place : ℕ) (p d : PatchCatches) (going left : List Catch) → place < length patches → p ≡ get_or patches place d → ReachesTo branch patches from marks (place + 1) going → mark_at marks place ≡ false → ComeBeforeAll p.name going p.catches.items left → ReachesTo branch patches from marks place left
-  reaches_aside marks place p d going left within is so_far free come = record {
-    long = so_far.long;
-    walked = back_aside patches inverted.are (marked names marks) place p d going left within is so_far.walked (by_place marks place p d within is ∙ free) come;
-    least = so_far.least;
-    itself = so_far.itself;
-  }
-
-  -- one that is marked goes
-  pub reaches_on : (marks : List Bool) (place : ℕ) (p d : PatchCatches) (going : List Catch) → place < length patches → p ≡ get_or patches place d → ReachesTo branch patches from marks (place + 1) going → mark_at marks place ≡ true → ReachesTo branch patches from marks place (going ++ p.catches.items)
-  reaches_on marks place p d going within is so_far goes = record {
-    long = so_far.long;
-    walked = back_on patches inverted.are (marked names marks) place p d going within is so_far.walked (by_place marks place p d within is ∙ goes);
-    least = so_far.least;
-    itself = so_far.itself;
-  }
-
-  -- one that sticks is among all that have the patch and come to the front
-  sticks_within : (marks : List Bool) (place : ℕ) (p d : PatchCatches) (going : List Catch) → place < length patches → p ≡ get_or patches place d → ReachesTo branch patches from marks (place + 1) going → mark_at marks place ≡ false → StickBehind p.name going p.catches.items → (others : List (List ℕ)) (n : List ℕ) → is_among others (get_or names from n) ≡ true → ComeToFront branch others → is_among others p.name ≡ true
-  sticks_within marks place p d going within is so_far free stuck others n has come =
-      let held = marked names marks in
-      let sticks = back_stuck patches inverted.are held place p d going within is so_far.walked (by_place marks place p d within is ∙ free) stuck in
-      let can = subst (λ l. CanGo l others) (sym inverted.inverses) (go_back inverted.forth others (subst (λ l. ComeToFront l others) inverted.plain come)) in
-      held_within back others plain_back can held p.name (so_far.least others n has come) sticks
-
-  -- and so is all that it needs
+  -- what a patch needs is among all that have it and come to the front
   needs_within : (p : List ℕ) (marks : List Bool) → NeedsThese branch (record { name = p; needs = marked names marks }) → (others : List (List ℕ)) → is_among others p ≡ true → ComeToFront branch others → AreAmong (marked names marks) others
   needs_within p marks these others has come x there =
       needs_are_least branch (p ∷ []) these.0 others plain these.1 (alone_among p others has) come x (sym (these.2 x) ∙ there)
 
-  -- it goes, and what it needs is marked
-  pub reaches_stuck : (marks row : List Bool) (place : ℕ) (p d : PatchCatches) (going : List Catch) → place < from → p ≡ get_or patches place d → ReachesTo branch patches from marks (place + 1) going → mark_at marks place ≡ false → StickBehind p.name going p.catches.items → length row ≡ place + 1 → NeedsThese branch (record { name = p.name; needs = marked names row }) → is_among (names_of branch) p.name ≡ true → ReachesTo branch patches from (marked_in_both marks row) place (going ++ p.catches.items)
-  reaches_stuck marks row place p d going before is so_far free stuck row_long these own_patch =
-      let within : place < length patches = omega (arith, before, inside) in
-      let fits : length row ≤ length marks = let long = so_far.long in omega (arith, row_long, long, before) in
-      let held = marked names marks in
-      let next = marked names (marked_in_both marks row) in
-      let both : (x : List ℕ) → is_among next x ≡ (is_among held x || is_among (marked names row) x) = λ x. among_both_marked names marks row x fits in
-      let has : is_among (map name_of branch) p.name ≡ true = sym (among_once (map name_of branch) p.name) ∙ own_patch in
-      let needed = needs_come_first branch (p.name ∷ []) these.0 (ap (λ b. cond b None (Some p.name)) has) these.1 in
-      let own_mark : is_among (marked names row) p.name ≡ true = these.2 p.name ∙ needed.1.has p.name (ap (λ b. b || false) (name_itself p.name)) in
-      let alike : HeldAlike back held next (walked_from patches (place + 1)) = both_are (λ k there same. (there, same)) (walked_from patches (place + 1)) (walked_there patches inverted.are (place + 1)) (each_walked patches inverted.are (λ n. is_among next n ≡ is_among held n) (length patches - (place + 1)) (place + 1) d (omega (arith, within)) (λ r n le less.
-      both (get_or names r n) ∙ ap (λ b. is_among held (get_or names r n) || b) (among_marked names row r n inverted.are.distinct (omega (arith, less, names_long)) ∙ get_or_past row r false (omega (arith, row_long, le))) ∙ or_none (is_among held (get_or names r n)))) in
-      let now = walked_alike back held next (walked_from patches (place + 1)) going alike so_far.walked in
-      record {
-        long = both_long marks row ∙ so_far.long;
-        walked = back_on patches inverted.are next place p d going within is now (both p.name ∙ ap (λ b. is_among held p.name || b) own_mark ∙ or_true (is_among held p.name) true refl);
-        least = λ others n among come x there.
-            let sticks = sticks_within marks place p d going within is so_far free stuck others n among come in
-            elim (or_cases (is_among held x) (is_among (marked names row) x) (sym (both x) ∙ there)) [
-              | inl e ↦ so_far.least others n among come x e
-              | inr e ↦ needs_within p.name row these others sticks come x e
-            ];
-        itself = mark_in_both marks row from fits ∙ ap (λ b. b || mark_at row from) so_far.itself;
-      }
+  -- a step of the walk, to a place before
+  module _ (marks : List Bool) (place last : ℕ) (next : last ≡ place + 1) (p : PatchCatches) (going : List Catch) (before : place < length known) (is : p ≡ get_or patches place p) (so_far : ReachesTo branch patches (length known) marks last going) where
+    within : place < length patches
+    within = omega (arith, before, inside)
+
+    now : ReachesTo branch patches from marks (place + 1) going
+    now = subst (λ k. ReachesTo branch patches from marks k going) next so_far
+
+    -- a patch that comes before what goes is passed by
+    pub step_aside : (left : List Catch) → mark_at marks place ≡ false → ComeBeforeAll p.name going p.catches.items left → ReachesTo branch patches (length known) marks place left
+    step_aside left free come = record {
+      long = now.long;
+      walked = back_aside patches inverted.are place p p within is (marked names marks) going now.walked left (by_place marks place p p within is ∙ free) come;
+      least = now.least;
+      itself = now.itself;
+    }
+
+    -- one that is marked goes
+    pub step_on : mark_at marks place ≡ true → ReachesTo branch patches (length known) marks place (going ++ p.catches.items)
+    step_on goes = record {
+      long = now.long;
+      walked = back_on patches inverted.are place p p within is (marked names marks) going now.walked (by_place marks place p p within is ∙ goes);
+      least = now.least;
+      itself = now.itself;
+    }
+
+    -- what goes is of other patches
+    pub goes_apart_from : AreApart p.name going
+    goes_apart_from = back_apart patches inverted.are (marked names marks) place p p going within is now.walked
+
+    -- one that sticks is among all that have the patch and come to the front
+    sticks_within : mark_at marks place ≡ false → StickBehind p.name going p.catches.items → (others : List (List ℕ)) (n : List ℕ) → is_among others (get_or names from n) ≡ true → ComeToFront branch others → is_among others p.name ≡ true
+    sticks_within free stuck others n has come =
+        let held = marked names marks in
+        let plain_back : IsPlain back = record { patches = inverse_all inverted.forth; are = inverted.inverses; room = inverted.room_back } in
+        let sticks = back_stuck patches inverted.are place p p within is held going now.walked (by_place marks place p p within is ∙ free) stuck in
+        let can = subst (λ l. CanGo l others) (sym inverted.inverses) (go_back inverted.forth others (subst (λ l. ComeToFront l others) inverted.plain come)) in
+        held_within back others plain_back can held p.name (now.least others n has come) sticks
+
+    -- it goes, and what it needs is marked
+    pub step_stuck : (q : Needed) → q ≡ get_or known place q → mark_at marks place ≡ false → StickBehind p.name going p.catches.items → ReachesTo branch patches (length known) (marked_in_both marks q.needs.items) place (going ++ p.catches.items)
+    step_stuck q same free stuck =
+        let row : List Bool = q.needs.items in
+        let row_long : length row ≡ place + 1 = ap (λ (x : Needed). length x.needs.items) same ∙ are.long place q before in
+        let fits : length row ≤ length marks = let long = now.long in omega (arith, row_long, long, before) in
+        let own_place = called place p p within is in
+        let of_row : q.name ≡ p.name = ap (λ (x : Needed). x.name) same ∙ are.named place q p.name before ∙ sym own_place in
+        let these : NeedsThese branch (record { name = p.name; needs = marked names row }) = subst (λ n. NeedsThese branch (record { name = n; needs = marked names row })) of_row (subst (λ (x : Needed). NeedsThese branch (needing names x)) (sym same) (are.needs place q before)) in
+        let held = marked names marks in
+        let more = marked names (marked_in_both marks row) in
+        let both : (x : List ℕ) → is_among more x ≡ (is_among held x || is_among (marked names row) x) = λ x. among_both_marked names marks row x fits in
+        let has : is_among (map name_of branch) p.name ≡ true = sym (among_once (map name_of branch) p.name) ∙ ap (λ l. is_among l p.name) (sym inverted.names) ∙ ap (is_among names) own_place ∙ there names place p.name (omega (arith, within, names_long)) in
+        let needed = needs_come_first branch (p.name ∷ []) these.0 (ap (λ b. cond b None (Some p.name)) has) these.1 in
+        let own_mark : is_among (marked names row) p.name ≡ true = these.2 p.name ∙ needed.1.has p.name (ap (λ b. b || false) (name_itself p.name)) in
+        let alike : HeldAlike back held more (walked_from patches (place + 1)) = both_are (λ k there same. (there, same)) (walked_from patches (place + 1)) (walked_there patches inverted.are (place + 1)) (each_walked patches inverted.are (λ n. is_among more n ≡ is_among held n) (length patches - (place + 1)) (place + 1) p (omega (arith, within)) (λ r n le less.
+        both (get_or names r n) ∙ ap (λ b. is_among held (get_or names r n) || b) (among_marked names row r n inverted.are.distinct (omega (arith, less, names_long)) ∙ get_or_past row r false (omega (arith, row_long, le))) ∙ or_none (is_among held (get_or names r n)))) in
+        let walked = walked_alike back held more (walked_from patches (place + 1)) going alike now.walked in
+        record {
+          long = both_long marks row ∙ now.long;
+          walked = back_on patches inverted.are place p p within is more going walked (both p.name ∙ ap (λ b. is_among held p.name || b) own_mark ∙ or_true (is_among held p.name) true refl);
+          least = λ others n among come x there.
+              let sticks = sticks_within free stuck others n among come in
+              elim (or_cases (is_among held x) (is_among (marked names row) x) (sym (both x) ∙ there)) [
+                | inl e ↦ now.least others n among come x e
+                | inr e ↦ needs_within p.name row these others sticks come x e
+              ];
+          itself = mark_in_both marks row from fits ∙ ap (λ b. b || mark_at row from) now.itself;
+        }
 
   -- where all places before are marked, the walk is done
-  pub all_reached : (marks : List Bool) (place : ℕ) (d : PatchCatches) (going : List Catch) → place ≤ from → ReachesTo branch patches from marks place going → ((r : ℕ) → r < place → mark_at marks r ≡ true) → AreReached branch names from marks
-  all_reached marks place d going before so_far below = record {
+  pub step_last : (marks : List Bool) (place below : ℕ) (d : PatchCatches) (going : List Catch) → place ≤ length known → place ≤ below → AreMarkedBelow marks below → ReachesTo branch patches (length known) marks place going → AreReached branch (names_in_order patches) (length known) marks
+  step_last marks place below d going before all_below marked_there so_far = record {
     long = so_far.long;
     needs = λ n.
         let held = marked names marks in
         let name = get_or names from n in
-        let down = walked_down patches inverted.are held place d going (omega (arith, before, inside)) so_far.walked (λ r m less. among_marked names marks r m inverted.are.distinct (omega (arith, less, before, inside, names_long)) ∙ below r less) in
+        let down = walked_down patches inverted.are held place d going (omega (arith, before, inside)) so_far.walked (λ r m less. among_marked names marks r m inverted.are.distinct (omega (arith, less, before, inside, names_long)) ∙ marked_there r (omega (arith, less, all_below))) in
         let can = can_go_then back held (walked_from patches 0) down.0 down.1 (whole_walk patches inverted.are) in
         let come : ComeToFront branch held = subst (λ l. ComeToFront l held) (sym inverted.plain) (come_back inverted.forth held (subst (λ l. CanGo l held) inverted.inverses can)) in
         let own_mark : is_among held name ≡ true = among_marked names marks from n inverted.are.distinct (omega (arith, inside, names_long)) ∙ so_far.itself in
@@ -265,63 +259,24 @@ module _ (branch : List Catch) (patches : List PatchCatches) (inverted : IsInver
   }
 
   -- at first the patch alone is marked, and goes
-  pub starts_reaching : (marks : List Bool) (p d : PatchCatches) (going : List Catch) → p ≡ get_or patches from d → marks ≡ set (replicate (from + 1) false) from true → going ≡ p.catches.items → ReachesTo branch patches from marks from going
-  starts_reaching marks p d going is first goes =
+  pub step_first : (marks : List Bool) (p : PatchCatches) (going : List Catch) → p ≡ get_or patches (length known) p → marks ≡ set (replicate (length known + 1) false) (length known) true → going ≡ p.catches.items → ReachesTo branch patches (length known) marks (length known) going
+  step_first marks p going is first goes =
       let long : length marks ≡ from + 1 = ap length first ∙ length-set (replicate (from + 1) false) from true ∙ length-replicate (from + 1) false in
       let held = marked names marks in
       let mine : mark_at marks from ≡ true = ap (λ l. get_or l from false) first ∙ get_or-set_same (replicate (from + 1) false) from true false (let r = length-replicate (from + 1) false in omega (arith, r)) in
-      let alone : held ≡ p.name ∷ [] = ap (marked names) first ∙ one_marked names from d.name (omega (arith, inside, names_long)) ∙ ap (λ x. x ∷ []) (get_or-map (λ (x : PatchCatches). x.name) patches from d d.name inside ∙ ap (λ (x : PatchCatches). x.name) (sym is)) in
-      let free = each_walked patches inverted.are (λ n. is_among held n ≡ false) (length patches - (from + 1)) (from + 1) d (omega (arith, inside)) (λ r n le less.
+      let alone : held ≡ p.name ∷ [] = ap (marked names) first ∙ one_marked names from p.name (omega (arith, inside, names_long)) ∙ ap (λ x. x ∷ []) (sym (called from p p inside is)) in
+      let free = each_walked patches inverted.are (λ n. is_among held n ≡ false) (length patches - (from + 1)) (from + 1) p (omega (arith, inside)) (λ r n le less.
       among_marked names marks r n inverted.are.distinct (omega (arith, less, names_long)) ∙ get_or_past marks r false (omega (arith, long, le))) in
       let start = walked_free patches inverted.are held (from + 1) free in
-      let on = back_on patches inverted.are held from p d [] inside is start (by_place marks from p d inside is ∙ mine) in
+      let on = back_on patches inverted.are from p p inside is held [] start (by_place marks from p p inside is ∙ mine) in
       record {
         long = long;
         walked = subst (λ l. IsWalked back held (walked_from patches from) l) (sym goes) on;
         least = λ others n has come x there.
-            let same : get_or names from n ≡ p.name = get_or_default names from n d.name (omega (arith, inside, names_long)) ∙ get_or-map (λ (x : PatchCatches). x.name) patches from d d.name inside ∙ ap (λ (x : PatchCatches). x.name) (sym is) in
+            let same : get_or names from n ≡ p.name = get_or_default names from n p.name (omega (arith, inside, names_long)) ∙ sym (called from p p inside is) in
             alone_among p.name others (ap (is_among others) (sym same) ∙ has) x (ap (λ l. is_among l x) (sym alone) ∙ there);
         itself = mine;
       }
-
--- a step of the walk back, to a place where what the patches before the own one need is known
-module _ (branch : List Catch) (patches : List PatchCatches) (inverted : IsInverted branch patches) (known : List Needed) (are : AreKnown branch (names_in_order patches) known) (inside : length known < length patches) where
-  module _ (marks : List Bool) (place from : ℕ) (next : from ≡ place + 1) (p : PatchCatches) (going : List Catch) (within : place < length known) (is : p ≡ get_or patches place p) (so_far : ReachesTo branch patches (length known) marks from going) where
-    now : ReachesTo branch patches (length known) marks (place + 1) going
-    now = subst (λ k. ReachesTo branch patches (length known) marks k going) next so_far
-
-    pub step_aside : (left : List Catch) → mark_at marks place ≡ false → ComeBeforeAll p.name going p.catches.items left → ReachesTo branch patches (length known) marks place left
-    step_aside left free come =
-        reaches_aside branch patches inverted (length known) inside marks place p p going left (omega (arith, within, inside)) is now free come
-
-    pub step_on : mark_at marks place ≡ true → ReachesTo branch patches (length known) marks place (going ++ p.catches.items)
-    step_on goes =
-        reaches_on branch patches inverted (length known) inside marks place p p going (omega (arith, within, inside)) is now goes
-
-    pub step_stuck : (q : Needed) → q ≡ get_or known place q → mark_at marks place ≡ false → StickBehind p.name going p.catches.items → ReachesTo branch patches (length known) (marked_in_both marks q.needs.items) place (going ++ p.catches.items)
-    step_stuck q same free stuck =
-        let own_names = names_in_order patches in
-        let long : length own_names ≡ length patches = length-map patches (λ (x : PatchCatches). x.name) in
-        let row_long : length q.needs.items ≡ place + 1 = ap (λ (x : Needed). length x.needs.items) same ∙ are.long place q within in
-        let called : p.name ≡ get_or own_names place p.name = ap (λ (x : PatchCatches). x.name) is ∙ sym (get_or-map (λ (x : PatchCatches). x.name) patches place p p.name (omega (arith, within, inside))) in
-        let of_row : q.name ≡ p.name = ap (λ (x : Needed). x.name) same ∙ are.named place q p.name within ∙ sym called in
-        let these = subst (λ n. NeedsThese branch (record { name = n; needs = marked own_names q.needs.items })) of_row (subst (λ (x : Needed). NeedsThese branch (needing own_names x)) (sym same) (are.needs place q within)) in
-        let has : is_among (names_of branch) p.name ≡ true = ap (λ l. is_among l p.name) (sym inverted.names) ∙ ap (is_among own_names) called ∙ there own_names place p.name (omega (arith, within, inside, long)) in
-        reaches_stuck branch patches inverted (length known) inside marks q.needs.items place p p going within is now free stuck row_long these has
-
-  -- what goes is of other patches than the next
-  pub goes_apart_from : (marks : List Bool) (place from : ℕ) (p : PatchCatches) (going : List Catch) → from ≡ place + 1 → place < length known → p ≡ get_or patches place p → ReachesTo branch patches (length known) marks from going → AreApart p.name going
-  goes_apart_from marks place from p going next within is so_far =
-      let now = subst (λ k. ReachesTo branch patches (length known) marks k going) next so_far in
-      back_apart patches inverted.are (marked (names_in_order patches) marks) place p p going (omega (arith, within, inside)) is now.walked
-
-  pub step_first : (marks : List Bool) (p : PatchCatches) (going : List Catch) → p ≡ get_or patches (length known) p → marks ≡ set (replicate (length known + 1) false) (length known) true → going ≡ p.catches.items → ReachesTo branch patches (length known) marks (length known) going
-  step_first marks p going is first goes =
-      starts_reaching branch patches inverted (length known) inside marks p p going is first goes
-
-  pub step_last : (marks : List Bool) (place below : ℕ) (p : PatchCatches) (going : List Catch) → place ≤ length known → place ≤ below → AreMarkedBelow marks below → ReachesTo branch patches (length known) marks place going → AreReached branch (names_in_order patches) (length known) marks
-  step_last marks place below p going before all_below marked_there so_far =
-      all_reached branch patches inverted (length known) inside marks place p going before so_far (λ r less. marked_there r (omega (arith, less, all_below)))
 
 -- so many patches are known
 pub record AreKnownSoFar (branch : List Catch) (names : List (List ℕ)) (count : ℕ) (all : List Needed) : Type 0 where

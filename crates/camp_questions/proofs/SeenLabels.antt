@@ -1,19 +1,8 @@
 -- How labels in conflict are seen, from the last catch of a branch to the first.
-use Rattle.camp_questions.proofs.Words.{true≢false, ◌<◌, ◌≤◌, ◌+◌, arith, drop, drop_more, get_or, length, take, ◌≡◌, ℕ, suc, Bool, true, false, cond, List, [], ◌∷◌, ◌++◌, map, Option, Some, None, refl, sym, ap, ◌∙◌, subst, none-some, eq_by_cmp, empty, get, get-empty, get-insert, contains_key, insert, find, flat_map, effect_of, Catch, Key, key_cmp, key_total, key_ties, Named}
-use Rattle.std.specs.FinMap.{entries, entries_sorted, get-entries, len, values}
-use Rattle.std.specs.Prelude.{MatchOption, is_some, slice_get}
-use Rattle.std.proofs.lemmas.List.{take_all}
+use Rattle.camp_questions.proofs.Words.{true≢false, ◌<◌, ◌≤◌, ◌+◌, arith, drop, drop_more, get_or, length, take, ◌≡◌, ℕ, suc, Bool, true, false, cond, List, [], ◌∷◌, ◌++◌, map, Option, Some, None, refl, sym, ap, ◌∙◌, subst, none-some, eq_by_cmp, empty, get, get-empty, get-insert, contains_key, insert, find, flat_map, effect_of, Catch, Key, key_cmp, key_total, key_ties, Named, entries, entries_sorted, get-entries, len, values, MatchOption, is_some, slice_get, take_all, found_at, take_push, count_of_members, members_of, AddsAll, AreKeyed, ContextedPatch, ContextedPatches, context_key, with_member, inverse_all-append, inverse_all, AllSeenToo, SeenToo, first_with, AreSeen, IsSeen, TellNothing, told_by, append-nil, bytes_eq, filter, filter-append, ComesIf, ComesIfNamed, ComeBehind, ComesBehind, IsSideAmong}
 use Rattle.std.specs.Cmp.{Equal-is}
 use Rattle.camp_catch.specs.declared.catches.Conflictor.{Conflictor}
 use Rattle.camp_ctx.proofs.AddResults.{same_key_of_sum}
-use Rattle.camp_ctx.proofs.EntrySteps.{found_at, take_push}
-use Rattle.camp_ctx.proofs.SetSteps.{count_of_members, members_of}
-use Rattle.camp_ctx.specs.Adding.{AddsAll}
-use Rattle.camp_ctx.specs.Contexts.{AreKeyed, ContextedPatch, ContextedPatches, context_key, with_member}
-use Rattle.camp_seq.proofs.ListRuns.{inverse_all-append}
-use Rattle.camp_seq.specs.Running.{inverse_all}
-use Rattle.camp_questions.specs.Inside.Seeing.{AllSeenToo, SeenToo, first_with}
-use Rattle.camp_questions.specs.Sides.{AreSeen, IsSeen, TellNothing, told_by}
 
 -- what is told first stays where more is told behind it
 first_stays : (key : Key) (xs : List ContextedPatch) (x : ContextedPatch) (found : Option ContextedPatch) → first_with key xs ≡ found → first_with key (xs ++ x ∷ []) ≡ cond (is_some found) found (first_with key (x ∷ []))
@@ -164,3 +153,32 @@ one_so_far k behind all undone more seen next is so_far told grows =
       back = grows ∙ ap (λ u. u ++ inverse_all (effect_of k)) so_far.back ∙ sym (inverse_all-append (effect_of k) (flat_map effect_of behind));
       are = one_seen k behind seen next undone so_far.back so_far.are told;
     })
+
+-- ---- how the labels of a patch come behind one another
+
+behind_all : (changes : List Named) (xs : List ContextedPatch) (x : ContextedPatch) (side next : List Named) → ComeBehind changes xs side → ComesBehind side x next → ComeBehind changes (xs ++ x ∷ []) next
+behind_all changes [] x side next is one = (next, subst (λ s. ComesBehind s x next) is one, refl)
+behind_all changes (y ∷ xs) x side next (between, first, more) one =
+    (between, first, behind_all between xs x side next more one)
+
+comes_at : (xs : List ContextedPatch) (x : ContextedPatch) (side next : List Named) (b : Bool) → ComeBehind [] xs side → ComesIf b side x next → ComeBehind [] (xs ++ cond b (x ∷ []) []) next
+comes_at xs x side next true all one = behind_all [] xs x side next all one
+comes_at xs x side next false all same =
+    subst (λ l. ComeBehind [] l next) (sym (append-nil xs)) (subst (ComeBehind [] xs) (sym same) all)
+
+abbrev of_name : List ℕ → ContextedPatch → Bool
+of_name name x = bytes_eq name x.patch.name
+
+-- the labels of a name among one more
+pub one_comes : (name : List ℕ) (members : List ContextedPatch) (i : ℕ) (x : ContextedPatch) (side next : List Named) → slice_get members i ≡ Some x
+    → ComeBehind [] (filter (of_name name) (take i members)) side → ComesIfNamed side name x next → ComeBehind [] (filter (of_name name) (take (i + 1) members)) next
+one_comes name members i x side next at all one =
+    let more : filter (of_name name) (take (i + 1) members) ≡ filter (of_name name) (take i members) ++ cond (of_name name x) (x ∷ []) [] =
+    ap (filter (of_name name)) (take_push members i x at) ∙ filter-append (of_name name) (take i members) (x ∷ []) in
+    subst (λ l. ComeBehind [] l next) (sym more) (comes_at (filter (of_name name) (take i members)) x side next (of_name name x) all one)
+
+pub all_come : (name : List ℕ) (xs : ContextedPatches) (i n : ℕ) (side : List Named) → n ≡ len xs → n ≤ i → ComeBehind [] (filter (of_name name) (take i (members_of xs))) side → IsSideAmong xs name side
+all_come name xs i n side counted past all =
+    let long = count_of_members xs in
+    let whole : take i (members_of xs) ≡ members_of xs = take_all i (members_of xs) (omega arith) in
+    subst (λ l. ComeBehind [] (filter (of_name name) l) side) whole all

@@ -1,32 +1,23 @@
 -- A patch as it stands where it was recorded.
-use Rattle.camp_questions.proofs.Words.{◌≡◌, ℕ, ◌+◌, Bool, true, false, true≢false, ◌||◌, cond, List, [], ◌∷◌, ◌++◌, bytes_eq, refl, sym, ap, ◌∙◌, bytes_eq-Decides, Primitive, Catch, catches_named, accepted_calls, changes_of, stands, RecordedIsShown, name_itself, or_parts, same_name, has_patch, is_among, name_of, recorded, filter-append}
+use Rattle.camp_questions.proofs.Words.{◌≡◌, ℕ, ◌+◌, false, ◌||◌, cond, List, [], ◌∷◌, ◌++◌, bytes_eq, refl, ap, ◌∙◌, Primitive, Catch, catches_named, accepted_calls, changes_of, stands, RecordedIsShown, name_itself, or_parts, has_patch, is_among, name_of, recorded, filter-append, other_way}
 use Rattle.camp_call.specs.declared.calls.Call.TheVariants as call
 use Rattle.camp_repo.proofs.AcceptedSteps.{has_branch, passes}
 use Rattle.camp_repo.proofs.RecordSteps.{is_new}
 use Rattle.camp_questions.proofs.MissingNames.{same_catches}
-
-apart_too : (a b : List ℕ) → bytes_eq a b ≡ false → (c : Bool) → bytes_eq b a ≡ c → c ≡ false
-apart_too a b apart true e =
-    absurd (true≢false (sym ((bytes_eq-Decides a b).1 (sym (same_name b a e))) ∙ apart))
-apart_too a b apart false e = refl
 
 -- a branch without a patch has no catch of it
 none_named : (old : List Catch) (name : List ℕ) → has_patch old name ≡ false → catches_named (name ∷ []) old ≡ []
 none_named [] name free = refl
 none_named (k ∷ old) name free =
     let parts = or_parts (bytes_eq name (name_of k)) (has_patch old name) free in
-    let other : bytes_eq (name_of k) name ≡ false = apart_too name (name_of k) parts.0 (bytes_eq (name_of k) name) refl in
-    ap (λ b. cond (b || false) (k ∷ catches_named (name ∷ []) old) (catches_named (name ∷ []) old)) other ∙ none_named old name parts.1
+    ap (λ b. cond (b || false) (k ∷ catches_named (name ∷ []) old) (catches_named (name ∷ []) old)) (other_way name (name_of k) parts.0) ∙ none_named old name parts.1
 
 -- all that a record makes is of its patch
 all_named : (name : List ℕ) (place : ℕ) (changes : List Primitive) → catches_named (name ∷ []) (recorded name place changes) ≡ recorded name place changes
 all_named name place [] = refl
 all_named name place (change ∷ changes) =
-    kept (bytes_eq name name) (name_itself name) ∙ ap (λ t. recorded name place (change ∷ []) ++ t) (all_named name (place + 1) changes)
-  where
-    kept : (b : Bool) → b ≡ true → cond (b || false) (recorded name place (change ∷ []) ++ catches_named (name ∷ []) (recorded name (place + 1) changes)) (catches_named (name ∷ []) (recorded name (place + 1) changes)) ≡ recorded name place (change ∷ []) ++ catches_named (name ∷ []) (recorded name (place + 1) changes)
-    kept true e = refl
-    kept false e = absurd (true≢false (sym e))
+    let rest : List Catch = catches_named (name ∷ []) (recorded name (place + 1) changes) in
+    ap (λ b. cond (b || false) (recorded name place (change ∷ []) ++ rest) rest) (name_itself name) ∙ ap (λ t. recorded name place (change ∷ []) ++ t) (all_named name (place + 1) changes)
 
 -- and changes what was recorded
 same_changes : (name : List ℕ) (place : ℕ) (changes : List Primitive) → changes_of (recorded name place changes) ≡ changes

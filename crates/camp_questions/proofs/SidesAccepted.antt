@@ -1,19 +1,11 @@
 -- A record of the changes of a side is accepted, unless it is too large.
-use Rattle.camp_questions.proofs.Words.{◌≡◌, ◌⊎◌, ℕ, Bool, true, false, cond, List, [], ◌∷◌, ◌++◌, Result, Ok, Err, refl, sym, ap, ◌∙◌, inl, inr, Files, Primitive, Catch, LeadsTo, recorded, Contents, stands, step, with_catches, after, Has, Next}
+use Rattle.camp_questions.proofs.Words.{◌≡◌, ◌⊎◌, ℕ, Bool, true, false, cond, List, [], ◌∷◌, ◌++◌, Result, Ok, Err, refl, sym, ap, ◌∙◌, inl, inr, Files, Primitive, Catch, LeadsTo, recorded, Contents, stands, step, with_catches, after, Has, Next, AppliesEach, Refusal, DoesNotApply, NoBranch, PatchExists, TooLarge, path_of, tree_of, Decision, changed, has_long_file, is_too_large, led_to, record_leads, refused, refused_if, then_from, KeepFilesShort, SidesAreAccepted, changes_in, subst, cond_both, cases_Bool}
 use Rattle.std.specs.Option.{option_map_or}
-use Rattle.camp_branch.specs.Laws.{AppliesEach}
 use Rattle.camp_call.specs.declared.calls.Call.TheVariants as call
-use Rattle.camp_call.specs.declared.replies.Refusal.{Refusal}
-use Rattle.camp_call.specs.declared.replies.Refusal.TheVariants.{DoesNotApply, NoBranch, PatchExists, TooLarge}
 use Rattle.camp_prim.proofs.Applied.{applied-from_Applies}
-use Rattle.camp_prim.specs.Commuting.{path_of}
 use Rattle.camp_repo.proofs.TreeSteps.{tree_found}
 use Rattle.camp_repo.proofs.StepsLawful.{trees_answered}
-use Rattle.camp_repo.specs.States.{tree_of}
-use Rattle.camp_repo.specs.Steps.{Decision, changed, has_long_file, is_too_large, led_to, record_leads, refused, refused_if, then_from}
 use Rattle.camp_questions.proofs.SidesApply.{sides_apply}
-use Rattle.camp_questions.specs.Laws.{KeepFilesShort, SidesAreAccepted}
-use Rattle.camp_questions.specs.Showing.{changes_in}
 
 -- changes that apply lead to their tree, where no file gets too long
 short_leads : (changes : List Primitive) (old new : Files) → AppliesEach changes old new → KeepFilesShort changes old → changed changes old ≡ Ok new
@@ -27,16 +19,9 @@ short_leads (change ∷ changes) old new (between, one, more) short =
 leads_or_large : (changes : List Primitive) (old new : Files) → AppliesEach changes old new → (changed changes old ≡ Ok new) ⊎ (changed changes old ≡ Err TooLarge)
 leads_or_large [] old new is = inl (ap Ok (sym is))
 leads_or_large (change ∷ changes) old new (between, one, more) =
-    by_length (has_long_file (path_of change) between) refl (leads_or_large changes between new more)
-  where
-    first : changed (change ∷ changes) old ≡ then_from (cond (has_long_file (path_of change) between) (Err TooLarge) (Ok between)) (changed changes)
-    first = ap (λ o. then_from (led_to change o) (changed changes)) (applied-from_Applies change old between one)
-
-    by_length : (b : Bool) → has_long_file (path_of change) between ≡ b → (changed changes between ≡ Ok new) ⊎ (changed changes between ≡ Err TooLarge)
-        → (changed (change ∷ changes) old ≡ Ok new) ⊎ (changed (change ∷ changes) old ≡ Err TooLarge)
-    by_length true long rest = inr (first ∙ ap (λ b. then_from (cond b (Err TooLarge) (Ok between)) (changed changes)) long)
-    by_length false short (inl leads) = inl (first ∙ ap (λ b. then_from (cond b (Err TooLarge) (Ok between)) (changed changes)) short ∙ leads)
-    by_length false short (inr large) = inr (first ∙ ap (λ b. then_from (cond b (Err TooLarge) (Ok between)) (changed changes)) short ∙ large)
+    let Either : Result Files Refusal → Type 0 = λ led. (led ≡ Ok new) ⊎ (led ≡ Err TooLarge) in
+    subst Either (sym (ap (λ o. then_from (led_to change o) (changed changes)) (applied-from_Applies change old between one)))
+    (cond_both (has_long_file (path_of change) between) (Err TooLarge) (Ok between) (λ led. Either (then_from led (changed changes))) (λ long. inr refl) (λ short. leads_or_large changes between new more))
 
 module _ (state : Contents) (branch new_name : List ℕ) (catches : List Catch) (tree : Files) (changes : List Primitive) (found : Has state branch catches) (fresh : stands state.branches new_name ≡ false) (leads : LeadsTo catches tree) where
   abbrev Accepted : Type 0
@@ -73,14 +58,13 @@ module _ (state : Contents) (branch new_name : List ℕ) (catches : List Catch) 
   too_long small led = comes_to false (Err TooLarge) small led
 
   accepted_or_large : (next : Files) → AppliesEach changes tree next → Accepted ⊎ (step state (call.Record branch new_name changes) ≡ refused TooLarge)
-  accepted_or_large next applies = by_size (is_too_large catches changes) refl
-    where
-      by_size : (b : Bool) → is_too_large catches changes ≡ b → Accepted ⊎ (step state (call.Record branch new_name changes) ≡ refused TooLarge)
-      by_size true large = inr (too_large large)
-      by_size false small = elim (leads_or_large changes tree next applies) [
-        | inl led ↦ inl (recorded_so next small led)
-        | inr long ↦ inr (too_long small long)
-      ]
+  accepted_or_large next applies = elim (cases_Bool (is_too_large catches changes)) [
+    | inl large ↦ inr (too_large large)
+    | inr small ↦ elim (leads_or_large changes tree next applies) [
+      | inl led ↦ inl (recorded_so next small led)
+      | inr long ↦ inr (too_long small long)
+    ]
+  ]
 
 pub sides_are_accepted : SidesAreAccepted
 sides_are_accepted = record {

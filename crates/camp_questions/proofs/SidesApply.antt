@@ -1,22 +1,8 @@
 -- The changes of a side apply to the tree of the branch.
-use Rattle.camp_questions.proofs.Words.{◌≡◌, ℕ, suc, Bool, true, false, cond, List, [], ◌∷◌, map, bytes_eq, Some, refl, sym, ◌∙◌, subst, none-some, same_Some, eq_by_cmp, empty, get, flat_map, AllByRecursion, Files, FitsAll, LeadsTo, effect_of, Catch, Key, key_cmp, key_total, Named}
-use Rattle.std.specs.FinMap.{entries, entries_sorted, get-entries, values}
-use Rattle.std.specs.Prelude.{MatchOption, slice_get}
+use Rattle.camp_questions.proofs.Words.{◌≡◌, ℕ, suc, Bool, true, false, cond, List, [], ◌∷◌, map, bytes_eq, Some, refl, sym, ◌∙◌, subst, none-some, same_Some, eq_by_cmp, empty, get, flat_map, AllByRecursion, Files, FitsAll, LeadsTo, effect_of, Catch, Key, key_cmp, key_total, Named, entries, entries_sorted, get-entries, values, MatchOption, slice_get, all_filter, IsSeenFrom, Plain, found_at, AddsAll, AreValid, ContextedPatch, ContextedPatches, Valid, context_key, whole, joined_runs, runs_back, AppliesAll, inverse_all, AppliesEach, SidesApply, changes_in, AreSeen, ComeBehind, ComesUnless, IsSeen, IsSideAmong, TellNothing, has_key, labels_of_patch, told_by}
 use Rattle.camp_branch.proofs.BranchTrees.{tree_of_effects}
 use Rattle.camp_branch.proofs.EffectSteps.{second_fits}
-use Rattle.camp_branch.proofs.Names.{all_filter}
-use Rattle.camp_catch.specs.Catches.{IsSeenFrom}
-use Rattle.camp_catch.specs.declared.catches.Catch.TheVariants.{Plain}
 use Rattle.camp_ctx.proofs.AddValid.{valid_by_adding_all}
-use Rattle.camp_ctx.proofs.EntrySteps.{found_at}
-use Rattle.camp_ctx.specs.Adding.{AddsAll}
-use Rattle.camp_ctx.specs.Contexts.{AreValid, ContextedPatch, ContextedPatches, Valid, context_key, whole}
-use Rattle.camp_seq.proofs.ListRuns.{joined_runs, runs_back}
-use Rattle.camp_seq.specs.Running.{AppliesAll, inverse_all}
-use Rattle.camp_branch.specs.Laws.{AppliesEach}
-use Rattle.camp_questions.specs.Laws.{SidesApply}
-use Rattle.camp_questions.specs.Showing.{changes_in}
-use Rattle.camp_questions.specs.Sides.{AreSeen, ComeBehind, ComesUnless, IsSeen, IsSideAmong, TellNothing, has_key, labels_of_patch, told_by}
 
 told_valid_at : (tree : Files) (b : Bool) (identity x : ContextedPatch) (members : ContextedPatches) (key : Key) → AreValid tree members → Valid tree identity → cond b (Some identity) (get members key) ≡ Some x → Valid tree x
 told_valid_at tree true identity x members key all one is = subst (Valid tree) (same_Some identity x is) one

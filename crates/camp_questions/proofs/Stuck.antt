@@ -1,6 +1,6 @@
 -- What a branch sticks on when patches are brought to its front.
-use Rattle.camp_questions.proofs.Words.{◌≡◌, ℕ, Bool, true, false, ◌||◌, List, [], ◌∷◌, ◌++◌, map, bytes_eq, refl, sym, ap, ◌∙◌, subst, inl, inr, map-append, list_any-append, Key, Catch, is_among, name_of, ArrangeSticks, ComesBefore, SticksBehind, StopsAt, is_among_is, name_itself, not_among, or_true, same_name}
-use Rattle.camp_catch.proofs.KeptLabels.{keep_labels}
+use Rattle.camp_questions.proofs.Words.{◌≡◌, ℕ, true, false, ◌||◌, List, [], ◌∷◌, ◌++◌, map, bytes_eq, refl, sym, ap, ◌∙◌, subst, inl, inr, map-append, list_any-append, Key, Catch, is_among, name_of, ArrangeSticks, ComesBefore, SticksBehind, StopsAt, is_among_is, not_among, or_true, same_name, keep_labels, or_cases, or_none}
+use Rattle.camp_questions.proofs.PatchFronts.{at_first}
 
 -- the names of the patches of some catches
 abbrev names_at : List Catch → List (List ℕ)
@@ -14,14 +14,11 @@ names_stay (j ∷ list) k k' list' w =
     let rest = names_stay list k w.0 w.2 w.3 in
     ap names_at w.5 ∙ (λ t. called t ∷ rest t)
 
-first_among : (names : List (List ℕ)) (n m : List ℕ) → m ≡ n → is_among (n ∷ names) m ≡ true
-first_among names n m e = ap (λ b. b || is_among names m) (ap (λ l. bytes_eq l n) e ∙ name_itself n)
-
 -- what stops a catch is one of those before it
 stops_at_one : (list : List Catch) (k : Catch) (on : Key) → StopsAt list k on → is_among (names_at list) on.name ≡ true
 stops_at_one [] k on w = absurd w
 stops_at_one (j ∷ list) k on (inl w) = or_true (bytes_eq on.name (name_of j)) _ (stops_at_one list k on w)
-stops_at_one (j ∷ list) k on (inr w) = first_among (names_at list) (name_of j) on.name (ap (λ key. key.name) w.4)
+stops_at_one (j ∷ list) k on (inr w) = at_first (name_of j) (names_at list) on.name (ap (λ (key : Key). key.name) w.4)
 
 module _ (names own : List (List ℕ)) where
   -- a name of a branch that is not one of those that come to the front
@@ -37,12 +34,10 @@ module _ (names own : List (List ℕ)) where
   one_waits : (k : Catch) (rest : List Catch) → Waits (name_of k) → AllWait rest → AllWait (rest ++ k ∷ [])
   one_waits k rest waits all name there =
       let parts = sym (ap (λ l. is_among l name) (map-append name_of rest (k ∷ [])) ∙ list_any-append (bytes_eq name) (names_at rest) (name_of k ∷ [])) ∙ there in
-      at_end (is_among (names_at rest) name) refl (bytes_eq name (name_of k)) refl parts
-    where
-      at_end : (b : Bool) → is_among (names_at rest) name ≡ b → (c : Bool) → bytes_eq name (name_of k) ≡ c → (b || (c || false)) ≡ true → Waits name
-      at_end true e c f w = all name e
-      at_end false e true f w = subst Waits (sym (same_name name (name_of k) f)) waits
-      at_end false e false f w = cc
+      elim (or_cases (is_among (names_at rest) name) (bytes_eq name (name_of k) || false) parts) [
+        | inl e ↦ all name e
+        | inr e ↦ subst Waits (sym (same_name name (name_of k) (sym (or_none (bytes_eq name (name_of k))) ∙ e))) waits
+      ]
 
   -- where it sticks: `on` is one that waits, and `patch` is one that is to come
   abbrev pub SticksBetween : Key → Key → Type 0
@@ -53,7 +48,7 @@ module _ (names own : List (List ℕ)) where
   sticks_behind rest (k ∷ list) patch on all own_list (inl w) =
       let called : patch.name ≡ name_of k = ap (λ key. key.name) w.2 in (
         all on.name (stops_at_one rest k on w.1),
-        own_list patch.name (first_among (names_at list) (name_of k) patch.name called),
+        own_list patch.name (at_first (name_of k) (names_at list) patch.name called),
         ap (is_among names) called ∙ (is_among_is names (name_of k)).0 w.0,
       )
   sticks_behind rest (k ∷ list) patch on all own_list (inr (inl w)) =
@@ -61,7 +56,7 @@ module _ (names own : List (List ℕ)) where
       let same = names_stay rest k come.0 come.1 come.2 in
       sticks_behind come.1 list patch on (λ name there. all name (sym (ap (λ l. is_among l name) same) ∙ there)) (λ name there. own_list name (or_true (bytes_eq name (name_of k)) _ there)) come.3
   sticks_behind rest (k ∷ list) patch on all own_list (inr (inr w)) =
-      let waits : Waits (name_of k) = (own_list (name_of k) (first_among (names_at list) (name_of k) (name_of k) refl), not_among names (name_of k) w.0) in
+      let waits : Waits (name_of k) = (own_list (name_of k) (at_first (name_of k) (names_at list) (name_of k) refl), not_among names (name_of k) w.0) in
       sticks_behind (rest ++ k ∷ []) list patch on (one_waits k rest waits all) (λ name there. own_list name (or_true (bytes_eq name (name_of k)) _ there)) w.1
 
 -- a branch sticks between a patch that is to come to its front, and one that is not

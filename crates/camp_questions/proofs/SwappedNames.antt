@@ -1,25 +1,13 @@
 -- Two changes that change places give the same names to lines, in whatever order they come.
-use Rattle.camp_questions.proofs.Words.{◌≡◌, ◌≢◌, ◌≤◌, ℕ, ◌+◌, ◌-◌, Bool, true, false, true≢false, cond, List, [], ◌∷◌, ◌++◌, map, Some, length, take, drop, bytes_eq, refl, sym, ap, ◌∙◌, subst, inl, inr, arith, empty, get, get-insert, insert, same_map, slice_range, splice, eq_by_cmp, bytes_eq-Decides, Edit, key_cmp, key_of, key_ties, key_total, label_of, Key, Named, Primitive, Add, Remove, Hunk, Catch, Known, behind_catches, behind_change, behind_hunk, names_coming, nothing_known, annotated, Annotated, StandsWithin, AreKnownIn, append_assoc, drop_at, length-append, length-take-le, take-append-drop, take_at, drop-drop, Files, Splices, FitsAll}
-use Rattle.std.proofs.lemmas.Bool.{false_from_ne_true}
-use Rattle.std.specs.FinMap.{FinMap}
-use Rattle.camp_base.specs.Trees.{SplicesLines}
+use Rattle.camp_questions.proofs.Words.{◌≡◌, ◌≢◌, ◌≤◌, ℕ, ◌+◌, ◌-◌, Bool, true, false, true≢false, cond, List, [], ◌∷◌, ◌++◌, map, Some, length, take, drop, bytes_eq, refl, sym, ap, ◌∙◌, subst, inl, inr, arith, empty, get, get-insert, insert, same_map, slice_range, splice, eq_by_cmp, bytes_eq-Decides, Edit, key_cmp, key_of, key_ties, key_total, label_of, Key, Named, Primitive, Add, Remove, Hunk, Catch, Known, behind_catches, behind_change, behind_hunk, names_coming, nothing_known, annotated, Annotated, StandsWithin, AreKnownIn, append_assoc, drop_at, length-append, length-take-le, take-append-drop, take_at, drop-drop, Files, Splices, FitsAll, false_from_ne_true, FinMap, SplicesLines, Align, ComesFirst, Plain, Leads, PrimitivesCommute, Commute, at_line, path_of, cut_run, equivalent_run, AppliesAll, Annotates, own_names, AnnotateAlike, OrderKeepsNames}
 use Rattle.camp_branch.proofs.BranchTrees.{tree_of_effects}
-use Rattle.camp_catch.specs.Arranging.{Align, ComesFirst}
 use Rattle.camp_catch.specs.Commuting.{BothPlain, CommuteCatch}
-use Rattle.camp_catch.specs.declared.catches.Catch.TheVariants.{Plain}
 use Rattle.camp_prim.proofs.HunksOfOneFile.{SplicesTwice, lower_first, upper_first}
-use Rattle.camp_prim.specs.Effect.{Leads}
-use Rattle.camp_prim.specs.Commuting.{PrimitivesCommute, Commute, at_line, path_of}
 use Rattle.camp_seq.proofs.ExchangeSteps.{shared}
-use Rattle.camp_seq.proofs.ListRuns.{cut_run, equivalent_run}
 use Rattle.camp_seq.proofs.ListEquivalence.{after_one, swapped}
 use Rattle.camp_seq.specs.Equivalence.{CommutesOnce, backwards, exchanged, same, through, ◌~◌}
-use Rattle.camp_seq.specs.Running.{AppliesAll}
-use Rattle.camp_questions.proofs.LineNames.{change_counts, coming_count, gone_count, hunk_counts, none_known, stands_within}
+use Rattle.camp_questions.proofs.LineNames.{change_counts, coming_count, gone_count, hunk_counts, none_known, stands_within, same_key}
 use Rattle.camp_questions.proofs.PlainLabels.{plain_effects}
-use Rattle.camp_questions.proofs.TakenNames.{same_key}
-use Rattle.camp_questions.specs.Annotations.{Annotates, own_names}
-use Rattle.camp_questions.specs.Laws.{AnnotateAlike, OrderKeepsNames}
 
 abbrev Taken : Type 0
 Taken = FinMap key_cmp (List (List ℕ))

@@ -1,83 +1,64 @@
 -- What plain patches need is what they hold in the list taken back.
-use Rattle.camp_questions.proofs.Words.{◌≡◌, ℕ, Bool, true, false, true≢false, ◌||◌, List, [], ◌∷◌, ◌++◌, map, bytes_eq, refl, sym, ap, ◌∙◌, subst, AllByRecursion, Contains, map-append, list_any-append, Arrange, Catch, has_patch, is_among, name_of, is_among_is, or_true, Named, other_names, AreHeldIn, CanGo, ComeToFront, StickOn, AreAmong, IsPlain}
-use Rattle.camp_prim.specs.Effect.{inverse_of}
-use Rattle.camp_seq.proofs.ListRuns.{inverse_all-cons, inverse_all-inverse_all}
+use Rattle.camp_questions.proofs.Words.{◌≡◌, ℕ, Bool, true, false, true≢false, ◌||◌, List, [], ◌∷◌, ◌++◌, map, bytes_eq, refl, sym, ap, ◌∙◌, subst, AllByRecursion, map-append, list_any-append, Arrange, Catch, has_patch, is_among, name_of, is_among_is, or_true, Named, other_names, AreHeldIn, CanGo, ComeToFront, StickOn, AreAmong, IsPlain, inverse_of, inverse_all-cons, inverse_all-inverse_all, inverse_all, Plain, GrowsToFront, GrowsToGo, not, ◌&&◌, among_others, or_comm, or_none, true_from_ne_false}
 use Rattle.camp_seq.specs.Room.{HasRoom}
-use Rattle.camp_seq.specs.Running.{inverse_all}
-use Rattle.camp_catch.specs.declared.catches.Catch.TheVariants.{Plain}
-use Rattle.camp_questions.proofs.PlainGoing.{AreEither, IsEither, comes_taken_back}
-use Rattle.camp_questions.specs.Inside.Growing.{GrowsToFront, GrowsToGo}
-use Rattle.camp_questions.proofs.BranchGrowths.{stays, to_front, to_go}
+use Rattle.camp_questions.proofs.PlainGoing.{IsEither, comes_taken_back}
+use Rattle.camp_questions.proofs.BranchGrowths.{stays, to_front, to_go, stops_within}
 use Rattle.camp_questions.proofs.Growths.{all_done, all_within, among_first, are_added, both_ways}
-use Rattle.camp_questions.proofs.LeastHeld.{can_go, held_within, others_come, stays_by}
-use Rattle.camp_questions.proofs.LeastNeeds.{stops_within}
-use Rattle.camp_questions.proofs.PatchFronts.{at_first}
+use Rattle.camp_questions.proofs.LeastHeld.{can_go, held_within, others_come}
+use Rattle.camp_questions.proofs.PatchFronts.{all_are, at_first}
 
 -- plain primitives are of patches of the branch
 abbrev AreOwn : List Catch → List Named → Type 0
 AreOwn branch list = AllByRecursion (λ (p : Named). has_patch branch p.name ≡ true) list
 
-all_own : {P Q : Named → Type 0} → ((p : Named) → P p → Q p) → (list : List Named) → AllByRecursion P list → AllByRecursion Q list
-all_own to [] w = tt
-all_own to (p ∷ list) w = (to p w.0, all_own to list w.1)
-
 own_primitives : (list : List Named) → AreOwn (map Plain list) list
 own_primitives [] = tt
 own_primitives (p ∷ list) =
-    (at_first p.name (map name_of (map Plain list)) p.name refl, all_own (λ q there. or_true (bytes_eq q.name p.name) (has_patch (map Plain list) q.name) there) list (own_primitives list))
-
-either_first : (a b : Bool) → (b || a) ≡ (a || (b || false))
-either_first true b = or_true b true refl
-either_first false b = refl
+    (at_first p.name (map name_of (map Plain list)) p.name refl, all_are (λ q there. or_true (bytes_eq q.name p.name) (has_patch (map Plain list) q.name) there) list (own_primitives list))
 
 -- a list and the list taken back are of the same patches
 same_names : (list : List Named) (n : List ℕ) → has_patch (map Plain list) n ≡ has_patch (map Plain (inverse_all list)) n
 same_names [] n = refl
 same_names (p ∷ list) n =
     let called : List Named → List (List ℕ) = λ l. map name_of (map Plain l) in
-    ap (λ b. bytes_eq n p.name || b) (same_names list n) ∙ either_first (has_patch (map Plain (inverse_all list)) n) (bytes_eq n p.name) ∙ sym (list_any-append (bytes_eq n) (called (inverse_all list)) (p.name ∷ [])) ∙ ap (λ l. is_among l n) (sym (ap (map name_of) (map-append Plain (inverse_all list) (inverse_of p ∷ [])) ∙ map-append name_of (map Plain (inverse_all list)) (Plain (inverse_of p) ∷ []))) ∙ ap (λ l. is_among (called l) n) (sym (inverse_all-cons p list))
+    ap (λ b. bytes_eq n p.name || b) (same_names list n) ∙ or_comm (bytes_eq n p.name) (has_patch (map Plain (inverse_all list)) n) ∙ ap (λ b. has_patch (map Plain (inverse_all list)) n || b) (sym (or_none (bytes_eq n p.name))) ∙ sym (list_any-append (bytes_eq n) (called (inverse_all list)) (p.name ∷ [])) ∙ ap (λ l. is_among l n) (sym (ap (map name_of) (map-append Plain (inverse_all list) (inverse_of p ∷ [])) ∙ map-append name_of (map Plain (inverse_all list)) (Plain (inverse_of p) ∷ []))) ∙ ap (λ l. is_among (called l) n) (sym (inverse_all-cons p list))
+
+-- a patch that is among names exactly where it is not among others
+parted : (names others : List (List ℕ)) (p : Named) → is_among others p.name ≡ not (is_among names p.name) → IsEither names others p
+parted names others p opposite = record {
+  not_both = λ c d. true≢false (sym ((is_among_is others p.name).0 d) ∙ opposite ∙ ap not ((is_among_is names p.name).0 c));
+  one = λ never. (is_among_is names p.name).1 (true_from_ne_false (is_among names p.name) (λ e. never ((is_among_is others p.name).1 (opposite ∙ ap not e))));
+}
+
+twice : (b : Bool) → b ≡ not (not b)
+twice true = refl
+twice false = refl
 
 module _ (branch : List Catch) (names : List (List ℕ)) where
+  stays_if : (p : Named) → has_patch branch p.name ≡ true → is_among (other_names branch names) p.name ≡ not (is_among names p.name)
+  stays_if p has = among_others branch names p.name ∙ ap (λ b. b && not (is_among names p.name)) has
+
   -- a patch of a branch goes or stays
   goes_or_stays : (p : Named) → has_patch branch p.name ≡ true → IsEither names (other_names branch names) p
-  goes_or_stays p has = record {
-    not_both = λ c d. true≢false (sym ((is_among_is names p.name).0 c) ∙ (stays branch names p.name ((is_among_is (other_names branch names) p.name).0 d)).1);
-    one = λ never. elim (is_among names p.name) as (λ b. is_among names p.name ≡ b → Contains names p.name) [
-      | true ↦ λ e. (is_among_is names p.name).1 e
-      | false ↦ λ e. absurd (never ((is_among_is (other_names branch names) p.name).1 (stays_by branch names p.name has e)))
-    ] refl;
-  }
+  goes_or_stays p has = parted names (other_names branch names) p (stays_if p has)
 
   stays_or_goes : (p : Named) → has_patch branch p.name ≡ true → IsEither (other_names branch names) names p
-  stays_or_goes p has = record {
-    not_both = λ d c. true≢false (sym ((is_among_is names p.name).0 c) ∙ (stays branch names p.name ((is_among_is (other_names branch names) p.name).0 d)).1);
-    one = λ never. elim (is_among names p.name) as (λ b. is_among names p.name ≡ b → Contains (other_names branch names) p.name) [
-      | true ↦ λ e. absurd (never ((is_among_is names p.name).1 e))
-      | false ↦ λ e. (is_among_is (other_names branch names) p.name).1 (stays_by branch names p.name has e)
-    ] refl;
-  }
-
-  all_go_or_stay : (list : List Named) → AreOwn branch list → AreEither names (other_names branch names) list
-  all_go_or_stay [] own = tt
-  all_go_or_stay (p ∷ list) own = (goes_or_stays p own.0, all_go_or_stay list own.1)
-
-  all_stay_or_go : (list : List Named) → AreOwn branch list → AreEither (other_names branch names) names list
-  all_stay_or_go [] own = tt
-  all_stay_or_go (p ∷ list) own = (stays_or_goes p own.0, all_stay_or_go list own.1)
+  stays_or_goes p has =
+      parted (other_names branch names) names p (twice (is_among names p.name) ∙ ap not (sym (stays_if p has)))
 
 -- what can go in the list taken back comes to the front of the list, and back
 pub come_back : (forth : List Named) (names : List (List ℕ)) → CanGo (map Plain (inverse_all forth)) names → ComeToFront (map Plain forth) names
 come_back forth names can =
     let back : List Catch = map Plain (inverse_all forth) in
     let come = others_come back names can in
-    let taken = comes_taken_back names (other_names back names) (inverse_all forth) (all_go_or_stay back names (inverse_all forth) (own_primitives (inverse_all forth))) come.0 come.1 come.2 in
+    let taken = comes_taken_back names (other_names back names) (inverse_all forth) (all_are (goes_or_stays back names) (inverse_all forth) (own_primitives (inverse_all forth))) come.0 come.1 come.2 in
     (taken.0, taken.1, subst (λ l. Arrange names (map Plain l) taken.0 taken.1) (inverse_all-inverse_all forth) taken.2)
 
 pub go_back : (forth : List Named) (names : List (List ℕ)) → ComeToFront (map Plain forth) names → CanGo (map Plain (inverse_all forth)) names
 go_back forth names come =
     let back : List Catch = map Plain (inverse_all forth) in
-    let own = all_own (λ p has. sym (same_names forth p.name) ∙ has) forth (own_primitives forth) in
-    can_go back names (comes_taken_back (other_names back names) names forth (all_stay_or_go back names forth own) come.0 come.1 come.2)
+    let own = all_are (λ p has. sym (same_names forth p.name) ∙ has) forth (own_primitives forth) in
+    can_go back names (comes_taken_back (other_names back names) names forth (all_are (stays_or_goes back names) forth own) come.0 come.1 come.2)
 
 -- what names hold in the list taken back, they need in the list
 pub needed_as_held : (forth : List Named) (names grown : List (List ℕ)) → HasRoom forth → HasRoom (inverse_all forth) → GrowsToGo (map Plain (inverse_all forth)) names grown → GrowsToFront (map Plain forth) names grown

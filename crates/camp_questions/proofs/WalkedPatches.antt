@@ -1,14 +1,7 @@
 -- One walk over patches: those that are held go, and the others come before them.
-use Rattle.camp_questions.proofs.Words.{or_none, ◌≡◌, ℕ, true, false, not, ◌&&◌, ◌||◌, List, [], ◌∷◌, ◌++◌, map, Err, bytes_eq, get_or, length, take, drop, take_more, arith, zero, suc, ◌+◌, ◌<◌, ◌≤◌, refl, sym, ap, ◌∙◌, subst, inl, inr, append_assoc, insert, keys, Catch, ArrangesBehind, SticksBehind, AllByRecursion, has_patch, is_among, name_of, all_append, name_itself, or_parts, or_true, among_others, other_names, AreHeldIn, CanGo, ObliterateGives}
-use Rattle.std.proofs.lemmas.List.{take_all}
-use Rattle.std.proofs.lemmas.List.Elements.{All-from_recursion, All-get_or}
-use Rattle.camp_branch.proofs.BranchFields.{Names}
+use Rattle.camp_questions.proofs.Words.{or_none, ◌≡◌, ℕ, true, false, not, ◌&&◌, ◌||◌, List, [], ◌∷◌, ◌++◌, map, Err, bytes_eq, get_or, length, take, drop, take_more, arith, zero, suc, ◌+◌, ◌<◌, ◌≤◌, refl, sym, ap, ◌∙◌, subst, inl, inr, insert, keys, Catch, ArrangesBehind, SticksBehind, AllByRecursion, has_patch, is_among, name_of, all_append, name_itself, or_parts, or_true, among_others, other_names, AreHeldIn, CanGo, ObliterateGives, take_all, All-from_recursion, All-get_or, Names, PatchCatches, AreApart, AreOfPatch, ArePatches, catches_in_order, names_in_order, GrowsToGo, ComeBeforeAll, StickBehind, take-append-drop, flat_map-append, drop_more}
 use Rattle.camp_branch.specs.declared.faults.Blocked.TheVariants.{Depends}
-use Rattle.camp_questions.specs.declared.fast.patch_catches.PatchCatches.{PatchCatches}
-use Rattle.camp_questions.specs.Inside.ByPatch.{AreApart, AreOfPatch, ArePatches, catches_in_order, names_in_order}
 use Rattle.camp_questions.proofs.PatchesBack.{catches-append}
-use Rattle.camp_questions.specs.Inside.Growing.{GrowsToGo}
-use Rattle.camp_questions.specs.Inside.StandingAside.{ComeBeforeAll, StickBehind}
 use Rattle.camp_questions.proofs.BranchGrowths.{to_go}
 use Rattle.camp_questions.proofs.Growing.{IsGrownSoFar, all_grown, none_grown, one_grown, one_more}
 use Rattle.camp_questions.proofs.PartsArranged.{AgreeOn, arranged_alike, arranged_further, left_apart, sticks_alike, sticks_further, still_sticks, stuck_name}
@@ -120,47 +113,17 @@ all_there (k ∷ list) =
 
 -- the patches up to one, that one, and those behind it
 pub patches_parted : (patches : List PatchCatches) (i : ℕ) (p d : PatchCatches) → i < length patches → p ≡ get_or patches i d → catches_in_order patches ≡ catches_in_order (take i patches) ++ (p.catches.items ++ catches_in_order (drop (i + 1) patches))
-patches_parted [] i p d within is = absurd (omega (arith, within))
-patches_parted (q ∷ patches) zero p d within is =
-    ap (λ (x : PatchCatches). x.catches.items ++ catches_in_order patches) (sym is)
-patches_parted (q ∷ patches) (suc i) p d within is =
-    let next : suc (i + 1) ≡ suc i + 1 = omega arith in
-    ap (λ l. q.catches.items ++ l) (patches_parted patches i p d (omega (arith, within)) is) ∙ sym (append_assoc q.catches.items (catches_in_order (take i patches)) (p.catches.items ++ catches_in_order (drop (i + 1) patches))) ∙ ap (λ m. catches_in_order (take (suc i) (q ∷ patches)) ++ (p.catches.items ++ catches_in_order (drop m (q ∷ patches)))) next
+patches_parted patches i p d within is =
+    ap catches_in_order (sym (take-append-drop i patches)) ∙ flat_map-append (λ (patch : PatchCatches). patch.catches.items) (take i patches) (drop i patches) ∙ ap (λ l. catches_in_order (take i patches) ++ catches_in_order l) (drop_more patches i d within ∙ ap (λ x. x ∷ drop (i + 1) patches) (sym is))
 
 pub one_more_done : (patches : List PatchCatches) (i : ℕ) (p d : PatchCatches) → i < length patches → p ≡ get_or patches i d → catches_in_order (take (i + 1) patches) ≡ catches_in_order (take i patches) ++ p.catches.items
 one_more_done patches i p d within is =
     ap catches_in_order (take_more patches i d within ∙ ap (λ x. take i patches ++ x ∷ []) (sym is)) ∙ catches-append (take i patches) p
 
--- a patch of several, whose catches are of patches that the list has
-own_there : (all : List Catch) (name : List ℕ) (list : List Catch) → AreOfPatch name list → AllByRecursion (λ k. has_patch all (name_of k) ≡ true) list → AreThere all name list
-own_there all name list own has = both_are (λ k of there. (of, there)) list own has
-
 pub own_at : (patches : List PatchCatches) (i : ℕ) (p d : PatchCatches) → i < length patches → p ≡ get_or patches i d → AllByRecursion (λ (patch : PatchCatches). AreOfPatch patch.name patch.catches.items) patches → AreOfPatch p.name p.catches.items
 own_at patches i p d within is own =
     let P : PatchCatches → Type 0 = λ patch. AreOfPatch patch.name patch.catches.items in
     subst P (sym is) (All-get_or P patches i d within (All-from_recursion P patches own))
-
-module _ (patches : List PatchCatches) (are : ArePatches patches) (i : ℕ) (p d : PatchCatches) (within : i < length patches) (is : p ≡ get_or patches i d) where
-  abbrev whole : List Catch
-  whole = catches_in_order patches
-
-  abbrev done : List Catch
-  done = catches_in_order (take i patches)
-
-  pub own_of : AreOfPatch p.name p.catches.items
-  own_of = own_at patches i p d within is are.own
-
-  -- its catches are of a patch of the list
-  pub there_of : AreThere whole p.name p.catches.items
-  there_of =
-      let rest = p.catches.items ++ catches_in_order (drop (i + 1) patches) in
-      let all = subst (AllByRecursion (λ k. has_patch whole (name_of k) ≡ true)) (patches_parted patches i p d within is) (all_there whole) in
-      own_there whole p.name p.catches.items own_of (all_before (λ k. has_patch whole (name_of k) ≡ true) p.catches.items (catches_in_order (drop (i + 1) patches)) (all_behind (λ k. has_patch whole (name_of k) ≡ true) done rest all))
-
-  done_there : AllByRecursion (λ k. has_patch whole (name_of k) ≡ true) done
-  done_there =
-      let rest = p.catches.items ++ catches_in_order (drop (i + 1) patches) in
-      all_before (λ k. has_patch whole (name_of k) ≡ true) done rest (subst (AllByRecursion (λ k. has_patch whole (name_of k) ≡ true)) (patches_parted patches i p d within is) (all_there whole))
 
 not_one : (patches : List PatchCatches) (i : ℕ) (p d : PatchCatches) (name : List ℕ) → i < length patches → p ≡ get_or patches i d → is_among (names_in_order patches) name ≡ false → bytes_eq name p.name ≡ false
 not_one [] i p d name within is lacks = absurd (omega (arith, within))
@@ -177,36 +140,51 @@ apart_before (q ∷ patches) (suc i) p d within is are =
     let own = all_are (λ k called. ap (λ n. bytes_eq n p.name) called ∙ not_one patches i p d q.name (omega (arith, within)) is are.distinct.0) q.catches.items are.own.0 in
     all_append (λ k. bytes_eq (name_of k) p.name ≡ false) q.catches.items (catches_in_order (take i patches)) own (apart_before patches i p d (omega (arith, within)) is (record { own = are.own.1; distinct = are.distinct.1 }))
 
--- what goes so far is of other patches
-pub goes_apart : (patches : List PatchCatches) (i : ℕ) (p d : PatchCatches) (names held : List (List ℕ)) (going : List Catch) → i < length patches → p ≡ get_or patches i d → ArePatches patches → IsGrown (catches_in_order patches) names held (catches_in_order (take i patches)) going → AreApart p.name going
-goes_apart patches i p d names held going within is are so_far =
-    let walked = so_far.walked in
-    left_apart p.name (other_names (catches_in_order patches) held) (catches_in_order (take i patches)) walked.first going walked.arranged (apart_before patches i p d within is are)
+module _ (patches : List PatchCatches) (are : ArePatches patches) (i : ℕ) (p d : PatchCatches) (within : i < length patches) (is : p ≡ get_or patches i d) where
+  abbrev whole : List Catch
+  whole = catches_in_order patches
 
--- one more patch of several has been walked over
-module _ (patches : List PatchCatches) (are : ArePatches patches) (i : ℕ) (p d : PatchCatches) (within : i < length patches) (is : p ≡ get_or patches i d) (names : List (List ℕ)) (set : Names) (going : List Catch) where
-  abbrev all : List Catch
-  all = catches_in_order patches
+  abbrev done : List Catch
+  done = catches_in_order (take i patches)
 
-  abbrev before : List Catch
-  before = catches_in_order (take i patches)
+  pub own_of : AreOfPatch p.name p.catches.items
+  own_of = own_at patches i p d within is are.own
 
-  pub past_aside : (left : List Catch) → IsGrown all names (keys set) before going → is_among (keys set) p.name ≡ false → ComeBeforeAll p.name going p.catches.items left → IsGrown all names (keys set) (catches_in_order (take (i + 1) patches)) left
-  past_aside left so_far free come = record {
-    walked = subst (λ l. IsWalked all (keys set) l left) (sym (one_more_done patches i p d within is)) (walked_aside all (keys set) before going so_far.walked p.name p.catches.items (there_of patches are i p d within is) left free come);
-    grown = so_far.grown;
-  }
+  -- its catches are of a patch of the list
+  pub there_of : AreThere whole p.name p.catches.items
+  there_of =
+      let rest = p.catches.items ++ catches_in_order (drop (i + 1) patches) in
+      let all = subst (AllByRecursion (λ k. has_patch whole (name_of k) ≡ true)) (patches_parted patches i p d within is) (all_there whole) in
+      both_are (λ k of there. (of, there)) p.catches.items own_of (all_before (λ k. has_patch whole (name_of k) ≡ true) p.catches.items (catches_in_order (drop (i + 1) patches)) (all_behind (λ k. has_patch whole (name_of k) ≡ true) done rest all))
 
-  pub past_held : IsGrown all names (keys set) before going → is_among (keys set) p.name ≡ true → IsGrown all names (keys set) (catches_in_order (take (i + 1) patches)) (going ++ p.catches.items)
-  past_held so_far goes = record {
-    walked = subst (λ l. IsWalked all (keys set) l (going ++ p.catches.items)) (sym (one_more_done patches i p d within is)) (walked_on all (keys set) before going so_far.walked p.name p.catches.items (there_of patches are i p d within is) goes);
-    grown = so_far.grown;
-  }
+  done_there : AllByRecursion (λ k. has_patch whole (name_of k) ≡ true) done
+  done_there =
+      let rest = p.catches.items ++ catches_in_order (drop (i + 1) patches) in
+      all_before (λ k. has_patch whole (name_of k) ≡ true) done rest (subst (AllByRecursion (λ k. has_patch whole (name_of k) ≡ true)) (patches_parted patches i p d within is) (all_there whole))
 
-  pub past_stuck : (next : Names) → IsGrown all names (keys set) before going → is_among (keys set) p.name ≡ false → StickBehind p.name going p.catches.items → next ≡ insert set p.name tt → IsGrown all names (keys next) (catches_in_order (take (i + 1) patches)) (going ++ p.catches.items)
-  past_stuck next so_far free stuck becomes =
-      let apart = both_are (λ k has other. (has, other)) before (done_there patches are i p d within is) (apart_before patches i p d within is are) in
-      subst (λ l. IsGrown all names (keys next) l (going ++ p.catches.items)) (sym (one_more_done patches i p d within is)) (one_held all names set next before going p.catches.items (catches_in_order (drop (i + 1) patches)) p.name so_far (there_of patches are i p d within is) (patches_parted patches i p d within is) apart free stuck becomes)
+  -- one more patch of several is walked over
+  module _ (names : List (List ℕ)) (set : Names) (going : List Catch) (so_far : IsGrown whole names (keys set) done going) where
+    -- what goes so far is of other patches
+    pub goes_apart : AreApart p.name going
+    goes_apart =
+        left_apart p.name (other_names whole (keys set)) done so_far.walked.first going so_far.walked.arranged (apart_before patches i p d within is are)
+
+    pub past_aside : (left : List Catch) → is_among (keys set) p.name ≡ false → ComeBeforeAll p.name going p.catches.items left → IsGrown whole names (keys set) (catches_in_order (take (i + 1) patches)) left
+    past_aside left free come = record {
+      walked = subst (λ l. IsWalked whole (keys set) l left) (sym (one_more_done patches i p d within is)) (walked_aside whole (keys set) done going so_far.walked p.name p.catches.items there_of left free come);
+      grown = so_far.grown;
+    }
+
+    pub past_held : is_among (keys set) p.name ≡ true → IsGrown whole names (keys set) (catches_in_order (take (i + 1) patches)) (going ++ p.catches.items)
+    past_held goes = record {
+      walked = subst (λ l. IsWalked whole (keys set) l (going ++ p.catches.items)) (sym (one_more_done patches i p d within is)) (walked_on whole (keys set) done going so_far.walked p.name p.catches.items there_of goes);
+      grown = so_far.grown;
+    }
+
+    pub past_stuck : (next : Names) → is_among (keys set) p.name ≡ false → StickBehind p.name going p.catches.items → next ≡ insert set p.name tt → IsGrown whole names (keys next) (catches_in_order (take (i + 1) patches)) (going ++ p.catches.items)
+    past_stuck next free stuck becomes =
+        let apart = both_are (λ k has other. (has, other)) done done_there (apart_before patches i p d within is are) in
+        subst (λ l. IsGrown whole names (keys next) l (going ++ p.catches.items)) (sym (one_more_done patches i p d within is)) (one_held whole names set next done going p.catches.items (catches_in_order (drop (i + 1) patches)) p.name so_far there_of (patches_parted patches i p d within is) apart free stuck becomes)
 
 -- all have
 pub past_all : (patches : List PatchCatches) (i : ℕ) (names held : List (List ℕ)) (going : List Catch) → length patches ≤ i → IsGrown (catches_in_order patches) names held (catches_in_order (take i patches)) going → GrowsToGo (catches_in_order patches) names held

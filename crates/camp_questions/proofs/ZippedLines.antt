@@ -1,12 +1,7 @@
 -- Two lists item by item, and the lines that two sides of a hunk have in common.
-use Rattle.camp_questions.proofs.Words.{◌≡◌, ◌≤◌, ℕ, zero, suc, ◌+◌, ◌-◌, Bool, true, false, cond, List, [], ◌∷◌, ◌++◌, bytes_eq, drop, length, take, replicate, refl, sym, ap, ◌∙◌, subst, arith, append_assoc, drop-drop, drop_at, length-drop, length-take-le, take-append-drop, AllByRecursion, bytes_eq-Decides, Lines, Edit}
-use Rattle.std.proofs.lemmas.List.{length-reverse, reverse-append, reverse-reverse}
+use Rattle.camp_questions.proofs.Words.{◌≡◌, ◌≤◌, ℕ, zero, suc, ◌+◌, ◌-◌, List, [], ◌∷◌, ◌++◌, bytes_eq, drop, length, take, replicate, refl, sym, ap, ◌∙◌, subst, arith, append_assoc, drop-drop, drop_at, length-drop, length-take-le, take-append-drop, AllByRecursion, bytes_eq-Decides, Lines, Edit, length-reverse, reverse-append, reverse-reverse, AllZip, reverse, own_names, brought_by, common_end, common_front, cond_both}
 use Rattle.std.proofs.lemmas.Slice.Zip.{AllZip-long}
-use Rattle.std.specs.List.{AllZip}
-use Rattle.std.specs.Prelude.{reverse}
 use Rattle.camp_questions.proofs.CommonSteps.{end_within, end_within_too, front_within, front_within_too}
-use Rattle.camp_questions.specs.Annotations.{own_names}
-use Rattle.camp_questions.specs.CommonLines.{brought_by, common_end, common_front}
 
 module _ {A B : Type 0} (R : A → B → Type 0) where
   pub zipped_append : (xs ys : List A) (us vs : List B) → AllZip R xs us → AllZip R ys vs → AllZip R (xs ++ ys) (us ++ vs)
@@ -37,17 +32,11 @@ module _ {A B : Type 0} (R : A → B → Type 0) where
   zipped_replicate x us n e w =
       subst (λ m. AllZip R (replicate m x) us) e (one_for_all x us w)
 
-fronts_at : (x y : List ℕ) (lines others : Lines) (b : Bool) → bytes_eq x y ≡ b → take (common_front lines others) lines ≡ take (common_front lines others) others → take (cond b (suc (common_front lines others)) zero) (x ∷ lines) ≡ take (cond b (suc (common_front lines others)) zero) (y ∷ others)
-fronts_at x y lines others true e rest =
-    let head : x ≡ y = (bytes_eq-Decides x y).0 e in
-    λ i. head i ∷ rest i
-fronts_at x y lines others false e rest = refl
-
 -- what is common at the front of two lists of lines stands in both
 pub same_front : (lines others : Lines) → take (common_front lines others) lines ≡ take (common_front lines others) others
 same_front [] others = refl
 same_front (x ∷ lines) [] = refl
-same_front (x ∷ lines) (y ∷ others) = fronts_at x y lines others (bytes_eq x y) refl (same_front lines others)
+same_front (x ∷ lines) (y ∷ others) = cond_both (bytes_eq x y) (suc (common_front lines others)) zero (λ n. take n (x ∷ lines) ≡ take n (y ∷ others)) (λ e i. (bytes_eq-Decides x y).0 e i ∷ same_front lines others i) (λ e. refl)
 
 -- the last lines are the first ones of the reversed list
 last_lines : (lines : Lines) (n : ℕ) → drop (length lines - n) lines ≡ reverse (take n (reverse lines))

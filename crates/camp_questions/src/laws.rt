@@ -124,7 +124,7 @@ pub fn arrows_lead_backwards()
 
 /// What is foreseen of a call is what comes of it: the reply that it gets, and the tree and the conflicts
 /// of the branch that it writes to, as they are told right behind it.
-#[tactic(auto, using(crate::proofs::ForeseenCalls::foreseen_comes))]
+#[tactic(auto, using(crate::proofs::Foreseeing::foreseen_comes))]
 pub fn foreseen_comes()
     ensures law { ForeseenComes }
 {}

@@ -95,7 +95,11 @@ fn changes_of(alloc: Global, catches: &[Shared<Catch>]) -> Result<Vec<Primitive>
     Ok(changes)
 }
 
-fn append_changes(changes: &mut Vec<Primitive>, effect: &[Named]) -> Result<(), AllocError>
+/// Puts changes behind others, each without its label.
+pub(crate) fn append_changes(
+    changes: &mut Vec<Primitive>,
+    effect: &[Named],
+) -> Result<(), AllocError>
     ensures { OnOk result (changes.new.items ≡ changes.old.items ++ changes_in effect.now) }
 {
     for p in effect {

@@ -14,6 +14,7 @@ ghost use Rattle.camp_questions.specs.Sides.{AreSeen, ComesBehind, IsSide, IsSid
 use crate::Unanswered;
 use crate::finding::branch_with;
 use crate::passing::seen_before;
+use crate::showing::append_changes;
 use camp_base::Name;
 use camp_catch::{Catch, Conflictor};
 use camp_ctx::{Contexted, CtxSet};
@@ -72,9 +73,7 @@ fn changes_in(alloc: Global, side: &[Named]) -> Result<Vec<Primitive>, AllocErro
     ensures { IfOk result (λ changes. changes.items ≡ changes_in side.now) }
 {
     let mut changes = Vec::with_capacity(alloc, side.len())?;
-    for p in side {
-        changes.push(p.prim.try_clone()?)?;
-    }
+    append_changes(&mut changes, side)?;
     Ok(changes)
 }
 

@@ -5,8 +5,7 @@ use Rattle.camp_questions.proofs.annotations.annotate.Goals as goal
 
 pub returns-in_default : goal.returns-in_default
 returns-in_default c =
-    let branch : List Catch = c.in_ok-branch.branch.now in
-    record { exact = are_annotated c.args.state.now c.args.branch.now c.args.path.now branch c.tree.result.now _ c.in_ok-branch.ensures c.tree.ensures.exact (sym (ap (λ o. annotated o (names_of_lines c.args.path.now branch)) c.in_default.ensures.exact)) }
+    record { exact = are_annotated c.args.state.now c.args.branch.now c.args.path.now c.in_ok-branch.branch.now c.tree.result.now _ c.in_ok-branch.ensures c.tree.ensures.exact (sym (ap (λ o. annotated o (names_of_lines c.args.path.now c.in_ok-branch.branch.now)) c.in_default.ensures.exact)) }
 
 pub names_of_lines-requires : goal.names_of_lines-requires
 names_of_lines-requires c =
@@ -26,10 +25,8 @@ returns-in_err-lines c = record { exact = refused c.args.state.now c.args.branch
 
 pub returns : goal.returns
 returns c =
-    let branch : List Catch = c.in_ok-branch.branch.now in
     let names = c.in_ok-names.ensures ∙ ap (names_of_lines c.args.path.now) c.catches.ensures.value in
-    let lines = c.in_ok-lines.ensures in
     record {
-      exact = are_annotated c.args.state.now c.args.branch.now c.args.path.now branch c.tree.result.now _ c.in_ok-branch.ensures c.tree.ensures.exact
-          ((λ i. File (lines i) (names i)) ∙ sym (ap (λ o. annotated o (names_of_lines c.args.path.now branch)) c.in-Some.ensures.exact));
+      exact = are_annotated c.args.state.now c.args.branch.now c.args.path.now c.in_ok-branch.branch.now c.tree.result.now _ c.in_ok-branch.ensures c.tree.ensures.exact
+          ((λ i. File (c.in_ok-lines.ensures i) (names i)) ∙ sym (ap (λ o. annotated o (names_of_lines c.args.path.now c.in_ok-branch.branch.now)) c.in-Some.ensures.exact));
     }

@@ -1,6 +1,4 @@
-use Rattle.camp_questions.proofs.Words.{arith, sym, ◌∙◌}
-use Rattle.std.proofs.lemmas.List.{length-reverse}
-use Rattle.std.specs.Prelude.{reverse}
+use Rattle.camp_questions.proofs.Words.{arith, sym, ◌∙◌, length-reverse, reverse}
 use Rattle.camp_questions.proofs.CommonSteps.{end_within_too, first_ended, no_more_at_end, one_more_at_end, second_ended}
 use Rattle.camp_questions.proofs.common_lines.common_end.Goals as goal
 

@@ -1,6 +1,4 @@
-use Rattle.std.specs.Prelude.{reverse}
-use Rattle.camp_questions.proofs.Words.{◌≡◌, ◌+◌, drop}
-use Rattle.camp_questions.specs.CommonLines.{common_front}
+use Rattle.camp_questions.proofs.Words.{reverse, ◌≡◌, ◌+◌, drop, common_front}
 use Rattle.camp_questions.proofs.common_lines.common_end.Given as goal
 
 abbrev pub invariant-loop-at : goal.invariant-loop-at

@@ -1,5 +1,4 @@
-use Rattle.camp_questions.proofs.Words.{◌≡◌, ◌+◌, drop}
-use Rattle.camp_questions.specs.CommonLines.{common_front}
+use Rattle.camp_questions.proofs.Words.{◌≡◌, ◌+◌, drop, common_front}
 use Rattle.camp_questions.proofs.common_lines.common_front.Given as goal
 
 abbrev pub invariant-loop-at : goal.invariant-loop-at

@@ -1,10 +1,4 @@
-use Rattle.std.proofs.lemmas.Result.{IfOk-weaker}
-use Rattle.std.specs.Prelude.{reverse}
-use Rattle.camp_questions.proofs.Words.{List, ◌≡◌, ◌∙◌, subst, Catch, names_in}
-use Rattle.camp_questions.specs.Inside.ByPatch.{ArePatchesOf, catches_in_order}
-use Rattle.camp_questions.specs.Inside.Growing.{GrowsToFront, GrowsToGo}
-use Rattle.camp_questions.specs.Inside.TakingBack.{AreTakenBack}
-use Rattle.camp_questions.specs.declared.fast.patch_catches.PatchCatches.{PatchCatches}
+use Rattle.camp_questions.proofs.Words.{IfOk-weaker, reverse, ◌≡◌, ◌∙◌, subst, names_in, ArePatchesOf, catches_in_order, GrowsToFront, GrowsToGo, AreTakenBack}
 use Rattle.camp_questions.proofs.PatchesBack.{needed_taken_back, reversed}
 use Rattle.camp_questions.proofs.PatchesOfLists.{patches_there}
 use Rattle.camp_questions.proofs.dependencies.grown_to_front.Goals as goal
@@ -20,13 +14,10 @@ held_in-requires c =
 
 pub returns-in-Some : goal.returns-in-Some
 returns-in-Some c =
-    let branch : List Catch = c.args.branch.now in
-    let patches : List PatchCatches = c.in_ok-patches.patches.items in
-    let backs : List PatchCatches = c.in-Some.back.items in
     let names = names_in c.args.names in
-    let is : c.deref.result.now ≡ branch = c.deref.ensures.value ∙ c.in_ok-catches.ensures.exact ∙ c.catches-2.ensures.value in
-    let of = subst (λ l. ArePatchesOf l patches) is c.in_ok-patches.ensures in
-    let taken : AreTakenBack c.deref-3.result.now backs = rw c.in-Some.is at c.in_ok-back.ensures in
-    let taken_so = subst (λ l. AreTakenBack l backs) c.deref-3.ensures.value taken in
-    let turned : c.deref-in-Some.result.now ≡ reverse backs = c.deref-in-Some.ensures.value ∙ c.reverse.ensures.items in
-    IfOk-weaker c.held_in.result (λ grown. GrowsToGo (catches_in_order c.deref-in-Some.result.now) names (names_in grown)) (λ grown. GrowsToFront branch names (names_in grown)) (λ grown grows. needed_taken_back branch patches backs names (names_in grown) of taken_so (subst (λ l. GrowsToGo (catches_in_order l) names (names_in grown)) turned grows)) c.held_in.ensures
+    let is : c.deref.result.now ≡ c.args.branch.now = c.deref.ensures.value ∙ c.in_ok-catches.ensures.exact ∙ c.catches-2.ensures.value in
+    let of = subst (λ l. ArePatchesOf l c.in_ok-patches.patches.items) is c.in_ok-patches.ensures in
+    let taken : AreTakenBack c.deref-3.result.now c.in-Some.back.items = rw c.in-Some.is at c.in_ok-back.ensures in
+    let taken_so = subst (λ l. AreTakenBack l c.in-Some.back.items) c.deref-3.ensures.value taken in
+    let turned : c.deref-in-Some.result.now ≡ reverse c.in-Some.back.items = c.deref-in-Some.ensures.value ∙ c.reverse.ensures.items in
+    IfOk-weaker c.held_in.result (λ grown. GrowsToGo (catches_in_order c.deref-in-Some.result.now) names (names_in grown)) (λ grown. GrowsToFront c.args.branch.now names (names_in grown)) (λ grown grows. needed_taken_back c.args.branch.now c.in_ok-patches.patches.items c.in-Some.back.items names (names_in grown) of taken_so (subst (λ l. GrowsToGo (catches_in_order l) names (names_in grown)) turned grows)) c.held_in.ensures

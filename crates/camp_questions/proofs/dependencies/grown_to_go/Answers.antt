@@ -1,7 +1,4 @@
-use Rattle.std.proofs.lemmas.Result.{IfOk-weaker}
-use Rattle.camp_questions.proofs.Words.{List, ◌≡◌, ◌∙◌, ap, subst, Catch, names_in}
-use Rattle.camp_questions.specs.Inside.ByPatch.{catches_in_order}
-use Rattle.camp_questions.specs.Inside.Growing.{GrowsToGo}
+use Rattle.camp_questions.proofs.Words.{IfOk-weaker, ◌≡◌, ◌∙◌, ap, subst, names_in, catches_in_order, GrowsToGo}
 use Rattle.camp_questions.proofs.PatchesOfLists.{patches_there}
 use Rattle.camp_questions.proofs.dependencies.grown_to_go.Goals as goal
 
@@ -11,8 +8,7 @@ by_patch-requires c =
 
 pub returns : goal.returns
 returns c =
-    let branch : List Catch = c.args.branch.now in
-    let list : c.deref.result.now ≡ branch = c.deref.ensures.value ∙ c.in_ok-catches.ensures.exact ∙ c.catches-2.ensures.value in
+    let list : c.deref.result.now ≡ c.args.branch.now = c.deref.ensures.value ∙ c.in_ok-catches.ensures.exact ∙ c.catches-2.ensures.value in
     let names = names_in c.args.names in
-    let whole : catches_in_order c.deref-2.result.now ≡ branch = ap catches_in_order c.deref-2.ensures.value ∙ c.in_ok-patches.ensures.catches ∙ list in
-    IfOk-weaker c.held_in.result (λ grown. GrowsToGo (catches_in_order c.deref-2.result.now) names (names_in grown)) (λ grown. GrowsToGo branch names (names_in grown)) (λ grown grows. subst (λ l. GrowsToGo l names (names_in grown)) whole grows) c.held_in.ensures
+    let whole : catches_in_order c.deref-2.result.now ≡ c.args.branch.now = ap catches_in_order c.deref-2.ensures.value ∙ c.in_ok-patches.ensures.catches ∙ list in
+    IfOk-weaker c.held_in.result (λ grown. GrowsToGo (catches_in_order c.deref-2.result.now) names (names_in grown)) (λ grown. GrowsToGo c.args.branch.now names (names_in grown)) (λ grown grows. subst (λ l. GrowsToGo l names (names_in grown)) whole grows) c.held_in.ensures

@@ -19,6 +19,5 @@ returns-in_err-in_order c =
 pub returns : goal.returns
 returns c =
     let branch : List Catch = c.in_ok-branch.branch.now in
-    let told = c.in_ok-in_order.field-0 in
-    let grown = grown_in_order (map name_of branch) (CanGo branch) (AreHeldIn branch) (to_go branch) branch c.args.names.now (names_in c.in_ok-named.named) (names_in c.in_ok-held.held) told c.in_ok-named.ensures.exact c.in_ok-held.ensures c.in_ok-in_order.ensures in
-    record { exact = are_related HeldBy c.args.state.now c.args.branch.now c.args.names.now branch told c.in_ok-branch.ensures grown }
+    let grown = grown_in_order (map name_of branch) (CanGo branch) (AreHeldIn branch) (to_go branch) branch c.args.names.now (names_in c.in_ok-named.named) (names_in c.in_ok-held.held) c.in_ok-in_order.field-0 c.in_ok-named.ensures.exact c.in_ok-held.ensures c.in_ok-in_order.ensures in
+    record { exact = are_related HeldBy c.args.state.now c.args.branch.now c.args.names.now branch c.in_ok-in_order.field-0 c.in_ok-branch.ensures grown }

@@ -7,10 +7,7 @@ pub returns-in-Ok : goal.returns-in-Ok
 returns-in-Ok c =
     let branch : List Catch = c.args.list.now in
     let grown = names_in c.loop-grown.grown in
-    let front = c.in-Ok.ensures.exact in
-    let first : List Catch = c.in-Ok.field-0.first.items in
-    let rest : List Catch = c.in-Ok.field-0.rest.items in
-    let done : ComeToFront branch grown = (first, rest, front) in
+    let done : ComeToFront branch grown = (c.in-Ok.field-0.first.items, c.in-Ok.field-0.rest.items, c.in-Ok.ensures.exact) in
     all_grown (map name_of branch) (ComeToFront branch) (StickOn branch) (to_front branch) (names_in c.args.names) grown c.loop-grown.invariant done
 
 pub loop-grown-smaller : goal.loop-grown-smaller

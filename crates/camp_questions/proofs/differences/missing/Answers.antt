@@ -5,9 +5,8 @@ use Rattle.camp_questions.proofs.differences.missing.Goals as goal
 
 pub returns-in_err-names : goal.returns-in_err-names
 returns-in_err-names c =
-    let state = c.args.state.now in
-    let there = are_missing state c.args.from.now c.args.to.now c.in_ok-theirs.theirs.now c.in_ok-ours.ours.now (missing_in c.in_ok-ours.ours.now c.in_ok-theirs.theirs.now) c.in_ok-theirs.ensures c.in_ok-ours.ensures refl in
-    record { exact = memory_told (IsMissing state c.args.from.now c.args.to.now) c.from_residual-in_err-names.result (missing_in c.in_ok-ours.ours.now c.in_ok-theirs.theirs.now) c.from_residual-in_err-names.ensures.1 there }
+    let there = are_missing c.args.state.now c.args.from.now c.args.to.now c.in_ok-theirs.theirs.now c.in_ok-ours.ours.now (missing_in c.in_ok-ours.ours.now c.in_ok-theirs.theirs.now) c.in_ok-theirs.ensures c.in_ok-ours.ensures refl in
+    record { exact = memory_told (IsMissing c.args.state.now c.args.from.now c.args.to.now) c.from_residual-in_err-names.result (missing_in c.in_ok-ours.ours.now c.in_ok-theirs.theirs.now) c.from_residual-in_err-names.ensures.1 there }
 
 pub returns : goal.returns
 returns c =

@@ -1,5 +1,4 @@
-use Rattle.camp_questions.proofs.Words.{◌≡◌, drop}
-use Rattle.camp_questions.specs.GraphTexts.{is_pair_among}
+use Rattle.camp_questions.proofs.Words.{◌≡◌, drop, is_pair_among}
 use Rattle.camp_questions.proofs.graph_texts.is_among.Given as goal
 
 abbrev pub invariant-loop-other : goal.invariant-loop-other

@@ -1,9 +1,5 @@
-use Rattle.camp_questions.proofs.Words.{List, ◌∙◌, ap, map, subst, sym, Catch, IsGraphOf, IsErrAnd, Result, Some, ℕ, ◌≡◌, Tells, Unanswered, Memory, Drawn, Contents, catches_of, AreDistinct}
+use Rattle.camp_questions.proofs.Words.{List, ◌∙◌, ap, map, subst, sym, Catch, IsGraphOf, IsErrAnd, Result, Some, ℕ, ◌≡◌, Tells, Unanswered, Memory, Drawn, Contents, catches_of, AreDistinct, names_of_patches, node_in, NeedEach, needing, Needed}
 use Rattle.camp_questions.proofs.Answering.{memory_told}
-use Rattle.camp_branch.proofs.BranchLabels.{names_of_patches}
-use Rattle.camp_questions.specs.Inside.ByPlace.{node_in}
-use Rattle.camp_questions.specs.Inside.Graphing.{NeedEach, needing}
-use Rattle.camp_questions.specs.declared.needed.Needed.{Needed}
 use Rattle.camp_questions.proofs.GraphSteps.{drawn_in, graph_of_nodes, is_drawn, is_graph_of}
 use Rattle.camp_questions.proofs.graphs.graph.Goals as goal
 
@@ -31,18 +27,15 @@ nodes-requires-clause-named c =
 
 pub nodes-requires-clause-distinct : goal.nodes-requires-clause-distinct
 nodes-requires-clause-distinct c =
-    let branch : List Catch = c.in_ok-branch.branch.now in
     let lawful = c.catches.ensures.lawful in
-    subst AreDistinct (sym (c.deref-2.ensures.value ∙ c.in_ok-names.ensures.exact ∙ names_of_patches branch lawful.patches lawful.has)) lawful.has.distinct
+    subst AreDistinct (sym (c.deref-2.ensures.value ∙ c.in_ok-names.ensures.exact ∙ names_of_patches c.in_ok-branch.branch.now lawful.patches lawful.has)) lawful.has.distinct
 
 pub returns : goal.returns
 returns c =
     let branch : List Catch = c.in_ok-branch.branch.now in
-    let names : List (List ℕ) = c.in_ok-names.names.items in
-    let all = c.in_ok-all.all.items in
-    let each = subst (λ own. NeedEach branch own all) c.deref.ensures.value c.in_ok-all.ensures in
+    let each = subst (λ own. NeedEach branch own c.in_ok-all.all.items) c.deref.ensures.value c.in_ok-all.ensures in
     let drawn = c.in_ok-patches.ensures ∙ (λ i. map (node_in (c.deref-2.ensures.value i) (map (needing (c.deref-2.ensures.value i)) (c.deref-3.ensures.value i))) (map (needing (c.deref-2.ensures.value i)) (c.deref-3.ensures.value i))) in
     record {
       exact = is_graph_of c.args.state.now c.args.branch.now branch _ c.in_ok-branch.ensures
-          (graph_of_nodes branch names all c.in_ok-patches.patches.items c.in_ok-pairs.pairs.items c.new.result c.in_ok-names.ensures.exact each drawn c.in_ok-pairs.ensures.exact c.new.ensures.exact);
+          (graph_of_nodes branch c.in_ok-names.names.items c.in_ok-all.all.items c.in_ok-patches.patches.items c.in_ok-pairs.pairs.items c.new.result c.in_ok-names.ensures.exact each drawn c.in_ok-pairs.ensures.exact c.new.ensures.exact);
     }

@@ -1,4 +1,4 @@
-use Rattle.camp_questions.proofs.LeastNeeds.{needs_are_least as the_law}
+use Rattle.camp_questions.proofs.BranchGrowths.{needs_are_least as the_law}
 use Rattle.camp_questions.proofs.laws.needs_are_least.Goals as goal
 
 pub returns : goal.returns

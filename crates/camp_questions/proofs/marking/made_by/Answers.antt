@@ -1,5 +1,4 @@
-use Rattle.camp_questions.proofs.Words.{Files, subst, sym}
-use Rattle.camp_seq.specs.Running.{AppliesAll}
+use Rattle.camp_questions.proofs.Words.{Files, subst, sym, AppliesAll}
 use Rattle.camp_questions.proofs.MarkSteps.{makes_at}
 use Rattle.camp_questions.proofs.SidesApply.{side_applies}
 use Rattle.camp_questions.proofs.marking.made_by.Goals as goal

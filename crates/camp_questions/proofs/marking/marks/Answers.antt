@@ -1,18 +1,13 @@
-use Rattle.camp_questions.proofs.Words.{List, Catch, Files, ap, refl, ◌∙◌, subst, sym}
+use Rattle.camp_questions.proofs.Words.{List, Catch, Files, ap, refl, ◌∙◌, subst, sym, AreMarked, AreVersions, MarksAt, names_in_pairs, AreOpenAmong, with_marks}
 use Rattle.camp_questions.proofs.Answering.{are_marked, marks_not_refused, wants_memory}
 use Rattle.camp_questions.proofs.SidesApply.{all_valid}
-use Rattle.camp_questions.specs.Marks.{AreMarked, AreVersions, MarksAt, names_in_pairs}
-use Rattle.camp_questions.specs.OpenConflicts.{AreOpenAmong}
-use Rattle.camp_questions.specs.Places.{with_marks}
 use Rattle.camp_questions.specs.declared.marking.Marked.TheVariants as marked
 use Rattle.camp_questions.proofs.marking.marks.Goals as goal
 
 pub returns-in_default : goal.returns-in_default
 returns-in_default c =
-    let branch : List Catch = c.in_ok-branch.branch.now in
-    let tree : Files = c.tree-tree.result.now in
     record {
-      exact = are_marked c.args.state.now c.args.branch.now branch c.in_ok-branch.ensures c.args.path.now tree marked.NoFile c.tree-tree.ensures.exact (subst (λ o. MarksAt branch tree c.args.path.now o marked.NoFile) (sym c.in_default.ensures.exact) refl);
+      exact = are_marked c.args.state.now c.args.branch.now c.in_ok-branch.branch.now c.in_ok-branch.ensures c.args.path.now c.tree-tree.result.now marked.NoFile c.tree-tree.ensures.exact (subst (λ o. MarksAt c.in_ok-branch.branch.now c.tree-tree.result.now c.args.path.now o marked.NoFile) (sym c.in_default.ensures.exact) refl);
     }
 
 pub returns-in_err-seen : goal.returns-in_err-seen
@@ -44,15 +39,13 @@ returns c =
     let branch : List Catch = c.in_ok-branch.branch.now in
     let tree : Files = c.tree-tree.result.now in
     let path = c.args.path.now in
-    let lines = c.in-Some.lines.now in
     let seen = c.in_ok-seen.seen in
-    let pairs = c.in_ok-pairs.pairs.items in
-    let among = subst (λ l. AreOpenAmong l seen pairs) c.catches.ensures.value c.in_ok-pairs.ensures in
+    let among = subst (λ l. AreOpenAmong l seen c.in_ok-pairs.pairs.items) c.catches.ensures.value c.in_ok-pairs.ensures in
     let names = c.deref-2.ensures.value ∙ c.in_ok-names.ensures ∙ ap (names_in_pairs branch) c.deref.ensures.value in
-    let are = subst (λ l. AreVersions seen tree path lines l c.in_ok-versions.versions.items) names c.in_ok-versions.ensures in
-    let file = c.in_ok-file.ensures ∙ ap (with_marks lines) c.deref-3.ensures.value in
+    let are = subst (λ l. AreVersions seen tree path c.in-Some.lines.now l c.in_ok-versions.versions.items) names c.in_ok-versions.ensures in
+    let file = c.in_ok-file.ensures ∙ ap (with_marks c.in-Some.lines.now) c.deref-3.ensures.value in
     let told = marked.File c.in_ok-file.file in
     record {
       exact = are_marked c.args.state.now c.args.branch.now branch c.in_ok-branch.ensures path tree told c.tree-tree.ensures.exact
-          (subst (λ o. MarksAt branch tree path o told) (sym c.in-Some.ensures.exact) (c.in_ok-file.file, (seen, pairs, c.in_ok-versions.versions.items, c.in_ok-seen.ensures, among, are, file), refl));
+          (subst (λ o. MarksAt branch tree path o told) (sym c.in-Some.ensures.exact) (c.in_ok-file.file, (seen, c.in_ok-pairs.pairs.items, c.in_ok-versions.versions.items, c.in_ok-seen.ensures, among, are, file), refl));
     }

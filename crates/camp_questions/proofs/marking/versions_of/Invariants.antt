@@ -1,5 +1,4 @@
-use Rattle.camp_questions.proofs.Words.{take}
-use Rattle.camp_questions.specs.Marks.{AreVersions}
+use Rattle.camp_questions.proofs.Words.{take, AreVersions}
 use Rattle.camp_questions.proofs.marking.versions_of.Given as goal
 
 abbrev pub invariant-loop-name : goal.invariant-loop-name

@@ -1,9 +1,4 @@
-use Rattle.std.proofs.lemmas.Result.{IfOk-weaker}
-use Rattle.camp_questions.proofs.Words.{List, ◌≡◌, ◌∙◌, ap, subst, sym, ℕ, Catch, names_of}
-use Rattle.camp_questions.specs.Inside.ByPatch.{ArePatchesOf, names_in_order}
-use Rattle.camp_questions.specs.Inside.Graphing.{IsInverted, NeedEach}
-use Rattle.camp_questions.specs.Inside.TakingBack.{AreTakenBack}
-use Rattle.camp_questions.specs.declared.fast.patch_catches.PatchCatches.{PatchCatches}
+use Rattle.camp_questions.proofs.Words.{IfOk-weaker, List, ◌≡◌, ◌∙◌, ap, subst, sym, Catch, names_of, ArePatchesOf, names_in_order, IsInverted, NeedEach, AreTakenBack, PatchCatches}
 use Rattle.camp_questions.proofs.ReachedPatches.{are_inverted}
 use Rattle.camp_questions.proofs.PatchesOfLists.{patches_there}
 use Rattle.camp_questions.proofs.needed.all_needed.Goals as goal
@@ -26,13 +21,12 @@ all_reached-requires c =
 pub returns-in-Some : goal.returns-in-Some
 returns-in-Some c =
     let branch : List Catch = c.args.branch.now in
-    let names : List (List ℕ) = c.args.names.now in
     let given : List PatchCatches = c.deref-in-Some.result.now in
     let is : c.deref.result.now ≡ branch = c.deref.ensures.value ∙ c.in_ok-catches.ensures.exact ∙ c.catches-2.ensures.value in
     let taken : AreTakenBack c.deref-3.result.now c.in-Some.back.items = rw c.in-Some.is at c.in_ok-back.ensures in
     let back = inverted branch c.deref.result.now c.in_ok-patches.patches.items c.deref-3.result.now c.in-Some.back.items given is c.in_ok-patches.ensures c.deref-3.ensures.value taken c.deref-in-Some.ensures.value in
-    let called : names_in_order given ≡ names = back.names ∙ sym c.requires in
-    IfOk-weaker c.all_reached.result (λ all. (b : List Catch) → IsInverted b given → NeedEach b (names_in_order given) all.items) (λ all. NeedEach branch names all.items) (λ all each. subst (λ n. NeedEach branch n all.items) called (each branch back)) c.all_reached.ensures
+    let called : names_in_order given ≡ c.args.names.now = back.names ∙ sym c.requires in
+    IfOk-weaker c.all_reached.result (λ all. (b : List Catch) → IsInverted b given → NeedEach b (names_in_order given) all.items) (λ all. NeedEach branch c.args.names.now all.items) (λ all each. subst (λ n. NeedEach branch n all.items) called (each branch back)) c.all_reached.ensures
 
 pub all_stuck-requires : goal.all_stuck-requires
 all_stuck-requires c =

@@ -1,7 +1,4 @@
-use Rattle.camp_questions.proofs.Words.{List, ◌++◌, [], ◌∷◌, ◌∙◌, ap, arith, refl, ℕ, Catch, is_among, names_in}
-use Rattle.std.proofs.lemmas.List.{take_all}
-use Rattle.camp_repo.proofs.ByMembers.{AreAlike}
-use Rattle.camp_questions.specs.declared.needed.Needed.{Needed}
+use Rattle.camp_questions.proofs.Words.{List, ◌++◌, [], ◌∷◌, ◌∙◌, ap, arith, refl, ℕ, is_among, names_in, take_all, AreAlike, Needed}
 use Rattle.camp_questions.proofs.GraphSteps.{all_needed, grown_needs, none_needed, one_needed}
 use Rattle.camp_questions.proofs.needed.all_stuck.Goals as goal
 
@@ -11,13 +8,11 @@ loop-name-init c = none_needed c.args.catches.now c.args.names.now c.in_ok-all.a
 pub loop-name-preserved : goal.loop-name-preserved
 loop-name-preserved c =
     let names : List (List ℕ) = c.args.names.now in
-    let list : List Catch = c.args.catches.now in
     let name : List ℕ = c.name-item.result in
-    let all = c.loop-name.all.items in
     let one : Needed = record { name = name; needs = c.in_ok-needs.needs } in
     let alike : AreAlike (names_in c.in_ok-named.named) (name ∷ []) = λ n. c.in_ok-named.ensures.exact n ∙ ap (λ l. is_among l n) c.from_ref.ensures.value in
-    let needs = grown_needs list names name (names_in c.in_ok-named.named) (names_in c.in_ok-grown.grown) one c.requires alike c.in_ok-grown.ensures refl c.in_ok-needs.ensures in
-    rw c.in_ok-push.ensures.items (one_needed list names names c.loop-name.name-index name name all (all ++ one ∷ []) one (omega arith) c.name-item.is c.loop-name.invariant needs refl refl)
+    let needs = grown_needs c.args.catches.now names name (names_in c.in_ok-named.named) (names_in c.in_ok-grown.grown) one c.requires alike c.in_ok-grown.ensures refl c.in_ok-needs.ensures in
+    rw c.in_ok-push.ensures.items (one_needed c.args.catches.now names names c.loop-name.name-index name name c.loop-name.all.items (c.loop-name.all.items ++ one ∷ []) one (omega arith) c.name-item.is c.loop-name.invariant needs refl refl)
 
 pub returns : goal.returns
 returns c =

@@ -1,5 +1,4 @@
-use Rattle.camp_questions.proofs.Words.{List, Bool, ◌≡◌, ◌+◌, ◌++◌, [], ◌∷◌, ◌∙◌, ap, arith, map, map-append, slice_cmp, nat_cmp, map_of, sym, take, take_more, ℕ, has_listed, is_among, names_in}
-use Rattle.std.proofs.lemmas.List.{take_all}
+use Rattle.camp_questions.proofs.Words.{List, Bool, ◌≡◌, ◌+◌, ◌++◌, [], ◌∷◌, ◌∙◌, ap, arith, map, map-append, slice_cmp, nat_cmp, map_of, sym, take, take_more, ℕ, has_listed, is_among, names_in, take_all}
 use Rattle.camp_questions.proofs.needed.marks_of.Goals as goal
 
 pub loop-name-preserved : goal.loop-name-preserved

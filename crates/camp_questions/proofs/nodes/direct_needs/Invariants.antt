@@ -1,5 +1,4 @@
-use Rattle.camp_questions.proofs.Words.{◌≡◌, ◌≤◌, drop, filter, length}
-use Rattle.camp_questions.specs.Inside.ByPlace.{AreSettled, up_to}
+use Rattle.camp_questions.proofs.Words.{◌≡◌, ◌≤◌, drop, filter, length, AreSettled, up_to}
 use Rattle.camp_questions.proofs.PlacedNeeds.{left_over}
 use Rattle.camp_questions.proofs.nodes.direct_needs.Given as goal
 

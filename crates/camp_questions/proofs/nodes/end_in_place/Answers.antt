@@ -1,5 +1,4 @@
-use Rattle.camp_questions.proofs.Words.{◌≡◌, ◌∙◌, ap, arith, length, sym}
-use Rattle.camp_questions.specs.declared.needed.Needed.{Needed}
+use Rattle.camp_questions.proofs.Words.{◌≡◌, ◌∙◌, ap, arith, length, sym, Needed}
 use Rattle.camp_questions.proofs.PlacedNeeds.{one_ends}
 use Rattle.camp_questions.proofs.nodes.end_in_place.Goals as goal
 

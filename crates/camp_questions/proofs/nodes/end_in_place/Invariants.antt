@@ -1,5 +1,4 @@
-use Rattle.camp_questions.proofs.Words.{ℕ, ◌+◌, ◌<◌, ◌≤◌, get_or, length}
-use Rattle.camp_questions.specs.declared.needed.Needed.{Needed}
+use Rattle.camp_questions.proofs.Words.{ℕ, ◌+◌, ◌<◌, ◌≤◌, get_or, length, Needed}
 use Rattle.camp_questions.proofs.nodes.end_in_place.Given as goal
 
 abbrev pub invariant-loop-at : goal.invariant-loop-at

@@ -1,15 +1,12 @@
-use Rattle.camp_questions.proofs.Words.{◌≡◌, ◌-◌, ◌∙◌, arith, length, sym}
-use Rattle.std.specs.Prelude.{min}
-use Rattle.camp_questions.specs.Inside.ByPlace.{needs_place}
+use Rattle.camp_questions.proofs.Words.{◌-◌, ◌∙◌, arith, sym, needs_place}
 use Rattle.camp_questions.proofs.PlacedNeeds.{none_behind, none_from}
 use Rattle.camp_questions.proofs.nodes.end_of_needed.Goals as goal
 
 pub loop-end-init : goal.loop-end-init
 loop-end-init c =
-    let least : c.min-end.result ≡ min (length c.args.marks.now) c.args.count = c.min-end.ensures in
     record {
-      within = omega (arith, least);
-      none = λ k far less. none_behind c.args.marks.now c.args.at k (omega (arith, least, far, less));
+      within = omega (arith, c.min-end.ensures);
+      none = λ k far less. none_behind c.args.marks.now c.args.at k (omega (arith, c.min-end.ensures, far, less));
     }
 
 pub loop-end-preserved : goal.loop-end-preserved

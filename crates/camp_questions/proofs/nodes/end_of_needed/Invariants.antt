@@ -1,5 +1,4 @@
-use Rattle.camp_questions.proofs.Words.{◌≡◌, ℕ, ◌<◌, ◌≤◌, false}
-use Rattle.camp_questions.specs.Inside.ByPlace.{needs_place}
+use Rattle.camp_questions.proofs.Words.{◌≡◌, ℕ, ◌<◌, ◌≤◌, false, needs_place}
 use Rattle.camp_questions.proofs.nodes.end_of_needed.Given as goal
 
 abbrev pub invariant-loop-end : goal.invariant-loop-end

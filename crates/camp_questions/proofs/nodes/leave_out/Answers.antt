@@ -1,12 +1,10 @@
-use Rattle.camp_questions.proofs.Words.{rules, Bool, ℕ, arith, not, sym, filter_same}
-use Rattle.camp_questions.specs.Inside.ByPlace.{needs_place}
+use Rattle.camp_questions.proofs.Words.{rules, Bool, ℕ, arith, not, sym, filter_same, needs_place}
 use Rattle.camp_questions.proofs.PlacedNeeds.{ends_before}
 use Rattle.camp_questions.proofs.nodes.leave_out.Goals as goal
 
 pub returns-then-marks-index : goal.returns-then-marks-index
 returns-then-marks-index c =
-    let past = c.if-marks-index.true in
-    sym (ends_before c.args.marks.now c.args.at c.args.places.now.items c.index.result.now c.index.ensures (omega (arith, past)) c.requires)
+    sym (ends_before c.args.marks.now c.args.at c.args.places.now.items c.index.result.now c.index.ensures (omega (arith, c.if-marks-index.true)) c.requires)
 
 pub returns : goal.returns
 returns c =

@@ -1,5 +1,4 @@
-use Rattle.camp_questions.proofs.Words.{◌≡◌, map, take}
-use Rattle.camp_questions.specs.Inside.ByPlace.{name_at}
+use Rattle.camp_questions.proofs.Words.{◌≡◌, map, take, name_at}
 use Rattle.camp_questions.proofs.nodes.names_at.Given as goal
 
 abbrev pub invariant-loop-place : goal.invariant-loop-place

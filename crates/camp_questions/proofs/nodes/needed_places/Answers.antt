@@ -1,5 +1,4 @@
-use Rattle.camp_questions.proofs.Words.{◌≡◌, ◌++◌, [], ◌∷◌, ◌∙◌, Bool, true, false, ap, append-nil, cond, filter, sym, ℕ}
-use Rattle.camp_questions.specs.Inside.ByPlace.{needs_place, up_to}
+use Rattle.camp_questions.proofs.Words.{◌≡◌, ◌++◌, [], ◌∷◌, ◌∙◌, Bool, true, false, ap, append-nil, cond, filter, sym, ℕ, needs_place, up_to}
 use Rattle.camp_questions.proofs.PlacedNeeds.{one_more_place}
 use Rattle.camp_questions.proofs.nodes.needed_places.Goals.{else-needs, then-needs+in_ok-push}
 use Rattle.camp_questions.proofs.nodes.needed_places.Goals as goal

@@ -1,5 +1,4 @@
-use Rattle.camp_questions.proofs.Words.{◌≡◌, filter}
-use Rattle.camp_questions.specs.Inside.ByPlace.{needs_place, up_to}
+use Rattle.camp_questions.proofs.Words.{◌≡◌, filter, needs_place, up_to}
 use Rattle.camp_questions.proofs.nodes.needed_places.Given as goal
 
 abbrev pub invariant-loop-place : goal.invariant-loop-place

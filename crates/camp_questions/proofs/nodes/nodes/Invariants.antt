@@ -1,6 +1,4 @@
-use Rattle.camp_questions.proofs.Words.{◌≡◌, map, take}
-use Rattle.camp_questions.specs.Inside.ByPlace.{node_in}
-use Rattle.camp_questions.specs.Inside.Graphing.{needing}
+use Rattle.camp_questions.proofs.Words.{◌≡◌, map, take, node_in, needing}
 use Rattle.camp_questions.proofs.nodes.nodes.Given as goal
 
 abbrev pub invariant-loop-at : goal.invariant-loop-at

@@ -1,6 +1,4 @@
-use Rattle.camp_questions.proofs.Words.{ap, ◌∙◌}
-use Rattle.camp_branch.proofs.ConflictsDetermined.{some_member}
-use Rattle.camp_ctx.proofs.SetSteps.{members_of}
+use Rattle.camp_questions.proofs.Words.{ap, ◌∙◌, some_member, members_of}
 use Rattle.camp_questions.proofs.OpenPairs.{all_open, one_more_open}
 use Rattle.camp_questions.proofs.open_conflicts.collect_members.Goals.{in-Some+in_ok-collect_member, in_default}
 use Rattle.camp_questions.proofs.open_conflicts.collect_members.Goals as goal

@@ -1,6 +1,5 @@
-use Rattle.camp_questions.proofs.Words.{List, Catch, Ok, sym, subst}
+use Rattle.camp_questions.proofs.Words.{Ok, sym, subst, AreOpen, AreOpenAmong}
 use Rattle.camp_questions.proofs.Answering.{are_open, open_not_refused, wants_memory}
-use Rattle.camp_questions.specs.OpenConflicts.{AreOpen, AreOpenAmong}
 use Rattle.camp_questions.proofs.open_conflicts.open_pairs.Goals as goal
 
 pub returns-in_err-seen : goal.returns-in_err-seen
@@ -13,6 +12,5 @@ returns-in_err-pairs c =
 
 pub returns : goal.returns
 returns c =
-    let branch : List Catch = c.in_ok-branch.branch.now in
     let among = subst (λ l. AreOpenAmong l c.in_ok-seen.seen c.in_ok-pairs.pairs.items) c.catches.ensures.value c.in_ok-pairs.ensures in
-    record { exact = subst (λ pairs. AreOpen c.args.state.now c.args.branch.now (Ok pairs)) (sym c.new.ensures.exact) (are_open c.args.state.now c.args.branch.now branch c.in_ok-branch.ensures c.in_ok-pairs.pairs.items (c.in_ok-seen.seen, c.in_ok-seen.ensures, among)) }
+    record { exact = subst (λ pairs. AreOpen c.args.state.now c.args.branch.now (Ok pairs)) (sym c.new.ensures.exact) (are_open c.args.state.now c.args.branch.now c.in_ok-branch.branch.now c.in_ok-branch.ensures c.in_ok-pairs.pairs.items (c.in_ok-seen.seen, c.in_ok-seen.ensures, among)) }

@@ -1,6 +1,4 @@
-use Rattle.camp_questions.proofs.Words.{sym, ◌∙◌, subst, true≢false}
-use Rattle.std.proofs.lemmas.Option.{IfSome_then}
-use Rattle.camp_prim.specs.Effect.{InRange}
+use Rattle.camp_questions.proofs.Words.{sym, ◌∙◌, subst, true≢false, IfSome_then, InRange}
 use Rattle.camp_questions.proofs.PassedChanges.{passes_elsewhere, passes_hunk}
 use Rattle.camp_questions.proofs.passing.line_before.Goals as goal
 
@@ -10,10 +8,5 @@ returns-then-not-is_in_file-clause-passes c =
 
 pub returns-in-Hunk-clause-passes : goal.returns-in-Hunk-clause-passes
 returns-in-Hunk-clause-passes c =
-    let change = c.args.change.now in
-    let patch = c.args.patch.now in
-    let hunk = c.args.hunk.now in
-    let line = c.args.line in
-    let other = c.in-Hunk.other in
     let own = subst InRange c.in-Hunk.is c.is_in_file.ensures.range in
-    IfSome_then c.line_past.result c.line_past.ensures (λ next passes. passes_hunk change patch other hunk line next (c.is_other.ensures c.if-not-is_other.false) c.in-Hunk.is own c.requires passes)
+    IfSome_then c.line_past.result c.line_past.ensures (λ next passes. passes_hunk c.args.change.now c.args.patch.now c.in-Hunk.other c.args.hunk.now c.args.line next (c.is_other.ensures c.if-not-is_other.false) c.in-Hunk.is own c.requires passes)

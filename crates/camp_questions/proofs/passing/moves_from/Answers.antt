@@ -1,7 +1,5 @@
-use Rattle.camp_questions.proofs.Words.{◌≡◌, ◌+◌, ◌-◌, arith}
-use Rattle.camp_ctx.specs.Contexts.{bare}
+use Rattle.camp_questions.proofs.Words.{◌≡◌, ◌+◌, ◌-◌, arith, bare, hunk_at}
 use Rattle.camp_questions.proofs.PassedChanges.{at_first, in_range_there, one_more_added, swaps_by}
-use Rattle.camp_questions.specs.Inside.Moving.{hunk_at}
 use Rattle.camp_questions.proofs.passing.moves_from.Goals as goal
 
 pub loop-at-init : goal.loop-at-init
@@ -14,12 +12,9 @@ pub loop-at-preserved : goal.loop-at-preserved
 loop-at-preserved c =
     let patch = c.args.patch.now in
     let hunk = c.args.hunk.now in
-    let a = c.index-changes-at.result in
-    let next = c.in-Some.next in
-    let passes = c.in-Some.ensures.passes in
     let follows : c.loop-at.at - 1 + 1 ≡ c.loop-at.at = omega arith in
     record {
       range = c.in-Some.ensures.range;
-      added = one_more_added c.args.changes.now (c.loop-at.at - 1) c.loop-at.at a (bare patch) (bare (hunk_at patch hunk c.loop-at.line)) (bare (hunk_at patch hunk next)) follows (omega arith) c.index-changes-at.is c.loop-at.invariant.added
-          (swaps_by a (hunk_at patch hunk c.loop-at.line) (hunk_at patch hunk next) passes.0 passes.1);
+      added = one_more_added c.args.changes.now (c.loop-at.at - 1) c.loop-at.at c.index-changes-at.result (bare patch) (bare (hunk_at patch hunk c.loop-at.line)) (bare (hunk_at patch hunk c.in-Some.next)) follows (omega arith) c.index-changes-at.is c.loop-at.invariant.added
+          (swaps_by c.index-changes-at.result (hunk_at patch hunk c.loop-at.line) (hunk_at patch hunk c.in-Some.next) c.in-Some.ensures.passes.0 c.in-Some.ensures.passes.1);
     }

@@ -1,5 +1,4 @@
-use Rattle.camp_questions.proofs.Words.{◌≤◌, drop, length}
-use Rattle.camp_ctx.specs.Adding.{AddsAll}
+use Rattle.camp_questions.proofs.Words.{◌≤◌, drop, length, AddsAll}
 use Rattle.camp_questions.proofs.passing.seen_before.Given as goal
 
 abbrev pub invariant-loop-left : goal.invariant-loop-left

@@ -1,5 +1,4 @@
-use Rattle.camp_questions.proofs.Words.{drop}
-use Rattle.camp_ctx.specs.Adding.{AddsAll}
+use Rattle.camp_questions.proofs.Words.{drop, AddsAll}
 use Rattle.camp_questions.proofs.passing.stays_from.Given as goal
 
 abbrev pub invariant-loop-at : goal.invariant-loop-at

@@ -1,5 +1,4 @@
-use Rattle.camp_questions.proofs.Words.{rules, ◌∙◌, ap, filter, filter_same}
-use Rattle.camp_branch.specs.Fields.{has_name}
+use Rattle.camp_questions.proofs.Words.{rules, ◌∙◌, ap, filter, filter_same, has_name}
 use Rattle.camp_questions.proofs.pictures.kept_names.Goals as goal
 
 pub returns : goal.returns

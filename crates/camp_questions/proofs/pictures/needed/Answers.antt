@@ -1,6 +1,5 @@
-use Rattle.camp_questions.proofs.Words.{◌≡◌, ◌+◌, ◌-◌, ◌∙◌, ap, arith, drop, drop_all, sym}
+use Rattle.camp_questions.proofs.Words.{◌≡◌, ◌+◌, ◌-◌, ◌∙◌, ap, arith, drop, drop_all, sym, with_needs}
 use Rattle.camp_questions.proofs.Picturing.{one_brought}
-use Rattle.camp_questions.specs.Pictures.{with_needs}
 use Rattle.camp_questions.proofs.pictures.needed.Goals as goal
 
 pub loop-at-init : goal.loop-at-init
@@ -9,9 +8,8 @@ loop-at-init c =
 
 pub loop-at-preserved : goal.loop-at-preserved
 loop-at-preserved c =
-    let node = c.index-nodes-at.result in
     let follows : c.loop-at.at - 1 + 1 ≡ c.loop-at.at = omega arith in
-    one_brought c.args.nodes.now (c.loop-at.at - 1) c.loop-at.at node node c.args.names.now c.loop-at.needed.items c.bring_needs.new.names.items follows (omega arith) c.index-nodes-at.is c.loop-at.invariant c.in_ok-bring_needs.ensures
+    one_brought c.args.nodes.now (c.loop-at.at - 1) c.loop-at.at c.index-nodes-at.result c.index-nodes-at.result c.args.names.now c.loop-at.needed.items c.bring_needs.new.names.items follows (omega arith) c.index-nodes-at.is c.loop-at.invariant c.in_ok-bring_needs.ensures
 
 pub returns : goal.returns
 returns c =

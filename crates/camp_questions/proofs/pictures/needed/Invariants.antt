@@ -1,5 +1,4 @@
-use Rattle.camp_questions.proofs.Words.{◌≡◌, drop}
-use Rattle.camp_questions.specs.Pictures.{with_needs}
+use Rattle.camp_questions.proofs.Words.{◌≡◌, drop, with_needs}
 use Rattle.camp_questions.proofs.pictures.needed.Given as goal
 
 abbrev pub invariant-loop-at : goal.invariant-loop-at

@@ -1,6 +1,5 @@
-use Rattle.camp_questions.proofs.Words.{◌∙◌, ap, arith, drop_all, sym}
+use Rattle.camp_questions.proofs.Words.{◌∙◌, ap, arith, drop_all, sym, with_needing}
 use Rattle.camp_questions.proofs.Picturing.{one_joined}
-use Rattle.camp_questions.specs.Pictures.{with_needing}
 use Rattle.camp_questions.proofs.pictures.needing.Goals as goal
 
 pub loop-node-init : goal.loop-node-init

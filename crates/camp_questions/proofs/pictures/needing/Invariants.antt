@@ -1,5 +1,4 @@
-use Rattle.camp_questions.proofs.Words.{◌≡◌, drop}
-use Rattle.camp_questions.specs.Pictures.{with_needing}
+use Rattle.camp_questions.proofs.Words.{◌≡◌, drop, with_needing}
 use Rattle.camp_questions.proofs.pictures.needing.Given as goal
 
 abbrev pub invariant-loop-node : goal.invariant-loop-node

@@ -1,6 +1,6 @@
 use Rattle.camp_questions.proofs.Answering.{wants_memory}
 use Rattle.camp_questions.proofs.Picturing.{is_pictured, picture_not_refused}
-use Rattle.camp_questions.specs.Pictures.{IsPictured}
+use Rattle.camp_questions.proofs.Words.{IsPictured}
 use Rattle.camp_questions.proofs.pictures.picture_of.Goals as goal
 
 pub returns-in_err-picture : goal.returns-in_err-picture

@@ -1,6 +1,4 @@
-use Rattle.camp_questions.proofs.Words.{◌≡◌, filter, take}
-use Rattle.std.specs.List.{fold}
-use Rattle.camp_questions.specs.Places.{joined, touch}
+use Rattle.camp_questions.proofs.Words.{◌≡◌, filter, take, fold, joined, touch}
 use Rattle.camp_questions.proofs.places.joined_with.Given as goal
 
 abbrev pub invariant-loop-place : goal.invariant-loop-place

@@ -1,6 +1,4 @@
-use Rattle.camp_questions.proofs.Words.{Bool, rules, ap, ◌∙◌, filter, filter_same}
-use Rattle.std.specs.Prelude.{nat_lt}
-use Rattle.camp_questions.specs.declared.places.Range.{Range}
+use Rattle.camp_questions.proofs.Words.{Bool, rules, ap, ◌∙◌, filter, filter_same, nat_lt, Range}
 use Rattle.camp_questions.proofs.places.places_behind.Goals as goal
 
 pub returns : goal.returns

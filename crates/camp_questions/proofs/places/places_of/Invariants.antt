@@ -1,6 +1,4 @@
-use Rattle.camp_questions.proofs.Words.{◌≡◌, [], take}
-use Rattle.std.specs.List.{fold}
-use Rattle.camp_questions.specs.Places.{with_range}
+use Rattle.camp_questions.proofs.Words.{◌≡◌, [], take, fold, with_range}
 use Rattle.camp_questions.proofs.places.places_of.Given as goal
 
 abbrev pub invariant-loop-range : goal.invariant-loop-range

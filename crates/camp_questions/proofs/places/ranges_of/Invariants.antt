@@ -1,6 +1,4 @@
-use Rattle.camp_questions.proofs.Words.{◌≡◌, map, take}
-use Rattle.camp_questions.specs.Places.{range_of}
-use Rattle.camp_questions.specs.declared.marking.Version.{Version}
+use Rattle.camp_questions.proofs.Words.{◌≡◌, map, take, range_of, Version}
 use Rattle.camp_questions.proofs.places.ranges_of.Given as goal
 
 abbrev pub invariant-loop-version : goal.invariant-loop-version

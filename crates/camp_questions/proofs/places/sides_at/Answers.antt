@@ -1,6 +1,5 @@
-use Rattle.camp_questions.proofs.Words.{arith, get_or, refl}
+use Rattle.camp_questions.proofs.Words.{arith, get_or, refl, Range}
 use Rattle.camp_questions.proofs.PlaceSteps.{one_more_side, range_there}
-use Rattle.camp_questions.specs.declared.places.Range.{Range}
 use Rattle.camp_questions.proofs.places.sides_at.Goals as goal
 
 pub loop-at-preserved : goal.loop-at-preserved

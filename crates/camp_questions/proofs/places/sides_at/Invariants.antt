@@ -1,5 +1,4 @@
-use Rattle.camp_questions.proofs.Words.{◌≡◌, filter, map, take}
-use Rattle.camp_questions.specs.Places.{at_place, differs_within}
+use Rattle.camp_questions.proofs.Words.{◌≡◌, filter, map, take, at_place, differs_within}
 use Rattle.camp_questions.proofs.places.sides_at.Given as goal
 
 abbrev pub invariant-loop-at : goal.invariant-loop-at

@@ -1,8 +1,5 @@
-use Rattle.camp_questions.proofs.Words.{[], ◌∙◌, ap, arith, get_or, refl}
-use Rattle.std.specs.List.{fold}
+use Rattle.camp_questions.proofs.Words.{[], ◌∙◌, ap, arith, get_or, refl, fold, file_from, with_range, Range}
 use Rattle.camp_questions.proofs.PlaceSteps.{all_places, behind_places, file_of, one_more_place, rest_from}
-use Rattle.camp_questions.specs.Places.{file_from, with_range}
-use Rattle.camp_questions.specs.declared.places.Range.{Range}
 use Rattle.camp_questions.proofs.places.with_marks.Goals as goal
 
 pub loop-place-init : goal.loop-place-init

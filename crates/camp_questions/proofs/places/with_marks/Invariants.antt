@@ -1,5 +1,4 @@
-use Rattle.camp_questions.proofs.Words.{◌≡◌, drop}
-use Rattle.camp_questions.specs.Places.{file_from, with_marks}
+use Rattle.camp_questions.proofs.Words.{◌≡◌, drop, file_from, with_marks}
 use Rattle.camp_questions.proofs.PlaceSteps.{behind_places}
 use Rattle.camp_questions.proofs.places.with_marks.Given as goal
 

@@ -1,5 +1,4 @@
-use Rattle.camp_questions.proofs.Words.{◌≡◌, ◌++◌, take}
-use Rattle.camp_questions.specs.Showing.{changes_in}
+use Rattle.camp_questions.proofs.Words.{◌≡◌, ◌++◌, take, changes_in}
 use Rattle.camp_questions.proofs.showing.append_changes.Given as goal
 
 abbrev pub invariant-loop-p : goal.invariant-loop-p

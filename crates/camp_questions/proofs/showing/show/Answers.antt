@@ -16,7 +16,6 @@ returns-in_err-changes c = record { exact = refused c.from_residual-in_err-chang
 
 pub returns : goal.returns
 returns c =
-    let branch : List Catch = c.in_ok-branch.branch.now in
     let catches = c.in_ok-catches.ensures ∙ ap (catches_named (c.args.name.now ∷ [])) c.catches.ensures.value in
     let changes = c.in_ok-changes.ensures ∙ ap changes_of (c.deref.ensures.value ∙ catches) in
-    record { exact = is_shown c.args.state.now c.args.branch.now c.args.name.now c.from_ref.result.now branch _ c.from_ref.ensures.value c.in_ok-branch.ensures (λ i. record { catches = catches i; changes = changes i }) }
+    record { exact = is_shown c.args.state.now c.args.branch.now c.args.name.now c.from_ref.result.now c.in_ok-branch.branch.now _ c.from_ref.ensures.value c.in_ok-branch.ensures (λ i. record { catches = catches i; changes = changes i }) }

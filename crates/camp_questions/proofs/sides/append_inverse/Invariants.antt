@@ -1,5 +1,4 @@
-use Rattle.camp_questions.proofs.Words.{◌≡◌, ◌++◌, drop}
-use Rattle.camp_seq.specs.Running.{inverse_all}
+use Rattle.camp_questions.proofs.Words.{◌≡◌, ◌++◌, drop, inverse_all}
 use Rattle.camp_questions.proofs.sides.append_inverse.Given as goal
 
 abbrev pub invariant-loop-at : goal.invariant-loop-at

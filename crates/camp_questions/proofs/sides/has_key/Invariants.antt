@@ -1,5 +1,4 @@
-use Rattle.camp_questions.proofs.Words.{◌≡◌, drop}
-use Rattle.camp_questions.specs.Sides.{has_key}
+use Rattle.camp_questions.proofs.Words.{◌≡◌, drop, has_key}
 use Rattle.camp_questions.proofs.sides.has_key.Given as goal
 
 abbrev pub invariant-loop-p : goal.invariant-loop-p

@@ -1,8 +1,5 @@
-use Rattle.camp_questions.proofs.Words.{List, Catch, Named, ◌≡◌, ◌≤◌, ◌+◌, ◌-◌, ◌++◌, ◌∙◌, ap, arith, drop, drop_all, effect_of, get, length, subst}
-use Rattle.camp_seq.specs.Running.{inverse_all}
+use Rattle.camp_questions.proofs.Words.{List, Catch, Named, ◌≡◌, ◌≤◌, ◌+◌, ◌-◌, ◌++◌, ◌∙◌, ap, arith, drop, drop_all, effect_of, get, length, subst, inverse_all, SeenToo, AreSeen, told_by}
 use Rattle.camp_questions.proofs.SeenLabels.{catch_before, nothing_so_far, one_so_far, same_at}
-use Rattle.camp_questions.specs.Inside.Seeing.{SeenToo}
-use Rattle.camp_questions.specs.Sides.{AreSeen, told_by}
 use Rattle.camp_questions.proofs.sides.labels_seen.Goals as goal
 
 pub loop-at-init : goal.loop-at-init

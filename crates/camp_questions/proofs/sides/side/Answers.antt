@@ -1,7 +1,5 @@
-use Rattle.camp_questions.proofs.Words.{List, Catch, ◌∙◌, ap}
+use Rattle.camp_questions.proofs.Words.{◌∙◌, ap, changes_in, IsSide}
 use Rattle.camp_questions.proofs.Answering.{is_side, side_not_refused, wants_memory}
-use Rattle.camp_questions.specs.Showing.{changes_in}
-use Rattle.camp_questions.specs.Sides.{IsSide}
 use Rattle.camp_questions.proofs.sides.side.Goals as goal
 
 pub returns-in_err-seen : goal.returns-in_err-seen
@@ -18,7 +16,6 @@ returns-in_err-changes c =
 
 pub returns : goal.returns
 returns c =
-    let branch : List Catch = c.in_ok-branch.branch.now in
     record {
-      exact = is_side c.args.state.now c.args.branch.now c.args.name.now c.from_ref.result.now branch c.in_ok-side.side c.in_ok-changes.changes.items c.from_ref.ensures.value c.in_ok-branch.ensures (c.in_ok-changes.ensures ∙ ap changes_in c.items.ensures.exact) (c.in_ok-seen.seen, c.in_ok-seen.ensures, c.in_ok-side.ensures);
+      exact = is_side c.args.state.now c.args.branch.now c.args.name.now c.from_ref.result.now c.in_ok-branch.branch.now c.in_ok-side.side c.in_ok-changes.changes.items c.from_ref.ensures.value c.in_ok-branch.ensures (c.in_ok-changes.ensures ∙ ap changes_in c.items.ensures.exact) (c.in_ok-seen.seen, c.in_ok-seen.ensures, c.in_ok-side.ensures);
     }

@@ -1,8 +1,5 @@
-use Rattle.camp_questions.proofs.Words.{subst, sym}
-use Rattle.camp_branch.proofs.ConflictsDetermined.{some_member}
-use Rattle.camp_questions.proofs.SideSteps.{all_come, one_comes}
-use Rattle.camp_ctx.proofs.SetSteps.{members_of}
-use Rattle.camp_questions.specs.Inside.Seeing.{ComesIfNamed}
+use Rattle.camp_questions.proofs.Words.{subst, sym, some_member, members_of, ComesIfNamed}
+use Rattle.camp_questions.proofs.SeenLabels.{all_come, one_comes}
 use Rattle.camp_questions.proofs.sides.side_among.Goals.{in-Some+in_ok-append_named, in_default}
 use Rattle.camp_questions.proofs.sides.side_among.Goals as goal
 

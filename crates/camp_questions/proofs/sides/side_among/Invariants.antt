@@ -1,6 +1,4 @@
-use Rattle.camp_questions.proofs.Words.{[], bytes_eq, filter, take}
-use Rattle.camp_ctx.proofs.SetSteps.{members_of}
-use Rattle.camp_questions.specs.Sides.{ComeBehind}
+use Rattle.camp_questions.proofs.Words.{[], bytes_eq, filter, take, members_of, ComeBehind}
 use Rattle.camp_questions.proofs.sides.side_among.Given as goal
 
 abbrev pub invariant-loop-index : goal.invariant-loop-index

@@ -1,7 +1,5 @@
-use Rattle.camp_questions.proofs.Words.{[], ◌∷◌, subst, sym}
-use Rattle.camp_branch.proofs.ConflictsDetermined.{some_member}
+use Rattle.camp_questions.proofs.Words.{[], ◌∷◌, subst, sym, some_member, AllSeenToo}
 use Rattle.camp_questions.proofs.SeenLabels.{conflictor_told, one_member_told}
-use Rattle.camp_questions.specs.Inside.Seeing.{AllSeenToo}
 use Rattle.camp_questions.proofs.sides.with_conflictor.Goals.{in-Some+in_ok-seen-2, in_default}
 use Rattle.camp_questions.proofs.sides.with_conflictor.Goals as goal
 

@@ -1,6 +1,4 @@
-use Rattle.camp_questions.proofs.Words.{◌∷◌, take}
-use Rattle.camp_ctx.proofs.SetSteps.{members_of}
-use Rattle.camp_questions.specs.Inside.Seeing.{AllSeenToo}
+use Rattle.camp_questions.proofs.Words.{◌∷◌, take, members_of, AllSeenToo}
 use Rattle.camp_questions.proofs.sides.with_conflictor.Given as goal
 
 abbrev pub invariant-loop-index : goal.invariant-loop-index

@@ -1,6 +1,4 @@
-use Rattle.camp_questions.proofs.Words.{ap, ◌∙◌, subst, sym, get}
-use Rattle.camp_ctx.specs.Adding.{AddsAll}
-use Rattle.std.specs.Prelude.{is_some}
+use Rattle.camp_questions.proofs.Words.{ap, ◌∙◌, subst, sym, get, AddsAll, is_some}
 use Rattle.camp_questions.proofs.SeenLabels.{label_comes, label_kept}
 use Rattle.camp_questions.proofs.sides.with_label.Goals as goal
 

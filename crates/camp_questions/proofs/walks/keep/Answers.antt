@@ -1,5 +1,5 @@
 use Rattle.camp_questions.proofs.Words.{◌∙◌, sym}
-use Rattle.camp_questions.proofs.TakenNames.{found_under, kept_then}
+use Rattle.camp_questions.proofs.LineNames.{found_under, kept_then}
 use Rattle.camp_questions.proofs.walks.keep.Goals as goal
 
 pub returns-clause-before : goal.returns-clause-before

@@ -1,5 +1,4 @@
-use Rattle.camp_questions.proofs.Words.{◌≡◌, drop, list_any}
-use Rattle.camp_questions.specs.Inside.ChangedFiles.{is_marked}
+use Rattle.camp_questions.proofs.Words.{◌≡◌, drop, list_any, is_marked}
 use Rattle.camp_questions.proofs.fast.changed_files.are_unmarked.Given as goal
 
 abbrev pub invariant-loop-number : goal.invariant-loop-number

@@ -1,5 +1,4 @@
-use Rattle.camp_questions.proofs.Words.{◌≡◌, ◌<◌, drop}
-use Rattle.camp_questions.specs.Inside.ChangedFiles.{file_number, how_many, number_behind}
+use Rattle.camp_questions.proofs.Words.{◌≡◌, ◌<◌, drop, file_number, how_many, number_behind}
 use Rattle.camp_questions.proofs.fast.changed_files.file_number.Given as goal
 
 abbrev pub invariant-loop-byte : goal.invariant-loop-byte

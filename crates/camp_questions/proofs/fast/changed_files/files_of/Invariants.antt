@@ -1,5 +1,4 @@
-use Rattle.camp_questions.proofs.Words.{take}
-use Rattle.camp_questions.specs.Inside.ChangedFiles.{AreFilesOf}
+use Rattle.camp_questions.proofs.Words.{take, AreFilesOf}
 use Rattle.camp_questions.proofs.fast.changed_files.files_of.Given as goal
 
 abbrev pub invariant-loop-patch : goal.invariant-loop-patch

@@ -1,5 +1,4 @@
-use Rattle.camp_questions.proofs.Words.{take}
-use Rattle.camp_questions.specs.Inside.ChangedFiles.{AreMarkedToo}
+use Rattle.camp_questions.proofs.Words.{take, AreMarkedToo}
 use Rattle.camp_questions.proofs.fast.changed_files.mark_numbers.Given as goal
 
 abbrev pub invariant-loop-number : goal.invariant-loop-number

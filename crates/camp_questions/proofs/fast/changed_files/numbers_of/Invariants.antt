@@ -1,5 +1,4 @@
-use Rattle.camp_questions.proofs.Words.{◌≡◌, map, take}
-use Rattle.camp_questions.specs.Inside.ChangedFiles.{number_of}
+use Rattle.camp_questions.proofs.Words.{◌≡◌, map, take, number_of}
 use Rattle.camp_questions.proofs.fast.changed_files.numbers_of.Given as goal
 
 abbrev pub invariant-loop-catch : goal.invariant-loop-catch

@@ -1,5 +1,4 @@
-use Rattle.camp_questions.proofs.Words.{◌≡◌, ◌+◌, drop}
-use Rattle.camp_questions.specs.Inside.ByPatch.{until_next}
+use Rattle.camp_questions.proofs.Words.{◌≡◌, ◌+◌, drop, until_next}
 use Rattle.camp_questions.proofs.fast.patch_catches.end_of_patch.Given as goal
 
 abbrev pub invariant-loop-at : goal.invariant-loop-at

@@ -1,10 +1,4 @@
-use Rattle.camp_questions.proofs.Words.{List, ◌≡◌, ◌+◌, [], ◌∷◌, ◌∙◌, ap, arith, length, length-append, subst, sym}
-use Rattle.std.proofs.lemmas.List.{get_or-map, length-map}
-use Rattle.camp_questions.specs.Inside.ByPatch.{names_in_order}
-use Rattle.camp_questions.specs.Inside.ChangedFiles.{AreFilesOf}
-use Rattle.camp_questions.specs.Inside.Graphing.{AreKnown, AreReached}
-use Rattle.camp_questions.specs.declared.fast.patch_catches.PatchCatches.{PatchCatches}
-use Rattle.camp_questions.specs.declared.needed.Needed.{Needed}
+use Rattle.camp_questions.proofs.Words.{List, ◌≡◌, ◌+◌, [], ◌∷◌, ◌∙◌, ap, arith, length, length-append, subst, sym, get_or-map, length-map, names_in_order, AreFilesOf, AreKnown, AreReached, PatchCatches, Needed}
 use Rattle.camp_questions.proofs.FileMarks.{as_many_files}
 use Rattle.camp_questions.proofs.ReachedPatches.{all_known, none_known, one_known}
 use Rattle.camp_questions.proofs.fast.reaching.all_reached.Goals as goal
@@ -36,19 +30,17 @@ pub loop-patch-preserved : goal.loop-patch-preserved
 loop-patch-preserved c =
     let patches : List PatchCatches = c.args.patches.now in
     let names = names_in_order patches in
-    let i = c.loop-patch.patch-index in
     let p : PatchCatches = c.patch-item.result in
-    let all = c.loop-patch.all.items in
     let one : Needed = record { name = p.name; needs = c.in_ok-needs.needs } in
     let long = length-map patches (λ (x : PatchCatches). x.name) in
-    let called : p.name ≡ _ = ap (λ (x : PatchCatches). x.name) c.patch-item.is ∙ sym (get_or-map (λ (x : PatchCatches). x.name) patches i p p.name (omega arith)) in
+    let called : p.name ≡ _ = ap (λ (x : PatchCatches). x.name) c.patch-item.is ∙ sym (get_or-map (λ (x : PatchCatches). x.name) patches c.loop-patch.patch-index p p.name (omega arith)) in
     record {
-      count = ap length c.in_ok-push.ensures.items ∙ length-append all (one ∷ []) ∙ ap (λ n. n + 1) c.loop-patch.invariant.count;
+      count = ap length c.in_ok-push.ensures.items ∙ length-append c.loop-patch.all.items (one ∷ []) ∙ ap (λ n. n + 1) c.loop-patch.invariant.count;
       known = λ branch inverted.
           let so_far = c.loop-patch.invariant.known branch inverted in
           let reached = c.in_ok-needs.ensures branch inverted (subst (AreKnown branch names) (sym c.deref-in-loop-patch.ensures.value) so_far.known) in
           let here = subst (λ n. AreReached branch names n one.needs.items) (ap length c.deref-in-loop-patch.ensures.value ∙ c.loop-patch.invariant.count) reached in
-          one_known branch names i all c.push.new.self.items one c.loop-patch.invariant.count (omega (arith, long)) so_far called here c.in_ok-push.ensures.items;
+          one_known branch names c.loop-patch.patch-index c.loop-patch.all.items c.push.new.self.items one c.loop-patch.invariant.count (omega (arith, long)) so_far called here c.in_ok-push.ensures.items;
     }
 
 pub returns : goal.returns

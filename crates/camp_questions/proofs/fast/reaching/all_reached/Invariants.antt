@@ -1,6 +1,4 @@
-use Rattle.camp_questions.proofs.Words.{◌≡◌, length, List, Catch}
-use Rattle.camp_questions.specs.Inside.ByPatch.{names_in_order}
-use Rattle.camp_questions.specs.Inside.Graphing.{IsInverted}
+use Rattle.camp_questions.proofs.Words.{◌≡◌, length, List, Catch, names_in_order, IsInverted}
 use Rattle.camp_questions.proofs.ReachedPatches.{AreKnownSoFar}
 use Rattle.camp_questions.proofs.fast.reaching.all_reached.Given as goal
 

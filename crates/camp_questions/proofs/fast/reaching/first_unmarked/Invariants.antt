@@ -1,4 +1,4 @@
-use Rattle.camp_questions.specs.Inside.Graphing.{AreMarkedBelow}
+use Rattle.camp_questions.proofs.Words.{AreMarkedBelow}
 use Rattle.camp_questions.proofs.fast.reaching.first_unmarked.Given as goal
 
 abbrev pub invariant-loop-place : goal.invariant-loop-place

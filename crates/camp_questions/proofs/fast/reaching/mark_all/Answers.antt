@@ -1,7 +1,4 @@
-use Rattle.camp_questions.proofs.Words.{◌∙◌, ap, arith, true}
-use Rattle.std.proofs.Common.{set}
-use Rattle.std.proofs.lemmas.List.{take_all}
-use Rattle.camp_questions.specs.Inside.Graphing.{marked_in_both}
+use Rattle.camp_questions.proofs.Words.{◌∙◌, ap, arith, true, set, take_all, marked_in_both}
 use Rattle.camp_questions.proofs.MarkedNames.{none_joins, none_yet, one_joins}
 use Rattle.camp_questions.proofs.fast.reaching.mark_all.Goals.{else-more-at, then-more-at}
 use Rattle.camp_questions.proofs.fast.reaching.mark_all.Goals as goal
@@ -11,12 +8,10 @@ loop-at-init c = none_yet c.args.marks.now c.args.more.now
 
 pub loop-at-preserved : goal.loop-at-preserved
 loop-at-preserved c =
-    let marks = c.args.marks.now in
-    let more = c.args.more.now in
     let i = c.loop-at.at in
     elim c.if-more-at.branch [
-      | then-more-at w ↦ w.marks-is ∙ ap (λ l. set l i true) c.loop-at.invariant ∙ one_joins marks more i c.requires (omega arith) w.if-more-at.true
-      | else-more-at w ↦ w.marks-is ∙ c.loop-at.invariant ∙ none_joins marks more i c.requires (omega arith) w.if-more-at.false
+      | then-more-at w ↦ w.marks-is ∙ ap (λ l. set l i true) c.loop-at.invariant ∙ one_joins c.args.marks.now c.args.more.now i c.requires (omega arith) w.if-more-at.true
+      | else-more-at w ↦ w.marks-is ∙ c.loop-at.invariant ∙ none_joins c.args.marks.now c.args.more.now i c.requires (omega arith) w.if-more-at.false
     ]
 
 pub returns : goal.returns

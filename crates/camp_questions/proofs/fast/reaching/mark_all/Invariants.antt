@@ -1,5 +1,4 @@
-use Rattle.camp_questions.proofs.Words.{◌≡◌, take}
-use Rattle.camp_questions.specs.Inside.Graphing.{marked_in_both}
+use Rattle.camp_questions.proofs.Words.{◌≡◌, take, marked_in_both}
 use Rattle.camp_questions.proofs.fast.reaching.mark_all.Given as goal
 
 abbrev pub invariant-loop-at : goal.invariant-loop-at

@@ -1,11 +1,4 @@
-use Rattle.camp_questions.proofs.Words.{List, Bool, ℕ, ◌≡◌, ◌<◌, ◌+◌, ◌-◌, ◌++◌, ◌∙◌, ap, arith, false, get_or, length, length-replicate, replicate, subst, sym, true, Catch}
-use Rattle.std.proofs.Common.{set}
-use Rattle.std.proofs.lemmas.List.{get_or_default, length-set, with_items_is}
-use Rattle.camp_questions.specs.Inside.ChangedFiles.{GoMarked}
-use Rattle.camp_questions.specs.Inside.Graphing.{marked_in_both}
-use Rattle.camp_questions.specs.Inside.StandingAside.{StickBehind}
-use Rattle.camp_questions.specs.declared.fast.patch_catches.PatchCatches.{PatchCatches}
-use Rattle.camp_questions.specs.declared.needed.Needed.{Needed}
+use Rattle.camp_questions.proofs.Words.{List, Bool, ℕ, ◌≡◌, ◌<◌, ◌+◌, ◌-◌, ◌++◌, ◌∙◌, ap, arith, false, get_or, length, length-replicate, replicate, subst, sym, true, Catch, set, get_or_default, length-set, with_items_is, GoMarked, marked_in_both, StickBehind, PatchCatches, Needed}
 use Rattle.camp_questions.proofs.FileMarks.{files_at, ready_at}
 use Rattle.camp_questions.proofs.MarkedNames.{both_long, mark_at, marked_still}
 use Rattle.camp_questions.proofs.ReachedPatches.{goes_apart_from, step_aside, step_first, step_last, step_on, step_stuck}
@@ -33,8 +26,7 @@ loop-all_below-init c =
 -- the own patch, and one before it
 pub going_first-requires-clause-plain : goal.going_first-requires-clause-plain
 going_first-requires-clause-plain c =
-    let given = c.requires.known in
-    ready_at given.0 c.args.patches.now given.1 (length c.args.known.now) c.index-patches-own.result c.index-patches-own.result c.requires.next c.index-patches-own.is
+    ready_at c.requires.known.0 c.args.patches.now c.requires.known.1 (length c.args.known.now) c.index-patches-own.result c.index-patches-own.result c.requires.next c.index-patches-own.is
 
 pub going_first-requires-clause-files : goal.going_first-requires-clause-files
 going_first-requires-clause-files c =
@@ -42,16 +34,11 @@ going_first-requires-clause-files c =
 
 pub comes_before-requires-clause-plain : goal.comes_before-requires-clause-plain
 comes_before-requires-clause-plain c =
-    let given = c.requires.known in
-    let before = c.loop-all_below.invariant.within in
-    let next = c.requires.next in
-    ready_at given.0 c.args.patches.now given.1 (c.loop-all_below.place - 1) c.index-patches-place.result c.index-patches-place.result (omega (arith, before, next)) c.index-patches-place.is
+    ready_at c.requires.known.0 c.args.patches.now c.requires.known.1 (c.loop-all_below.place - 1) c.index-patches-place.result c.index-patches-place.result (omega (arith, c.loop-all_below.invariant.within, c.requires.next)) c.index-patches-place.is
 
 pub comes_before-requires-clause-files : goal.comes_before-requires-clause-files
 comes_before-requires-clause-files c =
-    let before = c.loop-all_below.invariant.within in
-    let next = c.requires.next in
-    files_at c.args.patches.now c.args.files.now c.requires.files c.requires.each (c.loop-all_below.place - 1) c.index-patches-place.result c.index-patches-place.result c.index-files-place.result c.index-files-place.result (omega (arith, before, next)) c.index-patches-place.is c.index-files-place.is
+    files_at c.args.patches.now c.args.files.now c.requires.files c.requires.each (c.loop-all_below.place - 1) c.index-patches-place.result c.index-patches-place.result c.index-files-place.result c.index-files-place.result (omega (arith, c.loop-all_below.invariant.within, c.requires.next)) c.index-patches-place.is c.index-files-place.is
 
 pub go_too-requires-clause-marked : goal.go_too-requires-clause-marked
 go_too-requires-clause-marked c = elim c.if-not-index.branch [
@@ -61,54 +48,41 @@ go_too-requires-clause-marked c = elim c.if-not-index.branch [
 
 pub go_too-requires-clause-plain : goal.go_too-requires-clause-plain
 go_too-requires-clause-plain c =
-    let given = c.requires.known in
-    let before = c.loop-all_below.invariant.within in
-    let next = c.requires.next in
-    ready_at given.0 c.args.patches.now given.1 (c.loop-all_below.place - 1) c.index-patches-place.result c.index-patches-place.result (omega (arith, before, next)) c.index-patches-place.is
+    ready_at c.requires.known.0 c.args.patches.now c.requires.known.1 (c.loop-all_below.place - 1) c.index-patches-place.result c.index-patches-place.result (omega (arith, c.loop-all_below.invariant.within, c.requires.next)) c.index-patches-place.is
 
 pub go_too-requires-clause-files : goal.go_too-requires-clause-files
 go_too-requires-clause-files c =
-    let before = c.loop-all_below.invariant.within in
-    let next = c.requires.next in
-    files_at c.args.patches.now c.args.files.now c.requires.files c.requires.each (c.loop-all_below.place - 1) c.index-patches-place.result c.index-patches-place.result c.index-files-place.result c.index-files-place.result (omega (arith, before, next)) c.index-patches-place.is c.index-files-place.is
+    files_at c.args.patches.now c.args.files.now c.requires.files c.requires.each (c.loop-all_below.place - 1) c.index-patches-place.result c.index-patches-place.result c.index-files-place.result c.index-files-place.result (omega (arith, c.loop-all_below.invariant.within, c.requires.next)) c.index-patches-place.is c.index-files-place.is
 
 pub comes_before-requires-clause-apart : goal.comes_before-requires-clause-apart
 comes_before-requires-clause-apart c =
     let given = c.requires.known in
     let place = c.loop-all_below.place - 1 in
     let next : c.loop-all_below.place ≡ place + 1 = omega arith in
-    let before = c.loop-all_below.invariant.within in
-    goes_apart_from given.0 c.args.patches.now given.1 c.args.known.now given.2 c.requires.next c.loop-all_below.marks.items place c.loop-all_below.place c.index-patches-place.result c.loop-all_below.going.catches.items next (omega (arith, before)) c.index-patches-place.is (c.loop-all_below.invariant.reaches given.0 given.1 given.2)
+    goes_apart_from given.0 c.args.patches.now given.1 c.args.known.now given.2 c.requires.next c.loop-all_below.marks.items place c.loop-all_below.place next c.index-patches-place.result c.loop-all_below.going.catches.items (omega (arith, c.loop-all_below.invariant.within)) c.index-patches-place.is (c.loop-all_below.invariant.reaches given.0 given.1 given.2)
 
 pub loop-all_below-preserved-then-branch : goal.loop-all_below-preserved-then-branch
 loop-all_below-preserved-then-branch c =
-    let marks : List Bool = c.loop-all_below.marks.items in
     let place = c.loop-all_below.place - 1 in
     let next : c.loop-all_below.place ≡ place + 1 = omega arith in
     let before = c.loop-all_below.invariant.within in
-    let long = c.loop-all_below.invariant.long in
-    let free = told marks place c.index.result.now false (omega (arith, before, long)) c.index.ensures c.if-not-index.true in
+    let free = told c.loop-all_below.marks.items place c.index.result.now false (omega (arith, before, c.loop-all_below.invariant.long)) c.index.ensures c.if-not-index.true in
     let come = rw c.if-branch.true at c.in_ok-comes_before.ensures.aside in
     record {
       within = omega (arith, before);
-      long = long;
+      long = c.loop-all_below.invariant.long;
       below = c.loop-all_below.invariant.below;
       going = c.in_ok-comes_before.ensures.marked;
-      reaches = λ branch inverted known. step_aside branch c.args.patches.now inverted c.args.known.now known c.requires.next marks place c.loop-all_below.place next c.index-patches-place.result c.loop-all_below.going.catches.items (omega (arith, before)) c.index-patches-place.is (c.loop-all_below.invariant.reaches branch inverted known) c.comes_before.new.going.catches.items free come;
+      reaches = λ branch inverted known. step_aside branch c.args.patches.now inverted c.args.known.now known c.requires.next c.loop-all_below.marks.items place c.loop-all_below.place next c.index-patches-place.result c.loop-all_below.going.catches.items (omega (arith, before)) c.index-patches-place.is (c.loop-all_below.invariant.reaches branch inverted known) c.comes_before.new.going.catches.items free come;
     }
 
 pub first_unmarked-all_below-requires-then-not-index : goal.first_unmarked-all_below-requires-then-not-index
 first_unmarked-all_below-requires-then-not-index c =
-    let marks : List Bool = c.loop-all_below.marks.items in
-    let row : List Bool = c.index-known-place.result.needs.items in
     let written = with_items_is c.loop-all_below.marks c.mark_all.new.marks (c.mark_all.auto.marks ∙ ap length c.deref_mut.ensures.value ∙ sym c.loop-all_below.marks.ok.0) in
-    let becomes : c.mark_all.new.marks ≡ marked_in_both marks row = c.mark_all.ensures ∙ (λ i. marked_in_both (c.deref_mut.ensures.value i) ((c.deref-then-not-index.ensures.value ∙ ap (λ (x : Needed). x.needs.items) (sym c.index-known-place.is)) i)) in
-    let known = c.requires.known.2 in
+    let becomes : c.mark_all.new.marks ≡ marked_in_both c.loop-all_below.marks.items c.index-known-place.result.needs.items = c.mark_all.ensures ∙ (λ i. marked_in_both (c.deref_mut.ensures.value i) ((c.deref-then-not-index.ensures.value ∙ ap (λ (x : Needed). x.needs.items) (sym c.index-known-place.is)) i)) in
     let place = c.loop-all_below.place - 1 in
-    let before = c.loop-all_below.invariant.within in
-    let row_long : length row ≡ place + 1 = ap (λ (x : Needed). length x.needs.items) c.index-known-place.is ∙ known.long place c.index-known-place.result (omega (arith, before)) in
-    let long = c.loop-all_below.invariant.long in
-    let still = marked_still marks row c.loop-all_below.all_below (omega (arith, before, row_long, long)) c.loop-all_below.invariant.below in
+    let row_long : length c.index-known-place.result.needs.items ≡ place + 1 = ap (λ (x : Needed). length x.needs.items) c.index-known-place.is ∙ c.requires.known.2.long place c.index-known-place.result (omega (arith, c.loop-all_below.invariant.within)) in
+    let still = marked_still c.loop-all_below.marks.items c.index-known-place.result.needs.items c.loop-all_below.all_below (omega (arith, c.loop-all_below.invariant.within, row_long, c.loop-all_below.invariant.long)) c.loop-all_below.invariant.below in
     λ r less. ap (λ l. get_or l r false) (c.deref-then-not-index-2.ensures.value ∙ written ∙ becomes) ∙ still r less
 
 pub loop-all_below-preserved : goal.loop-all_below-preserved
@@ -156,5 +130,4 @@ loop-all_below-preserved c =
 
 pub returns : goal.returns
 returns c branch inverted known =
-    let before = c.loop-all_below.invariant.within in
-    step_last branch c.args.patches.now inverted c.args.known.now known c.requires.next c.loop-all_below.marks.items c.loop-all_below.place c.loop-all_below.all_below c.index-patches-own.result c.loop-all_below.going.catches.items before (omega arith) c.loop-all_below.invariant.below (c.loop-all_below.invariant.reaches branch inverted known)
+    step_last branch c.args.patches.now inverted c.args.known.now known c.requires.next c.loop-all_below.marks.items c.loop-all_below.place c.loop-all_below.all_below c.index-patches-own.result c.loop-all_below.going.catches.items c.loop-all_below.invariant.within (omega arith) c.loop-all_below.invariant.below (c.loop-all_below.invariant.reaches branch inverted known)

@@ -1,7 +1,4 @@
-use Rattle.camp_questions.proofs.Words.{◌≡◌, ◌≤◌, ◌+◌, length, List, Catch}
-use Rattle.camp_questions.specs.Inside.ByPatch.{names_in_order}
-use Rattle.camp_questions.specs.Inside.ChangedFiles.{GoMarked}
-use Rattle.camp_questions.specs.Inside.Graphing.{AreKnown, AreMarkedBelow, IsInverted}
+use Rattle.camp_questions.proofs.Words.{◌≡◌, ◌≤◌, ◌+◌, length, List, Catch, names_in_order, GoMarked, AreKnown, AreMarkedBelow, IsInverted}
 use Rattle.camp_questions.proofs.ReachedPatches.{ReachesTo}
 use Rattle.camp_questions.proofs.fast.reaching.reached.Given as goal
 

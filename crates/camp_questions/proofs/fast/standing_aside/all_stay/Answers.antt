@@ -1,6 +1,4 @@
-use Rattle.camp_questions.proofs.Words.{List, ◌≡◌, ◌+◌, ◌++◌, [], ◌∷◌, ◌∙◌, ap, arith, refl, subst, sym, take, take_more, all_append, Catch, ComesBefore}
-use Rattle.std.proofs.lemmas.List.{take_all}
-use Rattle.camp_questions.specs.Inside.StandingAside.{AllStay}
+use Rattle.camp_questions.proofs.Words.{List, ◌≡◌, ◌+◌, ◌++◌, [], ◌∷◌, ◌∙◌, ap, arith, refl, subst, sym, take, take_more, all_append, Catch, ComesBefore, take_all, AllStay}
 use Rattle.camp_questions.proofs.fast.standing_aside.all_stay.Goals as goal
 
 pub loop-catch-preserved : goal.loop-catch-preserved

@@ -1,5 +1,4 @@
-use Rattle.camp_questions.proofs.Words.{take}
-use Rattle.camp_questions.specs.Inside.StandingAside.{AllStay}
+use Rattle.camp_questions.proofs.Words.{take, AllStay}
 use Rattle.camp_questions.proofs.fast.standing_aside.all_stay.Given as goal
 
 abbrev pub invariant-loop-catch : goal.invariant-loop-catch

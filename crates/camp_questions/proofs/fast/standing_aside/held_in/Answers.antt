@@ -1,7 +1,5 @@
-use Rattle.camp_questions.proofs.Words.{ap, arith, slice_cmp, nat_cmp, map_of, sym, ◌++◌, ◌≡◌, ◌∙◌, names_in, has_listed}
+use Rattle.camp_questions.proofs.Words.{ap, arith, slice_cmp, nat_cmp, map_of, sym, ◌++◌, ◌≡◌, ◌∙◌, names_in, has_listed, catches_in_order, StickBehind}
 use Rattle.camp_questions.proofs.WalkedPatches.{goes_apart, none_held, own_of, past_all, past_aside, past_held, past_stuck}
-use Rattle.camp_questions.specs.Inside.ByPatch.{catches_in_order}
-use Rattle.camp_questions.specs.Inside.StandingAside.{StickBehind}
 use Rattle.camp_questions.proofs.fast.standing_aside.held_in.Goals.{else-not-contains_key, then-not-contains_key+in_ok-stand_aside+else-branch+in_ok-held}
 use Rattle.camp_questions.proofs.fast.standing_aside.held_in.Goals as goal
 
@@ -15,13 +13,13 @@ stand_aside-requires-clause-own c =
 
 pub stand_aside-requires-clause-apart : goal.stand_aside-requires-clause-apart
 stand_aside-requires-clause-apart c =
-    goes_apart c.args.patches.now c.loop-patch.patch-index c.patch-item.result c.patch-item.result (names_in c.args.names) (names_in c.loop-patch.held) c.loop-patch.going.items (omega arith) c.patch-item.is c.requires c.loop-patch.invariant
+    goes_apart c.args.patches.now c.requires c.loop-patch.patch-index c.patch-item.result c.patch-item.result (omega arith) c.patch-item.is (names_in c.args.names) (map_of (slice_cmp nat_cmp) c.loop-patch.held) c.loop-patch.going.items c.loop-patch.invariant
 
 pub loop-patch-preserved-then-branch : goal.loop-patch-preserved-then-branch
 loop-patch-preserved-then-branch c =
     let set = map_of (slice_cmp nat_cmp) c.loop-patch.held in
     let free = sym (c.contains_key.ensures.exact ∙ has_listed set c.patch-item.result.name) ∙ c.if-not-contains_key.true in
-    past_aside c.args.patches.now c.requires c.loop-patch.patch-index c.patch-item.result c.patch-item.result (omega arith) c.patch-item.is (names_in c.args.names) set c.loop-patch.going.items c.stand_aside.new.going.items c.loop-patch.invariant free (rw c.if-branch.true at c.in_ok-stand_aside.ensures)
+    past_aside c.args.patches.now c.requires c.loop-patch.patch-index c.patch-item.result c.patch-item.result (omega arith) c.patch-item.is (names_in c.args.names) set c.loop-patch.going.items c.loop-patch.invariant c.stand_aside.new.going.items free (rw c.if-branch.true at c.in_ok-stand_aside.ensures)
 
 pub loop-patch-preserved : goal.loop-patch-preserved
 loop-patch-preserved c =
@@ -31,7 +29,7 @@ loop-patch-preserved c =
     elim c.if-not-contains_key.branch [
       | then-not-contains_key+in_ok-stand_aside+else-branch+in_ok-held w ↦
           let aside : (w.stand_aside.new.going.items ≡ c.loop-patch.going.items) × StickBehind p.name c.loop-patch.going.items p.catches.items = rw w.if-branch.false at w.in_ok-stand_aside.ensures in
-          let grown = past_stuck c.args.patches.now c.requires c.loop-patch.patch-index p p (omega arith) c.patch-item.is (names_in c.args.names) set c.loop-patch.going.items (map_of (slice_cmp nat_cmp) w.in_ok-held.held) c.loop-patch.invariant (sym listed ∙ w.if-not-contains_key.true) aside.1 w.in_ok-held.ensures.exact in
+          let grown = past_stuck c.args.patches.now c.requires c.loop-patch.patch-index p p (omega arith) c.patch-item.is (names_in c.args.names) set c.loop-patch.going.items c.loop-patch.invariant (map_of (slice_cmp nat_cmp) w.in_ok-held.held) (sym listed ∙ w.if-not-contains_key.true) aside.1 w.in_ok-held.ensures.exact in
           let goes = c.in_ok-append.ensures ∙ (λ i. (ap (λ (v : _). v.items) w.going-is ∙ aside.0) i ++ c.deref.ensures.value i) in
           rw (w.held-is, goes) grown
       | else-not-contains_key w ↦

@@ -1,5 +1,4 @@
-use Rattle.camp_questions.proofs.Words.{take, names_in}
-use Rattle.camp_questions.specs.Inside.ByPatch.{catches_in_order}
+use Rattle.camp_questions.proofs.Words.{take, names_in, catches_in_order}
 use Rattle.camp_questions.proofs.WalkedPatches.{IsGrown}
 use Rattle.camp_questions.proofs.fast.standing_aside.held_in.Given as goal
 

@@ -3,8 +3,7 @@ use Rattle.camp_questions.proofs.fast.standing_aside.stays.Goals as goal
 
 pub loop-at-init : goal.loop-at-init
 loop-at-init c =
-    let s : List Catch = c.args.going.now in
-    rw (drop_all (length s) s (omega arith)) (refl, refl)
+    rw (drop_all (length c.args.going.now) c.args.going.now (omega arith)) (refl, refl)
 
 pub loop-at-preserved : goal.loop-at-preserved
 loop-at-preserved c =

@@ -1,5 +1,4 @@
-use Rattle.camp_questions.proofs.Words.{◌≡◌, map, take}
-use Rattle.camp_catch.specs.declared.catches.Catch.TheVariants.{Plain}
+use Rattle.camp_questions.proofs.Words.{◌≡◌, map, take, Plain}
 use Rattle.camp_questions.proofs.fast.taking_back.have_room.Given as goal
 
 abbrev pub invariant-loop-catch : goal.invariant-loop-catch
